@@ -1,0 +1,5 @@
+pub mod Answers
+pub mod Moment
+pub mod Oid
+pub mod OidCells
+pub mod Padded
