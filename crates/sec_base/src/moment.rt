@@ -49,6 +49,13 @@ impl Moment {
         }
     }
 
+    /// The start of 1970.
+    pub fn start() -> Moment
+        ensures { result ≡ 0 }
+    {
+        Moment { total: 0 }
+    }
+
     /// The last microsecond of the year 9999.
     pub fn greatest() -> Moment
         ensures { result ≡ greatest_moment }
