@@ -1,0 +1,3 @@
+pub mod Mech
+pub mod Label
+pub mod Mark
