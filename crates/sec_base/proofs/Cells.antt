@@ -1,11 +1,10 @@
 -- An object identifier written at the front of an array of zeros.
-use Rattle.std.proofs.Common.{◌≡◌, ℕ, ◌+◌, ◌-◌, ◌≤◌, Bool, true, false, ◌&&◌, nat_le, List, ◌++◌, length, take, drop, replicate, sym, ◌∙◌, ap, arith, rules, length-append, length-drop}
+use Rattle.std.proofs.Common.{◌≡◌, ℕ, ◌≤◌, Bool, true, false, ◌&&◌, nat_le, List, ◌++◌, length, drop, replicate, ◌∙◌, arith, length-append, length-drop}
 use Rattle.std.proofs.lemmas.List.{drop-replicate, length-replicate}
 use Rattle.std.proofs.Math.Seq.{take-append_seam, drop-append_seam}
 use Rattle.std.proofs.lemmas.Bool.{leb-true}
 use Rattle.sec_base.specs.Oid.{is_oid, are_arcs}
 use Rattle.sec_base.specs.OidCells.{IsOidCells}
-use Rattle.sec_base.specs.Padded.{IsPadded}
 
 last_of : (a b : Bool) → (a && b) ≡ true → b ≡ true
 last_of true b e = e

@@ -1,1 +1,4 @@
 pub mod Cells
+pub mod GivenInMemory
+pub mod Pieces
+pub mod Shelves

@@ -1,5 +1,12 @@
 pub mod Answers
+pub mod Link
+pub mod MemClock
+pub mod MemDraw
+pub mod MemPort
 pub mod Moment
 pub mod Oid
 pub mod OidCells
 pub mod Padded
+pub mod Port
+pub mod Shelf
+pub mod Sink

@@ -1,6 +1,6 @@
 -- The content of an object identifier, ITU-T X.690 section 8.19: arcs in base 128, most significant octet first, every octet
 -- of an arc but its last from 80 (hexadecimal) on, in the fewest octets.
-use Rattle.std.specs.Prelude.{ℕ, Bool, true, false, ◌&&◌, not, nat_le, nat_lt, nat_eq, List, [], ◌∷◌, length}
+use Rattle.std.specs.Prelude.{ℕ, Bool, true, ◌&&◌, not, nat_le, nat_lt, nat_eq, List, [], ◌∷◌, length}
 
 -- whole arcs follow, where `begins` says that the next octet is the first of an arc; no arc begins with 80
 abbrev pub are_arcs : Bool → List ℕ → Bool

@@ -1,4 +1,4 @@
-use Rattle.std.specs.Prelude.{◌≡◌, ℕ, Bool, true, List, take}
+use Rattle.std.specs.Prelude.{◌≡◌, ℕ, true, List, take}
 use Rattle.sec_base.specs.Padded.{IsPadded}
 use Rattle.sec_base.specs.Oid.{is_oid}
 

@@ -1,6 +1,6 @@
 -- Octets at the front of an array of fixed length, zeros behind them.
-use Rattle.std.specs.Prelude.{◌≡◌, ℕ, ◌-◌, ◌≤◌, List, [], ◌∷◌, ◌++◌, length, take, drop, replicate}
-use Rattle.std.proofs.Common.{arith, take-append-drop, length-take-le, sym, ◌∙◌, ap}
+use Rattle.std.specs.Prelude.{◌≡◌, ℕ, ◌-◌, ◌≤◌, List, ◌++◌, length, take, drop, replicate}
+use Rattle.std.proofs.Common.{arith, take-append-drop, length-take-le}
 
 -- the octets, then zeros up to `size` octets in all
 abbrev pub zeros_after : ℕ → List ℕ → List ℕ

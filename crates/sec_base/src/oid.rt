@@ -87,3 +87,44 @@ fn is_content(content: &[u8]) -> bool
     }
     begins && !content.is_empty() && content.len() <= MOST
 }
+
+#[cfg(test)]
+mod tests {
+    use super::*;
+    use crate::{Items, NoMemory, Octets, Text};
+
+    #[test]
+    fn content_is_whole_arcs_in_the_fewest_octets(rt: HostRuntime) {
+        // Kerberos, RFC 4121 section 4.1; SPNEGO, RFC 4178 section 4.2; SCRAM-SHA-1, RFC 5802 section 8
+        let kerberos = b"\x2a\x86\x48\x86\xf7\x12\x01\x02\x02".as_slice();
+        let spnego = b"\x2b\x06\x01\x05\x05\x02".as_slice();
+        let scram = b"\x2b\x06\x01\x05\x05\x0e".as_slice();
+        for content in [kerberos, spnego, scram, [0x7f; 32].as_slice()] {
+            let read = Oid::new(content).expect(&rt, "an object identifier");
+            assert!(rt; read.content() == content);
+        }
+        let begins_with_80 = b"\x2b\x80\x01".as_slice();
+        let cut_in_an_arc = b"\x2b\x86".as_slice();
+        for content in [
+            begins_with_80,
+            cut_in_an_arc,
+            b"".as_slice(),
+            [1; 33].as_slice(),
+        ] {
+            assert!(rt; Oid::new(content).is_none(), "{content:?}");
+        }
+    }
+
+    #[test]
+    fn values_show_what_they_were_given(rt: HostRuntime) -> Result<(), NoMemory> {
+        let octets = Octets::of(rt.alloc(), b"\x01\xff")?;
+        assert!(rt; octets.as_slice() == b"\x01\xff".as_slice());
+        assert!(rt; Octets::from_vec(octets.into_vec()) == Octets::of(rt.alloc(), b"\x01\xff")?);
+        let text = Text::of(rt.alloc(), "alice@R")?;
+        assert_eq!(rt; text.as_str(), "alice@R");
+        let items = Items::of(Vec::from_slice(rt.alloc(), &[3, 4])?);
+        assert!(rt; items.as_slice() == [3, 4].as_slice());
+        assert_eq!(rt; items.into_vec().len(), 2);
+        Ok(())
+    }
+}

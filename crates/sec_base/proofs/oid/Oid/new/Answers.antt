@@ -1,4 +1,4 @@
-use Rattle.std.proofs.Common.{◌≡◌, ap, rules}
+use Rattle.std.proofs.Common.{rules}
 use Rattle.sec_base.proofs.Cells.{oid_cells}
 use Rattle.sec_base.proofs.oid.Oid.new.Goals as goal
 

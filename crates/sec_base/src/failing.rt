@@ -1,0 +1,40 @@
+//! Which calls of a device in memory fail.
+
+ghost use Rattle.std.specs.Prelude.{◌≡◌, ◌≤◌, Contains, IsTrue, ◌↔◌, ◌+◌, ◌^◌, ◌-◌, ◌<◌};
+ghost use Rattle.sec_base.specs.Answers.{Rose};
+
+/// The numbers of the calls that are to fail, counted from 1, with the calls and the faults so far.
+#[derive(Debug, Drop)]
+pub(crate) struct Failing {
+    numbers: Vec<u64>,
+    calls: u64,
+    pub(crate) faults: u64,
+}
+
+impl Failing {
+    pub(crate) fn new(numbers: Vec<u64>) -> Failing
+        ensures faults { result.faults ≡ 0 }
+    {
+        Failing {
+            numbers,
+            calls: 0,
+            faults: 0,
+        }
+    }
+
+    /// Counts a call, and says whether it is to fail.
+    pub(crate) fn fails(&mut self) -> bool
+        ensures faults { self.new.faults ≡ self.old.faults }
+    {
+        self.calls = self.calls.saturating_add(1);
+        self.numbers.contains(&self.calls)
+    }
+
+    /// Counts a fault.
+    pub(crate) fn fault(&mut self)
+        ensures rose { Rose self.old.faults self.new.faults }
+        ensures faults { self.old.faults ≤ self.new.faults }
+    {
+        self.faults = self.faults.saturating_add(1);
+    }
+}

@@ -1,0 +1,52 @@
+//! A stream of octets in both directions, as a TCP connection is one.
+
+ghost use Rattle.std.specs.Prelude.{◌≡◌, ℕ, ◌<◌, ◌≤◌, Bool, true, false, length, IsTrue, IfOk, OnErr};
+ghost use Rattle.sec_base.specs.Answers.{Rose};
+ghost use Rattle.sec_base.specs.Link.{Wire, Reads, Writes};
+
+/// A read or a write failed, and the link's count of faults rose.
+#[derive(Clone, Copy, Debug, PartialEq, Eq)]
+pub struct LinkFault;
+
+/// A stream of octets in both directions.
+///
+/// `faults` counts the calls that failed. Where the link tells its octets, `wire` has those that were taken, those still
+/// to come and those that were written. `closed` says whether `close` was called.
+pub trait Link {
+    ghost faults: { Self → ℕ };
+
+    ghost tells: { Self → Bool };
+
+    ghost wire: { Self → Wire };
+
+    ghost closed: { Self → Bool };
+
+    /// Takes the next octets, as many as are there and fit, to the front of `buf`. 0 octets into a buffer that isn't empty
+    /// are the end of input.
+    fn read(&mut self, buf: &mut [u8]) -> Result<usize, LinkFault>
+        requires { closed self.old ≡ false }
+        ensures count { IfOk result (λ count. count ≤ length buf.old) }
+        ensures told { IsTrue (tells self.old) → Reads (wire self.old) (wire self.new) result buf.new }
+        ensures tells { tells self.new ≡ tells self.old }
+        ensures unclosed { closed self.new ≡ false }
+        ensures fault { OnErr result (Rose (faults self.old) (faults self.new)) }
+        ensures faults { faults self.old ≤ faults self.new };
+
+    /// Writes the first octets of `buf`, at least one of a buffer that isn't empty.
+    fn write(&mut self, buf: &[u8]) -> Result<usize, LinkFault>
+        requires { closed self.old ≡ false }
+        ensures count { IfOk result (λ count. count ≤ length buf.now) }
+        ensures some { IfOk result (λ count. 0 < length buf.now → 0 < count) }
+        ensures told { IsTrue (tells self.old) → Writes (wire self.old) (wire self.new) result buf.now }
+        ensures tells { tells self.new ≡ tells self.old }
+        ensures unclosed { closed self.new ≡ false }
+        ensures fault { OnErr result (Rose (faults self.old) (faults self.new)) }
+        ensures faults { faults self.old ≤ faults self.new };
+
+    /// Ends the stream in both directions.
+    fn close(&mut self)
+        ensures told { wire self.new ≡ wire self.old }
+        ensures tells { tells self.new ≡ tells self.old }
+        ensures closed { closed self.new ≡ true }
+        ensures faults { faults self.old ≤ faults self.new };
+}

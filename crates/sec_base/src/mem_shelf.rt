@@ -1,0 +1,106 @@
+//! A shelf in memory.
+
+ghost use Rattle.std.specs.Prelude.{◌≡◌, [], Some, None};
+ghost use Rattle.std.specs.Option.{option_map};
+ghost use Rattle.sec_base.specs.Shelf.{content_of, Copies};
+
+use crate::failing::Failing;
+use crate::octets::Octets;
+use crate::shelf::{LoadRefusal, NamedFile, Shelf};
+use crate::text::Text;
+use std::alloc::Global;
+
+/// A shelf of stated files, which tells them and keeps the names that were asked.
+#[derive(Debug, Drop)]
+pub struct MemShelf {
+    files: Vec<NamedFile>,
+    asked: Vec<Text>,
+    failing: Failing,
+}
+
+impl MemShelf {
+    /// A shelf of these files; of two with one name the first is given. The calls whose numbers, counted from 1, stand in `failing`
+    /// fail.
+    pub fn new(alloc: Global, files: Vec<NamedFile>, failing: Vec<u64>) -> MemShelf
+        ensures files { ⟦<MemShelf as Shelf>⟧.files result ≡ files.items }
+        ensures asked { ⟦<MemShelf as Shelf>⟧.asked result ≡ [] }
+        ensures faults { ⟦<MemShelf as Shelf>⟧.faults result ≡ 0 }
+    {
+        MemShelf {
+            files,
+            asked: Vec::new(alloc),
+            failing: Failing::new(failing),
+        }
+    }
+
+    /// The names that were asked so far.
+    pub fn asked(&self) -> &[Text]
+        ensures { result.now ≡ ⟦<MemShelf as Shelf>⟧.asked self.now }
+    {
+        self.asked.as_slice()
+    }
+
+    /// How many calls failed.
+    pub fn faults(&self) -> u64
+        ensures { result ≡ ⟦<MemShelf as Shelf>⟧.faults self.now }
+    {
+        self.failing.faults
+    }
+}
+
+/// The contents of the first file of this name.
+fn find<'a>(files: &'a [NamedFile], name: &str) -> Option<&'a [u8]>
+    ensures { option_map (λ bytes. bytes.now) result ≡ content_of files.now name.now }
+{
+    for file in files {
+        if file.name.as_str().as_bytes() == name.as_bytes() {
+            return Some(file.content.as_slice());
+        }
+    }
+    None
+}
+
+impl Shelf for MemShelf {
+    ghost use Rattle.std.specs.Prelude.{true};
+
+    ghost faults = { λ s. s.failing.faults };
+
+    ghost tells = { λ _. true };
+
+    ghost files = { λ s. s.files.items };
+
+    ghost asked = { λ s. s.asked.items };
+
+    fn load(&mut self, alloc: Global, name: &str, limit: usize) -> Result<Octets, LoadRefusal> {
+        let Ok(asked) = Text::of(alloc, name) else {
+            return Err(LoadRefusal::NoMemory);
+        };
+        if self.asked.push(asked).is_err() {
+            return Err(LoadRefusal::NoMemory);
+        }
+        if self.failing.fails() {
+            self.failing.fault();
+            return Err(LoadRefusal::Fault);
+        }
+        match find(&self.files, name) {
+            None => {
+                self.failing.fault();
+                Err(LoadRefusal::Fault)
+            }
+            Some(content) => copy_within(alloc, content, limit),
+        }
+    }
+}
+
+/// A copy of the contents, where they are within the limit.
+fn copy_within(alloc: Global, content: &[u8], limit: usize) -> Result<Octets, LoadRefusal>
+    ensures { Copies content.now limit result }
+{
+    if content.len() > limit {
+        return Err(LoadRefusal::TooLong);
+    }
+    match Octets::of(alloc, content) {
+        Ok(octets) => Ok(octets),
+        Err(_) => Err(LoadRefusal::NoMemory),
+    }
+}

@@ -1,0 +1,81 @@
+//! A TCP connection.
+
+ghost use Rattle.std.specs.Prelude.{◌≡◌, false};
+
+use crate::link::{Link, LinkFault};
+use std::io::{Read, Write};
+use std::net::{Net, Shutdown, TcpStream};
+
+/// A TCP connection. One that could not be made answers a fault at each call. It tells nothing of its octets.
+#[derive(Drop)]
+pub struct TcpLink {
+    stream: Option<TcpStream>,
+    faults: u64,
+    closed: bool,
+}
+
+impl TcpLink {
+    /// Connects to `address`, a host and a port with a colon between them.
+    pub fn connect<R: Net<Stream = TcpStream>>(rt: &R, address: &str) -> TcpLink
+        ensures { ⟦<TcpLink as Link>⟧.closed result ≡ false }
+    {
+        TcpLink::over(TcpStream::connect(rt, address).ok())
+    }
+
+    pub(crate) fn over(stream: Option<TcpStream>) -> TcpLink
+        ensures { ⟦<TcpLink as Link>⟧.closed result ≡ false }
+    {
+        TcpLink {
+            stream,
+            faults: 0,
+            closed: false,
+        }
+    }
+}
+
+impl Link for TcpLink {
+    ghost use Rattle.std.specs.Prelude.{false, []};
+
+    ghost faults = { λ l. l.faults };
+
+    ghost tells = { λ _. false };
+
+    ghost wire = { λ _. record { taken = []; coming = []; written = [] } };
+
+    ghost closed = { λ l. l.closed };
+
+    fn read(&mut self, buf: &mut [u8]) -> Result<usize, LinkFault> {
+        let read = match &mut self.stream {
+            Some(stream) => stream.read(buf).ok(),
+            None => None,
+        };
+        match read {
+            Some(count) if count <= buf.len() => Ok(count),
+            _ => {
+                self.faults = self.faults.saturating_add(1);
+                Err(LinkFault)
+            }
+        }
+    }
+
+    fn write(&mut self, buf: &[u8]) -> Result<usize, LinkFault> {
+        let written = match &mut self.stream {
+            Some(stream) => stream.write(buf).ok(),
+            None => None,
+        };
+        match written {
+            Some(count) if count <= buf.len() && (count > 0 || buf.is_empty()) => Ok(count),
+            _ => {
+                self.faults = self.faults.saturating_add(1);
+                Err(LinkFault)
+            }
+        }
+    }
+
+    fn close(&mut self) {
+        if let Some(stream) = &self.stream {
+            let _ = stream.shutdown(Shutdown::Both);
+        }
+        self.closed = true;
+    }
+}
