@@ -18,6 +18,10 @@ abbrev pub sign_usage : Side → ℕ
 sign_usage Acceptor = 23
 sign_usage Initiator = 25
 
+-- the end at the other side, which reads what this one makes
+abbrev pub facing : TokenEnd → TokenEnd
+facing end = record { key = end.key; side = other_side end.side; subkey = end.subkey }
+
 -- the flags of section 4.2.2: 1 the acceptor sent it, 2 it is sealed, 4 the acceptor's subkey protects it
 abbrev pub sender_flag : Side → ℕ
 sender_flag Initiator = 0

@@ -28,6 +28,14 @@ wrap_of end number sealed confounder octets =
     if sealed then wrap_header end true 0 0 number ++ sealed_body end number confounder octets
     else wrap_header end false 12 0 number ++ signed_body end number octets
 
+-- a body turned right by that count
+abbrev pub turned_right : ℕ → List ℕ → List ℕ
+turned_right count body = drop (length body - count % length body) body ++ take (length body - count % length body) body
+
+-- a token whose body was turned right by that count, which its RRC then says, as RFC 4121 section 4.2.5 lets any sender do
+unfoldable pub rotated : ℕ → List ℕ → List ℕ
+rotated rotation token = take 6 token ++ to_be_bytes w16 rotation ++ take 8 (drop 8 token) ++ turned_right rotation (drop 16 token)
+
 -- ---- reading
 
 -- two octets of a token as a number

@@ -8,7 +8,8 @@
 //! | 8 to 15 | the number, most significant octet first |
 //! | 16 to 27 | the checksum over the message and octets 0 to 15 |
 
-ghost use Rattle.std.specs.Prelude.{◌≡◌, ◌++◌};
+ghost use Rattle.std.specs.Prelude.{◌≡◌, ◌++◌, Ok};
+ghost use Rattle.krb_tokens.specs.End.{facing};
 ghost use Rattle.krb_tokens.specs.Mic.{mic_header, mic_of, checked_mic};
 
 use crate::end::{TokenEnd, TokenRefusal, all_filler, is_other_kind};
@@ -50,7 +51,8 @@ impl TokenEnd {
 
     /// The token over these octets with that number.
     pub fn make_mic(&self, number: u64, bytes: &[u8]) -> [u8; 28]
-        ensures { result ≡ mic_of self.now number bytes.now }
+        ensures value { result ≡ mic_of self.now number bytes.now }
+        ensures taken { checked_mic (facing self.now) result bytes.now ≡ Ok tt }
     {
         let header = self.mic_header(number);
         joined(

@@ -10,11 +10,11 @@
 //! | 8 to 15 | the number, most significant octet first |
 //! | from 16 | the body: sealed, or with a checksum of 12 octets at its end |
 
-ghost use Rattle.std.specs.Prelude.{◌≡◌, ℕ, ◌+◌, ◌<◌, ◌≤◌, true, false, nat_lt, nat_eq, length, take, drop, ◌++◌, slice_index, List, IfOk, if◌then◌else◌};
+ghost use Rattle.std.specs.Prelude.{◌≡◌, ℕ, ◌+◌, ◌<◌, ◌≤◌, true, false, nat_lt, nat_eq, length, take, drop, ◌++◌, slice_index, List, IfOk, Ok, if◌then◌else◌};
 ghost use lib.Pointwise.{pointwise};
 ghost use Rattle.sec_base.specs.Answers.{Gives};
-ghost use Rattle.krb_tokens.specs.End.{is_sealed};
-ghost use Rattle.krb_tokens.specs.Wrap.{wrap_header, wrap_of, word_of, body_of, unturned_header, bare_header, unwrapped_signed, unwrapped_plain, unwrapped_sealed, unwrapped};
+ghost use Rattle.krb_tokens.specs.End.{is_sealed, facing};
+ghost use Rattle.krb_tokens.specs.Wrap.{wrap_header, wrap_of, word_of, body_of, unturned_header, bare_header, unwrapped_signed, unwrapped_plain, unwrapped_sealed, unwrapped, rotated};
 
 use crate::end::{TokenEnd, TokenRefusal, is_other_kind, is_sealed};
 use krb_derive::{OpenRefusal, checksum, open, seal, verify};
@@ -151,7 +151,8 @@ impl TokenEnd {
     }
 
     fn wrap_signed(&self, alloc: Global, number: u64, bytes: &[u8]) -> Result<Octets, NoMemory>
-        ensures { IfOk result (λ o. (confounder : List ℕ) → o ≡ wrap_of self.now number false confounder bytes.now) }
+        ensures value { IfOk result (λ o. (confounder : List ℕ) → o ≡ wrap_of self.now number false confounder bytes.now) }
+        ensures unwraps { IfOk result (λ o. (rotation : ℕ) → rotation < 65536 → unwrapped (facing self.now) (rotated rotation o) ≡ Ok (record { sealed = false; content = bytes.now })) }
     {
         let bare = self.wrap_header(false, 0, number);
         let tag = checksum(&self.key, self.side.seal_usage(), bytes, &bare);
@@ -193,7 +194,8 @@ impl TokenEnd {
         confounder: &[u8; 16],
         bytes: &[u8],
     ) -> Result<Octets, NoMemory>
-        ensures { IfOk result (λ o. o ≡ wrap_of self.now number sealed confounder.now bytes.now) }
+        ensures value { IfOk result (λ o. o ≡ wrap_of self.now number sealed confounder.now bytes.now) }
+        ensures unwraps { IfOk result (λ o. sealed ≡ false → (rotation : ℕ) → rotation < 65536 → unwrapped (facing self.now) (rotated rotation o) ≡ Ok (record { sealed = false; content = bytes.now })) }
     {
         if sealed {
             self.wrap_sealed(alloc, number, confounder, bytes)
