@@ -1,1 +1,5 @@
 pub mod LabelCells
+pub mod Naming
+pub mod Spelled
+pub mod Reading
+pub mod Spelling

@@ -1,14 +1,18 @@
 //! What all mechanisms speak of: their kinds, texts of names, marks of authenticators, status numbers.
 #![tactic(auto)]
 
+mod bindings;
 mod label;
 mod mark;
 mod mech;
+mod principal;
 pub mod status;
 
+pub use bindings::{Bindings, EmptyBindings, binding_hash};
 pub use label::Label;
 pub use mark::{Mark, mark_of};
 pub use mech::MechKind;
+pub use principal::{NameRefusal, Principal};
 
 #[cfg(test)]
 mod tests;

@@ -1,5 +1,5 @@
 use super::*;
-use sec_base::{Moment, Oid};
+use sec_base::{Moment, Octets, Oid, Text};
 use std::test::Fail;
 
 // The contents of the two object identifiers (RFC 4121 section 1, RFC 5802 section 8), SPNEGO's own (RFC 4178) and
@@ -71,4 +71,101 @@ fn routine_errors_of_the_major_status(rt: HostRuntime) {
     assert_eq!(rt; status::major(status::FAILURE), 0x000d_0000);
     assert_eq!(rt; status::major(status::UNAUTHORIZED), 0x000f_0000);
     assert_eq!(rt; (status::COMPLETE, status::CONTINUE_NEEDED), (0, 1));
+}
+
+// Texts of names and their text forms, computed by another program from the grammar.
+#[test]
+fn texts_name_principals(rt: HostRuntime) -> Result<(), Fail> {
+    let table = [
+        ("rpc/host@R", "rpc/host@R"),
+        ("a\\/b@R", "a\\/b@R"),
+        ("@R", "@R"),
+        ("a@", "a@"),
+        ("a@R/x", "a@R\\/x"),
+        ("\u{e9}/b@R", "\u{e9}/b@R"),
+    ];
+    for (text, form) in table {
+        let name = Principal::parse(rt.alloc(), text)?;
+        assert_eq!(rt; name.label().text(), form, "{text}");
+        assert!(rt;
+            Principal::new(rt.alloc(), name.realm(), name.parts())? == name,
+            "{text}"
+        );
+    }
+    Ok(())
+}
+
+// Texts that name no principal, and where they are wrong, computed by another program from the grammar.
+#[test]
+fn texts_that_name_none(rt: HostRuntime) {
+    let table = [
+        ("ab", NameRefusal::Form { at: 2 }),
+        ("", NameRefusal::Form { at: 0 }),
+        ("a@b@c", NameRefusal::Form { at: 3 }),
+        ("a\\b@c", NameRefusal::Form { at: 1 }),
+        ("1/2/3/4/5/6/7/8/9@R", NameRefusal::PartCount),
+        ("a\0@R", NameRefusal::Zero { at: 1 }),
+    ];
+    for (text, refusal) in table {
+        assert_eq!(rt;
+            Principal::parse(rt.alloc(), text).err(),
+            Some(refusal),
+            "{text}"
+        );
+    }
+}
+
+// The limits of a name that is given by its parts.
+#[test]
+fn a_name_has_1_to_8_parts(rt: HostRuntime) -> Result<(), Fail> {
+    let mut parts = Vec::new(rt.alloc());
+    assert_eq!(rt;
+        Principal::new(rt.alloc(), "R", parts.as_slice()).err(),
+        Some(NameRefusal::PartCount)
+    );
+    for _ in 0..8 {
+        parts.push(Text::of(rt.alloc(), "a")?)?;
+    }
+    assert_eq!(rt;
+        Principal::new(rt.alloc(), "R", parts.as_slice())?
+            .label()
+            .text(),
+        "a/a/a/a/a/a/a/a@R"
+    );
+    parts.push(Text::of(rt.alloc(), "a")?)?;
+    assert_eq!(rt;
+        Principal::new(rt.alloc(), "R", parts.as_slice()).err(),
+        Some(NameRefusal::PartCount)
+    );
+    Ok(())
+}
+
+// The values were computed by another implementation of MD5.
+#[test]
+fn hashes_of_bindings(rt: HostRuntime) -> Result<(), Fail> {
+    let table = [
+        (
+            "abcd",
+            [
+                0xe3, 0x87, 0x3c, 0x29, 0x15, 0x80, 0xbf, 0x8a, 0x14, 0x69, 0x10, 0xae, 0xeb, 0xa0,
+                0x8c, 0x2e,
+            ],
+        ),
+        (
+            "\u{19}",
+            [
+                0xbc, 0x06, 0x5b, 0xa5, 0xb1, 0x15, 0x7a, 0x68, 0xd9, 0xba, 0x49, 0x06, 0xa9, 0xdc,
+                0xfc, 0x08,
+            ],
+        ),
+    ];
+    for (application, want) in table {
+        let octets = Octets::of(rt.alloc(), application.as_bytes())?;
+        let bindings = Bindings::new(octets).ok().ok_or("bindings")?;
+        assert_eq!(rt; binding_hash(Some(&bindings)), want, "{application}");
+    }
+    assert_eq!(rt; binding_hash(None), [0; 16]);
+    let none = Bindings::new(Octets::of(rt.alloc(), b"")?);
+    assert!(rt; none.is_err());
+    Ok(())
 }

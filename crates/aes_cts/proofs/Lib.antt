@@ -1,0 +1,14 @@
+pub mod Sums
+pub mod Entries
+pub mod Octets
+pub mod Shapes
+pub mod Coefficients
+pub mod Inversion
+pub mod Rounds
+pub mod Expansion
+pub mod Undoing
+pub mod Blocks
+pub mod Chaining
+pub mod Stolen
+pub mod Restored
+pub mod Resealed

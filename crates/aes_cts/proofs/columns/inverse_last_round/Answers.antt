@@ -1,0 +1,7 @@
+use Rattle.aes_cts.specs.State.{inverse_sub_column, inverse_shift_rows, inverse_sub_bytes}
+use Rattle.aes_cts.specs.Words.{state_of}
+use Rattle.aes_cts.proofs.columns.inverse_last_round.Goals as goal
+
+pub returns : goal.returns
+unfolding state_of inverse_shift_rows inverse_sub_bytes inverse_sub_column
+returns c = rw (c.unsubstitute.ensures, c.unsubstitute-2.ensures, c.unsubstitute-3.ensures, c.unsubstitute-4.ensures) at c.add.ensures

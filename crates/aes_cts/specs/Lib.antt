@@ -1,0 +1,7 @@
+pub mod Field
+pub mod State
+pub mod Schedule
+pub mod Cipher
+pub mod Stealing
+pub mod Words
+pub mod AesKey

@@ -1,0 +1,203 @@
+// Columns of the state as words of 32 bits, the octet of row 0 on top, and the rounds of FIPS 197 on them.
+
+ghost use Rattle.std.specs.Prelude.{◌≡◌, ◌+◌, ◌<◌, ◌≤◌, length};
+ghost use Rattle.aes_cts.specs.Words.{state_of, state_at};
+ghost use Rattle.aes_cts.specs.State.{octet_of, column_of, column_from, state_from, state_octets, across, add_column, sub_column, inverse_sub_column, mix_column, inverse_mix_column, add_state, sub_bytes, inverse_sub_bytes, shift_rows, inverse_shift_rows, mix_columns, inverse_mix_columns};
+
+use crate::tables::{mix0, mix1, mix2, mix3, sub, unmix0, unmix1, unmix2, unmix3, unsub};
+
+/// A state, column by column.
+#[derive(Clone, Copy)]
+pub struct Columns {
+    pub first: u32,
+    pub second: u32,
+    pub third: u32,
+    pub fourth: u32,
+}
+
+#[inline]
+pub fn octet(word: u32, shift: u32) -> usize
+    requires { shift < 32 }
+    ensures value { result ≡ octet_of word shift }
+    ensures small { result < 256 }
+{
+    (word >> shift & 0xff) as usize
+}
+
+// The word of four octets from `at` on.
+#[inline]
+pub fn word_at(octets: &[u8], at: usize) -> u32
+    requires { at + 4 ≤ length octets.now }
+    ensures { column_of result ≡ column_from octets.now at }
+{
+    u32::from_be_bytes([octets[at], octets[at + 1], octets[at + 2], octets[at + 3]])
+}
+
+#[inline]
+pub fn state_words(block: &[u8]) -> Columns
+    requires { length block.now ≡ 16 }
+    ensures { state_of result ≡ state_from block.now }
+{
+    Columns {
+        first: word_at(block, 0),
+        second: word_at(block, 4),
+        third: word_at(block, 8),
+        fourth: word_at(block, 12),
+    }
+}
+
+#[inline]
+pub fn block_of(state: Columns) -> [u8; 16]
+    ensures { result ≡ state_octets (state_of state) }
+{
+    let a = state.first.to_be_bytes();
+    let b = state.second.to_be_bytes();
+    let c = state.third.to_be_bytes();
+    let d = state.fourth.to_be_bytes();
+    [
+        a[0], a[1], a[2], a[3], b[0], b[1], b[2], b[3], c[0], c[1], c[2], c[3], d[0], d[1], d[2],
+        d[3],
+    ]
+}
+
+// SubBytes of the column whose rows stand in these four.
+#[inline]
+pub fn substitute(a: u32, b: u32, c: u32, d: u32) -> u32
+    ensures { column_of result ≡ sub_column (across (column_of a) (column_of b) (column_of c) (column_of d)) }
+{
+    u32::from_be_bytes([
+        sub(octet(a, 24)),
+        sub(octet(b, 16)),
+        sub(octet(c, 8)),
+        sub(octet(d, 0)),
+    ])
+}
+
+#[inline]
+fn unsubstitute(a: u32, b: u32, c: u32, d: u32) -> u32
+    ensures { column_of result ≡ inverse_sub_column (across (column_of a) (column_of b) (column_of c) (column_of d)) }
+{
+    u32::from_be_bytes([
+        unsub(octet(a, 24)),
+        unsub(octet(b, 16)),
+        unsub(octet(c, 8)),
+        unsub(octet(d, 0)),
+    ])
+}
+
+// MixColumns after SubBytes of the column whose rows stand in these four.
+#[inline]
+fn mix(a: u32, b: u32, c: u32, d: u32) -> u32
+    ensures { column_of result ≡ mix_column (sub_column (across (column_of a) (column_of b) (column_of c) (column_of d))) }
+{
+    mix0(octet(a, 24)) ^ mix1(octet(b, 16)) ^ mix2(octet(c, 8)) ^ mix3(octet(d, 0))
+}
+
+#[inline]
+fn unmix(a: u32, b: u32, c: u32, d: u32) -> u32
+    ensures { column_of result ≡ inverse_mix_column (inverse_sub_column (across (column_of a) (column_of b) (column_of c) (column_of d))) }
+{
+    unmix0(octet(a, 24)) ^ unmix1(octet(b, 16)) ^ unmix2(octet(c, 8)) ^ unmix3(octet(d, 0))
+}
+
+// InvMixColumns of a word of the key schedule.
+pub fn unmixed(word: u32) -> u32
+    ensures { column_of result ≡ inverse_mix_column (column_of word) }
+{
+    let put = substitute(word, word, word, word);
+    unmix(put, put, put, put)
+}
+
+#[inline]
+pub fn add(s: Columns, words: &[u32; 60], at: usize) -> Columns
+    requires { at + 4 ≤ 60 }
+    ensures { state_of result ≡ add_state (state_of s) (state_at words.now at) }
+{
+    Columns {
+        first: s.first ^ words[at],
+        second: s.second ^ words[at + 1],
+        third: s.third ^ words[at + 2],
+        fourth: s.fourth ^ words[at + 3],
+    }
+}
+
+#[inline]
+pub fn round(s: Columns, words: &[u32; 60], at: usize) -> Columns
+    requires { at + 4 ≤ 60 }
+    ensures { state_of result ≡ add_state (mix_columns (shift_rows (sub_bytes (state_of s)))) (state_at words.now at) }
+{
+    let Columns {
+        first: a,
+        second: b,
+        third: c,
+        fourth: d,
+    } = s;
+    let mixed = Columns {
+        first: mix(a, b, c, d),
+        second: mix(b, c, d, a),
+        third: mix(c, d, a, b),
+        fourth: mix(d, a, b, c),
+    };
+    add(mixed, words, at)
+}
+
+#[inline]
+pub fn last_round(s: Columns, words: &[u32; 60], at: usize) -> Columns
+    requires { at + 4 ≤ 60 }
+    ensures { state_of result ≡ add_state (shift_rows (sub_bytes (state_of s))) (state_at words.now at) }
+{
+    let Columns {
+        first: a,
+        second: b,
+        third: c,
+        fourth: d,
+    } = s;
+    let put = Columns {
+        first: substitute(a, b, c, d),
+        second: substitute(b, c, d, a),
+        third: substitute(c, d, a, b),
+        fourth: substitute(d, a, b, c),
+    };
+    add(put, words, at)
+}
+
+// A round of the inverse; its key has gone through InvMixColumns too.
+#[inline]
+pub fn inverse_round(s: Columns, words: &[u32; 60], at: usize) -> Columns
+    requires { at + 4 ≤ 60 }
+    ensures { state_of result ≡ add_state (inverse_mix_columns (inverse_sub_bytes (inverse_shift_rows (state_of s)))) (state_at words.now at) }
+{
+    let Columns {
+        first: a,
+        second: b,
+        third: c,
+        fourth: d,
+    } = s;
+    let mixed = Columns {
+        first: unmix(a, d, c, b),
+        second: unmix(b, a, d, c),
+        third: unmix(c, b, a, d),
+        fourth: unmix(d, c, b, a),
+    };
+    add(mixed, words, at)
+}
+
+#[inline]
+pub fn inverse_last_round(s: Columns, words: &[u32; 60], at: usize) -> Columns
+    requires { at + 4 ≤ 60 }
+    ensures { state_of result ≡ add_state (inverse_sub_bytes (inverse_shift_rows (state_of s))) (state_at words.now at) }
+{
+    let Columns {
+        first: a,
+        second: b,
+        third: c,
+        fourth: d,
+    } = s;
+    let put = Columns {
+        first: unsubstitute(a, d, c, b),
+        second: unsubstitute(b, a, d, c),
+        third: unsubstitute(c, b, a, d),
+        fourth: unsubstitute(d, c, b, a),
+    };
+    add(put, words, at)
+}

@@ -1,0 +1,12 @@
+//! AES (FIPS 197) with keys of 16 and 32 octets, and CBC with ciphertext stealing (RFC 3962 section 5).
+#![tactic(auto)]
+
+mod columns;
+mod key;
+mod schedule;
+mod stealing;
+mod tables;
+#[cfg(test)]
+mod tests;
+
+pub use key::AesKey;

@@ -1,0 +1,12 @@
+pub mod CivilTimes
+pub mod Dates
+pub mod Headers
+pub mod TwosComplement
+pub mod Laws
+pub mod LibraryDates
+pub mod Lists
+pub mod SingleValues
+pub mod Steps
+pub mod Texts
+pub mod Wholes
+pub mod WriterSteps

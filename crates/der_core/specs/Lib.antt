@@ -1,0 +1,10 @@
+pub mod Element
+pub mod Fields
+pub mod Format
+pub mod Frame
+pub mod Header
+pub mod Integer
+pub mod Law
+pub mod Number
+pub mod Time
+pub mod Values

@@ -1,0 +1,8 @@
+pub mod KeptInARow
+pub mod OneReading
+pub mod Turning
+pub mod Replying
+pub mod ReplyLengths
+pub mod Saying
+pub mod ServedLinks
+pub mod Words

@@ -1,0 +1,35 @@
+use Rattle.std.proofs.Common.{◌∙◌, ◌++◌, ◌∷◌, [], arith, ap, sym, subst, IsTrue}
+use Rattle.gss_server.specs.Desks.{ServedInOrder, NoneWanted, AllWithin}
+use Rattle.gss_server.proofs.ServedLinks.{served-more, none-wanted-more, within-more, pushed, pushed-count, accepted}
+use Rattle.gss_server.proofs.desk.serve_desk.Goals as goal
+
+pub returns-in-NoMemory-clause-told : goal.returns-in-NoMemory-clause-told
+returns-in-NoMemory-clause-told g c = λ t.
+    let tells : IsTrue (g.P.Port.tells c.loop-number.desk.port) = rw c.loop-number.invariant.tells t in
+    subst (λ xs. ServedInOrder g.P.Link.Link.tells g.P.Link.Link.wire g.P.Link.Link.faults (g.P.Port.links c.args.desk.now.port) (g.P.Port.links c.accept.new.self) xs)
+    (sym (pushed c.push.result _ _ _ _ _ c.push.ensures.items c.push.ensures.full c.in-Ok.ensures.ok ∙ ap (λ xs. xs ++ c.serve_link-served.result ∷ []) c.reserve.ensures.items))
+    (served-more _ _ _ _ (g.P.Port.links c.loop-number.desk.port) (g.P.Port.links c.accept.new.self) c.loop-number.desk.served.items c.in-Ok-Some.link c.serve_link-served.result
+    (c.loop-number.invariant.told t)
+    (accepted _ _ c.in-Ok-Some.link c.in-Ok-Some.field-0 c.in-Ok-Some.field-0-is (c.in-Ok-Some.ensures.told tells))
+    (record { told = c.serve_link-served.ensures.told; always = c.serve_link-served.ensures.always; fault = c.serve_link-served.ensures.fault }))
+
+pub loop-number-preserved : goal.loop-number-preserved
+loop-number-preserved g c = record {
+  told = λ t.
+      let tells : IsTrue (g.P.Port.tells c.loop-number.desk.port) = rw c.loop-number.invariant.tells t in
+      subst (λ xs. ServedInOrder g.P.Link.Link.tells g.P.Link.Link.wire g.P.Link.Link.faults (g.P.Port.links c.args.desk.now.port) (g.P.Port.links c.accept.new.self) xs)
+      (sym (pushed c.push.result _ _ _ _ _ c.push.ensures.items c.push.ensures.full c.in-Ok.ensures.ok ∙ ap (λ xs. xs ++ c.serve_link-served.result ∷ []) c.reserve.ensures.items))
+      (served-more _ _ _ _ (g.P.Port.links c.loop-number.desk.port) (g.P.Port.links c.accept.new.self) c.loop-number.desk.served.items c.in-Ok-Some.link c.serve_link-served.result
+      (c.loop-number.invariant.told t)
+      (accepted _ _ c.in-Ok-Some.link c.in-Ok-Some.field-0 c.in-Ok-Some.field-0-is (c.in-Ok-Some.ensures.told tells))
+      (record { told = c.serve_link-served.ensures.told; always = c.serve_link-served.ensures.always; fault = c.serve_link-served.ensures.fault }));
+  tells = c.in-Ok-Some.ensures.tells ∙ c.loop-number.invariant.tells;
+  faults = omega (arith, c.in-Ok-Some.ensures.faults);
+  none_wanted = subst (λ xs. NoneWanted xs)
+      (sym (pushed c.push.result _ _ _ _ _ c.push.ensures.items c.push.ensures.full c.in-Ok.ensures.ok ∙ ap (λ xs. xs ++ c.serve_link-served.result ∷ []) c.reserve.ensures.items))
+      (none-wanted-more _ _ c.loop-number.invariant.none_wanted c.in_default.not-NoMemory);
+  within = subst (λ xs. AllWithin xs)
+      (sym (pushed c.push.result _ _ _ _ _ c.push.ensures.items c.push.ensures.full c.in-Ok.ensures.ok ∙ ap (λ xs. xs ++ c.serve_link-served.result ∷ []) c.reserve.ensures.items))
+      (within-more _ _ c.loop-number.invariant.within c.serve_link-served.ensures.bound);
+  count = omega (arith, pushed-count c.push.result _ _ _ _ c.push.ensures.len c.push.ensures.full c.in-Ok.ensures.ok, c.reserve.ensures.len);
+}

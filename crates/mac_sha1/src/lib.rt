@@ -1,0 +1,10 @@
+//! HMAC with SHA-1 (RFC 2104) and Hi (RFC 5802 section 2.2).
+#![tactic(auto)]
+
+mod mac;
+mod stretch;
+#[cfg(test)]
+mod tests;
+
+pub use mac::Hmac;
+pub use stretch::hi;

@@ -1,0 +1,4 @@
+pub mod InARow
+pub mod NullCalls
+pub mod OneRecord
+pub mod WordLengths

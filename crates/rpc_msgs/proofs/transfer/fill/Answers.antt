@@ -1,0 +1,18 @@
+use Rattle.std.proofs.Common.{arith, sym, ◌≤◌, length, IsTrue, ◌∙◌}
+use Rattle.std.proofs.lemmas.Grind.{common_steps}
+use Rattle.rpc_msgs.proofs.InARow.{took-again, took-same, gave-took, take-put_mid-add}
+use Rattle.rpc_msgs.proofs.transfer.fill.Goals as goal
+
+pub loop-at-preserved : goal.loop-at-preserved
+loop-at-preserved g c =
+    let fits : c.in-Ok.count ≤ length c.read.new.buf = grind (arith, common_steps, c.in-Ok.ensures.count, c.read.auto.buf) in
+    record {
+      range = grind (arith, common_steps, c.in-Ok.ensures.count, c.read.auto.buf);
+      told = λ t.
+          let tells : IsTrue (g.L.Link.tells c.loop-at.link) = rw c.loop-at.invariant.tells t in
+          took-same (took-again (c.loop-at.invariant.told t) (gave-took (c.in-Ok.ensures.told tells)))
+          (sym (take-put_mid-add c.loop-at.at _ c.in-Ok.count c.loop-at.buf c.read.new.buf c.loop-at.invariant.range fits));
+      tells = c.in-Ok.ensures.tells ∙ c.loop-at.invariant.tells;
+      unclosed = c.in-Ok.ensures.unclosed;
+      faults = omega (arith, c.in-Ok.ensures.faults);
+    }

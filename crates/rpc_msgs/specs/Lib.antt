@@ -1,0 +1,5 @@
+pub mod Calls
+pub mod Records
+pub mod Replies
+pub mod Streams
+pub mod Words

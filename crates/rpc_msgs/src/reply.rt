@@ -1,0 +1,131 @@
+//! Replies, RFC 5531 section 9.
+
+ghost use Rattle.std.specs.Prelude.{◌≡◌, ◌≤◌, ◌++◌, length, IfOk, OnOk};
+ghost use Rattle.rpc_msgs.specs.Replies.{reply_octets, IsReply, accepted_head, accepted_body, mismatch_octets, auth_error_octets};
+ghost use Rattle.rpc_msgs.specs.Words.{word};
+
+use crate::xdr_writer::XdrWriter;
+use sec_base::{NoMemory, Octets};
+use std::alloc::Global;
+
+/// A reply.
+#[derive(Clone, Copy, Debug)]
+pub enum Reply<'a> {
+    /// The call was accepted. `result` is there at stat 0 (SUCCESS), the versions `low` to `high` at stat 2 (PROG_MISMATCH).
+    Accepted {
+        xid: u32,
+        flavour: u32,
+        verf: &'a [u8],
+        stat: u32,
+        low: u32,
+        high: u32,
+        result: &'a [u8],
+    },
+    /// The RPC version is none of `low` to `high`.
+    Mismatch {
+        xid: u32,
+        low: u32,
+        high: u32,
+    },
+    /// The caller isn't accepted.
+    AuthError {
+        xid: u32,
+        stat: u32,
+    },
+}
+
+/// The octets of a reply.
+pub fn write_reply(alloc: Global, v: &Reply<'_>) -> Result<Octets, NoMemory>
+    requires { IsReply v.now }
+    ensures { IfOk result (λ octets. octets ≡ reply_octets v.now) }
+{
+    match *v {
+        Reply::Accepted {
+            xid,
+            flavour,
+            verf,
+            stat,
+            low,
+            high,
+            result,
+        } => {
+            let mut out = XdrWriter::new(alloc);
+            put_accepted(&mut out, xid, flavour, verf, stat)?;
+            put_body(&mut out, stat, low, high, result)?;
+            Ok(out.finish())
+        }
+        Reply::Mismatch { xid, low, high } => mismatch(alloc, xid, low, high),
+        Reply::AuthError { xid, stat } => auth_error(alloc, xid, stat),
+    }
+}
+
+/// Appends an accepted reply up to its stat.
+fn put_accepted(
+    out: &mut XdrWriter,
+    xid: u32,
+    flavour: u32,
+    verf: &[u8],
+    stat: u32,
+) -> Result<(), NoMemory>
+    requires { length verf.now ≤ 400 }
+    ensures { OnOk result (out.new ≡ out.old ++ accepted_head xid flavour verf.now stat) }
+{
+    out.word(xid)?;
+    out.word(1)?;
+    out.word(0)?;
+    out.word(flavour)?;
+    out.opaque(verf)?;
+    out.word(stat)
+}
+
+/// Appends what follows an accepted reply's stat.
+fn put_body(
+    out: &mut XdrWriter,
+    stat: u32,
+    low: u32,
+    high: u32,
+    body: &[u8],
+) -> Result<(), NoMemory>
+    ensures { OnOk result (out.new ≡ out.old ++ accepted_body stat low high body.now) }
+{
+    match stat {
+        0 => out.octets(body),
+        2 => put_range(out, low, high),
+        _ => Ok(()),
+    }
+}
+
+/// Appends two words.
+fn put_range(out: &mut XdrWriter, low: u32, high: u32) -> Result<(), NoMemory>
+    ensures { OnOk result (out.new ≡ out.old ++ (word low ++ word high)) }
+{
+    out.word(low)?;
+    out.word(high)
+}
+
+/// The reply to another RPC version.
+fn mismatch(alloc: Global, xid: u32, low: u32, high: u32) -> Result<Octets, NoMemory>
+    ensures { IfOk result (λ octets. octets ≡ mismatch_octets xid low high) }
+{
+    let mut out = XdrWriter::new(alloc);
+    out.word(xid)?;
+    out.word(1)?;
+    out.word(1)?;
+    out.word(0)?;
+    out.word(low)?;
+    out.word(high)?;
+    Ok(out.finish())
+}
+
+/// The reply to a caller who isn't accepted.
+fn auth_error(alloc: Global, xid: u32, stat: u32) -> Result<Octets, NoMemory>
+    ensures { IfOk result (λ octets. octets ≡ auth_error_octets xid stat) }
+{
+    let mut out = XdrWriter::new(alloc);
+    out.word(xid)?;
+    out.word(1)?;
+    out.word(1)?;
+    out.word(1)?;
+    out.word(stat)?;
+    Ok(out.finish())
+}
