@@ -59,7 +59,8 @@ pub spnego_identifier_law : IsFormat spnego_identifier
 unfolding spnego_identifier
 spnego_identifier_law = element_law 6 spnego_content (record {
   takes = λ i v bytes e. (spnego_is i.octets (passed (is_spnego i.octets) _ _ v e).0, refl);
-  again = λ end v fits. refl })
+  again = λ end v fits. refl;
+})
 
 pub req_flags_law : IsFormat req_flags
 unfolding req_flags
@@ -67,12 +68,12 @@ req_flags_law = element_law 3 (plain any_octets) (plain_law any_octets)
 
 neg_init_fields_law : IsContent neg_init_fields
 neg_init_fields_law =
-  field_law _ _ (explicit_law 0xa0 _ mech_types_law)
-  (optional_law 0xa1 _ _ (explicit_law 0xa1 _ req_flags_law) (explicit_tag 0xa1 _)
-  (optional_law 0xa2 _ _ (explicit_law 0xa2 _ octet_string_law) (explicit_tag 0xa2 _)
-  (optional_law 0xa3 _ _ (explicit_law 0xa3 _ octet_string_law) (explicit_tag 0xa3 _) done_law (done_from _))
-  (optional_from _ 0xa3 _ _ (explicit_tag 0xa3 _) (omega arith) (done_from _)))
-  (optional_from _ 0xa2 _ _ (explicit_tag 0xa2 _) (omega arith) (optional_from _ 0xa3 _ _ (explicit_tag 0xa3 _) (omega arith) (done_from _))))
+    field_law _ _ (explicit_law 0xa0 _ mech_types_law)
+    (optional_law 0xa1 _ _ (explicit_law 0xa1 _ req_flags_law) (explicit_tag 0xa1 _)
+    (optional_law 0xa2 _ _ (explicit_law 0xa2 _ octet_string_law) (explicit_tag 0xa2 _)
+    (optional_law 0xa3 _ _ (explicit_law 0xa3 _ octet_string_law) (explicit_tag 0xa3 _) done_law (done_from _))
+    (optional_from _ 0xa3 _ _ (explicit_tag 0xa3 _) (omega arith) (done_from _)))
+    (optional_from _ 0xa2 _ _ (explicit_tag 0xa2 _) (omega arith) (optional_from _ 0xa3 _ _ (explicit_tag 0xa3 _) (omega arith) (done_from _))))
 
 neg_init_choice_law : IsContent neg_init_choice
 neg_init_choice_law = whole_law _ (explicit_law 0xa0 _ (element_law 0x30 _ (seen_law _ _ neg_init_fields (λ v. refl) (λ t. refl) neg_init_fields_law)))
@@ -114,17 +115,18 @@ pub neg_state_law : IsFormat neg_state
 unfolding neg_state
 neg_state_law = element_law 0x0a state_content (record {
   takes = λ i v bytes e. (state_takes (place i) i.octets v e, refl);
-  again = λ end v fits. state_again _ v })
+  again = λ end v fits. state_again _ v;
+})
 
 neg_resp_fields_law : IsContent neg_resp_fields
 neg_resp_fields_law =
-  optional_law 0xa0 _ _ (explicit_law 0xa0 _ neg_state_law) (explicit_tag 0xa0 _)
-  (optional_law 0xa1 _ _ (explicit_law 0xa1 _ object_identifier_law) (explicit_tag 0xa1 _)
-  (optional_law 0xa2 _ _ (explicit_law 0xa2 _ octet_string_law) (explicit_tag 0xa2 _)
-  (optional_law 0xa3 _ _ (explicit_law 0xa3 _ octet_string_law) (explicit_tag 0xa3 _) done_law (done_from _))
-  (optional_from _ 0xa3 _ _ (explicit_tag 0xa3 _) (omega arith) (done_from _)))
-  (optional_from _ 0xa2 _ _ (explicit_tag 0xa2 _) (omega arith) (optional_from _ 0xa3 _ _ (explicit_tag 0xa3 _) (omega arith) (done_from _))))
-  (optional_from _ 0xa1 _ _ (explicit_tag 0xa1 _) (omega arith) (optional_from _ 0xa2 _ _ (explicit_tag 0xa2 _) (omega arith) (optional_from _ 0xa3 _ _ (explicit_tag 0xa3 _) (omega arith) (done_from _))))
+    optional_law 0xa0 _ _ (explicit_law 0xa0 _ neg_state_law) (explicit_tag 0xa0 _)
+    (optional_law 0xa1 _ _ (explicit_law 0xa1 _ object_identifier_law) (explicit_tag 0xa1 _)
+    (optional_law 0xa2 _ _ (explicit_law 0xa2 _ octet_string_law) (explicit_tag 0xa2 _)
+    (optional_law 0xa3 _ _ (explicit_law 0xa3 _ octet_string_law) (explicit_tag 0xa3 _) done_law (done_from _))
+    (optional_from _ 0xa3 _ _ (explicit_tag 0xa3 _) (omega arith) (done_from _)))
+    (optional_from _ 0xa2 _ _ (explicit_tag 0xa2 _) (omega arith) (optional_from _ 0xa3 _ _ (explicit_tag 0xa3 _) (omega arith) (done_from _))))
+    (optional_from _ 0xa1 _ _ (explicit_tag 0xa1 _) (omega arith) (optional_from _ 0xa2 _ _ (explicit_tag 0xa2 _) (omega arith) (optional_from _ 0xa3 _ _ (explicit_tag 0xa3 _) (omega arith) (done_from _))))
 
 pub neg_resp_law : IsContent neg_resp
 unfolding neg_resp

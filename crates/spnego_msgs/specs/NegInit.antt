@@ -17,7 +17,8 @@ abbrev pub spnego_content : Content (Unit {0})
 spnego_content = record {
   read = λ i. if is_spnego i.octets then Ok tt else refused Value (place i);
   spell = λ nothing. 0x2b ∷ 6 ∷ 1 ∷ 5 ∷ 5 ∷ 2 ∷ [];
-  fits = λ nothing. true }
+  fits = λ nothing. true;
+}
 
 unfoldable pub spnego_identifier : Format (Unit {0})
 spnego_identifier = element 6 spnego_content
@@ -29,18 +30,18 @@ req_flags = element 3 (plain any_octets)
 -- mechTypes [0], reqFlags [1] OPTIONAL, mechToken [2] OPTIONAL, mechListMIC [3] OPTIONAL
 abbrev pub neg_init_fields : Content (List (List ℕ) × (Option (List ℕ) × (Option (List ℕ) × (Option (List ℕ) × Unit {0}))))
 neg_init_fields =
-  with_field (explicit 0xa0 mech_types)
-  (with_optional 0xa1 (explicit 0xa1 req_flags)
-  (with_optional 0xa2 (explicit 0xa2 octet_string)
-  (with_optional 0xa3 (explicit 0xa3 octet_string)
-  done)))
+    with_field (explicit 0xa0 mech_types)
+    (with_optional 0xa1 (explicit 0xa1 req_flags)
+    (with_optional 0xa2 (explicit 0xa2 octet_string)
+    (with_optional 0xa3 (explicit 0xa3 octet_string)
+    done)))
 
 -- NegotiationToken ::= CHOICE negTokenInit [0]
 abbrev pub neg_init_choice : Content NegInit
 neg_init_choice = whole (explicit 0xa0 (element 0x30 (seen
-  (λ v. record { list = v.0; flags = v.1.0; token = v.1.1.0; mic = v.1.1.1.0 })
-  (λ t. (t.list, (t.flags, (t.token, (t.mic, tt)))))
-  neg_init_fields)))
+    (λ v. record { list = v.0; flags = v.1.0; token = v.1.1.0; mic = v.1.1.1.0 })
+    (λ t. (t.list, (t.flags, (t.token, (t.mic, tt)))))
+    neg_init_fields)))
 
 -- the frame with the identifier of SPNEGO, and the token in it
 unfoldable pub neg_init : Content NegInit

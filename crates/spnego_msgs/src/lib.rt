@@ -11,3 +11,6 @@ pub use lists::list_bytes;
 pub use neg_init::{NegInit, read_init, write_init};
 pub use neg_resp::{NegResp, read_resp, write_resp};
 pub use neg_state::NegState;
+
+#[cfg(test)]
+mod tests;

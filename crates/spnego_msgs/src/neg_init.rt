@@ -146,7 +146,11 @@ fn put_init_fields(alloc: Global, fields: &mut Writer, v: &NegInit) -> Result<()
 
 /// Adds the flags, where there are some.
 #[tactic(auto, unfolding(crate::specs::NegInit::req_flags))]
-fn put_optional_flags(alloc: Global, out: &mut Writer, flags: &Option<Octets>) -> Result<(), NoMemory>
+fn put_optional_flags(
+    alloc: Global,
+    out: &mut Writer,
+    flags: &Option<Octets>,
+) -> Result<(), NoMemory>
     ensures { OnOk result (PutsMaybe (explicit 0xa1 req_flags) flags.now out.old out.new) }
 {
     match flags {
