@@ -69,7 +69,8 @@ impl<N: Drop, S: Drop> Table<N, S> {
 
     /// How many contexts live.
     pub fn live(&self) -> usize
-        ensures { result ≡ live_of self.now }
+        ensures value { result ≡ live_of self.now }
+        ensures most { result ≤ self.now.limit }
     {
         self.live
     }

@@ -12,3 +12,6 @@ mod refusal;
 pub use ccache::{Ccache, Credential, read_ccache};
 pub use keytab::{Keytab, read_keytab};
 pub use refusal::{FileRefusal, FileWhy};
+
+#[cfg(test)]
+mod tests;

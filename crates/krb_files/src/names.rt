@@ -65,12 +65,7 @@ fn texts_in(alloc: Global, at: usize, parts: &[Octets]) -> Result<Vec<Text>, Fil
 }
 
 /// The principal of this realm and these parts, which begins at this place.
-fn named(
-    alloc: Global,
-    at: usize,
-    realm: &[u8],
-    parts: &[Octets],
-) -> Result<Principal, FileRefusal>
+fn named(alloc: Global, at: usize, realm: &[u8], parts: &[Octets]) -> Result<Principal, FileRefusal>
     ensures { Answers (λ p. p) result (named_at at realm.now parts.now) }
 {
     let Some(realm) = text_of(realm) else {

@@ -10,13 +10,13 @@ pub returns-in_err-piece : goal.returns-in_err-piece
 returns-in_err-piece c =
     let p = err_from_is_err_and c.from_residual.result c.from_residual.ensures.1 in
     rw (p.1, p.2) (λ kept.
-      subst (λ (n : ℕ). many_of piece_at n c.args.fields.now ≡ Err c.in_err-piece.field-0.0) c.left-count.ensures
-        (fails piece_at c.left-count.result c.loop.counter c.loop.fields c.loop.entries.items _ c.in_err-piece.field-0.0 (omega arith) (c.in_err-piece.ensures kept) c.loop.invariant))
+    subst (λ (n : ℕ). many_of piece_at n c.args.fields.now ≡ Err c.in_err-piece.field-0.0) c.left-count.ensures
+    (fails piece_at c.left-count.result c.loop.counter c.loop.fields c.loop.entries.items _ c.in_err-piece.field-0.0 (omega arith) (c.in_err-piece.ensures kept) c.loop.invariant))
 
 pub returns-in-End : goal.returns-in-End
 returns-in-End c =
     subst (λ (n : ℕ). many_of piece_at n c.args.fields.now ≡ Ok c.loop.entries.items) c.left-count.ensures
-      (ends piece_at c.left-count.result c.loop.counter c.loop.fields c.piece.new.fields c.loop.entries.items _ (omega arith) (rw c.in-End.is at c.in_ok-piece.ensures) c.loop.invariant)
+    (ends piece_at c.left-count.result c.loop.counter c.loop.fields c.piece.new.fields c.loop.entries.items _ (omega arith) (rw c.in-End.is at c.in_ok-piece.ensures) c.loop.invariant)
 
 pub loop-preserved : goal.loop-preserved
 loop-preserved c =
@@ -28,4 +28,4 @@ loop-preserved c =
 pub returns : goal.returns
 returns c =
     subst (λ (n : ℕ). many_of piece_at n c.args.fields.now ≡ Ok c.loop.entries.items) c.left-count.ensures
-      (is_done piece_at _ c.loop.fields c.loop.entries.items _ (omega arith) c.loop.invariant)
+    (is_done piece_at _ c.loop.fields c.loop.entries.items _ (omega arith) c.loop.invariant)
