@@ -126,10 +126,10 @@ record AreSmall (c y m d h i s : ℕ) : Type 0 where
   second : s < 100
 
 seven : (c y m d h i s : ℕ) → AreSmall c y m d h i s → (are_digits (digits (c ∷ y ∷ m ∷ d ∷ h ∷ i ∷ s ∷ [])) ≡ true) × (numbers (digits (c ∷ y ∷ m ∷ d ∷ h ∷ i ∷ s ∷ [])) ≡ c ∷ y ∷ m ∷ d ∷ h ∷ i ∷ s ∷ [])
-seven c y m d h i s a =
-    ( more_digits c (y ∷ m ∷ d ∷ h ∷ i ∷ s ∷ []) a.century (more_digits y (m ∷ d ∷ h ∷ i ∷ s ∷ []) a.year (more_digits m (d ∷ h ∷ i ∷ s ∷ []) a.month (more_digits d (h ∷ i ∷ s ∷ []) a.day (more_digits h (i ∷ s ∷ []) a.hour (more_digits i (s ∷ []) a.minute (more_digits s [] a.second refl))))))
-    , more_numbers c (y ∷ m ∷ d ∷ h ∷ i ∷ s ∷ []) a.century (more_numbers y (m ∷ d ∷ h ∷ i ∷ s ∷ []) a.year (more_numbers m (d ∷ h ∷ i ∷ s ∷ []) a.month (more_numbers d (h ∷ i ∷ s ∷ []) a.day (more_numbers h (i ∷ s ∷ []) a.hour (more_numbers i (s ∷ []) a.minute (more_numbers s [] a.second refl))))))
-    )
+seven c y m d h i s a = (
+  more_digits c (y ∷ m ∷ d ∷ h ∷ i ∷ s ∷ []) a.century (more_digits y (m ∷ d ∷ h ∷ i ∷ s ∷ []) a.year (more_digits m (d ∷ h ∷ i ∷ s ∷ []) a.month (more_digits d (h ∷ i ∷ s ∷ []) a.day (more_digits h (i ∷ s ∷ []) a.hour (more_digits i (s ∷ []) a.minute (more_digits s [] a.second refl)))))),
+  more_numbers c (y ∷ m ∷ d ∷ h ∷ i ∷ s ∷ []) a.century (more_numbers y (m ∷ d ∷ h ∷ i ∷ s ∷ []) a.year (more_numbers m (d ∷ h ∷ i ∷ s ∷ []) a.month (more_numbers d (h ∷ i ∷ s ∷ []) a.day (more_numbers h (i ∷ s ∷ []) a.hour (more_numbers i (s ∷ []) a.minute (more_numbers s [] a.second refl)))))),
+)
 
 time_if : (os ns : List ℕ) → take 14 os ≡ digits ns → drop 14 os ≡ 90 ∷ [] → are_digits (digits ns) ≡ true → numbers (digits ns) ≡ ns → is_civil ns ≡ true → is_time os ≡ true
 unfolding is_time
@@ -153,19 +153,20 @@ time_again t small =
 pub time_content_law : IsContent time_content
 time_content_law = record {
   takes = λ i v bytes e.
-    let p = passed (is_time i.octets) _ _ v e in
-    let t = time_takes i.octets p.0 in
-    let whole : seconds_of (numbers (take 14 i.octets)) * 1000000 / 1000000 ≡ seconds_of (numbers (take 14 i.octets)) = omega arith in
-    let none : seconds_of (numbers (take 14 i.octets)) * 1000000 % 1000000 ≡ 0 = omega arith in
-    subst (λ (w : ℕ). (i.octets ≡ digits (civil_of (w / 1000000)) ++ 90 ∷ []) × ((eqb (w % 1000000) 0 && ltb w (seconds_to_10000 * 1000000)) ≡ true)) (ok_is (seconds_of (numbers (take 14 i.octets)) * 1000000) v p.1)
+      let p = passed (is_time i.octets) _ _ v e in
+      let t = time_takes i.octets p.0 in
+      let whole : seconds_of (numbers (take 14 i.octets)) * 1000000 / 1000000 ≡ seconds_of (numbers (take 14 i.octets)) = omega arith in
+      let none : seconds_of (numbers (take 14 i.octets)) * 1000000 % 1000000 ≡ 0 = omega arith in
+      subst (λ (w : ℕ). (i.octets ≡ digits (civil_of (w / 1000000)) ++ 90 ∷ []) × ((eqb (w % 1000000) 0 && ltb w (seconds_to_10000 * 1000000)) ≡ true)) (ok_is (seconds_of (numbers (take 14 i.octets)) * 1000000) v p.1)
       (rw whole t.0, and_from _ _ (eq-eqb _ _ none) (lt-ltb _ _ (omega (arith, t.1))));
   again = λ end v fits.
-    let two = both (eqb (v % 1000000) 0) (ltb v (seconds_to_10000 * 1000000)) fits in
-    let whole : v % 1000000 ≡ 0 = eqb-true _ _ two.0 in
-    let small : v < seconds_to_10000 * 1000000 = ltb-true _ _ two.1 in
-    let t = time_again (v / 1000000) (omega arith) in
-    let same : v / 1000000 * 1000000 ≡ v = omega arith in
-    rw (t.0, t.1, same) refl }
+      let two = both (eqb (v % 1000000) 0) (ltb v (seconds_to_10000 * 1000000)) fits in
+      let whole : v % 1000000 ≡ 0 = eqb-true _ _ two.0 in
+      let small : v < seconds_to_10000 * 1000000 = ltb-true _ _ two.1 in
+      let t = time_again (v / 1000000) (omega arith) in
+      let same : v / 1000000 * 1000000 ≡ v = omega arith in
+      rw (t.0, t.1, same) refl;
+}
 
 empty_no_zulu : (os : List ℕ) → length os ≡ 0 → is_zulu os ≡ false
 empty_no_zulu [] none = refl

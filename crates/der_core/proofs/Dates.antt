@@ -16,9 +16,9 @@ last_is f (suc k) x n rises few low high =
     elim (cases_eq n (suc k)) [
       | inl e ↦ (let at : f (suc k) ≤ x = subst (λ (m : ℕ). f m ≤ x) e low in rw (le-leb (f (suc k)) x at) (sym e))
       | inr ne ↦
-        let fewer : n ≤ k = omega arith in
-        let above : f (suc n) ≤ f (suc k) = rises (suc n) (suc k) (omega arith) in
-        rw (lt-leb (f (suc k)) x (omega arith)) (last_is f k x n rises fewer low high)
+          let fewer : n ≤ k = omega arith in
+          let above : f (suc n) ≤ f (suc k) = rises (suc n) (suc k) (omega arith) in
+          rw (lt-leb (f (suc k)) x (omega arith)) (last_is f k x n rises fewer low high)
     ]
 
 last_low : (f : ℕ → ℕ) (k x : ℕ) → f 0 ≤ x → f (last f k x) ≤ x
@@ -148,13 +148,16 @@ date_again y m d day e is = subst (λ (x : ℕ). is_date x m d ≡ true → day_
   where
     h : IsDay y m d
     h = is_day y m d e
+
     same : 1970 + (y - 1970) ≡ y
     same = omega (arith, h.from)
+
     at : is_date (1970 + (y - 1970)) m d ≡ true → day_count (pos (1970 + (y - 1970))) m d ≡ day + epoch → HasParts day (1970 + (y - 1970)) m d
     at e is = (let g = is_day (1970 + (y - 1970)) m d e in record {
       year = year_at (y - 1970) m d day g is;
       month = month_at (y - 1970) m d day g is;
-      day_is = day_at (y - 1970) m d day g is })
+      day_is = day_at (y - 1970) m d day g is;
+    })
 
 first_is : first_of 0 ≡ 4371953
 unfolding first_of
@@ -175,9 +178,10 @@ date_by n k x few twelve low in_month before_next =
     let months : days_of_months (pos (1970 + n)) (suc k) ≡ days_of_months (pos (1970 + n)) k + days_in_month (pos (1970 + n)) (1 + k) = ap (days_of_months (pos (1970 + n))) (sym after) ∙ more ∙ ap (λ (m : ℕ). days_of_months (pos (1970 + n)) m + days_in_month (pos (1970 + n)) (1 + k)) prior in
     let place = day_count-day_of_year (pos (1970 + n)) (1 + k) (1 + (x - first_of n - days_of_months (pos (1970 + n)) k)) (omega arith) in
     let same : days_of_months (pos (1970 + n)) (1 + k - 1) ≡ days_of_months (pos (1970 + n)) k = ap (days_of_months (pos (1970 + n))) prior in
-    let ends : d ≤ days_in_month (pos (1970 + n)) (1 + k) = omega (arith, months, in_month, before_next) in
-    (is_date_from (1970 + n) (1 + k) d (record { from = omega arith; to = omega (arith, few); first = omega arith; twelfth = omega (arith, twelve); begins = omega arith; ends = ends }),
-      omega (arith, place, same, low, in_month))
+    let ends : d ≤ days_in_month (pos (1970 + n)) (1 + k) = omega (arith, months, in_month, before_next) in (
+      is_date_from (1970 + n) (1 + k) d (record { from = omega arith; to = omega (arith, few); first = omega arith; twelfth = omega (arith, twelve); begins = omega arith; ends = ends }),
+      omega (arith, place, same, low, in_month),
+    )
 
 -- the month in a year
 date_in : (n x : ℕ) → n ≤ 8029 → first_of n ≤ x → x < first_of (suc n) → (is_date (1970 + n) (1 + last (days_of_months (pos (1970 + n))) 11 (x - first_of n)) (1 + (x - first_of n - days_of_months (pos (1970 + n)) (1 + last (days_of_months (pos (1970 + n))) 11 (x - first_of n) - 1))) ≡ true) × (day_count (pos (1970 + n)) (1 + last (days_of_months (pos (1970 + n))) 11 (x - first_of n)) (1 + (x - first_of n - days_of_months (pos (1970 + n)) (1 + last (days_of_months (pos (1970 + n))) 11 (x - first_of n) - 1))) ≡ x)

@@ -23,12 +23,13 @@ library_has y m d e =
 -- and the other way round
 pub calendar_has : (y m d : ℕ) → 1970 ≤ y → IsDate (pos y) (pos m) (pos d) → is_date y m d ≡ true
 calendar_has y m d from date = is_date_from y m d (record {
-    from = from;
-    to = omega (arith, signed_arith, date.0);
-    first = omega (arith, signed_arith, date.1);
-    twelfth = omega (arith, signed_arith, date.1);
-    begins = omega (arith, signed_arith, date.2);
-    ends = omega (arith, signed_arith, date.2) })
+  from = from;
+  to = omega (arith, signed_arith, date.0);
+  first = omega (arith, signed_arith, date.1);
+  twelfth = omega (arith, signed_arith, date.1);
+  begins = omega (arith, signed_arith, date.2);
+  ends = omega (arith, signed_arith, date.2);
+})
 
 pub calendar_lacks : (y m d : ℕ) → 1970 ≤ y → (IsDate (pos y) (pos m) (pos d) → ⊥) → is_date y m d ≡ false
 calendar_lacks y m d from none = false_from_ne_true (is_date y m d) (λ e. none (library_has y m d e))
@@ -56,12 +57,12 @@ date_by_count : (day : ℕ) (y : ℤ) (m d : ℕ) → IsCivilDate y m d → day_
 date_by_count day (pos n) m d has count =
     elim (cases_lt n 1970) [
       | inl early ↦
-        let lt : pos n <ℤ pos 1970 = omega (arith, signed_arith, early) in
-        absurd (omega (arith, day_count-lt_year (pos n) m d (pos 1970) 1 1 has (omega arith) lt, day_count-epoch, count))
+          let lt : pos n <ℤ pos 1970 = omega (arith, signed_arith, early) in
+          absurd (omega (arith, day_count-lt_year (pos n) m d (pos 1970) 1 1 has (omega arith) lt, day_count-epoch, count))
       | inr from ↦
-        let is = is_date_from n m d (record { from = from; to = omega (arith, signed_arith, has.0); first = has.1.0; twelfth = has.1.1; begins = has.2.0; ends = has.2.1 }) in
-        let parts = date_again n m d day is count in
-        record { year = ap pos (sym parts.year); month = sym parts.month; day_is = sym parts.day_is }
+          let is = is_date_from n m d (record { from = from; to = omega (arith, signed_arith, has.0); first = has.1.0; twelfth = has.1.1; begins = has.2.0; ends = has.2.1 }) in
+          let parts = date_again n m d day is count in
+          record { year = ap pos (sym parts.year); month = sym parts.month; day_is = sym parts.day_is }
     ]
 date_by_count day (negsuc n) m d has count =
     let lt : negsuc n <ℤ pos 1970 = omega (arith, signed_arith) in
@@ -80,9 +81,9 @@ date_of_day date day is = date_by_count day date.year date.month date.day (civil
 pub lacks : (y m d n : ℕ) → (1970 ≤ y → y ≤ 9999 → m ≤ 12 → d ≤ 31 → ⊥) → None ≡ cond (is_date y m d) (Some n) None
 lacks y m d n out =
     let e : is_date y m d ≡ false = false_from_ne_true (is_date y m d) (λ has.
-      let h = is_day y m d has in
-      let b = date_bounds y m d has in
-      out h.from b.year b.month b.day_is) in
+    let h = is_day y m d has in
+    let b = date_bounds y m d has in
+    out h.from b.year b.month b.day_is) in
     rw e refl
 
 -- a number that went through a signed type

@@ -18,10 +18,12 @@ read_again content law v octets whole = rw whole.spells (law.again (length (cont
 pub reads_whole : {A B : Type 0} (view : A → B) (content : Content B) (law : IsContent content) (octets : List ℕ) (result : Result A DerRefusal) → AreOctets octets → Answers view result (content.read (all_of octets)) → SpelledWhole view content octets result
 reads_whole view content law octets (Ok x) bytes read = record {
   found = (let t = law.takes (all_of octets) (view x) bytes read in record { spells = t.0; fits = t.1 });
-  only = λ v whole. ok_is (view x) v (sym read ∙ read_again content law v octets whole) }
+  only = λ v whole. ok_is (view x) v (sym read ∙ read_again content law v octets whole);
+}
 reads_whole view content law octets (Err e) bytes read = record {
   found = tt;
-  only = λ v whole. absurd (refused_is e v (sym read ∙ read_again content law v octets whole)) }
+  only = λ v whole. absurd (refused_is e v (sym read ∙ read_again content law v octets whole));
+}
 
 pub framed_law : IsContent framed
 unfolding framed

@@ -53,8 +53,8 @@ is_civil numbers = false
 -- those numbers of so many seconds since 1970
 abbrev pub civil_of : ℕ → List ℕ
 civil_of t =
-  (year_of (t / 86400) / 100) ∷ (year_of (t / 86400) % 100) ∷ month_of (t / 86400) ∷ day_of (t / 86400) ∷
-  (t % 86400 / 3600) ∷ (t % 3600 / 60) ∷ (t % 60) ∷ []
+    (year_of (t / 86400) / 100) ∷ (year_of (t / 86400) % 100) ∷ month_of (t / 86400) ∷ day_of (t / 86400) ∷
+    (t % 86400 / 3600) ∷ (t % 3600 / 60) ∷ (t % 60) ∷ []
 
 -- two digits each
 abbrev pub digits : List ℕ → List ℕ
@@ -84,7 +84,8 @@ abbrev pub time_content : Content ℕ
 time_content = record {
   read = λ i. if is_time i.octets then Ok (seconds_of (numbers (take 14 i.octets)) * 1000000) else refused Value (place i);
   spell = λ t. digits (civil_of (t / 1000000)) ++ 90 ∷ [];
-  fits = λ t. (t % 1000000 == 0) && nat_lt t (seconds_to_10000 * 1000000) }
+  fits = λ t. (t % 1000000 == 0) && nat_lt t (seconds_to_10000 * 1000000);
+}
 
 unfoldable pub time : Format ℕ
 time = element 0x18 time_content

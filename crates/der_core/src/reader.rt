@@ -221,7 +221,7 @@ impl<'a> Reader<'a> {
     }
 
     /// All the octets that are left.
-    pub(crate) fn rest(&self) -> &'a [u8]
+    pub fn rest(&self) -> &'a [u8]
         ensures { result.now ≡ self.now.octets }
     {
         self.octets

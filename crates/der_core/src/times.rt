@@ -52,23 +52,26 @@ impl Writer {
     {
         let secs = v.secs();
         let (year, month, day) = date_of((secs / DAY) as u32);
-        self.put_tlv(0x18, &[
-            tens((year / 100) as u8),
-            ones((year / 100) as u8),
-            tens((year % 100) as u8),
-            ones((year % 100) as u8),
-            tens(month),
-            ones(month),
-            tens(day),
-            ones(day),
-            tens((secs % DAY / 3600) as u8),
-            ones((secs % DAY / 3600) as u8),
-            tens((secs % 3600 / 60) as u8),
-            ones((secs % 3600 / 60) as u8),
-            tens((secs % 60) as u8),
-            ones((secs % 60) as u8),
-            b'Z',
-        ])
+        self.put_tlv(
+            0x18,
+            &[
+                tens((year / 100) as u8),
+                ones((year / 100) as u8),
+                tens((year % 100) as u8),
+                ones((year % 100) as u8),
+                tens(month),
+                ones(month),
+                tens(day),
+                ones(day),
+                tens((secs % DAY / 3600) as u8),
+                ones((secs % DAY / 3600) as u8),
+                tens((secs % 3600 / 60) as u8),
+                ones((secs % 3600 / 60) as u8),
+                tens((secs % 60) as u8),
+                ones((secs % 60) as u8),
+                b'Z',
+            ],
+        )
     }
 }
 

@@ -48,6 +48,9 @@ where
     ensures usage { result.status ≡ 2 → words.now ≢ codes "stdio" ∷ [] }
     ensures always_usage { words.now ≢ codes "stdio" ∷ [] → result.status ≢ 6 → result.status ≡ 2 }
     ensures one_desk { vec_len desks.new ≡ 1 }
+    // Where the words aren't in the command the desk is as it was: no port was asked.
+    ensures unasked { (before after : _) → desks.old.items ≡ before ∷ [] → desks.new.items ≡ after ∷ [] → result.status ≡ 2
+        → after ≡ before }
     // In every case the first links of the port were served, in order.
     ensures served { (before after : _) → desks.old.items ≡ before ∷ [] → desks.new.items ≡ after ∷ []
         → IsTrue (P.tells before.port)
@@ -81,6 +84,7 @@ where
     requires { desk.old.served.items ≡ [] }
     ensures usage { result.status ≡ 2 → words.now ≢ codes "stdio" ∷ [] }
     ensures always_usage { words.now ≢ codes "stdio" ∷ [] → result.status ≢ 6 → result.status ≡ 2 }
+    ensures unasked { result.status ≡ 2 → desk.new ≡ desk.old }
     ensures served { IsTrue (P.tells desk.old.port)
         → ServedInOrder P.Link.tells P.Link.wire P.Link.faults (P.links desk.old.port) (P.links desk.new.port) desk.new.served.items }
     ensures all { result.status ≡ 0 → IsTrue (P.tells desk.old.port)

@@ -48,56 +48,86 @@ fn a_call_is_answered_however_it_is_cut(rt: HostRuntime) -> Result<(), Fail> {
 
 #[test]
 fn a_stream_that_ends_in_a_header_is_torn(rt: HostRuntime) -> Result<(), Fail> {
-    let torn = served(rt.alloc(), &[0x80, 0, 0], 8, &[])?;
-    assert_eq!(rt; torn.end, ConnEnd::Torn);
-    assert_eq!(rt; torn.link.written().len(), 0);
+    for size in [3, 1] {
+        let torn = served(rt.alloc(), &[0x80, 0, 0], size, &[])?;
+        assert_eq!(rt; torn.end, ConnEnd::Torn);
+        assert_eq!(rt; torn.link.written().len(), 0);
+    }
     let empty = served(rt.alloc(), &[], 8, &[])?;
     assert_eq!(rt; empty.end, ConnEnd::Ended);
     Ok(())
 }
 
 #[test]
+fn a_header_of_another_shape_ends_the_connection(rt: HostRuntime) -> Result<(), Fail> {
+    let mut input = CALL;
+    input[0] = 0;
+    let served = served(rt.alloc(), &input, 44, &[])?;
+    assert_eq!(rt; served.end, ConnEnd::NotBuilt);
+    assert_eq!(rt; served.link.written().len(), 0);
+    Ok(())
+}
+
+#[test]
+fn a_call_of_rpc_version_3_has_no_reply(rt: HostRuntime) {
+    let mut record = CALL;
+    record[15] = 3;
+    let answered = answer_record(rt.alloc(), &record[4..], Moment::start(), &[0; 82]);
+    assert_eq!(rt; answered.rule, 25);
+    assert!(rt; matches!(answered.reply, Reply::Silent));
+}
+
+// Calls 1 and 2 read the record, 3 and 4 write the reply's header and its octets, and 5 reads the end.
+#[test]
 fn a_call_that_fails_ends_the_connection(rt: HostRuntime) -> Result<(), Fail> {
-    // reads 1 and 2, writes 3 and 4, and the read of the end
-    for number in [1, 2, 3, 4, 5] {
+    for (number, written) in [(1, 0), (2, 0), (3, 0), (4, 4), (5, 28)] {
         let served = served(rt.alloc(), &CALL, 44, &[number])?;
         assert_eq!(rt; served.end, ConnEnd::LinkFault);
         assert_eq!(rt; served.link.faults(), 1);
+        assert_eq!(rt; served.link.written(), &REPLY[..written]);
     }
     Ok(())
+}
+
+/// The status of a run with this word over a port with one call, where these calls of the port and of standard error fail.
+fn status(alloc: Global, word: &str, port: u64, sink: u64) -> Result<u8, Fail> {
+    let mut links = Vec::new(alloc);
+    let input = Vec::from_slice(alloc, &CALL)?;
+    links.push(MemLink::new(alloc, input, Vec::new(alloc), Vec::new(alloc)))?;
+    let port = MemPort::new(links, vec![in alloc; port]?);
+    let clock = MemClock::new(Vec::new(alloc));
+    let draw = MemDraw::new(Vec::new(alloc));
+    let mut desks = Vec::new(alloc);
+    let served = Vec::new(alloc);
+    desks.push(Desk {
+        port,
+        clock,
+        draw,
+        served,
+    })?;
+    let mut words = Vec::new(alloc);
+    words.push(Text::of(alloc, word)?)?;
+    let mut out = MemSink::new(alloc, Vec::new(alloc));
+    let mut err = MemSink::new(alloc, vec![in alloc; sink]?);
+    let end = run_server(
+        alloc,
+        words.as_slice(),
+        &mut desks,
+        Moment::start(),
+        &mut out,
+        &mut err,
+    );
+    Ok(end.status)
 }
 
 #[test]
 fn a_run_says_how_it_ended(rt: HostRuntime) -> Result<(), Fail> {
     let alloc = rt.alloc();
-    for (word, failing, status) in [("stdio", 9, 0), ("drill", 9, 2), ("stdio", 1, 5)] {
-        let mut links = Vec::new(alloc);
-        let input = Vec::from_slice(alloc, &CALL)?;
-        links.push(MemLink::new(alloc, input, Vec::new(alloc), Vec::new(alloc)))?;
-        let port = MemPort::new(links, vec![in alloc; failing]?);
-        let clock = MemClock::new(Vec::new(alloc));
-        let draw = MemDraw::new(Vec::new(alloc));
-        let mut desks = Vec::new(alloc);
-        desks.push(Desk {
-            port,
-            clock,
-            draw,
-            served: Vec::new(alloc),
-        })?;
-        let mut words = Vec::new(alloc);
-        words.push(Text::of(alloc, word)?)?;
-        let mut out = MemSink::new(alloc, Vec::new(alloc));
-        let mut err = MemSink::new(alloc, Vec::new(alloc));
-        let end = run_server(
-            alloc,
-            words.as_slice(),
-            &mut desks,
-            Moment::start(),
-            &mut out,
-            &mut err,
-        );
-        assert_eq!(rt; end.status, status);
-        assert_eq!(rt; out.written().len(), 0);
-    }
+    assert_eq!(rt; status(alloc, "stdio", 9, 9)?, 0);
+    assert_eq!(rt; status(alloc, "drill", 9, 9)?, 2);
+    // the port fails at its first call, and at its second
+    assert_eq!(rt; status(alloc, "stdio", 1, 9)?, 5);
+    assert_eq!(rt; status(alloc, "stdio", 2, 9)?, 5);
+    assert_eq!(rt; status(alloc, "stdio", 9, 1)?, 6);
     Ok(())
 }

@@ -1,0 +1,23 @@
+use Rattle.std.proofs.Common.{rules, ◌≡◌, ◌<◌, ◌≤◌, ℕ, ◌∙◌, ap, sym, refl, subst, arith, reverse, length, false, max, None, Some, ◌+◌, ◌∷◌, is_some, true}
+use Rattle.std.proofs.lemmas.List.{length-reverse}
+use Rattle.replay_cache.specs.declared.cache.CacheVerdict.TheVariants as verdicts
+use Rattle.accept_book.specs.History.{opened, taken_of, has_auth}
+use Rattle.accept_book.specs.declared.entry.Entry.TheVariants as entries
+use Rattle.context_table.specs.Places.{slot_at}
+use Rattle.context_table.specs.declared.slot.Slot.{Slot}
+use Rattle.accept_book.specs.Replays.{Naming, Replays}
+use Rattle.accept_book.proofs.Appended.{replays-take}
+use Rattle.accept_book.proofs.Steps.{added}
+use Rattle.accept_book.proofs.acceptance.Core.hold.Goals as goal
+
+pub invariant_of-self : goal.invariant_of-self
+invariant_of-self g c =
+    let naming : Naming g.row.S.Denot = record { mech = g.S.Named.mech_of; names = g.S.Named.names_of } in
+    record {
+      replays = replays-take naming c.self.inside.log.width c.self.inside.posts (reverse c.self.inside.log.entries) c.self.inside.table c.take.new.self c.self.inside.cache c.args.id c.self.invariant.replays c.take.ensures.slot c.take.ensures.others;
+      ids = c.self.invariant.ids;
+      few = c.self.invariant.few;
+      small = c.self.invariant.small;
+      contexts = c.self.invariant.contexts ∙ sym c.take.ensures.others.limit;
+      marks = c.self.invariant.marks;
+    }

@@ -1,0 +1,18 @@
+use Rattle.std.proofs.Common.{rules, ◌≡◌, ◌<◌, ◌≤◌, ℕ, ◌∙◌, ap, sym, refl, subst, arith, reverse, length, false, max, None, Some, ◌+◌, ◌∷◌, is_some, true}
+use Rattle.std.proofs.lemmas.List.{length-reverse}
+use Rattle.replay_cache.specs.declared.cache.CacheVerdict.TheVariants as verdicts
+use Rattle.accept_book.specs.History.{opened, taken_of, has_auth}
+use Rattle.accept_book.specs.declared.entry.Entry.TheVariants as entries
+use Rattle.context_table.specs.Places.{slot_at}
+use Rattle.context_table.specs.declared.slot.Slot.{Slot}
+use Rattle.accept_book.specs.Replays.{Naming, Replays}
+use Rattle.accept_book.proofs.Appended.{lives-opened}
+use Rattle.accept_book.proofs.Steps.{some-and}
+use Rattle.accept_book.proofs.acceptance.Core.make_place.Goals as goal
+
+pub returns-in-Some-clause-live : goal.returns-in-Some-clause-live
+returns-in-Some-clause-live g c =
+    let lives = some-and (λ (slot : Slot g.row.N.Denot g.row.S.Denot). slot.ends < c.greatest.result) (slot_at c.self.inside.table c.in-Some.id) c.in-Some.ensures.0 in
+    let fewer = rw lives at (rw (← c.self.view_is) at c.close.ensures.live) in
+    let limit = rw (← c.self.view_is) at c.close.ensures.keeps.contexts in
+    omega (arith, fewer, limit, c.live.ensures.value, c.live.ensures.most)

@@ -1,0 +1,15 @@
+-- A log: its entries, oldest first, and the limits under which it was kept.
+use Rattle.std.specs.Prelude.{◌≡◌, ℕ, ◌≤◌, List, Vec, vec_len, vec_capacity}
+use Rattle.std.specs.Global.{Global}
+use Rattle.accept_book.specs.declared.entry.Entry.{Entry}
+
+pub record LogOf : Type 0 where
+  pub entries : List Entry
+  pub width : ℕ
+  pub limit : ℕ
+  pub contexts : ℕ
+  pub marks : ℕ
+
+pub record IsLog (limit : ℕ) (entries : Vec Entry Global) : Type 0 where
+  pub few : vec_len entries ≤ limit
+  pub room : limit ≤ vec_capacity entries

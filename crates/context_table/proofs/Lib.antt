@@ -1,0 +1,6 @@
+pub mod Placing
+pub mod Gathering
+pub mod Turning
+pub mod Orders
+pub mod Tables
+pub mod Pasts

@@ -1,0 +1,22 @@
+use Rattle.std.proofs.Common.{◌≡◌, refl, sym, ◌∙◌, ap, Some}
+use Rattle.context_table.specs.declared.slot.Slot.{Slot}
+use Rattle.context_table.proofs.Tables.{found-slot, placed, some_same, both-of}
+use Rattle.context_table.proofs.table.Table.judge.Goals as goal
+
+pub returns-in-Some-clause-some : goal.returns-in-Some-clause-some
+returns-in-Some-clause-some g c =
+    let there = rw (c.as_slice.ensures.value, c.as_slice-2.ensures.value) at c.in-Some.ensures.found in
+    let f = found-slot c.self.inside.limit c.self.inside.width c.self.inside.live c.self.inside.order.items c.self.inside.slots.items c.args.id c.in-Some.place c.index.result.now c.index-in-Some.result.now c.self.invariant there c.index.ensures c.index-in-Some.ensures in
+    rw (← c.self.view_is, f.slot) refl
+
+pub returns-in-Some-clause-verdict : goal.returns-in-Some-clause-verdict
+returns-in-Some-clause-verdict g c =
+    let there = rw (c.as_slice.ensures.value, c.as_slice-2.ensures.value) at c.in-Some.ensures.found in
+    let f = found-slot c.self.inside.limit c.self.inside.width c.self.inside.live c.self.inside.order.items c.self.inside.slots.items c.args.id c.in-Some.place c.index.result.now c.index-in-Some.result.now c.self.invariant there c.index.ensures c.index-in-Some.ensures in
+    rw (← c.self.view_is, f.slot) c.judge.ensures.verdict
+
+pub returns-in-Some-clause-fresh : goal.returns-in-Some-clause-fresh
+returns-in-Some-clause-fresh g c =
+    let there = rw (c.as_slice.ensures.value, c.as_slice-2.ensures.value) at c.in-Some.ensures.found in
+    let f = found-slot c.self.inside.limit c.self.inside.width c.self.inside.live c.self.inside.order.items c.self.inside.slots.items c.args.id c.in-Some.place c.index.result.now c.index-in-Some.result.now c.self.invariant there c.index.ensures c.index-in-Some.ensures in
+    rw (← c.self.view_is, f.slot) (λ e. c.judge.ensures.fresh (some_same e))

@@ -1,0 +1,38 @@
+use Rattle.std.proofs.Common.{◌≡◌, refl, sym, ◌∙◌, ap, Some}
+use Rattle.context_table.specs.declared.slot.Slot.{Slot}
+use Rattle.context_table.proofs.Tables.{found-slot, placed, some_same, both-of}
+use Rattle.context_table.proofs.table.Table.mark.Goals as goal
+
+pub invariant_of-self : goal.invariant_of-self
+invariant_of-self g c =
+    let there = rw (c.as_slice.ensures.value, c.as_slice-2.ensures.value) at c.in-Some.ensures.found in
+    let f = found-slot c.self.inside.limit c.self.inside.width c.self.inside.live c.self.inside.order.items c.self.inside.slots.items c.args.id c.in-Some.place c.index.result.now c.index_mut.result.now c.self.invariant there c.index.ensures c.index_mut.ensures.value in
+    let p = placed c.self.inside.limit c.self.inside.width c.self.inside.live c.self.inside.order.items c.self.inside.slots.items c.args.id c.index.result.now c.index_mut.result.now c.mark_slot.new.slot c.self.invariant f (c.mark_slot.ensures.id ∙ f.id_is) in
+    p.table
+
+pub mark_slot-requires : goal.mark_slot-requires
+mark_slot-requires g c =
+    let there = rw (c.as_slice.ensures.value, c.as_slice-2.ensures.value) at c.in-Some.ensures.found in
+    let f = found-slot c.self.inside.limit c.self.inside.width c.self.inside.live c.self.inside.order.items c.self.inside.slots.items c.args.id c.in-Some.place c.index.result.now c.index_mut.result.now c.self.invariant there c.index.ensures c.index_mut.ensures.value in
+    rw (← c.self.view_is, f.slot) at c.requires
+
+pub returns-clause-slot : goal.returns-clause-slot
+returns-clause-slot g c =
+    let there = rw (c.as_slice.ensures.value, c.as_slice-2.ensures.value) at c.in-Some.ensures.found in
+    let f = found-slot c.self.inside.limit c.self.inside.width c.self.inside.live c.self.inside.order.items c.self.inside.slots.items c.args.id c.in-Some.place c.index.result.now c.index_mut.result.now c.self.invariant there c.index.ensures c.index_mut.ensures.value in
+    let p = placed c.self.inside.limit c.self.inside.width c.self.inside.live c.self.inside.order.items c.self.inside.slots.items c.args.id c.index.result.now c.index_mut.result.now c.mark_slot.new.slot c.self.invariant f (c.mark_slot.ensures.id ∙ f.id_is) in
+    rw (← c.self.view_is, f.slot, p.slot) c.mark_slot.ensures
+
+pub returns-clause-others : goal.returns-clause-others
+returns-clause-others g c =
+    let there = rw (c.as_slice.ensures.value, c.as_slice-2.ensures.value) at c.in-Some.ensures.found in
+    let f = found-slot c.self.inside.limit c.self.inside.width c.self.inside.live c.self.inside.order.items c.self.inside.slots.items c.args.id c.in-Some.place c.index.result.now c.index_mut.result.now c.self.invariant there c.index.ensures c.index_mut.ensures.value in
+    let p = placed c.self.inside.limit c.self.inside.width c.self.inside.live c.self.inside.order.items c.self.inside.slots.items c.args.id c.index.result.now c.index_mut.result.now c.mark_slot.new.slot c.self.invariant f (c.mark_slot.ensures.id ∙ f.id_is) in
+    rw (← c.self.view_is) p.others
+
+pub returns-clause-live : goal.returns-clause-live
+returns-clause-live g c =
+    let there = rw (c.as_slice.ensures.value, c.as_slice-2.ensures.value) at c.in-Some.ensures.found in
+    let f = found-slot c.self.inside.limit c.self.inside.width c.self.inside.live c.self.inside.order.items c.self.inside.slots.items c.args.id c.in-Some.place c.index.result.now c.index_mut.result.now c.self.invariant there c.index.ensures c.index_mut.ensures.value in
+    let p = placed c.self.inside.limit c.self.inside.width c.self.inside.live c.self.inside.order.items c.self.inside.slots.items c.args.id c.index.result.now c.index_mut.result.now c.mark_slot.new.slot c.self.invariant f (c.mark_slot.ensures.id ∙ f.id_is) in
+    rw (← c.self.view_is) p.count

@@ -1,0 +1,4 @@
+pub mod Slots
+pub mod Places
+pub mod Order
+pub mod Turned

@@ -1,0 +1,10 @@
+pub mod Fields
+pub mod Names
+pub mod Keys
+pub mod Pieces
+pub mod Keytab
+pub mod Granted
+pub mod Ccache
+pub mod Grammar
+pub mod KeytabGrammar
+pub mod CcacheGrammar

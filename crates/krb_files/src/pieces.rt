@@ -1,0 +1,12 @@
+//! What stands in a file one behind the other.
+
+/// What stands next.
+#[derive(Debug, Drop)]
+pub enum Next<T> {
+    /// Nothing more.
+    End,
+    /// What isn't kept.
+    Other,
+    /// A value.
+    Item(T),
+}

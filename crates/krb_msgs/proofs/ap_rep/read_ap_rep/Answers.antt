@@ -1,0 +1,9 @@
+use Rattle.der_core.proofs.PutFields.{is_found, is_read_again}
+use Rattle.krb_msgs.proofs.MessageLaws.{ap_rep_law}
+use Rattle.krb_msgs.proofs.ap_rep.read_ap_rep.Goals as goal
+
+pub returns-clause-found : goal.returns-clause-found
+returns-clause-found c = is_found _ _ ap_rep_law c.args.bytes.now c.ap_rep_of.result (record { each = λ k. (c.type_inv.bytes k).fits }) c.ap_rep_of.ensures
+
+pub returns-clause-only : goal.returns-clause-only
+returns-clause-only c = λ v whole. is_read_again _ _ ap_rep_law c.args.bytes.now c.ap_rep_of.result v whole c.ap_rep_of.ensures

@@ -1,0 +1,12 @@
+pub mod ApRep
+pub mod ApReq
+pub mod AuthorizationDatum
+pub mod Checksum
+pub mod Constant
+pub mod EncApRepPart
+pub mod EncryptedData
+pub mod EncryptionKey
+pub mod HostAddress
+pub mod PrincipalName
+pub mod Ticket
+pub mod TransitedEncoding

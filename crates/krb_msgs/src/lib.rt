@@ -1,0 +1,30 @@
+//! The messages of the AP exchange of Kerberos (RFC 4120), read and written.
+#![tactic(auto)]
+
+mod ap_rep;
+mod ap_req;
+mod authorization_datum;
+mod checksum;
+mod common;
+mod enc_ap_rep_part;
+mod encrypted_data;
+mod encryption_key;
+mod host_address;
+mod principal_name;
+mod ticket;
+mod transited_encoding;
+
+pub use ap_rep::{ApRep, read_ap_rep, write_ap_rep};
+pub use ap_req::{ApReq, read_ap_req, write_ap_req};
+pub use authorization_datum::AuthorizationDatum;
+pub use checksum::Checksum;
+pub use enc_ap_rep_part::{EncApRepPart, read_enc_ap_rep_part, write_enc_ap_rep_part};
+pub use encrypted_data::EncryptedData;
+pub use encryption_key::EncryptionKey;
+pub use host_address::HostAddress;
+pub use principal_name::PrincipalName;
+pub use ticket::{Ticket, read_ticket, write_ticket};
+pub use transited_encoding::TransitedEncoding;
+
+#[cfg(test)]
+mod tests;

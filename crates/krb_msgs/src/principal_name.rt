@@ -1,0 +1,186 @@
+//! PrincipalName, RFC 4120 section 5.2.2.
+
+ghost use Rattle.std.specs.Prelude.{◌≡◌, false, true, All, OnOk, IfSome, [], unwrap_or};
+ghost use Rattle.gss_base.specs.Principal.{is_count};
+ghost use Rattle.der_core.specs.Format.{MayRead, Puts};
+ghost use Rattle.der_core.specs.Element.{explicit};
+ghost use Rattle.der_core.specs.Fields.{optional_at, PutsMaybe};
+ghost use Rattle.der_core.specs.Values.{has_zero};
+ghost use Rattle.krb_msgs.specs.PrincipalName.{name_parts, principal_name, name_in, IsName};
+
+use der_core::{DerRefusal, DerWhy, Element, Reader, Writer, field, put_field};
+use gss_base::{NameRefusal, Principal};
+use sec_base::{Items, NoMemory, Text};
+use std::alloc::Global;
+
+/// A name without its realm. Two names are equal where their parts are, whatever the type.
+///
+/// | Tag | Field |
+/// |---|---|
+/// | 0 | name-type |
+/// | 1 | name-string, 1 to 8 texts |
+#[derive(Debug, Drop, PartialEq)]
+pub struct PrincipalName {
+    pub name_type: i32,
+    pub name_string: Items<Text>,
+}
+
+/// The most parts of a name.
+const MOST_PARTS: usize = 8;
+
+/// Reads a name that is a principal in this realm.
+pub fn name_field(
+    alloc: Global,
+    fields: &mut Reader,
+    tag: u8,
+    realm: &str,
+) -> Result<PrincipalName, DerRefusal>
+    ensures { MayRead (λ v. v) fields.new result ((explicit tag (name_in realm.now)).read fields.old) }
+{
+    let mut inner = fields.tlv(tag)?;
+    let name = name_of_realm(alloc, &mut inner, realm)?;
+    inner.end()?;
+    Ok(name)
+}
+
+/// Reads a name that is a principal in this realm, where it is there; without a realm, in the empty one.
+pub fn optional_name(
+    alloc: Global,
+    fields: &mut Reader,
+    tag: u8,
+    realm: &Option<Text>,
+) -> Result<Option<PrincipalName>, DerRefusal>
+    ensures { MayRead (λ v. v) fields.new result (optional_at tag (explicit tag (name_in (unwrap_or realm.now []))) fields.old) }
+{
+    if !fields.begins(tag) {
+        return Ok(None);
+    }
+    match realm {
+        None => {
+            let name = name_field(alloc, fields, tag, "")?;
+            Ok(Some(name))
+        }
+        Some(realm) => {
+            let name = name_field(alloc, fields, tag, realm.as_str())?;
+            Ok(Some(name))
+        }
+    }
+}
+
+fn name_of_realm(
+    alloc: Global,
+    reader: &mut Reader,
+    realm: &str,
+) -> Result<PrincipalName, DerRefusal>
+    ensures { MayRead (λ v. v) reader.new result ((name_in realm.now).read reader.old) }
+{
+    let at = reader.place();
+    let name = principal_name_of(alloc, reader)?;
+    match Principal::new(alloc, realm, name.name_string.as_slice()) {
+        Ok(_) => Ok(name),
+        Err(NameRefusal::NoMemory) => Err(DerRefusal::from(NoMemory)),
+        Err(_) => Err(DerRefusal {
+            at,
+            why: DerWhy::Value,
+        }),
+    }
+}
+
+#[tactic(auto, unfolding(crate::specs::PrincipalName::principal_name))]
+fn principal_name_of(alloc: Global, reader: &mut Reader) -> Result<PrincipalName, DerRefusal>
+    ensures { MayRead (λ v. v) reader.new result (principal_name.read reader.old) }
+{
+    let mut fields = reader.tlv(0x30)?;
+    let name_type: i32 = field(alloc, &mut fields, 0xa0)?;
+    let name_string = parts_field(alloc, &mut fields)?;
+    fields.end()?;
+    Ok(PrincipalName {
+        name_type,
+        name_string,
+    })
+}
+
+fn parts_field(alloc: Global, fields: &mut Reader) -> Result<Items<Text>, DerRefusal>
+    ensures { MayRead (λ v. v) fields.new result ((explicit 0xa1 name_parts).read fields.old) }
+{
+    let mut inner = fields.tlv(0xa1)?;
+    let parts = counted_parts(alloc, &mut inner)?;
+    inner.end()?;
+    Ok(parts)
+}
+
+#[tactic(auto, unfolding(crate::specs::PrincipalName::name_parts))]
+fn counted_parts(alloc: Global, reader: &mut Reader) -> Result<Items<Text>, DerRefusal>
+    ensures { MayRead (λ v. v) reader.new result (name_parts.read reader.old) }
+{
+    let at = reader.place();
+    let parts = Items::read(alloc, reader)?;
+    let count = parts.as_slice().len();
+    if count < 1 || count > MOST_PARTS {
+        return Err(DerRefusal {
+            at,
+            why: DerWhy::Value,
+        });
+    }
+    Ok(parts)
+}
+
+/// Adds a name that is a principal in this realm.
+pub fn put_name_field(
+    alloc: Global,
+    out: &mut Writer,
+    tag: u8,
+    realm: &Text,
+    name: &PrincipalName,
+) -> Result<(), NoMemory>
+    requires { IsName realm.now name.now }
+    ensures { OnOk result (Puts (explicit tag (name_in realm.now)) name.now out.old out.new) }
+{
+    let mut inner = Writer::new(alloc)?;
+    put_principal_name(alloc, &mut inner, name)?;
+    out.put_tlv(tag, inner.as_slice())
+}
+
+/// Adds a name, where there is one.
+pub fn put_optional_name(
+    alloc: Global,
+    out: &mut Writer,
+    tag: u8,
+    realm: &Option<Text>,
+    name: &Option<PrincipalName>,
+) -> Result<(), NoMemory>
+    requires { IfSome name.now (IsName (unwrap_or realm.now [])) }
+    ensures { OnOk result (PutsMaybe (explicit tag (name_in (unwrap_or realm.now []))) name.now out.old out.new) }
+{
+    match name {
+        None => Ok(()),
+        Some(name) => {
+            let mut inner = Writer::new(alloc)?;
+            put_principal_name(alloc, &mut inner, name)?;
+            out.put_tlv(tag, inner.as_slice())
+        }
+    }
+}
+
+#[tactic(auto, unfolding(crate::specs::PrincipalName::principal_name))]
+fn put_principal_name(alloc: Global, out: &mut Writer, name: &PrincipalName) -> Result<(), NoMemory>
+    requires count { is_count name.now.name_string ≡ true }
+    requires texts { All (λ t. has_zero t ≡ false) name.now.name_string }
+    ensures { OnOk result (Puts principal_name name.now out.old out.new) }
+{
+    let mut fields = Writer::new(alloc)?;
+    put_field(alloc, &mut fields, 0xa0, &name.name_type)?;
+    put_parts_field(alloc, &mut fields, &name.name_string)?;
+    out.put_tlv(0x30, fields.as_slice())
+}
+
+#[tactic(auto, unfolding(crate::specs::PrincipalName::name_parts))]
+fn put_parts_field(alloc: Global, out: &mut Writer, parts: &Items<Text>) -> Result<(), NoMemory>
+    requires count { is_count parts.now ≡ true }
+    requires texts { All (λ t. has_zero t ≡ false) parts.now }
+    ensures { OnOk result (Puts (explicit 0xa1 name_parts) parts.now out.old out.new) }
+{
+    let mut inner = Writer::new(alloc)?;
+    parts.put(alloc, &mut inner)?;
+    out.put_tlv(0xa1, inner.as_slice())
+}
