@@ -10,11 +10,11 @@ use Rattle.krb_derive.specs.declared.key.Key.{Key}
 use Rattle.krb_derive.specs.Key.{etype_of, key_of}
 use Rattle.krb_files.specs.declared.refusal.FileRefusal.{FileRefusal}
 use Rattle.krb_files.specs.declared.refusal.FileWhy.TheVariants as whys
-use Rattle.krb_files.specs.Fields.{Input, ◌>>=◌, place, refusal, number_at, counted_at}
+use Rattle.krb_files.specs.Fields.{◌>>=◌, place, refusal, number_at, counted_at}
 use Rattle.krb_files.specs.Names.{are_texts, name_or, named_at, parts_at, principal_at}
 use Rattle.krb_files.specs.Keys.{key_or, key_by, key_at}
 use Rattle.krb_files.specs.Grammar.{Then, Gives, Number, Counted, Texts, Named, Principal, IsKey, KeyField}
-use Rattle.krb_files.proofs.Laws.{Law, Taken, stands, bind_ok, ok_is, then_law, gives_law, number_law, counted_law}
+use Rattle.krb_files.proofs.Laws.{Law, bind_ok, ok_is, then_law, gives_law, number_law, counted_law}
 
 pub parts_law : (size count : ℕ) → Law (parts_at size count) (Texts size count)
 unfolding parts_at

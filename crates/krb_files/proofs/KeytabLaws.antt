@@ -1,5 +1,5 @@
 -- A keytab is read as its grammar spells it.
-use Rattle.std.proofs.Common.{◌≡◌, ℕ, zero, suc, ◌+◌, ◌-◌, ◌^◌, ◌<◌, ◌≤◌, Bool, true, false, cond, ◌==◌, ◌⊎◌, inl, inr, List, [], ◌∷◌, ◌++◌, length, Option, Result, Ok, Err, nat_lt, refl, sym, ap, subst, ◌∙◌, arith, append_assoc, length-append}
+use Rattle.std.proofs.Common.{◌≡◌, ℕ, zero, suc, ◌-◌, ◌^◌, ◌<◌, ◌≤◌, Bool, true, false, cond, ◌==◌, ◌⊎◌, inl, inr, List, [], ◌∷◌, ◌++◌, length, Option, Result, Ok, nat_lt, refl, sym, ap, subst, ◌∙◌, arith, append_assoc, length-append}
 use Rattle.gss_base.specs.Name.{Name}
 use Rattle.krb_derive.specs.declared.key.Key.{Key}
 use Rattle.krb_files.specs.declared.refusal.FileRefusal.{FileRefusal}
@@ -12,8 +12,8 @@ use Rattle.krb_files.specs.Names.{principal_at}
 use Rattle.krb_files.specs.Keys.{key_at}
 use Rattle.krb_files.specs.Pieces.{all_of}
 use Rattle.krb_files.specs.Keytab.{version_of, entry_at, record_or_hole_at, sized_at, piece_at, keytab_of}
-use Rattle.krb_files.specs.Grammar.{Then, Plain, Number, Passed, Principal, KeyField, Body}
-use Rattle.krb_files.specs.KeytabGrammar.{Rest, SpellsEntry, Sized, Piece, NoMore, Ends, SpellsKeytab}
+use Rattle.krb_files.specs.Grammar.{Plain, Number, Principal, KeyField}
+use Rattle.krb_files.specs.KeytabGrammar.{Rest, SpellsEntry, Sized, Piece, Ends, SpellsKeytab}
 use Rattle.krb_files.proofs.Laws.{Law, Taken, stands, bind_ok, ok_is, octets_law, number_law, passed_law}
 use Rattle.krb_files.proofs.FieldLaws.{principal_law, key_law}
 use Rattle.krb_files.proofs.WholeLaws.{WholeLaw, StepLaw, then_whole, body_found, body_only, magic_found, more_octets}

@@ -1,12 +1,12 @@
 -- What is read up to an end.
-use Rattle.std.proofs.Common.{◌≡◌, ◌≢◌, ℕ, zero, suc, ◌+◌, ◌<◌, ◌≤◌, Bool, true, false, cond, ◌&&◌, ◌==◌, List, [], ◌∷◌, ◌++◌, length, drop, Result, Ok, Err, IfOk, MatchResult, refl, sym, ap, subst, ◌∙◌, arith, append_assoc, length-append}
+use Rattle.std.proofs.Common.{◌≡◌, ◌≢◌, ℕ, zero, suc, ◌+◌, ◌<◌, ◌≤◌, List, [], ◌∷◌, ◌++◌, length, Result, Ok, Err, refl, sym, ap, ◌∙◌, arith, append_assoc, length-append}
 use Rattle.krb_files.specs.declared.refusal.FileRefusal.{FileRefusal}
 use Rattle.krb_files.specs.declared.refusal.FileWhy.{FileWhy}
 use Rattle.krb_files.specs.declared.refusal.FileWhy.TheVariants.{Magic, Short, Length, NoMemory}
 use Rattle.krb_files.specs.declared.refusal.FileWhy.TheVariants as whys
 use Rattle.krb_files.specs.declared.pieces.Next.{Next}
 use Rattle.krb_files.specs.declared.pieces.Next.TheVariants.{End, Other, Item}
-use Rattle.krb_files.specs.Fields.{Input, ◌>>=◌, Answers, refusal, is_headed, magic_at}
+use Rattle.krb_files.specs.Fields.{Input, ◌>>=◌, Answers, magic_at}
 use Rattle.krb_files.specs.Pieces.{many_by, many_of}
 use Rattle.krb_files.specs.Grammar.{Then, Row, items, Body, ReadsWhole}
 use Rattle.krb_files.proofs.Values.{Step}

@@ -1,5 +1,5 @@
 -- Grammars: which octets spell a value. A grammar speaks of octets alone, of no places and no refusals.
-use Rattle.std.specs.Prelude.{◌≡◌, ℕ, zero, suc, pos, true, List, [], ◌∷◌, ◌++◌, length, Option, Some, None, option_and_then, is_some, Result, Ok, IfOk, MatchResult}
+use Rattle.std.specs.Prelude.{◌≡◌, ℕ, zero, suc, pos, true, List, [], ◌∷◌, ◌++◌, length, Option, option_and_then, is_some, Result, Ok, IfOk, MatchResult}
 use Rattle.std.specs.Str.{is_utf8}
 use Rattle.gss_base.specs.Name.{Name}
 use Rattle.gss_base.specs.Principal.{name_of}
