@@ -93,6 +93,9 @@ impl<N: Drop, S: Named + Drop> Core<N, S> {
         ensures answer { result ≡ or_refused (refused self.old.limit self.old.width self.old.history id seq) (admitted self.old.history (Entry.Call id seq procedure args)) }
         ensures history { self.new.history ≡ after (refused self.old.limit self.old.width self.old.history id seq) (Entry.Call id seq procedure args) self.old.history }
         ensures exactly { IsOk result ↔ Free self.old.limit self.old.width self.old.history id seq }
+        ensures unchanged { OnErr result (self.new ≡ self.old) }
+        ensures keeps { Keeps self.old self.new }
+        ensures others { KeepsOthers self.old.table self.new.table id }
     {
         match self.refusal(id, seq) {
             Some(refusal) => Err(refusal),
@@ -133,6 +136,7 @@ impl<N: Drop, S: Named + Drop> Core<N, S> {
         requires fresh { IsFreshAt (slot_at self.old.table id) seq }
         ensures history { self.new.history ≡ Entry.Call id seq procedure args ∷ self.old.history }
         ensures keeps { Keeps self.old self.new }
+        ensures others { KeepsOthers self.old.table self.new.table id }
     {
         self.table.mark(id, seq);
         self.log.add(Entry::Call {
@@ -149,6 +153,9 @@ impl<N: Drop, S: Named + Drop> Core<N, S> {
         ensures answer { result ≡ or_refused (refused self.old.limit self.old.width self.old.history id seq) (receipt_of self.old.history (Entry.Ended id (EndCause.Destroyed seq))) }
         ensures history { self.new.history ≡ after (refused self.old.limit self.old.width self.old.history id seq) (Entry.Ended id (EndCause.Destroyed seq)) self.old.history }
         ensures exactly { IsOk result ↔ Free self.old.limit self.old.width self.old.history id seq }
+        ensures unchanged { OnErr result (self.new ≡ self.old) }
+        ensures keeps { Keeps self.old self.new }
+        ensures others { KeepsOthers self.old.table self.new.table id }
     {
         match self.refusal(id, seq) {
             Some(refusal) => Err(refusal),
@@ -392,18 +399,20 @@ impl<N: Drop, S: Named + Drop> Core<N, S> {
 
     /// Takes the state of a context that negotiates; it is held until `enter` or `refuse`.
     pub fn take(&mut self, id: u64) -> Result<N, TakeRefusal>
+        ensures unchanged { OnErr result (self.new ≡ self.old) }
         ensures answer { result ≡ taken_by (standing id self.old.history) (state_of (slot_at self.old.table id)) }
         ensures history { self.new.history ≡ self.old.history }
         ensures keeps { Keeps self.old self.new }
-        ensures slot { slot_at self.new.table id ≡ held_after (slot_at self.old.table id) }
+        ensures held { IsOk result → slot_at self.new.table id ≡ held_after (slot_at self.old.table id) }
         ensures others { KeepsOthers self.old.table self.new.table id }
     {
-        match self.hold(id) {
-            Some(state) => Ok(state),
-            None => match self.table.phase(id) {
-                Phase::Complete => Err(TakeRefusal::AlreadyComplete),
-                _ => Err(TakeRefusal::NoContext),
+        match self.table.phase(id) {
+            Phase::Negotiating => match self.hold(id) {
+                Some(state) => Ok(state),
+                None => unreachable!(),
             },
+            Phase::Complete => Err(TakeRefusal::AlreadyComplete),
+            _ => Err(TakeRefusal::NoContext),
         }
     }
 
@@ -435,7 +444,7 @@ impl<N: Drop, S: Named + Drop> Core<N, S> {
         ensures history { (past : Option ℕ) → IsPast self.old.table self.old.cache.greatest past → self.new.history ≡ after_mark (mark_refused self.old.cache.capacity self.old.cache.greatest (taken_of self.old.history) mark) self.old.history (entered id (nat_lt (live_of self.old.table) self.old.table.limit) past mark step self.old.cache.greatest self.old.history) }
         ensures receipts { IfOk result (λ entered. given entered.receipts ≡ gained (length self.old.history) self.new.history) }
         ensures keeps { Keeps self.old self.new }
-        ensures table { OnErr result (self.new.table ≡ self.old.table) }
+        ensures unchanged { OnErr result (self.new ≡ self.old) }
     {
         match self.mark_refusal(&mark) {
             Some(refusal) => Err(refusal),

@@ -70,10 +70,6 @@ fn a_context_from_its_opening_to_its_end(rt: HostRuntime) -> Result<(), Fail> {
         core.admit(1, 3, 0, [9; 20]).err(),
         Some(AdmitRefusal::Gone)
     );
-    assert_eq!(rt;
-        core.peek(1, moment(1000)?).err(),
-        Some(LookRefusal::NoContext)
-    );
     assert_eq!(rt; core.log().len(), 4);
     Ok(())
 }

@@ -3,6 +3,9 @@
 
 ghost use Rattle.std.specs.Prelude.{◌≡◌, [], ◌∷◌, vec_len, IfOk};
 
+mod buffered;
+
+use buffered::BufferedPort;
 use gss_server::{Desk, run_server};
 use sec_base::{Clock, RandDraw, StdSink, StdioPort, SystemClock, Text};
 use std::alloc::Global;
@@ -44,7 +47,7 @@ fn status(rt: HostRuntime) -> u8 {
     let Ok(draw) = RandDraw::new(&rt) else {
         return NOT_STARTED;
     };
-    let port = StdioPort::new(rt.stdin(), rt.stdout());
+    let port = BufferedPort::new(StdioPort::new(rt.stdin(), rt.stdout()));
     let mut out = StdSink::output(rt.stdout());
     let mut err = StdSink::error(rt.stderr());
     let mut clock = SystemClock::new(rt);

@@ -3,3 +3,8 @@ pub mod Parts
 pub mod Judged
 pub mod Values
 pub mod Typed
+pub mod Laws
+pub mod FieldLaws
+pub mod WholeLaws
+pub mod KeytabLaws
+pub mod CcacheLaws

@@ -1,5 +1,5 @@
 -- Steps of the loop that passes over addresses and authorization data.
-use Rattle.std.proofs.Common.{◌≡◌, ℕ, suc, ◌+◌, ◌-◌, ◌<◌, Result, Ok, Err, refl, sym, ◌∙◌, arith}
+use Rattle.std.proofs.Common.{◌≡◌, ℕ, suc, ◌+◌, ◌-◌, ◌<◌, Result, Ok, Err, refl, sym, arith}
 use Rattle.krb_files.specs.declared.refusal.FileRefusal.{FileRefusal}
 use Rattle.krb_files.specs.Fields.{Input, ◌>>=◌}
 use Rattle.krb_files.specs.Ccache.{typed_at, times_typed_at}

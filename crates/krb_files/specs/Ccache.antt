@@ -1,5 +1,5 @@
 -- Credential caches, version 4: `05 04`, a header behind its length in 16 bits, the owner, then credentials up to the file's end.
-use Rattle.std.specs.Prelude.{ℕ, zero, suc, ◌==◌, nat_le, if◌then◌else◌, List, [], ◌∷◌, length, Option, Some, None, Result, Ok, Err}
+use Rattle.std.specs.Prelude.{ℕ, zero, suc, ◌==◌, nat_le, if◌then◌else◌, List, [], ◌∷◌, length, Option, Some, None, Result, Ok}
 use Rattle.gss_base.specs.Name.{Name}
 use Rattle.gss_base.specs.SameName.{same_name}
 use Rattle.krb_derive.specs.declared.key.Key.{Key}

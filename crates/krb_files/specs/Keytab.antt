@@ -1,6 +1,6 @@
 -- Keytabs: `05 02`, then pieces, each behind a length of 32 bits in two's complement. Behind a positive length stands a record, behind
 -- a negative one a hole of so many octets; a length of 0, or the file's end, ends the list.
-use Rattle.std.specs.Prelude.{ℕ, ◌-◌, ◌^◌, max, Bool, true, false, ◌==◌, ◌&&◌, nat_lt, if◌then◌else◌, List, [], ◌∷◌, length, take, Option, Some, None, option_and_then, is_some, Result, Ok, Err}
+use Rattle.std.specs.Prelude.{ℕ, ◌-◌, ◌^◌, max, Bool, true, false, ◌==◌, ◌&&◌, nat_lt, if◌then◌else◌, List, [], ◌∷◌, length, take, Option, Some, None, option_and_then, is_some, Result, Ok}
 use Rattle.gss_base.specs.Name.{Name}
 use Rattle.gss_base.specs.SameName.{same_name}
 use Rattle.krb_derive.specs.declared.key.Etype.{Etype}

@@ -5,3 +5,6 @@ pub mod Pieces
 pub mod Keytab
 pub mod Granted
 pub mod Ccache
+pub mod Grammar
+pub mod KeytabGrammar
+pub mod CcacheGrammar

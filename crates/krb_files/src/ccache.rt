@@ -3,6 +3,8 @@
 ghost use Rattle.std.specs.Prelude.{◌≡◌, IfOk, option_copied};
 ghost use Rattle.krb_files.specs.Fields.{Reads, Answers};
 ghost use Rattle.krb_files.specs.Pieces.{all_of};
+ghost use Rattle.krb_files.specs.Grammar.{ReadsWhole};
+ghost use Rattle.krb_files.specs.CcacheGrammar.{SpellsCcache};
 ghost use Rattle.krb_files.specs.Ccache.{name_at, typed_at, times_typed_at, list_at, ticket_at, kept_of, credential_at, next_at, ccache_of, granted_for};
 
 use crate::FileRefusal;
@@ -171,10 +173,10 @@ fn credentials(alloc: Global, fields: &mut Fields) -> Result<Vec<Credential>, Fi
     Ok(credentials)
 }
 
-/// The credential cache in the octets of a file.
+/// What `read_ccache` answers.
 #[tactic(auto, unfolding(crate::specs::Ccache::ccache_of))]
-pub fn read_ccache(alloc: Global, bytes: &[u8]) -> Result<Ccache, FileRefusal>
-    ensures exact { Answers (λ c. c) result (ccache_of bytes.now) }
+fn ccache_in(alloc: Global, bytes: &[u8]) -> Result<Ccache, FileRefusal>
+    ensures { Answers (λ c. c) result (ccache_of bytes.now) }
 {
     let mut fields = Fields::behind_magic(bytes, 4)?;
     let _header = fields.counted(2)?;
@@ -184,6 +186,14 @@ pub fn read_ccache(alloc: Global, bytes: &[u8]) -> Result<Ccache, FileRefusal>
         principal,
         credentials,
     })
+}
+
+/// The credential cache in the octets of a file.
+pub fn read_ccache(alloc: Global, bytes: &[u8]) -> Result<Ccache, FileRefusal>
+    ensures exact { Answers (λ c. c) result (ccache_of bytes.now) }
+    ensures spelled { ReadsWhole (λ c. c) SpellsCcache bytes.now result }
+{
+    ccache_in(alloc, bytes)
 }
 
 /// The first credential for this server.

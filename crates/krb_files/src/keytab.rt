@@ -3,6 +3,8 @@
 ghost use Rattle.std.specs.Prelude.{◌≡◌, Some};
 ghost use Rattle.krb_files.specs.Fields.{Reads, Answers};
 ghost use Rattle.krb_files.specs.Pieces.{all_of};
+ghost use Rattle.krb_files.specs.Grammar.{ReadsWhole};
+ghost use Rattle.krb_files.specs.KeytabGrammar.{SpellsKeytab};
 ghost use Rattle.krb_files.specs.Keytab.{has_type, is_for, entry_at, sized_at, piece_at, keytab_of, key_numbered, greater, greatest_number, found, is_served};
 
 use crate::FileRefusal;
@@ -101,14 +103,22 @@ fn entries(alloc: Global, fields: &mut Fields) -> Result<Vec<Entry>, FileRefusal
     Ok(entries)
 }
 
-/// The keytab in the octets of a file.
+/// What `read_keytab` answers.
 #[tactic(auto, unfolding(crate::specs::Keytab::keytab_of))]
-pub fn read_keytab(alloc: Global, bytes: &[u8]) -> Result<Keytab, FileRefusal>
-    ensures exact { Answers (λ k. k) result (keytab_of bytes.now) }
+fn keytab_in(alloc: Global, bytes: &[u8]) -> Result<Keytab, FileRefusal>
+    ensures { Answers (λ k. k) result (keytab_of bytes.now) }
 {
     let mut fields = Fields::behind_magic(bytes, 2)?;
     let entries = entries(alloc, &mut fields)?;
     Ok(Keytab { entries })
+}
+
+/// The keytab in the octets of a file.
+pub fn read_keytab(alloc: Global, bytes: &[u8]) -> Result<Keytab, FileRefusal>
+    ensures exact { Answers (λ k. k) result (keytab_of bytes.now) }
+    ensures spelled { ReadsWhole (λ k. k) SpellsKeytab bytes.now result }
+{
+    keytab_in(alloc, bytes)
 }
 
 /// Whether a key is of this type.

@@ -14,4 +14,6 @@ pub use keytab::{Keytab, read_keytab};
 pub use refusal::{FileRefusal, FileWhy};
 
 #[cfg(test)]
+mod real_files;
+#[cfg(test)]
 mod tests;

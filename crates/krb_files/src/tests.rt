@@ -1,4 +1,5 @@
 use super::*;
+use crate::real_files::{CACHE, KEYTAB};
 use gss_base::Principal;
 use krb_derive::{Etype, Key};
 use std::test::Fail;
@@ -178,5 +179,51 @@ fn a_cache_without_credentials_has_its_owner(rt: HostRuntime) -> Result<(), Fail
         .ok_or("a principal")?;
     assert!(rt; *cache.owner() == owner);
     assert!(rt; cache.find(&owner).is_none());
+    Ok(())
+}
+
+#[test]
+fn keys_of_a_real_keytab_are_found(rt: HostRuntime) -> Result<(), Fail> {
+    let keytab = read_keytab(rt.alloc(), KEYTAB).ok().ok_or("a keytab")?;
+    let rolled = Principal::parse(rt.alloc(), "rpc/rolled@R")
+        .ok()
+        .ok_or("a principal")?;
+    let first = Key::new(
+        Etype::Aes128,
+        &[
+            0x43, 0x6b, 0xab, 0xe5, 0xde, 0xc7, 0x20, 0x9b, 0x7b, 0x80, 0x43, 0x54, 0x2b, 0xc3,
+            0xb4, 0x37,
+        ],
+    );
+    let second = Key::new(
+        Etype::Aes128,
+        &[
+            0x59, 0xba, 0x25, 0x11, 0x4d, 0xd1, 0xf1, 0x3d, 0xc8, 0x3c, 0x19, 0xbd, 0xe2, 0xdf,
+            0x86, 0x78,
+        ],
+    );
+    assert!(rt; first.is_some());
+    assert!(rt; second.is_some());
+    assert!(rt; keytab.find(&rolled, None, Etype::Aes128) == second);
+    assert!(rt; keytab.find(&rolled, Some(1), Etype::Aes128) == first);
+    assert!(rt; keytab.find(&rolled, Some(2), Etype::Aes128) == second);
+    Ok(())
+}
+
+// Among the credentials are entries of its configuration, `X-CACHECONF:`, and a ticket for the ticket granting server.
+#[test]
+fn a_credential_of_a_real_cache_is_found(rt: HostRuntime) -> Result<(), Fail> {
+    let cache = read_ccache(rt.alloc(), CACHE).ok().ok_or("a cache")?;
+    let owner = Principal::parse(rt.alloc(), "alice@R")
+        .ok()
+        .ok_or("a principal")?;
+    let server = Principal::parse(rt.alloc(), "rpc/host@R")
+        .ok()
+        .ok_or("a principal")?;
+    assert!(rt; *cache.owner() == owner);
+    let credential = cache.find(&server).ok_or("a credential")?;
+    assert!(rt; credential.client == owner);
+    assert!(rt; credential.session.etype() == Etype::Aes128);
+    assert!(rt; Some(credential.ticket.as_slice()) == CACHE.get(792..1192));
     Ok(())
 }

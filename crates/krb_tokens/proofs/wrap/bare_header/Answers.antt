@@ -1,0 +1,12 @@
+use Rattle.std.proofs.Common.{◌≡◌, refl, arith, length, take, drop}
+use Rattle.std.proofs.lemmas.List.{length-take-le, length-drop}
+use Rattle.krb_tokens.proofs.Parts.{between_parts}
+use Rattle.krb_tokens.proofs.wrap.bare_header.Goals as goal
+
+pub returns : goal.returns
+returns c =
+    let token = c.args.token.now in
+    let front : length (take 4 token) ≡ 4 = length-take-le 4 token (omega arith) in
+    let back : length (take 8 (drop 8 token)) ≡ 8 = length-take-le 8 (drop 8 token) (omega (arith, length-drop 8 token)) in
+    rw (c.copy_from_slice.ensures.after, c.copy_from_slice-2.ensures.after)
+    (between_parts (take 4 token) (take 8 (drop 8 token)) 12 4 8 (omega arith) refl refl back)

@@ -1,0 +1,13 @@
+//! Per-message tokens of the Kerberos mechanism, RFC 4121 section 4.2, and what a finished mechanism gives.
+#![tactic(auto)]
+
+mod done;
+mod end;
+mod mic;
+#[cfg(test)]
+mod tests;
+mod wrap;
+
+pub use done::MechDone;
+pub use end::{Side, TokenEnd, TokenRefusal};
+pub use wrap::Unwrapped;

@@ -1,0 +1,170 @@
+// Values of another implementation, and of tokens that are altered.
+
+use crate::*;
+use krb_derive::Key;
+use std::test::Fail;
+
+// A token over four octets.
+#[test]
+fn mic_of_the_acceptor(rt: HostRuntime) {
+    let key = Key::Aes128([
+        0x89, 0xb1, 0x79, 0x2d, 0x7c, 0xb7, 0x98, 0xb4, 0xe5, 0x9f, 0x7f, 0xbb, 0x99, 0x70, 0x22,
+        0x4a,
+    ]);
+    let bytes = [0xfe, 0x7a, 0xff, 0x8d];
+    let token = [
+        0x04, 0x04, 0x05, 0xff, 0xff, 0xff, 0xff, 0xff, 0x00, 0x00, 0x00, 0x00, 0x00, 0x00, 0x00,
+        0x00, 0x7d, 0x5d, 0xbf, 0x14, 0xa8, 0x40, 0x75, 0x9a, 0xcc, 0x12, 0x31, 0x7d,
+    ];
+    let maker = TokenEnd {
+        key,
+        side: Side::Acceptor,
+        subkey: true,
+    };
+    let reader = TokenEnd {
+        key,
+        side: Side::Initiator,
+        subkey: true,
+    };
+    assert_eq!(rt; maker.make_mic(0, &bytes), token);
+    assert!(rt; reader.check_mic(&token, &bytes).is_ok());
+    let reflected = maker.check_mic(&token, &bytes);
+    assert!(rt; reflected == Err(TokenRefusal::Direction));
+}
+
+#[test]
+fn refusals_of_a_mic(rt: HostRuntime) {
+    let key = Key::Aes128([7; 16]);
+    let maker = TokenEnd {
+        key,
+        side: Side::Initiator,
+        subkey: true,
+    };
+    let reader = TokenEnd {
+        key,
+        side: Side::Acceptor,
+        subkey: true,
+    };
+    let token = maker.make_mic(9, b"message");
+    assert!(rt; reader.check_mic(&token, b"messagf") == Err(TokenRefusal::BadChecksum));
+    assert!(rt; reader.check_mic(b"\x04", b"message") == Err(TokenRefusal::Length));
+    assert!(rt; reader.check_mic(b"\x05\x04", b"message") == Err(TokenRefusal::Kind));
+    let mut other = token;
+    other[2] = 0;
+    assert!(rt; reader.check_mic(&other, b"message") == Err(TokenRefusal::Subkey));
+    other[2] = 12;
+    assert!(rt; reader.check_mic(&other, b"message") == Err(TokenRefusal::BadChecksum));
+    other[7] = 254;
+    assert!(rt; reader.check_mic(&other, b"message") == Err(TokenRefusal::Filler));
+}
+
+// A token of six octets that isn't sealed, and the same turned right by 12 octets.
+#[test]
+fn wrap_that_is_not_sealed(rt: HostRuntime) -> Result<(), Fail> {
+    let key = Key::Aes128([
+        0x79, 0x6f, 0xe5, 0xb9, 0x41, 0xb5, 0xc9, 0xb2, 0x52, 0x4f, 0x35, 0xf2, 0x92, 0x41, 0xa9,
+        0xe8,
+    ]);
+    let bytes = [0x96, 0x09, 0x0a, 0xa9, 0x8e, 0x79];
+    let token = [
+        0x05, 0x04, 0x00, 0xff, 0x00, 0x0c, 0x00, 0x00, 0x00, 0x00, 0x00, 0x00, 0x00, 0x00, 0x00,
+        0x00, 0x96, 0x09, 0x0a, 0xa9, 0x8e, 0x79, 0x0f, 0x83, 0x7d, 0x41, 0x40, 0x4d, 0x65, 0x16,
+        0xb0, 0xf7, 0x6f, 0x12,
+    ];
+    let turned = [
+        0x05, 0x04, 0x00, 0xff, 0x00, 0x0c, 0x00, 0x0c, 0x00, 0x00, 0x00, 0x00, 0x00, 0x00, 0x00,
+        0x00, 0x0f, 0x83, 0x7d, 0x41, 0x40, 0x4d, 0x65, 0x16, 0xb0, 0xf7, 0x6f, 0x12, 0x96, 0x09,
+        0x0a, 0xa9, 0x8e, 0x79,
+    ];
+    let maker = TokenEnd {
+        key,
+        side: Side::Initiator,
+        subkey: false,
+    };
+    let reader = TokenEnd {
+        key,
+        side: Side::Acceptor,
+        subkey: false,
+    };
+    let made = maker.wrap(rt.alloc(), 0, false, &[0; 16], &bytes)?;
+    assert!(rt; made.as_slice() == token.as_slice());
+    let read = reader.unwrap(rt.alloc(), &token).map_err(|_| "refused")?;
+    assert!(rt; !read.sealed && read.content.as_slice() == bytes.as_slice());
+    let read = reader.unwrap(rt.alloc(), &turned).map_err(|_| "refused")?;
+    assert!(rt; !read.sealed && read.content.as_slice() == bytes.as_slice());
+    Ok(())
+}
+
+// A token of no octets that is sealed, and one of another implementation with an extra octet.
+#[test]
+fn wrap_that_is_sealed(rt: HostRuntime) -> Result<(), Fail> {
+    let maker = TokenEnd {
+        key: Key::Aes128([
+            0xb5, 0xcc, 0x00, 0x60, 0xdd, 0x01, 0xc9, 0x44, 0xc8, 0x1d, 0xb3, 0x90, 0x0b, 0x19,
+            0xe1, 0x7d,
+        ]),
+        side: Side::Initiator,
+        subkey: false,
+    };
+    let confounder = [
+        0x97, 0xe4, 0x4e, 0x89, 0x41, 0xdc, 0xe1, 0x70, 0x91, 0xca, 0x7e, 0x82, 0x88, 0x45, 0xfe,
+        0x6e,
+    ];
+    let token = [
+        0x05, 0x04, 0x02, 0xff, 0x00, 0x00, 0x00, 0x00, 0x00, 0x00, 0x00, 0x01, 0x40, 0x01, 0xac,
+        0x63, 0x81, 0x38, 0x19, 0xa0, 0x72, 0x08, 0x25, 0x7e, 0xa3, 0xcb, 0xa2, 0xee, 0xae, 0xec,
+        0x9e, 0x7e, 0xeb, 0x11, 0xf2, 0xa7, 0x35, 0x36, 0x96, 0x78, 0xaf, 0xbe, 0x07, 0x6c, 0xe9,
+        0x59, 0xc5, 0xad, 0x4b, 0xe3, 0x23, 0x00, 0x93, 0x8e, 0x49, 0x0b, 0xb6, 0xd5, 0xf9, 0x61,
+    ];
+    let made = maker.wrap(rt.alloc(), 5368818787, true, &confounder, &[])?;
+    assert!(rt; made.as_slice() == token.as_slice());
+    let reader = TokenEnd {
+        key: Key::Aes256([
+            0x8b, 0xad, 0x58, 0x43, 0x4d, 0x04, 0x58, 0xe8, 0x6c, 0x4f, 0xf0, 0x0f, 0x93, 0x81,
+            0xd3, 0xae, 0x8c, 0x71, 0x66, 0xb9, 0x55, 0xdf, 0x90, 0x28, 0xa8, 0xdd, 0xa4, 0x92,
+            0x9c, 0xc2, 0x5b, 0x5a,
+        ]),
+        side: Side::Acceptor,
+        subkey: true,
+    };
+    let token = [
+        0x05, 0x04, 0x06, 0xff, 0x00, 0x01, 0x00, 0x00, 0x00, 0x00, 0x00, 0x00, 0x00, 0x00, 0x00,
+        0x00, 0xc2, 0xb6, 0xfe, 0x3e, 0xa3, 0xb9, 0xe0, 0x66, 0xb2, 0x26, 0x80, 0xde, 0x02, 0x00,
+        0x34, 0xa0, 0x18, 0xe7, 0xfd, 0x71, 0x6b, 0x93, 0x79, 0x6e, 0x48, 0x6c, 0xe4, 0x5c, 0xe0,
+        0x32, 0x86, 0xb8, 0x94, 0x3e, 0xec, 0x2e, 0xc2, 0x53, 0xf2, 0xa4, 0x2b, 0xa6, 0x19, 0xdf,
+        0x96, 0xa2, 0x30, 0x35,
+    ];
+    let read = reader.unwrap(rt.alloc(), &token).map_err(|_| "refused")?;
+    assert!(rt; read.sealed && read.content.as_slice() == [0xc4, 0x35, 0x50].as_slice());
+    Ok(())
+}
+
+#[test]
+fn refusals_of_a_wrap(rt: HostRuntime) -> Result<(), Fail> {
+    let key = Key::Aes128([7; 16]);
+    let maker = TokenEnd {
+        key,
+        side: Side::Initiator,
+        subkey: false,
+    };
+    let reader = TokenEnd {
+        key,
+        side: Side::Acceptor,
+        subkey: false,
+    };
+    let mut list = maker
+        .wrap(rt.alloc(), 1, true, &[1; 16], b"four")?
+        .into_vec();
+    assert_eq!(rt; list.len(), 64);
+    let last = list.pop().ok_or("no octet")?;
+    list.push(last ^ 1)?;
+    let bad = reader.unwrap(rt.alloc(), list.as_slice());
+    assert!(rt; matches!(bad, Err(TokenRefusal::BadChecksum)));
+    let short = reader.unwrap(rt.alloc(), b"\x05\x04");
+    assert!(rt; matches!(short, Err(TokenRefusal::Length)));
+    let other = reader.unwrap(rt.alloc(), b"\x04\x04");
+    assert!(rt; matches!(other, Err(TokenRefusal::Kind)));
+    let reflected = maker.unwrap(rt.alloc(), list.as_slice());
+    assert!(rt; matches!(reflected, Err(TokenRefusal::Direction)));
+    Ok(())
+}
