@@ -1,12 +1,15 @@
 pub mod ApRep
 pub mod ApReq
+pub mod Authenticator
 pub mod AuthorizationDatum
 pub mod Checksum
 pub mod Constant
 pub mod EncApRepPart
+pub mod EncTicketPart
 pub mod EncryptedData
 pub mod EncryptionKey
 pub mod HostAddress
+pub mod KrbError
 pub mod PrincipalName
 pub mod Ticket
 pub mod TransitedEncoding
