@@ -1,6 +1,6 @@
 //! Reads in pieces of some kilobytes, for links whose reads are calls of the system.
 
-ghost use Rattle.std.specs.Prelude.{◌≤◌};
+ghost use Rattle.std.specs.Prelude.{◌≡◌, ◌≤◌};
 
 use sec_base::{Link, LinkFault, Port, PortFault};
 
@@ -61,7 +61,10 @@ pub struct BufferedPort<P> {
 }
 
 impl<P: Port> BufferedPort<P> {
-    pub fn new(port: P) -> BufferedPort<P> {
+    /// A port whose links are those of `port`.
+    pub fn new(port: P) -> BufferedPort<P>
+        ensures { result.port ≡ port }
+    {
         BufferedPort { port }
     }
 }

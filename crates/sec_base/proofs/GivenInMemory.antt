@@ -38,3 +38,8 @@ moment_after-past [] last count place d e h = absurd (omega arith)
 moment_after-past (moment ∷ moments) last zero place d e h = absurd (omega arith)
 moment_after-past (moment ∷ moments) last (suc count) zero d e h = moment_after-none moments moment count (omega arith)
 moment_after-past (moment ∷ moments) last (suc count) (suc place) d e h = moment_after-past moments moment count place d (omega arith) (omega arith)
+
+pub moments_given-length : (moments : List ℕ) (last count : ℕ) → length (moments_given moments last count) ≡ count
+moments_given-length moments last zero = refl
+moments_given-length [] last (suc count) = ap suc (moments_given-length [] last count)
+moments_given-length (moment ∷ moments) last (suc count) = ap suc (moments_given-length moments moment count)

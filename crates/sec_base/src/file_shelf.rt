@@ -1,5 +1,7 @@
 //! The files of the system.
 
+ghost use Rattle.std.specs.Prelude.{◌≡◌};
+
 use crate::octets::Octets;
 use crate::shelf::{LoadRefusal, Shelf};
 use std::alloc::Global;
@@ -17,7 +19,9 @@ pub struct FileShelf<R: Files + Drop> {
 }
 
 impl<R: Files + Drop> FileShelf<R> {
-    pub fn new(rt: R) -> FileShelf<R> {
+    pub fn new(rt: R) -> FileShelf<R>
+        ensures { ⟦<FileShelf<R> as Shelf>⟧.faults result ≡ 0 }
+    {
         FileShelf { rt, faults: 0 }
     }
 }

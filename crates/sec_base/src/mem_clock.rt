@@ -1,6 +1,6 @@
 //! A clock in memory.
 
-ghost use Rattle.std.specs.Prelude.{◌≡◌, []};
+ghost use Rattle.std.specs.Prelude.{◌≡◌, [], length};
 ghost use Rattle.sec_base.specs.MemClock.{moment_after};
 
 use crate::clock::Clock;
@@ -22,7 +22,9 @@ impl MemClock {
     }
 
     /// How many moments were given.
-    pub fn count(&self) -> u64 {
+    pub fn count(&self) -> u64
+        ensures { result ≡ length (⟦<MemClock as Clock>⟧.given self.now) }
+    {
         self.count
     }
 }

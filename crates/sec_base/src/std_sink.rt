@@ -1,6 +1,6 @@
 //! Standard output and standard error as sinks.
 
-ghost use Rattle.std.specs.Prelude.{◌<◌, ◌≤◌, length, IfSome};
+ghost use Rattle.std.specs.Prelude.{◌≡◌, ◌<◌, ◌≤◌, length, IfSome};
 
 use crate::sink::{Sink, SinkFault};
 use std::io::{Stderr, Stdout, Write};
@@ -36,14 +36,20 @@ pub struct StdSink {
 }
 
 impl StdSink {
-    pub fn output(stream: Stdout) -> StdSink {
+    /// Standard output.
+    pub fn output(stream: Stdout) -> StdSink
+        ensures { ⟦<StdSink as Sink>⟧.faults result ≡ 0 }
+    {
         StdSink {
             stream: Stream::Output(stream),
             faults: 0,
         }
     }
 
-    pub fn error(stream: Stderr) -> StdSink {
+    /// Standard error.
+    pub fn error(stream: Stderr) -> StdSink
+        ensures { ⟦<StdSink as Sink>⟧.faults result ≡ 0 }
+    {
         StdSink {
             stream: Stream::Error(stream),
             faults: 0,

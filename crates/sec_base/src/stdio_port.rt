@@ -1,5 +1,7 @@
 //! Standard input and output as one connection.
 
+ghost use Rattle.std.specs.Prelude.{◌≡◌, false};
+
 use crate::link::{Link, LinkFault};
 use crate::port::{Port, PortFault};
 use std::io::{Read, Stdin, Stdout, Write};
@@ -58,7 +60,10 @@ pub struct StdioPort {
 }
 
 impl StdioPort {
-    pub fn new(input: Stdin, output: Stdout) -> StdioPort {
+    /// The port whose link was not given yet.
+    pub fn new(input: Stdin, output: Stdout) -> StdioPort
+        ensures { result.given ≡ false }
+    {
         StdioPort {
             input,
             output,

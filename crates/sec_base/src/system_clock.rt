@@ -1,5 +1,7 @@
 //! The system's clock.
 
+ghost use Rattle.std.specs.Prelude.{◌≡◌};
+
 use crate::clock::Clock;
 use crate::moment::Moment;
 use std::rt::Clock as SystemTimeSource;
@@ -14,7 +16,10 @@ pub struct SystemClock<R: SystemTimeSource + Drop> {
 }
 
 impl<R: SystemTimeSource + Drop> SystemClock<R> {
-    pub fn new(rt: R) -> SystemClock<R> {
+    /// The clock that gave no moment yet.
+    pub fn new(rt: R) -> SystemClock<R>
+        ensures { result.last ≡ 0 }
+    {
         SystemClock {
             rt,
             last: Moment::start(),

@@ -1,5 +1,7 @@
 //! Where TCP connections come in.
 
+ghost use Rattle.std.specs.Prelude.{◌≡◌};
+
 use crate::link::Link;
 use crate::port::{Port, PortFault};
 use crate::tcp_link::TcpLink;
@@ -18,7 +20,9 @@ impl TcpPort {
     pub fn bind<R: Net<Stream = TcpStream, Listener = TcpListener>>(
         rt: &R,
         address: &str,
-    ) -> TcpPort {
+    ) -> TcpPort
+        ensures { ⟦<TcpPort as Port>⟧.faults result ≡ 0 }
+    {
         TcpPort {
             listener: TcpListener::bind(rt, address).ok(),
             faults: 0,
@@ -26,7 +30,9 @@ impl TcpPort {
     }
 
     /// Another port at the same listener.
-    pub fn share(&self) -> TcpPort {
+    pub fn share(&self) -> TcpPort
+        ensures { ⟦<TcpPort as Port>⟧.faults result ≡ 0 }
+    {
         let listener = match &self.listener {
             Some(listener) => listener.try_clone().ok(),
             None => None,
