@@ -11,6 +11,7 @@ use Rattle.krb_tokens.specs.declared.end.Side.TheVariants.{Initiator, Acceptor}
 use Rattle.krb_tokens.specs.declared.end.TokenEnd.{TokenEnd}
 use Rattle.krb_tokens.specs.End.{flags_of}
 use Rattle.krb_tokens.specs.Wrap.{wrap_header}
+use Rattle.krb_tokens.specs.Tokens.{wrap_header_with}
 
 pub octets_nil : IsOctets []
 octets_nil i = omega arith
@@ -38,14 +39,18 @@ flags_of-small key Acceptor true false = omega arith
 flags_of-small key Acceptor false true = omega arith
 flags_of-small key Acceptor false false = omega arith
 
-pub wrap_header-IsOctets : (end : TokenEnd) (sealed : Bool) (extra rotation number : ℕ) → IsOctets (wrap_header end sealed extra rotation number)
-unfolding wrap_header
-wrap_header-IsOctets end sealed extra rotation number =
+pub wrap_header_with-IsOctets : (flags extra rotation number : ℕ) → flags < 256 → IsOctets (wrap_header_with flags extra rotation number)
+unfolding wrap_header_with
+wrap_header_with-IsOctets flags extra rotation number h =
     let counts : List ℕ = to_be_bytes w16 extra ++ to_be_bytes w16 rotation ++ to_be_bytes w64 number in
     let small : IsOctets counts =
     append-IsOctets (to_be_bytes w16 extra ++ to_be_bytes w16 rotation) (to_be_bytes w64 number)
     (append-IsOctets (to_be_bytes w16 extra) (to_be_bytes w16 rotation) (bytes_high_first-IsOctets 2 extra) (bytes_high_first-IsOctets 2 rotation))
     (bytes_high_first-IsOctets 8 number) in
-    let flags : ℕ = flags_of end sealed in
     octets_cons 5 (4 ∷ flags ∷ 255 ∷ counts) (omega arith) (octets_cons 4 (flags ∷ 255 ∷ counts) (omega arith)
-    (octets_cons flags (255 ∷ counts) (flags_of-small end.key end.side end.subkey sealed) (octets_cons 255 counts (omega arith) small)))
+    (octets_cons flags (255 ∷ counts) h (octets_cons 255 counts (omega arith) small)))
+
+pub wrap_header-IsOctets : (end : TokenEnd) (sealed : Bool) (extra rotation number : ℕ) → IsOctets (wrap_header end sealed extra rotation number)
+unfolding wrap_header wrap_header_with
+wrap_header-IsOctets end sealed extra rotation number =
+    wrap_header_with-IsOctets (flags_of end sealed) extra rotation number (flags_of-small end.key end.side end.subkey sealed)

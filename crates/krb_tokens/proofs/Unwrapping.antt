@@ -48,7 +48,7 @@ turned-twice count body h =
     let second : take r (drop k body ++ take k body) ≡ drop k body = take_at (drop k body) (take k body) r front in
     rw (first, second) (take-append-drop k body)
 
-body-back : (token body : List ℕ) (rotation : ℕ) → drop 16 token ≡ turned_right rotation body → word_of token 6 ≡ rotation
+pub body-back : (token body : List ℕ) (rotation : ℕ) → drop 16 token ≡ turned_right rotation body → word_of token 6 ≡ rotation
     → rotation % length body ≤ length body → body_of token ≡ body
 body-back token body rotation rest word le =
     rw (rest, word, length-turned (length body - rotation % length body) body) (turned-twice rotation body le)
