@@ -1,4 +1,5 @@
+pub mod FragmentSteps
 pub mod InARow
 pub mod NullCalls
-pub mod OneRecord
 pub mod WordLengths
+pub mod Tests

@@ -6,7 +6,7 @@ use lib.Pointwise.{pointwise}
 use Rattle.std.specs.Cmp.Lexicographic.{same_text}
 use Rattle.std.proofs.lemmas.List.{take_all}
 use Rattle.std.proofs.lemmas.Grind.{common_steps}
-use Rattle.rpc_msgs.proofs.OneRecord.{unequal, equal}
+use Rattle.rpc_msgs.proofs.Tests.{unequal, equal}
 use Rattle.rpc_msgs.specs.Words.{word}
 use Rattle.rpc_msgs.specs.Calls.{null_words, null_call, is_null_call, xid_of}
 

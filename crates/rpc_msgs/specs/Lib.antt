@@ -1,4 +1,5 @@
 pub mod Calls
+pub mod Fragments
 pub mod Records
 pub mod Replies
 pub mod Streams
