@@ -1,21 +1,18 @@
 -- Fragment after fragment of a record.
-use Rattle.std.proofs.Common.{◌≡◌, inl, inr, ℕ, ◌+◌, ◌%◌, ◌<◌, ◌≤◌, ◌^◌, true, false, List, [], ◌∷◌, ◌++◌, length, take, refl, ap, sym, ◌∙◌, subst, arith, append_assoc, Some, None, Ok, Err}
-use Rattle.std.proofs.lemmas.Grind.{common_steps, flat_map-append}
-use Rattle.std.proofs.lemmas.List.{length-append, append-nil, take_all}
+use Rattle.std.proofs.Common.{◌≡◌, ◌⊎◌, inl, inr, ℕ, ◌+◌, ◌%◌, ◌<◌, ◌≤◌, ◌^◌, lit<, List, [], ◌∷◌, ◌++◌, length, refl, ap, sym, ◌∙◌, subst, arith, Some, Ok, Err}
+use Rattle.std.proofs.lemmas.Bool.{cases_lt}
+use Rattle.std.proofs.lemmas.Grind.{flat_map-append}
+use Rattle.std.proofs.lemmas.List.{length-append, append-nil}
 use Rattle.sec_base.specs.Link.{Wire}
-use Rattle.rpc_msgs.specs.Streams.{Took}
 use Rattle.rpc_msgs.specs.Words.{word}
-use Rattle.rpc_msgs.specs.Records.{more_fragment, last_fragment, frames, joined, IsPartial, TakesRecord}
-use Rattle.rpc_msgs.specs.Fragments.{Grows, Adds, Begins, TakesContent, TakesFragment}
+use Rattle.rpc_msgs.specs.Records.{more_fragment, last_fragment, frames, joined, IsFront, IsWhole, IsPartial, TakesRecord}
+use Rattle.rpc_msgs.specs.Fragments.{Adds, Begins, TakesFragment}
 use Rattle.rpc_msgs.specs.declared.record.Fragment.{Fragment}
-use Rattle.rpc_msgs.specs.declared.record.Fragment.TheVariants.{More, Last, End}
+use Rattle.rpc_msgs.specs.declared.record.Fragment.TheVariants.{More, Last}
 use Rattle.rpc_msgs.specs.declared.record.RecordRefusal.{RecordRefusal}
 use Rattle.rpc_msgs.specs.declared.record.RecordRefusal.TheVariants.{LinkFault, TooLong, TooManyFragments, Torn, NoMemory}
-use Rattle.rpc_msgs.proofs.InARow.{took-none, took-again, took-same}
+use Rattle.rpc_msgs.proofs.InARow.{took-again, took-same}
 use Rattle.rpc_msgs.proofs.WordLengths.{length-word}
-
-pub begins-none : (w : Wire) → Begins w w 0 []
-begins-none w = record { earlier = []; count = refl; held = refl; took = took-none w }
 
 pub frames-push : (earlier : List (List ℕ)) (part : List ℕ) → frames earlier ++ more_fragment part ≡ frames (earlier ++ part ∷ [])
 frames-push earlier part =
@@ -42,24 +39,48 @@ takes-last c n xs ys part s h size t =
       took-again s.took t.took,
     )
 
-no_frames : (earlier : List (List ℕ)) → length earlier ≡ 0 → frames earlier ≡ []
-no_frames [] e = refl
-no_frames (part ∷ earlier) e = absurd (omega arith)
-
 frames-length : (earlier : List (List ℕ)) → length earlier ≤ length (frames earlier)
 frames-length [] = omega arith
 frames-length (part ∷ earlier) =
     let one : length (more_fragment part ++ frames earlier) ≡ 4 + length part + length (frames earlier) = simp (length-append, length-word) (omega arith) in
     omega (arith, one, frames-length earlier)
 
-pub takes-end : {a b : Wire} (c : Wire) (n : ℕ) (xs : List ℕ) → Begins a b n xs → n ≡ 0 → b.coming ≡ [] → Took b c [] → TakesRecord a c (Ok None)
-takes-end {a} {b} c n xs s e none t =
-    let no : frames s.earlier ≡ [] = no_frames s.earlier (s.count ∙ e) in
-    let coming : a.coming ≡ [] = s.took.coming ∙ (ap (λ (zs : List ℕ). zs ++ b.coming) no ∙ none) in
-    (coming, took-same (took-again s.took t) (ap (λ (zs : List ℕ). zs ++ []) no))
+pub front-of : {a b : Wire} (n : ℕ) (xs part : List ℕ) (s : Begins a b n xs) → n ≤ 64 → length xs ≤ 131072 → IsPartial n (length xs) part → IsFront (frames s.earlier ++ part)
+front-of n xs part s h size p = record {
+  earlier = s.earlier;
+  part = part;
+  few = omega (arith, s.count);
+  size = subst (λ (zs : List ℕ). length zs ≤ 131072) s.held size;
+  partial = subst (λ (k : ℕ). IsPartial k (length (joined s.earlier)) part) (sym s.count) (subst (λ (zs : List ℕ). IsPartial n (length zs) part) s.held p);
+  spelled = refl;
+}
+
+-- a header with all or some of the octets that it announces: a front of a record, or all of it
+pub front-or-whole : {a b : Wire} (n : ℕ) (xs part : List ℕ) (header : ℕ) (s : Begins a b n xs) → n < 64 → length xs ≤ 131072 → header < 2 ^ 32 → length xs + header % 2 ^ 31 ≤ 131072 → length part ≤ header % 2 ^ 31 → IsFront (frames s.earlier ++ (word header ++ part)) ⊎ IsWhole (frames s.earlier ++ (word header ++ part))
+front-or-whole n xs part header s few size bound fits most =
+    elim (cases_lt (length part) (header % 2 ^ 31)) [
+      | inl less ↦ inl (front-of n xs (word header ++ part) s (omega arith) size (inr (header, part, bound, few, fits, refl, less)))
+      | inr all ↦ let same : length part ≡ header % 2 ^ 31 = omega arith in
+          elim (cases_lt header (2 ^ 31)) [
+            | inl more ↦ inl (record {
+              earlier = s.earlier ++ part ∷ [];
+              part = [];
+              few = omega (arith, s.count, length-append s.earlier (part ∷ []));
+              size = omega (arith, ap length s.held, ap length (sym (joined-push s.earlier part)), length-append (joined s.earlier) part);
+              partial = inl (lit< tt);
+              spelled = let is : header ≡ length part = omega arith in
+                  ap (λ (k : ℕ). frames s.earlier ++ (word k ++ part)) is ∙ (frames-push s.earlier part ∙ sym (append-nil (frames (s.earlier ++ part ∷ []))));
+            })
+            | inr last ↦ inr (record {
+              cut = record { earlier = s.earlier; last = part };
+              is_record = record { few = omega (arith, s.count); size = omega (arith, ap length s.held, length-append (joined s.earlier) part) };
+              spelled = let is : header ≡ 2 ^ 31 + length part = omega arith in ap (λ (k : ℕ). frames s.earlier ++ (word k ++ part)) is;
+            })
+          ]
+    ]
 
 pub takes-refusal : {a b : Wire} (c : Wire) (n : ℕ) (xs ys : List ℕ) → Begins a b n xs → n ≤ 64 → length xs ≤ 131072 → (refusal : RecordRefusal) → TakesFragment b c xs ys n (Err refusal) → TakesRecord a c (Err refusal)
-takes-refusal c n xs ys s h size LinkFault t = (frames s.earlier ++ t.0, took-again s.took t.1)
+takes-refusal c n xs ys s h size LinkFault t = (frames s.earlier ++ t.0, front-of n xs t.0 s h size t.1, took-again s.took t.2)
 takes-refusal c n xs ys s h size TooLong t = (
   frames s.earlier ++ word t.0,
   record {
@@ -87,66 +108,13 @@ takes-refusal c n xs ys s h size TooManyFragments t = (
 )
 takes-refusal {a} {b} c n xs ys s h size Torn t =
     let some : 0 < length a.coming = omega (arith, t.1, s.count, frames-length s.earlier, ap length s.took.coming, length-append (frames s.earlier) b.coming) in (
-      record {
-        earlier = s.earlier;
-        part = b.coming;
-        few = omega (arith, s.count);
-        size = subst (λ (zs : List ℕ). length zs ≤ 131072) s.held size;
-        partial = subst (λ (k : ℕ). IsPartial k (length (joined s.earlier)) b.coming) (sym s.count)
-            (subst (λ (zs : List ℕ). IsPartial n (length zs) b.coming) s.held t.0);
-        some = some;
-        spelled = s.took.coming;
-      },
+      record { front = subst IsFront (sym s.took.coming) (front-of n xs b.coming s h size t.0); some = some },
       took-same (took-again s.took t.2) (sym s.took.coming),
     )
-takes-refusal c n xs ys s h size NoMemory t = (frames s.earlier ++ t.0, took-again s.took t.1)
-
--- a header that was read whole
-pub head-took : {a b : Wire} (buffer : List ℕ) (count header : ℕ) → Took a b (take count buffer) → count ≡ 4 → length buffer ≡ 4 → word header ≡ buffer → Took a b (word header)
-head-took buffer count header t e l is =
-    let whole : take count buffer ≡ buffer = take_all count buffer (omega arith) in
-    took-same t (whole ∙ sym is)
-
-pub grows-again : {a b : Wire} (c : Wire) (xs ys zs us vs : List ℕ) → Grows a b xs ys us → Grows b c ys zs vs → Grows a c xs zs (us ++ vs)
-grows-again c xs ys zs us vs p q = record {
-  grown = q.grown ∙ (ap (λ (ws : List ℕ). ws ++ vs) p.grown ∙ append_assoc xs us vs);
-  took = took-again p.took q.took;
-}
-
--- a header and the octets that it announces are a fragment
-pub adds-more : {a b : Wire} (c : Wire) (header size number : ℕ) (xs ys : List ℕ) → Took a b (word header) → header < 2 ^ 31 → size ≡ header % 2 ^ 31 → TakesContent b c xs ys size (Ok true) → TakesFragment a c xs ys number (Ok More)
-adds-more c header size number xs ys t h e p =
-    let is : header ≡ length p.0 = omega (arith, p.1) in
-    (p.0, record { grown = p.2.grown; took = took-same (took-again t p.2.took) (ap (λ (k : ℕ). word k ++ p.0) is) })
-
-pub adds-last : {a b : Wire} (c : Wire) (header size number : ℕ) (xs ys : List ℕ) → Took a b (word header) → 2 ^ 31 ≤ header → header < 2 ^ 32 → size ≡ header % 2 ^ 31 → TakesContent b c xs ys size (Ok true) → TakesFragment a c xs ys number (Ok Last)
-adds-last c header size number xs ys t h k e p =
-    let is : header ≡ 2 ^ 31 + length p.0 = omega (arith, p.1) in
-    (p.0, record { grown = p.2.grown; took = took-same (took-again t p.2.took) (ap (λ (m : ℕ). word m ++ p.0) is) })
-
--- the input ended inside the octets that a header announces
-pub torn-content : {a b : Wire} (c : Wire) (header size number : ℕ) (xs ys : List ℕ) → Took a b (word header) → header < 2 ^ 32 → number < 64 → length xs + size ≤ 131072 → size ≡ header % 2 ^ 31 → TakesContent b c xs ys size (Ok false) → TakesFragment a c xs ys number (Err Torn)
-torn-content {a} {b} c header size number xs ys t h few fits e p =
-    let rest : b.coming ≡ p.0 = p.3.took.coming ∙ (ap (λ (zs : List ℕ). p.0 ++ zs) p.2 ∙ append-nil p.0) in
-    let spelled : a.coming ≡ word header ++ p.0 = t.coming ∙ ap (λ (zs : List ℕ). word header ++ zs) rest in
-    let some : 0 < number + length a.coming = omega (arith, ap length spelled, length-append (word header) p.0, length-word header) in (
-      inr (header, p.0, h, few, omega (arith, e), spelled, omega (arith, p.1, e)),
-      some,
-      took-same (took-again t p.3.took) (sym spelled),
-    )
-
--- the input ended inside a header
-pub torn-header : {a : Wire} (b : Wire) (buffer : List ℕ) (count number : ℕ) (xs ys : List ℕ) → Took a b (take count buffer) → (count < length buffer → b.coming ≡ []) → length buffer ≡ 4 → count < 4 → 0 < number + count → TakesFragment a b xs ys number (Err Torn)
-torn-header {a} b buffer count number xs ys t ended l short some =
-    let coming : a.coming ≡ take count buffer = t.coming ∙ (ap (λ (zs : List ℕ). take count buffer ++ zs) (ended (omega arith)) ∙ append-nil _) in
-    let size : length a.coming ≡ count = ap length coming ∙ grind (arith, common_steps) in
-    (inl (omega arith), omega arith, took-same t (sym coming))
+takes-refusal c n xs ys s h size NoMemory t = (frames s.earlier ++ (word t.0 ++ t.1), front-or-whole n xs t.1 t.0 s t.2 size t.3 t.4 t.5, took-again s.took t.6)
 
 pub is-more : (b c : Wire) (xs ys : List ℕ) (n : ℕ) (f : Fragment) → f ≡ More → TakesFragment b c xs ys n (Ok f) → TakesFragment b c xs ys n (Ok More)
 is-more b c xs ys n f e t = subst (λ (g : Fragment). TakesFragment b c xs ys n (Ok g)) e t
 
 pub is-last : (b c : Wire) (xs ys : List ℕ) (n : ℕ) (f : Fragment) → f ≡ Last → TakesFragment b c xs ys n (Ok f) → TakesFragment b c xs ys n (Ok Last)
 is-last b c xs ys n f e t = subst (λ (g : Fragment). TakesFragment b c xs ys n (Ok g)) e t
-
-pub is-end : (b c : Wire) (xs ys : List ℕ) (n : ℕ) (f : Fragment) → f ≡ End → TakesFragment b c xs ys n (Ok f) → TakesFragment b c xs ys n (Ok End)
-is-end b c xs ys n f e t = subst (λ (g : Fragment). TakesFragment b c xs ys n (Ok g)) e t

@@ -17,21 +17,21 @@ pub record Grows (old new : Wire) (before after part : List ℕ) : Type 0 where
 -- at most so many octets were read, fewer only where the input ended
 abbrev pub TakesPiece : Wire → Wire → List ℕ → List ℕ → ℕ → Result ℕ RecordRefusal → Type 0
 TakesPiece old new before after most (Ok count) = (part : List ℕ) × (length part ≡ count) × (count < most → new.coming ≡ []) × Grows old new before after part
-TakesPiece old new before after most (Err LinkFault) = (part : List ℕ) × Took old new part
+TakesPiece old new before after most (Err LinkFault) = (part : List ℕ) × (length part < most) × Took old new part
 TakesPiece old new before after most (Err TooLong) = ⊥
 TakesPiece old new before after most (Err TooManyFragments) = ⊥
 TakesPiece old new before after most (Err Torn) = ⊥
-TakesPiece old new before after most (Err NoMemory) = (part : List ℕ) × Took old new part
+TakesPiece old new before after most (Err NoMemory) = (part : List ℕ) × (length part ≤ most) × Took old new part
 
 -- so many octets were read, or those up to the end of input where fewer came
 abbrev pub TakesContent : Wire → Wire → List ℕ → List ℕ → ℕ → Result Bool RecordRefusal → Type 0
 TakesContent old new before after count (Ok true) = (part : List ℕ) × (length part ≡ count) × Grows old new before after part
 TakesContent old new before after count (Ok false) = (part : List ℕ) × (length part < count) × (new.coming ≡ []) × Grows old new before after part
-TakesContent old new before after count (Err LinkFault) = (part : List ℕ) × Took old new part
+TakesContent old new before after count (Err LinkFault) = (part : List ℕ) × (length part < count) × Took old new part
 TakesContent old new before after count (Err TooLong) = ⊥
 TakesContent old new before after count (Err TooManyFragments) = ⊥
 TakesContent old new before after count (Err Torn) = ⊥
-TakesContent old new before after count (Err NoMemory) = (part : List ℕ) × Took old new part
+TakesContent old new before after count (Err NoMemory) = (part : List ℕ) × (length part ≤ count) × Took old new part
 
 -- a fragment was read whole behind those that were there
 pub record Adds (old new : Wire) (before after part framed : List ℕ) : Type 0 where
@@ -48,11 +48,11 @@ abbrev pub TakesFragment : Wire → Wire → List ℕ → List ℕ → ℕ → R
 TakesFragment old new before after number (Ok More) = (part : List ℕ) × Adds old new before after part (more_fragment part)
 TakesFragment old new before after number (Ok Last) = (part : List ℕ) × Adds old new before after part (last_fragment part)
 TakesFragment old new before after number (Ok End) = (number ≡ 0) × (old.coming ≡ []) × Took old new []
-TakesFragment old new before after number (Err LinkFault) = (part : List ℕ) × Took old new part
+TakesFragment old new before after number (Err LinkFault) = (part : List ℕ) × IsPartial number (length before) part × Took old new part
 TakesFragment old new before after number (Err TooLong) = (header : ℕ) × (131072 < length before + header % 2 ^ 31) × Heads old new header
 TakesFragment old new before after number (Err TooManyFragments) = (header : ℕ) × (number ≡ 64) × (length before + header % 2 ^ 31 ≤ 131072) × Heads old new header
 TakesFragment old new before after number (Err Torn) = IsPartial number (length before) old.coming × (0 < number + length old.coming) × Took old new old.coming
-TakesFragment old new before after number (Err NoMemory) = (part : List ℕ) × Took old new part
+TakesFragment old new before after number (Err NoMemory) = (header : ℕ) × (part : List ℕ) × (number < 64) × (header < 2 ^ 32) × (length before + header % 2 ^ 31 ≤ 131072) × (length part ≤ header % 2 ^ 31) × Took old new (word header ++ part)
 
 -- so many fragments were read
 pub record Begins (old new : Wire) (number : ℕ) (octets : List ℕ) : Type 0 where

@@ -62,22 +62,32 @@ abbrev pub IsPartial : ℕ → ℕ → List ℕ → Type 0
 IsPartial number size octets =
     (length octets < 4) ⊎ ((header : ℕ) × (rest : List ℕ) × (header < 2 ^ 32) × (number < 64) × (size + header % 2 ^ 31 ≤ 131072) × (octets ≡ word header ++ rest) × (length rest < header % 2 ^ 31))
 
--- the front of a record that ends inside it
-pub record IsTorn (octets : List ℕ) : Type 0 where
+-- a front of a record, which may be empty, that ends before the record's last octet
+pub record IsFront (octets : List ℕ) : Type 0 where
   pub earlier : List (List ℕ)
   pub part : List ℕ
   pub few : length earlier ≤ 64
   pub size : length (joined earlier) ≤ 131072
   pub partial : IsPartial (length earlier) (length (joined earlier)) part
-  pub some : 0 < length octets
   pub spelled : octets ≡ frames earlier ++ part
+
+-- a front that has an octet: the record was begun
+pub record IsTorn (octets : List ℕ) : Type 0 where
+  pub front : IsFront octets
+  pub some : 0 < length octets
+
+-- a whole record as it stands in a stream
+pub record IsWhole (octets : List ℕ) : Type 0 where
+  pub cut : Fragments
+  pub is_record : IsRecord cut
+  pub spelled : octets ≡ frame cut
 
 -- what the call that reads the next record took of the stream
 abbrev pub TakesRecord : Wire → Wire → Result (Option (List ℕ)) RecordRefusal → Type 0
 TakesRecord old new (Ok (Some octets)) = (cut : Fragments) × IsRecord cut × (octets ≡ octets_in cut) × Took old new (frame cut)
 TakesRecord old new (Ok None) = (old.coming ≡ []) × Took old new []
-TakesRecord old new (Err LinkFault) = (octets : List ℕ) × Took old new octets
+TakesRecord old new (Err LinkFault) = (octets : List ℕ) × IsFront octets × Took old new octets
 TakesRecord old new (Err TooLong) = (octets : List ℕ) × IsTooLong octets × Took old new octets
 TakesRecord old new (Err TooManyFragments) = (octets : List ℕ) × IsTooMany octets × Took old new octets
 TakesRecord old new (Err Torn) = IsTorn old.coming × Took old new old.coming
-TakesRecord old new (Err NoMemory) = (octets : List ℕ) × Took old new octets
+TakesRecord old new (Err NoMemory) = (octets : List ℕ) × (IsFront octets ⊎ IsWhole octets) × Took old new octets
