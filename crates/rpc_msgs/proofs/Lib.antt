@@ -1,5 +1,3 @@
 pub mod FragmentSteps
 pub mod InARow
-pub mod NullCalls
 pub mod WordLengths
-pub mod Tests

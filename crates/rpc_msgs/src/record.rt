@@ -8,6 +8,7 @@ ghost use Rattle.rpc_msgs.specs.Streams.{Sends};
 ghost use Rattle.rpc_msgs.specs.Words.{word};
 
 use crate::transfer::{fill, send};
+use crate::xdr_reader::word_of;
 use sec_base::{Link, LinkFault, Octets};
 use std::alloc::Global;
 
@@ -112,15 +113,6 @@ fn read_fragment<L: Link>(
         Ok(false) => Err(RecordRefusal::Torn),
         Err(refusal) => Err(refusal),
     }
-}
-
-/// The number that these four octets spell.
-#[tactic(auto, unfolding(crate::specs::Words::word))]
-fn word_of(bytes: &[u8]) -> u32
-    requires { length bytes.now ≡ 4 }
-    ensures { word result ≡ bytes.now }
-{
-    u32::from_be_bytes([bytes[0], bytes[1], bytes[2], bytes[3]])
 }
 
 /// Reads so many octets behind those that are there; false where the input ended before.

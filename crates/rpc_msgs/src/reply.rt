@@ -1,7 +1,7 @@
 //! Replies, RFC 5531 section 9.
 
 ghost use Rattle.std.specs.Prelude.{◌≡◌, ◌≤◌, ◌++◌, length, IfOk, OnOk};
-ghost use Rattle.rpc_msgs.specs.Replies.{reply_octets, IsReply, accepted_head, accepted_body, mismatch_octets, auth_error_octets};
+ghost use Rattle.rpc_msgs.specs.Replies.{reply_value, reply_octets, IsReply, accepted_head, accepted_body, mismatch_octets, auth_error_octets};
 ghost use Rattle.rpc_msgs.specs.Words.{word};
 
 use crate::xdr_writer::XdrWriter;
@@ -36,8 +36,8 @@ pub enum Reply<'a> {
 
 /// The octets of a reply.
 pub fn write_reply(alloc: Global, v: &Reply<'_>) -> Result<Octets, NoMemory>
-    requires { IsReply v.now }
-    ensures { IfOk result (λ octets. octets ≡ reply_octets v.now) }
+    requires { IsReply (reply_value v.now) }
+    ensures octets { IfOk result (λ octets. octets ≡ reply_octets (reply_value v.now)) }
 {
     match *v {
         Reply::Accepted {
