@@ -1,10 +1,10 @@
 -- Reading XDR values from the front of octets, RFC 4506, with the first fault that is met.
-use Rattle.std.specs.Prelude.{◌≡◌, ℕ, zero, suc, ◌-◌, ◌==◌, nat_lt, if◌then◌else◌, List, [], ◌∷◌, length, take, drop, Result, Ok, Err}
+use Rattle.std.specs.Prelude.{◌≡◌, ◌≢◌, ℕ, zero, suc, ◌-◌, ◌==◌, nat_lt, if◌then◌else◌, List, [], ◌∷◌, length, take, drop, Result, Ok, Err}
 use Rattle.std.specs.Int.{w32, from_be_bytes}
 use Rattle.rpc_msgs.specs.Words.{padding_length}
 use Rattle.rpc_msgs.specs.declared.xdr_reader.XdrRefusal.{XdrRefusal}
 use Rattle.rpc_msgs.specs.declared.xdr_reader.XdrWhy.{XdrWhy}
-use Rattle.rpc_msgs.specs.declared.xdr_reader.XdrWhy.TheVariants.{Short, TooLong, Padding}
+use Rattle.rpc_msgs.specs.declared.xdr_reader.XdrWhy.TheVariants.{Short, TooLong, Padding, NoMemory}
 
 -- the octets that are left, and the place behind the last of them
 pub record Input : Type 0 where
@@ -72,3 +72,8 @@ Answers view (Err e) answer = answer ≡ Err e
 abbrev pub Reads : {A B E : Type 0} → (A → B) → Input → Result A E → Result (B × Input) E → Type 0
 Reads view left (Ok x) answer = answer ≡ Ok (view x, left)
 Reads view left (Err e) answer = answer ≡ Err e
+
+-- the answer of a reading that takes memory: want of it may come instead
+abbrev pub MayAnswer : {A B : Type 0} → (A → B) → Result A XdrRefusal → Result B XdrRefusal → Type 0
+MayAnswer view (Ok x) answer = answer ≡ Ok (view x)
+MayAnswer view (Err e) answer = e.why ≢ NoMemory → answer ≡ Err e

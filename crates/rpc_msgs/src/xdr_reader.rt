@@ -5,6 +5,7 @@ ghost use Rattle.std.specs.Int.{w32, from_be_bytes};
 ghost use Rattle.rpc_msgs.specs.Words.{word, padding_length};
 ghost use Rattle.rpc_msgs.specs.Xdr.{Input, whole, place, octets_at, word_at, zeros_in, opaque_at, end_at, Answers, Reads};
 
+use sec_base::NoMemory;
 use std::marker::Model;
 
 /// What is wrong with octets.
@@ -16,6 +17,8 @@ pub enum XdrWhy {
     TooLong,
     /// An octet of the padding isn't zero.
     Padding,
+    /// No memory was to be had; its place is 0. No call that takes no memory answers it.
+    NoMemory,
 }
 
 /// A refusal: why, and the place of what is wrong, counted from the first octet.
@@ -23,6 +26,20 @@ pub enum XdrWhy {
 pub struct XdrRefusal {
     pub at: usize,
     pub why: XdrWhy,
+}
+
+impl From<NoMemory> for XdrRefusal {
+    ghost use Rattle.std.specs.Prelude.{◌≡◌};
+    ghost use Rattle.rpc_msgs.specs.declared.xdr_reader.XdrWhy.{XdrWhy};
+
+    ghost from_gives = { λ _ e. e.why ≡ XdrWhy.NoMemory };
+
+    fn from(_error: NoMemory) -> XdrRefusal {
+        XdrRefusal {
+            at: 0,
+            why: XdrWhy::NoMemory,
+        }
+    }
 }
 
 /// Reads XDR values from the front of octets. Contracts see the octets that are left and the place behind the last of them. What is read
