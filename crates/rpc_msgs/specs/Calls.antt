@@ -1,8 +1,7 @@
 -- Calls of ONC RPC, RFC 5531 section 9.
-use Rattle.std.specs.Prelude.{◌≡◌, ℕ, ◌==◌, ◌<◌, ◌≤◌, ◌^◌, if◌then◌else◌, List, ◌++◌, length, Result, Ok, Err}
-use Rattle.rpc_msgs.specs.Words.{word, opaque}
-use Rattle.rpc_msgs.specs.Xdr.{Input, whole, place, ◌>>=◌, word_at, opaque_at}
-use Rattle.rpc_msgs.specs.declared.auth.Auth.{Auth}
+use Rattle.std.specs.Prelude.{◌≡◌, ℕ, ◌==◌, ◌<◌, ◌^◌, if◌then◌else◌, List, ◌++◌, length, Result, Ok, Err}
+use Rattle.rpc_msgs.specs.Words.{word}
+use Rattle.rpc_msgs.specs.Xdr.{Input, whole, place, ◌>>=◌, word_at}
 use Rattle.rpc_msgs.specs.declared.call.Call.{Call}
 use Rattle.rpc_msgs.specs.declared.call.CallRefusal.{CallRefusal}
 use Rattle.rpc_msgs.specs.declared.call.CallRefusal.TheVariants.{Unreadable, NotCall, RpcVersion}

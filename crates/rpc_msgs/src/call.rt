@@ -1,7 +1,7 @@
 //! Calls, RFC 5531 section 9.
 
-ghost use Rattle.std.specs.Prelude.{◌≡◌, ◌≤◌, ◌++◌, length, OnOk, IfOk};
-ghost use Rattle.rpc_msgs.specs.Calls.{call_octets, secure_call, header_octets, call_value, call_word_at, version_at, xid_at, rest_at, call_at};
+ghost use Rattle.std.specs.Prelude.{◌≡◌, ◌≤◌, ◌++◌, length, OnOk, IfOk, Ok};
+ghost use Rattle.rpc_msgs.specs.Calls.{CallValue, IsCall, call_octets, secure_call, header_octets, call_value, call_word_at, version_at, xid_at, rest_at, call_at};
 ghost use Rattle.rpc_msgs.specs.Xdr.{Answers, Reads};
 
 use crate::auth::{Auth, put_auth, read_auth};
@@ -44,6 +44,9 @@ pub enum CallRefusal {
 /// Reads a call. The kind is judged before the RPC version is read, and that before the rest.
 pub fn read_call(bytes: &[u8]) -> Result<Call<'_>, CallRefusal>
     ensures exact { Answers call_value result (call_at bytes.now) }
+    // What is read is spelled so, and what is spelled so is read.
+    ensures spelled { IfOk result (λ call. IsCall (call_value call) × (bytes.now ≡ call_octets (call_value call))) }
+    ensures only { (call : CallValue) → IsCall call → bytes.now ≡ call_octets call → Answers call_value result (Ok call) }
 {
     call_in(bytes)
 }
@@ -135,6 +138,8 @@ pub fn write_call(
     requires cred { length cred.now ≤ 400 }
     requires verf { length verf.now ≤ 400 }
     ensures octets { let call = secure_call xid program version procedure cred.now (record { flavour = verf_flavour; body = verf.now }) args.now in IfOk result (λ octets. octets ≡ call_octets call) }
+    // It is read as that call.
+    ensures again { let call = secure_call xid program version procedure cred.now (record { flavour = verf_flavour; body = verf.now }) args.now in IfOk result (λ octets. call_at octets ≡ Ok call) }
 {
     let mut out = XdrWriter::new(alloc);
     put_header(&mut out, xid, program, version, procedure, cred)?;

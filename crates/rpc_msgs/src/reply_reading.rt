@@ -1,7 +1,8 @@
 //! Reading replies, RFC 5531 section 9.
 
+ghost use Rattle.std.specs.Prelude.{◌≡◌, IfOk, Ok};
 ghost use Rattle.rpc_msgs.specs.Auths.{auth_value};
-ghost use Rattle.rpc_msgs.specs.Replies.{reply_value};
+ghost use Rattle.rpc_msgs.specs.Replies.{ReplyValue, reply_value, reply_octets, IsReply, HasWords};
 ghost use Rattle.rpc_msgs.specs.ReplyReading.{reply_word_at, reply_auth_at, due_at, done_at, range_at, body_at, accepted_at, mismatch_at, auth_error_at, denied_at, state_at, reply_at};
 ghost use Rattle.rpc_msgs.specs.Xdr.{Answers, Reads};
 
@@ -18,6 +19,9 @@ pub struct ReplyRefusal {
 /// Reads a reply. A word that has none of the values that are due is refused at that word, an octet that is left over at that octet.
 pub fn read_reply(bytes: &[u8]) -> Result<Reply<'_>, ReplyRefusal>
     ensures exact { Answers reply_value result (reply_at bytes.now) }
+    // What is read is spelled so, and what is spelled so is read.
+    ensures spelled { IfOk result (λ reply. IsReply (reply_value reply) × HasWords (reply_value reply) × (bytes.now ≡ reply_octets (reply_value reply))) }
+    ensures only { (reply : ReplyValue) → IsReply reply → HasWords reply → bytes.now ≡ reply_octets reply → Answers reply_value result (Ok reply) }
 {
     reply_in(bytes)
 }

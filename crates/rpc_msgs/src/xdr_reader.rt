@@ -1,8 +1,8 @@
 //! Reading XDR, RFC 4506.
 
-ghost use Rattle.std.specs.Prelude.{◌≡◌, ◌≤◌, length, IfOk, OnErr};
+ghost use Rattle.std.specs.Prelude.{◌≡◌, ◌≤◌, ◌++◌, length, IfOk, OnErr};
 ghost use Rattle.std.specs.Int.{w32, from_be_bytes};
-ghost use Rattle.rpc_msgs.specs.Words.{word, padding_length};
+ghost use Rattle.rpc_msgs.specs.Words.{word, opaque, padding_length};
 ghost use Rattle.rpc_msgs.specs.Xdr.{Input, whole, place, octets_at, word_at, zeros_in, opaque_at, end_at, Answers, Reads};
 
 use sec_base::NoMemory;
@@ -88,6 +88,7 @@ impl<'a> XdrReader<'a> {
     pub fn word(&mut self) -> Result<u32, XdrRefusal>
         ensures read { Reads (λ v. v) self.new result (word_at self.old) }
         ensures unmoved { OnErr result (self.new ≡ self.old) }
+        ensures spelled { IfOk result (λ v. self.old.octets ≡ word v ++ self.new.octets) }
     {
         let (number, left) = word_in(self.left, self.end)?;
         self.left = left;
@@ -98,6 +99,7 @@ impl<'a> XdrReader<'a> {
     pub fn opaque(&mut self, limit: u32) -> Result<&'a [u8], XdrRefusal>
         ensures read { Reads (λ v. v.now) self.new result (opaque_at limit self.old) }
         ensures unmoved { OnErr result (self.new ≡ self.old) }
+        ensures spelled { IfOk result (λ v. (length v.now ≤ limit) × (self.old.octets ≡ opaque v.now ++ self.new.octets)) }
     {
         let (octets, left) = opaque_in(self.left, self.end, limit)?;
         self.left = left;
@@ -139,6 +141,7 @@ fn octets_in(left: &[u8], end: usize, size: usize) -> Result<(&[u8], &[u8]), Xdr
 #[tactic(auto, unfolding(crate::specs::Xdr::word_at))]
 fn word_in(left: &[u8], end: usize) -> Result<(u32, &[u8]), XdrRefusal>
     ensures read { Answers (λ x. (x.0, record { octets = x.1.now; end = end })) result (word_at (record { octets = left.now; end = end })) }
+    ensures spelled { IfOk result (λ x. left.now ≡ word x.0 ++ x.1.now) }
     ensures less { IfOk result (λ x. length x.1.now ≤ length left.now) }
 {
     let (octets, left) = octets_in(left, end, 4)?;
@@ -183,6 +186,7 @@ fn zeros_of(left: &[u8], end: usize, count: usize) -> Result<&[u8], XdrRefusal>
 fn opaque_in(left: &[u8], end: usize, limit: u32) -> Result<(&[u8], &[u8]), XdrRefusal>
     requires { length left.now ≤ end }
     ensures read { Answers (λ x. (x.0.now, record { octets = x.1.now; end = end })) result (opaque_at limit (record { octets = left.now; end = end })) }
+    ensures spelled { IfOk result (λ x. (length x.0.now ≤ limit) × (left.now ≡ opaque x.0.now ++ x.1.now)) }
     ensures less { IfOk result (λ x. length x.1.now ≤ length left.now) }
 {
     let (size, behind) = word_in(left, end)?;
