@@ -1,6 +1,6 @@
 //! Records of a stream, RFC 5531 section 11.
 
-ghost use Rattle.std.specs.Prelude.{◌≡◌, ◌+◌, ◌^◌, ◌<◌, ◌≤◌, true, false, length, vec_len, IsTrue, Ok, OnOk, IfOk, OnErr, IsErrOf};
+ghost use Rattle.std.specs.Prelude.{◌≡◌, ◌+◌, ◌^◌, ◌<◌, ◌≤◌, true, false, length, take, vec_len, IsTrue, Ok, OnOk, IfOk, OnErr, IsErrOf};
 ghost use Rattle.sec_base.specs.Answers.{Rose};
 ghost use Rattle.rpc_msgs.specs.Fragments.{TakesFragment, TakesContent, TakesPiece};
 ghost use Rattle.rpc_msgs.specs.Records.{TakesRecord, last_fragment};
@@ -26,6 +26,9 @@ const PIECE: usize = 8192;
 
 /// Few octets are read through a smaller buffer, which is filled with zeros first.
 const SMALL_PIECE: usize = 256;
+
+/// A record of so few octets is written at once.
+const SMALL_RECORD: usize = 252;
 
 /// Why no record was read.
 #[derive(Clone, Copy, Debug, PartialEq, Eq)]
@@ -199,10 +202,38 @@ pub fn write_record<L: Link>(link: &mut L, bytes: &[u8]) -> Result<(), LinkFault
     ensures fault { OnErr result (Rose (L.faults link.old) (L.faults link.new)) }
     ensures faults { L.faults link.old ≤ L.faults link.new }
 {
+    if bytes.len() <= SMALL_RECORD {
+        return write_at_once(link, bytes);
+    }
     match send(link, &header_of(bytes.len())) {
         Ok(()) => send(link, bytes),
         Err(fault) => Err(fault),
     }
+}
+
+/// Writes a record of few octets together with its header.
+fn write_at_once<L: Link>(link: &mut L, bytes: &[u8]) -> Result<(), LinkFault>
+    requires unclosed { L.closed link.old ≡ false }
+    requires few { length bytes.now ≤ 252 }
+    ensures told { IsTrue (L.tells link.old) → Sends (L.wire link.old) (L.wire link.new) result (last_fragment bytes.now) }
+    ensures tells { L.tells link.new ≡ L.tells link.old }
+    ensures unclosed { L.closed link.new ≡ false }
+    ensures fault { OnErr result (Rose (L.faults link.old) (L.faults link.new)) }
+    ensures faults { L.faults link.old ≤ L.faults link.new }
+{
+    let mut cells = [0; 256];
+    frame(&mut cells, bytes);
+    send(link, &cells[..4 + bytes.len()])
+}
+
+/// Puts a record of few octets and its header to the front.
+fn frame(cells: &mut [u8], bytes: &[u8])
+    requires few { length bytes.now ≤ 252 }
+    requires room { length cells.old ≡ 256 }
+    ensures { take (4 + length bytes.now) cells.new ≡ last_fragment bytes.now }
+{
+    cells[..4].copy_from_slice(&header_of(bytes.len()));
+    cells[4..4 + bytes.len()].copy_from_slice(bytes);
 }
 
 /// The header of a last fragment of so many octets.
