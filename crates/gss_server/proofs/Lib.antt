@@ -2,7 +2,7 @@ pub mod KeptInARow
 pub mod OneReading
 pub mod Turning
 pub mod Replying
-pub mod ReplyLengths
 pub mod Saying
 pub mod ServedLinks
 pub mod Words
+pub mod ReplyLengths

@@ -3,14 +3,15 @@ use Rattle.std.proofs.Common.{◌≡◌, ◌++◌, ◌∷◌, [], inr, ℕ, List
 use Rattle.sec_base.specs.Link.{Wire}
 use Rattle.gss_server.specs.declared.answer.Kept.{Kept}
 use Rattle.gss_server.specs.declared.connection.ConnEnd.{ConnEnd}
-use Rattle.gss_server.specs.declared.connection.ConnEnd.TheVariants.{Ended, LinkFault, NotBuilt, Torn, Budget, NoMemory}
+use Rattle.gss_server.specs.declared.connection.ConnEnd.TheVariants.{Ended, LinkFault, TooLong, TooManyFragments, Torn, Budget, NoMemory}
 use Rattle.gss_server.specs.Connections.{written_for}
 use Rattle.gss_server.specs.Turns.{Responds, Replies}
 
 pub replied : (a b : Wire) (before after : List Kept) (octets : List ℕ) (ending : ConnEnd) (one : Kept) → after ≡ before ++ one ∷ [] → Responds {T = Unit {0}} a b (written_for octets one) (Err ending) → Replies a b octets before after (Some ending)
 replied a b before after octets Ended one e p = absurd p
 replied a b before after octets LinkFault one e p = (one, p.0, record { kept = e; put = p.1 })
-replied a b before after octets NotBuilt one e p = absurd p
+replied a b before after octets TooLong one e p = absurd p
+replied a b before after octets TooManyFragments one e p = absurd p
 replied a b before after octets Torn one e p = absurd p
 replied a b before after octets Budget one e p = absurd p
 replied a b before after octets NoMemory one e p = inr (one, p.0, record { kept = e; put = p.1 })

@@ -1,18 +1,18 @@
 -- Turn after turn of a connection.
-use Rattle.std.proofs.Common.{◌≡◌, inl, inr, ℕ, ◌+◌, ◌<◌, List, [], ◌∷◌, ◌++◌, length, take, refl, ap, sym, ◌∙◌, arith, append_assoc, Option, Some, None}
+use Rattle.std.proofs.Common.{◌≡◌, inl, inr, lit<, lit≤, subst, ℕ, ◌+◌, ◌<◌, List, [], ◌∷◌, ◌++◌, length, take, refl, ap, sym, ◌∙◌, arith, append_assoc, Option, Some, None}
 use Rattle.std.specs.List.{AllByRecursion}
 use Rattle.std.proofs.Math.Seq.{take-append-add, take-length}
 use Rattle.std.proofs.lemmas.Grind.{common_steps, flat_map-append}
 use Rattle.std.proofs.lemmas.List.{length-append, append-nil}
 use Rattle.sec_base.specs.Link.{Wire}
-use Rattle.rpc_msgs.specs.Records.{IsRecord, frame}
+use Rattle.rpc_msgs.specs.Records.{Fragments, octets_in, frame, IsRecord, IsFront}
 use Rattle.rpc_msgs.specs.Streams.{Took, Put}
 use Rattle.gss_server.specs.declared.answer.Kept.{Kept}
 use Rattle.gss_server.specs.declared.connection.ConnEnd.{ConnEnd}
-use Rattle.gss_server.specs.declared.connection.ConnEnd.TheVariants.{Ended, LinkFault, NotBuilt, Torn, Budget, NoMemory}
-use Rattle.gss_server.specs.Connections.{Went, octets_of, written_for, written_in, IsServed}
+use Rattle.gss_server.specs.declared.connection.ConnEnd.TheVariants.{Ended, LinkFault, TooLong, TooManyFragments, Torn, Budget, NoMemory}
+use Rattle.gss_server.specs.Connections.{Went, octets_of, written_for, written_in, HasCause, IsWritten, IsCounted, IsServed}
 use Rattle.gss_server.specs.Serving.{Serving}
-use Rattle.gss_server.specs.Turns.{Replies, Turns, Serves, Stops}
+use Rattle.gss_server.specs.Turns.{Replies, Turns, Serves, ServesInPart, Stops}
 
 pub went-took : {a b : Wire} {xs : List ℕ} → Took a b xs → Went a b xs []
 went-took {a} {b} {xs} t = record {
@@ -46,37 +46,38 @@ went-same {a} {b} w e f = record {
 }
 
 -- a record was read and then answered
-pub turned : {a b : Wire} (c : Wire) (before after : List Kept) (octets : List ℕ) (result : Option ConnEnd) → IsRecord octets → Took a b (frame octets) → Replies b c octets before after result → Turns a c before after result
-turned c before after octets None r t p = (octets, p.0, record { is_record = r; kept = p.1.kept; went = went-put t p.1.put })
-turned c before after octets (Some Ended) r t p = absurd p
-turned c before after octets (Some LinkFault) r t p = inr (octets, p.0, p.1, record { is_record = r; kept = p.2.kept; went = went-put t p.2.put })
-turned c before after octets (Some NotBuilt) r t p = absurd p
-turned c before after octets (Some Torn) r t p = absurd p
-turned c before after octets (Some Budget) r t p = absurd p
-turned c before after octets (Some NoMemory) r t (inl p) = inl (octets, r, record { kept = p.0; went = went-put t p.1 })
-turned c before after octets (Some NoMemory) r t (inr p) = inr (octets, p.0, p.1, record { is_record = r; kept = p.2.kept; went = went-put t p.2.put })
+pub turned : {a b : Wire} (c : Wire) (before after : List Kept) (cut : Fragments) (result : Option ConnEnd) → IsRecord cut → Took a b (frame cut) → Replies b c (octets_in cut) before after result → Turns a c before after result
+turned c before after cut None r t p = (cut, p.0, record { is_record = r; kept = p.1.kept; went = went-put t p.1.put })
+turned c before after cut (Some Ended) r t p = absurd p
+turned c before after cut (Some LinkFault) r t p = inr (cut, p.0, p.1, record { is_record = r; kept = p.2.kept; went = went-put t p.2.put })
+turned c before after cut (Some TooLong) r t p = absurd p
+turned c before after cut (Some TooManyFragments) r t p = absurd p
+turned c before after cut (Some Torn) r t p = absurd p
+turned c before after cut (Some Budget) r t p = absurd p
+turned c before after cut (Some NoMemory) r t (inl p) = inl (frame cut, inr (record { cut = cut; is_record = r; spelled = refl }), record { kept = p.0; went = went-put t p.1 })
+turned c before after cut (Some NoMemory) r t (inr p) = inr (cut, p.0, p.1, record { is_record = r; kept = p.2.kept; went = went-put t p.2.put })
 
-each-push : (records : List (List ℕ)) (octets : List ℕ) → AllByRecursion IsRecord records → IsRecord octets → AllByRecursion IsRecord (records ++ octets ∷ [])
-each-push [] octets all r = (r, tt)
-each-push (x ∷ records) octets all r = (all.0, each-push records octets all.1 r)
+each-push : (records : List Fragments) (cut : Fragments) → AllByRecursion IsRecord records → IsRecord cut → AllByRecursion IsRecord (records ++ cut ∷ [])
+each-push [] cut all r = (r, tt)
+each-push (x ∷ records) cut all r = (all.0, each-push records cut all.1 r)
 
-octets_of-push : (records : List (List ℕ)) (octets : List ℕ) → octets_of records ++ frame octets ≡ octets_of (records ++ octets ∷ [])
-octets_of-push records octets =
-    ap (λ (zs : List ℕ). octets_of records ++ zs) (sym (append-nil (frame octets))) ∙ sym (flat_map-append frame records (octets ∷ []))
+octets_of-push : (records : List Fragments) (cut : Fragments) → octets_of records ++ frame cut ≡ octets_of (records ++ cut ∷ [])
+octets_of-push records cut =
+    ap (λ (zs : List ℕ). octets_of records ++ zs) (sym (append-nil (frame cut))) ∙ sym (flat_map-append frame records (cut ∷ []))
 
-written-push : (records : List (List ℕ)) (kept : List Kept) (octets : List ℕ) (one : Kept) → length records ≡ length kept → written_in (records ++ octets ∷ []) (kept ++ one ∷ []) ≡ written_in records kept ++ written_for octets one
-written-push [] [] octets one e = append-nil (written_for octets one)
-written-push [] (k ∷ kept) octets one e = absurd (omega arith)
-written-push (x ∷ records) [] octets one e = absurd (omega arith)
-written-push (x ∷ records) (k ∷ kept) octets one e =
-    ap (λ (zs : List ℕ). written_for x k ++ zs) (written-push records kept octets one (omega arith)) ∙ sym (append_assoc (written_for x k) (written_in records kept) (written_for octets one))
+written-push : (records : List Fragments) (kept : List Kept) (cut : Fragments) (one : Kept) → length records ≡ length kept → written_in (records ++ cut ∷ []) (kept ++ one ∷ []) ≡ written_in records kept ++ written_for (octets_in cut) one
+written-push [] [] cut one e = append-nil (written_for (octets_in cut) one)
+written-push [] (k ∷ kept) cut one e = absurd (omega arith)
+written-push (x ∷ records) [] cut one e = absurd (omega arith)
+written-push (x ∷ records) (k ∷ kept) cut one e =
+    ap (λ (zs : List ℕ). written_for (octets_in x) k ++ zs) (written-push records kept cut one (omega arith)) ∙ sym (append_assoc (written_for (octets_in x) k) (written_in records kept) (written_for (octets_in cut) one))
 
 -- a record without a kept answer has nothing written
-written-past : (records : List (List ℕ)) (kept : List Kept) (octets : List ℕ) → length records ≡ length kept → written_in (records ++ octets ∷ []) kept ≡ written_in records kept
-written-past [] [] octets e = refl
-written-past [] (k ∷ kept) octets e = absurd (omega arith)
-written-past (x ∷ records) [] octets e = absurd (omega arith)
-written-past (x ∷ records) (k ∷ kept) octets e = ap (λ (zs : List ℕ). written_for x k ++ zs) (written-past records kept octets (omega arith))
+written-past : (records : List Fragments) (kept : List Kept) (cut : Fragments) → length records ≡ length kept → written_in (records ++ cut ∷ []) kept ≡ written_in records kept
+written-past [] [] cut e = refl
+written-past [] (k ∷ kept) cut e = absurd (omega arith)
+written-past (x ∷ records) [] cut e = absurd (omega arith)
+written-past (x ∷ records) (k ∷ kept) cut e = ap (λ (zs : List ℕ). written_for (octets_in x) k ++ zs) (written-past records kept cut (omega arith))
 
 -- nothing was read
 pub serving-none : (w : Wire) → Serving w w [] 0
@@ -90,15 +91,15 @@ serving-none w = record {
 
 pub serving-more : {a b c : Wire} {before : List Kept} (after : List Kept) (n : ℕ) → Serving a b before n → Turns b c before after None → Serving a c after (n + 1)
 serving-more {before = before} after n s t =
-    let octets = t.0 in
+    let cut = t.0 in
     let one = t.1 in
-    let counts : length (s.records ++ octets ∷ []) ≡ length s.records + 1 = length-append s.records (octets ∷ []) in
+    let counts : length (s.records ++ cut ∷ []) ≡ length s.records + 1 = length-append s.records (cut ∷ []) in
     let keeps : length (before ++ one ∷ []) ≡ length before + 1 = length-append before (one ∷ []) in
     record {
-      records = s.records ++ octets ∷ [];
-      each = each-push s.records octets s.each t.2.is_record;
-      went = went-same (went-again s.went t.2.went) (octets_of-push s.records octets)
-          (sym (written-push s.records before octets one s.counted) ∙ ap (λ (ks : List Kept). written_in (s.records ++ octets ∷ []) ks) (sym t.2.kept));
+      records = s.records ++ cut ∷ [];
+      each = each-push s.records cut s.each t.2.is_record;
+      went = went-same (went-again s.went t.2.went) (octets_of-push s.records cut)
+          (sym (written-push s.records before cut one s.counted) ∙ ap (λ (ks : List Kept). written_in (s.records ++ cut ∷ []) ks) (sym t.2.kept));
       count = omega (arith, s.count);
       counted = counts ∙ (ap (λ (k : ℕ). k + 1) s.counted ∙ (sym keeps ∙ ap (length {A = Kept}) (sym t.2.kept)));
     }
@@ -113,97 +114,78 @@ stop-counted : {a b c : Wire} {before : List Kept} (after : List Kept) {n : ℕ}
 stop-counted after s t = s.counted ∙ ap (length {A = Kept}) (sym t.kept)
 
 -- a record was answered, and a front of what is due to it was written
-part-went : {a b c : Wire} {before : List Kept} (after : List Kept) {n : ℕ} (count : ℕ) {octets : List ℕ} {one : Kept} (s : Serving a b before n) → Serves b c before after octets one (take count (written_for octets one)) → Went a c (octets_of (s.records ++ octets ∷ []) ++ []) (written_in s.records before ++ take count (written_for octets one))
-part-went after count {octets = octets} s t = went-same (went-again s.went t.went) (octets_of-push s.records octets ∙ sym (append-nil _)) refl
+part-went : {a b c : Wire} {before : List Kept} (after : List Kept) {n : ℕ} (count : ℕ) {cut : Fragments} {one : Kept} (s : Serving a b before n) → Serves b c before after cut one (take count (written_for (octets_in cut) one)) → Went a c (octets_of (s.records ++ cut ∷ []) ++ []) (written_in s.records before ++ take count (written_for (octets_in cut) one))
+part-went after count {cut = cut} s t = went-same (went-again s.went t.went) (octets_of-push s.records cut ∙ sym (append-nil _)) refl
 
-part-written : {a b c : Wire} {before : List Kept} (after : List Kept) {n : ℕ} (count : ℕ) {octets : List ℕ} {one : Kept} (s : Serving a b before n) → Serves b c before after octets one (take count (written_for octets one)) → (m : ℕ) × (written_in s.records before ++ take count (written_for octets one) ≡ take m (written_in (s.records ++ octets ∷ []) after))
-part-written {before = before} after count {octets = octets} {one = one} s t = (
+part-written : {a b c : Wire} {before : List Kept} (after : List Kept) {n : ℕ} (count : ℕ) {cut : Fragments} {one : Kept} (s : Serving a b before n) → Serves b c before after cut one (take count (written_for (octets_in cut) one)) → (m : ℕ) × (written_in s.records before ++ take count (written_for (octets_in cut) one) ≡ take m (written_in (s.records ++ cut ∷ []) after))
+part-written {before = before} after count {cut = cut} {one = one} s t = (
   length (written_in s.records before) + count,
-  sym (take-append-add (written_in s.records before) (written_for octets one) count)
-      ∙ (ap (λ (zs : List ℕ). take (length (written_in s.records before) + count) zs) (sym (written-push s.records before octets one s.counted))
-      ∙ ap (λ (ks : List Kept). take (length (written_in s.records before) + count) (written_in (s.records ++ octets ∷ []) ks)) (sym t.kept)),
+  sym (take-append-add (written_in s.records before) (written_for (octets_in cut) one) count)
+      ∙ (ap (λ (zs : List ℕ). take (length (written_in s.records before) + count) zs) (sym (written-push s.records before cut one s.counted))
+      ∙ ap (λ (ks : List Kept). take (length (written_in s.records before) + count) (written_in (s.records ++ cut ∷ []) ks)) (sym t.kept)),
 )
 
-part-counted : {a b c : Wire} {before : List Kept} (after : List Kept) {n : ℕ} {octets wrote : List ℕ} {one : Kept} (s : Serving a b before n) → Serves b c before after octets one wrote → length (s.records ++ octets ∷ []) ≡ length after
-part-counted {before = before} after {octets = octets} {one = one} s t =
-    length-append s.records (octets ∷ []) ∙ (ap (λ (k : ℕ). k + 1) s.counted ∙ (sym (length-append before (one ∷ [])) ∙ ap (length {A = Kept}) (sym t.kept)))
+part-counted : {a b c : Wire} {before : List Kept} (after : List Kept) {n : ℕ} {cut : Fragments} {wrote : List ℕ} {one : Kept} (s : Serving a b before n) → Serves b c before after cut one wrote → length (s.records ++ cut ∷ []) ≡ length after
+part-counted {before = before} after {cut = cut} {one = one} s t =
+    length-append s.records (cut ∷ []) ∙ (ap (λ (k : ℕ). k + 1) s.counted ∙ (sym (length-append before (one ∷ [])) ∙ ap (length {A = Kept}) (sym t.kept)))
 
-pub serving-stop : {a b c : Wire} {before : List Kept} (after : List Kept) {n : ℕ} → Serving a b before n → n < 65536 → (ending : ConnEnd) → Turns b c before after (Some ending) → IsServed a c after ending
-serving-stop after s h Ended t = record {
+no-front : IsFront []
+no-front = record { earlier = []; part = []; few = lit≤ tt; size = lit≤ tt; partial = inl (lit< tt); spelled = refl }
+
+-- the connection ended with these octets behind its whole records
+stopped : {a b c : Wire} {before : List Kept} (after : List Kept) {n : ℕ} {octets : List ℕ} (s : Serving a b before n) → Stops b c before after octets → (ending : ConnEnd) → HasCause ending octets c.coming (length s.records) → IsWritten ending (written_in s.records after) (written_in s.records after) → IsCounted ending (length s.records) (length after) → IsServed a c after ending
+stopped after {octets = octets} s t ending cause replies counted = record {
   records = s.records;
-  rest = [];
+  rest = octets;
   wrote = written_in s.records after;
   each = s.each;
-  went = stop-went after s t.0;
-  cause = (refl, t.1, omega (arith, s.count));
-  replies = refl;
-  counted = stop-counted after s t.0;
+  went = stop-went after s t;
+  cause = cause;
+  replies = replies;
+  counted = counted;
 }
-serving-stop after s h LinkFault (inl t) = record {
-  records = s.records;
-  rest = t.0;
-  wrote = written_in s.records after;
-  each = s.each;
-  went = stop-went after s t.1;
-  cause = tt;
-  replies = front-whole (written_in s.records after);
-  counted = stop-counted after s t.1;
-}
-serving-stop {before = before} after s h LinkFault (inr t) = record {
+
+-- the connection ended while the reply to its last record was written
+broken : {a b c : Wire} {before : List Kept} (after : List Kept) {n : ℕ} (s : Serving a b before n) → ServesInPart b c before after → (ending : ConnEnd) → ((coming : List ℕ) (count : ℕ) → HasCause ending [] coming count) → ((due wrote : List ℕ) → (m : ℕ) × (wrote ≡ take m due) → IsWritten ending due wrote) → ((k : ℕ) → IsCounted ending k k) → IsServed a c after ending
+broken {c = c} {before = before} after s t ending cause written counted = record {
   records = s.records ++ t.0 ∷ [];
   rest = [];
-  wrote = written_in s.records before ++ take t.2 (written_for t.0 t.1);
+  wrote = written_in s.records before ++ take t.2 (written_for (octets_in t.0) t.1);
   each = each-push s.records t.0 s.each t.3.is_record;
   went = part-went after t.2 s t.3;
-  cause = tt;
-  replies = part-written after t.2 s t.3;
-  counted = part-counted after s t.3;
+  cause = cause c.coming (length (s.records ++ t.0 ∷ []));
+  replies = written _ _ (part-written after t.2 s t.3);
+  counted = subst (λ (k : ℕ). IsCounted ending (length (s.records ++ t.0 ∷ [])) k) (part-counted after s t.3) (counted (length (s.records ++ t.0 ∷ [])));
 }
-serving-stop after s h NotBuilt t = record {
-  records = s.records;
-  rest = t.0;
-  wrote = written_in s.records after;
-  each = s.each;
-  went = stop-went after s t.2;
-  cause = (t.1, omega (arith, s.count));
-  replies = refl;
-  counted = stop-counted after s t.2;
-}
-serving-stop after s h Torn t = record {
-  records = s.records;
-  rest = t.0;
-  wrote = written_in s.records after;
-  each = s.each;
-  went = stop-went after s t.2;
-  cause = (t.1, t.3, omega (arith, s.count));
-  replies = refl;
-  counted = stop-counted after s t.2;
-}
-serving-stop after s h Budget t = absurd t
-serving-stop {before = before} after s h NoMemory (inl t) = record {
-  records = s.records ++ t.0 ∷ [];
+
+-- a record was read for whose answer there was no memory
+unkept : {a b c : Wire} {before : List Kept} (after : List Kept) {n : ℕ} (cut : Fragments) (octets : List ℕ) (s : Serving a b before n) → IsRecord cut → octets ≡ frame cut → Stops b c before after octets → IsServed a c after NoMemory
+unkept {before = before} after cut octets s r e t = record {
+  records = s.records ++ cut ∷ [];
   rest = [];
   wrote = written_in s.records before;
-  each = each-push s.records t.0 s.each t.1;
-  went = went-same (went-again s.went t.2.went) (octets_of-push s.records t.0 ∙ sym (append-nil _)) (append-nil _);
-  cause = tt;
+  each = each-push s.records cut s.each r;
+  went = went-same (went-again s.went t.went) (ap (λ (zs : List ℕ). octets_of s.records ++ zs) e ∙ (octets_of-push s.records cut ∙ sym (append-nil _))) (append-nil _);
+  cause = no-front;
   replies = (
     length (written_in s.records before),
-    sym (take-length (written_in s.records before)) ∙ (ap (λ (zs : List ℕ). take (length (written_in s.records before)) zs) (sym (written-past s.records before t.0 s.counted))
-        ∙ ap (λ (ks : List Kept). take (length (written_in s.records before)) (written_in (s.records ++ t.0 ∷ []) ks)) (sym t.2.kept)),
+    sym (take-length (written_in s.records before)) ∙ (ap (λ (zs : List ℕ). take (length (written_in s.records before)) zs) (sym (written-past s.records before cut s.counted))
+        ∙ ap (λ (ks : List Kept). take (length (written_in s.records before)) (written_in (s.records ++ cut ∷ []) ks)) (sym t.kept)),
   );
-  counted = inr (length-append s.records (t.0 ∷ []) ∙ ap (λ (k : ℕ). k + 1) (stop-counted after s t.2));
+  counted = inr (length-append s.records (cut ∷ []) ∙ ap (λ (k : ℕ). k + 1) (stop-counted after s t));
 }
-serving-stop {before = before} after s h NoMemory (inr t) = record {
-  records = s.records ++ t.0 ∷ [];
-  rest = [];
-  wrote = written_in s.records before ++ take t.2 (written_for t.0 t.1);
-  each = each-push s.records t.0 s.each t.3.is_record;
-  went = part-went after t.2 s t.3;
-  cause = tt;
-  replies = part-written after t.2 s t.3;
-  counted = inl (part-counted after s t.3);
-}
+
+pub serving-stop : {a b c : Wire} {before : List Kept} (after : List Kept) {n : ℕ} → Serving a b before n → n < 65536 → (ending : ConnEnd) → Turns b c before after (Some ending) → IsServed a c after ending
+serving-stop after s h Ended t = stopped after s t.0 Ended (refl, t.1, omega (arith, s.count)) refl (stop-counted after s t.0)
+serving-stop after s h LinkFault (inl t) = stopped after s t.2 LinkFault t.1 (front-whole (written_in s.records after)) (stop-counted after s t.2)
+serving-stop after s h LinkFault (inr t) = broken after s t LinkFault (λ coming count. no-front) (λ due wrote p. p) (λ k. refl)
+serving-stop after s h TooLong t = stopped after s t.2 TooLong (t.1, omega (arith, s.count)) refl (stop-counted after s t.2)
+serving-stop after s h TooManyFragments t = stopped after s t.2 TooManyFragments (t.1, omega (arith, s.count)) refl (stop-counted after s t.2)
+serving-stop after s h Torn t = stopped after s t.2 Torn (t.1, t.3, omega (arith, s.count)) refl (stop-counted after s t.2)
+serving-stop after s h Budget t = absurd t
+serving-stop after s h NoMemory (inl (octets, inl front, t)) = stopped after s t NoMemory front (front-whole (written_in s.records after)) (inl (stop-counted after s t))
+serving-stop after s h NoMemory (inl (octets, inr w, t)) = unkept after w.cut octets s w.is_record w.spelled t
+serving-stop after s h NoMemory (inr t) = broken after s t NoMemory (λ coming count. no-front) (λ due wrote p. p) (λ k. inl refl)
 
 pub serving-full : {a b : Wire} {kept : List Kept} → Serving a b kept 65536 → IsServed a b kept Budget
 serving-full {kept = kept} s = record {

@@ -2,14 +2,14 @@
 use Rattle.std.specs.Prelude.{◌≡◌, ◌⊎◌, ℕ, ◌+◌, ◌<◌, List, [], ◌∷◌, ◌++◌, length, take, Option, Some, None}
 use Rattle.std.specs.List.{AllByRecursion, flat_map}
 use Rattle.sec_base.specs.Link.{Wire}
-use Rattle.rpc_msgs.specs.Records.{IsRecord, IsNotBuilt, IsTorn, frame, last_fragment}
+use Rattle.rpc_msgs.specs.Records.{Fragments, octets_in, frame, last_fragment, IsRecord, IsTooLong, IsTooMany, IsFront, IsTorn}
 use Rattle.gss_server.specs.Rules.{reply_to}
 use Rattle.gss_server.specs.declared.answer.Kept.{Kept}
 use Rattle.gss_server.specs.declared.connection.ConnEnd.{ConnEnd}
-use Rattle.gss_server.specs.declared.connection.ConnEnd.TheVariants.{Ended, LinkFault, NotBuilt, Torn, Budget, NoMemory}
+use Rattle.gss_server.specs.declared.connection.ConnEnd.TheVariants.{Ended, LinkFault, TooLong, TooManyFragments, Torn, Budget, NoMemory}
 
--- the octets of records in a stream
-abbrev pub octets_of : List (List ℕ) → List ℕ
+-- the octets of records as they stand in a stream
+abbrev pub octets_of : List Fragments → List ℕ
 octets_of records = flat_map frame records
 
 -- what is written for a record: its reply as one record, or nothing
@@ -21,10 +21,10 @@ abbrev pub written_for : List ℕ → Kept → List ℕ
 written_for octets kept = framed (reply_to octets)
 
 -- what is written for records with their kept answers, in order
-abbrev pub written_in : List (List ℕ) → List Kept → List ℕ
+abbrev pub written_in : List Fragments → List Kept → List ℕ
 written_in [] kept = []
-written_in (octets ∷ records) [] = []
-written_in (octets ∷ records) (one ∷ kept) = written_for octets one ++ written_in records kept
+written_in (cut ∷ records) [] = []
+written_in (cut ∷ records) (one ∷ kept) = written_for (octets_in cut) one ++ written_in records kept
 
 -- `took` was taken, of what was there or came meanwhile, and `wrote` was written
 pub record Went (old new : Wire) (took wrote : List ℕ) : Type 0 where
@@ -32,20 +32,23 @@ pub record Went (old new : Wire) (took wrote : List ℕ) : Type 0 where
   pub coming : (more : List ℕ) × (old.coming ++ more ≡ took ++ new.coming)
   pub written : new.written ≡ old.written ++ wrote
 
--- why the connection ended, by what was taken behind the whole records, what was still to come, and how many records there were
+-- why the connection ended, by what was taken behind the whole records, what was still to come, and how many records there were; at a
+-- fault and at want of memory what was taken behind them is no whole record
 abbrev pub HasCause : ConnEnd → List ℕ → List ℕ → ℕ → Type 0
 HasCause Ended rest coming count = (rest ≡ []) × (coming ≡ []) × (count < 65536)
-HasCause LinkFault rest coming count = Unit {0}
-HasCause NotBuilt rest coming count = IsNotBuilt rest × (count < 65536)
+HasCause LinkFault rest coming count = IsFront rest
+HasCause TooLong rest coming count = IsTooLong rest × (count < 65536)
+HasCause TooManyFragments rest coming count = IsTooMany rest × (count < 65536)
 HasCause Torn rest coming count = IsTorn rest × (coming ≡ []) × (count < 65536)
 HasCause Budget rest coming count = (rest ≡ []) × (count ≡ 65536)
-HasCause NoMemory rest coming count = Unit {0}
+HasCause NoMemory rest coming count = IsFront rest
 
 -- all replies were written, or a front of them at a fault and at want of memory
 abbrev pub IsWritten : ConnEnd → List ℕ → List ℕ → Type 0
 IsWritten Ended replies wrote = wrote ≡ replies
 IsWritten LinkFault replies wrote = (count : ℕ) × (wrote ≡ take count replies)
-IsWritten NotBuilt replies wrote = wrote ≡ replies
+IsWritten TooLong replies wrote = wrote ≡ replies
+IsWritten TooManyFragments replies wrote = wrote ≡ replies
 IsWritten Torn replies wrote = wrote ≡ replies
 IsWritten Budget replies wrote = wrote ≡ replies
 IsWritten NoMemory replies wrote = (count : ℕ) × (wrote ≡ take count replies)
@@ -54,13 +57,14 @@ IsWritten NoMemory replies wrote = (count : ℕ) × (wrote ≡ take count replie
 abbrev pub IsCounted : ConnEnd → ℕ → ℕ → Type 0
 IsCounted Ended records kept = records ≡ kept
 IsCounted LinkFault records kept = records ≡ kept
-IsCounted NotBuilt records kept = records ≡ kept
+IsCounted TooLong records kept = records ≡ kept
+IsCounted TooManyFragments records kept = records ≡ kept
 IsCounted Torn records kept = records ≡ kept
 IsCounted Budget records kept = records ≡ kept
 IsCounted NoMemory records kept = (records ≡ kept) ⊎ (records ≡ kept + 1)
 
 pub record IsServed (old new : Wire) (kept : List Kept) (ending : ConnEnd) : Type 0 where
-  pub records : List (List ℕ)
+  pub records : List Fragments
   pub rest : List ℕ
   pub wrote : List ℕ
   pub each : AllByRecursion IsRecord records
@@ -73,7 +77,8 @@ pub record IsServed (old new : Wire) (kept : List Kept) (ending : ConnEnd) : Typ
 abbrev pub Ends : ConnEnd → List ℕ → ℕ → Type 0
 Ends Ended rest count = (rest ≡ []) × (count < 65536)
 Ends LinkFault rest count = ⊥
-Ends NotBuilt rest count = (header more : List ℕ) × IsNotBuilt header × (rest ≡ header ++ more) × (count < 65536)
+Ends TooLong rest count = (front more : List ℕ) × IsTooLong front × (rest ≡ front ++ more) × (count < 65536)
+Ends TooManyFragments rest count = (front more : List ℕ) × IsTooMany front × (rest ≡ front ++ more) × (count < 65536)
 Ends Torn rest count = IsTorn rest × (count < 65536)
 Ends Budget rest count = count ≡ 65536
 Ends NoMemory rest count = ⊥
@@ -81,7 +86,7 @@ Ends NoMemory rest count = ⊥
 -- the stream, which is what was taken since and what is still to come, has this end
 pub record StreamEnds (old new : Wire) (ending : ConnEnd) : Type 0 where
   pub took : List ℕ
-  pub records : List (List ℕ)
+  pub records : List Fragments
   pub rest : List ℕ
   pub taken : new.taken ≡ old.taken ++ took
   pub stream : took ++ new.coming ≡ octets_of records ++ rest

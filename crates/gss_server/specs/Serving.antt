@@ -2,13 +2,13 @@
 use Rattle.std.specs.Prelude.{◌≡◌, ℕ, List, length}
 use Rattle.std.specs.List.{AllByRecursion}
 use Rattle.sec_base.specs.Link.{Wire}
-use Rattle.rpc_msgs.specs.Records.{IsRecord}
+use Rattle.rpc_msgs.specs.Records.{Fragments, IsRecord}
 use Rattle.gss_server.specs.Connections.{Went, octets_of, written_in}
 use Rattle.gss_server.specs.declared.answer.Kept.{Kept}
 
 -- so many records were read, and all that is due to them was written
 pub record Serving (old new : Wire) (kept : List Kept) (number : ℕ) : Type 0 where
-  pub records : List (List ℕ)
+  pub records : List Fragments
   pub each : AllByRecursion IsRecord records
   pub went : Went old new (octets_of records) (written_in records kept)
   pub count : length records ≡ number

@@ -1,29 +1,31 @@
 -- What one turn of a connection did: it read a record and wrote its reply, or the connection ended.
 use Rattle.std.specs.Prelude.{◌≡◌, ◌⊎◌, ℕ, List, [], ◌∷◌, ◌++◌, take, Option, Some, None, Result, Ok, Err}
 use Rattle.sec_base.specs.Link.{Wire}
-use Rattle.rpc_msgs.specs.Records.{IsRecord, IsNotBuilt, IsTorn, frame}
+use Rattle.rpc_msgs.specs.Records.{Fragments, octets_in, frame, IsRecord, IsTooLong, IsTooMany, IsFront, IsTorn, IsWhole}
 use Rattle.rpc_msgs.specs.Streams.{Took, Put}
 use Rattle.gss_server.specs.Connections.{Went, written_for}
 use Rattle.gss_server.specs.declared.answer.Kept.{Kept}
 use Rattle.gss_server.specs.declared.connection.ConnEnd.{ConnEnd}
-use Rattle.gss_server.specs.declared.connection.ConnEnd.TheVariants.{Ended, LinkFault, NotBuilt, Torn, Budget, NoMemory}
+use Rattle.gss_server.specs.declared.connection.ConnEnd.TheVariants.{Ended, LinkFault, TooLong, TooManyFragments, Torn, Budget, NoMemory}
 
 -- a record was read, or the end of the connection came
 abbrev pub Receives : Wire → Wire → Result (List ℕ) ConnEnd → Type 0
-Receives old new (Ok octets) = IsRecord octets × Took old new (frame octets)
+Receives old new (Ok octets) = (cut : Fragments) × IsRecord cut × (octets ≡ octets_in cut) × Took old new (frame cut)
 Receives old new (Err Ended) = Took old new [] × (new.coming ≡ [])
-Receives old new (Err LinkFault) = (octets : List ℕ) × Took old new octets
-Receives old new (Err NotBuilt) = (octets : List ℕ) × IsNotBuilt octets × Took old new octets
+Receives old new (Err LinkFault) = (octets : List ℕ) × IsFront octets × Took old new octets
+Receives old new (Err TooLong) = (octets : List ℕ) × IsTooLong octets × Took old new octets
+Receives old new (Err TooManyFragments) = (octets : List ℕ) × IsTooMany octets × Took old new octets
 Receives old new (Err Torn) = (octets : List ℕ) × IsTorn octets × Took old new octets × (new.coming ≡ [])
 Receives old new (Err Budget) = ⊥
-Receives old new (Err NoMemory) = (octets : List ℕ) × IsRecord octets × Took old new (frame octets)
+Receives old new (Err NoMemory) = (octets : List ℕ) × (IsFront octets ⊎ IsWhole octets) × Took old new octets
 
 -- what is due was written, or a front of it at a fault and at want of memory
 abbrev pub Responds : {T : Type 0} → Wire → Wire → List ℕ → Result T ConnEnd → Type 0
 Responds old new due (Ok _) = Put old new due
 Responds old new due (Err Ended) = ⊥
 Responds old new due (Err LinkFault) = (count : ℕ) × Put old new (take count due)
-Responds old new due (Err NotBuilt) = ⊥
+Responds old new due (Err TooLong) = ⊥
+Responds old new due (Err TooManyFragments) = ⊥
 Responds old new due (Err Torn) = ⊥
 Responds old new due (Err Budget) = ⊥
 Responds old new due (Err NoMemory) = (count : ℕ) × Put old new (take count due)
@@ -38,16 +40,21 @@ abbrev pub Replies : Wire → Wire → List ℕ → List Kept → List Kept → 
 Replies old new octets before after None = (one : Kept) × Keeping old new octets before after one (written_for octets one)
 Replies old new octets before after (Some Ended) = ⊥
 Replies old new octets before after (Some LinkFault) = (one : Kept) × (count : ℕ) × Keeping old new octets before after one (take count (written_for octets one))
-Replies old new octets before after (Some NotBuilt) = ⊥
+Replies old new octets before after (Some TooLong) = ⊥
+Replies old new octets before after (Some TooManyFragments) = ⊥
 Replies old new octets before after (Some Torn) = ⊥
 Replies old new octets before after (Some Budget) = ⊥
 Replies old new octets before after (Some NoMemory) = ((after ≡ before) × Put old new []) ⊎ ((one : Kept) × (count : ℕ) × Keeping old new octets before after one (take count (written_for octets one)))
 
 -- a record was read and its answer kept, and this was written
-pub record Serves (old new : Wire) (before after : List Kept) (octets : List ℕ) (one : Kept) (wrote : List ℕ) : Type 0 where
-  pub is_record : IsRecord octets
+pub record Serves (old new : Wire) (before after : List Kept) (cut : Fragments) (one : Kept) (wrote : List ℕ) : Type 0 where
+  pub is_record : IsRecord cut
   pub kept : after ≡ before ++ one ∷ []
-  pub went : Went old new (frame octets) wrote
+  pub went : Went old new (frame cut) wrote
+
+-- a record was read and its answer kept, and a front of what is due to it was written
+abbrev pub ServesInPart : Wire → Wire → List Kept → List Kept → Type 0
+ServesInPart old new before after = (cut : Fragments) × (one : Kept) × (count : ℕ) × Serves old new before after cut one (take count (written_for (octets_in cut) one))
 
 -- these octets were read, and nothing was kept or written
 pub record Stops (old new : Wire) (before after : List Kept) (octets : List ℕ) : Type 0 where
@@ -55,10 +62,11 @@ pub record Stops (old new : Wire) (before after : List Kept) (octets : List ℕ)
   pub went : Went old new octets []
 
 abbrev pub Turns : Wire → Wire → List Kept → List Kept → Option ConnEnd → Type 0
-Turns old new before after None = (octets : List ℕ) × (one : Kept) × Serves old new before after octets one (written_for octets one)
+Turns old new before after None = (cut : Fragments) × (one : Kept) × Serves old new before after cut one (written_for (octets_in cut) one)
 Turns old new before after (Some Ended) = Stops old new before after [] × (new.coming ≡ [])
-Turns old new before after (Some LinkFault) = ((octets : List ℕ) × Stops old new before after octets) ⊎ ((octets : List ℕ) × (one : Kept) × (count : ℕ) × Serves old new before after octets one (take count (written_for octets one)))
-Turns old new before after (Some NotBuilt) = (octets : List ℕ) × IsNotBuilt octets × Stops old new before after octets
+Turns old new before after (Some LinkFault) = ((octets : List ℕ) × IsFront octets × Stops old new before after octets) ⊎ ServesInPart old new before after
+Turns old new before after (Some TooLong) = (octets : List ℕ) × IsTooLong octets × Stops old new before after octets
+Turns old new before after (Some TooManyFragments) = (octets : List ℕ) × IsTooMany octets × Stops old new before after octets
 Turns old new before after (Some Torn) = (octets : List ℕ) × IsTorn octets × Stops old new before after octets × (new.coming ≡ [])
 Turns old new before after (Some Budget) = ⊥
-Turns old new before after (Some NoMemory) = ((octets : List ℕ) × IsRecord octets × Stops old new before after (frame octets)) ⊎ ((octets : List ℕ) × (one : Kept) × (count : ℕ) × Serves old new before after octets one (take count (written_for octets one)))
+Turns old new before after (Some NoMemory) = ((octets : List ℕ) × (IsFront octets ⊎ IsWhole octets) × Stops old new before after octets) ⊎ ServesInPart old new before after

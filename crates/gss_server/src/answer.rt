@@ -1,10 +1,10 @@
 //! The answer to one record.
 
-ghost use Rattle.std.specs.Prelude.{◌≡◌, [], Some};
+ghost use Rattle.std.specs.Prelude.{◌≡◌};
 ghost use Rattle.gss_server.specs.Answers.{IsReply, Fits};
-ghost use Rattle.gss_server.specs.Rules.{rule_of, reply_to, success};
+ghost use Rattle.gss_server.specs.Rules.{rule_of, reply_to};
 
-use rpc_msgs::{Reply as RpcReply, read_call, write_reply};
+use crate::rules::{Said, say};
 use sec_base::{Moment, Octets};
 use std::alloc::Global;
 
@@ -37,8 +37,7 @@ pub struct Answered {
     pub reply: Reply,
 }
 
-/// Answers a record: a call of procedure 0 without authentication by rule 23, with the empty result, and any other record by rule 25,
-/// with no reply.
+/// Answers a record by the first rule that applies.
 pub fn answer_record(alloc: Global, bytes: &[u8], now: Moment, draws: &[u8; 82]) -> Answered
     ensures rule { result.rule ≡ rule_of bytes.now }
     ensures now { result.kept.now ≡ now }
@@ -47,37 +46,10 @@ pub fn answer_record(alloc: Global, bytes: &[u8], now: Moment, draws: &[u8; 82])
     ensures fits { Fits result.reply }
 {
     let draws = *draws;
-    let kept = Kept { now, draws };
-    match read_call(bytes) {
-        Ok(call) => Answered {
-            rule: 23,
-            kept,
-            reply: empty_result(alloc, call.xid),
-        },
-        Err(_) => Answered {
-            rule: 25,
-            kept,
-            reply: Reply::Silent,
-        },
-    }
-}
-
-/// The reply with an empty result.
-fn empty_result(alloc: Global, xid: u32) -> Reply
-    ensures reply { IsReply (Some (success xid [])) result }
-    ensures fits { Fits result }
-{
-    let reply = RpcReply::Accepted {
-        xid,
-        flavour: 0,
-        verf: &[],
-        stat: 0,
-        low: 0,
-        high: 0,
-        result: &[],
-    };
-    match write_reply(alloc, &reply) {
-        Ok(octets) => Reply::Bytes(octets),
-        Err(_) => Reply::NoMemory,
+    let Said { rule, reply } = say(alloc, bytes);
+    Answered {
+        rule,
+        kept: Kept { now, draws },
+        reply,
     }
 }

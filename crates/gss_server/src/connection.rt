@@ -23,8 +23,10 @@ pub enum ConnEnd {
     Ended,
     /// The link failed, and its count of faults rose.
     LinkFault,
-    /// The next octets aren't the header of a record of this server.
-    NotBuilt,
+    /// The lengths that a record's fragments announce sum past 131,072.
+    TooLong,
+    /// A record has a 65th fragment.
+    TooManyFragments,
     /// The stream ended inside a record.
     Torn,
     /// 65,536 records were answered.
@@ -142,7 +144,8 @@ fn receive<L: Link>(alloc: Global, link: &mut L) -> Result<Octets, ConnEnd>
         Ok(Some(octets)) => Ok(octets),
         Ok(None) => Err(ConnEnd::Ended),
         Err(RecordRefusal::LinkFault) => Err(ConnEnd::LinkFault),
-        Err(RecordRefusal::NotBuilt) => Err(ConnEnd::NotBuilt),
+        Err(RecordRefusal::TooLong) => Err(ConnEnd::TooLong),
+        Err(RecordRefusal::TooManyFragments) => Err(ConnEnd::TooManyFragments),
         Err(RecordRefusal::Torn) => Err(ConnEnd::Torn),
         Err(RecordRefusal::NoMemory) => Err(ConnEnd::NoMemory),
     }

@@ -4,6 +4,7 @@
 mod answer;
 mod connection;
 mod desk;
+mod rules;
 mod server;
 #[cfg(test)]
 mod tests;

@@ -3,7 +3,7 @@ use Rattle.std.proofs.Common.{◌≡◌, ℕ, ◌+◌, ◌-◌, ◌≤◌, List,
 use borrow.Rule.Slice.PartMut.{put_mid}
 use Rattle.std.proofs.lemmas.Grind.{common_steps}
 use Rattle.std.proofs.lemmas.Bool.{cases_lt}
-use Rattle.std.proofs.lemmas.List.{take-append-le, take_all}
+use Rattle.std.proofs.lemmas.List.{length-append, take-append-le, take_all}
 use Rattle.std.proofs.Math.Seq.{take-add, take-append-add, take-append_seam}
 use Rattle.sec_base.specs.Link.{Wire, Gave, Sent}
 use Rattle.rpc_msgs.specs.Streams.{Took, Put, Sends}
@@ -72,3 +72,12 @@ put-short xs ys n p =
 pub sends-again : {T E : Type 0} {a b : Wire} (c : Wire) {xs : List ℕ} (ys : List ℕ) (result : Result T E) → Put a b xs → Sends b c result ys → Sends a c result (xs ++ ys)
 sends-again c ys (Ok t) first then = put-again first then
 sends-again c {xs = xs} ys (Err e) first then = (length xs + then.0, put-front ys then.0 first then.1)
+
+-- a header and octets, put one behind the other to the front of a buffer
+pub take-framed : (k : ℕ) (header octets rest head body : List ℕ) → head ≡ header → body ≡ octets → length header ≡ 4 → take (4 + length octets) (put_mid 4 k (head ++ rest) body) ≡ header ++ octets
+take-framed k header octets rest head body e f size =
+    let long : 4 ≤ length (head ++ rest) = omega (arith, ap length e, length-append head rest) in
+    let fits : length octets ≤ length body = omega (arith, ap length f) in
+    let front : take 4 (head ++ rest) ≡ head = ap (λ (n : ℕ). take n (head ++ rest)) (sym (ap length e ∙ size)) ∙ take-append_seam head rest in
+    let back : take (length octets) body ≡ body = take_all (length octets) body (omega (arith, ap length f)) in
+    take-put_mid-add 4 k (length octets) (head ++ rest) body long fits ∙ (rw (front, back, e, f) refl)

@@ -1,4 +1,6 @@
+pub mod FragmentSteps
 pub mod InARow
-pub mod NullCalls
-pub mod OneRecord
 pub mod WordLengths
+pub mod XdrLaws
+pub mod CallLaws
+pub mod ReplyLaws

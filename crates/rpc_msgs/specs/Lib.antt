@@ -1,5 +1,9 @@
+pub mod Auths
 pub mod Calls
+pub mod Fragments
 pub mod Records
 pub mod Replies
+pub mod ReplyReading
 pub mod Streams
 pub mod Words
+pub mod Xdr

@@ -1,39 +1,93 @@
--- Records of a stream, RFC 5531 section 11: one last fragment of 40 octets each.
-use Rattle.std.specs.Prelude.{◌≡◌, ◌≢◌, ◌⊎◌, ℕ, ◌+◌, ◌<◌, ◌^◌, List, [], ◌∷◌, ◌++◌, length, Option, Some, None, Result, Ok, Err}
+-- Records of a stream, RFC 5531 section 11.
+use Rattle.std.specs.Prelude.{◌≡◌, ◌⊎◌, ℕ, ◌+◌, ◌%◌, ◌<◌, ◌≤◌, ◌^◌, List, [], ◌++◌, length, Option, Some, None, Result, Ok, Err}
+use Rattle.std.specs.List.{flat_map}
 use Rattle.sec_base.specs.Link.{Wire}
 use Rattle.rpc_msgs.specs.Streams.{Took}
 use Rattle.rpc_msgs.specs.Words.{word}
 use Rattle.rpc_msgs.specs.declared.record.RecordRefusal.{RecordRefusal}
-use Rattle.rpc_msgs.specs.declared.record.RecordRefusal.TheVariants.{LinkFault, NotBuilt, Torn, NoMemory}
+use Rattle.rpc_msgs.specs.declared.record.RecordRefusal.TheVariants.{LinkFault, TooLong, TooManyFragments, Torn, NoMemory}
 
--- the header of a last fragment of 40 octets: 2 ^ 31 + 40
-abbrev pub header_40 : List ℕ
-header_40 = 128 ∷ 0 ∷ 0 ∷ 40 ∷ []
+-- a fragment: a word whose top bit marks the last of its record and whose other bits are the length, then the octets
+abbrev pub more_fragment : List ℕ → List ℕ
+more_fragment octets = word (length octets) ++ octets
 
-abbrev pub IsRecord : List ℕ → Type 0
-IsRecord octets = length octets ≡ 40
+abbrev pub last_fragment : List ℕ → List ℕ
+last_fragment octets = word (2 ^ 31 + length octets) ++ octets
 
--- a record as it stands in a stream
-abbrev pub frame : List ℕ → List ℕ
-frame octets = header_40 ++ octets
+abbrev pub frames : List (List ℕ) → List ℕ
+frames fragments = flat_map more_fragment fragments
 
--- a header of another shape
-abbrev pub IsNotBuilt : List ℕ → Type 0
-IsNotBuilt octets = (length octets ≡ 4) × (octets ≢ header_40)
+abbrev pub joined : List (List ℕ) → List ℕ
+joined fragments = flat_map (λ octets. octets) fragments
 
--- the front of a record that ends inside it
-abbrev pub IsTorn : List ℕ → Type 0
-IsTorn octets = (0 < length octets) × ((length octets < 4) ⊎ ((rest : List ℕ) × (octets ≡ header_40 ++ rest) × (length rest < 40)))
+-- a record as it was cut: the fragments before its last one, and the last
+pub record Fragments : Type 0 where
+  pub earlier : List (List ℕ)
+  pub last : List ℕ
+
+-- its octets
+abbrev pub octets_in : Fragments → List ℕ
+octets_in cut = joined cut.earlier ++ cut.last
+
+-- as it stands in a stream
+abbrev pub frame : Fragments → List ℕ
+frame cut = frames cut.earlier ++ last_fragment cut.last
+
+-- at most 64 fragments with at most 131,072 octets
+pub record IsRecord (cut : Fragments) : Type 0 where
+  pub few : length cut.earlier < 64
+  pub size : length (octets_in cut) ≤ 131072
+
+-- the front of a record that ends with the header that announces more octets than a record may have
+pub record IsTooLong (octets : List ℕ) : Type 0 where
+  pub earlier : List (List ℕ)
+  pub header : ℕ
+  pub bound : header < 2 ^ 32
+  pub few : length earlier ≤ 64
+  pub size : length (joined earlier) ≤ 131072
+  pub announced : 131072 < length (joined earlier) + header % 2 ^ 31
+  pub spelled : octets ≡ frames earlier ++ word header
+
+-- the front of a record that ends with the header of a 65th fragment, whose octets would still fit
+pub record IsTooMany (octets : List ℕ) : Type 0 where
+  pub earlier : List (List ℕ)
+  pub header : ℕ
+  pub bound : header < 2 ^ 32
+  pub full : length earlier ≡ 64
+  pub announced : length (joined earlier) + header % 2 ^ 31 ≤ 131072
+  pub spelled : octets ≡ frames earlier ++ word header
+
+-- a fragment that ends inside its header or inside its octets, where so many fragments and octets of the record came before
+abbrev pub IsPartial : ℕ → ℕ → List ℕ → Type 0
+IsPartial number size octets =
+    (length octets < 4) ⊎ ((header : ℕ) × (rest : List ℕ) × (header < 2 ^ 32) × (number < 64) × (size + header % 2 ^ 31 ≤ 131072) × (octets ≡ word header ++ rest) × (length rest < header % 2 ^ 31))
+
+-- a front of a record, which may be empty, that ends before the record's last octet
+pub record IsFront (octets : List ℕ) : Type 0 where
+  pub earlier : List (List ℕ)
+  pub part : List ℕ
+  pub few : length earlier ≤ 64
+  pub size : length (joined earlier) ≤ 131072
+  pub partial : IsPartial (length earlier) (length (joined earlier)) part
+  pub spelled : octets ≡ frames earlier ++ part
+
+-- a front that has an octet: the record was begun
+pub record IsTorn (octets : List ℕ) : Type 0 where
+  pub front : IsFront octets
+  pub some : 0 < length octets
+
+-- a whole record as it stands in a stream
+pub record IsWhole (octets : List ℕ) : Type 0 where
+  pub cut : Fragments
+  pub is_record : IsRecord cut
+  pub spelled : octets ≡ frame cut
 
 -- what the call that reads the next record took of the stream
 abbrev pub TakesRecord : Wire → Wire → Result (Option (List ℕ)) RecordRefusal → Type 0
-TakesRecord old new (Ok (Some octets)) = IsRecord octets × Took old new (frame octets)
+TakesRecord old new (Ok (Some octets)) = (cut : Fragments) × IsRecord cut × (octets ≡ octets_in cut) × Took old new (frame cut)
 TakesRecord old new (Ok None) = (old.coming ≡ []) × Took old new []
-TakesRecord old new (Err LinkFault) = (octets : List ℕ) × Took old new octets
-TakesRecord old new (Err NotBuilt) = (octets : List ℕ) × IsNotBuilt octets × Took old new octets
+TakesRecord old new (Err LinkFault) = (octets : List ℕ) × IsFront octets × Took old new octets
+TakesRecord old new (Err TooLong) = (octets : List ℕ) × IsTooLong octets × Took old new octets
+TakesRecord old new (Err TooManyFragments) = (octets : List ℕ) × IsTooMany octets × Took old new octets
 TakesRecord old new (Err Torn) = IsTorn old.coming × Took old new old.coming
-TakesRecord old new (Err NoMemory) = (octets : List ℕ) × IsRecord octets × Took old new (frame octets)
-
--- a record as one last fragment: a word with the top bit and the length, then the octets
-abbrev pub last_fragment : List ℕ → List ℕ
-last_fragment octets = word (2 ^ 31 + length octets) ++ octets
+TakesRecord old new (Err NoMemory) = (octets : List ℕ) × (IsFront octets ⊎ IsWhole octets) × Took old new octets

@@ -1,13 +1,21 @@
 //! The messages of ONC RPC version 2 (RFC 5531) and the records in which they stand in a stream.
 #![tactic(auto)]
 
+mod auth;
 mod call;
 mod record;
 mod reply;
+mod reply_reading;
+#[cfg(test)]
+mod tests;
 mod transfer;
+mod xdr_reader;
 mod xdr_writer;
 
-pub use call::{Auth, Call, CallRefusal, read_call};
+pub use auth::Auth;
+pub use call::{Call, CallRefusal, read_call, write_call};
 pub use record::{RecordRefusal, next_record, write_record};
 pub use reply::{Reply, write_reply};
+pub use reply_reading::{ReplyRefusal, read_reply};
+pub use xdr_reader::{XdrReader, XdrRefusal, XdrWhy};
 pub use xdr_writer::XdrWriter;

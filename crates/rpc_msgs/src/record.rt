@@ -1,35 +1,62 @@
 //! Records of a stream, RFC 5531 section 11.
 
-ghost use Rattle.std.specs.Prelude.{◌≡◌, ◌+◌, ◌^◌, ◌≤◌, false, length, IsTrue, OnErr, IsErrOf};
+ghost use Rattle.std.specs.Prelude.{◌≡◌, ◌+◌, ◌^◌, ◌<◌, ◌≤◌, true, false, length, take, vec_len, IsTrue, Ok, OnOk, IfOk, OnErr, IsErrOf};
 ghost use Rattle.sec_base.specs.Answers.{Rose};
+ghost use Rattle.rpc_msgs.specs.Fragments.{TakesFragment, TakesContent, TakesPiece};
 ghost use Rattle.rpc_msgs.specs.Records.{TakesRecord, last_fragment};
 ghost use Rattle.rpc_msgs.specs.Streams.{Sends};
 ghost use Rattle.rpc_msgs.specs.Words.{word};
 
 use crate::transfer::{fill, send};
+use crate::xdr_reader::word_of;
 use sec_base::{Link, LinkFault, Octets};
 use std::alloc::Global;
 
-/// The octets of a record of this server.
-const LENGTH: usize = 40;
+/// The octets that a record may have.
+const LIMIT: usize = 131_072;
 
-/// The header of a last fragment of 40 octets.
-const HEADER: [u8; 4] = [0x80, 0, 0, 40];
+/// The fragments that a record may have.
+const FRAGMENTS: u32 = 64;
+
+/// The top bit of a fragment's header, which marks the last one.
+const LAST: u32 = 0x8000_0000;
+
+/// The octets that are read at a time.
+const PIECE: usize = 8192;
+
+/// Few octets are read through a smaller buffer, which is filled with zeros first.
+const SMALL_PIECE: usize = 256;
+
+/// A record of so few octets is written at once.
+const SMALL_RECORD: usize = 252;
 
 /// Why no record was read.
 #[derive(Clone, Copy, Debug, PartialEq, Eq)]
 pub enum RecordRefusal {
     /// The link failed, and its count of faults rose.
     LinkFault,
-    /// The next octets aren't the header of a last fragment of 40 octets.
-    NotBuilt,
+    /// The lengths that the record's fragments announce sum past 131,072.
+    TooLong,
+    /// The record has a 65th fragment.
+    TooManyFragments,
     /// The stream ended inside a record.
     Torn,
-    /// There was no memory for the record, which was read whole.
+    /// There was no memory for the record's octets.
     NoMemory,
 }
 
-/// The next record of the stream; None where the stream ended before its first octet.
+/// A fragment that was read.
+enum Fragment {
+    /// Further fragments of the record follow.
+    More,
+    /// It was the last one of the record.
+    Last,
+    /// There was none: the stream ended before the record.
+    End,
+}
+
+/// The next record of the stream; None where the stream ended before its first octet. Memory is taken for octets that were read, and
+/// not for those that a header announces.
 pub fn next_record<L: Link>(alloc: Global, link: &mut L) -> Result<Option<Octets>, RecordRefusal>
     requires { L.closed link.old ≡ false }
     ensures told { IsTrue (L.tells link.old) → TakesRecord (L.wire link.old) (L.wire link.new) result }
@@ -38,25 +65,130 @@ pub fn next_record<L: Link>(alloc: Global, link: &mut L) -> Result<Option<Octets
     ensures fault { IsErrOf result RecordRefusal.LinkFault → Rose (L.faults link.old) (L.faults link.new) }
     ensures faults { L.faults link.old ≤ L.faults link.new }
 {
-    let mut header = [0; 4];
-    match fill(link, &mut header) {
-        Ok(0) => return Ok(None),
+    let mut octets = Vec::new(alloc);
+    for number in 0..FRAGMENTS + 1 {
+        match read_fragment(link, &mut octets, number) {
+            Ok(Fragment::More) => {}
+            Ok(Fragment::Last) => return Ok(Some(Octets::from_vec(octets))),
+            Ok(Fragment::End) => return Ok(None),
+            Err(refusal) => return Err(refusal),
+        }
+    }
+    unreachable!()
+}
+
+/// Reads the fragment of this number, counted from 0, behind the octets of those before it.
+fn read_fragment<L: Link>(
+    link: &mut L,
+    octets: &mut Vec<u8>,
+    number: u32,
+) -> Result<Fragment, RecordRefusal>
+    requires unclosed { L.closed link.old ≡ false }
+    requires size { vec_len octets.old ≤ 131072 }
+    requires most { number ≤ 64 }
+    ensures told { IsTrue (L.tells link.old) → TakesFragment (L.wire link.old) (L.wire link.new) octets.old.items octets.new.items number result }
+    ensures size { OnOk result (vec_len octets.new ≤ 131072) }
+    ensures more { result ≡ Ok Fragment.More → number < 64 }
+    ensures last { result ≡ Ok Fragment.Last → number < 64 }
+    ensures tells { L.tells link.new ≡ L.tells link.old }
+    ensures unclosed { L.closed link.new ≡ false }
+    ensures fault { IsErrOf result RecordRefusal.LinkFault → Rose (L.faults link.old) (L.faults link.new) }
+    ensures faults { L.faults link.old ≤ L.faults link.new }
+{
+    let mut cells = [0; 4];
+    match fill(link, &mut cells) {
         Ok(4) => {}
+        Ok(0) if number == 0 => return Ok(Fragment::End),
         Ok(_) => return Err(RecordRefusal::Torn),
         Err(LinkFault) => return Err(RecordRefusal::LinkFault),
     }
-    if header != HEADER {
-        return Err(RecordRefusal::NotBuilt);
+    let header = word_of(&cells);
+    let size = (header % LAST) as usize;
+    if LIMIT < octets.len() + size {
+        return Err(RecordRefusal::TooLong);
     }
-    let mut record = [0; LENGTH];
-    match fill(link, &mut record) {
-        Ok(LENGTH) => {}
-        Ok(_) => return Err(RecordRefusal::Torn),
-        Err(LinkFault) => return Err(RecordRefusal::LinkFault),
+    if number == FRAGMENTS {
+        return Err(RecordRefusal::TooManyFragments);
     }
-    match Octets::of(alloc, &record) {
-        Ok(octets) => Ok(Some(octets)),
-        Err(_) => Err(RecordRefusal::NoMemory),
+    match read_content(link, octets, size) {
+        Ok(true) if header >= LAST => Ok(Fragment::Last),
+        Ok(true) => Ok(Fragment::More),
+        Ok(false) => Err(RecordRefusal::Torn),
+        Err(refusal) => Err(refusal),
+    }
+}
+
+/// Reads so many octets behind those that are there; false where the input ended before.
+fn read_content<L: Link>(
+    link: &mut L,
+    octets: &mut Vec<u8>,
+    length: usize,
+) -> Result<bool, RecordRefusal>
+    requires { L.closed link.old ≡ false }
+    ensures told { IsTrue (L.tells link.old) → TakesContent (L.wire link.old) (L.wire link.new) octets.old.items octets.new.items length result }
+    ensures size { result ≡ Ok true → vec_len octets.new ≡ vec_len octets.old + length }
+    ensures tells { L.tells link.new ≡ L.tells link.old }
+    ensures unclosed { L.closed link.new ≡ false }
+    ensures fault { IsErrOf result RecordRefusal.LinkFault → Rose (L.faults link.old) (L.faults link.new) }
+    ensures faults { L.faults link.old ≤ L.faults link.new }
+{
+    let mut left = length;
+    while left > 0 {
+        let part = left.min(PIECE);
+        match read_part(link, octets, part) {
+            Ok(count) if count < part => return Ok(false),
+            Ok(_) => left -= part,
+            Err(refusal) => return Err(refusal),
+        }
+    }
+    Ok(true)
+}
+
+/// Reads at most so many octets behind those that are there, fewer only where the input ends.
+fn read_part<L: Link>(
+    link: &mut L,
+    octets: &mut Vec<u8>,
+    length: usize,
+) -> Result<usize, RecordRefusal>
+    requires unclosed { L.closed link.old ≡ false }
+    requires most { length ≤ 8192 }
+    ensures told { IsTrue (L.tells link.old) → TakesPiece (L.wire link.old) (L.wire link.new) octets.old.items octets.new.items length result }
+    ensures size { IfOk result (λ count. (count ≤ length) × (vec_len octets.new ≡ vec_len octets.old + count)) }
+    ensures tells { L.tells link.new ≡ L.tells link.old }
+    ensures unclosed { L.closed link.new ≡ false }
+    ensures fault { IsErrOf result RecordRefusal.LinkFault → Rose (L.faults link.old) (L.faults link.new) }
+    ensures faults { L.faults link.old ≤ L.faults link.new }
+{
+    if length <= SMALL_PIECE {
+        read_piece::<L, SMALL_PIECE>(link, octets, length)
+    } else {
+        read_piece::<L, PIECE>(link, octets, length)
+    }
+}
+
+/// The same, of octets that fit into a piece of this size.
+fn read_piece<L: Link, const SIZE: usize>(
+    link: &mut L,
+    octets: &mut Vec<u8>,
+    length: usize,
+) -> Result<usize, RecordRefusal>
+    requires unclosed { L.closed link.old ≡ false }
+    requires most { length ≤ SIZE }
+    requires small { SIZE ≤ 8192 }
+    ensures told { IsTrue (L.tells link.old) → TakesPiece (L.wire link.old) (L.wire link.new) octets.old.items octets.new.items length result }
+    ensures size { IfOk result (λ count. (count ≤ length) × (vec_len octets.new ≡ vec_len octets.old + count)) }
+    ensures tells { L.tells link.new ≡ L.tells link.old }
+    ensures unclosed { L.closed link.new ≡ false }
+    ensures fault { IsErrOf result RecordRefusal.LinkFault → Rose (L.faults link.old) (L.faults link.new) }
+    ensures faults { L.faults link.old ≤ L.faults link.new }
+{
+    let mut cells = [0; SIZE];
+    match fill(link, &mut cells[..length]) {
+        Ok(count) => match octets.extend_from_slice(&cells[..count]) {
+            Ok(()) => Ok(count),
+            Err(_) => Err(RecordRefusal::NoMemory),
+        },
+        Err(LinkFault) => Err(RecordRefusal::LinkFault),
     }
 }
 
@@ -70,10 +202,38 @@ pub fn write_record<L: Link>(link: &mut L, bytes: &[u8]) -> Result<(), LinkFault
     ensures fault { OnErr result (Rose (L.faults link.old) (L.faults link.new)) }
     ensures faults { L.faults link.old ≤ L.faults link.new }
 {
+    if bytes.len() <= SMALL_RECORD {
+        return write_at_once(link, bytes);
+    }
     match send(link, &header_of(bytes.len())) {
         Ok(()) => send(link, bytes),
         Err(fault) => Err(fault),
     }
+}
+
+/// Writes a record of few octets together with its header.
+fn write_at_once<L: Link>(link: &mut L, bytes: &[u8]) -> Result<(), LinkFault>
+    requires unclosed { L.closed link.old ≡ false }
+    requires few { length bytes.now ≤ 252 }
+    ensures told { IsTrue (L.tells link.old) → Sends (L.wire link.old) (L.wire link.new) result (last_fragment bytes.now) }
+    ensures tells { L.tells link.new ≡ L.tells link.old }
+    ensures unclosed { L.closed link.new ≡ false }
+    ensures fault { OnErr result (Rose (L.faults link.old) (L.faults link.new)) }
+    ensures faults { L.faults link.old ≤ L.faults link.new }
+{
+    let mut cells = [0; 256];
+    frame(&mut cells, bytes);
+    send(link, &cells[..4 + bytes.len()])
+}
+
+/// Puts a record of few octets and its header to the front.
+fn frame(cells: &mut [u8], bytes: &[u8])
+    requires few { length bytes.now ≤ 252 }
+    requires room { length cells.old ≡ 256 }
+    ensures { take (4 + length bytes.now) cells.new ≡ last_fragment bytes.now }
+{
+    cells[..4].copy_from_slice(&header_of(bytes.len()));
+    cells[4..4 + bytes.len()].copy_from_slice(bytes);
 }
 
 /// The header of a last fragment of so many octets.

@@ -1,7 +1,8 @@
 //! Replies, RFC 5531 section 9.
 
-ghost use Rattle.std.specs.Prelude.{◌≡◌, ◌≤◌, ◌++◌, length, IfOk, OnOk};
-ghost use Rattle.rpc_msgs.specs.Replies.{reply_octets, IsReply, accepted_head, accepted_body, mismatch_octets, auth_error_octets};
+ghost use Rattle.std.specs.Prelude.{◌≡◌, ◌≤◌, ◌++◌, length, IfOk, OnOk, Ok};
+ghost use Rattle.rpc_msgs.specs.Replies.{accepted, mismatch, auth_error, reply_value, reply_octets, IsReply, accepted_head, accepted_body, mismatch_octets, auth_error_octets};
+ghost use Rattle.rpc_msgs.specs.ReplyReading.{reply_at};
 ghost use Rattle.rpc_msgs.specs.Words.{word};
 
 use crate::xdr_writer::XdrWriter;
@@ -36,8 +37,10 @@ pub enum Reply<'a> {
 
 /// The octets of a reply.
 pub fn write_reply(alloc: Global, v: &Reply<'_>) -> Result<Octets, NoMemory>
-    requires { IsReply v.now }
-    ensures { IfOk result (λ octets. octets ≡ reply_octets v.now) }
+    requires { IsReply (reply_value v.now) }
+    ensures octets { IfOk result (λ octets. octets ≡ reply_octets (reply_value v.now)) }
+    // It is read as that reply.
+    ensures again { IfOk result (λ octets. reply_at octets ≡ Ok (reply_value v.now)) }
 {
     match *v {
         Reply::Accepted {
@@ -48,15 +51,31 @@ pub fn write_reply(alloc: Global, v: &Reply<'_>) -> Result<Octets, NoMemory>
             low,
             high,
             result,
-        } => {
-            let mut out = XdrWriter::new(alloc);
-            put_accepted(&mut out, xid, flavour, verf, stat)?;
-            put_body(&mut out, stat, low, high, result)?;
-            Ok(out.finish())
-        }
-        Reply::Mismatch { xid, low, high } => mismatch(alloc, xid, low, high),
-        Reply::AuthError { xid, stat } => auth_error(alloc, xid, stat),
+        } => write_accepted(alloc, xid, flavour, verf, stat, low, high, result),
+        Reply::Mismatch { xid, low, high } => write_mismatch(alloc, xid, low, high),
+        Reply::AuthError { xid, stat } => write_auth_error(alloc, xid, stat),
     }
+}
+
+/// The octets of an accepted reply.
+fn write_accepted(
+    alloc: Global,
+    xid: u32,
+    flavour: u32,
+    verf: &[u8],
+    stat: u32,
+    low: u32,
+    high: u32,
+    body: &[u8],
+) -> Result<Octets, NoMemory>
+    requires { IsReply (accepted xid flavour verf.now stat low high body.now) }
+    ensures octets { IfOk result (λ octets. octets ≡ reply_octets (accepted xid flavour verf.now stat low high body.now)) }
+    ensures again { IfOk result (λ octets. reply_at octets ≡ Ok (accepted xid flavour verf.now stat low high body.now)) }
+{
+    let mut out = XdrWriter::new(alloc);
+    put_accepted(&mut out, xid, flavour, verf, stat)?;
+    put_body(&mut out, stat, low, high, body)?;
+    Ok(out.finish())
 }
 
 /// Appends an accepted reply up to its stat.
@@ -104,8 +123,9 @@ fn put_range(out: &mut XdrWriter, low: u32, high: u32) -> Result<(), NoMemory>
 }
 
 /// The reply to another RPC version.
-fn mismatch(alloc: Global, xid: u32, low: u32, high: u32) -> Result<Octets, NoMemory>
-    ensures { IfOk result (λ octets. octets ≡ mismatch_octets xid low high) }
+fn write_mismatch(alloc: Global, xid: u32, low: u32, high: u32) -> Result<Octets, NoMemory>
+    ensures octets { IfOk result (λ octets. octets ≡ mismatch_octets xid low high) }
+    ensures again { IfOk result (λ octets. reply_at octets ≡ Ok (mismatch xid low high)) }
 {
     let mut out = XdrWriter::new(alloc);
     out.word(xid)?;
@@ -118,8 +138,9 @@ fn mismatch(alloc: Global, xid: u32, low: u32, high: u32) -> Result<Octets, NoMe
 }
 
 /// The reply to a caller who isn't accepted.
-fn auth_error(alloc: Global, xid: u32, stat: u32) -> Result<Octets, NoMemory>
-    ensures { IfOk result (λ octets. octets ≡ auth_error_octets xid stat) }
+fn write_auth_error(alloc: Global, xid: u32, stat: u32) -> Result<Octets, NoMemory>
+    ensures octets { IfOk result (λ octets. octets ≡ auth_error_octets xid stat) }
+    ensures again { IfOk result (λ octets. reply_at octets ≡ Ok (auth_error xid stat)) }
 {
     let mut out = XdrWriter::new(alloc);
     out.word(xid)?;

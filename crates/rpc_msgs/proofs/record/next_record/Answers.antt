@@ -1,21 +1,28 @@
-use Rattle.std.proofs.Common.{sym, ◌∙◌, IsTrue, ◌≡◌, length, refl}
-use Rattle.rpc_msgs.proofs.InARow.{took-again, took-same}
-use Rattle.rpc_msgs.proofs.OneRecord.{is_frame}
+use Rattle.std.proofs.Common.{◌∙◌, arith, IsTrue, ap, Ok}
+use Rattle.rpc_msgs.proofs.FragmentSteps.{begins-more, takes-last, takes-refusal, is-more, is-last}
 use Rattle.rpc_msgs.proofs.record.next_record.Goals as goal
 
-pub returns-in-Ok-of-clause-told : goal.returns-in-Ok-of-clause-told
-returns-in-Ok-of-clause-told g c = λ t.
-    let tells : IsTrue (g.L.Link.tells c.fill.new.link) = rw c.in-Ok-eq4.ensures.tells t in
-    let first = c.in-Ok-eq4.ensures.told t in
-    let then = c.in-Ok-eq40.ensures.told tells in
-    let whole : length c.fill-2.new.buf ≡ 40 = c.fill-2.auto.buf in
-    let read = c.in-Ok-of.ensures in
-    (rw read whole, took-same (took-again first.0 then.0) (is_frame c.fill.new.buf c.fill-2.new.buf c.in-Ok-of.octets _ _ c.in-Ok-eq4.field-0-test c.in-Ok-eq40.field-0-test c.fill.auto.buf whole read (sym c.ne.ensures ∙ c.if-ne.false)))
+pub returns-in-Ok-Last-clause-told : goal.returns-in-Ok-Last-clause-told
+returns-in-Ok-Last-clause-told g c = λ t.
+    let tells : IsTrue (g.L.Link.tells c.loop-number.link) = rw c.loop-number.invariant.tells t in
+    let p = is-last _ _ _ _ _ _ c.in-Ok-Last.field-0-is (c.in-Ok-Last.ensures.told tells) in
+    let r = takes-last (g.L.Link.wire c.read_fragment.new.link) c.loop-number.number c.loop-number.octets.items c.read_fragment.new.octets.items p.0 (c.loop-number.invariant.told t) (c.in-Ok-Last.ensures.last (ap Ok c.in-Ok-Last.field-0-is)) (omega (arith, c.in-Ok-Last.ensures.size, c.read_fragment.new.octets.ok.0)) p.1 in
+    (r.0, r.1, c.from_vec.ensures ∙ r.2, r.3)
 
-pub returns-in-Err-of-clause-told : goal.returns-in-Err-of-clause-told
-returns-in-Err-of-clause-told g c = λ t.
-    let tells : IsTrue (g.L.Link.tells c.fill.new.link) = rw c.in-Ok-eq4.ensures.tells t in
-    let first = c.in-Ok-eq4.ensures.told t in
-    let then = c.in-Ok-eq40.ensures.told tells in
-    let whole : length c.fill-2.new.buf ≡ 40 = c.fill-2.auto.buf in
-    (c.fill-2.new.buf, whole, took-same (took-again first.0 then.0) (is_frame c.fill.new.buf c.fill-2.new.buf c.fill-2.new.buf _ _ c.in-Ok-eq4.field-0-test c.in-Ok-eq40.field-0-test c.fill.auto.buf whole refl (sym c.ne.ensures ∙ c.if-ne.false)))
+pub returns-in-Err-clause-told : goal.returns-in-Err-clause-told
+returns-in-Err-clause-told g c = λ t.
+    let tells : IsTrue (g.L.Link.tells c.loop-number.link) = rw c.loop-number.invariant.tells t in
+    takes-refusal (g.L.Link.wire c.read_fragment.new.link) c.loop-number.number c.loop-number.octets.items c.read_fragment.new.octets.items (c.loop-number.invariant.told t) c.loop-number.invariant.most (omega (arith, c.loop-number.invariant.size, c.loop-number.octets.ok.0)) c.in-Err.refusal (c.in-Err.ensures.told tells)
+
+pub loop-number-preserved : goal.loop-number-preserved
+loop-number-preserved g c = record {
+  most = omega (arith, c.in-Ok-More.ensures.more (ap Ok c.in-Ok-More.field-0-is));
+  size = c.in-Ok-More.ensures.size;
+  told = λ t.
+      let tells : IsTrue (g.L.Link.tells c.loop-number.link) = rw c.loop-number.invariant.tells t in
+      let p = is-more _ _ _ _ _ _ c.in-Ok-More.field-0-is (c.in-Ok-More.ensures.told tells) in
+      begins-more (g.L.Link.wire c.read_fragment.new.link) c.loop-number.number c.loop-number.octets.items c.read_fragment.new.octets.items p.0 (c.loop-number.invariant.told t) p.1;
+  tells = c.in-Ok-More.ensures.tells ∙ c.loop-number.invariant.tells;
+  unclosed = c.in-Ok-More.ensures.unclosed;
+  faults = omega (arith, c.in-Ok-More.ensures.faults);
+}

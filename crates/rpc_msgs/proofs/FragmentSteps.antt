@@ -1,0 +1,120 @@
+-- Fragment after fragment of a record.
+use Rattle.std.proofs.Common.{◌≡◌, ◌⊎◌, inl, inr, ℕ, ◌+◌, ◌%◌, ◌<◌, ◌≤◌, ◌^◌, lit<, List, [], ◌∷◌, ◌++◌, length, refl, ap, sym, ◌∙◌, subst, arith, Some, Ok, Err}
+use Rattle.std.proofs.lemmas.Bool.{cases_lt}
+use Rattle.std.proofs.lemmas.Grind.{flat_map-append}
+use Rattle.std.proofs.lemmas.List.{length-append, append-nil}
+use Rattle.sec_base.specs.Link.{Wire}
+use Rattle.rpc_msgs.specs.Words.{word}
+use Rattle.rpc_msgs.specs.Records.{more_fragment, last_fragment, frames, joined, IsFront, IsWhole, IsPartial, TakesRecord}
+use Rattle.rpc_msgs.specs.Fragments.{Adds, Begins, TakesFragment}
+use Rattle.rpc_msgs.specs.declared.record.Fragment.{Fragment}
+use Rattle.rpc_msgs.specs.declared.record.Fragment.TheVariants.{More, Last}
+use Rattle.rpc_msgs.specs.declared.record.RecordRefusal.{RecordRefusal}
+use Rattle.rpc_msgs.specs.declared.record.RecordRefusal.TheVariants.{LinkFault, TooLong, TooManyFragments, Torn, NoMemory}
+use Rattle.rpc_msgs.proofs.InARow.{took-again, took-same}
+use Rattle.rpc_msgs.proofs.WordLengths.{length-word}
+
+pub frames-push : (earlier : List (List ℕ)) (part : List ℕ) → frames earlier ++ more_fragment part ≡ frames (earlier ++ part ∷ [])
+frames-push earlier part =
+    ap (λ (zs : List ℕ). frames earlier ++ zs) (sym (append-nil (more_fragment part))) ∙ sym (flat_map-append more_fragment earlier (part ∷ []))
+
+pub joined-push : (earlier : List (List ℕ)) (part : List ℕ) → joined earlier ++ part ≡ joined (earlier ++ part ∷ [])
+joined-push earlier part =
+    ap (λ (zs : List ℕ). joined earlier ++ zs) (sym (append-nil part)) ∙ sym (flat_map-append (λ (octets : List ℕ). octets) earlier (part ∷ []))
+
+pub begins-more : {a b : Wire} (c : Wire) (n : ℕ) (xs ys part : List ℕ) → Begins a b n xs → Adds b c xs ys part (more_fragment part) → Begins a c (n + 1) ys
+begins-more c n xs ys part s t = record {
+  earlier = s.earlier ++ part ∷ [];
+  count = length-append s.earlier (part ∷ []) ∙ ap (λ (k : ℕ). k + 1) s.count;
+  held = t.grown ∙ (ap (λ (zs : List ℕ). zs ++ part) s.held ∙ joined-push s.earlier part);
+  took = took-same (took-again s.took t.took) (frames-push s.earlier part);
+}
+
+pub takes-last : {a b : Wire} (c : Wire) (n : ℕ) (xs ys part : List ℕ) → Begins a b n xs → n < 64 → length ys ≤ 131072 → Adds b c xs ys part (last_fragment part) → TakesRecord a c (Ok (Some ys))
+takes-last c n xs ys part s h size t =
+    let held : ys ≡ joined s.earlier ++ part = t.grown ∙ ap (λ (zs : List ℕ). zs ++ part) s.held in (
+      record { earlier = s.earlier; last = part },
+      record { few = omega (arith, s.count); size = subst (λ (zs : List ℕ). length zs ≤ 131072) held size },
+      held,
+      took-again s.took t.took,
+    )
+
+frames-length : (earlier : List (List ℕ)) → length earlier ≤ length (frames earlier)
+frames-length [] = omega arith
+frames-length (part ∷ earlier) =
+    let one : length (more_fragment part ++ frames earlier) ≡ 4 + length part + length (frames earlier) = simp (length-append, length-word) (omega arith) in
+    omega (arith, one, frames-length earlier)
+
+pub front-of : {a b : Wire} (n : ℕ) (xs part : List ℕ) (s : Begins a b n xs) → n ≤ 64 → length xs ≤ 131072 → IsPartial n (length xs) part → IsFront (frames s.earlier ++ part)
+front-of n xs part s h size p = record {
+  earlier = s.earlier;
+  part = part;
+  few = omega (arith, s.count);
+  size = subst (λ (zs : List ℕ). length zs ≤ 131072) s.held size;
+  partial = subst (λ (k : ℕ). IsPartial k (length (joined s.earlier)) part) (sym s.count) (subst (λ (zs : List ℕ). IsPartial n (length zs) part) s.held p);
+  spelled = refl;
+}
+
+-- a header with all or some of the octets that it announces: a front of a record, or all of it
+pub front-or-whole : {a b : Wire} (n : ℕ) (xs part : List ℕ) (header : ℕ) (s : Begins a b n xs) → n < 64 → length xs ≤ 131072 → header < 2 ^ 32 → length xs + header % 2 ^ 31 ≤ 131072 → length part ≤ header % 2 ^ 31 → IsFront (frames s.earlier ++ (word header ++ part)) ⊎ IsWhole (frames s.earlier ++ (word header ++ part))
+front-or-whole n xs part header s few size bound fits most =
+    elim (cases_lt (length part) (header % 2 ^ 31)) [
+      | inl less ↦ inl (front-of n xs (word header ++ part) s (omega arith) size (inr (header, part, bound, few, fits, refl, less)))
+      | inr all ↦ let same : length part ≡ header % 2 ^ 31 = omega arith in
+          elim (cases_lt header (2 ^ 31)) [
+            | inl more ↦ inl (record {
+              earlier = s.earlier ++ part ∷ [];
+              part = [];
+              few = omega (arith, s.count, length-append s.earlier (part ∷ []));
+              size = omega (arith, ap length s.held, ap length (sym (joined-push s.earlier part)), length-append (joined s.earlier) part);
+              partial = inl (lit< tt);
+              spelled = let is : header ≡ length part = omega arith in
+                  ap (λ (k : ℕ). frames s.earlier ++ (word k ++ part)) is ∙ (frames-push s.earlier part ∙ sym (append-nil (frames (s.earlier ++ part ∷ []))));
+            })
+            | inr last ↦ inr (record {
+              cut = record { earlier = s.earlier; last = part };
+              is_record = record { few = omega (arith, s.count); size = omega (arith, ap length s.held, length-append (joined s.earlier) part) };
+              spelled = let is : header ≡ 2 ^ 31 + length part = omega arith in ap (λ (k : ℕ). frames s.earlier ++ (word k ++ part)) is;
+            })
+          ]
+    ]
+
+pub takes-refusal : {a b : Wire} (c : Wire) (n : ℕ) (xs ys : List ℕ) → Begins a b n xs → n ≤ 64 → length xs ≤ 131072 → (refusal : RecordRefusal) → TakesFragment b c xs ys n (Err refusal) → TakesRecord a c (Err refusal)
+takes-refusal c n xs ys s h size LinkFault t = (frames s.earlier ++ t.0, front-of n xs t.0 s h size t.1, took-again s.took t.2)
+takes-refusal c n xs ys s h size TooLong t = (
+  frames s.earlier ++ word t.0,
+  record {
+    earlier = s.earlier;
+    header = t.0;
+    bound = t.2.bound;
+    few = omega (arith, s.count);
+    size = subst (λ (zs : List ℕ). length zs ≤ 131072) s.held size;
+    announced = subst (λ (zs : List ℕ). 131072 < length zs + t.0 % 2 ^ 31) s.held t.1;
+    spelled = refl;
+  },
+  took-again s.took t.2.took,
+)
+takes-refusal c n xs ys s h size TooManyFragments t = (
+  frames s.earlier ++ word t.0,
+  record {
+    earlier = s.earlier;
+    header = t.0;
+    bound = t.3.bound;
+    full = s.count ∙ t.1;
+    announced = subst (λ (zs : List ℕ). length zs + t.0 % 2 ^ 31 ≤ 131072) s.held t.2;
+    spelled = refl;
+  },
+  took-again s.took t.3.took,
+)
+takes-refusal {a} {b} c n xs ys s h size Torn t =
+    let some : 0 < length a.coming = omega (arith, t.1, s.count, frames-length s.earlier, ap length s.took.coming, length-append (frames s.earlier) b.coming) in (
+      record { front = subst IsFront (sym s.took.coming) (front-of n xs b.coming s h size t.0); some = some },
+      took-same (took-again s.took t.2) (sym s.took.coming),
+    )
+takes-refusal c n xs ys s h size NoMemory t = (frames s.earlier ++ (word t.0 ++ t.1), front-or-whole n xs t.1 t.0 s t.2 size t.3 t.4 t.5, took-again s.took t.6)
+
+pub is-more : (b c : Wire) (xs ys : List ℕ) (n : ℕ) (f : Fragment) → f ≡ More → TakesFragment b c xs ys n (Ok f) → TakesFragment b c xs ys n (Ok More)
+is-more b c xs ys n f e t = subst (λ (g : Fragment). TakesFragment b c xs ys n (Ok g)) e t
+
+pub is-last : (b c : Wire) (xs ys : List ℕ) (n : ℕ) (f : Fragment) → f ≡ Last → TakesFragment b c xs ys n (Ok f) → TakesFragment b c xs ys n (Ok Last)
+is-last b c xs ys n f e t = subst (λ (g : Fragment). TakesFragment b c xs ys n (Ok g)) e t

@@ -1,0 +1,62 @@
+-- What reading one fragment took of the stream.
+use Rattle.std.specs.Prelude.{◌≡◌, ℕ, ◌+◌, ◌%◌, ◌<◌, ◌≤◌, ◌^◌, Bool, true, false, List, [], ◌++◌, length, Result, Ok, Err}
+use Rattle.sec_base.specs.Link.{Wire}
+use Rattle.rpc_msgs.specs.Streams.{Took}
+use Rattle.rpc_msgs.specs.Words.{word}
+use Rattle.rpc_msgs.specs.Records.{more_fragment, last_fragment, frames, joined, IsPartial}
+use Rattle.rpc_msgs.specs.declared.record.Fragment.{Fragment}
+use Rattle.rpc_msgs.specs.declared.record.Fragment.TheVariants.{More, Last, End}
+use Rattle.rpc_msgs.specs.declared.record.RecordRefusal.{RecordRefusal}
+use Rattle.rpc_msgs.specs.declared.record.RecordRefusal.TheVariants.{LinkFault, TooLong, TooManyFragments, Torn, NoMemory}
+
+-- these octets were read behind those that were there
+pub record Grows (old new : Wire) (before after part : List ℕ) : Type 0 where
+  pub grown : after ≡ before ++ part
+  pub took : Took old new part
+
+-- at most so many octets were read, fewer only where the input ended
+abbrev pub TakesPiece : Wire → Wire → List ℕ → List ℕ → ℕ → Result ℕ RecordRefusal → Type 0
+TakesPiece old new before after most (Ok count) = (part : List ℕ) × (length part ≡ count) × (count < most → new.coming ≡ []) × Grows old new before after part
+TakesPiece old new before after most (Err LinkFault) = (part : List ℕ) × (length part < most) × Took old new part
+TakesPiece old new before after most (Err TooLong) = ⊥
+TakesPiece old new before after most (Err TooManyFragments) = ⊥
+TakesPiece old new before after most (Err Torn) = ⊥
+TakesPiece old new before after most (Err NoMemory) = (part : List ℕ) × (length part ≤ most) × Took old new part
+
+-- so many octets were read, or those up to the end of input where fewer came
+abbrev pub TakesContent : Wire → Wire → List ℕ → List ℕ → ℕ → Result Bool RecordRefusal → Type 0
+TakesContent old new before after count (Ok true) = (part : List ℕ) × (length part ≡ count) × Grows old new before after part
+TakesContent old new before after count (Ok false) = (part : List ℕ) × (length part < count) × (new.coming ≡ []) × Grows old new before after part
+TakesContent old new before after count (Err LinkFault) = (part : List ℕ) × (length part < count) × Took old new part
+TakesContent old new before after count (Err TooLong) = ⊥
+TakesContent old new before after count (Err TooManyFragments) = ⊥
+TakesContent old new before after count (Err Torn) = ⊥
+TakesContent old new before after count (Err NoMemory) = (part : List ℕ) × (length part ≤ count) × Took old new part
+
+-- a fragment was read whole behind those that were there
+pub record Adds (old new : Wire) (before after part framed : List ℕ) : Type 0 where
+  pub grown : after ≡ before ++ part
+  pub took : Took old new framed
+
+-- a header was read
+pub record Heads (old new : Wire) (header : ℕ) : Type 0 where
+  pub bound : header < 2 ^ 32
+  pub took : Took old new (word header)
+
+-- the fragment of this number was read, or why it was not
+abbrev pub TakesFragment : Wire → Wire → List ℕ → List ℕ → ℕ → Result Fragment RecordRefusal → Type 0
+TakesFragment old new before after number (Ok More) = (part : List ℕ) × Adds old new before after part (more_fragment part)
+TakesFragment old new before after number (Ok Last) = (part : List ℕ) × Adds old new before after part (last_fragment part)
+TakesFragment old new before after number (Ok End) = (number ≡ 0) × (old.coming ≡ []) × Took old new []
+TakesFragment old new before after number (Err LinkFault) = (part : List ℕ) × IsPartial number (length before) part × Took old new part
+TakesFragment old new before after number (Err TooLong) = (header : ℕ) × (131072 < length before + header % 2 ^ 31) × Heads old new header
+TakesFragment old new before after number (Err TooManyFragments) = (header : ℕ) × (number ≡ 64) × (length before + header % 2 ^ 31 ≤ 131072) × Heads old new header
+TakesFragment old new before after number (Err Torn) = IsPartial number (length before) old.coming × (0 < number + length old.coming) × Took old new old.coming
+TakesFragment old new before after number (Err NoMemory) = (header : ℕ) × (part : List ℕ) × (number < 64) × (header < 2 ^ 32) × (length before + header % 2 ^ 31 ≤ 131072) × (length part ≤ header % 2 ^ 31) × Took old new (word header ++ part)
+
+-- so many fragments were read
+pub record Begins (old new : Wire) (number : ℕ) (octets : List ℕ) : Type 0 where
+  pub earlier : List (List ℕ)
+  pub count : length earlier ≡ number
+  pub held : octets ≡ joined earlier
+  pub took : Took old new (frames earlier)
