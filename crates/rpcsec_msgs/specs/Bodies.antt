@@ -1,8 +1,12 @@
 -- The bodies of calls and replies, RFC 2203 section 5.3.2.
-use Rattle.std.specs.Prelude.{ℕ, List, ◌++◌, Result, Ok}
+use Rattle.std.specs.Prelude.{ℕ, ◌≤◌, List, ◌++◌, length, Result, Ok}
 use Rattle.rpc_msgs.specs.Words.{opaque}
 use Rattle.rpc_msgs.specs.Xdr.{whole, ◌>>=◌, opaque_at, end_at}
 use Rattle.rpc_msgs.specs.declared.xdr_reader.XdrRefusal.{XdrRefusal}
+
+-- no longer than a word can tell
+abbrev pub IsLong : List ℕ → Type 0
+IsLong octets = length octets ≤ 4294967295
 
 -- a body by integrity: its octets and their MIC
 abbrev pub checked_octets : List ℕ → List ℕ → List ℕ

@@ -29,7 +29,7 @@ pub record IsCred (c : CredValue) : Type 0 where
   pub seq : c.seq < 2 ^ 32
   pub service : c.service < 2 ^ 32
   pub served : is_service c.proc c.service ≡ true
-  pub context : length c.context < 2 ^ 32
+  pub context : length c.context ≤ 4294967295
 
 -- ---- reading, with the place of the first octet that is wrong
 

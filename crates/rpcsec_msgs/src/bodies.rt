@@ -1,18 +1,27 @@
 //! The bodies of calls and replies, RFC 2203 section 5.3.2: the octets that are protected and what protects them.
 
-ghost use Rattle.std.specs.Prelude.{◌≡◌, ◌<◌, ◌^◌, ◌++◌, length, IfOk};
+ghost use Rattle.std.specs.Prelude.{◌≡◌, ◌<◌, ◌^◌, ◌++◌, length, IfOk, List, ℕ, Ok};
 ghost use Rattle.rpc_msgs.specs.Words.{opaque};
 ghost use Rattle.rpc_msgs.specs.Xdr.{Answers};
-ghost use Rattle.rpcsec_msgs.specs.Bodies.{checked_at, checked_octets, sealed_at};
+ghost use Rattle.rpcsec_msgs.specs.Bodies.{IsLong, checked_at, checked_octets, sealed_at};
 
 use rpc_msgs::{XdrReader, XdrRefusal, XdrWriter};
 use sec_base::{NoMemory, Octets};
 use std::alloc::Global;
 
 /// The octets of a body by integrity, and their MIC (section 5.3.2.2).
-#[tactic(auto, unfolding(crate::specs::Bodies::checked_at))]
 pub fn split_checked(bytes: &[u8]) -> Result<(&[u8], &[u8]), XdrRefusal>
     ensures exact { Answers (λ p. (p.0.now, p.1.now)) result (checked_at bytes.now) }
+    ensures found { IfOk result (λ p. bytes.now ≡ checked_octets p.0.now p.1.now) }
+    ensures only { (body tag : List ℕ) → IsLong body → IsLong tag → bytes.now ≡ checked_octets body tag → Answers {B = List ℕ × List ℕ} (λ p. (p.0.now, p.1.now)) result (Ok (body, tag)) }
+{
+    checked_in(bytes)
+}
+
+/// What `split_checked` answers.
+#[tactic(auto, unfolding(crate::specs::Bodies::checked_at))]
+fn checked_in(bytes: &[u8]) -> Result<(&[u8], &[u8]), XdrRefusal>
+    ensures { Answers (λ p. (p.0.now, p.1.now)) result (checked_at bytes.now) }
 {
     let mut reader = XdrReader::new(bytes);
     let body = reader.opaque(u32::MAX)?;
@@ -34,9 +43,18 @@ pub fn join_checked(alloc: Global, body: &[u8], tag: &[u8]) -> Result<Octets, No
 }
 
 /// The sealed token of a body by privacy (section 5.3.2.3).
-#[tactic(auto, unfolding(crate::specs::Bodies::sealed_at))]
 pub fn split_sealed(bytes: &[u8]) -> Result<&[u8], XdrRefusal>
     ensures exact { Answers (λ token. token.now) result (sealed_at bytes.now) }
+    ensures found { IfOk result (λ token. bytes.now ≡ opaque token.now) }
+    ensures only { (token : List ℕ) → IsLong token → bytes.now ≡ opaque token → Answers (λ t. t.now) result (Ok token) }
+{
+    sealed_in(bytes)
+}
+
+/// What `split_sealed` answers.
+#[tactic(auto, unfolding(crate::specs::Bodies::sealed_at))]
+fn sealed_in(bytes: &[u8]) -> Result<&[u8], XdrRefusal>
+    ensures { Answers (λ token. token.now) result (sealed_at bytes.now) }
 {
     let mut reader = XdrReader::new(bytes);
     let token = reader.opaque(u32::MAX)?;

@@ -1,8 +1,8 @@
 //! Credentials, RFC 2203 section 5.
 
-ghost use Rattle.std.specs.Prelude.{◌≡◌, ◌<◌, ◌^◌, length, IfOk};
+ghost use Rattle.std.specs.Prelude.{◌≡◌, ◌<◌, ◌^◌, length, IfOk, Ok};
 ghost use Rattle.rpc_msgs.specs.Xdr.{Answers, Reads};
-ghost use Rattle.rpcsec_msgs.specs.Cred.{cred_value, cred_octets, cred_word_at, version_at, procedure_at, is_service, service_at, cred_fields_at, cred_at};
+ghost use Rattle.rpcsec_msgs.specs.Cred.{CredValue, IsCred, cred_value, cred_octets, cred_word_at, version_at, procedure_at, is_service, service_at, cred_fields_at, cred_at};
 
 use rpc_msgs::{XdrReader, XdrRefusal, XdrWriter};
 use sec_base::{NoMemory, Octets};
@@ -43,6 +43,8 @@ pub struct CredRefusal {
 /// Reads the credential that a body is.
 pub fn read_cred(body: &[u8]) -> Result<GssCred<'_>, CredRefusal>
     ensures exact { Answers cred_value result (cred_at body.now) }
+    ensures found { IfOk result (λ c. IsCred (cred_value c) × (body.now ≡ cred_octets (cred_value c))) }
+    ensures only { (c : CredValue) → IsCred c → body.now ≡ cred_octets c → Answers cred_value result (Ok c) }
 {
     cred_in(body)
 }

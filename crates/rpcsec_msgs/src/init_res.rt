@@ -1,8 +1,8 @@
 //! Results of creation calls, RFC 2203 section 5.2.3.1.
 
-ghost use Rattle.std.specs.Prelude.{◌≡◌, ◌≤◌, length, IfOk};
+ghost use Rattle.std.specs.Prelude.{◌≡◌, ◌≤◌, length, IfOk, Ok};
 ghost use Rattle.rpc_msgs.specs.Xdr.{MayAnswer};
-ghost use Rattle.rpcsec_msgs.specs.InitRes.{init_res_octets, init_fields_at, init_res_at, MayRead};
+ghost use Rattle.rpcsec_msgs.specs.InitRes.{IsInitRes, init_res_octets, init_fields_at, init_res_at, MayRead};
 
 use rpc_msgs::{XdrReader, XdrRefusal, XdrWriter};
 use sec_base::{NoMemory, Octets};
@@ -35,6 +35,8 @@ pub struct InitRes {
 /// Reads the result that the octets are.
 pub fn read_init_res(alloc: Global, bytes: &[u8]) -> Result<InitRes, XdrRefusal>
     ensures exact { MayAnswer (λ v. v) result (init_res_at bytes.now) }
+    ensures found { IfOk result (λ v. IsInitRes v × (bytes.now ≡ init_res_octets v)) }
+    ensures only { (v : _) → IsInitRes v → bytes.now ≡ init_res_octets v → MayAnswer (λ x. x) result (Ok v) }
 {
     init_res_in(alloc, bytes)
 }
