@@ -1,4 +1,5 @@
 pub mod Fits
 pub mod Named
 pub mod Places
+pub mod Sealed
 pub mod Started
