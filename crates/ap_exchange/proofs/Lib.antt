@@ -3,3 +3,6 @@ pub mod Named
 pub mod Places
 pub mod Sealed
 pub mod Started
+pub mod Passed
+pub mod Found
+pub mod Honest

@@ -5,6 +5,8 @@ ghost use Rattle.der_core.specs.Format.{WritesWhole};
 ghost use Rattle.der_core.specs.Values.{has_zero};
 ghost use Rattle.krb_msgs.specs.PrincipalName.{IsName};
 ghost use Rattle.krb_msgs.specs.Ticket.{ticket};
+ghost use Rattle.krb_msgs.specs.EncTicketPart.{enc_ticket_part};
+ghost use Rattle.ap_exchange.specs.Keys.{ticket_usage, SealedOpens};
 ghost use Rattle.ap_exchange.specs.SealedTicket.{sealed_ticket};
 
 use crate::keys::{TICKET_USAGE, sealed_data};
@@ -31,7 +33,8 @@ pub fn seal_ticket(
     requires starttime { IfSome part.now.starttime (λ m. m % 1000000 ≡ 0) }
     requires endtime { part.now.endtime % 1000000 ≡ 0 }
     requires renew_till { IfSome part.now.renew_till (λ m. m % 1000000 ≡ 0) }
-    ensures { IfOk result (λ o. WritesWhole ticket (sealed_ticket service.now kvno server.now part.now confounder.now) o) }
+    ensures written { IfOk result (λ o. WritesWhole ticket (sealed_ticket service.now kvno server.now part.now confounder.now) o) }
+    ensures opens { IfOk result (λ _. SealedOpens service.now ticket_usage confounder.now (enc_ticket_part.spell part.now)) }
 {
     let octets = write_enc_ticket_part(alloc, part)?;
     let (realm, sname) = names_of(alloc, server)?;
