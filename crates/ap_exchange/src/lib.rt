@@ -25,3 +25,6 @@ pub use refusal::{ApRefusal, Part};
 pub use request::ApInit;
 pub use stamps::Stamps;
 pub use ticket::seal_ticket;
+
+#[cfg(test)]
+mod tests;
