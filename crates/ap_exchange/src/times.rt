@@ -12,6 +12,9 @@ use sec_base::Moment;
 /// How far apart moments may lie, in microseconds: 300 seconds.
 pub const SKEW: u64 = 300_000_000;
 
+/// The microseconds of one second.
+const MICROS: u64 = 1_000_000;
+
 /// The whole seconds of a moment.
 pub fn seconds_of(moment: Moment) -> Moment
     ensures { result ≡ seconds_of moment }
@@ -28,7 +31,11 @@ pub fn stamp_of(said: &Authenticator) -> Moment
     requires micros { said.now.cusec ≤ 999999 }
     ensures { result ≡ stamp_of said.now }
 {
-    said.ctime.later(said.cusec as u64)
+    let seconds = said.ctime.total();
+    match Moment::new(seconds / MICROS, said.cusec) {
+        Some(stamp) => stamp,
+        None => unreachable!(),
+    }
 }
 
 /// Whether two moments are at most 300 seconds apart.

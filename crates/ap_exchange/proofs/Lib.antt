@@ -1,0 +1,4 @@
+pub mod Fits
+pub mod Named
+pub mod Places
+pub mod Started
