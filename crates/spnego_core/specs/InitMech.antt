@@ -1,5 +1,6 @@
 -- What a mechanism makes of a reply at the initiator, and how it begins.
 use Rattle.std.specs.Prelude.{ℕ, Bool, true, false, ◌&&◌, not, if◌then◌else◌, List, [], ◌∷◌, map, Option, Some, None, Result, Ok, Err}
+use Rattle.std.specs.List.{list_any}
 use Rattle.gss_base.specs.declared.mech.MechKind.{MechKind}
 use Rattle.gss_base.specs.declared.mech.MechKind.TheVariants as kinds
 use Rattle.krb_derive.specs.Making.{Making}
@@ -38,6 +39,10 @@ is_own_list [] = false
 is_own_list (only ∷ []) = true
 is_own_list (first ∷ second ∷ []) = not (same_kind (kind_of first) (kind_of second))
 is_own_list (first ∷ second ∷ third ∷ rest) = false
+
+-- there is a credential of this mechanism
+abbrev pub is_own : List MechCred → MechKind → Bool
+is_own list kind = list_any (λ cred. same_kind (kind_of cred) kind) list
 
 -- the credential of a mechanism
 abbrev pub cred_for : List MechCred → MechKind → Option MechCred

@@ -29,8 +29,8 @@ use Rattle.spnego_core.specs.declared.init_end.InitStep.TheVariants as steps
 use Rattle.spnego_core.specs.Steps.{◌>>=◌, due, or_refuse}
 use Rattle.spnego_core.specs.Tokens.{init_octets, resp_read, last_read, resp_octets, rejects, says_completed, asks_mic}
 use Rattle.spnego_core.specs.ListMic.{list_mic, is_list_mic, mic_making, mic_found}
-use Rattle.spnego_core.specs.Choice.{is_among, is_first, is_kind}
-use Rattle.spnego_core.specs.InitMech.{kind_of, kinds_of, cred_for, MechBegun, init_begun, MechReplied, init_taken}
+use Rattle.spnego_core.specs.Choice.{is_first, is_kind}
+use Rattle.spnego_core.specs.InitMech.{kind_of, kinds_of, is_own, cred_for, MechBegun, init_begun, MechReplied, init_taken}
 
 -- a step that was taken
 pub record Initiated : Type 0 where
@@ -164,7 +164,7 @@ ran talk state mic (Err refusal) = Err (Mech refusal)
 ran talk state mic (Ok taken) = behind taken.makes taken.found (told talk state mic taken.answer)
 
 -- the reply of so many octets must have a token for the mechanism
-abbrev pub run : ℕ → Talk → InitMech → Option NegState → Option (List ℕ) → Option (List ℕ) → Result Initiated NegRefusal
+unfoldable pub run : ℕ → Talk → InitMech → Option NegState → Option (List ℕ) → Option (List ℕ) → Result Initiated NegRefusal
 run size talk mech state None mic = Err (Defective size)
 run size talk mech state (Some token) mic = ran talk state mic (init_taken mech token)
 
@@ -196,16 +196,16 @@ abbrev pub talk_with : InitSetup → MechKind → Option NegState → Talk
 talk_with own kind state = record { own = own; chosen = kind; asked = asks_mic state }
 
 -- the acceptor chose this mechanism
-abbrev pub picks : ℕ → Opening → MechKind → Option NegState → Option (List ℕ) → Option (List ℕ) → Result Initiated NegRefusal
+unfoldable pub picks : ℕ → Opening → MechKind → Option NegState → Option (List ℕ) → Option (List ℕ) → Result Initiated NegRefusal
 picks size opening kind state token mic =
     if is_first (kinds_of opening.own.list) kind
     then run size (talk_with opening.own kind state) opening.mech state token mic
     else switches (talk_with opening.own kind state) state token
 
 -- the mechanism that an identifier names, where it is one of the own list
-abbrev pub own_kind : List MechKind → Option MechKind → Option MechKind
-own_kind kinds None = None
-own_kind kinds (Some kind) = if is_among kinds kind then Some kind else None
+abbrev pub own_kind : List MechCred → Option MechKind → Option MechKind
+own_kind list None = None
+own_kind list (Some kind) = if is_own list kind then Some kind else None
 
 -- the first reply, of so many octets, must have a state and a mechanism, which is one of the own list
 unfoldable pub opened : ℕ → Opening → NegResp → Result Initiated NegRefusal
@@ -213,7 +213,7 @@ opened size opening resp = do
   goes ← due Rejected (not (rejects resp.state))
   state ← or_refuse (Defective size) resp.state
   oid ← or_refuse (Defective size) resp.mech
-  kind ← or_refuse MechNotMine (own_kind (kinds_of opening.own.list) (mech_of oid))
+  kind ← or_refuse MechNotMine (own_kind opening.own.list (mech_of oid))
   picks size opening kind (Some state) resp.token resp.mic
 
 -- ---- later replies

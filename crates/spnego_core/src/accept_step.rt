@@ -115,10 +115,16 @@ fn proceeds(
 ) -> Result<AcceptStep, NegRefusal>
     ensures { Gives NegRefusal.NoMemory (λ s. s) result (step_of (proceeds setup.now now draws.now size running resp)) }
 {
-    if rejects(resp.state) {
+    let NegResp {
+        state,
+        mech: _,
+        token,
+        mic: _,
+    } = resp;
+    if rejects(state) {
         return Err(NegRefusal::Rejected);
     }
-    let Some(token) = resp.token else {
+    let Some(token) = token else {
         return Err(NegRefusal::Defective { at: size });
     };
     run(alloc, setup, Turn::Later, running, &token, now, draws)
@@ -129,10 +135,16 @@ fn proceeds(
 fn closes(alloc: Global, owing: Owing, resp: NegResp) -> Result<AcceptStep, NegRefusal>
     ensures { Gives NegRefusal.NoMemory (λ s. s) result (step_of (closes owing resp)) }
 {
-    if rejects(resp.state) {
+    let NegResp {
+        state,
+        mech: _,
+        token: _,
+        mic,
+    } = resp;
+    if rejects(state) {
         return Err(NegRefusal::Rejected);
     }
-    let Some(mic) = resp.mic else {
+    let Some(mic) = mic else {
         return Err(NegRefusal::MicMissing);
     };
     let received = owing.received.as_slice();

@@ -7,7 +7,7 @@ ghost use Rattle.spnego_core.specs.ListMic.{is_list_mic};
 ghost use Rattle.spnego_core.specs.InitMech.{kinds_of, init_begun};
 ghost use Rattle.spnego_core.specs.Choice.{is_first};
 ghost use Rattle.spnego_core.specs.Tokens.{resp_octets};
-ghost use Rattle.spnego_core.specs.Initiating.{own_list, token_sent, mic_sent, own_mic, ended, is_mic_owed, completes_now, completes_later, looks, looks_again, settles, step_of};
+ghost use Rattle.spnego_core.specs.Initiating.{own_list, token_sent, mic_sent, own_mic, ended, is_mic_owed, completes_now, completes_later, looks, looks_again, step_of};
 
 use crate::choice::same_kind;
 use crate::init_end::{InitEnd, InitStep, Signed, Talk};
@@ -151,17 +151,6 @@ pub fn looks(
     }
 }
 
-/// All is complete, or a second token would be due.
-fn settles(signed: Signed, completes: bool) -> Result<InitStep, NegRefusal>
-    ensures { (listed : _) → Gives NegRefusal.NoMemory (λ s. s) result (step_of (settles signed listed completes)) }
-{
-    if completes {
-        Ok(InitStep::Done(signed.outcome))
-    } else {
-        Err(NegRefusal::Defective { at: 0 })
-    }
-}
-
 /// The step that a reply to the own MIC leads to.
 pub fn looks_again(
     alloc: Global,
@@ -171,13 +160,14 @@ pub fn looks_again(
 ) -> Result<InitStep, NegRefusal>
     ensures { Gives NegRefusal.NoMemory (λ s. s) result (step_of (looks_again signed state mic)) }
 {
-    match mic {
-        None => settles(signed, completes_later(state)),
-        Some(mic) => {
-            if !listed(alloc, &signed.talk, &signed.outcome, &mic)? {
-                return Err(NegRefusal::MicBad);
-            }
-            settles(signed, completes_later(state))
+    if let Some(mic) = mic {
+        if !listed(alloc, &signed.talk, &signed.outcome, &mic)? {
+            return Err(NegRefusal::MicBad);
         }
+    }
+    if completes_later(state) {
+        Ok(InitStep::Done(signed.outcome))
+    } else {
+        Err(NegRefusal::Defective { at: 0 })
     }
 }

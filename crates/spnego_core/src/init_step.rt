@@ -1,11 +1,9 @@
 //! The initiator's steps, RFC 4178 sections 3.2, 4.2.2 and 5.
 
-ghost use Rattle.std.specs.Prelude.{◌≡◌, option_map, Some, None, Bool};
+ghost use Rattle.std.specs.Prelude.{◌≡◌};
 ghost use Rattle.sec_base.specs.Answers.{Gives};
-ghost use Rattle.spnego_core.specs.InitMech.{kinds_of, cred_for, init_begun, init_taken};
-ghost use Rattle.gss_base.specs.Mech.{mech_of};
-ghost use Rattle.spnego_core.specs.Choice.{is_among};
-ghost use Rattle.spnego_core.specs.Initiating.{told, ran, run, begins_other, switches, talk_with, picks, own_kind, opened, is_chosen, talk_after, talked, closed, init_step, step_of};
+ghost use Rattle.spnego_core.specs.InitMech.{is_own, cred_for};
+ghost use Rattle.spnego_core.specs.Initiating.{told, run, begins_other, switches, talk_with, picks, own_kind, opened, is_chosen, talk_after, talked, closed, init_step, step_of};
 
 use crate::choice::{is_kind, same_kind};
 use crate::init_end::{InitEnd, InitStep, Opening, Signed, Talk, Talking};
@@ -43,6 +41,7 @@ fn told(
 }
 
 /// The mechanism takes the token of a reply of so many octets.
+#[tactic(auto, unfolding(crate::specs::Initiating::run))]
 fn run(
     alloc: Global,
     size: usize,
@@ -106,6 +105,7 @@ fn talk_with(own: InitSetup, chosen: MechKind, state: Option<NegState>) -> Talk
 }
 
 /// What follows the acceptor's choice.
+#[tactic(auto, unfolding(crate::specs::Initiating::picks))]
 fn picks(
     alloc: Global,
     size: usize,
@@ -129,14 +129,14 @@ fn picks(
 
 /// Whether one of the own credentials is of this mechanism.
 fn is_own(list: &[MechCred], kind: MechKind) -> bool
-    ensures { result ≡ is_among (kinds_of list.now) kind }
+    ensures { result ≡ is_own list.now kind }
 {
     list.iter().any(|cred| same_kind(cred.kind(), kind))
 }
 
 /// The mechanism that an identifier names, where it is one of the own list.
 fn own_kind(list: &[MechCred], named: Option<MechKind>) -> Option<MechKind>
-    ensures { result ≡ own_kind (kinds_of list.now) named }
+    ensures { result ≡ own_kind list.now named }
 {
     let kind = named?;
     if is_own(list, kind) { Some(kind) } else { None }
