@@ -22,3 +22,6 @@ pub use init_end::{InitEnd, InitStep};
 pub use outcome::Outcome;
 pub use refusal::{MechRefusal, NegRefusal};
 pub use setup::{AcceptSetup, InitSetup, MechCred};
+
+#[cfg(test)]
+mod tests;
