@@ -13,7 +13,7 @@ use Rattle.krb_msgs.specs.ApRep.{ap_rep}
 use Rattle.krb_tokens.specs.declared.done.MechDone.{MechDone}
 use Rattle.ap_exchange.specs.declared.judged.Judged.{Judged}
 use Rattle.ap_exchange.specs.Tokens.{ap_rep_id, token_of}
-use Rattle.ap_exchange.specs.Keys.{reply_usage, key_value, sealed_data}
+use Rattle.ap_exchange.specs.Keys.{reply_usage, key_value, sealed_data, SealedOpens}
 use Rattle.ap_exchange.specs.Draws.{drawn_subkey, drawn_confounder}
 use Rattle.ap_exchange.specs.Request.{seconds_of, micros_of}
 
@@ -58,8 +58,9 @@ answer_making j draws = sealed_making j.session reply_usage (reply_octets j draw
 abbrev pub answer_makes : Judged → List ℕ → List Making
 answer_makes j draws = answer_making j draws ∷ []
 
--- all that is written has a spelling
+-- what holds of an answer that was made: all that is written has a spelling, what is sealed opens again
 pub record AnswerFits (j : Judged) (draws : List ℕ) : Type 0 where
   pub sealed : enc_ap_rep_part.fits (reply_part_of j draws) ≡ true
+  pub opens : SealedOpens j.session reply_usage (drawn_confounder draws) (reply_octets j draws)
   pub message : ap_rep.fits (ap_rep_of j draws) ≡ true
   pub token : framed.fits (oid_of Kerberos, ap_rep_id ∷ 0 ∷ ap_rep.spell (ap_rep_of j draws)) ≡ true

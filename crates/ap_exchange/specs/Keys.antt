@@ -1,5 +1,5 @@
 -- Keys and sealed data in messages.
-use Rattle.std.specs.Prelude.{ℕ, pos, ℤ, Bool, false, ◌==◌, if◌then◌else◌, List, Option, Some, None, option_and_then, Result, Ok, Err}
+use Rattle.std.specs.Prelude.{◌≡◌, ℕ, pos, ℤ, Bool, false, ◌==◌, if◌then◌else◌, List, Option, Some, None, option_and_then, Result, Ok, Err}
 use Rattle.krb_derive.specs.declared.key.Etype.{Etype}
 use Rattle.krb_derive.specs.declared.key.Key.{Key}
 use Rattle.krb_derive.specs.declared.sealing.OpenRefusal.{OpenRefusal}
@@ -43,6 +43,10 @@ key_value key = record { keytype = pos (number_of_etype (type_of_key key)); keyv
 abbrev pub sealed_data : Key → Option ℕ → ℕ → List ℕ → List ℕ → EncryptedData
 sealed_data key kvno usage confounder octets =
     record { etype = pos (number_of_etype (type_of_key key)); kvno = kvno; cipher = seal_of key usage confounder octets }
+
+-- octets that were sealed so open again
+pub record SealedOpens (key : Key) (usage : ℕ) (confounder octets : List ℕ) : Type 0 where
+  pub opens : opened key usage (seal_of key usage confounder octets) ≡ Ok octets
 
 abbrev pub is_type_of : Key → Option Etype → Bool
 is_type_of key None = false

@@ -9,3 +9,4 @@ pub mod Judging
 pub mod Answer
 pub mod Reply
 pub mod SealedTicket
+pub mod Laws

@@ -1,5 +1,5 @@
 -- The request of an initiator, RFC 4120 section 3.2.2 and RFC 4121 section 4.1.1.
-use Rattle.std.specs.Prelude.{◌≡◌, true, ℕ, ◌*◌, ◌/◌, ◌%◌, pos, List, [], ◌∷◌, ◌++◌, Option, Some, None, Result, Ok}
+use Rattle.std.specs.Prelude.{◌≡◌, true, ℕ, ◌*◌, ◌/◌, ◌%◌, pos, List, [], ◌∷◌, ◌++◌, length, Option, Some, None, Result, Ok}
 use Rattle.gss_base.specs.Name.{Name}
 use Rattle.gss_base.specs.Bindings.{hash_of}
 use Rattle.gss_base.specs.Principal.{text_form}
@@ -23,7 +23,7 @@ use Rattle.ap_exchange.specs.declared.refusal.ApRefusal.{ApRefusal}
 use Rattle.ap_exchange.specs.declared.request.ApInit.{ApInit}
 use Rattle.ap_exchange.specs.Steps.{◌>>=◌, der_in}
 use Rattle.ap_exchange.specs.Tokens.{ap_req_id, token_of}
-use Rattle.ap_exchange.specs.Keys.{authenticator_usage, key_value, sealed_data}
+use Rattle.ap_exchange.specs.Keys.{authenticator_usage, key_value, sealed_data, SealedOpens}
 use Rattle.ap_exchange.specs.Draws.{drawn_subkey, drawn_confounder}
 
 -- a name as this project writes it: of type 1
@@ -116,10 +116,13 @@ pub record WritesRequest (credential : Granted) (stamp : ℕ) (draws : List ℕ)
   pub sealed : WritesWhole authenticator (authenticator_with credential.client stamp subkey hash) octets
   pub message : List ℕ
   pub requests : WritesWhole ap_req (ap_req_with credential.ticket credential.session draws octets) message
+  pub opens : SealedOpens credential.session authenticator_usage (drawn_confounder draws) octets
   pub frames : WritesWhole framed (oid_of Kerberos, ap_req_id ∷ 0 ∷ message) token
 
--- all that is written has a spelling
+-- what holds of a request that was made: all that is written has a spelling, what is sealed opens again, the hash has its length
 pub record RequestFits (credential : Granted) (stamp : ℕ) (draws : List ℕ) (bindings : Option (List ℕ)) : Type 0 where
   pub sealed : authenticator.fits (authenticator_of credential stamp draws bindings) ≡ true
+  pub opens : SealedOpens credential.session authenticator_usage (drawn_confounder draws) (authenticator_octets credential stamp draws bindings)
+  pub hash : length (hash_of bindings) ≡ 16
   pub message : ap_req.fits (ap_req_of credential stamp draws bindings) ≡ true
   pub token : framed.fits (oid_of Kerberos, ap_req_id ∷ 0 ∷ ap_req.spell (ap_req_of credential stamp draws bindings)) ≡ true

@@ -3,10 +3,10 @@
 ghost use Rattle.std.specs.Prelude.{◌≡◌, IfOk};
 ghost use Rattle.sec_base.specs.Answers.{Gives};
 ghost use Rattle.krb_derive.specs.Sealing.{opened};
-ghost use Rattle.ap_exchange.specs.Keys.{known_key, key_in, subkey_in, key_value, sealed_data, is_type_of, opened_or, data_opened};
+ghost use Rattle.ap_exchange.specs.Keys.{known_key, key_in, subkey_in, key_value, sealed_data, SealedOpens, is_type_of, opened_or, data_opened};
 
 use crate::refusal::ApRefusal;
-use krb_derive::{Etype, Key, OpenRefusal, open, seal};
+use krb_derive::{Etype, Key, OpenRefusal, SealKeys, open};
 use krb_msgs::{EncryptedData, EncryptionKey};
 use sec_base::{NoMemory, Octets};
 use std::alloc::Global;
@@ -73,9 +73,11 @@ pub fn sealed_data(
     confounder: &[u8; 16],
     octets: &[u8],
 ) -> Result<EncryptedData, NoMemory>
-    ensures { IfOk result (λ d. d ≡ sealed_data key.now kvno usage confounder.now octets.now) }
+    ensures value { IfOk result (λ d. d ≡ sealed_data key.now kvno usage confounder.now octets.now) }
+    ensures opens { IfOk result (λ _. SealedOpens key.now usage confounder.now octets.now) }
 {
-    let cipher = seal(alloc, key, usage, confounder, octets)?;
+    let keys = SealKeys::of(key, usage);
+    let cipher = keys.seal(alloc, confounder, octets)?;
     Ok(EncryptedData {
         etype: key.etype().number(),
         kvno,

@@ -6,6 +6,7 @@ mod draws;
 mod judge;
 mod judged;
 mod keys;
+mod laws;
 mod message;
 mod names;
 mod refusal;
@@ -19,7 +20,11 @@ mod token;
 pub use draws::nonce_of;
 pub use judge::judge_request;
 pub use judged::Judged;
+pub use laws::prove_laws;
 pub use refusal::{ApRefusal, Part};
 pub use request::ApInit;
 pub use stamps::Stamps;
 pub use ticket::seal_ticket;
+
+#[cfg(test)]
+mod tests;

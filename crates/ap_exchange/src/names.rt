@@ -1,8 +1,10 @@
 //! Names in messages.
 
-ghost use Rattle.std.specs.Prelude.{◌≡◌, IfOk, true};
+ghost use Rattle.std.specs.Prelude.{◌≡◌, IfOk, true, false};
 ghost use Rattle.gss_base.specs.SameName.{same_name};
 ghost use Rattle.gss_base.specs.Principal.{is_named};
+ghost use Rattle.der_core.specs.Values.{has_zero};
+ghost use Rattle.krb_msgs.specs.PrincipalName.{IsName};
 ghost use Rattle.ap_exchange.specs.Request.{name_value, label_of};
 ghost use Rattle.ap_exchange.specs.Exchange.{name_in_realm};
 
@@ -26,7 +28,7 @@ fn copies(alloc: Global, parts: &[Text]) -> Result<Vec<Text>, NoMemory>
 }
 
 /// A name as it is written here.
-pub fn name_value(alloc: Global, name: &Principal) -> Result<PrincipalName, NoMemory>
+fn name_value(alloc: Global, name: &Principal) -> Result<PrincipalName, NoMemory>
     ensures { IfOk result (λ n. n ≡ name_value name.now) }
 {
     let parts = copies(alloc, name.parts())?;
@@ -34,6 +36,18 @@ pub fn name_value(alloc: Global, name: &Principal) -> Result<PrincipalName, NoMe
         name_type: PRINCIPAL,
         name_string: Items::of(parts),
     })
+}
+
+/// A principal's realm and its name as they are written here.
+pub fn names_of(alloc: Global, principal: &Principal) -> Result<(Text, PrincipalName), NoMemory>
+    ensures value { IfOk result (λ n. (n.0 ≡ principal.now.realm) × (n.1 ≡ name_value principal.now)) }
+    ensures realm { IfOk result (λ n. has_zero n.0 ≡ false) }
+    ensures name { IfOk result (λ n. IsName n.0 n.1) }
+{
+    let _label = principal.label();
+    let realm = Text::of(alloc, principal.realm())?;
+    let name = name_value(alloc, principal)?;
+    Ok((realm, name))
 }
 
 /// Whether a realm and a name in it are those of a principal.

@@ -8,12 +8,14 @@ ghost use Rattle.der_core.specs.Element.{kept};
 ghost use Rattle.krb_msgs.specs.Authenticator.{authenticator};
 ghost use Rattle.krb_msgs.specs.ApReq.{ap_req};
 ghost use Rattle.krb_msgs.specs.Ticket.{ticket_element};
+ghost use Rattle.ap_exchange.specs.Keys.{authenticator_usage, SealedOpens};
+ghost use Rattle.ap_exchange.specs.Draws.{drawn_confounder};
 ghost use Rattle.ap_exchange.specs.Request.{checksum_for, authenticator_with, ap_req_with, WritesRequest, request_of, RequestFits};
 
 use crate::draws::{confounder_of, subkey_of};
 use crate::keys::{AUTHENTICATOR_USAGE, key_value, sealed_data};
 use crate::message::ticket_in;
-use crate::names::name_value;
+use crate::names::names_of;
 use crate::refusal::ApRefusal;
 use crate::times::seconds_of;
 use crate::token::{AP_REQ, framed_message};
@@ -21,7 +23,7 @@ use gss_base::{Bindings, Label, Principal, binding_hash};
 use krb_derive::Key;
 use krb_files::Credential;
 use krb_msgs::{ApReq, Authenticator, Checksum, write_ap_req, write_authenticator};
-use sec_base::{Moment, NoMemory, Octets, Text};
+use sec_base::{Moment, NoMemory, Octets};
 use std::alloc::Global;
 
 /// The type of the exchange's checksum (RFC 4121 section 4.1.1).
@@ -77,10 +79,10 @@ fn authenticator_octets(
 ) -> Result<Octets, NoMemory>
     ensures { IfOk result (λ o. WritesWhole authenticator (authenticator_with client.now stamp subkey.now hash.now) o) }
 {
-    let _label = client.label();
+    let (crealm, cname) = names_of(alloc, client)?;
     let said = Authenticator {
-        crealm: Text::of(alloc, client.realm())?,
-        cname: name_value(alloc, client)?,
+        crealm,
+        cname,
         cksum: Some(checksum_for(alloc, hash)?),
         cusec: stamp.micros(),
         ctime: seconds_of(stamp),
@@ -100,7 +102,8 @@ fn message_of(
     octets: &[u8],
 ) -> Result<Octets, NoMemory>
     requires { (kept ticket_element).fits ticket.now ≡ true }
-    ensures { IfOk result (λ o. WritesWhole ap_req (ap_req_with ticket.now session.now draws.now octets.now) o) }
+    ensures message { IfOk result (λ o. WritesWhole ap_req (ap_req_with ticket.now session.now draws.now octets.now) o) }
+    ensures opens { IfOk result (λ _. SealedOpens session.now authenticator_usage (drawn_confounder draws.now) octets.now) }
 {
     let confounder = confounder_of(draws);
     let sealed = sealed_data(

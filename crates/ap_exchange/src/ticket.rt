@@ -5,14 +5,16 @@ ghost use Rattle.der_core.specs.Format.{WritesWhole};
 ghost use Rattle.der_core.specs.Values.{has_zero};
 ghost use Rattle.krb_msgs.specs.PrincipalName.{IsName};
 ghost use Rattle.krb_msgs.specs.Ticket.{ticket};
+ghost use Rattle.krb_msgs.specs.EncTicketPart.{enc_ticket_part};
+ghost use Rattle.ap_exchange.specs.Keys.{ticket_usage, SealedOpens};
 ghost use Rattle.ap_exchange.specs.SealedTicket.{sealed_ticket};
 
 use crate::keys::{TICKET_USAGE, sealed_data};
-use crate::names::name_value;
+use crate::names::names_of;
 use gss_base::Principal;
 use krb_derive::Key;
 use krb_msgs::{EncTicketPart, Ticket, write_enc_ticket_part, write_ticket};
-use sec_base::{NoMemory, Octets, Text};
+use sec_base::{NoMemory, Octets};
 use std::alloc::Global;
 
 /// A ticket for a server whose key has this number, as a key distribution centre makes it: what it says, sealed under the
@@ -31,13 +33,14 @@ pub fn seal_ticket(
     requires starttime { IfSome part.now.starttime (λ m. m % 1000000 ≡ 0) }
     requires endtime { part.now.endtime % 1000000 ≡ 0 }
     requires renew_till { IfSome part.now.renew_till (λ m. m % 1000000 ≡ 0) }
-    ensures { IfOk result (λ o. WritesWhole ticket (sealed_ticket service.now kvno server.now part.now confounder.now) o) }
+    ensures written { IfOk result (λ o. WritesWhole ticket (sealed_ticket service.now kvno server.now part.now confounder.now) o) }
+    ensures opens { IfOk result (λ _. SealedOpens service.now ticket_usage confounder.now (enc_ticket_part.spell part.now)) }
 {
     let octets = write_enc_ticket_part(alloc, part)?;
-    let _label = server.label();
+    let (realm, sname) = names_of(alloc, server)?;
     let granted = Ticket {
-        realm: Text::of(alloc, server.realm())?,
-        sname: name_value(alloc, server)?,
+        realm,
+        sname,
         enc_part: sealed_data(
             alloc,
             service,
