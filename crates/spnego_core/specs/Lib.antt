@@ -7,3 +7,4 @@ pub mod AcceptMech
 pub mod Accepting
 pub mod InitMech
 pub mod Initiating
+pub mod InitLaws

@@ -11,6 +11,7 @@ mod init_mech;
 mod init_reply;
 mod init_start;
 mod init_step;
+mod laws;
 mod list_mic;
 mod outcome;
 mod refusal;
@@ -19,6 +20,7 @@ mod tokens;
 
 pub use accept_end::{AcceptEnd, AcceptPause, AcceptStep};
 pub use init_end::{InitEnd, InitStep};
+pub use laws::prove_init_laws;
 pub use outcome::Outcome;
 pub use refusal::{MechRefusal, NegRefusal};
 pub use setup::{AcceptSetup, InitSetup, MechCred};
