@@ -114,15 +114,19 @@ told_makes running (answers.Pauses mark outcome lasts token) = mic_made running 
 abbrev pub fixed_with : List (List ℕ) → Built → Fixed
 fixed_with received built = record { received = received; outcome = built.outcome; basis = built.basis }
 
--- the step by what the mechanism made of its token; its refusal is the end's
-abbrev pub run : Turn → Running → Result MechTaken MechRefusal → Result Accepted NegRefusal
-run turn running (Err refusal) = Err (Mech refusal)
-run turn running (Ok taken) = Ok (record {
+-- the step by what the mechanism made of its token
+abbrev pub ran_with : Turn → Running → MechTaken → Accepted
+ran_with turn running taken = record {
   step = told turn running taken.answer;
   makes = taken.makes ++ told_makes running taken.answer;
   found = taken.found;
   fixes = option_map (fixed_with running.received) taken.built;
-})
+}
+
+-- the mechanism's refusal is the end's
+abbrev pub run : Turn → Running → Result MechTaken MechRefusal → Result Accepted NegRefusal
+run turn running (Err refusal) = Err (Mech refusal)
+run turn running (Ok taken) = Ok (ran_with turn running taken)
 
 -- ---- the first token
 

@@ -8,3 +8,4 @@ pub mod Accepting
 pub mod InitMech
 pub mod Initiating
 pub mod InitLaws
+pub mod AcceptLaws

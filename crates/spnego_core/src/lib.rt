@@ -20,7 +20,7 @@ mod tokens;
 
 pub use accept_end::{AcceptEnd, AcceptPause, AcceptStep};
 pub use init_end::{InitEnd, InitStep};
-pub use laws::prove_init_laws;
+pub use laws::{prove_accept_laws, prove_init_laws};
 pub use outcome::Outcome;
 pub use refusal::{MechRefusal, NegRefusal};
 pub use setup::{AcceptSetup, InitSetup, MechCred};
