@@ -137,6 +137,7 @@ request-law setup old now draws turn running token (Ok request) good kind before
   where
     fixed-is : (a b : Fixed) → Some a ≡ Some b → a ≡ b
     fixed-is a b e = cc
+
     some-none : (a : Fixed) → Some a ≡ None → ⊥
     some-none a e = cc
 

@@ -288,6 +288,7 @@ settles-law signed listed true found good sees grows =
     seen : (o : Outcome) → signed.outcome ≡ o → (signed.listed ≡ true) ⊎ SeesMic signed.talk.own found signed.outcome → (signed.listed ≡ true) ⊎ SeesMic signed.talk.own (found ++ []) o
     seen o e (inl l) = inl l
     seen o e (inr s) = inr (subst (λ (x : Outcome). SeesMic signed.talk.own (found ++ []) x) e (seen-more signed.talk.own signed.outcome found [] (found ++ []) refl s))
+
     covers : Covered signed.talk.own signed.talk.chosen signed.listed → Covered signed.talk.own signed.talk.chosen listed
     covers (inl e) = inl e
     covers (inr e) = inr (grows e)

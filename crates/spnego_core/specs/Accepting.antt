@@ -80,7 +80,7 @@ abbrev pub finished : Turn → Running → Outcome → ℕ → List ℕ → Answ
 finished turn running outcome lasts token =
     if running.due
     then afters.More (ends.Owes (record { received = running.received; outcome = outcome; lasts = lasts }))
-        (reply turn running.chosen true true (Some token) (Some (list_mic outcome Acceptor running.received)))
+    (reply turn running.chosen true true (Some token) (Some (list_mic outcome Acceptor running.received)))
     else afters.Done outcome lasts (reply turn running.chosen false true (Some token) None)
 
 -- the step that follows once nothing is to be asked

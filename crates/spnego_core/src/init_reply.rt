@@ -111,12 +111,7 @@ fn completes_later(state: Option<NegState>) -> bool
 }
 
 /// Takes a MIC of the acceptor over the own list.
-fn listed(
-    alloc: Global,
-    talk: &Talk,
-    outcome: &Outcome,
-    mic: &Octets,
-) -> Result<bool, NegRefusal>
+fn listed(alloc: Global, talk: &Talk, outcome: &Outcome, mic: &Octets) -> Result<bool, NegRefusal>
     ensures { Gives NegRefusal.NoMemory (λ b. b) result (Ok (is_list_mic outcome.now Initiator (own_list talk.now.own) mic.now)) }
 {
     let list = own_list(alloc, &talk.own)?;
