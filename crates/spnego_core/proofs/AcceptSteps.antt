@@ -41,19 +41,19 @@ abbrev pub On : (Accepted → Type 0) → Result Accepted NegRefusal → Type 0
 On P (Ok taken) = P taken
 On P (Err refusal) = Unit {0}
 
-on-bind : {A : Type 0} (P : Accepted → Type 0) (r : Result A NegRefusal) (next : A → Result Accepted NegRefusal) → ((x : A) → On P (next x)) → On P (r >>= next)
+pub on-bind : {A : Type 0} (P : Accepted → Type 0) (r : Result A NegRefusal) (next : A → Result Accepted NegRefusal) → ((x : A) → On P (next x)) → On P (r >>= next)
 on-bind P (Ok x) next f = f x
 on-bind P (Err refusal) next f = tt
 
-on-found : {A : Type 0} (P : Accepted → Type 0) (refusal : NegRefusal) (o : Option A) (next : A → Result Accepted NegRefusal) → ((x : A) → o ≡ Some x → On P (next x)) → On P (or_refuse refusal o >>= next)
+pub on-found : {A : Type 0} (P : Accepted → Type 0) (refusal : NegRefusal) (o : Option A) (next : A → Result Accepted NegRefusal) → ((x : A) → o ≡ Some x → On P (next x)) → On P (or_refuse refusal o >>= next)
 on-found P refusal None next f = tt
 on-found P refusal (Some x) next f = f x refl
 
-on-due : (P : Accepted → Type 0) (refusal : NegRefusal) (holds : Bool) (r : Result Accepted NegRefusal) → (holds ≡ true → On P r) → On P (due refusal holds >>= (λ nothing. r))
+pub on-due : (P : Accepted → Type 0) (refusal : NegRefusal) (holds : Bool) (r : Result Accepted NegRefusal) → (holds ≡ true → On P r) → On P (due refusal holds >>= (λ nothing. r))
 on-due P refusal true r f = f refl
 on-due P refusal false r f = tt
 
-by_test : (P : Answered → Type 0) (b : Bool) (x y : Answered) → (b ≡ true → P x) → (b ≡ false → P y) → P (if b then x else y)
+pub by_test : (P : Answered → Type 0) (b : Bool) (x y : Answered) → (b ≡ true → P x) → (b ≡ false → P y) → P (if b then x else y)
 by_test P true x y f g = f refl
 by_test P false x y f g = g refl
 

@@ -2,3 +2,5 @@ pub mod Requests
 pub mod InitSteps
 pub mod AcceptSteps
 pub mod Sizes
+pub mod Short
+pub mod ShortInit

@@ -18,3 +18,12 @@ pub request-waits : (credential : Granted) (stamp : ℕ) (draws : List ℕ) (bin
 unfolding request_of
 request-waits credential stamp draws bindings sent e =
     sent-is (der_in parts.Ticket (ticket.read (all_of credential.ticket))) (waiting credential stamp draws bindings) (request_token credential stamp draws bindings) sent e
+
+sent-token : (read : Result Ticket ApRefusal) (end : ApInit) (token : List ℕ) (sent : ApInit × List ℕ) → (read >>= (λ one. Ok (end, token))) ≡ Ok sent → sent.1 ≡ token
+sent-token (Ok one) end token sent e = let both : (end, token) ≡ sent = cc in cc
+sent-token (Err refusal) end token sent e = cc
+
+pub request-token : (credential : Granted) (stamp : ℕ) (draws : List ℕ) (bindings : Option (List ℕ)) (sent : ApInit × List ℕ) → request_of credential stamp draws bindings ≡ Ok sent → sent.1 ≡ request_token credential stamp draws bindings
+unfolding request_of
+request-token credential stamp draws bindings sent e =
+    sent-token (der_in parts.Ticket (ticket.read (all_of credential.ticket))) (waiting credential stamp draws bindings) (request_token credential stamp draws bindings) sent e

@@ -57,10 +57,10 @@ pub record Within (octets : List ℕ) (n : ℕ) : Type 0 where
 pub more : {octets : List ℕ} {m : ℕ} (n : ℕ) → m ≤ n → Within octets m → Within octets n
 more n h w = record { most = omega (arith, w.most) }
 
-none : Within [] 0
+pub none : Within [] 0
 none = record { most = omega arith }
 
-both : {xs ys : List ℕ} {m n : ℕ} → Within xs m → Within ys n → Within (xs ++ ys) (m + n)
+pub both : {xs ys : List ℕ} {m n : ℕ} → Within xs m → Within ys n → Within (xs ++ ys) (m + n)
 both {xs} {ys} v w = record { most = omega (arith, length-append xs ys, v.most, w.most) }
 
 first : (x : ℕ) {xs : List ℕ} {n : ℕ} → Within xs n → Within (x ∷ xs) (n + 1)
@@ -109,7 +109,7 @@ time_within t =
     let all : Within (digits (civil_of (t / 1000000)) ++ 90 ∷ []) 15 = record { most = omega (arith, length-append (digits (civil_of (t / 1000000))) (90 ∷ [])) } in
     element_within 0x18 all
 
-string_within : (octets : List ℕ) {n : ℕ} → Within octets n → Within (octet_string.spell octets) (n + 6)
+pub string_within : (octets : List ℕ) {n : ℕ} → Within octets n → Within (octet_string.spell octets) (n + 6)
 unfolding octet_string
 string_within octets w = element_within 4 w
 
@@ -209,7 +209,7 @@ text_within : (octets : List ℕ) {n : ℕ} → Within octets n → Within (text
 unfolding text
 text_within octets w = element_within 0x1b w
 
-oid_within : (oid : List ℕ) {n : ℕ} → Within oid n → Within (object_identifier.spell oid) (n + 6)
+pub oid_within : (oid : List ℕ) {n : ℕ} → Within oid n → Within (object_identifier.spell oid) (n + 6)
 unfolding object_identifier
 oid_within oid w = element_within 6 w
 

@@ -1,5 +1,4 @@
 use Rattle.spnego_core.proofs.AcceptSteps.{accept_steps}
-use Rattle.spnego_core.proofs.Sizes.{request_within, answer_within, mic_within}
 use Rattle.spnego_core.proofs.laws.prove_accept_laws.Goals as goal
 
 pub returns : goal.returns
