@@ -1,3 +1,4 @@
 pub mod Requests
 pub mod InitSteps
 pub mod AcceptSteps
+pub mod Pairs

@@ -9,3 +9,4 @@ pub mod InitMech
 pub mod Initiating
 pub mod InitLaws
 pub mod AcceptLaws
+pub mod PairLaws
