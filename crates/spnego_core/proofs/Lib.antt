@@ -4,3 +4,4 @@ pub mod AcceptSteps
 pub mod Sizes
 pub mod Short
 pub mod ShortInit
+pub mod Pairs

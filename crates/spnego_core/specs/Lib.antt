@@ -10,3 +10,4 @@ pub mod Initiating
 pub mod InitLaws
 pub mod AcceptLaws
 pub mod Sizes
+pub mod PairLaws
