@@ -4,3 +4,4 @@ pub mod Turning
 pub mod Orders
 pub mod Tables
 pub mod Pasts
+pub mod Lent

@@ -34,6 +34,20 @@ found-slot limit width live order slots id spot cell x t there read-cell read-sl
       id_is = sym (ap (λ (s : Slot _ _). s.id) here) ∙ there.same x;
     }
 
+-- the live slots after one of them was written in its cell
+pub changed-slot : {N S : Type 0} (live : ℕ) (order : List ℕ) (slots : List (Slot N S)) (spot cell : ℕ) (y : Slot N S) → IsOrder live order slots
+    → spot < live → cell ≡ get_or order spot 0 → gathered (take live order) (set slots cell y) ≡ set (gathered (take live order) slots) spot y
+changed-slot live order slots spot cell y o lp cell_is =
+    let g : List (Slot _ _) = gathered (take live order) slots in
+    let spot_is : cell ≡ get_or (take live order) spot 0 = cell_is ∙ sym (live-cell live order spot lp) in
+    subst (λ (i : ℕ). gathered (take live order) (set slots i y) ≡ set g spot y) (sym spot_is)
+    (gathered-set (take live order) slots spot y (live-within slots live order o)
+    (λ j k lj lk same.
+    let sj : j < live = omega (arith, lj, live-length live order o) in
+    let sk : k < live = omega (arith, lk, live-length live order o) in
+    o.apart j k (omega (arith, sj, o.few)) (omega (arith, sk, o.few)) (sym (live-cell live order j sj) ∙ same ∙ live-cell live order k sk))
+    (omega (arith, lp, live-length live order o)))
+
 pub record Placed {N S : Type 0} (limit width live : ℕ) (order : List ℕ) (slots : List (Slot N S)) (id cell : ℕ) (y : Slot N S) : Type 0 where
   pub table : IsTable limit width live order (set slots cell y)
   pub slot : slot_in (gathered (take live order) (set slots cell y)) id ≡ Some y
@@ -48,15 +62,7 @@ placed {spot = spot} limit width live order slots id cell x y t f e =
     let lp : spot < live = f.at.within in
     let lc : spot < length g = omega (arith, lp, live-count slots live order o) in
     let lo : spot < length order = omega (arith, lp, o.few) in
-    let spot_is : cell ≡ get_or (take live order) spot 0 = f.cell_is ∙ sym (live-cell live order spot lp) in
-    let changed : gathered (take live order) (set slots cell y) ≡ set g spot y =
-    subst (λ (i : ℕ). gathered (take live order) (set slots i y) ≡ set g spot y) (sym spot_is)
-    (gathered-set (take live order) slots spot y (live-within slots live order o)
-    (λ j k lj lk same.
-    let sj : j < live = omega (arith, lj, live-length live order o) in
-    let sk : k < live = omega (arith, lk, live-length live order o) in
-    o.apart j k (omega (arith, sj, o.few)) (omega (arith, sk, o.few)) (sym (live-cell live order j sj) ∙ same ∙ live-cell live order k sk))
-    (omega (arith, lp, live-length live order o))) in
+    let changed : gathered (take live order) (set slots cell y) ≡ set g spot y = changed-slot live order slots spot cell y o lp f.cell_is in
     let same_id : y.id ≡ (get_or g spot y).id =
     e ∙ sym (ap (λ (s : Slot _ _). s.id) (live-slot slots live order spot y o lp) ∙ f.at.same y) in
     record {

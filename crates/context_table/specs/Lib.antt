@@ -2,3 +2,4 @@ pub mod Slots
 pub mod Places
 pub mod Order
 pub mod Turned
+pub mod Lending

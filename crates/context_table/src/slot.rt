@@ -67,6 +67,16 @@ pub fn phase_in<N, S>(state: &SlotState<N, S>) -> Phase
     }
 }
 
+/// Whether a context is complete.
+pub fn is_complete<N, S>(slot: &Slot<N, S>) -> bool
+    ensures { result ≡ is_whole slot.now.state }
+{
+    match &slot.state {
+        SlotState::Complete(_) => true,
+        _ => false,
+    }
+}
+
 /// The value of a context that is complete, with its end.
 pub fn value_in<N, S>(slot: &Slot<N, S>) -> Option<(&S, Moment)>
     ensures some { is_some result ≡ is_whole slot.now.state }

@@ -6,8 +6,8 @@ ghost use Rattle.context_table.specs.Places.{slot_at, live_of, KeepsOthers, phas
 
 use crate::order::{find, first_past, turn};
 use crate::slot::{
-    Phase, Slot, SlotState, begin_slot, clear_slot, hold_slot, mark_slot, phase_in, set_state,
-    settle_slot, value_in,
+    Phase, Slot, SlotState, begin_slot, clear_slot, hold_slot, is_complete, mark_slot, phase_in,
+    set_state, settle_slot, value_in,
 };
 use sec_base::{Moment, NoMemory};
 use seq_window::{Verdict, Window};
@@ -231,5 +231,31 @@ impl<N: Drop, S: Drop> Table<N, S> {
         ensures { IsPast self.now now result }
     {
         first_past(self.order.as_slice(), self.slots.as_slice(), self.live, now)
+    }
+}
+
+impl<N: Drop, S: Drop> Table<N, S> {
+    ghost use Rattle.std.specs.Borrow.{LendsIf, sem};
+    ghost use Rattle.seq_window.specs.contracts.window.Window.{the_row as window_row};
+    ghost use Rattle.context_table.specs.contracts.table.Table.{the_row};
+    ghost use Rattle.context_table.specs.Lending.{with_window, IsWindowOf};
+
+    /// Lends the window of a complete context, None exactly where there is no such.
+    pub fn window(&mut self, id: u64) -> Option<&mut Window>
+        ensures* lends { sem 𝓛 (LendsIf (the_row N.row S.row) window_row self.entry result (with_window self.entry.now id) self.entry.now) }
+        ensures some { is_some result ≡ is_complete (slot_at self.old id) }
+        ensures value { IfSome result (IsWindowOf (slot_at self.old id)) }
+    {
+        match find(self.order.as_slice(), self.slots.as_slice(), self.live, id) {
+            None => None,
+            Some(place) => {
+                let cell = self.order[place] as usize;
+                if !is_complete(&self.slots[cell]) {
+                    return None;
+                }
+                let slot = &mut self.slots[cell];
+                Some(&mut slot.window)
+            }
+        }
     }
 }

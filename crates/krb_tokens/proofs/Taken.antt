@@ -65,7 +65,7 @@ filler-made : (end : TokenEnd) (number : ℕ) (tag : List ℕ) → all_filler (t
 unfolding mic_header
 filler-made end number tag = refl
 
-mic-good : (end : TokenEnd) (token octets : List ℕ) → is_other_kind 4 token ≡ false → length token ≡ 28
+pub mic-good : (end : TokenEnd) (token octets : List ℕ) → is_other_kind 4 token ≡ false → length token ≡ 28
     → is_from_other end (slice_index token 2) ≡ true → has_subkey end (slice_index token 2) ≡ true → all_filler (take 5 (drop 3 token)) ≡ true
     → pointwise nat_eq (checksum_of end.key (sign_usage (other_side end.side)) (octets ++ take 16 token)) (drop 16 token) ≡ true
     → checked_mic end token octets ≡ Ok tt

@@ -1,3 +1,6 @@
 pub mod End
 pub mod Mic
 pub mod Wrap
+pub mod Tokens
+pub mod Makings
+pub mod Laws

@@ -3,6 +3,7 @@
 
 mod done;
 mod end;
+mod laws;
 mod mic;
 #[cfg(test)]
 mod tests;
@@ -10,4 +11,5 @@ mod wrap;
 
 pub use done::MechDone;
 pub use end::{Side, TokenEnd, TokenRefusal};
+pub use laws::{prove_acceptance, prove_laws};
 pub use wrap::Unwrapped;

@@ -17,7 +17,7 @@ ghost use Rattle.krb_tokens.specs.End.{is_sealed, facing};
 ghost use Rattle.krb_tokens.specs.Wrap.{wrap_header, wrap_of, word_of, body_of, unturned_header, bare_header, unwrapped_signed, unwrapped_plain, unwrapped_sealed, unwrapped, rotated};
 
 use crate::end::{TokenEnd, TokenRefusal, is_other_kind, is_sealed};
-use krb_derive::{OpenRefusal, checksum, open, seal, verify};
+use krb_derive::{OpenRefusal, SealKeys, checksum, open, verify};
 use sec_base::{NoMemory, Octets};
 use std::alloc::Global;
 
@@ -171,14 +171,15 @@ impl TokenEnd {
         confounder: &[u8; 16],
         bytes: &[u8],
     ) -> Result<Octets, NoMemory>
-        ensures { IfOk result (λ o. o ≡ wrap_of self.now number true confounder.now bytes.now) }
+        ensures value { IfOk result (λ o. o ≡ wrap_of self.now number true confounder.now bytes.now) }
+        ensures unwraps { IfOk result (λ o. (rotation : ℕ) → rotation < 65536 → unwrapped (facing self.now) (rotated rotation o) ≡ Ok (record { sealed = true; content = bytes.now })) }
     {
         let header = self.wrap_header(true, 0, number);
         let mut plain = Vec::with_capacity(alloc, bytes.len().saturating_add(16))?;
         plain.extend_from_slice(bytes)?;
         plain.extend_from_slice(&header)?;
-        let usage = self.side.seal_usage();
-        let body = seal(alloc, &self.key, usage, confounder, plain.as_slice())?;
+        let keys = SealKeys::of(&self.key, self.side.seal_usage());
+        let body = keys.seal(alloc, confounder, plain.as_slice())?;
         let mut list = Vec::with_capacity(alloc, bytes.len().saturating_add(60))?;
         list.extend_from_slice(&header)?;
         list.extend_from_slice(body.as_slice())?;
@@ -195,7 +196,7 @@ impl TokenEnd {
         bytes: &[u8],
     ) -> Result<Octets, NoMemory>
         ensures value { IfOk result (λ o. o ≡ wrap_of self.now number sealed confounder.now bytes.now) }
-        ensures unwraps { IfOk result (λ o. sealed ≡ false → (rotation : ℕ) → rotation < 65536 → unwrapped (facing self.now) (rotated rotation o) ≡ Ok (record { sealed = false; content = bytes.now })) }
+        ensures unwraps { IfOk result (λ o. (rotation : ℕ) → rotation < 65536 → unwrapped (facing self.now) (rotated rotation o) ≡ Ok (record { sealed = sealed; content = bytes.now })) }
     {
         if sealed {
             self.wrap_sealed(alloc, number, confounder, bytes)
