@@ -181,9 +181,11 @@ form_within name e = counted (is_count name.parts) refl e
     within : (b : Bool) → b ≡ leb (length (text_form name.realm name.parts)) 255 → is_found (if b then Ok (record { realm = name.realm; parts = name.parts }) else Err TooLong) ≡ true → length (text_form name.realm name.parts) ≤ 255
     within true f g = leb-true (length (text_form name.realm name.parts)) 255 (sym f)
     within false f g = absurd (let h : false ≡ true = g in cc)
+
     zero : (z : Option ℕ) → is_found (name_unless_zero z name.realm name.parts) ≡ true → length (text_form name.realm name.parts) ≤ 255
     zero None g = within (leb (length (text_form name.realm name.parts)) 255) refl g
     zero (Some at) g = absurd (let h : false ≡ true = g in cc)
+
     counted : (c : Bool) → is_count name.parts ≡ c → is_found (if c then name_unless_zero (zero_from 0 (text_form name.realm name.parts)) name.realm name.parts else Err PartCount) ≡ true → (length (text_form name.realm name.parts) ≤ 255) × (length name.parts ≤ 8)
     counted true f g = (zero (zero_from 0 (text_form name.realm name.parts)) g, leb-true (length name.parts) 8 (right_holds (leb 1 (length name.parts)) (leb (length name.parts) 8) f))
     counted false f g = absurd (let h : false ≡ true = g in cc)

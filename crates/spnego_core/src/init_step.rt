@@ -90,7 +90,8 @@ fn switches(
     match token {
         Some(_) => Err(NegRefusal::Defective { at: 0 }),
         None => {
-            if says_completed(state) {
+            let complete = says_completed(state);
+            if complete {
                 return Err(NegRefusal::Defective { at: 0 });
             }
             begins_other(alloc, talk)

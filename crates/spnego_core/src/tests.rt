@@ -101,6 +101,41 @@ fn is_outcome(outcome: &Outcome) -> bool {
         && outcome.hash == [0; 16]
 }
 
+fn wrong<T>() -> Result<T, Fail> {
+    Err(Fail::from("another answer"))
+}
+
+/// The step that goes on, and whether the repeat test was wanted.
+fn gone_on(step: AcceptStep) -> (AcceptStep, bool) {
+    match step {
+        AcceptStep::WantsAuth(pause) => (pause.go_on(), true),
+        step => (step, false),
+    }
+}
+
+/// The end that goes on, after this step or none.
+fn accepted(step: AcceptStep, said: Said) -> Result<Option<AcceptEnd>, Fail> {
+    match step {
+        AcceptStep::More(end, token) => match said {
+            Said::More(wanted) if token.as_slice() == wanted => Ok(Some(end)),
+            _ => wrong(),
+        },
+        AcceptStep::Done(outcome, _, token) => match said {
+            Said::Done(wanted) if token.as_slice() == wanted && is_outcome(&outcome) => Ok(None),
+            _ => wrong(),
+        },
+        AcceptStep::WantsAuth(_) => wrong(),
+    }
+}
+
+/// Whether this is the refusal that was to come.
+fn is_refused(refusal: NegRefusal, said: Said) -> Result<bool, Fail> {
+    match said {
+        Said::Refused(wanted) => Ok(refusal == wanted),
+        _ => wrong(),
+    }
+}
+
 /// Whether an acceptor with this offer says so to each token.
 fn accepts_so(alloc: Global, offer: &[MechKind], turns: &[Turn]) -> Result<bool, Fail> {
     let setup = acceptor(alloc, offer)?;
@@ -108,30 +143,32 @@ fn accepts_so(alloc: Global, offer: &[MechKind], turns: &[Turn]) -> Result<bool,
     let mut next = Some(AcceptEnd::new());
     for turn in turns {
         let end = next.take().ok_or("a further step")?;
-        let mut asks = false;
-        let answer = match end.step(alloc, &setup, turn.token, now, &DRAWS) {
-            Ok(AcceptStep::WantsAuth(pause)) => {
-                asks = true;
-                Ok(pause.go_on())
+        match end.step(alloc, &setup, turn.token, now, &DRAWS) {
+            Ok(step) => {
+                let (step, asks) = gone_on(step);
+                if asks != turn.asks {
+                    return Ok(false);
+                }
+                next = accepted(step, turn.said)?;
             }
-            answer => answer,
-        };
-        let right = match (answer, turn.said) {
-            (Ok(AcceptStep::More(end, token)), Said::More(wanted)) => {
-                next = Some(end);
-                token.as_slice() == wanted
-            }
-            (Ok(AcceptStep::Done(outcome, _, token)), Said::Done(wanted)) => {
-                token.as_slice() == wanted && is_outcome(&outcome)
-            }
-            (Err(refusal), Said::Refused(wanted)) => refusal == wanted,
-            _ => false,
-        };
-        if !right || asks != turn.asks {
-            return Ok(false);
+            Err(refusal) => return is_refused(refusal, turn.said),
         }
     }
     Ok(true)
+}
+
+/// The end that goes on, after this step or none.
+fn initiated(step: InitStep, said: Said) -> Result<Option<InitEnd>, Fail> {
+    match step {
+        InitStep::More(end, token) => match said {
+            Said::More(wanted) if token.as_slice() == wanted => Ok(Some(end)),
+            _ => wrong(),
+        },
+        InitStep::Done(outcome) => match said {
+            Said::Done(_) if is_outcome(&outcome) => Ok(None),
+            _ => wrong(),
+        },
+    }
 }
 
 /// Whether the initiator sends this first, and says so to each reply.
@@ -143,17 +180,9 @@ fn initiates_so(alloc: Global, first: &[u8], turns: &[Turn]) -> Result<bool, Fai
     let mut next = Some(end);
     for turn in turns {
         let end = next.take().ok_or("a further step")?;
-        let right = match (end.step(alloc, turn.token), turn.said) {
-            (Ok(InitStep::More(end, token)), Said::More(wanted)) => {
-                next = Some(end);
-                token.as_slice() == wanted
-            }
-            (Ok(InitStep::Done(outcome)), Said::Done(_)) => is_outcome(&outcome),
-            (Err(refusal), Said::Refused(wanted)) => refusal == wanted,
-            _ => false,
-        };
-        if !right {
-            return Ok(false);
+        match end.step(alloc, turn.token) {
+            Ok(step) => next = initiated(step, turn.said)?,
+            Err(refusal) => return is_refused(refusal, turn.said),
         }
     }
     Ok(true)
@@ -235,7 +264,7 @@ const ALIAS_LIST: &[u8] =
 const ALIAS_REPLY: &[u8] =
     b"\xa1\x14\x30\x12\xa0\x03\x0a\x01\x03\xa1\x0b\x06\x09\x2a\x86\x48\x86\xf7\x12\x01\x02\x02";
 
-/// The end that goes on after this token, what it answers, and the acceptor's setup.
+/// The end that goes on after this token, and what it answers.
 fn goes_on(
     alloc: Global,
     setup: &AcceptSetup,
@@ -243,13 +272,10 @@ fn goes_on(
     token: &[u8],
 ) -> Result<(AcceptEnd, Octets), Fail> {
     let now = Moment::new(1_000_000, 0).ok_or("a moment")?;
-    let step = match end.step(alloc, setup, token, now, &DRAWS)? {
-        AcceptStep::WantsAuth(pause) => pause.go_on(),
-        step => step,
-    };
+    let (step, _) = gone_on(end.step(alloc, setup, token, now, &DRAWS)?);
     match step {
         AcceptStep::More(end, token) => Ok((end, token)),
-        _ => Err(Fail::from("a further step")),
+        _ => wrong(),
     }
 }
 
