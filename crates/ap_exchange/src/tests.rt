@@ -56,135 +56,121 @@ fn refusal_of(alloc: Global, request: &Request) -> Result<Option<ApRefusal>, Fai
     Ok(judged.err())
 }
 
+// One request for each refusal, in their order.
 #[test]
 fn requests_with_a_fault_are_refused_for_it(rt: HostRuntime) -> Result<(), Fail> {
-    let alloc = rt.alloc();
-    assert_eq!(rt;
-        refusal_of(alloc, &refused::not_mutual())?,
-        Some(ApRefusal::NotMutual)
-    );
-    assert_eq!(rt;
-        refusal_of(alloc, &refused::other_server())?,
-        Some(ApRefusal::TicketNames)
-    );
-    assert_eq!(rt;
-        refusal_of(alloc, &refused::no_key())?,
-        Some(ApRefusal::NoKey)
-    );
-    assert_eq!(rt;
-        refusal_of(alloc, &refused::ticket_closed())?,
-        Some(ApRefusal::TicketClosed)
-    );
-    assert_eq!(rt;
-        refusal_of(alloc, &refused::session_type())?,
-        Some(ApRefusal::KeyType)
-    );
-    assert_eq!(rt;
-        refusal_of(alloc, &refused::authenticator_closed())?,
-        Some(ApRefusal::AuthClosed)
-    );
-    assert_eq!(rt;
-        refusal_of(alloc, &refused::other_client())?,
-        Some(ApRefusal::NameMatch)
-    );
-    assert_eq!(rt;
-        refusal_of(alloc, &refused::no_checksum())?,
-        Some(ApRefusal::ChecksumType)
-    );
-    assert_eq!(rt;
-        refusal_of(alloc, &refused::other_bindings())?,
-        Some(ApRefusal::Bindings)
-    );
-    assert_eq!(rt;
-        refusal_of(alloc, &refused::skewed())?,
-        Some(ApRefusal::Skew)
-    );
-    assert_eq!(rt;
-        refusal_of(alloc, &refused::not_yet())?,
-        Some(ApRefusal::NotYet)
-    );
-    assert_eq!(rt;
-        refusal_of(alloc, &refused::expired())?,
-        Some(ApRefusal::Expired)
-    );
+    let table = [
+        (refused::not_mutual(), ApRefusal::NotMutual),
+        (refused::other_server(), ApRefusal::TicketNames),
+        (refused::no_key(), ApRefusal::NoKey),
+        (refused::ticket_closed(), ApRefusal::TicketClosed),
+        (refused::session_type(), ApRefusal::KeyType),
+        (refused::authenticator_closed(), ApRefusal::AuthClosed),
+        (refused::other_client(), ApRefusal::NameMatch),
+        (refused::no_checksum(), ApRefusal::ChecksumType),
+        (refused::other_bindings(), ApRefusal::Bindings),
+        (refused::skewed(), ApRefusal::Skew),
+        (refused::not_yet(), ApRefusal::NotYet),
+        (refused::expired(), ApRefusal::Expired),
+    ];
+    for (request, want) in table {
+        let refusal = refusal_of(rt.alloc(), &request)?;
+        assert_eq!(rt; refusal, Some(want));
+    }
     Ok(())
+}
+
+fn der(part: Part, at: usize, why: DerWhy) -> ApRefusal {
+    ApRefusal::Der { part, at, why }
 }
 
 #[test]
 fn octets_outside_the_grammar_are_refused_at_their_place(rt: HostRuntime) -> Result<(), Fail> {
-    let alloc = rt.alloc();
-    let authenticator = refusal_of(alloc, &refused::broken_authenticator())?;
-    let ticket = refusal_of(alloc, &refused::broken_ticket())?;
-    let frame = refusal_of(alloc, &refused::other_mechanism())?;
-    assert_eq!(rt;
-        authenticator,
-        Some(ApRefusal::Der {
-            part: Part::Authenticator,
-            at: 20,
-            why: DerWhy::Tag
-        })
-    );
-    assert_eq!(rt;
-        ticket,
-        Some(ApRefusal::Der {
-            part: Part::Ticket,
-            at: 80,
-            why: DerWhy::Value
-        })
-    );
-    assert_eq!(rt;
-        frame,
-        Some(ApRefusal::Der {
-            part: Part::Token,
-            at: 4,
-            why: DerWhy::Value
-        })
-    );
+    let table = [
+        (
+            refused::broken_authenticator(),
+            der(Part::Authenticator, 20, DerWhy::Tag),
+        ),
+        (
+            refused::broken_ticket(),
+            der(Part::Ticket, 80, DerWhy::Value),
+        ),
+        (
+            refused::other_mechanism(),
+            der(Part::Token, 4, DerWhy::Value),
+        ),
+    ];
+    for (request, want) in table {
+        let refusal = refusal_of(rt.alloc(), &request)?;
+        assert_eq!(rt; refusal, Some(want));
+    }
     Ok(())
+}
+
+/// Whether an acceptor is left with this.
+fn is_left_with(done: &MechDone, answer: &Answer) -> bool {
+    done.key.bytes() == answer.key
+        && done.subkey
+        && done.hash.as_slice() == answer.hash
+        && done.initiator.text().as_bytes() == answer.client.as_bytes()
+        && done.acceptor.text().as_bytes() == b"rpc/host@R".as_slice()
+        && done.ends.total() == answer.ends
 }
 
 /// Whether the server answers a request so, and is left with that.
 fn is_answered(alloc: Global, request: &Request, answer: &Answer) -> Result<bool, Fail> {
     let judged = judged_of(alloc, request)?.ok().ok_or("a request")?;
     let mark = judged.mark();
+    let marked = mark.who.as_slice() == answer.who && mark.at.total() == answer.stamp;
     let (done, token) = judged.answer(alloc, answer.draws)?;
-    Ok(
-        mark.who.as_slice() == answer.who
-            && mark.at.total() == answer.stamp
-            && token.as_slice() == answer.token
-            && done.key.bytes() == answer.key
-            && done.subkey
-            && done.hash.as_slice() == answer.hash
-            && done.initiator.text().as_bytes() == answer.client.as_bytes()
-            && done.acceptor.text().as_bytes() == b"rpc/host@R".as_slice()
-            && done.ends.total() == answer.ends,
-    )
+    Ok(marked && token.as_slice() == answer.token && is_left_with(&done, answer))
 }
 
 #[test]
 fn requests_are_answered_octet_by_octet(rt: HostRuntime) -> Result<(), Fail> {
-    let alloc = rt.alloc();
-    assert!(rt; is_answered(alloc, &answered::plain(), &answered::plain_answer())?);
-    assert!(rt; is_answered(alloc, &answered::bound(), &answered::bound_answer())?);
-    assert!(rt; is_answered(alloc, &answered::unasked(), &answered::unasked_answer())?);
+    let table = [
+        (answered::plain(), answered::plain_answer()),
+        (answered::bound(), answered::bound_answer()),
+        (answered::unasked(), answered::unasked_answer()),
+    ];
+    for (request, answer) in table {
+        assert!(rt; is_answered(rt.alloc(), &request, &answer)?);
+    }
     Ok(())
 }
 
-/// The end and the token of an initiator with a ticket for `rpc/host@R`.
-fn started(alloc: Global, start: &Start) -> Result<(ApInit, Octets), Fail> {
+/// The session key that an initiator is given.
+fn session_of(start: &Start) -> Result<Key, Fail> {
     let etype = Etype::of(start.etype).ok_or("a type")?;
-    let credential = Credential {
-        client: Principal::parse(alloc, start.client)
-            .ok()
-            .ok_or("a client")?,
-        server: Principal::parse(alloc, "rpc/host@R")
-            .ok()
-            .ok_or("a server")?,
-        session: Key::new(etype, start.session).ok_or("a key")?,
-        ticket: ticket_of(alloc, start.ticket)?,
-    };
+    Ok(Key::new(etype, start.session).ok_or("a key")?)
+}
+
+/// A credential with a ticket for `rpc/host@R`.
+fn credential_with(
+    alloc: Global,
+    client: &str,
+    session: Key,
+    ticket: &[u8],
+) -> Result<Credential, Fail> {
+    let ticket = ticket_of(alloc, ticket)?;
+    let client = Principal::parse(alloc, client).ok().ok_or("a client")?;
+    let server = Principal::parse(alloc, "rpc/host@R")
+        .ok()
+        .ok_or("a server")?;
+    Ok(Credential {
+        client,
+        server,
+        session,
+        ticket,
+    })
+}
+
+/// The end and the token of an initiator.
+fn started(alloc: Global, start: &Start) -> Result<(ApInit, Octets), Fail> {
     let stamp = Moment::new(start.secs, start.micros).ok_or("a moment")?;
+    let session = session_of(start)?;
     let bindings = bindings_of(alloc, start.bindings)?;
+    let credential = credential_with(alloc, start.client, session, start.ticket)?;
     Ok(ApInit::start(alloc, &credential, stamp, start.draws, bindings.as_ref())?)
 }
 
@@ -212,60 +198,77 @@ fn refusal_after(alloc: Global, start: &Start, reply: &[u8]) -> Result<Option<Ap
 
 #[test]
 fn requests_are_made_octet_by_octet(rt: HostRuntime) -> Result<(), Fail> {
-    let alloc = rt.alloc();
-    let (_end, short) = started(alloc, &replies::short())?;
-    let (_end, long) = started(alloc, &replies::long())?;
-    assert!(rt; short.as_slice() == replies::short().token);
-    assert!(rt; long.as_slice() == replies::long().token);
+    for start in [replies::short(), replies::long()] {
+        let (_end, token) = started(rt.alloc(), &start)?;
+        assert!(rt; token.as_slice() == start.token);
+    }
     Ok(())
 }
 
-// The keys are those of the vectors: the reply's subkey, else the one that was sent, which is the first 16 octets drawn.
+// The key is the reply's subkey, else the one that was sent, which is the first 16 octets drawn.
 #[test]
 fn replies_give_the_subkey_or_else_the_own_key(rt: HostRuntime) -> Result<(), Fail> {
-    let alloc = rt.alloc();
-    let with = done_after(alloc, &replies::short(), replies::short_subkey())?;
-    let without = done_after(alloc, &replies::short(), replies::short_no_subkey())?;
-    let long = done_after(alloc, &replies::long(), replies::long_subkey())?;
-    assert!(rt; with.subkey && with.key.bytes() == replies::short_key());
-    assert!(rt; !without.subkey && without.key.bytes() == replies::short_own_key());
-    assert!(rt; long.subkey && long.key.bytes() == replies::long_key());
-    assert_eq!(rt; with.ends, Moment::greatest());
+    let table = [
+        (
+            replies::short(),
+            replies::short_subkey(),
+            true,
+            replies::short_key(),
+        ),
+        (
+            replies::short(),
+            replies::short_no_subkey(),
+            false,
+            replies::short_own_key(),
+        ),
+        (
+            replies::long(),
+            replies::long_subkey(),
+            true,
+            replies::long_key(),
+        ),
+    ];
+    for (start, reply, subkey, key) in table {
+        let done = done_after(rt.alloc(), &start, reply)?;
+        assert!(rt; done.subkey == subkey && done.key.bytes() == key);
+    }
     Ok(())
 }
 
 #[test]
 fn replies_with_a_fault_are_refused_for_it(rt: HostRuntime) -> Result<(), Fail> {
-    let alloc = rt.alloc();
-    let cut = ApRefusal::Der {
-        part: Part::Token,
-        at: 100,
-        why: DerWhy::Short,
-    };
-    assert_eq!(rt;
-        refusal_after(alloc, &replies::short(), replies::short_closed())?,
-        Some(ApRefusal::ReplyClosed)
-    );
-    assert_eq!(rt;
-        refusal_after(alloc, &replies::long(), replies::long_key_type())?,
-        Some(ApRefusal::KeyType)
-    );
-    assert_eq!(rt;
-        refusal_after(alloc, &replies::long(), replies::long_stamp())?,
-        Some(ApRefusal::ReplyStamp)
-    );
-    assert_eq!(rt;
-        refusal_after(alloc, &replies::long(), replies::error_37())?,
-        Some(ApRefusal::PeerError { code: 37 })
-    );
-    assert_eq!(rt;
-        refusal_after(alloc, &replies::long(), replies::long().token)?,
-        Some(ApRefusal::Kind)
-    );
-    assert_eq!(rt;
-        refusal_after(alloc, &replies::long(), replies::cut())?,
-        Some(cut)
-    );
+    let table = [
+        (
+            replies::short(),
+            replies::short_closed(),
+            ApRefusal::ReplyClosed,
+        ),
+        (
+            replies::long(),
+            replies::long_key_type(),
+            ApRefusal::KeyType,
+        ),
+        (
+            replies::long(),
+            replies::long_stamp(),
+            ApRefusal::ReplyStamp,
+        ),
+        (
+            replies::long(),
+            replies::error_37(),
+            ApRefusal::PeerError { code: 37 },
+        ),
+        (replies::long(), replies::long().token, ApRefusal::Kind),
+        (
+            replies::long(),
+            replies::cut(),
+            der(Part::Token, 100, DerWhy::Short),
+        ),
+    ];
+    for (start, reply, want) in table {
+        let refusal = refusal_after(rt.alloc(), &start, reply)?;
+        assert_eq!(rt; refusal, Some(want));
+    }
     Ok(())
 }
 
@@ -295,9 +298,8 @@ fn is_taken(alloc: Global, exchange: &real::Exchange) -> Result<bool, Fail> {
 
 #[test]
 fn exchanges_of_another_implementation_are_taken(rt: HostRuntime) -> Result<(), Fail> {
-    let alloc = rt.alloc();
-    assert!(rt; is_taken(alloc, &real::first())?);
-    assert!(rt; is_taken(alloc, &real::second())?);
-    assert!(rt; is_taken(alloc, &real::third())?);
+    for exchange in [real::first(), real::second(), real::third()] {
+        assert!(rt; is_taken(rt.alloc(), &exchange)?);
+    }
     Ok(())
 }

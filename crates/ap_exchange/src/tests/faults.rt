@@ -1,6 +1,8 @@
 //! Requests to `rpc/host@R` of `alice@R` with faults of choice, for an acceptor with the bindings `abcd`.
 
-ghost use Rattle.std.specs.Prelude.{◌≡◌, ◌%◌, IfOk};
+ghost use Rattle.std.specs.Prelude.{◌≡◌, ◌%◌, None, IfOk, IfSome, false};
+ghost use Rattle.der_core.specs.Values.{has_zero};
+ghost use Rattle.krb_msgs.specs.PrincipalName.{IsName};
 
 use crate::keys::{AUTHENTICATOR_USAGE, sealed_data};
 use crate::message::ticket_in;
@@ -11,8 +13,8 @@ use crate::{ApRefusal, seal_ticket};
 use gss_base::Principal;
 use krb_derive::Key;
 use krb_msgs::{
-    ApReq, Authenticator, Checksum, EncTicketPart, EncryptionKey, TransitedEncoding, write_ap_req,
-    write_authenticator,
+    ApReq, Authenticator, Checksum, EncTicketPart, EncryptedData, EncryptionKey, TransitedEncoding,
+    write_ap_req, write_authenticator,
 };
 use sec_base::{Moment, Octets};
 use std::alloc::Global;
@@ -86,24 +88,26 @@ fn session_value(alloc: Global, keytype: i32) -> Result<EncryptionKey, Fail> {
     Ok(EncryptionKey { keytype, keyvalue })
 }
 
-/// The ticket.
-pub fn ticket_made(alloc: Global, facts: &Facts) -> Result<Octets, Fail> {
-    let server = if facts.faults[2] {
-        "rpc/other@R"
-    } else {
-        "rpc/host@R"
-    };
-    let server = Principal::parse(alloc, server).ok().ok_or("a server")?;
-    let client = Principal::parse(alloc, "alice@R").ok().ok_or("a client")?;
-    let keytype = if facts.faults[5] { 3 } else { 17 };
-    let (crealm, cname) = names_of(alloc, &client)?;
+/// What the ticket says.
+fn part_made(alloc: Global, facts: &Facts) -> Result<EncTicketPart, Fail>
+    ensures crealm { IfOk result (λ p. has_zero p.crealm ≡ false) }
+    ensures cname { IfOk result (λ p. IsName p.crealm p.cname) }
+    ensures authtime { IfOk result (λ p. p.authtime % 1000000 ≡ 0) }
+    ensures starttime { IfOk result (λ p. IfSome p.starttime (λ m. m % 1000000 ≡ 0)) }
+    ensures endtime { IfOk result (λ p. p.endtime % 1000000 ≡ 0) }
+    ensures renew_till { IfOk result (λ p. p.renew_till ≡ None) }
+{
     let authtime = whole(1_000)?;
     let starttime = whole(facts.start)?;
     let endtime = whole(facts.end)?;
+    let keytype = if facts.faults[5] { 3 } else { 17 };
+    let key = session_value(alloc, keytype)?;
     let contents = Octets::of(alloc, &[])?;
-    let part = EncTicketPart {
+    let client = Principal::parse(alloc, "alice@R").ok().ok_or("a client")?;
+    let (crealm, cname) = names_of(alloc, &client)?;
+    Ok(EncTicketPart {
         flags: 0,
-        key: session_value(alloc, keytype)?,
+        key,
         crealm,
         cname,
         transited: TransitedEncoding {
@@ -116,59 +120,98 @@ pub fn ticket_made(alloc: Global, facts: &Facts) -> Result<Octets, Fail> {
         renew_till: None,
         caddr: None,
         authorization_data: None,
+    })
+}
+
+/// The server that the ticket is for.
+fn server_of(alloc: Global, facts: &Facts) -> Result<Principal, Fail> {
+    let server = if facts.faults[2] {
+        "rpc/other@R"
+    } else {
+        "rpc/host@R"
     };
+    Ok(Principal::parse(alloc, server).ok().ok_or("a server")?)
+}
+
+/// The ticket.
+pub fn ticket_made(alloc: Global, facts: &Facts) -> Result<Octets, Fail> {
     let service = if facts.faults[4] {
         OTHER_SERVICE
     } else {
         SERVICE
     };
     let kvno = if facts.faults[3] { 4 } else { 3 };
+    let server = server_of(alloc, facts)?;
+    let part = part_made(alloc, facts)?;
     Ok(seal_ticket(alloc, &service, kvno, &server, &part, &[5; 16])?)
+}
+
+/// The checksum of the authenticator.
+fn checksum_made(alloc: Global, facts: &Facts) -> Result<Checksum, Fail> {
+    let checksum = if facts.faults[10] { UNBOUND } else { BOUND };
+    let checksum = Octets::of(alloc, checksum)?;
+    let cksumtype = if facts.faults[9] { 7 } else { 0x8003 };
+    Ok(Checksum {
+        cksumtype,
+        checksum,
+    })
+}
+
+/// The client that the authenticator names.
+fn client_of(alloc: Global, facts: &Facts) -> Result<Principal, Fail> {
+    let client = if facts.faults[8] { "bob@R" } else { "alice@R" };
+    Ok(Principal::parse(alloc, client).ok().ok_or("a client")?)
 }
 
 /// What the authenticator says.
 fn authenticator_made(alloc: Global, facts: &Facts) -> Result<Octets, Fail> {
-    let client = if facts.faults[8] { "bob@R" } else { "alice@R" };
-    let client = Principal::parse(alloc, client).ok().ok_or("a client")?;
+    let checksum = checksum_made(alloc, facts)?;
+    let keytype = if facts.faults[7] { 3 } else { 17 };
+    let subkey = session_value(alloc, keytype)?;
+    let client = client_of(alloc, facts)?;
     let (crealm, cname) = names_of(alloc, &client)?;
-    let checksum = if facts.faults[10] { UNBOUND } else { BOUND };
-    let checksum = Octets::of(alloc, checksum)?;
-    let cksumtype = if facts.faults[9] { 7 } else { 0x8003 };
-    let subkey = if facts.faults[7] { 3 } else { 17 };
     let said = Authenticator {
         crealm,
         cname,
-        cksum: Some(Checksum {
-            cksumtype,
-            checksum,
-        }),
+        cksum: Some(checksum),
         cusec: facts.stamp.micros(),
         ctime: seconds_of(facts.stamp),
-        subkey: Some(session_value(alloc, subkey)?),
+        subkey: Some(subkey),
         seq_number: None,
         authorization_data: None,
     };
     Ok(write_authenticator(alloc, &said)?)
 }
 
-/// The token.
-pub fn token_made(alloc: Global, facts: &Facts) -> Result<Octets, Fail> {
-    let octets = authenticator_made(alloc, facts)?;
+/// The sealed authenticator.
+fn sealed_made(alloc: Global, facts: &Facts) -> Result<EncryptedData, Fail> {
     let session = if facts.faults[6] {
         OTHER_SESSION
     } else {
         SESSION
     };
+    let octets = authenticator_made(alloc, facts)?;
     let octets = octets.as_slice();
-    let authenticator = sealed_data(alloc, &session, None, AUTHENTICATOR_USAGE, &[6; 16], octets)?;
+    Ok(sealed_data(alloc, &session, None, AUTHENTICATOR_USAGE, &[6; 16], octets)?)
+}
+
+/// The message.
+fn message_made(alloc: Global, facts: &Facts) -> Result<Octets, Fail> {
+    let ap_options = if facts.faults[1] { 0 } else { 0x2000_0000 };
+    let authenticator = sealed_made(alloc, facts)?;
     let ticket = ticket_made(alloc, facts)?;
     let _ticket = ticket_in(alloc, ticket.as_slice())?;
     let request = ApReq {
-        ap_options: if facts.faults[1] { 0 } else { 0x2000_0000 },
+        ap_options,
         ticket,
         authenticator,
     };
-    let message = write_ap_req(alloc, &request)?;
+    Ok(write_ap_req(alloc, &request)?)
+}
+
+/// The token.
+pub fn token_made(alloc: Global, facts: &Facts) -> Result<Octets, Fail> {
     let id = if facts.faults[0] { 2 } else { 1 };
+    let message = message_made(alloc, facts)?;
     Ok(framed_message(alloc, id, message.as_slice())?)
 }

@@ -3,9 +3,10 @@
 ghost use Rattle.std.specs.Prelude.{◌<◌};
 
 use super::faults::{COUNT, Facts, KEYTAB, REFUSALS, SESSION, ticket_made, token_made};
-use crate::{ApInit, ApRefusal, judge_request};
+use crate::{ApInit, ApRefusal, Judged, judge_request};
 use gss_base::{Bindings, Principal};
-use krb_files::{Credential, read_keytab};
+use krb_files::read_keytab;
+use krb_tokens::MechDone;
 use sec_base::{Moment, Octets};
 use std::alloc::Global;
 use std::test::Fail;
@@ -35,10 +36,10 @@ fn with_faults(first: usize, second: usize) -> Result<Facts, Fail>
 
 /// Why an acceptor with the bindings `abcd` refuses the request of these facts at this moment, if it does.
 fn refusal_of(alloc: Global, facts: &Facts, now: Moment) -> Result<Option<ApRefusal>, Fail> {
+    let token = token_made(alloc, facts)?;
     let keytab = read_keytab(alloc, KEYTAB).ok().ok_or("a keytab")?;
     let own = Principal::parse(alloc, "rpc/host@R").ok().ok_or("a name")?;
     let bindings = Bindings::new(Octets::of(alloc, b"abcd")?).ok();
-    let token = token_made(alloc, facts)?;
     let judged = judge_request(
         alloc,
         &keytab,
@@ -73,66 +74,59 @@ fn at(start: u64, end: u64, stamp: Moment) -> Facts {
     }
 }
 
+// Where the ticket begins and ends, the stamp, now, and what is answered: 300 seconds are taken, a microsecond more isn't.
 #[test]
 fn moments_may_lie_300_seconds_apart(rt: HostRuntime) -> Result<(), Fail> {
-    let alloc = rt.alloc();
     let now = moment(NOW, 0)?;
-    let later = moment(NOW, 1)?;
     let last = moment(NOW + 300, 0)?;
     let first = moment(NOW - 300, 0)?;
-    assert_eq!(rt;
-        refusal_of(alloc, &at(NOW + 300, NOW - 300, last), now)?,
-        None
-    );
-    assert_eq!(rt; refusal_of(alloc, &at(NOW, NOW, first), now)?, None);
-    assert_eq!(rt;
-        refusal_of(alloc, &at(NOW, NOW, last.later(1)), now)?,
-        Some(ApRefusal::Skew)
-    );
-    assert_eq!(rt;
-        refusal_of(alloc, &at(NOW, NOW, first), later)?,
-        Some(ApRefusal::Skew)
-    );
-    assert_eq!(rt;
-        refusal_of(alloc, &at(NOW + 301, NOW, now), now)?,
-        Some(ApRefusal::NotYet)
-    );
-    assert_eq!(rt;
-        refusal_of(alloc, &at(NOW, NOW - 300, now), later)?,
-        Some(ApRefusal::Expired)
-    );
+    let table = [
+        (NOW + 300, NOW - 300, last, now, None),
+        (NOW, NOW, first, now, None),
+        (NOW, NOW, last.later(1), now, Some(ApRefusal::Skew)),
+        (NOW, NOW, first, now.later(1), Some(ApRefusal::Skew)),
+        (NOW + 301, NOW, now, now, Some(ApRefusal::NotYet)),
+        (NOW, NOW - 300, now, now.later(1), Some(ApRefusal::Expired)),
+    ];
+    for (start, end, stamp, now, want) in table {
+        let refusal = refusal_of(rt.alloc(), &at(start, end, stamp), now)?;
+        assert_eq!(rt; refusal, want);
+    }
     Ok(())
+}
+
+/// What a request of the initiator with the bindings `abcd` is judged as by an acceptor with the same.
+fn judged_token(alloc: Global, token: &[u8], now: Moment) -> Result<Judged, Fail> {
+    let keytab = read_keytab(alloc, KEYTAB).ok().ok_or("a keytab")?;
+    let own = Principal::parse(alloc, "rpc/host@R").ok().ok_or("a name")?;
+    let bindings = Bindings::new(Octets::of(alloc, b"abcd")?).ok();
+    Ok(judge_request(alloc, &keytab, &own, now, bindings.as_ref(), token)?)
+}
+
+/// The end and the token of an initiator with those bindings.
+fn started_at(alloc: Global, now: Moment) -> Result<(ApInit, Octets), Fail> {
+    let ticket = ticket_made(alloc, &at(NOW, NOW, now))?;
+    let credential = super::credential_with(alloc, "alice@R", SESSION, ticket.as_slice())?;
+    let bindings = Bindings::new(Octets::of(alloc, b"abcd")?).ok();
+    Ok(ApInit::start(alloc, &credential, now, &[8; 66], bindings.as_ref())?)
+}
+
+fn agree(initiator: &MechDone, acceptor: &MechDone) -> bool {
+    initiator.key == acceptor.key
+        && initiator.subkey == acceptor.subkey
+        && initiator.hash.as_slice() == acceptor.hash.as_slice()
+        && initiator.initiator == acceptor.initiator
+        && initiator.acceptor == acceptor.acceptor
 }
 
 #[test]
 fn an_honest_pair_agrees(rt: HostRuntime) -> Result<(), Fail> {
     let alloc = rt.alloc();
     let now = moment(NOW, 7)?;
-    let credential = Credential {
-        client: Principal::parse(alloc, "alice@R").ok().ok_or("a client")?,
-        server: Principal::parse(alloc, "rpc/host@R")
-            .ok()
-            .ok_or("a server")?,
-        session: SESSION,
-        ticket: super::ticket_of(alloc, ticket_made(alloc, &at(NOW, NOW, now))?.as_slice())?,
-    };
-    let keytab = read_keytab(alloc, KEYTAB).ok().ok_or("a keytab")?;
-    let bindings = Bindings::new(Octets::of(alloc, b"abcd")?).ok();
-    let (end, token) = ApInit::start(alloc, &credential, now, &[8; 66], bindings.as_ref())?;
-    let judged = judge_request(
-        alloc,
-        &keytab,
-        &credential.server,
-        now,
-        bindings.as_ref(),
-        token.as_slice(),
-    )?;
+    let (end, token) = started_at(alloc, now)?;
+    let judged = judged_token(alloc, token.as_slice(), now)?;
     let (acceptor, reply) = judged.answer(alloc, &[9; 66])?;
     let initiator = end.take_reply(alloc, reply.as_slice())?;
-    assert!(rt; initiator.key == acceptor.key);
-    assert!(rt; initiator.subkey && acceptor.subkey);
-    assert!(rt; initiator.hash.as_slice() == acceptor.hash.as_slice());
-    assert!(rt; initiator.initiator == acceptor.initiator);
-    assert!(rt; initiator.acceptor == acceptor.acceptor);
+    assert!(rt; agree(&initiator, &acceptor) && initiator.subkey);
     Ok(())
 }
