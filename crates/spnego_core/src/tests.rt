@@ -122,10 +122,10 @@ fn talking_on(step: InitStep) -> Result<(InitEnd, Octets), Fail> {
 
 /// The outcome.
 fn done(step: InitStep) -> Result<Outcome, Fail> {
-    match step {
-        InitStep::Done(outcome) => Ok(outcome),
-        _ => Err(Fail::from("an outcome")),
+    if let InitStep::Done(outcome) = &step {
+        return Ok(*outcome);
     }
+    Err(Fail::from("an outcome"))
 }
 
 // Tokens of both ends as another implementation makes them.
