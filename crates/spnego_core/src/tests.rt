@@ -2,37 +2,17 @@
 
 ghost use Rattle.std.specs.Prelude.{◌≤◌, length, IfOk};
 
-mod accepting;
-mod initiating;
 mod tokens;
 
 use crate::*;
+use ap_exchange::{ApRefusal, Part};
+use der_core::DerWhy;
 use gss_base::{MechKind, Principal};
 use krb_derive::{Etype, Key};
 use krb_files::{Credential, read_keytab};
-use krb_tokens::{Side, TokenEnd};
 use sec_base::{Items, Moment, Octets};
-use spnego_msgs::{NegResp, NegState, read_resp, write_resp};
 use std::alloc::Global;
 use std::test::Fail;
-
-/// What an end is to say to a token.
-#[derive(Clone, Copy)]
-pub enum Said {
-    /// It answers this, and a further token is due.
-    More(&'static [u8]),
-    /// It answers this and is done.
-    Done(&'static [u8]),
-    Refused(NegRefusal),
-}
-
-/// A token, whether the repeat test is wanted for it, and what is said then.
-#[derive(Clone, Copy)]
-pub struct Turn {
-    pub token: &'static [u8],
-    pub asks: bool,
-    pub said: Said,
-}
 
 /// A keytab with the key 00 to 0f of `rpc/host@R`, of type 17 and number 3.
 const KEYTAB: &[u8] =
@@ -101,210 +81,267 @@ fn is_outcome(outcome: &Outcome) -> bool {
         && outcome.hash == [0; 16]
 }
 
-fn wrong<T>() -> Result<T, Fail> {
-    Err(Fail::from("another answer"))
-}
-
-/// The step that goes on, and whether the repeat test was wanted.
-fn gone_on(step: AcceptStep) -> (AcceptStep, bool) {
-    match step {
-        AcceptStep::WantsAuth(pause) => (pause.go_on(), true),
-        step => (step, false),
-    }
-}
-
-/// The end that goes on, after this step or none.
-fn accepted(step: AcceptStep, said: Said) -> Result<Option<AcceptEnd>, Fail> {
-    match step {
-        AcceptStep::More(end, token) => match said {
-            Said::More(wanted) if token.as_slice() == wanted => Ok(Some(end)),
-            _ => wrong(),
-        },
-        AcceptStep::Done(outcome, _, token) => match said {
-            Said::Done(wanted) if token.as_slice() == wanted && is_outcome(&outcome) => Ok(None),
-            _ => wrong(),
-        },
-        AcceptStep::WantsAuth(_) => wrong(),
-    }
-}
-
-/// Whether this is the refusal that was to come.
-fn is_refused(refusal: NegRefusal, said: Said) -> Result<bool, Fail> {
-    match said {
-        Said::Refused(wanted) => Ok(refusal == wanted),
-        _ => wrong(),
-    }
-}
-
-/// Whether an acceptor with this offer says so to each token.
-fn accepts_so(alloc: Global, offer: &[MechKind], turns: &[Turn]) -> Result<bool, Fail> {
-    let setup = acceptor(alloc, offer)?;
-    let now = Moment::new(1_000_000, 0).ok_or("a moment")?;
-    let mut next = Some(AcceptEnd::new());
-    for turn in turns {
-        let end = next.take().ok_or("a further step")?;
-        match end.step(alloc, &setup, turn.token, now, &DRAWS) {
-            Ok(step) => {
-                let (step, asks) = gone_on(step);
-                if asks != turn.asks {
-                    return Ok(false);
-                }
-                next = accepted(step, turn.said)?;
-            }
-            Err(refusal) => return is_refused(refusal, turn.said),
-        }
-    }
-    Ok(true)
-}
-
-/// The end that goes on, after this step or none.
-fn initiated(step: InitStep, said: Said) -> Result<Option<InitEnd>, Fail> {
-    match step {
-        InitStep::More(end, token) => match said {
-            Said::More(wanted) if token.as_slice() == wanted => Ok(Some(end)),
-            _ => wrong(),
-        },
-        InitStep::Done(outcome) => match said {
-            Said::Done(_) if is_outcome(&outcome) => Ok(None),
-            _ => wrong(),
-        },
-    }
-}
-
-/// Whether the initiator sends this first, and says so to each reply.
-fn initiates_so(alloc: Global, first: &[u8], turns: &[Turn]) -> Result<bool, Fail> {
-    let (end, token) = started(alloc)?;
-    if token.as_slice() != first {
-        return Ok(false);
-    }
-    let mut next = Some(end);
-    for turn in turns {
-        let end = next.take().ok_or("a further step")?;
-        match end.step(alloc, turn.token) {
-            Ok(step) => next = initiated(step, turn.said)?,
-            Err(refusal) => return is_refused(refusal, turn.said),
-        }
-    }
-    Ok(true)
-}
-
-#[test]
-fn an_acceptor_answers_by_list_and_offer(rt: HostRuntime) -> Result<(), Fail> {
-    let alloc = rt.alloc();
-    let kerberos = [MechKind::Kerberos];
-    let scram_first = [MechKind::Scram, MechKind::Kerberos];
-    assert!(rt; accepts_so(alloc, &kerberos, accepting::FIRST_OF_BOTH)?);
-    assert!(rt; accepts_so(alloc, &scram_first, accepting::FIRST_OF_LIST)?);
-    assert!(rt; accepts_so(alloc, &kerberos, accepting::FIRST_OF_OFFER)?);
-    assert!(rt; accepts_so(alloc, &kerberos, accepting::EARLY_MIC)?);
-    Ok(())
-}
-
-#[test]
-fn an_acceptor_refuses_what_it_can_not_take(rt: HostRuntime) -> Result<(), Fail> {
-    let alloc = rt.alloc();
-    let kerberos = [MechKind::Kerberos];
-    assert!(rt; accepts_so(alloc, &kerberos, accepting::NOT_OFFERED)?);
-    assert!(rt; accepts_so(alloc, &kerberos, accepting::EMPTY)?);
-    assert!(rt; accepts_so(alloc, &kerberos, accepting::CUT)?);
-    assert!(rt; accepts_so(alloc, &kerberos, accepting::NO_TOKEN)?);
-    assert!(rt; accepts_so(alloc, &kerberos, accepting::REJECTED)?);
-    assert!(rt; accepts_so(alloc, &kerberos, accepting::CLOSED_TICKET)?);
-    assert!(rt; accepts_so(alloc, &kerberos, accepting::NO_REQUEST)?);
-    Ok(())
-}
-
-#[test]
-fn a_mic_that_is_due_must_come_and_verify(rt: HostRuntime) -> Result<(), Fail> {
-    let alloc = rt.alloc();
-    let kerberos = [MechKind::Kerberos];
-    assert!(rt; accepts_so(alloc, &kerberos, accepting::NO_MIC)?);
-    assert!(rt; accepts_so(alloc, &kerberos, accepting::WRONG_MIC)?);
-    assert!(rt; accepts_so(alloc, &kerberos, accepting::REJECTED_LATE)?);
-    assert!(rt; initiates_so(alloc, tokens::FIRST, initiating::MIC_MISSING)?);
-    assert!(rt; initiates_so(alloc, tokens::FIRST, initiating::MIC_BAD)?);
-    Ok(())
-}
-
-#[test]
-fn an_initiator_takes_the_first_reply(rt: HostRuntime) -> Result<(), Fail> {
-    let alloc = rt.alloc();
-    assert!(rt; initiates_so(alloc, tokens::FIRST, initiating::COMPLETED)?);
-    assert!(rt; initiates_so(alloc, tokens::FIRST, initiating::NO_REPLY)?);
-    assert!(rt; initiates_so(alloc, tokens::FIRST, initiating::REJECT)?);
-    assert!(rt; initiates_so(alloc, tokens::FIRST, initiating::NO_STATE)?);
-    assert!(rt; initiates_so(alloc, tokens::FIRST, initiating::NO_MECH)?);
-    assert!(rt; initiates_so(alloc, tokens::FIRST, initiating::OTHER_MECH)?);
-    assert!(rt; initiates_so(alloc, tokens::FIRST, initiating::NO_TOKEN)?);
-    Ok(())
-}
-
-#[test]
-fn an_initiator_sends_its_mic_once(rt: HostRuntime) -> Result<(), Fail> {
-    let alloc = rt.alloc();
-    assert!(rt; initiates_so(alloc, tokens::FIRST, initiating::MICS_ASKED)?);
-    assert!(rt; initiates_so(alloc, tokens::FIRST, initiating::SILENT_STATE)?);
-    assert!(rt; initiates_so(alloc, tokens::FIRST, initiating::SECOND_TURN)?);
-    assert!(rt; initiates_so(alloc, tokens::FIRST, initiating::LATE_REJECT)?);
-    assert!(rt; initiates_so(alloc, tokens::FIRST, initiating::LATE_MECH)?);
-    assert!(rt; initiates_so(alloc, tokens::FIRST, initiating::LATE_MIC_BAD)?);
-    Ok(())
-}
-
-/// The first token of a list that begins with an identifier of Kerberos that isn't known here, and ends with one that nobody knows; its
-/// token of the mechanism is for the first.
-const ALIAS_FIRST: &[u8] =
-    b"\x60\x37\x06\x06\x2b\x06\x01\x05\x05\x02\xa0\x2d\x30\x2b\xa0\x21\x30\x1f\x06\x09\x2a\x86\x48\x82\xf7\x12\x01\x02\x02\x06\x09\x2a\x86\x48\x86\xf7\x12\x01\x02\x02\x06\x07\x2a\x03\x04\x05\x06\x07\x08\xa2\x06\x04\x04\x01\x02\x03\x04";
-
-/// The octets of that list.
-const ALIAS_LIST: &[u8] =
-    b"\x30\x1f\x06\x09\x2a\x86\x48\x82\xf7\x12\x01\x02\x02\x06\x09\x2a\x86\x48\x86\xf7\x12\x01\x02\x02\x06\x07\x2a\x03\x04\x05\x06\x07\x08";
-
-/// The reply to it: request-mic, with Kerberos and no token.
-const ALIAS_REPLY: &[u8] =
-    b"\xa1\x14\x30\x12\xa0\x03\x0a\x01\x03\xa1\x0b\x06\x09\x2a\x86\x48\x86\xf7\x12\x01\x02\x02";
-
-/// The end that goes on after this token, and what it answers.
-fn goes_on(
+/// The step that goes on after a token; the repeat test passes.
+fn accepted(
     alloc: Global,
     setup: &AcceptSetup,
     end: AcceptEnd,
     token: &[u8],
-) -> Result<(AcceptEnd, Octets), Fail> {
-    let now = Moment::new(1_000_000, 0).ok_or("a moment")?;
-    let (step, _) = gone_on(end.step(alloc, setup, token, now, &DRAWS)?);
+) -> Result<AcceptStep, NegRefusal> {
+    let now = Moment::start().later(1_000_000_000_000);
+    let step = end.step(alloc, setup, token, now, &DRAWS)?;
     match step {
-        AcceptStep::More(end, token) => Ok((end, token)),
-        _ => wrong(),
+        AcceptStep::WantsAuth(pause) => Ok(pause.go_on()),
+        step => Ok(step),
     }
 }
 
+/// The end that goes on, and its token.
+fn going_on(step: AcceptStep) -> Result<(AcceptEnd, Octets), Fail> {
+    match step {
+        AcceptStep::More(end, token) => Ok((end, token)),
+        _ => Err(Fail::from("a further step")),
+    }
+}
+
+/// The outcome, and the last token.
+fn settled(step: AcceptStep) -> Result<(Outcome, Octets), Fail> {
+    match step {
+        AcceptStep::Done(outcome, _, token) => Ok((outcome, token)),
+        _ => Err(Fail::from("an outcome")),
+    }
+}
+
+/// The end that goes on, and its token.
+fn talking_on(step: InitStep) -> Result<(InitEnd, Octets), Fail> {
+    match step {
+        InitStep::More(end, token) => Ok((end, token)),
+        _ => Err(Fail::from("a further step")),
+    }
+}
+
+/// The outcome.
+fn done(step: InitStep) -> Result<Outcome, Fail> {
+    if let InitStep::Done(outcome) = &step {
+        return Ok(*outcome);
+    }
+    Err(Fail::from("an outcome"))
+}
+
+// Tokens of both ends as another implementation makes them.
 #[test]
-fn an_unknown_mechanism_first_leads_to_both_mics(rt: HostRuntime) -> Result<(), Fail> {
+fn the_first_choice_of_both_needs_no_mic(rt: HostRuntime) -> Result<(), Fail> {
+    let alloc = rt.alloc();
+    let (end, first) = started(alloc)?;
+    assert!(rt; first.as_slice() == tokens::FIRST);
+    let setup = acceptor(alloc, &[MechKind::Kerberos])?;
+    let step = accepted(alloc, &setup, AcceptEnd::new(), tokens::FIRST)?;
+    let (outcome, reply) = settled(step)?;
+    assert!(rt; is_outcome(&outcome));
+    assert!(rt; reply.as_slice() == tokens::PLAIN_REPLY);
+    let own = done(end.step(alloc, tokens::PLAIN_REPLY)?)?;
+    assert!(rt; is_outcome(&own));
+    Ok(())
+}
+
+#[test]
+fn another_first_choice_of_the_offer_takes_both_mics(rt: HostRuntime) -> Result<(), Fail> {
+    let alloc = rt.alloc();
+    let setup = acceptor(alloc, &[MechKind::Scram, MechKind::Kerberos])?;
+    let step = accepted(alloc, &setup, AcceptEnd::new(), tokens::FIRST)?;
+    let (owing, reply) = going_on(step)?;
+    assert!(rt; reply.as_slice() == tokens::MIC_REPLY);
+    let (end, _first) = started(alloc)?;
+    let (signed, mic) = talking_on(end.step(alloc, tokens::MIC_REPLY)?)?;
+    assert!(rt; mic.as_slice() == tokens::OWN_MIC);
+    let (outcome, last) = settled(accepted(alloc, &setup, owing, tokens::OWN_MIC)?)?;
+    assert!(rt; last.as_slice().is_empty() && is_outcome(&outcome));
+    let own = done(signed.step(alloc, &[])?)?;
+    assert!(rt; is_outcome(&own));
+    Ok(())
+}
+
+#[test]
+fn another_first_choice_of_the_list_takes_both_mics(rt: HostRuntime) -> Result<(), Fail> {
     let alloc = rt.alloc();
     let setup = acceptor(alloc, &[MechKind::Kerberos])?;
-    let (end, reply) = goes_on(alloc, &setup, AcceptEnd::new(), ALIAS_FIRST)?;
-    assert!(rt; reply.as_slice() == ALIAS_REPLY);
-    let (end, reply) = goes_on(alloc, &setup, end, tokens::REQUEST)?;
-    let key = Key::new(Etype::Aes128, &DRAWS[..16]).ok_or("a key")?;
-    let initiator = TokenEnd {
-        key,
-        side: Side::Initiator,
-        subkey: true,
-    };
-    let said = read_resp(alloc, reply.as_slice()).ok().ok_or("a reply")?;
-    let mic = said.mic.ok_or("a MIC")?;
-    assert!(rt; initiator.check_mic(mic.as_slice(), ALIAS_LIST).is_ok());
-    let own = initiator.make_mic(0, ALIAS_LIST);
-    let last = NegResp {
-        state: Some(NegState::Completed),
-        mech: None,
-        token: None,
-        mic: Some(Octets::of(alloc, &own)?),
-    };
-    let last = write_resp(alloc, &last)?;
-    let now = Moment::new(1_000_000, 0).ok_or("a moment")?;
-    let step = end.step(alloc, &setup, last.as_slice(), now, &DRAWS)?;
-    assert!(rt; matches!(step, AcceptStep::Done(_, _, _)));
+    let step = accepted(alloc, &setup, AcceptEnd::new(), tokens::OTHER_FIRST)?;
+    let (waiting, chosen) = going_on(step)?;
+    assert!(rt; chosen.as_slice() == tokens::CHOSEN);
+    let step = accepted(alloc, &setup, waiting, tokens::REQUEST_WITH_MIC)?;
+    let (owing, reply) = going_on(step)?;
+    assert!(rt; reply.as_slice() == tokens::LATE_REPLY);
+    let (outcome, _last) = settled(accepted(alloc, &setup, owing, tokens::LATE_MIC)?)?;
+    assert!(rt; is_outcome(&outcome));
+    Ok(())
+}
+
+// An unknown identifier of Kerberos stands first, and an unknown one last.
+#[test]
+fn unknown_mechanisms_are_passed_over(rt: HostRuntime) -> Result<(), Fail> {
+    let alloc = rt.alloc();
+    let setup = acceptor(alloc, &[MechKind::Kerberos])?;
+    let step = accepted(alloc, &setup, AcceptEnd::new(), tokens::ALIAS_FIRST)?;
+    let (_waiting, chosen) = going_on(step)?;
+    assert!(rt; chosen.as_slice() == tokens::CHOSEN);
+    Ok(())
+}
+
+// By what is wrong: no token, a list of SCRAM alone, a list that is cut.
+const FIRST_REFUSED: [(&[u8], NegRefusal); 3] = [
+    (b"", NegRefusal::Defective { at: 0 }),
+    (
+        b"\x60\x47\x06\x06\x2b\x06\x01\x05\x05\x02\xa0\x3d\x30\x3b\xa0\x0a\x30\x08\x06\x06\x2b\x06\x01\x05\x05\x0e\xa2\x2d\x04\x2b\x60\x29\x06\x06\x2b\x06\x01\x05\x05\x0e\x6e\x3d\x75\x73\x65\x72\x2c\x72\x3d\x4d\x44\x45\x79\x4d\x7a\x51\x31\x4e\x6a\x63\x34\x4f\x54\x6f\x37\x50\x44\x30\x2b\x50\x30\x42\x42",
+        NegRefusal::NoCommonMech,
+    ),
+    (
+        b"\x60\x52\x06\x06\x2b\x06\x01\x05\x05\x02\xa0\x48\x30\x46",
+        NegRefusal::Defective { at: 14 },
+    ),
+];
+
+#[test]
+fn an_acceptor_refuses_a_first_token(rt: HostRuntime) -> Result<(), Fail> {
+    let alloc = rt.alloc();
+    let setup = acceptor(alloc, &[MechKind::Kerberos])?;
+    for (token, wanted) in FIRST_REFUSED {
+        let answer = accepted(alloc, &setup, AcceptEnd::new(), token);
+        assert!(rt; answer.err() == Some(wanted));
+    }
+    Ok(())
+}
+
+// While the mechanism runs: no token for it, reject, a token that is no request.
+const LATER_REFUSED: [(&[u8], NegRefusal); 3] = [
+    (b"\xa1\x02\x30\x00", NegRefusal::Defective { at: 4 }),
+    (
+        b"\xa1\x07\x30\x05\xa0\x03\x0a\x01\x02",
+        NegRefusal::Rejected,
+    ),
+    (
+        b"\xa1\x06\x30\x04\xa2\x02\x04\x00",
+        NegRefusal::Mech(MechRefusal::Ap(ApRefusal::Der {
+            part: Part::Token,
+            at: 0,
+            why: DerWhy::Short,
+        })),
+    ),
+];
+
+#[test]
+fn an_acceptor_refuses_a_later_token(rt: HostRuntime) -> Result<(), Fail> {
+    let alloc = rt.alloc();
+    let setup = acceptor(alloc, &[MechKind::Kerberos])?;
+    for (token, wanted) in LATER_REFUSED {
+        let step = accepted(alloc, &setup, AcceptEnd::new(), tokens::OTHER_FIRST)?;
+        let (waiting, _chosen) = going_on(step)?;
+        let answer = accepted(alloc, &setup, waiting, token);
+        assert!(rt; answer.err() == Some(wanted));
+    }
+    Ok(())
+}
+
+// Where the MIC is due: none, one that is none, reject, no token at all.
+const MIC_REFUSED: [(&[u8], NegRefusal); 4] = [
+    (
+        b"\xa1\x07\x30\x05\xa0\x03\x0a\x01\x00",
+        NegRefusal::MicMissing,
+    ),
+    (
+        b"\xa1\x0b\x30\x09\xa0\x03\x0a\x01\x00\xa3\x02\x04\x00",
+        NegRefusal::MicBad,
+    ),
+    (
+        b"\xa1\x07\x30\x05\xa0\x03\x0a\x01\x02",
+        NegRefusal::Rejected,
+    ),
+    (b"", NegRefusal::Defective { at: 0 }),
+];
+
+#[test]
+fn an_acceptor_takes_nothing_for_a_mic(rt: HostRuntime) -> Result<(), Fail> {
+    let alloc = rt.alloc();
+    let setup = acceptor(alloc, &[MechKind::Scram, MechKind::Kerberos])?;
+    for (token, wanted) in MIC_REFUSED {
+        let step = accepted(alloc, &setup, AcceptEnd::new(), tokens::FIRST)?;
+        let (owing, _reply) = going_on(step)?;
+        let answer = accepted(alloc, &setup, owing, token);
+        assert!(rt; answer.err() == Some(wanted));
+    }
+    Ok(())
+}
+
+// First replies: reject, no state, no mechanism, another mechanism, no token for it, a MIC that is due and isn't there, a wrong one.
+const REPLY_REFUSED: [(&[u8], NegRefusal); 7] = [
+    (
+        b"\xa1\x07\x30\x05\xa0\x03\x0a\x01\x02",
+        NegRefusal::Rejected,
+    ),
+    (
+        b"\xa1\x0f\x30\x0d\xa1\x0b\x06\x09\x2a\x86\x48\x86\xf7\x12\x01\x02\x02",
+        NegRefusal::Defective { at: 17 },
+    ),
+    (
+        b"\xa1\x07\x30\x05\xa0\x03\x0a\x01\x03",
+        NegRefusal::Defective { at: 9 },
+    ),
+    (
+        b"\xa1\x11\x30\x0f\xa0\x03\x0a\x01\x01\xa1\x08\x06\x06\x2b\x06\x01\x05\x05\x0e",
+        NegRefusal::MechNotMine,
+    ),
+    (
+        b"\xa1\x14\x30\x12\xa0\x03\x0a\x01\x01\xa1\x0b\x06\x09\x2a\x86\x48\x86\xf7\x12\x01\x02\x02",
+        NegRefusal::Defective { at: 22 },
+    ),
+    (
+        b"\xa1\x81\xa0\x30\x81\x9d\xa0\x03\x0a\x01\x03\xa1\x0b\x06\x09\x2a\x86\x48\x86\xf7\x12\x01\x02\x02\xa2\x81\x88\x04\x81\x85\x60\x81\x82\x06\x09\x2a\x86\x48\x86\xf7\x12\x01\x02\x02\x02\x00\x6f\x73\x30\x71\xa0\x03\x02\x01\x05\xa1\x03\x02\x01\x0f\xa2\x65\x30\x63\xa0\x03\x02\x01\x11\xa2\x5c\x04\x5a\xdb\x38\xc6\x1b\xf5\x95\x74\xf3\x4a\xe9\xc9\x8d\x44\xdd\x8a\xfb\x19\x7b\xc8\x34\x56\x9e\x05\xd5\x71\xcb\x58\x30\xa0\x2e\xab\x9f\x48\x27\x48\x92\x1a\x9d\x51\x72\x54\x10\x33\x42\xc1\x11\x71\x5d\x11\x2b\xf7\xe3\xe0\xfa\xf2\xb7\x0e\x61\xe7\x96\x68\x0f\xde\x06\x92\x6a\xd1\x06\xb7\xa8\x1a\xcb\x0e\xb9\x32\x7f\x3a\x4d\x6e\x67\x17\x93\x47\x90\x65\x7a\x3a\x00\x0b\x21",
+        NegRefusal::MicMissing,
+    ),
+    (
+        b"\xa1\x81\xc0\x30\x81\xbd\xa0\x03\x0a\x01\x03\xa1\x0b\x06\x09\x2a\x86\x48\x86\xf7\x12\x01\x02\x02\xa2\x81\x88\x04\x81\x85\x60\x81\x82\x06\x09\x2a\x86\x48\x86\xf7\x12\x01\x02\x02\x02\x00\x6f\x73\x30\x71\xa0\x03\x02\x01\x05\xa1\x03\x02\x01\x0f\xa2\x65\x30\x63\xa0\x03\x02\x01\x11\xa2\x5c\x04\x5a\xdb\x38\xc6\x1b\xf5\x95\x74\xf3\x4a\xe9\xc9\x8d\x44\xdd\x8a\xfb\x19\x7b\xc8\x34\x56\x9e\x05\xd5\x71\xcb\x58\x30\xa0\x2e\xab\x9f\x48\x27\x48\x92\x1a\x9d\x51\x72\x54\x10\x33\x42\xc1\x11\x71\x5d\x11\x2b\xf7\xe3\xe0\xfa\xf2\xb7\x0e\x61\xe7\x96\x68\x0f\xde\x06\x92\x6a\xd1\x06\xb7\xa8\x1a\xcb\x0e\xb9\x32\x7f\x3a\x4d\x6e\x67\x17\x93\x47\x90\x65\x7a\x3a\x00\x0b\x21\xa3\x1e\x04\x1c\x04\x04\x05\xff\xff\xff\xff\xff\x00\x00\x00\x00\x00\x00\x00\x00\x57\x21\x94\x20\x0e\xc4\xa8\xff\x70\x08\x1d\x00",
+        NegRefusal::MicBad,
+    ),
+];
+
+#[test]
+fn an_initiator_refuses_a_first_reply(rt: HostRuntime) -> Result<(), Fail> {
+    let alloc = rt.alloc();
+    for (reply, wanted) in REPLY_REFUSED {
+        let (end, _first) = started(alloc)?;
+        let answer = end.step(alloc, reply);
+        assert!(rt; answer.err() == Some(wanted));
+    }
+    Ok(())
+}
+
+// Replies to the own MIC: a further turn, reject, another mechanism, a MIC that is none.
+const LAST_REFUSED: [(&[u8], NegRefusal); 4] = [
+    (
+        b"\xa1\x07\x30\x05\xa0\x03\x0a\x01\x01",
+        NegRefusal::Defective { at: 0 },
+    ),
+    (
+        b"\xa1\x07\x30\x05\xa0\x03\x0a\x01\x02",
+        NegRefusal::Rejected,
+    ),
+    (
+        b"\xa1\x11\x30\x0f\xa0\x03\x0a\x01\x00\xa1\x08\x06\x06\x2b\x06\x01\x05\x05\x0e",
+        NegRefusal::MechNotMine,
+    ),
+    (
+        b"\xa1\x0b\x30\x09\xa0\x03\x0a\x01\x00\xa3\x02\x04\x00",
+        NegRefusal::MicBad,
+    ),
+];
+
+#[test]
+fn an_initiator_refuses_a_reply_to_its_mic(rt: HostRuntime) -> Result<(), Fail> {
+    let alloc = rt.alloc();
+    for (reply, wanted) in LAST_REFUSED {
+        let (end, _first) = started(alloc)?;
+        let (signed, _mic) = talking_on(end.step(alloc, tokens::MIC_REPLY)?)?;
+        let answer = signed.step(alloc, reply);
+        assert!(rt; answer.err() == Some(wanted));
+    }
     Ok(())
 }
