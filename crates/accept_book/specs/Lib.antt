@@ -5,3 +5,5 @@ pub mod Answers
 pub mod Entering
 pub mod Logs
 pub mod Once
+pub mod Looking
+pub mod Examples

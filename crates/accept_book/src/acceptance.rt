@@ -1,5 +1,5 @@
 //! The acceptance history as a plain sequential object.
-ghost use Rattle.std.specs.Prelude.{◌≡◌, ◌≢◌, ℕ, ◌+◌, ◌<◌, ◌≤◌, ◌↔◌, List, [], ◌∷◌, ◌++◌, Option, IfOk, IfSome, IsSome, IsOk, is_some, is_none, is_ok, None, Some, Ok, Err, length, reverse, max, nat_lt, ◌==◌, ◌||◌, true, false, IfErr, OnErr, if◌then◌else◌};
+ghost use Rattle.std.specs.Prelude.{⊤, ◌≡◌, ◌≢◌, ℕ, ◌+◌, ◌<◌, ◌≤◌, ◌↔◌, List, [], ◌∷◌, ◌++◌, Option, IfOk, IfSome, IsSome, IsOk, is_some, is_none, is_ok, None, Some, Ok, Err, length, reverse, max, nat_lt, ◌==◌, ◌||◌, true, false, IfErr, OnErr, if◌then◌else◌};
 ghost use Rattle.context_table.specs.Places.{slot_at, live_of, KeepsOthers, phase_of, state_of, held_after, IsHeld, IsPast, IsFreshAt};
 ghost use Rattle.accept_book.specs.declared.entry.Entry.{Entry};
 ghost use Rattle.accept_book.specs.History.{standing, has_auth, opened, posts, taken_of};
@@ -7,7 +7,7 @@ ghost use Rattle.accept_book.specs.Legal.{Legal, MayCall, MayEnd, MayAuth};
 ghost use Rattle.gss_base.specs.Mech.{is_kerberos};
 ghost use Rattle.replay_cache.specs.Taking.{cache_verdict};
 ghost use Rattle.accept_book.specs.Replays.{Keeps, Replays};
-ghost use Rattle.accept_book.specs.Answers.{refused, or_refused, after, admitted, receipt_of, Free, taken_by, LooksBy};
+ghost use Rattle.accept_book.specs.Answers.{refused, or_refused, after, admitted, receipt_of, Free, taken_by, LooksBy, with_end};
 ghost use Rattle.accept_book.specs.Entering.{id_of, lapsed, started, noted, finished, entered, mark_refused, after_mark, auth_of, auth_after, SettlesBy, given, gained};
 
 use crate::answer::{
@@ -473,7 +473,16 @@ impl<N: Drop, S: Named + Drop> Core<N, S> {
     pub fn peek(&self, id: u64, now: Moment) -> Result<(&S, Moment), LookRefusal>
         ensures { LooksBy (standing id self.now.history) (slot_at self.now.table id) now result }
     {
-        match self.table.get(id) {
+        match self.show(id, now) {
+            Ok((value, ends)) => Ok((value, *ends)),
+            Err(refusal) => Err(refusal),
+        }
+    }
+
+    fn show(&self, id: u64, now: Moment) -> Result<(&S, &Moment), LookRefusal>
+        ensures { LooksBy (standing id self.now.history) (slot_at self.now.table id) now (with_end result) }
+    {
+        match self.table.read(id) {
             Some((value, ends)) => {
                 if ends.total() < now.total() {
                     Err(LookRefusal::Expired)
@@ -557,6 +566,23 @@ impl<N: Drop, S: Named + Drop> Core<N, S> {
                 }
             }
         }
+    }
+}
+
+impl<N: Drop, S: Named + Drop> Core<N, S> {
+    ghost use mathlib.Core.Option.{none};
+    ghost use denote.Follow.{follows_so};
+    ghost use Rattle.std.specs.Borrow.{sem};
+    ghost use Rattle.accept_book.specs.contracts.acceptance.Core.{the_row};
+    ghost use Rattle.accept_book.specs.Looking.{IsLooked};
+
+    /// Takes note of a moment, and shows the value of a complete context and its end.
+    pub fn look(&mut self, id: u64, now: Moment) -> Result<(&S, &Moment), LookRefusal>
+        ensures answer { LooksBy (standing id self.old.history) (slot_at self.old.table id) now (with_end result) }
+        ensures* after { sem 𝓛 (follows_so (the_row N.row S.row S.Named) (the_row N.row S.row S.Named) self.entry.ghost_name none (λ _ _. ⊤) (IsLooked self.old now)) }
+    {
+        self.raise(now);
+        self.show(id, now)
     }
 }
 
