@@ -1,0 +1,8 @@
+pub mod Fits
+pub mod Named
+pub mod Places
+pub mod Sealed
+pub mod Started
+pub mod Passed
+pub mod Found
+pub mod Honest

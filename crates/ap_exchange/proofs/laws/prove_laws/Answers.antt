@@ -1,0 +1,6 @@
+use Rattle.ap_exchange.proofs.Found.{judges, takes}
+use Rattle.ap_exchange.proofs.Honest.{honest_request, honest_reply}
+use Rattle.ap_exchange.proofs.laws.prove_laws.Goals as goal
+
+pub returns : goal.returns
+returns c = record { judges = judges; takes = takes; honest_request = honest_request; honest_reply = honest_reply }

@@ -1,0 +1,12 @@
+pub mod Steps
+pub mod Tokens
+pub mod Keys
+pub mod Draws
+pub mod Stamps
+pub mod Request
+pub mod Exchange
+pub mod Judging
+pub mod Answer
+pub mod Reply
+pub mod SealedTicket
+pub mod Laws

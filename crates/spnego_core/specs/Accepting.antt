@@ -1,0 +1,202 @@
+-- The acceptor's machine, RFC 4178 sections 3.2, 4.2.2 and 5. Each part gives the step, what is handed out with its token, what was found
+-- verified, and what it fixes.
+use Rattle.std.specs.Prelude.{◌≡◌, ℕ, Bool, true, false, not, ◌&&◌, if◌then◌else◌, List, [], ◌∷◌, ◌++◌, length, Option, Some, None, option_map, Result, Ok, Err}
+use Rattle.gss_base.specs.declared.mech.MechKind.{MechKind}
+use Rattle.gss_base.specs.declared.mark.Mark.{Mark}
+use Rattle.gss_base.specs.Mech.{oid_of}
+use Rattle.krb_derive.specs.Making.{Making}
+use Rattle.krb_tokens.specs.declared.end.Side.TheVariants.{Acceptor}
+use Rattle.spnego_msgs.specs.declared.neg_state.NegState.{NegState}
+use Rattle.spnego_msgs.specs.declared.neg_state.NegState.TheVariants.{Completed, Incomplete, RequestMic}
+use Rattle.spnego_msgs.specs.declared.neg_init.NegInit.{NegInit}
+use Rattle.spnego_msgs.specs.declared.neg_resp.NegResp.{NegResp}
+use Rattle.spnego_core.specs.declared.outcome.Outcome.{Outcome}
+use Rattle.spnego_core.specs.declared.refusal.NegRefusal.{NegRefusal}
+use Rattle.spnego_core.specs.declared.refusal.NegRefusal.TheVariants.{Defective, Rejected, NoCommonMech, MicMissing, MicBad, Mech}
+use Rattle.spnego_core.specs.declared.refusal.MechRefusal.{MechRefusal}
+use Rattle.spnego_core.specs.declared.setup.AcceptSetup.{AcceptSetup}
+use Rattle.spnego_core.specs.declared.accept_mech.AcceptMech.{AcceptMech}
+use Rattle.spnego_core.specs.declared.accept_mech.AcceptAnswer.{AcceptAnswer}
+use Rattle.spnego_core.specs.declared.accept_mech.AcceptAnswer.TheVariants as answers
+use Rattle.spnego_core.specs.declared.accept_end.Turn.{Turn}
+use Rattle.spnego_core.specs.declared.accept_end.Turn.TheVariants.{First, Later}
+use Rattle.spnego_core.specs.declared.accept_end.Running.{Running}
+use Rattle.spnego_core.specs.declared.accept_end.Owing.{Owing}
+use Rattle.spnego_core.specs.declared.accept_end.AcceptEnd.{AcceptEnd}
+use Rattle.spnego_core.specs.declared.accept_end.AcceptEnd.TheVariants as ends
+use Rattle.spnego_core.specs.declared.accept_end.Answered.{Answered}
+use Rattle.spnego_core.specs.declared.accept_end.Answered.TheVariants as afters
+use Rattle.spnego_core.specs.declared.accept_end.AcceptPause.{AcceptPause}
+use Rattle.spnego_core.specs.declared.accept_end.AcceptStep.{AcceptStep}
+use Rattle.spnego_core.specs.declared.accept_end.AcceptStep.TheVariants as steps
+use Rattle.spnego_core.specs.Steps.{◌>>=◌, due, or_refuse}
+use Rattle.spnego_core.specs.Tokens.{init_read, resp_read, resp_octets, rejects}
+use Rattle.spnego_core.specs.ListMic.{list_mic, is_list_mic, mic_making, mic_found}
+use Rattle.spnego_core.specs.Choice.{is_first_named, best, is_mic_due}
+use Rattle.spnego_core.specs.AcceptMech.{Basis, Built, MechTaken, accept_begun, accept_taken}
+
+-- a context that was fixed: the list that came, the outcome, and what that was built on
+pub record Fixed : Type 0 where
+  pub received : List (List ℕ)
+  pub outcome : Outcome
+  pub basis : Basis
+
+-- a step that was taken. What is handed out goes with the step's token: where the step pauses, with that of the step that goes on
+pub record Accepted : Type 0 where
+  pub step : AcceptStep
+  pub makes : List Making
+  pub found : List Making
+  pub fixes : Option Fixed
+
+-- what the code returns of it
+abbrev pub step_of : Result Accepted NegRefusal → Result AcceptStep NegRefusal
+step_of (Ok accepted) = Ok accepted.step
+step_of (Err refusal) = Err refusal
+
+-- ---- the answer
+
+-- what the reply says of the negotiation: the first one, then each later one
+abbrev pub state_said : Turn → Bool → Bool → NegState
+state_said First owes finished = if owes then RequestMic else if finished then Completed else Incomplete
+state_said Later owes finished = if owes then Incomplete else if finished then Completed else Incomplete
+
+-- the first reply names the mechanism
+abbrev pub mech_said : Turn → MechKind → Option (List ℕ)
+mech_said First kind = Some (oid_of kind)
+mech_said Later kind = None
+
+-- the reply: the turn, the mechanism, whether the MIC is due, whether the mechanism is done, its token, the own MIC
+abbrev pub reply_with : Turn → MechKind → Bool → Bool → Option (List ℕ) → Option (List ℕ) → NegResp
+reply_with turn kind owes finished token mic =
+    record { state = Some (state_said turn owes finished); mech = mech_said turn kind; token = token; mic = mic }
+
+abbrev pub reply : Turn → MechKind → Bool → Bool → Option (List ℕ) → Option (List ℕ) → List ℕ
+reply turn kind owes finished token mic = resp_octets (reply_with turn kind owes finished token mic)
+
+-- ---- the mechanism
+
+-- the mechanism is done: where the MIC is due, the own one goes with its last token, and the initiator's is owed
+abbrev pub finished : Turn → Running → Outcome → ℕ → List ℕ → Answered
+finished turn running outcome lasts token =
+    if running.due
+    then afters.More (ends.Owes (record { received = running.received; outcome = outcome; lasts = lasts }))
+        (reply turn running.chosen true true (Some token) (Some (list_mic outcome Acceptor running.received)))
+    else afters.Done outcome lasts (reply turn running.chosen false true (Some token) None)
+
+-- the step that follows once nothing is to be asked
+abbrev pub gone_on : Answered → AcceptStep
+gone_on (afters.More end token) = steps.More end token
+gone_on (afters.Done outcome lasts token) = steps.Done outcome lasts token
+
+-- the mechanism goes on: the same state but for it
+abbrev pub going : Turn → Running → AcceptMech → Option (List ℕ) → AcceptStep
+going turn running mech token = steps.More
+    (ends.Runs (record { received = running.received; chosen = running.chosen; due = running.due; mech = mech }))
+    (reply turn running.chosen running.due false token None)
+
+-- the step by the mechanism's answer
+abbrev pub told : Turn → Running → AcceptAnswer → AcceptStep
+told turn running (answers.More mech token) = going turn running mech (Some token)
+told turn running (answers.Done outcome lasts token) = gone_on (finished turn running outcome lasts token)
+told turn running (answers.Pauses mark outcome lasts token) =
+    steps.WantsAuth (record { mark = mark; after = finished turn running outcome lasts token })
+
+-- the own MIC is handed out with a last token where it is due
+abbrev pub mic_made : Running → Outcome → List Making
+mic_made running outcome = if running.due then mic_making outcome Acceptor running.received ∷ [] else []
+
+abbrev pub told_makes : Running → AcceptAnswer → List Making
+told_makes running (answers.More mech token) = []
+told_makes running (answers.Done outcome lasts token) = mic_made running outcome
+told_makes running (answers.Pauses mark outcome lasts token) = mic_made running outcome
+
+-- what a finished mechanism fixes of the context
+abbrev pub fixed_with : List (List ℕ) → Built → Fixed
+fixed_with received built = record { received = received; outcome = built.outcome; basis = built.basis }
+
+-- the step by what the mechanism made of its token; its refusal is the end's
+abbrev pub run : Turn → Running → Result MechTaken MechRefusal → Result Accepted NegRefusal
+run turn running (Err refusal) = Err (Mech refusal)
+run turn running (Ok taken) = Ok (record {
+  step = told turn running taken.answer;
+  makes = taken.makes ++ told_makes running taken.answer;
+  found = taken.found;
+  fixes = option_map (fixed_with running.received) taken.built;
+})
+
+-- ---- the first token
+
+-- the state in which a mechanism begins
+abbrev pub begun : AcceptSetup → List (List ℕ) → MechKind → Running
+begun setup list kind =
+    record { received = list; chosen = kind; due = is_mic_due setup.offer list kind; mech = accept_begun kind }
+
+-- the mechanism's token in the first token is for the list's first: another mechanism passes it over
+abbrev pub token_for : Bool → Option (List ℕ) → Option (List ℕ)
+token_for true token = token
+token_for false token = None
+
+-- the chosen mechanism takes its token, or waits for it
+abbrev pub started : AcceptSetup → ℕ → List ℕ → Running → Option (List ℕ) → Result Accepted NegRefusal
+started setup now draws running None =
+    Ok (record { step = going First running running.mech None; makes = []; found = []; fixes = None })
+started setup now draws running (Some token) = run First running (accept_taken setup running.mech token now draws)
+
+-- what follows the choice
+abbrev pub chose : AcceptSetup → ℕ → List ℕ → List (List ℕ) → Option (List ℕ) → MechKind → Result Accepted NegRefusal
+chose setup now draws list token kind =
+    started setup now draws (begun setup list kind) (token_for (is_first_named list kind) token)
+
+-- the list's MIC of a first token is passed over, and so are its flags
+unfoldable pub begins : AcceptSetup → ℕ → List ℕ → NegInit → Result Accepted NegRefusal
+begins setup now draws init = do
+  kind ← or_refuse NoCommonMech (best setup.offer init.list)
+  chose setup now draws init.list init.token kind
+
+-- ---- later tokens
+
+-- while the mechanism isn't done: the token of so many octets must have one for it, and a MIC is passed over
+unfoldable pub proceeds : AcceptSetup → ℕ → List ℕ → ℕ → Running → NegResp → Result Accepted NegRefusal
+proceeds setup now draws size running resp = do
+  goes ← due Rejected (not (rejects resp.state))
+  token ← or_refuse (Defective size) resp.token
+  run Later running (accept_taken setup running.mech token now draws)
+
+-- the initiator's MIC over the list that came: nothing more is to be said
+abbrev pub settled : Owing → List ℕ → Accepted
+settled owing mic = record {
+  step = steps.Done owing.outcome owing.lasts [];
+  makes = [];
+  found = mic_found owing.outcome Acceptor owing.received mic ∷ [];
+  fixes = None;
+}
+
+-- once the mechanism is done and the MIC is due
+unfoldable pub closes : Owing → NegResp → Result Accepted NegRefusal
+closes owing resp = do
+  goes ← due Rejected (not (rejects resp.state))
+  mic ← or_refuse MicMissing resp.mic
+  right ← due MicBad (is_list_mic owing.outcome Acceptor owing.received mic)
+  Ok (settled owing mic)
+
+-- ---- the machine: setup, end, token, moment, draws
+abbrev pub accept_step : AcceptSetup → AcceptEnd → List ℕ → ℕ → List ℕ → Result Accepted NegRefusal
+accept_step setup ends.New token now draws = init_read token >>= begins setup now draws
+accept_step setup (ends.Runs running) token now draws = resp_read token >>= proceeds setup now draws (length token) running
+accept_step setup (ends.Owes owing) token now draws = resp_read token >>= closes owing
+
+-- ---- what a pause shows
+
+-- the mark by which a repeat of the request is known
+abbrev pub mark_asked : AcceptPause → Mark
+mark_asked pause = pause.mark
+
+-- the step that goes on
+abbrev pub step_after : AcceptPause → AcceptStep
+step_after pause = gone_on pause.after
+
+-- nothing more is to be asked
+abbrev pub IsSettled : AcceptStep → Type 0
+IsSettled (steps.More end token) = Unit {0}
+IsSettled (steps.Done outcome lasts token) = Unit {0}
+IsSettled (steps.WantsAuth pause) = ⊥

@@ -1,0 +1,91 @@
+-- What a mechanism makes of a reply at the initiator, and how it begins.
+use Rattle.std.specs.Prelude.{ℕ, Bool, true, false, ◌&&◌, not, if◌then◌else◌, List, [], ◌∷◌, map, Option, Some, None, Result, Ok, Err}
+use Rattle.std.specs.List.{list_any}
+use Rattle.gss_base.specs.declared.mech.MechKind.{MechKind}
+use Rattle.gss_base.specs.declared.mech.MechKind.TheVariants as kinds
+use Rattle.krb_derive.specs.Making.{Making}
+use Rattle.krb_tokens.specs.declared.done.MechDone.{MechDone}
+use Rattle.ap_exchange.specs.declared.refusal.ApRefusal.{ApRefusal}
+use Rattle.ap_exchange.specs.declared.request.ApInit.{ApInit}
+use Rattle.ap_exchange.specs.Request.{request_of, request_makes}
+use Rattle.ap_exchange.specs.Reply.{reply_taken, reply_found}
+use Rattle.spnego_core.specs.declared.outcome.Outcome.{Outcome}
+use Rattle.spnego_core.specs.declared.refusal.NegRefusal.{NegRefusal}
+use Rattle.spnego_core.specs.declared.refusal.NegRefusal.TheVariants.{Mech}
+use Rattle.spnego_core.specs.declared.refusal.MechRefusal.{MechRefusal}
+use Rattle.spnego_core.specs.declared.refusal.MechRefusal.TheVariants.{Ap}
+use Rattle.spnego_core.specs.declared.setup.MechCred.{MechCred}
+use Rattle.spnego_core.specs.declared.setup.MechCred.TheVariants as creds
+use Rattle.spnego_core.specs.declared.setup.InitSetup.{InitSetup}
+use Rattle.spnego_core.specs.declared.init_mech.InitMech.{InitMech}
+use Rattle.spnego_core.specs.declared.init_mech.InitMech.TheVariants as mechs
+use Rattle.spnego_core.specs.declared.init_mech.InitAnswer.{InitAnswer}
+use Rattle.spnego_core.specs.declared.init_mech.InitAnswer.TheVariants.{Done}
+use Rattle.spnego_core.specs.Outcome.{outcome_of}
+use Rattle.spnego_core.specs.Choice.{same_kind}
+
+-- ---- credentials
+
+abbrev pub kind_of : MechCred → MechKind
+kind_of (creds.Kerberos credential) = kinds.Kerberos
+
+-- the mechanisms of an initiator, in its order
+abbrev pub kinds_of : List MechCred → List MechKind
+kinds_of list = map kind_of list
+
+-- one or two credentials, of different mechanisms
+abbrev pub is_own_list : List MechCred → Bool
+is_own_list [] = false
+is_own_list (only ∷ []) = true
+is_own_list (first ∷ second ∷ []) = not (same_kind (kind_of first) (kind_of second))
+is_own_list (first ∷ second ∷ third ∷ rest) = false
+
+-- there is a credential of this mechanism
+abbrev pub is_own : List MechCred → MechKind → Bool
+is_own list kind = list_any (λ cred. same_kind (kind_of cred) kind) list
+
+-- the credential of a mechanism
+abbrev pub cred_for : List MechCred → MechKind → Option MechCred
+cred_for [] kind = None
+cred_for (cred ∷ rest) kind = if same_kind (kind_of cred) kind then Some cred else cred_for rest kind
+
+-- ---- a mechanism begins
+
+-- the end, and its first token; what is handed out with that
+pub record MechBegun : Type 0 where
+  pub mech : InitMech
+  pub token : List ℕ
+  pub makes : List Making
+
+abbrev pub request_begun : List Making → Result (ApInit × List ℕ) ApRefusal → Result MechBegun MechRefusal
+request_begun makes (Ok sent) = Ok (record { mech = mechs.Kerberos sent.0; token = sent.1; makes = makes })
+request_begun makes (Err refusal) = Err (Ap refusal)
+
+unfoldable pub init_begun : InitSetup → MechCred → Result MechBegun MechRefusal
+init_begun own (creds.Kerberos credential) =
+    request_begun (request_makes credential own.stamp own.draws own.bindings) (request_of credential own.stamp own.draws own.bindings)
+
+-- the end and the token alone; a mechanism's refusal is the end's
+abbrev pub begun_with : Result MechBegun MechRefusal → Result (InitMech × List ℕ) NegRefusal
+begun_with (Ok begun) = Ok (begun.mech, begun.token)
+begun_with (Err refusal) = Err (Mech refusal)
+
+-- ---- a mechanism takes a token
+
+-- the answer; what is handed out with it, and what was found verified in the token
+pub record MechReplied : Type 0 where
+  pub answer : InitAnswer
+  pub makes : List Making
+  pub found : List Making
+
+abbrev pub reply_answered : List Making → Result MechDone ApRefusal → Result MechReplied MechRefusal
+reply_answered found (Ok made) = Ok (record { answer = Done (outcome_of kinds.Kerberos made); makes = []; found = found })
+reply_answered found (Err refusal) = Err (Ap refusal)
+
+unfoldable pub init_taken : InitMech → List ℕ → Result MechReplied MechRefusal
+init_taken (mechs.Kerberos end) token = reply_answered (reply_found end token) (reply_taken end token)
+
+-- the answer alone; a mechanism's refusal is the end's
+abbrev pub replied : Result MechReplied MechRefusal → Result InitAnswer NegRefusal
+replied (Ok taken) = Ok taken.answer
+replied (Err refusal) = Err (Mech refusal)

@@ -1,0 +1,9 @@
+pub mod Outcome
+pub mod Steps
+pub mod Tokens
+pub mod ListMic
+pub mod Choice
+pub mod AcceptMech
+pub mod Accepting
+pub mod InitMech
+pub mod Initiating

@@ -1,0 +1,71 @@
+-- The tokens of a negotiation as an end reads and writes them, RFC 4178 section 4.2.
+use Rattle.std.specs.Prelude.{ℕ, Bool, true, false, List, [], ◌∷◌, Option, Some, None, Result, Ok, Err}
+use Rattle.der_core.specs.declared.refusal.DerRefusal.{DerRefusal}
+use Rattle.der_core.specs.Format.{all_of}
+use Rattle.spnego_msgs.specs.declared.neg_state.NegState.{NegState}
+use Rattle.spnego_msgs.specs.declared.neg_state.NegState.TheVariants.{Completed, Incomplete, Reject, RequestMic}
+use Rattle.spnego_msgs.specs.declared.neg_init.NegInit.{NegInit}
+use Rattle.spnego_msgs.specs.declared.neg_resp.NegResp.{NegResp}
+use Rattle.spnego_msgs.specs.NegInit.{neg_init}
+use Rattle.spnego_msgs.specs.NegResp.{neg_resp}
+use Rattle.spnego_core.specs.declared.refusal.NegRefusal.{NegRefusal}
+use Rattle.spnego_core.specs.declared.refusal.NegRefusal.TheVariants.{Defective}
+
+-- what a token says; a refused place counts from its first octet
+abbrev pub said_in : {A : Type 0} → Result A DerRefusal → Result A NegRefusal
+said_in (Ok v) = Ok v
+said_in (Err refusal) = Err (Defective refusal.at)
+
+unfoldable pub init_read : List ℕ → Result NegInit NegRefusal
+init_read token = said_in (neg_init.read (all_of token))
+
+unfoldable pub resp_read : List ℕ → Result NegResp NegRefusal
+resp_read token = said_in (neg_resp.read (all_of token))
+
+unfoldable pub init_octets : NegInit → List ℕ
+init_octets init = neg_init.spell init
+
+unfoldable pub resp_octets : NegResp → List ℕ
+resp_octets resp = neg_resp.spell resp
+
+-- a token that says no more than that the negotiation is complete
+abbrev pub completes : NegResp
+completes = record { state = Some Completed; mech = None; token = None; mic = None }
+
+-- the reply to an own MIC: an empty token, as where the layer above has none to carry, says that all is complete
+abbrev pub last_read : List ℕ → Result NegResp NegRefusal
+last_read [] = Ok completes
+last_read (octet ∷ octets) = resp_read (octet ∷ octets)
+
+abbrev pub is_state_reject : NegState → Bool
+is_state_reject Completed = false
+is_state_reject Incomplete = false
+is_state_reject Reject = true
+is_state_reject RequestMic = false
+
+abbrev pub is_state_completed : NegState → Bool
+is_state_completed Completed = true
+is_state_completed Incomplete = false
+is_state_completed Reject = false
+is_state_completed RequestMic = false
+
+abbrev pub is_state_request : NegState → Bool
+is_state_request Completed = false
+is_state_request Incomplete = false
+is_state_request Reject = false
+is_state_request RequestMic = true
+
+-- reject is said
+abbrev pub rejects : Option NegState → Bool
+rejects None = false
+rejects (Some state) = is_state_reject state
+
+-- accept-completed is said
+abbrev pub says_completed : Option NegState → Bool
+says_completed None = false
+says_completed (Some state) = is_state_completed state
+
+-- request-mic is said
+abbrev pub asks_mic : Option NegState → Bool
+asks_mic None = false
+asks_mic (Some state) = is_state_request state

@@ -1,0 +1,155 @@
+//! What an acceptor answers.
+
+ghost use Rattle.std.specs.Prelude.{◌≡◌, IfOk, IfErr, Some, None, Ok};
+ghost use Rattle.sec_base.specs.Answers.{Gives};
+ghost use Rattle.spnego_core.specs.AcceptMech.{answered};
+ghost use Rattle.spnego_core.specs.Accepting.{state_said, mech_said, reply_with, reply, finished, going, told, run, step_of};
+
+use crate::accept_end::{
+    AcceptEnd, AcceptPause, AcceptStep, Answered, Owing, Running, Turn, gone_on,
+};
+use crate::accept_mech::{AcceptAnswer, AcceptMech};
+use crate::list_mic::list_mic;
+use crate::outcome::Outcome;
+use crate::tokens::resp_octets;
+use gss_base::MechKind;
+use krb_tokens::Side;
+use sec_base::{Moment, NoMemory, Octets, Oid};
+use spnego_msgs::{NegResp, NegState};
+use std::alloc::Global;
+
+/// What a reply says of the negotiation.
+fn state_said(turn: Turn, owes: bool, finished: bool) -> NegState
+    ensures { result ≡ state_said turn owes finished }
+{
+    match turn {
+        Turn::First => {
+            if owes {
+                NegState::RequestMic
+            } else if finished {
+                NegState::Completed
+            } else {
+                NegState::Incomplete
+            }
+        }
+        Turn::Later => {
+            if owes {
+                NegState::Incomplete
+            } else if finished {
+                NegState::Completed
+            } else {
+                NegState::Incomplete
+            }
+        }
+    }
+}
+
+/// The mechanism as the first reply names it.
+fn mech_said(turn: Turn, kind: MechKind) -> Option<Oid>
+    ensures { result ≡ mech_said turn kind }
+{
+    match turn {
+        Turn::First => Some(kind.oid()),
+        Turn::Later => None,
+    }
+}
+
+/// A reply's octets.
+fn reply(
+    alloc: Global,
+    turn: Turn,
+    kind: MechKind,
+    owes: bool,
+    finished: bool,
+    token: Option<Octets>,
+    mic: Option<Octets>,
+) -> Result<Octets, NoMemory>
+    ensures { IfOk result (λ o. o ≡ reply turn kind owes finished token mic) }
+{
+    let resp = NegResp {
+        state: Some(state_said(turn, owes, finished)),
+        mech: mech_said(turn, kind),
+        token,
+        mic,
+    };
+    resp_octets(alloc, &resp)
+}
+
+/// What follows a mechanism that is done.
+fn finished(
+    alloc: Global,
+    turn: Turn,
+    running: Running,
+    outcome: Outcome,
+    lasts: Moment,
+    token: Octets,
+) -> Result<Answered, NoMemory>
+    ensures { IfOk result (λ a. a ≡ finished turn running outcome lasts token) }
+{
+    let Running {
+        received,
+        chosen,
+        due,
+        mech: _,
+    } = running;
+    if !due {
+        let octets = reply(alloc, turn, chosen, false, true, Some(token), None)?;
+        return Ok(Answered::Done(outcome, lasts, octets));
+    }
+    let mic = list_mic(alloc, &outcome, Side::Acceptor, received.as_slice())?;
+    let octets = reply(alloc, turn, chosen, true, true, Some(token), Some(mic))?;
+    let owing = Owing {
+        received,
+        outcome,
+        lasts,
+    };
+    Ok(Answered::More(AcceptEnd::Owes(owing), octets))
+}
+
+/// The mechanism goes on, and nothing else changes.
+pub fn going(
+    alloc: Global,
+    turn: Turn,
+    running: Running,
+    mech: AcceptMech,
+    token: Option<Octets>,
+) -> Result<AcceptStep, NoMemory>
+    ensures { IfOk result (λ s. s ≡ going turn running mech token) }
+{
+    let Running {
+        received,
+        chosen,
+        due,
+        mech: _,
+    } = running;
+    let octets = reply(alloc, turn, chosen, due, false, token, None)?;
+    let running = Running {
+        received,
+        chosen,
+        due,
+        mech,
+    };
+    Ok(AcceptStep::More(AcceptEnd::Runs(running), octets))
+}
+
+/// The step by the mechanism's answer.
+pub fn told(
+    alloc: Global,
+    turn: Turn,
+    running: Running,
+    answer: AcceptAnswer,
+) -> Result<AcceptStep, NoMemory>
+    ensures { IfOk result (λ s. s ≡ told turn running answer) }
+{
+    match answer {
+        AcceptAnswer::More(mech, token) => going(alloc, turn, running, mech, Some(token)),
+        AcceptAnswer::Done(outcome, lasts, token) => {
+            let after = finished(alloc, turn, running, outcome, lasts, token)?;
+            Ok(gone_on(after))
+        }
+        AcceptAnswer::Pauses(mark, outcome, lasts, token) => {
+            let after = finished(alloc, turn, running, outcome, lasts, token)?;
+            Ok(AcceptStep::WantsAuth(AcceptPause { mark, after }))
+        }
+    }
+}

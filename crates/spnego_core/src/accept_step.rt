@@ -1,0 +1,179 @@
+//! The acceptor's steps, RFC 4178 sections 3.2, 4.2.2 and 5.
+
+ghost use Rattle.std.specs.Prelude.{◌≡◌, Ok, Some, None};
+ghost use Rattle.sec_base.specs.Answers.{Gives};
+ghost use Rattle.spnego_core.specs.AcceptMech.{accept_taken};
+ghost use Rattle.spnego_core.specs.Accepting.{begun, token_for, started, chose, begins, proceeds, closes, run, step_of, accept_step};
+
+use crate::accept_end::{AcceptEnd, AcceptStep, Owing, Running, Turn};
+use crate::accept_mech::accept_begun;
+use crate::accept_reply::{going, told};
+use crate::choice::{best, is_first_named, is_mic_due};
+use crate::list_mic::is_list_mic;
+use crate::refusal::NegRefusal;
+use crate::setup::AcceptSetup;
+use crate::tokens::{init_read, rejects, resp_read};
+use gss_base::MechKind;
+use krb_tokens::Side;
+use sec_base::{Items, Moment, Octets, Oid};
+use spnego_msgs::{NegInit, NegResp};
+use std::alloc::Global;
+
+/// The state in which a mechanism begins.
+fn begun(setup: &AcceptSetup, list: Items<Oid>, kind: MechKind) -> Running
+    ensures { result ≡ begun setup.now list kind }
+{
+    let due = is_mic_due(setup.offer.as_slice(), list.as_slice(), kind);
+    Running {
+        received: list,
+        chosen: kind,
+        due,
+        mech: accept_begun(kind),
+    }
+}
+
+/// The first token's token of the mechanism, where it is the chosen one's.
+fn token_for(first: bool, token: Option<Octets>) -> Option<Octets>
+    ensures { result ≡ token_for first token }
+{
+    if first { token } else { None }
+}
+
+/// The mechanism takes its token.
+fn run(
+    alloc: Global,
+    setup: &AcceptSetup,
+    turn: Turn,
+    running: Running,
+    token: &Octets,
+    now: Moment,
+    draws: &[u8; 66],
+) -> Result<AcceptStep, NegRefusal>
+    ensures { Gives NegRefusal.NoMemory (λ s. s) result (step_of (run turn running (accept_taken setup.now running.mech token.now now draws.now))) }
+{
+    let mech = running.mech;
+    let answer = mech.take(alloc, setup, token.as_slice(), now, draws)?;
+    let step = told(alloc, turn, running, answer)?;
+    Ok(step)
+}
+
+/// The chosen mechanism takes its token, or waits for it.
+fn started(
+    alloc: Global,
+    setup: &AcceptSetup,
+    running: Running,
+    token: Option<Octets>,
+    now: Moment,
+    draws: &[u8; 66],
+) -> Result<AcceptStep, NegRefusal>
+    ensures { Gives NegRefusal.NoMemory (λ s. s) result (step_of (started setup.now now draws.now running token)) }
+{
+    match token {
+        None => {
+            let mech = running.mech;
+            let step = going(alloc, Turn::First, running, mech, None)?;
+            Ok(step)
+        }
+        Some(token) => run(alloc, setup, Turn::First, running, &token, now, draws),
+    }
+}
+
+/// What follows the first token.
+#[tactic(auto, unfolding(crate::specs::Accepting::begins))]
+fn begins(
+    alloc: Global,
+    setup: &AcceptSetup,
+    init: NegInit,
+    now: Moment,
+    draws: &[u8; 66],
+) -> Result<AcceptStep, NegRefusal>
+    ensures { Gives NegRefusal.NoMemory (λ s. s) result (step_of (begins setup.now now draws.now init)) }
+{
+    let NegInit {
+        list,
+        flags: _,
+        token,
+        mic: _,
+    } = init;
+    let Some(kind) = best(setup.offer.as_slice(), list.as_slice()) else {
+        return Err(NegRefusal::NoCommonMech);
+    };
+    let token = token_for(is_first_named(list.as_slice(), kind), token);
+    started(alloc, setup, begun(setup, list, kind), token, now, draws)
+}
+
+/// What follows a later token, of so many octets, while the mechanism isn't done.
+#[tactic(auto, unfolding(crate::specs::Accepting::proceeds))]
+fn proceeds(
+    alloc: Global,
+    setup: &AcceptSetup,
+    size: usize,
+    running: Running,
+    resp: NegResp,
+    now: Moment,
+    draws: &[u8; 66],
+) -> Result<AcceptStep, NegRefusal>
+    ensures { Gives NegRefusal.NoMemory (λ s. s) result (step_of (proceeds setup.now now draws.now size running resp)) }
+{
+    let NegResp {
+        state,
+        mech: _,
+        token,
+        mic: _,
+    } = resp;
+    if rejects(state) {
+        return Err(NegRefusal::Rejected);
+    }
+    let Some(token) = token else {
+        return Err(NegRefusal::Defective { at: size });
+    };
+    run(alloc, setup, Turn::Later, running, &token, now, draws)
+}
+
+/// What follows a later token once the mechanism is done and the initiator's MIC is due.
+#[tactic(auto, unfolding(crate::specs::Accepting::closes))]
+fn closes(alloc: Global, owing: Owing, resp: NegResp) -> Result<AcceptStep, NegRefusal>
+    ensures { Gives NegRefusal.NoMemory (λ s. s) result (step_of (closes owing resp)) }
+{
+    let NegResp {
+        state,
+        mech: _,
+        token: _,
+        mic,
+    } = resp;
+    if rejects(state) {
+        return Err(NegRefusal::Rejected);
+    }
+    let Some(mic) = mic else {
+        return Err(NegRefusal::MicMissing);
+    };
+    let received = owing.received.as_slice();
+    if !is_list_mic(alloc, &owing.outcome, Side::Acceptor, received, &mic)? {
+        return Err(NegRefusal::MicBad);
+    }
+    let nothing = Octets::from_vec(Vec::new(alloc));
+    Ok(AcceptStep::Done(owing.outcome, owing.lasts, nothing))
+}
+
+impl AcceptEnd {
+    /// Takes the initiator's next token, at this moment, with random octets that serve no other step. The end is spent, whatever the answer.
+    pub fn step(
+        self,
+        alloc: Global,
+        setup: &AcceptSetup,
+        token: &[u8],
+        now: Moment,
+        draws: &[u8; 66],
+    ) -> Result<AcceptStep, NegRefusal>
+        ensures exact { Gives NegRefusal.NoMemory (λ s. s) result (step_of (accept_step setup.now self token.now now draws.now)) }
+    {
+        match self {
+            AcceptEnd::New => begins(alloc, setup, init_read(alloc, token)?, now, draws),
+            AcceptEnd::Runs(running) => {
+                let resp = resp_read(alloc, token)?;
+                proceeds(alloc, setup, token.len(), running, resp, now, draws)
+            }
+            AcceptEnd::Owes(owing) => closes(alloc, owing, resp_read(alloc, token)?),
+        }
+    }
+}

@@ -1,0 +1,27 @@
+//! Both ends of a negotiation (SPNEGO, RFC 4178): each is a machine whose states are types that a step consumes.
+#![tactic(auto)]
+
+mod accept_end;
+mod accept_mech;
+mod accept_reply;
+mod accept_step;
+mod choice;
+mod init_end;
+mod init_mech;
+mod init_reply;
+mod init_start;
+mod init_step;
+mod list_mic;
+mod outcome;
+mod refusal;
+mod setup;
+mod tokens;
+
+pub use accept_end::{AcceptEnd, AcceptPause, AcceptStep};
+pub use init_end::{InitEnd, InitStep};
+pub use outcome::Outcome;
+pub use refusal::{MechRefusal, NegRefusal};
+pub use setup::{AcceptSetup, InitSetup, MechCred};
+
+#[cfg(test)]
+mod tests;

@@ -1,0 +1,71 @@
+//! What a negotiating end refuses.
+
+ghost use Rattle.std.specs.Prelude.{◌≡◌, ◌≢◌};
+ghost use Rattle.der_core.specs.declared.refusal.DerWhy.TheVariants as whys;
+ghost use Rattle.ap_exchange.specs.declared.refusal.ApRefusal.TheVariants as aps;
+ghost use Rattle.spnego_core.specs.declared.refusal.NegRefusal.TheVariants as refusals;
+
+use ap_exchange::ApRefusal;
+use der_core::{DerRefusal, DerWhy};
+use sec_base::NoMemory;
+
+/// Why a mechanism refuses.
+#[derive(Clone, Copy, Debug, PartialEq, Eq)]
+pub enum MechRefusal {
+    /// Kerberos's exchange. Want of memory is never in it: that is the end's own answer.
+    Ap(ApRefusal),
+}
+
+/// Why an end refuses.
+#[derive(Clone, Copy, Debug, PartialEq, Eq)]
+pub enum NegRefusal {
+    /// The token isn't in its grammar from the place `at` on, or what must be in it isn't: then `at` is its length. What may not be in it is
+    /// refused at 0.
+    Defective { at: usize },
+    /// The other end said reject.
+    Rejected,
+    /// The acceptor names a mechanism that isn't in the own list, or another than it chose.
+    MechNotMine,
+    /// None of the list's mechanisms is offered.
+    NoCommonMech,
+    /// The list's MIC is due and isn't there.
+    MicMissing,
+    /// The list's MIC doesn't verify.
+    MicBad,
+    /// The mechanism refuses its token.
+    Mech(MechRefusal),
+    /// No memory was to be had.
+    NoMemory,
+}
+
+impl From<NoMemory> for NegRefusal {
+    ghost use Rattle.spnego_core.specs.declared.refusal.NegRefusal.{NegRefusal};
+
+    ghost from_gives = { λ _ e. e ≡ refusals.NoMemory };
+
+    fn from(_error: NoMemory) -> NegRefusal {
+        NegRefusal::NoMemory
+    }
+}
+
+/// The refusal of a token's octets.
+pub(crate) fn unread(refusal: DerRefusal) -> NegRefusal
+    ensures defective { refusal.why ≢ whys.NoMemory → result ≡ NegRefusal.Defective refusal.at }
+    ensures memory { refusal.why ≡ whys.NoMemory → result ≡ NegRefusal.NoMemory }
+{
+    match refusal.why {
+        DerWhy::NoMemory => NegRefusal::NoMemory,
+        _ => NegRefusal::Defective { at: refusal.at },
+    }
+}
+
+/// The refusal of Kerberos's exchange.
+pub(crate) fn ap_refused(refusal: ApRefusal) -> NegRefusal
+    ensures mech { refusal ≢ aps.NoMemory → result ≡ NegRefusal.Mech (MechRefusal.Ap refusal) }
+    ensures memory { refusal ≡ aps.NoMemory → result ≡ NegRefusal.NoMemory }
+{
+    match refusal {
+        ApRefusal::NoMemory => NegRefusal::NoMemory,
+        refusal => NegRefusal::Mech(MechRefusal::Ap(refusal)),
+    }
+}
