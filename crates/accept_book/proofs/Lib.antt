@@ -1,3 +1,4 @@
 pub mod Appended
 pub mod Steps
 pub mod Onces
+pub mod Fitting

@@ -7,3 +7,6 @@ pub mod Logs
 pub mod Once
 pub mod Looking
 pub mod Examples
+pub mod Stepping
+pub mod Booking
+pub mod Phases

@@ -1,0 +1,297 @@
+//! The contexts of a server, from their first token to their end, in one history.
+ghost use Rattle.std.specs.Prelude.{⊤, ◌≡◌, false, List, [], ◌∷◌, ◌≢◌, ℕ, ◌+◌, ◌<◌, ◌≤◌, ◌↔◌, Option, IfOk, IfSome, IsSome, IsOk, IfErr, OnErr, None, Some, Ok, Err, length, max};
+ghost use Rattle.gss_base.specs.Mech.{is_kerberos};
+ghost use Rattle.spnego_core.specs.Accepting.{IsSettled, accept_step};
+ghost use Rattle.context_table.specs.Places.{slot_at, live_of, IsHeld, IsPast};
+ghost use Rattle.accept_book.specs.declared.entry.Entry.{Entry};
+ghost use Rattle.accept_book.specs.History.{standing, has_auth, opened, Whole};
+ghost use Rattle.accept_book.specs.Answers.{refused, or_refused, after, admitted, receipt_of, Free};
+ghost use Rattle.accept_book.specs.Entering.{auth_of, auth_after, given, gained};
+ghost use Rattle.accept_book.specs.Replays.{Keeps};
+ghost use Rattle.accept_book.specs.Booking.{names_of, Fits, AllFit, OthersFit, StepFits, mark_of, settled_of, stands_of, raised, by_step, begun, gone_on_by, taken, negotiated, after_refusal, refusal_of_mark, lease_refused, has_key, same_key};
+
+use crate::acceptance::{Core, blank};
+use crate::answer::{AdmitRefusal, LookRefusal, MarkRefusal, Next, RoomRefusal};
+use crate::book_answer::{BookRefusal, Lease, NegAnswer, Negotiated};
+use crate::entry::{Admitted, EndCause, Entry, Limits, Receipt, Receipts};
+use crate::log::Log;
+use crate::named::Named;
+use context_table::Phase;
+use gss_base::{Mark, MechKind};
+use krb_derive::Key;
+use sec_base::{Moment, NoMemory, Octets};
+use sha1::Sha1;
+use spnego_core::{AcceptEnd, AcceptSetup, AcceptStep, NegRefusal, Outcome};
+use std::alloc::Global;
+use std::marker::Model;
+
+/// The digest by which the log knows an outcome.
+#[tactic(auto, unfolding(crate::specs::Booking::names_of))]
+pub fn names_of(outcome: &Outcome) -> [u8; 20]
+    ensures { result ≡ names_of outcome.now }
+{
+    let mut hasher = Sha1::new();
+    hasher.update(outcome.initiator.text().as_bytes());
+    hasher.update(&[0]);
+    hasher.update(outcome.acceptor.text().as_bytes());
+    hasher.update(&[0]);
+    hasher.update(outcome.key.bytes());
+    hasher.update(&[if outcome.subkey { 1 } else { 0 }]);
+    hasher.finalize()
+}
+
+impl Named for Outcome {
+    ghost mech_of = { λ o. o.mech };
+
+    ghost names_of = { names_of };
+
+    fn mech(&self) -> MechKind {
+        self.mech
+    }
+
+    fn names(&self) -> [u8; 20] {
+        names_of(self)
+    }
+}
+
+/// A book of contexts.
+///
+/// Contracts see a `BookOf`: the setup, and the contexts, marks and log.
+#[derive(Drop)]
+pub struct Book {
+    setup: AcceptSetup,
+    core: Core<AcceptEnd, Outcome>,
+}
+
+impl Model for Book {
+    ghost use Rattle.accept_book.specs.Booking.{BookOf, AllFit};
+
+    ghost Value = { BookOf };
+
+    ghost view = { λ b. record { setup = b.setup; core = b.core } };
+
+    ghost invariant = { λ b. AllFit b.core };
+}
+
+// No entry, and one.
+fn no_receipts() -> Receipts
+    ensures { given result ≡ [] }
+{
+    Receipts {
+        count: 0,
+        list: [blank(), blank(), blank(), blank()],
+    }
+}
+
+fn one_receipt(receipt: Receipt) -> Receipts
+    ensures { given result ≡ receipt ∷ [] }
+{
+    let mut list = [blank(), blank(), blank(), blank()];
+    list[0] = receipt;
+    Receipts { count: 1, list }
+}
+
+// A token that isn't taken once it was read: a later one ends its context.
+fn refuse(core: &mut Core<AcceptEnd, Outcome>, id: Option<u64>, answer: NegAnswer) -> Negotiated
+    requires room { length core.old.history < core.old.limit }
+    requires held { IfSome id (λ id. IsHeld (slot_at core.old.table id)) }
+    requires others { OthersFit id core.old }
+    ensures answer { result.answer ≡ answer }
+    ensures history { core.new.history ≡ after_refusal id core.old.history }
+    ensures receipts { given result.receipts ≡ gained (length core.old.history) core.new.history }
+    ensures keeps { Keeps core.old core.new }
+    ensures fits { AllFit core.new }
+{
+    match id {
+        None => Negotiated {
+            answer,
+            receipts: no_receipts(),
+        },
+        Some(id) => {
+            let receipt = core.refuse(id);
+            Negotiated {
+                answer,
+                receipts: one_receipt(receipt),
+            }
+        }
+    }
+}
+
+fn refusal_of_mark(refusal: MarkRefusal) -> BookRefusal
+    ensures { result ≡ refusal_of_mark refusal }
+{
+    match refusal {
+        MarkRefusal::Stale { greatest } => BookRefusal::Stale { greatest },
+        MarkRefusal::Repeat { place } => BookRefusal::Repeat { place },
+        MarkRefusal::CacheFull => BookRefusal::CacheFull,
+    }
+}
+
+// What a step comes to once it was made. Its mark is given apart.
+fn go_on(
+    core: &mut Core<AcceptEnd, Outcome>,
+    id: Option<u64>,
+    mark: Option<Mark>,
+    end: AcceptEnd,
+    token: Octets,
+) -> Negotiated
+    requires room { length core.old.history + 4 ≤ core.old.limit }
+    requires place { id ≡ None → IsPast core.old.table core.old.cache.greatest None → live_of core.old.table < core.old.table.limit }
+    requires held { IfSome id (λ id. IsHeld (slot_at core.old.table id)) }
+    requires first { IsSome mark → auth_of id core.old.history ≡ false }
+    requires fits { Fits end (auth_after id mark core.old.history) }
+    requires others { OthersFit id core.old }
+    ensures answer { (past : Option ℕ) → IsPast core.old.table core.old.cache.greatest past → result.answer ≡ (taken (stands_of core.old) id past mark (AcceptStep.More end token)).answer }
+    ensures history { (past : Option ℕ) → IsPast core.old.table core.old.cache.greatest past → core.new.history ≡ (taken (stands_of core.old) id past mark (AcceptStep.More end token)).history }
+    ensures receipts { given result.receipts ≡ gained (length core.old.history) core.new.history }
+    ensures told { result.answer ≢ NegAnswer.NoMemory }
+    ensures keeps { Keeps core.old core.new }
+    ensures fits { AllFit core.new }
+{
+    match core.enter(id, mark, Next::Going(end)) {
+        Ok(entered) => Negotiated {
+            answer: NegAnswer::Going {
+                id: entered.id,
+                token,
+            },
+            receipts: entered.receipts,
+        },
+        Err(refusal) => refuse(core, id, NegAnswer::Refused(refusal_of_mark(refusal))),
+    }
+}
+
+fn settle(
+    core: &mut Core<AcceptEnd, Outcome>,
+    id: Option<u64>,
+    mark: Option<Mark>,
+    outcome: Outcome,
+    ends: Moment,
+    token: Octets,
+) -> Negotiated
+    requires room { length core.old.history + 4 ≤ core.old.limit }
+    requires place { id ≡ None → IsPast core.old.table core.old.cache.greatest None → live_of core.old.table < core.old.table.limit }
+    requires held { IfSome id (λ id. IsHeld (slot_at core.old.table id)) }
+    requires first { IsSome mark → auth_of id core.old.history ≡ false }
+    requires fits { auth_after id mark core.old.history ≡ is_kerberos outcome.mech }
+    requires others { OthersFit id core.old }
+    ensures answer { (past : Option ℕ) → IsPast core.old.table core.old.cache.greatest past → result.answer ≡ (taken (stands_of core.old) id past mark (AcceptStep.Done outcome ends token)).answer }
+    ensures history { (past : Option ℕ) → IsPast core.old.table core.old.cache.greatest past → core.new.history ≡ (taken (stands_of core.old) id past mark (AcceptStep.Done outcome ends token)).history }
+    ensures receipts { given result.receipts ≡ gained (length core.old.history) core.new.history }
+    ensures told { result.answer ≢ NegAnswer.NoMemory }
+    ensures keeps { Keeps core.old core.new }
+    ensures fits { AllFit core.new }
+{
+    let step = Next::Settled {
+        mech: outcome.mech,
+        names: names_of(&outcome),
+        value: outcome,
+        ends,
+    };
+    match core.enter(id, mark, step) {
+        Ok(entered) => {
+            let id = entered.id;
+            Negotiated {
+                answer: NegAnswer::Settled {
+                    lease: Lease { id, outcome, ends },
+                    token,
+                },
+                receipts: entered.receipts,
+            }
+        }
+        Err(refusal) => refuse(core, id, NegAnswer::Refused(refusal_of_mark(refusal))),
+    }
+}
+
+fn finish(
+    core: &mut Core<AcceptEnd, Outcome>,
+    id: Option<u64>,
+    mark: Option<Mark>,
+    step: AcceptStep,
+) -> Negotiated
+    requires settled { IsSettled step }
+    requires room { length core.old.history + 4 ≤ core.old.limit }
+    requires place { id ≡ None → IsPast core.old.table core.old.cache.greatest None → live_of core.old.table < core.old.table.limit }
+    requires held { IfSome id (λ id. IsHeld (slot_at core.old.table id)) }
+    requires first { IsSome mark → auth_of id core.old.history ≡ false }
+    requires fits { StepFits step (auth_after id mark core.old.history) }
+    requires others { OthersFit id core.old }
+    ensures answer { (past : Option ℕ) → IsPast core.old.table core.old.cache.greatest past → result.answer ≡ (taken (stands_of core.old) id past mark step).answer }
+    ensures history { (past : Option ℕ) → IsPast core.old.table core.old.cache.greatest past → core.new.history ≡ (taken (stands_of core.old) id past mark step).history }
+    ensures receipts { given result.receipts ≡ gained (length core.old.history) core.new.history }
+    ensures told { result.answer ≢ NegAnswer.NoMemory }
+    ensures keeps { Keeps core.old core.new }
+    ensures fits { AllFit core.new }
+{
+    match step {
+        AcceptStep::More(end, token) => go_on(core, id, mark, end, token),
+        AcceptStep::Done(outcome, ends, token) => settle(core, id, mark, outcome, ends, token),
+        AcceptStep::WantsAuth(_) => unreachable!(),
+    }
+}
+
+// A step with its mark, where it asks for the repeat test.
+fn enter(core: &mut Core<AcceptEnd, Outcome>, id: Option<u64>, step: AcceptStep) -> Negotiated
+    requires room { length core.old.history + 4 ≤ core.old.limit }
+    requires place { id ≡ None → IsPast core.old.table core.old.cache.greatest None → live_of core.old.table < core.old.table.limit }
+    requires held { IfSome id (λ id. IsHeld (slot_at core.old.table id)) }
+    requires fits { StepFits step (auth_of id core.old.history) }
+    requires others { OthersFit id core.old }
+    ensures answer { (past : Option ℕ) → IsPast core.old.table core.old.cache.greatest past → result.answer ≡ (taken (stands_of core.old) id past (mark_of step) (settled_of step)).answer }
+    ensures history { (past : Option ℕ) → IsPast core.old.table core.old.cache.greatest past → core.new.history ≡ (taken (stands_of core.old) id past (mark_of step) (settled_of step)).history }
+    ensures receipts { given result.receipts ≡ gained (length core.old.history) core.new.history }
+    ensures told { result.answer ≢ NegAnswer.NoMemory }
+    ensures keeps { Keeps core.old core.new }
+    ensures fits { AllFit core.new }
+{
+    match step {
+        AcceptStep::WantsAuth(pause) => {
+            let mark = pause.mark();
+            finish(core, id, Some(mark), pause.go_on())
+        }
+        AcceptStep::More(end, token) => go_on(core, id, None, end, token),
+        AcceptStep::Done(outcome, ends, token) => settle(core, id, None, outcome, ends, token),
+    }
+}
+
+// A token that leaves the book as it was.
+fn leave(answer: NegAnswer) -> Negotiated
+    ensures answer { result.answer ≡ answer }
+    ensures receipts { given result.receipts ≡ [] }
+{
+    Negotiated {
+        answer,
+        receipts: no_receipts(),
+    }
+}
+
+// Takes a token by an end, which is spent.
+fn take_step(
+    alloc: Global,
+    setup: &AcceptSetup,
+    core: &mut Core<AcceptEnd, Outcome>,
+    id: Option<u64>,
+    end: AcceptEnd,
+    token: &[u8],
+    now: Moment,
+    draws: &[u8; 66],
+) -> Negotiated
+    requires room { length core.old.history + 4 ≤ core.old.limit }
+    requires place { id ≡ None → IsPast core.old.table core.old.cache.greatest None → live_of core.old.table < core.old.table.limit }
+    requires held { IfSome id (λ id. IsHeld (slot_at core.old.table id)) }
+    requires fits { Fits end (auth_of id core.old.history) }
+    requires others { OthersFit id core.old }
+    ensures answer { (past : Option ℕ) → IsPast core.old.table core.old.cache.greatest past → result.answer ≢ NegAnswer.NoMemory
+        → result.answer ≡ (by_step (stands_of core.old) id past (accept_step setup.now end token.now now draws.now)).answer }
+    ensures history { (past : Option ℕ) → IsPast core.old.table core.old.cache.greatest past → result.answer ≢ NegAnswer.NoMemory
+        → core.new.history ≡ (by_step (stands_of core.old) id past (accept_step setup.now end token.now now draws.now)).history }
+    ensures memory { result.answer ≡ NegAnswer.NoMemory → core.new.history ≡ after_refusal id core.old.history }
+    ensures receipts { given result.receipts ≡ gained (length core.old.history) core.new.history }
+    ensures keeps { Keeps core.old core.new }
+    ensures fits { AllFit core.new }
+{
+    match end.step(alloc, setup, token, now, draws) {
+        Ok(step) => enter(core, id, step),
+        Err(NegRefusal::NoMemory) => refuse(core, id, NegAnswer::NoMemory),
+        Err(refusal) => refuse(core, id, NegAnswer::Refused(BookRefusal::Neg(refusal))),
+    }
+}
