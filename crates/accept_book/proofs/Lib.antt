@@ -2,3 +2,4 @@ pub mod Appended
 pub mod Steps
 pub mod Onces
 pub mod Fitting
+pub mod Opening

@@ -194,12 +194,16 @@ begun setup book past token now draws =
     else if nat_le book.table.limit (live_of book.table) && is_none past then leaves book.history refusals.TableFull
     else by_step book None past (accept_step setup ends.New token now draws)
 
+-- a later token of a context that negotiates
+abbrev pub opened_by : AcceptSetup → Stands → ℕ → Option ℕ → List ℕ → ℕ → List ℕ → Outcomes
+opened_by setup book id past token now draws =
+    if nat_lt book.limit (length book.history + 4) then leaves book.history refusals.LogFull
+    else by_step book (Some id) past (later_step setup (state_of (slot_at book.table id)) token now draws)
+
 -- a later token, by what the history says of its id
 abbrev pub gone_on_by : Standing → AcceptSetup → Stands → ℕ → Option ℕ → List ℕ → ℕ → List ℕ → Outcomes
 gone_on_by Unknown setup book id past token now draws = leaves book.history refusals.NoContext
-gone_on_by (Open at) setup book id past token now draws =
-    if nat_lt book.limit (length book.history + 4) then leaves book.history refusals.LogFull
-    else by_step book (Some id) past (later_step setup (state_of (slot_at book.table id)) token now draws)
+gone_on_by (Open at) setup book id past token now draws = opened_by setup book id past token now draws
 gone_on_by (Whole mech names until) setup book id past token now draws = leaves book.history refusals.AlreadyComplete
 gone_on_by Over setup book id past token now draws = leaves book.history refusals.NoContext
 

@@ -2,13 +2,14 @@
 ghost use Rattle.std.specs.Prelude.{⊤, ◌≡◌, false, List, [], ◌∷◌, ◌≢◌, ℕ, ◌+◌, ◌<◌, ◌≤◌, ◌↔◌, Option, IfOk, IfSome, IsSome, IsOk, IfErr, OnErr, None, Some, Ok, Err, length, max};
 ghost use Rattle.gss_base.specs.Mech.{is_kerberos};
 ghost use Rattle.spnego_core.specs.Accepting.{IsSettled, accept_step};
-ghost use Rattle.context_table.specs.Places.{slot_at, live_of, IsHeld, IsPast};
+ghost use Rattle.context_table.specs.Places.{slot_at, live_of, phase_of, IsHeld, IsPast};
+ghost use Rattle.accept_book.specs.Phases.{PhaseBy};
 ghost use Rattle.accept_book.specs.declared.entry.Entry.{Entry};
 ghost use Rattle.accept_book.specs.History.{standing, has_auth, opened, Whole};
 ghost use Rattle.accept_book.specs.Answers.{refused, or_refused, after, admitted, receipt_of, Free};
 ghost use Rattle.accept_book.specs.Entering.{auth_of, auth_after, given, gained};
 ghost use Rattle.accept_book.specs.Replays.{Keeps};
-ghost use Rattle.accept_book.specs.Booking.{names_of, Fits, AllFit, OthersFit, StepFits, mark_of, settled_of, stands_of, raised, by_step, begun, gone_on_by, taken, negotiated, after_refusal, refusal_of_mark, lease_refused, has_key, same_key};
+ghost use Rattle.accept_book.specs.Booking.{names_of, Fits, AllFit, OthersFit, StepFits, mark_of, settled_of, stands_of, raised, by_step, begun, opened_by, gone_on_by, taken, negotiated, after_refusal, refusal_of_mark, lease_refused, has_key, same_key};
 
 use crate::acceptance::{Core, blank};
 use crate::answer::{AdmitRefusal, LookRefusal, MarkRefusal, Next, RoomRefusal};
@@ -256,7 +257,7 @@ fn enter(core: &mut Core<AcceptEnd, Outcome>, id: Option<u64>, step: AcceptStep)
 // A token that leaves the book as it was.
 fn leave(answer: NegAnswer) -> Negotiated
     ensures answer { result.answer ≡ answer }
-    ensures receipts { given result.receipts ≡ [] }
+    ensures receipts { (h : List Entry) → given result.receipts ≡ gained (length h) h }
 {
     Negotiated {
         answer,
@@ -293,5 +294,90 @@ fn take_step(
         Ok(step) => enter(core, id, step),
         Err(NegRefusal::NoMemory) => refuse(core, id, NegAnswer::NoMemory),
         Err(refusal) => refuse(core, id, NegAnswer::Refused(BookRefusal::Neg(refusal))),
+    }
+}
+
+// A first token.
+fn begin(
+    alloc: Global,
+    setup: &AcceptSetup,
+    core: &mut Core<AcceptEnd, Outcome>,
+    token: &[u8],
+    now: Moment,
+    draws: &[u8; 66],
+) -> Negotiated
+    requires { AllFit core.old }
+    ensures answer { (past : Option ℕ) → IsPast core.old.table core.old.cache.greatest past → result.answer ≢ NegAnswer.NoMemory
+        → result.answer ≡ (begun setup.now (stands_of core.old) past token.now now draws.now).answer }
+    ensures history { (past : Option ℕ) → IsPast core.old.table core.old.cache.greatest past → result.answer ≢ NegAnswer.NoMemory
+        → core.new.history ≡ (begun setup.now (stands_of core.old) past token.now now draws.now).history }
+    ensures memory { result.answer ≡ NegAnswer.NoMemory → core.new.history ≡ core.old.history }
+    ensures receipts { given result.receipts ≡ gained (length core.old.history) core.new.history }
+    ensures keeps { Keeps core.old core.new }
+    ensures fits { AllFit core.new }
+{
+    match core.room(true) {
+        Err(RoomRefusal::LogFull) => leave(NegAnswer::Refused(BookRefusal::LogFull)),
+        Err(RoomRefusal::TableFull) => leave(NegAnswer::Refused(BookRefusal::TableFull)),
+        Ok(()) => take_step(alloc, setup, core, None, AcceptEnd::new(), token, now, draws),
+    }
+}
+
+// A later token of a context that negotiates.
+fn proceed(
+    alloc: Global,
+    setup: &AcceptSetup,
+    core: &mut Core<AcceptEnd, Outcome>,
+    id: u64,
+    token: &[u8],
+    now: Moment,
+    draws: &[u8; 66],
+) -> Negotiated
+    requires fits { AllFit core.old }
+    requires negotiates { phase_of (slot_at core.old.table id) ≡ Phase.Negotiating }
+    requires opened { PhaseBy (standing id core.old.history) Phase.Negotiating }
+    ensures answer { (past : Option ℕ) → IsPast core.old.table core.old.cache.greatest past → result.answer ≢ NegAnswer.NoMemory
+        → result.answer ≡ (opened_by setup.now (stands_of core.old) id past token.now now draws.now).answer }
+    ensures history { (past : Option ℕ) → IsPast core.old.table core.old.cache.greatest past → result.answer ≢ NegAnswer.NoMemory
+        → core.new.history ≡ (opened_by setup.now (stands_of core.old) id past token.now now draws.now).history }
+    ensures memory { result.answer ≡ NegAnswer.NoMemory → core.new.history ≡ after_refusal (Some id) core.old.history }
+    ensures receipts { given result.receipts ≡ gained (length core.old.history) core.new.history }
+    ensures keeps { Keeps core.old core.new }
+    ensures fits { AllFit core.new }
+{
+    match core.room(false) {
+        Err(_) => leave(NegAnswer::Refused(BookRefusal::LogFull)),
+        Ok(()) => match core.take(id) {
+            Ok(end) => take_step(alloc, setup, core, Some(id), end, token, now, draws),
+            Err(_) => unreachable!(),
+        },
+    }
+}
+
+// A later token.
+fn continue_with(
+    alloc: Global,
+    setup: &AcceptSetup,
+    core: &mut Core<AcceptEnd, Outcome>,
+    id: u64,
+    token: &[u8],
+    now: Moment,
+    draws: &[u8; 66],
+) -> Negotiated
+    requires { AllFit core.old }
+    ensures answer { (past : Option ℕ) → IsPast core.old.table core.old.cache.greatest past → result.answer ≢ NegAnswer.NoMemory
+        → result.answer ≡ (gone_on_by (standing id core.old.history) setup.now (stands_of core.old) id past token.now now draws.now).answer }
+    ensures history { (past : Option ℕ) → IsPast core.old.table core.old.cache.greatest past → result.answer ≢ NegAnswer.NoMemory
+        → core.new.history ≡ (gone_on_by (standing id core.old.history) setup.now (stands_of core.old) id past token.now now draws.now).history }
+    ensures memory { result.answer ≡ NegAnswer.NoMemory → core.new.history ≡ after_refusal (Some id) core.old.history }
+    ensures receipts { given result.receipts ≡ gained (length core.old.history) core.new.history }
+    ensures keeps { Keeps core.old core.new }
+    ensures fits { AllFit core.new }
+{
+    match core.phase(id) {
+        Phase::None => leave(NegAnswer::Refused(BookRefusal::NoContext)),
+        Phase::Complete => leave(NegAnswer::Refused(BookRefusal::AlreadyComplete)),
+        Phase::Negotiating => proceed(alloc, setup, core, id, token, now, draws),
+        Phase::Held => unreachable!(),
     }
 }
