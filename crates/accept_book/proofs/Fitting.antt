@@ -35,14 +35,16 @@ use Rattle.spnego_core.specs.declared.accept_end.Answered.TheVariants as afters
 use Rattle.context_table.specs.declared.slot.Slot.{Slot}
 use Rattle.context_table.specs.declared.slot.SlotState.{SlotState}
 use Rattle.context_table.specs.declared.slot.SlotState.TheVariants.{Negotiating, Held, Complete}
-use Rattle.context_table.specs.Slots.{state_taken}
-use Rattle.context_table.specs.Places.{slot_at, state_of}
+use Rattle.context_table.specs.Slots.{state_taken, is_whole, HasState}
+use Rattle.context_table.specs.Places.{slot_at, state_of, is_complete, Marks}
+use Rattle.krb_derive.specs.declared.key.Key.{Key}
+use Rattle.accept_book.specs.Naming.{IsValueAt}
 use Rattle.accept_book.specs.declared.entry.Entry.{Entry}
 use Rattle.accept_book.specs.History.{has_auth}
 use Rattle.accept_book.specs.Entering.{id_of}
 use Rattle.accept_book.specs.Replays.{Accepting}
 use Rattle.accept_book.specs.Stepping.{Stays}
-use Rattle.accept_book.specs.Booking.{Fits, FitsState, FitsSlot, AllFit, OthersFit, AnsweredFits, StepFits, Stands, mark_of, settled_of, by_step, refuses, taken as taken_with}
+use Rattle.accept_book.specs.Booking.{Fits, FitsState, FitsSlot, AllFit, OthersFit, AnsweredFits, StepFits, Stands, mark_of, settled_of, by_step, refuses, same_key, state_key, has_key, taken as taken_with}
 use Rattle.accept_book.specs.declared.book_answer.BookRefusal.TheVariants as refusals
 use Rattle.spnego_core.specs.declared.accept_end.AcceptStep.{AcceptStep}
 use Rattle.std.proofs.Common.{ap}
@@ -180,3 +182,29 @@ by_err book id past (Err other) refusal e = ap (λ (x : NegRefusal). refuses id 
   where
     err_same : {x y : NegRefusal} → ◌≡◌ {A = Result AcceptStep NegRefusal} (Err x) (Err y) → x ≡ y
     err_same q = cc
+
+-- ---- admissions
+
+pub same_state : (state : SlotState AcceptEnd Outcome) (outcome : Outcome) (key : Key) → HasState state outcome → state_key state key ≡ same_key outcome.key key
+same_state (Negotiating end) outcome key h = absurd h
+same_state Held outcome key h = absurd h
+same_state (Complete held) outcome key h = ap (λ (o : Outcome). same_key o.key key) h
+
+pub key_of_value : (o : Option (Slot AcceptEnd Outcome)) (outcome : Outcome) (key : Key) → IsValueAt o outcome → has_key o key ≡ same_key outcome.key key
+key_of_value None outcome key h = absurd h
+key_of_value (Some slot) outcome key h = same_state slot.state outcome key h
+
+not_whole : (state : SlotState AcceptEnd Outcome) (key : Key) → is_whole state ≡ false → state_key state key ≡ false
+not_whole (Negotiating end) key e = refl
+not_whole Held key e = refl
+not_whole (Complete held) key e = let z : true ≡ false = e in absurd (cc)
+
+pub no_value : (o : Option (Slot AcceptEnd Outcome)) (key : Key) → is_complete o ≡ false → has_key o key ≡ false
+no_value None key e = refl
+no_value (Some slot) key e = not_whole slot.state key e
+
+-- a slot in which a number was marked fits as before
+pub marked_fits : (a b : Option (Slot AcceptEnd Outcome)) (n : ℕ) (auth : Bool) → Marks a b n → FitsSlot a auth → FitsSlot b auth
+marked_fits (Some before) (Some after) n auth m fits = subst (λ (s : SlotState AcceptEnd Outcome). FitsState s auth) (sym m.state) fits
+marked_fits (Some before) None n auth m fits = absurd m
+marked_fits None b n auth m fits = absurd m

@@ -29,6 +29,8 @@ use Rattle.accept_book.specs.declared.answer.MarkRefusal.{MarkRefusal}
 use Rattle.accept_book.specs.declared.answer.MarkRefusal.TheVariants as marks
 use Rattle.accept_book.specs.declared.answer.AdmitRefusal.{AdmitRefusal}
 use Rattle.accept_book.specs.declared.answer.AdmitRefusal.TheVariants as admits
+use Rattle.accept_book.specs.declared.answer.LookRefusal.{LookRefusal}
+use Rattle.accept_book.specs.declared.answer.LookRefusal.TheVariants as looks
 use Rattle.accept_book.specs.declared.answer.Next.{Next}
 use Rattle.accept_book.specs.declared.answer.Next.TheVariants as nexts
 use Rattle.accept_book.specs.declared.book_answer.Lease.{Lease}
@@ -216,18 +218,47 @@ negotiated setup book (Some id) past token now draws = gone_on_by (standing id b
 abbrev pub same_key : Key → Key → Bool
 same_key a b = pointwise nat_eq (key_octets a) (key_octets b)
 
+abbrev pub state_key : SlotState AcceptEnd Outcome → Key → Bool
+state_key (Negotiating end) key = false
+state_key Held key = false
+state_key (Complete outcome) key = same_key outcome.key key
+
 -- the slot is complete, with this key
 abbrev pub has_key : Option (Slot AcceptEnd Outcome) → Key → Bool
 has_key None key = false
 has_key (Some slot) key = state_key slot.state key
-  where
-    state_key : SlotState AcceptEnd Outcome → Key → Bool
-    state_key (Negotiating end) key = false
-    state_key Held key = false
-    state_key (Complete outcome) key = same_key outcome.key key
 
 -- why a number of a lease's context isn't admitted: the id isn't complete with the lease's key, or as the core says
 abbrev pub lease_refused : Accepting AcceptEnd Outcome → Lease → ℕ → Option AdmitRefusal
 lease_refused core lease seq =
     if has_key (slot_at core.table lease.id) lease.outcome.key then refused core.limit core.width core.history lease.id seq
     else Some admits.Gone
+
+-- ---- looks
+
+-- a lease has the context's id, and the mechanism, names and end that the log has of it
+pub record IsLease (lease : Lease) (number : ℕ) (kind : MechKind) (digest : List ℕ) (until : ℕ) : Type 0 where
+  pub id : lease.id ≡ number
+  pub mech : lease.outcome.mech ≡ kind
+  pub names : names_of lease.outcome ≡ digest
+  pub ends : lease.ends ≡ until
+
+abbrev pub LeasedAt : ℕ → MechKind → List ℕ → ℕ → ℕ → Result Lease LookRefusal → Type 0
+LeasedAt id mech names ends now (Ok lease) = (now ≤ ends) × IsLease lease id mech names ends
+LeasedAt id mech names ends now (Err refusal) = (ends < now) × (refusal ≡ looks.Expired)
+
+-- what a look answers by what the history says of the id
+abbrev pub LeasedBy : Standing → ℕ → ℕ → Result Lease LookRefusal → Type 0
+LeasedBy Unknown id now result = result ≡ Err looks.NoContext
+LeasedBy (Open at) id now result = result ≡ Err looks.NotReady
+LeasedBy (Whole mech names ends) id now result = LeasedAt id mech names ends now result
+LeasedBy Over id now result = result ≡ Err looks.NoContext
+
+-- the setup and the limits are as before, and the moment was taken note of
+pub record NotesMoment (old new : BookOf) (now : ℕ) : Type 0 where
+  pub setup : new.setup ≡ old.setup
+  pub limit : new.core.limit ≡ old.core.limit
+  pub width : new.core.width ≡ old.core.width
+  pub contexts : new.core.table.limit ≡ old.core.table.limit
+  pub capacity : new.core.cache.capacity ≡ old.core.cache.capacity
+  pub greatest : new.core.cache.greatest ≡ max old.core.cache.greatest now

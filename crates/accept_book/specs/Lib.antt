@@ -10,3 +10,4 @@ pub mod Examples
 pub mod Stepping
 pub mod Booking
 pub mod Phases
+pub mod Naming

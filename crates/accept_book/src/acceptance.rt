@@ -1,7 +1,7 @@
 //! The acceptance history as a plain sequential object.
 ghost use Rattle.std.specs.Prelude.{⊤, ◌≡◌, ◌≢◌, ℕ, ◌+◌, ◌<◌, ◌≤◌, ◌↔◌, List, [], ◌∷◌, ◌++◌, Option, IfOk, IfSome, IsSome, IsOk, is_some, is_none, is_ok, None, Some, Ok, Err, length, reverse, max, nat_lt, ◌==◌, ◌||◌, true, false, IfErr, OnErr, if◌then◌else◌};
 ghost use Rattle.context_table.specs.declared.slot.SlotState.{SlotState};
-ghost use Rattle.context_table.specs.Places.{slot_at, live_of, KeepsOthers, phase_of, state_of, held_after, IsHeld, IsPast, IsFreshAt, Marks, with_state, settled_as};
+ghost use Rattle.context_table.specs.Places.{slot_at, live_of, KeepsOthers, phase_of, is_complete, state_of, held_after, IsHeld, IsPast, IsFreshAt, Marks, with_state, settled_as};
 ghost use Rattle.accept_book.specs.declared.entry.Entry.{Entry};
 ghost use Rattle.accept_book.specs.History.{standing, has_auth, opened, posts, taken_of};
 ghost use Rattle.accept_book.specs.Legal.{Legal, MayCall, MayEnd, MayAuth};
@@ -10,6 +10,7 @@ ghost use Rattle.replay_cache.specs.Taking.{cache_verdict};
 ghost use Rattle.accept_book.specs.Replays.{Keeps, Replays};
 ghost use Rattle.accept_book.specs.Answers.{refused, or_refused, after, admitted, receipt_of, Free, taken_by, LooksBy, with_end};
 ghost use Rattle.accept_book.specs.Phases.{PhaseBy};
+ghost use Rattle.accept_book.specs.Naming.{NamedBy, IsValueAt};
 ghost use Rattle.accept_book.specs.Stepping.{lapsed_slot, kept_slot, StateAfter, Stays};
 ghost use Rattle.accept_book.specs.Entering.{id_of, lapsed, started, noted, finished, entered, mark_refused, after_mark, auth_of, auth_after, SettlesBy, given, gained};
 
@@ -504,7 +505,8 @@ impl<N: Drop, S: Named + Drop> Core<N, S> {
 
     /// The value of a complete context and its end.
     pub fn peek(&self, id: u64, now: Moment) -> Result<(&S, Moment), LookRefusal>
-        ensures { LooksBy (standing id self.now.history) (slot_at self.now.table id) now result }
+        ensures looks { LooksBy (standing id self.now.history) (slot_at self.now.table id) now result }
+        ensures named { IfOk result (λ found. NamedBy (record { mech = S.mech_of; names = S.names_of }) (standing id self.now.history) found.0.now found.1) }
     {
         match self.show(id, now) {
             Ok((value, ends)) => Ok((value, *ends)),
@@ -512,8 +514,20 @@ impl<N: Drop, S: Named + Drop> Core<N, S> {
         }
     }
 
+    /// The value of a complete context, None exactly where there is no such.
+    pub fn value(&self, id: u64) -> Option<&S>
+        ensures some { is_some result ≡ is_complete (slot_at self.now.table id) }
+        ensures value { IfSome result (λ found. IsValueAt (slot_at self.now.table id) found.now) }
+    {
+        match self.table.read(id) {
+            None => None,
+            Some((value, _)) => Some(value),
+        }
+    }
+
     fn show(&self, id: u64, now: Moment) -> Result<(&S, &Moment), LookRefusal>
-        ensures { LooksBy (standing id self.now.history) (slot_at self.now.table id) now (with_end result) }
+        ensures looks { LooksBy (standing id self.now.history) (slot_at self.now.table id) now (with_end result) }
+        ensures named { IfOk result (λ found. NamedBy (record { mech = S.mech_of; names = S.names_of }) (standing id self.now.history) found.0.now found.1.now) }
     {
         match self.table.read(id) {
             Some((value, ends)) => {

@@ -1,15 +1,16 @@
 //! The contexts of a server, from their first token to their end, in one history.
-ghost use Rattle.std.specs.Prelude.{⊤, ◌≡◌, false, List, [], ◌∷◌, ◌≢◌, ℕ, ◌+◌, ◌<◌, ◌≤◌, ◌↔◌, Option, IfOk, IfSome, IsSome, IsOk, IfErr, OnErr, None, Some, Ok, Err, length, max};
+ghost use Rattle.std.specs.Prelude.{⊤, ◌≡◌, false, List, [], ◌∷◌, ◌≢◌, ℕ, ◌+◌, ◌<◌, ◌≤◌, ◌↔◌, Option, IfOk, IfSome, IsSome, IsOk, IfErr, OnErr, None, Some, Ok, Err, length, max, reverse};
 ghost use Rattle.gss_base.specs.Mech.{is_kerberos};
 ghost use Rattle.spnego_core.specs.Accepting.{IsSettled, accept_step};
 ghost use Rattle.context_table.specs.Places.{slot_at, live_of, phase_of, IsHeld, IsPast};
 ghost use Rattle.accept_book.specs.Phases.{PhaseBy};
 ghost use Rattle.accept_book.specs.declared.entry.Entry.{Entry};
-ghost use Rattle.accept_book.specs.History.{standing, has_auth, opened, Whole};
+ghost use Rattle.accept_book.specs.History.{standing, has_auth, opened, posts};
 ghost use Rattle.accept_book.specs.Answers.{refused, or_refused, after, admitted, receipt_of, Free};
 ghost use Rattle.accept_book.specs.Entering.{auth_of, auth_after, given, gained};
-ghost use Rattle.accept_book.specs.Replays.{Keeps};
-ghost use Rattle.accept_book.specs.Booking.{names_of, Fits, AllFit, OthersFit, StepFits, mark_of, settled_of, stands_of, raised, by_step, begun, opened_by, gone_on_by, taken, negotiated, after_refusal, refusal_of_mark, lease_refused, has_key, same_key};
+ghost use Rattle.accept_book.specs.Replays.{Keeps, Replays};
+ghost use Rattle.accept_book.specs.Legal.{Legal};
+ghost use Rattle.accept_book.specs.Booking.{names_of, by_outcome, Fits, AllFit, OthersFit, StepFits, mark_of, settled_of, stands_of, raised, by_step, begun, opened_by, gone_on_by, taken, negotiated, after_refusal, refusal_of_mark, lease_refused, has_key, same_key};
 
 use crate::acceptance::{Core, blank};
 use crate::answer::{AdmitRefusal, LookRefusal, MarkRefusal, Next, RoomRefusal};
@@ -319,7 +320,16 @@ fn begin(
     match core.room(true) {
         Err(RoomRefusal::LogFull) => leave(NegAnswer::Refused(BookRefusal::LogFull)),
         Err(RoomRefusal::TableFull) => leave(NegAnswer::Refused(BookRefusal::TableFull)),
-        Ok(()) => take_step(alloc, setup, core, None, AcceptEnd::new(), token, now, draws),
+        Ok(()) => take_step(
+            alloc,
+            setup,
+            core,
+            None,
+            AcceptEnd::new(),
+            token,
+            now,
+            draws,
+        ),
     }
 }
 
@@ -379,5 +389,183 @@ fn continue_with(
         Phase::Complete => leave(NegAnswer::Refused(BookRefusal::AlreadyComplete)),
         Phase::Negotiating => proceed(alloc, setup, core, id, token, now, draws),
         Phase::Held => unreachable!(),
+    }
+}
+
+// Whether a context is complete with the lease's key.
+fn holds_key(core: &Core<AcceptEnd, Outcome>, lease: &Lease) -> bool
+    ensures { result ≡ has_key (slot_at core.now.table lease.now.id) lease.now.outcome.key }
+{
+    match core.value(lease.id) {
+        None => false,
+        Some(outcome) => outcome.key.bytes() == lease.outcome.key.bytes(),
+    }
+}
+
+fn admit_by(
+    core: &mut Core<AcceptEnd, Outcome>,
+    id: u64,
+    seq: u32,
+    procedure: u32,
+    args: [u8; 20],
+) -> Result<Admitted, AdmitRefusal>
+    requires { AllFit core.old }
+    ensures answer { result ≡ or_refused (refused core.old.limit core.old.width core.old.history id seq) (admitted core.old.history (Entry.Call id seq procedure args)) }
+    ensures history { core.new.history ≡ after (refused core.old.limit core.old.width core.old.history id seq) (Entry.Call id seq procedure args) core.old.history }
+    ensures unchanged { OnErr result (core.new ≡ core.old) }
+    ensures keeps { Keeps core.old core.new }
+    ensures fits { AllFit core.new }
+{
+    match core.admit(id, seq, procedure, args) {
+        Ok(admitted) => Ok(admitted),
+        Err(refusal) => Err(refusal),
+    }
+}
+
+fn end_by(core: &mut Core<AcceptEnd, Outcome>, id: u64, seq: u32) -> Result<Receipt, AdmitRefusal>
+    requires { AllFit core.old }
+    ensures answer { result ≡ or_refused (refused core.old.limit core.old.width core.old.history id seq) (receipt_of core.old.history (Entry.Ended id (EndCause.Destroyed seq))) }
+    ensures history { core.new.history ≡ after (refused core.old.limit core.old.width core.old.history id seq) (Entry.Ended id (EndCause.Destroyed seq)) core.old.history }
+    ensures unchanged { OnErr result (core.new ≡ core.old) }
+    ensures keeps { Keeps core.old core.new }
+    ensures fits { AllFit core.new }
+{
+    match core.end(id, seq) {
+        Ok(receipt) => Ok(receipt),
+        Err(refusal) => Err(refusal),
+    }
+}
+
+impl Book {
+    ghost use Rattle.accept_book.specs.Booking.{LeasedBy, NotesMoment};
+    ghost use Rattle.accept_book.specs.Looking.{IsLooked};
+
+    /// A book without contexts, which has seen the moment `start`. It takes the memory of table, cache and log here.
+    pub fn open(
+        alloc: Global,
+        setup: AcceptSetup,
+        limits: Limits,
+        start: Moment,
+    ) -> Result<Book, NoMemory>
+        requires contexts { limits.contexts ≤ 65536 }
+        requires some_mark { 0 < limits.marks }
+        requires marks { limits.marks ≤ 1000000 }
+        requires entries { limits.log ≤ 4000000 }
+        requires some_width { 0 < limits.width }
+        requires width { limits.width ≤ 1024 }
+        ensures setup { IfOk result (λ book. book.setup ≡ setup) }
+        ensures history { IfOk result (λ book. book.core.history ≡ []) }
+        ensures limit { IfOk result (λ book. book.core.limit ≡ limits.log) }
+        ensures width { IfOk result (λ book. book.core.width ≡ limits.width) }
+        ensures contexts { IfOk result (λ book. book.core.table.limit ≡ limits.contexts) }
+        ensures marks { IfOk result (λ book. book.core.cache.capacity ≡ limits.marks) }
+        ensures greatest { IfOk result (λ book. book.core.cache.greatest ≡ start) }
+    {
+        match Core::new(alloc, limits, start) {
+            Ok(core) => Ok(Book { setup, core }),
+            Err(error) => Err(error),
+        }
+    }
+
+    /// Takes a token: the first of a context where no id is given, a later one of the context of that id else. A first token that is
+    /// refused, or meets want of memory, leaves all but the greatest moment as it was; a later one ends its own context.
+    pub fn negotiate(
+        &mut self,
+        alloc: Global,
+        id: Option<u64>,
+        token: &[u8],
+        now: Moment,
+        draws: &[u8; 66],
+    ) -> Negotiated
+        ensures answer { (past : Option ℕ) → IsPast self.old.core.table (max self.old.core.cache.greatest now) past → result.answer ≢ NegAnswer.NoMemory
+            → result.answer ≡ (negotiated self.old.setup (raised self.old.core now) id past token.now now draws.now).answer }
+        ensures history { (past : Option ℕ) → IsPast self.old.core.table (max self.old.core.cache.greatest now) past → result.answer ≢ NegAnswer.NoMemory
+            → self.new.core.history ≡ (negotiated self.old.setup (raised self.old.core now) id past token.now now draws.now).history }
+        ensures memory { result.answer ≡ NegAnswer.NoMemory → self.new.core.history ≡ after_refusal id self.old.core.history }
+        ensures receipts { given result.receipts ≡ gained (length self.old.core.history) self.new.core.history }
+        ensures notes { NotesMoment self.old self.new now }
+    {
+        self.core.raise(now);
+        match id {
+            None => begin(alloc, &self.setup, &mut self.core, token, now, draws),
+            Some(id) => continue_with(alloc, &self.setup, &mut self.core, id, token, now, draws),
+        }
+    }
+
+    /// Takes note of a moment, and gives the lease of a complete context.
+    pub fn look(&mut self, id: u64, now: Moment) -> Result<Lease, LookRefusal>
+        ensures answer { LeasedBy (standing id self.old.core.history) id now result }
+        ensures looked { IsLooked self.old.core now self.new.core }
+        ensures setup { self.new.setup ≡ self.old.setup }
+    {
+        self.core.raise(now);
+        match self.core.peek(id, now) {
+            Ok((outcome, ends)) => Ok(Lease {
+                id,
+                outcome: *outcome,
+                ends,
+            }),
+            Err(refusal) => Err(refusal),
+        }
+    }
+
+    /// Admits a call of a lease's context with a number that is fresh. Gone is where no complete context has the id and the key.
+    pub fn admit(
+        &mut self,
+        lease: &Lease,
+        seq: u32,
+        procedure: u32,
+        args: [u8; 20],
+    ) -> Result<Admitted, AdmitRefusal>
+        ensures answer { result ≡ or_refused (lease_refused self.old.core lease.now seq) (admitted self.old.core.history (Entry.Call lease.now.id seq procedure args)) }
+        ensures history { self.new.core.history ≡ after (lease_refused self.old.core lease.now seq) (Entry.Call lease.now.id seq procedure args) self.old.core.history }
+        ensures unchanged { OnErr result (self.new ≡ self.old) }
+        ensures keeps { Keeps self.old.core self.new.core }
+        ensures setup { self.new.setup ≡ self.old.setup }
+    {
+        if !holds_key(&self.core, lease) {
+            return Err(AdmitRefusal::Gone);
+        }
+        admit_by(&mut self.core, lease.id, seq, procedure, args)
+    }
+
+    /// Ends a lease's context by a call with a number that is fresh.
+    pub fn end(&mut self, lease: &Lease, seq: u32) -> Result<Receipt, AdmitRefusal>
+        ensures answer { result ≡ or_refused (lease_refused self.old.core lease.now seq) (receipt_of self.old.core.history (Entry.Ended lease.now.id (EndCause.Destroyed seq))) }
+        ensures history { self.new.core.history ≡ after (lease_refused self.old.core lease.now seq) (Entry.Ended lease.now.id (EndCause.Destroyed seq)) self.old.core.history }
+        ensures unchanged { OnErr result (self.new ≡ self.old) }
+        ensures keeps { Keeps self.old.core self.new.core }
+        ensures setup { self.new.setup ≡ self.old.setup }
+    {
+        if !holds_key(&self.core, lease) {
+            return Err(AdmitRefusal::Gone);
+        }
+        end_by(&mut self.core, lease.id, seq)
+    }
+
+    /// The log. It is legal, and the table, the cache and the counts are what it says.
+    pub fn log(&self) -> &Log
+        ensures entries { reverse result.now.entries ≡ self.now.core.history }
+        ensures width { result.now.width ≡ self.now.core.width }
+        ensures limit { result.now.limit ≡ self.now.core.limit }
+        ensures contexts { result.now.contexts ≡ self.now.core.table.limit }
+        ensures marks { result.now.marks ≡ self.now.core.cache.capacity }
+        ensures legal { Legal self.now.core.width self.now.core.history }
+        ensures replays { Replays by_outcome self.now.core.width (posts self.now.core.history) self.now.core.history self.now.core.table self.now.core.cache }
+    {
+        self.core.log()
+    }
+
+    /// The log, for good.
+    pub fn into_log(self) -> Log
+        ensures entries { reverse result.entries ≡ self.core.history }
+        ensures width { result.width ≡ self.core.width }
+        ensures limit { result.limit ≡ self.core.limit }
+        ensures contexts { result.contexts ≡ self.core.table.limit }
+        ensures marks { result.marks ≡ self.core.cache.capacity }
+        ensures legal { Legal self.core.width self.core.history }
+    {
+        let Book { setup: _, core } = self;
+        core.into_log()
     }
 }

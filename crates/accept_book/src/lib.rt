@@ -21,4 +21,6 @@ pub use log::Log;
 pub use named::Named;
 
 #[cfg(test)]
+mod book_tests;
+#[cfg(test)]
 mod tests;
