@@ -1,3 +1,5 @@
 pub mod Appended
 pub mod Steps
 pub mod Onces
+pub mod Fitting
+pub mod Opening

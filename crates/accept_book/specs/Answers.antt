@@ -80,6 +80,11 @@ LooksBy (Open at) slot now result = result ≡ Err looks.NotReady
 LooksBy (Whole mech names ends) slot now result = LooksAt slot now ends result
 LooksBy Over slot now result = result ≡ Err looks.NoContext
 
+-- a look's answer, whose end is lent, with the end itself
+abbrev pub with_end : {S : Type 0} → Result (Bor S × Bor ℕ) LookRefusal → Result (Bor S × ℕ) LookRefusal
+with_end (Ok found) = Ok (found.0, found.1.now)
+with_end (Err refusal) = Err refusal
+
 -- the refusal of a mark by the cache's verdict
 abbrev pub mark_refusal : CacheVerdict → Option MarkRefusal
 mark_refusal (verdicts.Stale greatest) = Some (marks.Stale greatest)

@@ -5,3 +5,9 @@ pub mod Answers
 pub mod Entering
 pub mod Logs
 pub mod Once
+pub mod Looking
+pub mod Examples
+pub mod Stepping
+pub mod Booking
+pub mod Phases
+pub mod Naming

@@ -1,13 +1,17 @@
 //! The acceptance history as a plain sequential object.
-ghost use Rattle.std.specs.Prelude.{◌≡◌, ◌≢◌, ℕ, ◌+◌, ◌<◌, ◌≤◌, ◌↔◌, List, [], ◌∷◌, ◌++◌, Option, IfOk, IfSome, IsSome, IsOk, is_some, is_none, is_ok, None, Some, Ok, Err, length, reverse, max, nat_lt, ◌==◌, ◌||◌, true, false, IfErr, OnErr, if◌then◌else◌};
-ghost use Rattle.context_table.specs.Places.{slot_at, live_of, KeepsOthers, phase_of, state_of, held_after, IsHeld, IsPast, IsFreshAt};
+ghost use Rattle.std.specs.Prelude.{⊤, ◌≡◌, ◌≢◌, ℕ, ◌+◌, ◌<◌, ◌≤◌, ◌↔◌, List, [], ◌∷◌, ◌++◌, Option, IfOk, IfSome, IsSome, IsOk, is_some, is_none, is_ok, None, Some, Ok, Err, length, reverse, max, nat_lt, ◌==◌, ◌||◌, true, false, IfErr, OnErr, if◌then◌else◌};
+ghost use Rattle.context_table.specs.declared.slot.SlotState.{SlotState};
+ghost use Rattle.context_table.specs.Places.{slot_at, live_of, KeepsOthers, phase_of, is_complete, state_of, held_after, IsHeld, IsPast, IsFreshAt, Marks, with_state, settled_as};
 ghost use Rattle.accept_book.specs.declared.entry.Entry.{Entry};
 ghost use Rattle.accept_book.specs.History.{standing, has_auth, opened, posts, taken_of};
 ghost use Rattle.accept_book.specs.Legal.{Legal, MayCall, MayEnd, MayAuth};
 ghost use Rattle.gss_base.specs.Mech.{is_kerberos};
 ghost use Rattle.replay_cache.specs.Taking.{cache_verdict};
 ghost use Rattle.accept_book.specs.Replays.{Keeps, Replays};
-ghost use Rattle.accept_book.specs.Answers.{refused, or_refused, after, admitted, receipt_of, Free, taken_by, LooksBy};
+ghost use Rattle.accept_book.specs.Answers.{refused, or_refused, after, admitted, receipt_of, Free, taken_by, LooksBy, with_end};
+ghost use Rattle.accept_book.specs.Phases.{PhaseBy};
+ghost use Rattle.accept_book.specs.Naming.{NamedBy, IsValueAt};
+ghost use Rattle.accept_book.specs.Stepping.{lapsed_slot, kept_slot, StateAfter, Stays};
 ghost use Rattle.accept_book.specs.Entering.{id_of, lapsed, started, noted, finished, entered, mark_refused, after_mark, auth_of, auth_after, SettlesBy, given, gained};
 
 use crate::answer::{
@@ -60,6 +64,7 @@ impl<N: Drop, S: Named + Drop> Core<N, S> {
         ensures limit { IfOk result (λ core. core.limit ≡ limits.log) }
         ensures width { IfOk result (λ core. core.width ≡ limits.width) }
         ensures contexts { IfOk result (λ core. core.table.limit ≡ limits.contexts) }
+        ensures empty { IfOk result (λ core. core.table.slots ≡ []) }
         ensures marks { IfOk result (λ core. core.cache.capacity ≡ limits.marks) }
         ensures greatest { IfOk result (λ core. core.cache.greatest ≡ start) }
     {
@@ -77,7 +82,8 @@ impl<N: Drop, S: Named + Drop> Core<N, S> {
 
     /// What lives under an id.
     pub fn phase(&self, id: u64) -> Phase
-        ensures { result ≡ phase_of (slot_at self.now.table id) }
+        ensures phase { result ≡ phase_of (slot_at self.now.table id) }
+        ensures stands { PhaseBy (standing id self.now.history) result }
     {
         self.table.phase(id)
     }
@@ -96,6 +102,7 @@ impl<N: Drop, S: Named + Drop> Core<N, S> {
         ensures unchanged { OnErr result (self.new ≡ self.old) }
         ensures keeps { Keeps self.old self.new }
         ensures others { KeepsOthers self.old.table self.new.table id }
+        ensures slot { IsOk result → Marks (slot_at self.old.table id) (slot_at self.new.table id) seq }
     {
         match self.refusal(id, seq) {
             Some(refusal) => Err(refusal),
@@ -137,6 +144,7 @@ impl<N: Drop, S: Named + Drop> Core<N, S> {
         ensures history { self.new.history ≡ Entry.Call id seq procedure args ∷ self.old.history }
         ensures keeps { Keeps self.old self.new }
         ensures others { KeepsOthers self.old.table self.new.table id }
+        ensures slot { Marks (slot_at self.old.table id) (slot_at self.new.table id) seq }
     {
         self.table.mark(id, seq);
         self.log.add(Entry::Call {
@@ -156,6 +164,7 @@ impl<N: Drop, S: Named + Drop> Core<N, S> {
         ensures unchanged { OnErr result (self.new ≡ self.old) }
         ensures keeps { Keeps self.old self.new }
         ensures others { KeepsOthers self.old.table self.new.table id }
+        ensures gone { IsOk result → slot_at self.new.table id ≡ None }
     {
         match self.refusal(id, seq) {
             Some(refusal) => Err(refusal),
@@ -170,6 +179,8 @@ impl<N: Drop, S: Named + Drop> Core<N, S> {
         ensures receipt { result ≡ receipt_of self.old.history (Entry.Ended id EndCause.Refused) }
         ensures history { self.new.history ≡ Entry.Ended id EndCause.Refused ∷ self.old.history }
         ensures keeps { Keeps self.old self.new }
+        ensures others { KeepsOthers self.old.table self.new.table id }
+        ensures gone { slot_at self.new.table id ≡ None }
     {
         // The history says that a held context is open: the value is opened for that.
         let _log = &self.log;
@@ -205,6 +216,7 @@ impl<N: Drop, S: Named + Drop> Core<N, S> {
         ensures keeps { Keeps self.old self.new }
         ensures held { IsHeld (slot_at self.new.table result) }
         ensures auth { has_auth result self.new.history ≡ false }
+        ensures others { KeepsOthers self.old.table self.new.table result }
     {
         let id = self.given + 1;
         let now = self.cache.greatest();
@@ -225,6 +237,9 @@ impl<N: Drop, S: Named + Drop> Core<N, S> {
         ensures taken { taken_of self.new.history ≡ taken_of self.old.history }
         ensures grows { length self.old.history ≤ length self.new.history }
         ensures count { length self.new.history ≤ length self.old.history + 1 }
+        ensures slots { (past : Option ℕ) → IsPast self.old.table self.old.cache.greatest past → (other : ℕ) → slot_at self.new.table other ≡ lapsed_slot (nat_lt (live_of self.old.table) self.old.table.limit) past other (slot_at self.old.table other) }
+        ensures stays { (other : ℕ) → Stays (slot_at self.old.table other) (slot_at self.new.table other) }
+        ensures auths { (other : ℕ) → has_auth other self.new.history ≡ has_auth other self.old.history }
     {
         if self.table.live() < self.log.contexts() as usize {
             return;
@@ -250,6 +265,9 @@ impl<N: Drop, S: Named + Drop> Core<N, S> {
         ensures auth { has_auth result self.new.history ≡ auth_of id self.old.history }
         ensures grows { length self.old.history ≤ length self.new.history }
         ensures count { length self.new.history ≤ length self.old.history + 2 }
+        ensures slots { (past : Option ℕ) → IsPast self.old.table self.old.cache.greatest past → (other : ℕ) → result ≢ other → slot_at self.new.table other ≡ kept_slot id (nat_lt (live_of self.old.table) self.old.table.limit) past other (slot_at self.old.table other) }
+        ensures stays { (other : ℕ) → result ≢ other → Stays (slot_at self.old.table other) (slot_at self.new.table other) }
+        ensures auths { (other : ℕ) → has_auth other self.new.history ≡ has_auth other self.old.history }
     {
         match id {
             Some(id) => id,
@@ -270,6 +288,7 @@ impl<N: Drop, S: Named + Drop> Core<N, S> {
         ensures keeps { Keeps self.old self.new }
         ensures table { self.new.table ≡ self.old.table }
         ensures auth { has_auth id self.new.history ≡ (is_some mark || has_auth id self.old.history) }
+        ensures auths { (other : ℕ) → id ≢ other → has_auth other self.new.history ≡ has_auth other self.old.history }
         ensures grows { length self.old.history ≤ length self.new.history }
         ensures count { length self.new.history ≤ length self.old.history + 1 }
     {
@@ -306,6 +325,9 @@ impl<N: Drop, S: Named + Drop> Core<N, S> {
         ensures keeps { Keeps self.old self.new }
         ensures grows { length self.old.history ≤ length self.new.history }
         ensures count { length self.new.history ≤ length self.old.history + 1 }
+        ensures slot { StateAfter step (slot_at self.new.table id) }
+        ensures others { KeepsOthers self.old.table self.new.table id }
+        ensures auths { (other : ℕ) → has_auth other self.new.history ≡ has_auth other self.old.history }
     {
         match step {
             Next::Going(state) => self.go_on(id, first, state),
@@ -323,6 +345,9 @@ impl<N: Drop, S: Named + Drop> Core<N, S> {
         requires room { length self.old.history < self.old.limit }
         ensures history { self.new.history ≡ (if first then self.old.history else Entry.Went id self.old.cache.greatest ∷ self.old.history) }
         ensures keeps { Keeps self.old self.new }
+        ensures slot { state_of (slot_at self.new.table id) ≡ Some state }
+        ensures others { KeepsOthers self.old.table self.new.table id }
+        ensures auths { (other : ℕ) → has_auth other self.new.history ≡ has_auth other self.old.history }
     {
         if !first {
             self.went(id);
@@ -347,6 +372,8 @@ impl<N: Drop, S: Named + Drop> Core<N, S> {
         requires held { IsHeld (slot_at self.old.table id) }
         ensures history { self.new.history ≡ self.old.history }
         ensures keeps { Keeps self.old self.new }
+        ensures slot { slot_at self.new.table id ≡ with_state (slot_at self.old.table id) (SlotState.Negotiating state) }
+        ensures others { KeepsOthers self.old.table self.new.table id }
     {
         self.table.put_back(id, state);
     }
@@ -359,6 +386,8 @@ impl<N: Drop, S: Named + Drop> Core<N, S> {
         requires names { S.names_of value ≡ names }
         ensures history { self.new.history ≡ Entry.Settled id mech names ends self.old.cache.greatest ∷ self.old.history }
         ensures keeps { Keeps self.old self.new }
+        ensures slot { slot_at self.new.table id ≡ settled_as (slot_at self.old.table id) (SlotState.Complete value) ends }
+        ensures others { KeepsOthers self.old.table self.new.table id }
     {
         let at = self.cache.greatest();
         self.table.settle(id, value, ends);
@@ -443,6 +472,11 @@ impl<N: Drop, S: Named + Drop> Core<N, S> {
         ensures id { IfOk result (λ entered. entered.id ≡ id_of id self.old.history) }
         ensures history { (past : Option ℕ) → IsPast self.old.table self.old.cache.greatest past → self.new.history ≡ after_mark (mark_refused self.old.cache.capacity self.old.cache.greatest (taken_of self.old.history) mark) self.old.history (entered id (nat_lt (live_of self.old.table) self.old.table.limit) past mark step self.old.cache.greatest self.old.history) }
         ensures receipts { IfOk result (λ entered. given entered.receipts ≡ gained (length self.old.history) self.new.history) }
+        ensures slot { IfOk result (λ entered. StateAfter step (slot_at self.new.table entered.id)) }
+        ensures others { IfOk result (λ entered. (past : Option ℕ) → IsPast self.old.table self.old.cache.greatest past → (other : ℕ) → entered.id ≢ other → slot_at self.new.table other ≡ kept_slot id (nat_lt (live_of self.old.table) self.old.table.limit) past other (slot_at self.old.table other)) }
+        ensures stays { IfOk result (λ entered. (other : ℕ) → entered.id ≢ other → Stays (slot_at self.old.table other) (slot_at self.new.table other)) }
+        ensures auth { IfOk result (λ entered. has_auth entered.id self.new.history ≡ auth_after id mark self.old.history) }
+        ensures auths { IfOk result (λ entered. (other : ℕ) → entered.id ≢ other → has_auth other self.new.history ≡ has_auth other self.old.history) }
         ensures keeps { Keeps self.old self.new }
         ensures unchanged { OnErr result (self.new ≡ self.old) }
     {
@@ -471,9 +505,31 @@ impl<N: Drop, S: Named + Drop> Core<N, S> {
 
     /// The value of a complete context and its end.
     pub fn peek(&self, id: u64, now: Moment) -> Result<(&S, Moment), LookRefusal>
-        ensures { LooksBy (standing id self.now.history) (slot_at self.now.table id) now result }
+        ensures looks { LooksBy (standing id self.now.history) (slot_at self.now.table id) now result }
+        ensures named { IfOk result (λ found. NamedBy (record { mech = S.mech_of; names = S.names_of }) (standing id self.now.history) found.0.now found.1) }
     {
-        match self.table.get(id) {
+        match self.show(id, now) {
+            Ok((value, ends)) => Ok((value, *ends)),
+            Err(refusal) => Err(refusal),
+        }
+    }
+
+    /// The value of a complete context, None exactly where there is no such.
+    pub fn value(&self, id: u64) -> Option<&S>
+        ensures some { is_some result ≡ is_complete (slot_at self.now.table id) }
+        ensures value { IfSome result (λ found. IsValueAt (slot_at self.now.table id) found.now) }
+    {
+        match self.table.read(id) {
+            None => None,
+            Some((value, _)) => Some(value),
+        }
+    }
+
+    fn show(&self, id: u64, now: Moment) -> Result<(&S, &Moment), LookRefusal>
+        ensures looks { LooksBy (standing id self.now.history) (slot_at self.now.table id) now (with_end result) }
+        ensures named { IfOk result (λ found. NamedBy (record { mech = S.mech_of; names = S.names_of }) (standing id self.now.history) found.0.now found.1.now) }
+    {
+        match self.table.read(id) {
             Some((value, ends)) => {
                 if ends.total() < now.total() {
                     Err(LookRefusal::Expired)
@@ -560,6 +616,23 @@ impl<N: Drop, S: Named + Drop> Core<N, S> {
     }
 }
 
+impl<N: Drop, S: Named + Drop> Core<N, S> {
+    ghost use mathlib.Core.Option.{none};
+    ghost use denote.Follow.{follows_so};
+    ghost use Rattle.std.specs.Borrow.{sem};
+    ghost use Rattle.accept_book.specs.contracts.acceptance.Core.{the_row};
+    ghost use Rattle.accept_book.specs.Looking.{IsLooked};
+
+    /// Takes note of a moment, and shows the value of a complete context and its end.
+    pub fn look(&mut self, id: u64, now: Moment) -> Result<(&S, &Moment), LookRefusal>
+        ensures answer { LooksBy (standing id self.old.history) (slot_at self.old.table id) now (with_end result) }
+        ensures* after { sem 𝓛 (follows_so (the_row N.row S.row S.Named) (the_row N.row S.row S.Named) self.entry.ghost_name none (λ _ _. ⊤) (IsLooked self.old now)) }
+    {
+        self.raise(now);
+        self.show(id, now)
+    }
+}
+
 // The entries from a place on, each with its place; there are at most four.
 fn receipts_of(entries: &[Entry], from: usize) -> Receipts
     requires from { from ≤ length entries.now }
@@ -578,7 +651,7 @@ fn receipts_of(entries: &[Entry], from: usize) -> Receipts
     Receipts { count, list }
 }
 
-fn blank() -> Receipt {
+pub(crate) fn blank() -> Receipt {
     Receipt {
         place: 0,
         entry: Entry::Ended {

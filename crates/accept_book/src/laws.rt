@@ -1,4 +1,5 @@
 //! Laws over all legal histories.
+ghost use Rattle.accept_book.specs.Examples.{Examples};
 ghost use Rattle.accept_book.specs.Once.{CallsOnce, MarksOnce};
 
 /// No number of a context stands twice in a legal history.
@@ -9,4 +10,9 @@ pub fn calls_once()
 /// No authenticator stands twice in a legal history.
 pub fn marks_once()
     ensures { MarksOnce }
+{}
+
+/// Histories by hand: a legal one with all kinds of entries, and for each condition what may follow and what may not.
+pub fn histories_by_hand()
+    ensures { Examples }
 {}

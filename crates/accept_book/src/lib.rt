@@ -5,6 +5,8 @@
 
 mod acceptance;
 mod answer;
+mod book;
+mod book_answer;
 mod entry;
 pub mod laws;
 mod log;
@@ -12,9 +14,13 @@ mod named;
 
 pub use acceptance::Core;
 pub use answer::{AdmitRefusal, Entered, LookRefusal, MarkRefusal, Next, RoomRefusal, TakeRefusal};
+pub use book::{Book, names_of};
+pub use book_answer::{BookRefusal, Lease, NegAnswer, Negotiated};
 pub use entry::{Admitted, EndCause, Entry, Limits, Receipt, Receipts};
 pub use log::Log;
 pub use named::Named;
 
+#[cfg(test)]
+mod book_tests;
 #[cfg(test)]
 mod tests;

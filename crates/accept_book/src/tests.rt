@@ -57,6 +57,10 @@ fn a_context_from_its_opening_to_its_end(rt: HostRuntime) -> Result<(), Fail> {
     let entered = core.enter(None, None, step).ok().ok_or("a step")?;
     assert_eq!(rt; entered.id, 1);
     assert_eq!(rt; entered.receipts.count, 2);
+    let (value, ends) = core.look(1, moment(2000)?).ok().ok_or("a value")?;
+    assert!(rt; value.digest == [7; 20] && *ends == moment(2000)?);
+    let late = core.look(1, moment(2001)?).err();
+    assert!(rt; late == Some(LookRefusal::Expired));
     let admitted = core.admit(1, 1, 3, [9; 20]).ok().ok_or("a call")?;
     assert_eq!(rt; admitted.receipt.place, 2);
     assert_eq!(rt; admitted.posts, 1);
@@ -70,6 +74,8 @@ fn a_context_from_its_opening_to_its_end(rt: HostRuntime) -> Result<(), Fail> {
         core.admit(1, 3, 0, [9; 20]).err(),
         Some(AdmitRefusal::Gone)
     );
+    let gone = core.look(1, moment(1000)?).err();
+    assert!(rt; gone == Some(LookRefusal::NoContext));
     assert_eq!(rt; core.log().len(), 4);
     Ok(())
 }

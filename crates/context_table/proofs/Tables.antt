@@ -330,8 +330,8 @@ pub some_same : {X : Type 0} {a b : X} → Some a ≡ Some b → a ≡ b
 some_same e = cc
 
 -- the value of a complete slot and its end, told in one
-pub both-of : {N S : Type 0} (found : Option (Bor S × ℕ)) (slot : Slot N S) → IfSome found (λ pair. HasState slot.state pair.0.now)
-    → IfSome found (λ pair. slot.ends ≡ pair.1) → IfSome found (λ pair. HasValue (Some slot) pair.0.now pair.1)
+pub both-of : {N S : Type 0} (found : Option (Bor S × Bor ℕ)) (slot : Slot N S) → IfSome found (λ pair. HasState slot.state pair.0.now)
+    → IfSome found (λ pair. slot.ends ≡ pair.1.now) → IfSome found (λ pair. HasValue (Some slot) pair.0.now pair.1.now)
 both-of None slot value ends = tt
 both-of (Some pair) slot value ends = (value, ends)
 

@@ -78,13 +78,13 @@ pub fn is_complete<N, S>(slot: &Slot<N, S>) -> bool
 }
 
 /// The value of a context that is complete, with its end.
-pub fn value_in<N, S>(slot: &Slot<N, S>) -> Option<(&S, Moment)>
+pub fn value_in<N, S>(slot: &Slot<N, S>) -> Option<(&S, &Moment)>
     ensures some { is_some result ≡ is_whole slot.now.state }
     ensures value { IfSome result (λ found. HasState slot.now.state found.0.now) }
-    ensures ends { IfSome result (λ found. slot.now.ends ≡ found.1) }
+    ensures ends { IfSome result (λ found. slot.now.ends ≡ found.1.now) }
 {
     match &slot.state {
-        SlotState::Complete(value) => Some((value, slot.ends)),
+        SlotState::Complete(value) => Some((value, &slot.ends)),
         _ => None,
     }
 }

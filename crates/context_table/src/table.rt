@@ -172,6 +172,17 @@ impl<N: Drop, S: Drop> Table<N, S> {
         ensures some { is_some result ≡ is_complete (slot_at self.now id) }
         ensures value { IfSome result (λ found. HasValue (slot_at self.now id) found.0.now found.1) }
     {
+        match self.read(id) {
+            None => None,
+            Some((value, ends)) => Some((value, *ends)),
+        }
+    }
+
+    /// The same, with the end where it lies.
+    pub fn read(&self, id: u64) -> Option<(&S, &Moment)>
+        ensures some { is_some result ≡ is_complete (slot_at self.now id) }
+        ensures value { IfSome result (λ found. HasValue (slot_at self.now id) found.0.now found.1.now) }
+    {
         match find(self.order.as_slice(), self.slots.as_slice(), self.live, id) {
             None => None,
             Some(place) => value_in(&self.slots[self.order[place] as usize]),

@@ -1,7 +1,7 @@
 use Rattle.std.proofs.Common.{◌≡◌, refl, sym, ◌∙◌, ap, Some}
 use Rattle.context_table.specs.declared.slot.Slot.{Slot}
 use Rattle.context_table.proofs.Tables.{found-slot, placed, some_same, both-of}
-use Rattle.context_table.proofs.table.Table.get.Goals as goal
+use Rattle.context_table.proofs.table.Table.read.Goals as goal
 
 pub returns-in-Some-clause-some : goal.returns-in-Some-clause-some
 returns-in-Some-clause-some g c =

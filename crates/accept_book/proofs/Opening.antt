@@ -1,0 +1,95 @@
+-- A later token's step, once its context's state was taken.
+use Rattle.std.proofs.Common.{◌≡◌, ◌≢◌, ◌∙◌, ℕ, ◌+◌, ◌<◌, ◌≤◌, Bool, true, false, refl, sym, ap, subst, inl, inr, arith, List, length, Option, None, Some, IfSome, IsSomeAnd}
+use Rattle.std.specs.Prelude.{Result, Ok, Err}
+use Rattle.std.proofs.lemmas.Bool.{cases_eq, le-ltb}
+use Rattle.gss_base.specs.declared.mark.Mark.{Mark}
+use Rattle.spnego_core.specs.declared.refusal.NegRefusal.{NegRefusal}
+use Rattle.spnego_core.specs.declared.setup.AcceptSetup.{AcceptSetup}
+use Rattle.spnego_core.specs.declared.accept_end.AcceptEnd.{AcceptEnd}
+use Rattle.spnego_core.specs.declared.accept_end.AcceptStep.{AcceptStep}
+use Rattle.spnego_core.specs.Accepting.{Accepted, accept_step}
+use Rattle.context_table.specs.declared.slot.Slot.{Slot}
+use Rattle.context_table.specs.Places.{Places, slot_at, state_of, held_after, KeepsOthers, IsPast}
+use Rattle.accept_book.specs.declared.entry.Entry.{Entry}
+use Rattle.accept_book.specs.declared.answer.MarkRefusal.{MarkRefusal}
+use Rattle.accept_book.specs.declared.answer.TakeRefusal.{TakeRefusal}
+use Rattle.accept_book.specs.declared.book_answer.BookRefusal.TheVariants as refusals
+use Rattle.accept_book.specs.History.{Standing, Unknown, Open, Whole, Over, taken_of}
+use Rattle.accept_book.specs.Answers.{taken_by}
+use Rattle.accept_book.specs.Entering.{mark_refused, finished, noted}
+use Rattle.accept_book.specs.Booking.{Stands, Outcomes, answer_with, next_of, mark_of, settled_of, refusal_of_mark, refuses, by_mark, taken, by_step, later_step, opened_by}
+
+-- ---- the id that is past is the same
+
+ends_held : {N S : Type 0} (o : Option (Slot N S)) (now : ℕ) → IfSome o (λ slot. now ≤ slot.ends) → IfSome (held_after o) (λ slot. now ≤ slot.ends)
+ends_held None now h = tt
+ends_held (Some slot) now h = h
+
+before_held : {N S : Type 0} (o : Option (Slot N S)) (now : ℕ) → IsSomeAnd o (λ slot. slot.ends < now) → IsSomeAnd (held_after o) (λ slot. slot.ends < now)
+before_held None now h = h
+before_held (Some slot) now h = h
+
+each_held : {N S : Type 0} (old new : Places N S) (id now other : ℕ) → slot_at new id ≡ held_after (slot_at old id) → KeepsOthers old new id
+    → IfSome (slot_at old other) (λ slot. now ≤ slot.ends) → IfSome (slot_at new other) (λ slot. now ≤ slot.ends)
+each_held old new id now other held others h =
+    elim (cases_eq id other) [
+      | inl e ↦
+          let own : IfSome (slot_at old id) (λ (slot : Slot _ _). now ≤ slot.ends) = subst (λ (k : ℕ). IfSome (slot_at old k) (λ (slot : Slot _ _). now ≤ slot.ends)) (sym e) h in
+          subst (λ (k : ℕ). IfSome (slot_at new k) (λ (slot : Slot _ _). now ≤ slot.ends)) e (rw held (ends_held (slot_at old id) now own))
+      | inr ne ↦ rw (others.others other ne) h
+    ]
+
+some_held : {N S : Type 0} (old new : Places N S) (id now other : ℕ) → slot_at new id ≡ held_after (slot_at old id) → KeepsOthers old new id
+    → IsSomeAnd (slot_at old other) (λ slot. slot.ends < now) → IsSomeAnd (slot_at new other) (λ slot. slot.ends < now)
+some_held old new id now other held others h =
+    elim (cases_eq id other) [
+      | inl e ↦
+          let own : IsSomeAnd (slot_at old id) (λ (slot : Slot _ _). slot.ends < now) = subst (λ (k : ℕ). IsSomeAnd (slot_at old k) (λ (slot : Slot _ _). slot.ends < now)) (sym e) h in
+          subst (λ (k : ℕ). IsSomeAnd (slot_at new k) (λ (slot : Slot _ _). slot.ends < now)) e (rw held (before_held (slot_at old id) now own))
+      | inr ne ↦ rw (others.others other ne) h
+    ]
+
+pub past_held : {N S : Type 0} (old new : Places N S) (id now : ℕ) (past : Option ℕ) → slot_at new id ≡ held_after (slot_at old id) → KeepsOthers old new id
+    → IsPast old now past → IsPast new now past
+past_held old new id now None held others h = λ other. each_held old new id now other held others (h other)
+past_held old new id now (Some first) held others h =
+    (some_held old new id now first held others h.0, λ other lt. each_held old new id now other held others (h.1 other lt))
+
+-- ---- what a step comes to hangs on history, room for marks and greatest moment alone
+
+by_mark_same : (a b : Stands) (id : ℕ) (past : Option ℕ) (mark : Option Mark) (step : AcceptStep) (refusal : Option MarkRefusal) → a.history ≡ b.history
+    → a.greatest ≡ b.greatest → by_mark a (Some id) past mark step refusal ≡ by_mark b (Some id) past mark step refusal
+by_mark_same a b id past mark step (Some refusal) h g = ap (λ (xs : List Entry). refuses (Some id) xs (refusal_of_mark refusal)) h
+by_mark_same a b id past mark step None h g =
+    λ i. record { answer = answer_with id step; history = finished false (next_of step) id (g i) (noted mark id (g i) (h i)) }
+
+taken_same : (a b : Stands) (id : ℕ) (past : Option ℕ) (mark : Option Mark) (step : AcceptStep) → a.history ≡ b.history → a.capacity ≡ b.capacity
+    → a.greatest ≡ b.greatest → taken a (Some id) past mark step ≡ taken b (Some id) past mark step
+taken_same a b id past mark step h c g =
+    by_mark_same a b id past mark step (mark_refused a.capacity a.greatest (taken_of a.history) mark) h g
+    ∙ ap (λ (refusal : Option MarkRefusal). by_mark b (Some id) past mark step refusal) (λ i. mark_refused (c i) (g i) (taken_of (h i)) mark)
+
+by_step_same : (a b : Stands) (id : ℕ) (past : Option ℕ) (r : Result Accepted NegRefusal) → a.history ≡ b.history → a.capacity ≡ b.capacity
+    → a.greatest ≡ b.greatest → by_step a (Some id) past r ≡ by_step b (Some id) past r
+by_step_same a b id past (Err refusal) h c g = ap (λ (xs : List Entry). refuses (Some id) xs (refusals.Neg refusal)) h
+by_step_same a b id past (Ok accepted) h c g = taken_same a b id past (mark_of accepted.step) (settled_of accepted.step) h c g
+
+-- ---- the state that was taken
+
+other_way : (x : AcceptEnd) (e : TakeRefusal) → ◌≡◌ {A = Result AcceptEnd TakeRefusal} (Ok x) (Err e) → ⊥
+other_way x e q = cc
+
+taken_state : (stands : Standing) (state : Option AcceptEnd) (end : AcceptEnd) → Ok end ≡ taken_by stands state → state ≡ Some end
+taken_state Unknown state end e = absurd (other_way end _ e)
+taken_state (Open at) None end e = absurd (other_way end _ e)
+taken_state (Open at) (Some held) end e = let same : ◌≡◌ {A = Result AcceptEnd TakeRefusal} (Ok end) (Ok held) = e in cc
+taken_state (Whole mech names ends) state end e = absurd (other_way end _ e)
+taken_state Over state end e = absurd (other_way end _ e)
+
+pub opened_step : (setup : AcceptSetup) (a b : Stands) (id : ℕ) (past : Option ℕ) (token : List ℕ) (now : ℕ) (draws : List ℕ) (stands : Standing) (end : AcceptEnd)
+    → length b.history + 4 ≤ b.limit → Ok end ≡ taken_by stands (state_of (slot_at b.table id)) → a.history ≡ b.history → a.capacity ≡ b.capacity
+    → a.greatest ≡ b.greatest → by_step a (Some id) past (accept_step setup end token now draws) ≡ opened_by setup b id past token now draws
+opened_step setup a b id past token now draws stands end room took h c g =
+    let state : state_of (slot_at b.table id) ≡ Some end = taken_state stands (state_of (slot_at b.table id)) end took in
+    by_step_same a b id past (accept_step setup end token now draws) h c g
+    ∙ sym (rw (le-ltb b.limit (length b.history + 4) room, state) refl)

@@ -1,0 +1,7 @@
+use Rattle.accept_book.proofs.book.finish.Goals as goal
+
+pub go_on-requires-clause-fits : goal.go_on-requires-clause-fits
+go_on-requires-clause-fits c = rw c.in-More.is at c.requires.fits
+
+pub settle-requires-clause-fits : goal.settle-requires-clause-fits
+settle-requires-clause-fits c = rw c.in-Done.is at c.requires.fits

@@ -1,0 +1,7 @@
+use Rattle.accept_book.proofs.Fitting.{step_of_fits, by_ok, by_err}
+use Rattle.std.proofs.Common.{◌≡◌, ◌∙◌, ap, sym, Some, None}
+use Rattle.accept_book.specs.Booking.{Outcomes}
+use Rattle.accept_book.proofs.book.take_step.Goals as goal
+
+pub enter-requires-clause-fits : goal.enter-requires-clause-fits
+enter-requires-clause-fits c = step_of_fits c.args.setup.now c.args.end c.args.token.now c.args.now c.args.draws.now c.in-Ok.step _ c.requires.fits c.in-Ok.ensures.exact

@@ -1,0 +1,264 @@
+-- A book: the contexts of an acceptor, each negotiating by an end of its own or complete with its outcome.
+use Rattle.std.specs.Prelude.{◌≡◌, ◌⊎◌, ◌≢◌, ℕ, ◌+◌, ◌<◌, ◌≤◌, Bool, true, false, nat_eq, nat_lt, nat_le, ◌&&◌, max, is_none, is_some, if◌then◌else◌, List, [], ◌∷◌, ◌++◌, length, Option, None, Some, Result, Ok, Err, IfOk}
+use lib.Pointwise.{pointwise}
+use Rattle.sha1.specs.Sha1.{sha1}
+use Rattle.gss_base.specs.declared.mark.Mark.{Mark}
+use Rattle.gss_base.specs.declared.mech.MechKind.{MechKind}
+use Rattle.gss_base.specs.Mech.{is_kerberos}
+use Rattle.krb_derive.specs.declared.key.Key.{Key}
+use Rattle.krb_derive.specs.Key.{key_octets}
+use Rattle.spnego_core.specs.declared.outcome.Outcome.{Outcome}
+use Rattle.spnego_core.specs.declared.refusal.NegRefusal.{NegRefusal}
+use Rattle.spnego_core.specs.declared.setup.AcceptSetup.{AcceptSetup}
+use Rattle.spnego_core.specs.declared.accept_end.AcceptEnd.{AcceptEnd}
+use Rattle.spnego_core.specs.declared.accept_end.AcceptEnd.TheVariants as ends
+use Rattle.spnego_core.specs.declared.accept_end.AcceptPause.{AcceptPause}
+use Rattle.spnego_core.specs.declared.accept_end.AcceptStep.{AcceptStep}
+use Rattle.spnego_core.specs.declared.accept_end.AcceptStep.TheVariants as steps
+use Rattle.spnego_core.specs.declared.accept_end.Answered.{Answered}
+use Rattle.spnego_core.specs.declared.accept_end.Answered.TheVariants as afters
+use Rattle.spnego_core.specs.Accepting.{Accepted, accept_step, mark_asked, gone_on, step_after}
+use Rattle.context_table.specs.declared.slot.Slot.{Slot}
+use Rattle.context_table.specs.declared.slot.SlotState.{SlotState}
+use Rattle.context_table.specs.declared.slot.SlotState.TheVariants.{Negotiating, Held, Complete}
+use Rattle.context_table.specs.Places.{Places, slot_at, live_of, state_of}
+use Rattle.accept_book.specs.declared.entry.Entry.{Entry}
+use Rattle.accept_book.specs.declared.entry.Entry.TheVariants.{Ended}
+use Rattle.accept_book.specs.declared.entry.EndCause.TheVariants.{Refused}
+use Rattle.accept_book.specs.declared.answer.MarkRefusal.{MarkRefusal}
+use Rattle.accept_book.specs.declared.answer.MarkRefusal.TheVariants as marks
+use Rattle.accept_book.specs.declared.answer.AdmitRefusal.{AdmitRefusal}
+use Rattle.accept_book.specs.declared.answer.AdmitRefusal.TheVariants as admits
+use Rattle.accept_book.specs.declared.answer.LookRefusal.{LookRefusal}
+use Rattle.accept_book.specs.declared.answer.LookRefusal.TheVariants as looks
+use Rattle.accept_book.specs.declared.answer.Next.{Next}
+use Rattle.accept_book.specs.declared.answer.Next.TheVariants as nexts
+use Rattle.accept_book.specs.declared.book_answer.Lease.{Lease}
+use Rattle.accept_book.specs.declared.book_answer.BookRefusal.{BookRefusal}
+use Rattle.accept_book.specs.declared.book_answer.BookRefusal.TheVariants as refusals
+use Rattle.accept_book.specs.declared.book_answer.NegAnswer.{NegAnswer}
+use Rattle.accept_book.specs.declared.book_answer.NegAnswer.TheVariants as answers
+use Rattle.accept_book.specs.History.{Standing, Unknown, Open, Whole, Over, standing, has_auth, taken_of}
+use Rattle.accept_book.specs.Answers.{refused}
+use Rattle.accept_book.specs.Entering.{id_of, entered, mark_refused}
+use Rattle.accept_book.specs.Replays.{Accepting, Naming}
+
+-- the digest by which the log knows an outcome: SHA-1 of both names, each with an octet 00 behind it, the key's octets, and 01 where
+-- the key is the acceptor's subkey, else 00
+unfoldable pub names_of : Outcome → List ℕ
+names_of outcome =
+    sha1 (outcome.initiator ++ 0 ∷ outcome.acceptor ++ 0 ∷ key_octets outcome.key ++ (if outcome.subkey then 1 else 0) ∷ [])
+
+abbrev pub by_outcome : Naming Outcome
+by_outcome = record { mech = λ o. o.mech; names = names_of }
+
+pub record BookOf : Type 0 where
+  pub setup : AcceptSetup
+  pub core : Accepting AcceptEnd Outcome
+
+-- ---- an end fits the marks: one was taken of its id exactly where its mechanism is done and is Kerberos
+
+abbrev pub Fits : AcceptEnd → Bool → Type 0
+Fits ends.New auth = auth ≡ false
+Fits (ends.Runs running) auth = auth ≡ false
+Fits (ends.Owes owing) auth = auth ≡ is_kerberos owing.outcome.mech
+
+-- no context is held between two calls
+abbrev pub FitsState : SlotState AcceptEnd Outcome → Bool → Type 0
+FitsState (Negotiating end) auth = Fits end auth
+FitsState Held auth = ⊥
+FitsState (Complete outcome) auth = Unit {0}
+
+abbrev pub FitsSlot : Option (Slot AcceptEnd Outcome) → Bool → Type 0
+FitsSlot None auth = Unit {0}
+FitsSlot (Some slot) auth = FitsState slot.state auth
+
+abbrev pub AllFit : Accepting AcceptEnd Outcome → Type 0
+AllFit core = (id : ℕ) → FitsSlot (slot_at core.table id) (has_auth id core.history)
+
+-- all but one
+abbrev pub OthersFit : Option ℕ → Accepting AcceptEnd Outcome → Type 0
+OthersFit id core = (other : ℕ) → id ≢ Some other → FitsSlot (slot_at core.table other) (has_auth other core.history)
+
+abbrev pub AnsweredFits : Answered → Bool → Type 0
+AnsweredFits (afters.More end token) auth = Fits end auth
+AnsweredFits (afters.Done outcome lasts token) auth = auth ≡ is_kerberos outcome.mech
+
+-- a step fits, by what is taken with its own mark
+abbrev pub StepFits : AcceptStep → Bool → Type 0
+StepFits (steps.More end token) auth = Fits end auth
+StepFits (steps.Done outcome lasts token) auth = auth ≡ is_kerberos outcome.mech
+StepFits (steps.WantsAuth pause) auth = (auth ≡ false) × AnsweredFits pause.after true
+
+-- ---- what a step asks for and gives
+
+abbrev pub mark_of : AcceptStep → Option Mark
+mark_of (steps.More end token) = None
+mark_of (steps.Done outcome lasts token) = None
+mark_of (steps.WantsAuth pause) = Some (mark_asked pause)
+
+abbrev pub next_answered : Answered → Next AcceptEnd Outcome
+next_answered (afters.More end token) = nexts.Going end
+next_answered (afters.Done outcome lasts token) = nexts.Settled outcome.mech (names_of outcome) outcome lasts
+
+abbrev pub next_of : AcceptStep → Next AcceptEnd Outcome
+next_of (steps.More end token) = nexts.Going end
+next_of (steps.Done outcome lasts token) = nexts.Settled outcome.mech (names_of outcome) outcome lasts
+next_of (steps.WantsAuth pause) = next_answered pause.after
+
+abbrev pub answer_after : ℕ → Answered → NegAnswer
+answer_after id (afters.More end token) = answers.Going id token
+answer_after id (afters.Done outcome lasts token) = answers.Settled (record { id = id; outcome = outcome; ends = lasts }) token
+
+abbrev pub answer_with : ℕ → AcceptStep → NegAnswer
+answer_with id (steps.More end token) = answers.Going id token
+answer_with id (steps.Done outcome lasts token) = answers.Settled (record { id = id; outcome = outcome; ends = lasts }) token
+answer_with id (steps.WantsAuth pause) = answer_after id pause.after
+
+-- ---- what a token comes to, by how a book stands once the moment was taken note of, and by the id that is past, where one is
+
+pub record Stands : Type 0 where
+  pub history : List Entry
+  pub limit : ℕ
+  pub table : Places AcceptEnd Outcome
+  pub capacity : ℕ
+  pub greatest : ℕ
+
+abbrev pub stands_of : Accepting AcceptEnd Outcome → Stands
+stands_of core = record {
+  history = core.history;
+  limit = core.limit;
+  table = core.table;
+  capacity = core.cache.capacity;
+  greatest = core.cache.greatest;
+}
+
+abbrev pub raised : Accepting AcceptEnd Outcome → ℕ → Stands
+raised core now = record {
+  history = core.history;
+  limit = core.limit;
+  table = core.table;
+  capacity = core.cache.capacity;
+  greatest = max core.cache.greatest now;
+}
+
+abbrev pub refusal_of_mark : MarkRefusal → BookRefusal
+refusal_of_mark (marks.Stale greatest) = refusals.Stale greatest
+refusal_of_mark (marks.Repeat place) = refusals.Repeat place
+refusal_of_mark marks.CacheFull = refusals.CacheFull
+
+-- the step once its mark was taken, where it asks for one
+abbrev pub settled_of : AcceptStep → AcceptStep
+settled_of (steps.More end token) = steps.More end token
+settled_of (steps.Done outcome lasts token) = steps.Done outcome lasts token
+settled_of (steps.WantsAuth pause) = step_after pause
+
+-- the history after a refusal of the token: a later token's context ends
+abbrev pub after_refusal : Option ℕ → List Entry → List Entry
+after_refusal None h = h
+after_refusal (Some id) h = Ended id Refused ∷ h
+
+-- an answer, and the history after it
+pub record Outcomes : Type 0 where
+  pub answer : NegAnswer
+  pub history : List Entry
+
+abbrev pub refuses : Option ℕ → List Entry → BookRefusal → Outcomes
+refuses id h refusal = record { answer = answers.Refused refusal; history = after_refusal id h }
+
+abbrev pub leaves : List Entry → BookRefusal → Outcomes
+leaves h refusal = record { answer = answers.Refused refusal; history = h }
+
+abbrev pub by_mark : Stands → Option ℕ → Option ℕ → Option Mark → AcceptStep → Option MarkRefusal → Outcomes
+by_mark book id past mark step (Some refusal) = refuses id book.history (refusal_of_mark refusal)
+by_mark book id past mark step None = record {
+  answer = answer_with (id_of id book.history) step;
+  history = entered id (nat_lt (live_of book.table) book.table.limit) past mark (next_of step) book.greatest book.history;
+}
+
+-- a step with its mark, where it has one
+abbrev pub taken : Stands → Option ℕ → Option ℕ → Option Mark → AcceptStep → Outcomes
+taken book id past mark step = by_mark book id past mark step (mark_refused book.capacity book.greatest (taken_of book.history) mark)
+
+abbrev pub by_step : Stands → Option ℕ → Option ℕ → Result Accepted NegRefusal → Outcomes
+by_step book id past (Err refusal) = refuses id book.history (refusals.Neg refusal)
+by_step book id past (Ok accepted) = taken book id past (mark_of accepted.step) (settled_of accepted.step)
+
+-- a later token's step, from the state of its context
+abbrev pub later_step : AcceptSetup → Option AcceptEnd → List ℕ → ℕ → List ℕ → Result Accepted NegRefusal
+later_step setup None token now draws = accept_step setup ends.New token now draws
+later_step setup (Some end) token now draws = accept_step setup end token now draws
+
+-- the first token of a context
+abbrev pub begun : AcceptSetup → Stands → Option ℕ → List ℕ → ℕ → List ℕ → Outcomes
+begun setup book past token now draws =
+    if nat_lt book.limit (length book.history + 4) then leaves book.history refusals.LogFull
+    else if nat_le book.table.limit (live_of book.table) && is_none past then leaves book.history refusals.TableFull
+    else by_step book None past (accept_step setup ends.New token now draws)
+
+-- a later token of a context that negotiates
+abbrev pub opened_by : AcceptSetup → Stands → ℕ → Option ℕ → List ℕ → ℕ → List ℕ → Outcomes
+opened_by setup book id past token now draws =
+    if nat_lt book.limit (length book.history + 4) then leaves book.history refusals.LogFull
+    else by_step book (Some id) past (later_step setup (state_of (slot_at book.table id)) token now draws)
+
+-- a later token, by what the history says of its id
+abbrev pub gone_on_by : Standing → AcceptSetup → Stands → ℕ → Option ℕ → List ℕ → ℕ → List ℕ → Outcomes
+gone_on_by Unknown setup book id past token now draws = leaves book.history refusals.NoContext
+gone_on_by (Open at) setup book id past token now draws = opened_by setup book id past token now draws
+gone_on_by (Whole mech names until) setup book id past token now draws = leaves book.history refusals.AlreadyComplete
+gone_on_by Over setup book id past token now draws = leaves book.history refusals.NoContext
+
+abbrev pub negotiated : AcceptSetup → Stands → Option ℕ → Option ℕ → List ℕ → ℕ → List ℕ → Outcomes
+negotiated setup book None past token now draws = begun setup book past token now draws
+negotiated setup book (Some id) past token now draws = gone_on_by (standing id book.history) setup book id past token now draws
+
+-- ---- admissions
+
+abbrev pub same_key : Key → Key → Bool
+same_key a b = pointwise nat_eq (key_octets a) (key_octets b)
+
+abbrev pub state_key : SlotState AcceptEnd Outcome → Key → Bool
+state_key (Negotiating end) key = false
+state_key Held key = false
+state_key (Complete outcome) key = same_key outcome.key key
+
+-- the slot is complete, with this key
+abbrev pub has_key : Option (Slot AcceptEnd Outcome) → Key → Bool
+has_key None key = false
+has_key (Some slot) key = state_key slot.state key
+
+-- why a number of a lease's context isn't admitted: the id isn't complete with the lease's key, or as the core says
+abbrev pub lease_refused : Accepting AcceptEnd Outcome → Lease → ℕ → Option AdmitRefusal
+lease_refused core lease seq =
+    if has_key (slot_at core.table lease.id) lease.outcome.key then refused core.limit core.width core.history lease.id seq
+    else Some admits.Gone
+
+-- ---- looks
+
+-- a lease has the context's id, and the mechanism, names and end that the log has of it
+pub record IsLease (lease : Lease) (number : ℕ) (kind : MechKind) (digest : List ℕ) (until : ℕ) : Type 0 where
+  pub id : lease.id ≡ number
+  pub mech : lease.outcome.mech ≡ kind
+  pub names : names_of lease.outcome ≡ digest
+  pub ends : lease.ends ≡ until
+
+abbrev pub LeasedAt : ℕ → MechKind → List ℕ → ℕ → ℕ → Result Lease LookRefusal → Type 0
+LeasedAt id mech names ends now (Ok lease) = (now ≤ ends) × IsLease lease id mech names ends
+LeasedAt id mech names ends now (Err refusal) = (ends < now) × (refusal ≡ looks.Expired)
+
+-- what a look answers by what the history says of the id
+abbrev pub LeasedBy : Standing → ℕ → ℕ → Result Lease LookRefusal → Type 0
+LeasedBy Unknown id now result = result ≡ Err looks.NoContext
+LeasedBy (Open at) id now result = result ≡ Err looks.NotReady
+LeasedBy (Whole mech names ends) id now result = LeasedAt id mech names ends now result
+LeasedBy Over id now result = result ≡ Err looks.NoContext
+
+-- the setup and the limits are as before, and the moment was taken note of
+pub record NotesMoment (old new : BookOf) (now : ℕ) : Type 0 where
+  pub setup : new.setup ≡ old.setup
+  pub limit : new.core.limit ≡ old.core.limit
+  pub width : new.core.width ≡ old.core.width
+  pub contexts : new.core.table.limit ≡ old.core.table.limit
+  pub capacity : new.core.cache.capacity ≡ old.core.cache.capacity
+  pub greatest : new.core.cache.greatest ≡ max old.core.cache.greatest now

@@ -1,0 +1,53 @@
+//! What a book answers.
+
+use crate::entry::Receipts;
+use sec_base::{Moment, Octets};
+use spnego_core::{NegRefusal, Outcome};
+
+/// A complete context as a book shows it: what is needed to read its calls, and to ask for their admission.
+#[derive(Clone, Copy, Debug)]
+pub struct Lease {
+    pub id: u64,
+    pub outcome: Outcome,
+    pub ends: Moment,
+}
+
+/// Why a token isn't taken, in the order in which it is judged.
+#[derive(Clone, Copy, Debug, PartialEq, Eq)]
+pub enum BookRefusal {
+    /// The id isn't opened or is ended.
+    NoContext,
+    /// The context is complete.
+    AlreadyComplete,
+    /// Fewer than four places of the log are free.
+    LogFull,
+    /// A first token, the table at its limit, and no context past its end.
+    TableFull,
+    /// The end refuses the token. Want of memory is never in it: that is an answer of its own.
+    Neg(NegRefusal),
+    /// The time of the request and the greatest moment differ by more than 300 seconds.
+    Stale { greatest: Moment },
+    /// The request was taken before, with this place in the log.
+    Repeat { place: u64 },
+    /// As many marks as the limit are held.
+    CacheFull,
+}
+
+/// What a token comes to.
+#[derive(Debug, Drop)]
+pub enum NegAnswer {
+    /// The token is for the initiator, and another of its tokens is due.
+    Going { id: u64, token: Octets },
+    /// The context is complete; the token is for the initiator.
+    Settled { lease: Lease, token: Octets },
+    Refused(BookRefusal),
+    /// No memory was to be had.
+    NoMemory,
+}
+
+/// An answer, and the entries that its step added.
+#[derive(Debug, Drop)]
+pub struct Negotiated {
+    pub answer: NegAnswer,
+    pub receipts: Receipts,
+}
