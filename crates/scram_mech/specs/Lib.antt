@@ -1,0 +1,9 @@
+pub mod Signs
+pub mod Reading
+pub mod Run
+pub mod Name
+pub mod Digits
+pub mod Symbols
+pub mod Further
+pub mod State
+pub mod Values

@@ -1,0 +1,116 @@
+//! Reading a text from its front.
+
+ghost use Rattle.std.specs.Prelude.{◌≡◌, ◌≤◌, length};
+ghost use Rattle.scram_mech.specs.Reading.{Reads, word_at, end_at};
+ghost use Rattle.scram_mech.specs.Values.{progress, value_at};
+
+use crate::refusal::Stuck;
+use crate::state::State;
+use std::marker::Model;
+
+/// The octets that are left of a text.
+#[derive(Drop)]
+pub struct Cursor<'a> {
+    rest: &'a [u8],
+}
+
+impl<'a> Model for Cursor<'a> {
+    ghost use Rattle.std.specs.Prelude.{List, ℕ};
+
+    ghost Value = { List ℕ };
+
+    ghost view = { λ c. c.rest.now };
+}
+
+/// How far octets can stand in a value: what is due then, and how many they are.
+#[derive(Clone, Copy, Debug, PartialEq, Eq)]
+struct Reached {
+    state: State,
+    count: usize,
+}
+
+/// As far as octets can stand in a value that begins with them.
+#[tactic(auto, unfolding(crate::specs::Values::progress))]
+fn reach(start: State, octets: &[u8]) -> Reached
+    ensures state { result.state ≡ (progress start octets.now).state }
+    ensures count { result.count ≡ (progress start octets.now).count }
+    ensures within { result.count ≤ length octets.now }
+{
+    let mut state = start;
+    for (count, octet) in octets.iter().enumerate() {
+        match state.step(*octet) {
+            Some(next) => state = next,
+            None => return Reached { state, count },
+        }
+    }
+    Reached {
+        state,
+        count: octets.len(),
+    }
+}
+
+impl<'a> Cursor<'a> {
+    pub fn new(octets: &'a [u8]) -> Cursor<'a>
+        ensures { result ≡ octets.now }
+    {
+        Cursor { rest: octets }
+    }
+
+    /// How many octets are left.
+    pub fn left(&self) -> usize
+        ensures { result ≡ length self.now }
+    {
+        self.rest.len()
+    }
+
+    fn stuck(&self) -> Stuck
+        ensures { result ≡ record { left = length self.now } }
+    {
+        Stuck {
+            left: self.rest.len(),
+        }
+    }
+
+    /// Reads this word.
+    #[tactic(auto, unfolding(crate::specs::Reading::word_at))]
+    pub fn word(&mut self, word: &[u8]) -> Result<(), Stuck>
+        ensures { Reads (λ u. u) self.new result (word_at word.now self.old) }
+    {
+        for sign in word {
+            match self.rest {
+                [octet, rest @ ..] => {
+                    if octet != sign {
+                        return Err(self.stuck());
+                    }
+                    self.rest = rest;
+                }
+                [] => return Err(self.stuck()),
+            }
+        }
+        Ok(())
+    }
+
+    /// Reads a value, as far as octets can stand in it.
+    #[tactic(auto, unfolding(crate::specs::Values::value_at))]
+    pub fn value(&mut self, start: State) -> Result<&'a [u8], Stuck>
+        ensures { Reads (λ o. o.now) self.new result (value_at start self.old) }
+    {
+        let reached = reach(start, self.rest);
+        let (value, rest) = self.rest.split_at(reached.count);
+        self.rest = rest;
+        if !reached.state.ends() {
+            return Err(self.stuck());
+        }
+        Ok(value)
+    }
+
+    /// Reads the end.
+    pub fn end(&mut self) -> Result<(), Stuck>
+        ensures { Reads (λ u. u) self.new result (end_at self.old) }
+    {
+        if !self.rest.is_empty() {
+            return Err(self.stuck());
+        }
+        Ok(())
+    }
+}
