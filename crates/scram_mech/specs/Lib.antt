@@ -7,3 +7,15 @@ pub mod Symbols
 pub mod Further
 pub mod State
 pub mod Values
+pub mod Base64
+pub mod Formats
+pub mod FirstText
+pub mod SecondText
+pub mod ThirdText
+pub mod FinalText
+pub mod Secrets
+pub mod MechMaking
+pub mod Judging
+pub mod Initiator
+pub mod Verifiers
+pub mod Acceptor

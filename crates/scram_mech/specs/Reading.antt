@@ -1,5 +1,5 @@
 -- Reading from the front: a value and what is left behind it, or how many octets were left where no text of the grammar goes on.
-use Rattle.std.specs.Prelude.{◌≡◌, ℕ, ◌-◌, ◌==◌, if◌then◌else◌, List, [], ◌∷◌, length, Result, Ok, Err}
+use Rattle.std.specs.Prelude.{◌≡◌, ◌≢◌, ℕ, ◌-◌, ◌==◌, if◌then◌else◌, List, [], ◌∷◌, length, Result, Ok, Err}
 use Rattle.scram_mech.specs.declared.refusal.Stuck.{Stuck}
 use Rattle.scram_mech.specs.declared.refusal.ScramRefusal.{ScramRefusal}
 use Rattle.scram_mech.specs.declared.refusal.ScramRefusal.TheVariants as refusals
@@ -41,3 +41,13 @@ Reads view left (Err e) read = read ≡ Err e
 abbrev pub Answers : {A B E : Type 0} → (A → B) → Result A E → Result B E → Type 0
 Answers view (Ok x) answer = answer ≡ Ok (view x)
 Answers view (Err e) answer = answer ≡ Err e
+
+-- the answer of a reading at the front, and what it leaves, want of memory aside: `free` is the refusal that stands for it
+abbrev pub MayRead : {A B E : Type 0} → E → (A → B) → List ℕ → Result A E → Result (B × List ℕ) E → Type 0
+MayRead free view left (Ok x) read = read ≡ Ok (view x, left)
+MayRead free view left (Err e) read = e ≢ free → read ≡ Err e
+
+-- an answer, seen by a function of its value
+abbrev pub seen : {A B E : Type 0} → (A → B) → Result A E → Result B E
+seen view (Ok x) = Ok (view x)
+seen view (Err e) = Err e

@@ -1,5 +1,6 @@
 -- Octets of one class in a row.
-use Rattle.std.specs.Prelude.{ℕ, ◌-◌, Bool, not, ◌==◌, ◌||◌, Option, Some, None, if◌then◌else◌}
+use Rattle.std.specs.Prelude.{◌≡◌, ℕ, ◌-◌, ◌≤◌, Bool, true, List, length, not, ◌==◌, ◌||◌, Option, Some, None, if◌then◌else◌}
+use Rattle.std.specs.List.{list_all}
 use Rattle.scram_mech.specs.declared.run.Class.{Class}
 use Rattle.scram_mech.specs.declared.run.Class.TheVariants.{Nonce, Printable, LineName}
 use Rattle.scram_mech.specs.declared.run.Run.{Run}
@@ -18,3 +19,9 @@ run_step run octet =
 
 abbrev pub run_ends : Run → Bool
 run_ends run = run.need == 0
+
+-- a name of a verifier file
+pub record IsLineName (name : List ℕ) : Type 0 where
+  pub each : list_all is_line_name name ≡ true
+  pub some : 1 ≤ length name
+  pub few : length name ≤ 255

@@ -1,12 +1,21 @@
 //! Reading a text from its front.
 
-ghost use Rattle.std.specs.Prelude.{◌≡◌, ◌≤◌, length};
+ghost use Rattle.std.specs.Prelude.{◌≡◌, ◌≤◌, length, IfOk};
+ghost use Rattle.scram_mech.specs.Base64.{InRange, decoded};
+ghost use Rattle.scram_mech.specs.State.{some, base64, rounds_number};
+ghost use Rattle.scram_mech.specs.Run.{IsLineName};
+ghost use Rattle.scram_mech.specs.declared.run.Class.TheVariants.{LineName};
 ghost use Rattle.scram_mech.specs.Reading.{Reads, word_at, end_at};
 ghost use Rattle.scram_mech.specs.Values.{progress, value_at};
 
+use crate::digits::{Decimal, Digits};
+use crate::encoding::Encoded;
 use crate::refusal::Stuck;
+use crate::run::Class;
 use crate::state::State;
+use gss_base::Label;
 use std::marker::Model;
+use std::str;
 
 /// The octets that are left of a text.
 #[derive(Drop)]
@@ -46,6 +55,20 @@ fn reach(start: State, octets: &[u8]) -> Reached
     Reached {
         state,
         count: octets.len(),
+    }
+}
+
+/// A name of printable ASCII.
+fn label_of(name: &[u8]) -> Label
+    requires { IsLineName name.now }
+    ensures { result ≡ name.now }
+{
+    match str::from_utf8(name) {
+        Ok(text) => match Label::new(text) {
+            Some(label) => label,
+            None => unreachable!(),
+        },
+        Err(_) => unreachable!(),
     }
 }
 
@@ -102,6 +125,31 @@ impl<'a> Cursor<'a> {
             return Err(self.stuck());
         }
         Ok(value)
+    }
+
+    /// Reads a name of a verifier file.
+    pub fn line_name(&mut self) -> Result<Label, Stuck>
+        ensures { Reads (λ n. n) self.new result (value_at (some LineName 255) self.old) }
+    {
+        let name = self.value(State::some(Class::LineName, 255))?;
+        Ok(label_of(name))
+    }
+
+    /// Reads the base64 of a number of octets from `least` to `most`.
+    pub fn base64(&mut self, least: u16, most: u16) -> Result<Encoded<'a>, Stuck>
+        ensures read { Reads (λ e. e.signs.now) self.new result (value_at (base64 least most) self.old) }
+        ensures range { IfOk result (λ e. InRange least most (decoded e.signs.now)) }
+    {
+        let signs = self.value(State::base64(least, most))?;
+        Ok(Encoded { signs })
+    }
+
+    /// Reads a number of at most ten digits.
+    pub fn number(&mut self) -> Result<Decimal<'a>, Stuck>
+        ensures { Reads (λ d. d.digits.now) self.new result (value_at rounds_number self.old) }
+    {
+        let digits = self.value(State::Digits(Digits::First))?;
+        Ok(Decimal { digits })
     }
 
     /// Reads the end.

@@ -52,9 +52,25 @@ impl Digits {
     }
 }
 
+/// The digits of a number in a text.
+#[derive(Clone, Copy)]
+pub struct Decimal<'a> {
+    pub digits: &'a [u8],
+    ghost decimal: { AreDigits digits.now },
+}
+
+impl Decimal<'_> {
+    /// The number.
+    pub fn number(&self) -> u64
+        ensures { result ≡ number_of self.now.digits.now }
+    {
+        number_of(self.digits)
+    }
+}
+
 /// The number that these digits spell.
 #[tactic(auto, unfolding(crate::specs::Digits::number_of))]
-pub fn number_of(digits: &[u8]) -> u64
+fn number_of(digits: &[u8]) -> u64
     requires { AreDigits digits.now }
     ensures { result ≡ number_of digits.now }
 {
