@@ -18,7 +18,8 @@ use std::alloc::Global;
 
 #[tactic(auto, unfolding(crate::specs::Formats::pieces_of, crate::specs::Formats::pieces))]
 fn whole(octets: &[u8], class: Class, most: u16) -> Result<&[u8], Stuck>
-    ensures { Answers (λ v. v.now ∷ []) result (pieces_of (Value (some class most) ∷ End ∷ []) octets.now) }
+    ensures read { Answers (λ v. v.now ∷ []) result (pieces_of (Value (some class most) ∷ End ∷ []) octets.now) }
+    ensures few { OnOk result (length octets.now ≤ most) }
 {
     let mut cursor = Cursor::new(octets);
     let value = cursor.value(State::some(class, most))?;
@@ -29,7 +30,8 @@ fn whole(octets: &[u8], class: Class, most: u16) -> Result<&[u8], Stuck>
 /// Judges a user or a password that was given: octets of this class, one at least and so many at most.
 #[tactic(auto, unfolding(crate::specs::Judging::judged))]
 pub fn judge(octets: &[u8], class: Class, most: u16) -> Result<(), ScramRefusal>
-    ensures { Answers (λ u. u) result (judged class most octets.now) }
+    ensures judged { Answers (λ u. u) result (judged class most octets.now) }
+    ensures few { OnOk result (length octets.now ≤ most) }
 {
     match whole(octets, class, most) {
         Ok(_) => Ok(()),

@@ -156,6 +156,7 @@ fn line_for<'a>(lines: &'a [Verifier], name: &[u8]) -> Option<&'a Verifier>
 }
 
 /// Refuses the first line whose name stands in a line before it.
+#[tactic(auto, unfolding(crate::specs::Verifiers::once))]
 fn check_once(lines: &[Verifier]) -> Result<(), VerifierRefusal>
     ensures { Answers (λ u. u) result (once [] 1 lines.now) }
 {
