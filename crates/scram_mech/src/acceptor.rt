@@ -103,7 +103,6 @@ impl ScramAccept {
 
     /// Takes the text with the proof: what the exchange gives, and the final text. The end is spent, whatever the answer. An acceptor
     /// without bindings takes whatever data come; the context ends a day after `now`.
-    #[tactic(auto, unfolding(crate::specs::Acceptor::accept_finished, crate::specs::Secrets::signature_of, crate::specs::Secrets::context_key))]
     pub fn finish(
         self,
         alloc: Global,
@@ -113,6 +112,20 @@ impl ScramAccept {
     ) -> Result<(MechDone, Octets), ScramRefusal>
         ensures { Gives refusals.NoMemory (λ p. record { done = p.0; token = p.1 }) result
             (seen accepting (accept_finished self text.now (option_map (λ b. b.now) bindings.entry) now)) }
+    {
+        self.finished(alloc, text, bindings, now)
+    }
+
+    #[tactic(auto, unfolding(crate::specs::Acceptor::accept_finished, crate::specs::Secrets::signature_of, crate::specs::Secrets::context_key))]
+    fn finished(
+        &self,
+        alloc: Global,
+        text: &[u8],
+        bindings: Option<&Bindings>,
+        now: Moment,
+    ) -> Result<(MechDone, Octets), ScramRefusal>
+        ensures { Gives refusals.NoMemory (λ p. record { done = p.0; token = p.1 }) result
+            (seen accepting (accept_finished self.now text.now (option_map (λ b. b.now) bindings.entry) now)) }
     {
         let third = read_third(text)?;
         let nonce = self.nonce(alloc)?;

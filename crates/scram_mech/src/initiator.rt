@@ -109,7 +109,7 @@ impl ScramInit {
 
 impl ScramInit {
     /// Takes the acceptor's first text: the text with the proof. The rounds are worked here, once, and only for a text that is taken.
-    #[tactic(auto, unfolding(crate::specs::Initiator::init_answered))]
+    #[tactic(auto, unfolding(crate::specs::Initiator::init_answered, crate::specs::Secrets::proof_of))]
     pub fn take_first(self, alloc: Global, text: &[u8]) -> Result<(ScramWait, Octets), ScramRefusal>
         ensures { Gives refusals.NoMemory (λ p. record { end = p.0; token = p.1 }) result (seen proving (init_answered self text.now)) }
     {
