@@ -6,3 +6,5 @@ pub mod Signs64
 pub mod RunWalks
 pub mod ValueFacts
 pub mod Lines
+pub mod Masks
+pub mod KindWalks

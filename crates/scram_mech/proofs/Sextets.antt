@@ -49,7 +49,7 @@ bits_checked = refl
 
 signs_low : (x v : ℕ) → sextet_of x ≡ Some v → x < 123
 unfolding sextet_of
-signs_low x v e = elim (cases_lt x 123) [ | inl a ↦ a | inr b ↦ absurd (grind (arith, nat_tests)) ]
+signs_low x v e = elim (cases_lt x 123) [ inl a ↦ a | inr b ↦ absurd (grind (arith, nat_tests)) ]
 
 pub lt_of : (a b : ℕ) → nat_lt a b ≡ true → a < b
 lt_of a b e = grind (arith, nat_tests)

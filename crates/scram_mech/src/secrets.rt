@@ -1,6 +1,6 @@
 //! Keys, proofs and signatures (RFC 5802 sections 3 and 8.1).
 
-ghost use Rattle.std.specs.Prelude.{◌≡◌, ◌≤◌, length, IfOk};
+ghost use Rattle.std.specs.Prelude.{◌≡◌, ◌≤◌, ◌++◌, length, codes, IfOk, OnOk};
 ghost use Rattle.mac_sha1.specs.Mac.{hmac};
 ghost use Rattle.mac_sha1.specs.Hi.{add_octets};
 ghost use Rattle.scram_mech.specs.Secrets.{Secret, client_key, stored_key, server_key, auth_message, masked, key_of_client};
@@ -63,11 +63,18 @@ pub fn auth_message(
 {
     let mut message = Vec::new(alloc);
     put(&mut message, first)?;
-    put(&mut message, b",")?;
-    put(&mut message, second)?;
-    put(&mut message, b",")?;
-    put(&mut message, bare)?;
+    put_after_comma(&mut message, second)?;
+    put_after_comma(&mut message, bare)?;
     Ok(Octets::from_vec(message))
+}
+
+/// Adds a comma and a text.
+fn put_after_comma(message: &mut Vec<u8>, text: &[u8]) -> Result<(), NoMemory>
+    ensures { OnOk result (message.new.items ≡ message.old.items ++ (codes "," ++ text.now)) }
+{
+    put(message, b",")?;
+    put(message, text)?;
+    Ok(())
 }
 
 fn add_to(sums: &mut [u8; 20], octets: &[u8; 20])
