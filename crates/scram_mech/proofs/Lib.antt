@@ -8,3 +8,5 @@ pub mod ValueFacts
 pub mod Lines
 pub mod Masks
 pub mod KindWalks
+pub mod SignWalks
+pub mod Pieces

@@ -15,7 +15,7 @@ use Rattle.scram_mech.proofs.Sextets.{sign, sextet-sign, not_equals, eq_of}
 use Rattle.scram_mech.proofs.SymbolSteps.{st, IsFirst, IsSecond, IsPad, IsThird, IsFourth, first-step, second-step, third-step, fourth-step, padding-step, full-step}
 
 -- the signs of octets, group by group
-pub signs : List ℕ → List ℕ
+unfoldable pub signs : List ℕ → List ℕ
 signs [] = []
 signs (a ∷ []) = sign (a / 4) ∷ sign (a % 4 * 16) ∷ 61 ∷ 61 ∷ []
 signs (a ∷ b ∷ []) = sign (a / 4) ∷ sign (a % 4 * 16 + b / 16) ∷ sign (b % 16 * 4) ∷ 61 ∷ []
