@@ -10,3 +10,4 @@ pub mod Masks
 pub mod KindWalks
 pub mod SignWalks
 pub mod Pieces
+pub mod ExchangeLaws

@@ -19,3 +19,4 @@ pub mod Judging
 pub mod Initiator
 pub mod Verifiers
 pub mod Acceptor
+pub mod Laws

@@ -10,6 +10,7 @@ mod first_text;
 mod further;
 mod initiator;
 mod judging;
+mod laws;
 mod name;
 mod refusal;
 mod run;
@@ -26,5 +27,6 @@ mod verifiers;
 
 pub use acceptor::ScramAccept;
 pub use initiator::{ScramInit, ScramWait};
+pub use laws::prove_laws;
 pub use refusal::{ScramRefusal, VerifierRefusal};
 pub use verifiers::{Verifiers, make_verifier, read_verifiers};

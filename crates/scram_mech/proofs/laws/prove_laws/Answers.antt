@@ -1,0 +1,14 @@
+use Rattle.scram_mech.proofs.ExchangeLaws.{proves, completes, takes, accepts, proof-verifies}
+use Rattle.scram_mech.proofs.Masks.{proof-gives, same-key}
+use Rattle.scram_mech.proofs.laws.prove_laws.Goals as goal
+
+pub returns : goal.returns
+returns c = record {
+  proves = proves;
+  completes = completes;
+  takes = takes;
+  accepts = accepts;
+  recovers = proof-gives;
+  one_key = same-key;
+  proof_verifies = proof-verifies;
+}
