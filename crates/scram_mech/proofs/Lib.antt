@@ -11,3 +11,6 @@ pub mod KindWalks
 pub mod SignWalks
 pub mod Pieces
 pub mod ExchangeLaws
+pub mod Written
+pub mod Frames
+pub mod Agreement

@@ -2,7 +2,10 @@
 use Rattle.std.specs.Prelude.{◌≡◌, ℕ, ◌≤◌, true, List, [], ◌∷◌, ◌++◌, length, slice_get, Option, Some, Result, Ok}
 use Rattle.krb_tokens.specs.declared.done.MechDone.{MechDone}
 use Rattle.scram_mech.specs.declared.verifiers.Verifier.{Verifier}
-use Rattle.scram_mech.specs.Judging.{is_extended, are_rounds, is_bound, unframed}
+use Rattle.std.specs.List.{list_all}
+use Rattle.base64.specs.GeneralPurpose.{IsBytes}
+use Rattle.scram_mech.specs.Signs.{is_printable}
+use Rattle.scram_mech.specs.Judging.{is_extended, are_rounds, data_of, carried, is_bound, unframed}
 use Rattle.scram_mech.specs.Base64.{encoded}
 use Rattle.scram_mech.specs.FirstText.{First, first_of}
 use Rattle.scram_mech.specs.SecondText.{Second, second_of}
@@ -10,8 +13,8 @@ use Rattle.scram_mech.specs.ThirdText.{Third, third_of}
 use Rattle.scram_mech.specs.FinalText.{final_of}
 use Rattle.scram_mech.specs.Secrets.{Secret, client_key, stored_key, masked, proof_of, key_of_client, context_key}
 use Rattle.scram_mech.specs.MechMaking.{MechMaking, signature_making, VerifiesProof, Verifies, AmongMakings}
-use Rattle.scram_mech.specs.Initiator.{InitModel, WaitModel, InitAnswered, InitFinished, secret_of, bare_of, auth_of, answer_with, init_answered, init_finished}
-use Rattle.scram_mech.specs.Verifiers.{line_for}
+use Rattle.scram_mech.specs.Initiator.{InitModel, WaitModel, InitStarted, InitAnswered, InitFinished, init_started, secret_of, bare_of, auth_of, answer_with, init_answered, init_finished}
+use Rattle.scram_mech.specs.Verifiers.{line_for, line_with}
 use Rattle.scram_mech.specs.Acceptor.{AcceptModel, AcceptStarted, AcceptFinished, nonce_of, second_by, accept_with, auth_with, finish_with, accept_started, accept_finished}
 
 -- an initiator answered a second text: with its own secret, over the AuthMessage of its own first text, that second text and its own data
@@ -55,6 +58,44 @@ pub record Accepts (accept : AcceptModel) (text : List ℕ) (bindings : Option (
   pub verified : (making : MechMaking) → AmongMakings finished.found making → Verifies making []
   pub same : finished ≡ finish_with accept third now (auth_with accept third.bare)
 
+-- a user and a password that can be given, two draws, binding data, and a line that was made of this password
+pub record Honest (user password draw other : List ℕ) (bindings : Option (List ℕ)) (lines : List Verifier) (salt : List ℕ) (rounds : ℕ) : Type 0 where
+  pub named : list_all is_printable user ≡ true
+  pub some : 1 ≤ length user
+  pub few : length user ≤ 255
+  pub opened : list_all is_printable password ≡ true
+  pub any : 1 ≤ length password
+  pub most : length password ≤ 1024
+  pub drawn : length draw ≡ 18
+  pub draw_octets : IsBytes draw
+  pub other_drawn : length other ≡ 18
+  pub other_octets : IsBytes other
+  pub data_few : length (data_of bindings) ≤ 32768
+  pub data_octets : IsBytes (data_of bindings)
+  pub carries : carried (data_of bindings) ≡ bindings
+  pub salted : 1 ≤ length salt
+  pub salt_few : length salt ≤ 64
+  pub salt_octets : IsBytes salt
+  pub ranged : are_rounds rounds ≡ true
+  pub line : line_for lines user ≡ Some (line_with user (record { password = password; salt = salt; rounds = rounds }))
+
+-- the five steps in a row, each with the text of the one before, and what both ends then have
+pub record Agrees (user password draw other : List ℕ) (bindings theirs : Option (List ℕ)) (lines : List Verifier) (now : ℕ) : Type 0 where
+  pub started : InitStarted
+  pub taken : AcceptStarted
+  pub proved : InitAnswered
+  pub accepted : AcceptFinished
+  pub finished : InitFinished
+  pub starts : init_started user password draw bindings ≡ Ok started
+  pub takes : accept_started lines started.token other ≡ Ok taken
+  pub proves : init_answered started.end taken.token ≡ Ok proved
+  pub accepts : accept_finished taken.end proved.token theirs now ≡ Ok accepted
+  pub finishes : init_finished proved.end accepted.token ≡ Ok finished
+  pub key : finished.done.key ≡ accepted.done.key
+  pub initiator : finished.done.initiator ≡ accepted.done.initiator
+  pub acceptor : finished.done.acceptor ≡ accepted.done.acceptor
+  pub hash : finished.done.hash ≡ accepted.done.hash
+
 pub record Laws : Type 0 where
   pub proves : (init : InitModel) (text : List ℕ) (answered : InitAnswered) → init_answered init text ≡ Ok answered → Proves init text answered
   pub completes : (wait : WaitModel) (text : List ℕ) (finished : InitFinished) → init_finished wait text ≡ Ok finished → Completes wait text finished
@@ -66,3 +107,6 @@ pub record Laws : Type 0 where
   pub one_key : (secret : Secret) (auth : List ℕ) → key_of_client (stored_key secret) (client_key secret) auth ≡ context_key (stored_key secret) (proof_of secret auth) auth
   -- and the proof is one that verifies
   pub proof_verifies : (secret : Secret) (auth : List ℕ) → VerifiesProof (stored_key secret) (auth ++ proof_of secret auth) []
+  -- an honest pair completes and agrees, where the acceptor has no bindings or the same data
+  pub agrees : (user password draw other : List ℕ) (bindings theirs : Option (List ℕ)) (lines : List Verifier) (salt : List ℕ) (rounds now : ℕ) → Honest user password draw other bindings lines salt rounds
+      → is_bound theirs (data_of bindings) ≡ true → Agrees user password draw other bindings theirs lines now

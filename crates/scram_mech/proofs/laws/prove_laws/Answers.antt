@@ -1,5 +1,6 @@
 use Rattle.scram_mech.proofs.ExchangeLaws.{proves, completes, takes, accepts, proof-verifies}
 use Rattle.scram_mech.proofs.Masks.{proof-gives, same-key}
+use Rattle.scram_mech.proofs.Agreement.{agrees}
 use Rattle.scram_mech.proofs.laws.prove_laws.Goals as goal
 
 pub returns : goal.returns
@@ -11,4 +12,5 @@ returns c = record {
   recovers = proof-gives;
   one_key = same-key;
   proof_verifies = proof-verifies;
+  agrees = agrees;
 }
