@@ -14,3 +14,5 @@ pub mod ExchangeLaws
 pub mod Written
 pub mod Frames
 pub mod Agreement
+pub mod FurtherWalks
+pub mod OneCut

@@ -11,7 +11,8 @@ use Rattle.scram_mech.specs.FirstText.{First, first_of}
 use Rattle.scram_mech.specs.SecondText.{Second, second_of}
 use Rattle.scram_mech.specs.ThirdText.{Third, third_of}
 use Rattle.scram_mech.specs.FinalText.{final_of}
-use Rattle.scram_mech.specs.Secrets.{Secret, client_key, stored_key, masked, proof_of, key_of_client, context_key}
+use Rattle.scram_mech.specs.Secrets.{Secret, client_key, stored_key, auth_message, masked, proof_of, key_of_client, context_key}
+use Rattle.scram_mech.specs.AuthParts.{AuthParts, auth_parts}
 use Rattle.scram_mech.specs.MechMaking.{MechMaking, signature_making, VerifiesProof, Verifies, AmongMakings}
 use Rattle.scram_mech.specs.Initiator.{InitModel, WaitModel, InitStarted, InitAnswered, InitFinished, init_started, secret_of, bare_of, auth_of, answer_with, init_answered, init_finished}
 use Rattle.scram_mech.specs.Verifiers.{line_for, line_with}
@@ -110,3 +111,10 @@ pub record Laws : Type 0 where
   -- an honest pair completes and agrees, where the acceptor has no bindings or the same data
   pub agrees : (user password draw other : List ℕ) (bindings theirs : Option (List ℕ)) (lines : List Verifier) (salt : List ℕ) (rounds now : ℕ) → Honest user password draw other bindings lines salt rounds
       → is_bound theirs (data_of bindings) ≡ true → Agrees user password draw other bindings theirs lines now
+  -- an AuthMessage says what its three texts say
+  pub parts : (t1 t2 t3 : List ℕ) (first : First) (second : Second) (third : Third) → first_of t1 ≡ Ok first → second_of t2 ≡ Ok second → third_of t3 ≡ Ok third
+      → auth_parts (auth_message t1 t2 third.bare) ≡ Some (record { name = first.name; client = first.nonce; nonce = second.nonce; salt = second.salt; rounds = second.rounds; binding = third.binding; last_nonce = third.nonce })
+  -- and has one cut into them: the first text, the second, and the third without its proof
+  pub one_cut : (t1 t2 t3 u1 u2 u3 : List ℕ) (first : First) (second : Second) (third : Third) (other : First) (next : Second) (last : Third)
+      → first_of t1 ≡ Ok first → second_of t2 ≡ Ok second → third_of t3 ≡ Ok third → first_of u1 ≡ Ok other → second_of u2 ≡ Ok next → third_of u3 ≡ Ok last
+      → auth_message t1 t2 third.bare ≡ auth_message u1 u2 last.bare → (t1 ≡ u1) × (t2 ≡ u2) × (third.bare ≡ last.bare)

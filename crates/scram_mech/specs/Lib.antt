@@ -20,3 +20,4 @@ pub mod Initiator
 pub mod Verifiers
 pub mod Acceptor
 pub mod Laws
+pub mod AuthParts
