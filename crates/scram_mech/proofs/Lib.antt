@@ -16,3 +16,5 @@ pub mod Frames
 pub mod Agreement
 pub mod FurtherWalks
 pub mod OneCut
+pub mod Places
+pub mod Completions

@@ -95,11 +95,11 @@ word-found [] octets back u e = word_at_end [] back u octets e
 word-found (c ∷ cs) [] back u e = absurd cc
 word-found (c ∷ cs) (x ∷ xs) back u e = word_by c cs x xs back u (x == c) refl (λ ys f. word-found cs xs ys u f) e
 
-end-found : (octets back : List ℕ) (u : Unit {0}) → end_at octets ≡ word_read u back → (octets ≡ []) × (back ≡ [])
+pub end-found : (octets back : List ℕ) (u : Unit {0}) → end_at octets ≡ word_read u back → (octets ≡ []) × (back ≡ [])
 end-found [] back u e = (refl, sym (word_at_end [] back u [] e))
 end-found (x ∷ xs) back u e = absurd cc
 
-value_taken : (start : State) (octets value back : List ℕ) → value_at start octets ≡ value_read value back → (octets ≡ value ++ back) × Takes start value back
+pub value_taken : (start : State) (octets value back : List ℕ) → value_at start octets ≡ value_read value back → (octets ≡ value ++ back) × Takes start value back
 value_taken start octets value back e =
     let f = value-found start octets value back e in
     (f.same, record { last = f.last; passed = f.passed; ended = f.ended; stops = f.stops })

@@ -19,7 +19,7 @@ use Rattle.scram_mech.proofs.Sextets.{sign, sextet-of_sign, not_equals, and_true
 use Rattle.scram_mech.proofs.SymbolSteps.{st}
 use Rattle.scram_mech.proofs.Signs64.{signs}
 
-sign_step : (s : Symbols) (v : ℕ) → v < 64 → symbols_step s (sign v) ≡ sextet s v
+pub sign_step : (s : Symbols) (v : ℕ) → v < 64 → symbols_step s (sign v) ≡ sextet s v
 unfolding symbols_step
 sign_step s v lt = let e = sextet-of_sign v lt in rw (not_equals (sign v) v e, e) refl
 
@@ -29,46 +29,46 @@ pub record Walked (need left : ℕ) (octets : List ℕ) : Type 0 where
   pub passed : walk symbols_step (st First need left) octets ≡ Some last
   pub ended : symbols_end last ≡ true
 
-first_on : (need left v : ℕ) → v < 64 → 1 ≤ left → symbols_step (st First need left) (sign v) ≡ Some (st Second need left)
+pub first_on : (need left v : ℕ) → v < 64 → 1 ≤ left → symbols_step (st First need left) (sign v) ≡ Some (st Second need left)
 first_on need left v lt room = let fits : nat_le 1 left ≡ true = grind (arith, nat_tests) in sign_step (st First need left) v lt ∙ rw fits refl
 
-second_on : (need left v : ℕ) → v < 64 → 2 ≤ left → symbols_step (st Second need left) (sign v) ≡ Some (st (Third v) need left)
+pub second_on : (need left v : ℕ) → v < 64 → 2 ≤ left → symbols_step (st Second need left) (sign v) ≡ Some (st (Third v) need left)
 second_on need left v lt room = let fits : nat_le 2 left ≡ true = grind (arith, nat_tests) in sign_step (st Second need left) v lt ∙ rw fits refl
 
 or_right : (b : Bool) → (b || true) ≡ true
 or_right true = refl
 or_right false = refl
 
-second_last : (need left v : ℕ) → v < 64 → v % 16 ≡ 0 → need ≤ 1 → symbols_step (st Second need left) (sign v) ≡ Some (st (Third v) need left)
+pub second_last : (need left v : ℕ) → v < 64 → v % 16 ≡ 0 → need ≤ 1 → symbols_step (st Second need left) (sign v) ≡ Some (st (Third v) need left)
 second_last need left v lt whole enough =
     let fits : nat_le need 1 ≡ true = grind (arith, nat_tests) in
     sign_step (st Second need left) v lt ∙ rw (whole, fits, or_right (nat_le 2 left)) refl
 
-third_on : (before need left v : ℕ) → v < 64 → 3 ≤ left → symbols_step (st (Third before) need left) (sign v) ≡ Some (st (Fourth v) need left)
+pub third_on : (before need left v : ℕ) → v < 64 → 3 ≤ left → symbols_step (st (Third before) need left) (sign v) ≡ Some (st (Fourth v) need left)
 third_on before need left v lt room = let fits : nat_le 3 left ≡ true = grind (arith, nat_tests) in sign_step (st (Third before) need left) v lt ∙ rw fits refl
 
-third_last : (before need left v : ℕ) → v < 64 → v % 4 ≡ 0 → need ≤ 2 → 2 ≤ left → symbols_step (st (Third before) need left) (sign v) ≡ Some (st (Fourth v) need left)
+pub third_last : (before need left v : ℕ) → v < 64 → v % 4 ≡ 0 → need ≤ 2 → 2 ≤ left → symbols_step (st (Third before) need left) (sign v) ≡ Some (st (Fourth v) need left)
 third_last before need left v lt whole enough room =
     let fits : nat_le need 2 ≡ true = grind (arith, nat_tests) in
     let some : (nat_le 3 left || ((left == 2) && true)) ≡ true = grind (arith, nat_tests) in
     sign_step (st (Third before) need left) v lt ∙ rw (whole, fits, some) refl
 
-fourth_on : (before need left v : ℕ) → v < 64 → 3 ≤ left → symbols_step (st (Fourth before) need left) (sign v) ≡ Some (st First (need - 3) (left - 3))
+pub fourth_on : (before need left v : ℕ) → v < 64 → 3 ≤ left → symbols_step (st (Fourth before) need left) (sign v) ≡ Some (st First (need - 3) (left - 3))
 fourth_on before need left v lt room = let fits : nat_lt left 3 ≡ false = grind (arith, nat_tests) in sign_step (st (Fourth before) need left) v lt ∙ rw fits refl
 
-third_pad : (bits need left : ℕ) → bits % 16 ≡ 0 → need ≤ 1 → symbols_step (st (Third bits) need left) 61 ≡ Some (st Padding need left)
+pub third_pad : (bits need left : ℕ) → bits % 16 ≡ 0 → need ≤ 1 → symbols_step (st (Third bits) need left) 61 ≡ Some (st Padding need left)
 unfolding symbols_step
 third_pad bits need left whole enough = let fits : nat_le need 1 ≡ true = grind (arith, nat_tests) in rw (whole, fits) refl
 
-fourth_pad : (bits need left : ℕ) → bits % 4 ≡ 0 → need ≤ 2 → symbols_step (st (Fourth bits) need left) 61 ≡ Some (st Full need left)
+pub fourth_pad : (bits need left : ℕ) → bits % 4 ≡ 0 → need ≤ 2 → symbols_step (st (Fourth bits) need left) 61 ≡ Some (st Full need left)
 unfolding symbols_step
 fourth_pad bits need left whole enough = let fits : nat_le need 2 ≡ true = grind (arith, nat_tests) in rw (whole, fits) refl
 
-last_pad : (need left : ℕ) → symbols_step (st Padding need left) 61 ≡ Some (st Full need left)
+pub last_pad : (need left : ℕ) → symbols_step (st Padding need left) 61 ≡ Some (st Full need left)
 unfolding symbols_step
 last_pad need left = refl
 
-on : (s m : Symbols) (x : ℕ) (xs : List ℕ) → symbols_step s x ≡ Some m → walk symbols_step s (x ∷ xs) ≡ walk symbols_step m xs
+pub on : (s m : Symbols) (x : ℕ) (xs : List ℕ) → symbols_step s x ≡ Some m → walk symbols_step s (x ∷ xs) ≡ walk symbols_step m xs
 on s m x xs e = walk-step symbols_step s m x xs e
 
 pub signs-walk : (need left : ℕ) (octets : List ℕ) → IsBytes octets → need ≤ length octets → length octets ≤ left → Walked need left (signs octets)

@@ -31,7 +31,7 @@ le_of : (a b : ℕ) → nat_le a b ≡ true → a ≤ b
 le_of a b e = grind (arith, nat_tests)
 
 -- a last octet leaves no bits over, and is enough
-last_of : (s : Symbols) (bits unit octets : ℕ) → may_be_last s bits unit octets ≡ true → (bits % unit ≡ 0) × (s.need ≤ octets)
+pub last_of : (s : Symbols) (bits unit octets : ℕ) → may_be_last s bits unit octets ≡ true → (bits % unit ≡ 0) × (s.need ≤ octets)
 last_of s bits unit octets e =
     let t = and_true (bits % unit == 0) (nat_le s.need octets) e in
     (eq_of (bits % unit) 0 t.0, le_of s.need octets t.1)
@@ -72,6 +72,7 @@ first-step need left a y e =
 pub record IsSecond (need left b : ℕ) (y : Symbols) : Type 0 where
   pub bits : ℕ
   pub sign : sextet_of b ≡ Some bits
+  pub may : (nat_le 2 left || may_be_last (st Second need left) bits 16 1) ≡ true
   pub next : st (Third bits) need left ≡ y
 
 pub second-step : (need left b : ℕ) (y : Symbols) → symbols_step (st Second need left) b ≡ Some y → IsSecond need left b y
@@ -80,7 +81,7 @@ second-step need left b y e =
       | inl p ↦ absurd (none_not y p.1)
       | inr s ↦
           let t = at_if-some (nat_le 2 left || may_be_last (st Second need left) s.bits 16 1) (st Second need left) (Third s.bits) y s.next in
-          record { bits = s.bits; sign = s.sign; next = t.1 }
+          record { bits = s.bits; sign = s.sign; may = t.0; next = t.1 }
     ]
 
 pub record IsPad (unit octets bits need left c : ℕ) (spot : Spot) (y : Symbols) : Type 0 where
@@ -92,6 +93,7 @@ pub record IsPad (unit octets bits need left c : ℕ) (spot : Spot) (y : Symbols
 pub record IsThird (need left c : ℕ) (y : Symbols) : Type 0 where
   pub bits : ℕ
   pub sign : sextet_of c ≡ Some bits
+  pub may : (nat_le 3 left || ((left == 2) && may_be_last (st Second need left) bits 4 2)) ≡ true
   pub room : 2 ≤ left
   pub next : st (Fourth bits) need left ≡ y
 
@@ -107,7 +109,7 @@ third-step bits need left c y e =
           inl (record { equals = p.0; whole = l.0; enough = l.1; next = t.1 })
       | inr s ↦
           let t = at_if-some (nat_le 3 left || ((left == 2) && may_be_last (st (Third bits) need left) s.bits 4 2)) (st (Third bits) need left) (Fourth s.bits) y s.next in
-          inr (record { bits = s.bits; sign = s.sign; room = third-room left (may_be_last (st (Third bits) need left) s.bits 4 2) t.0; next = t.1 })
+          inr (record { bits = s.bits; sign = s.sign; may = t.0; room = third-room left (may_be_last (st (Third bits) need left) s.bits 4 2) t.0; next = t.1 })
     ]
 
 pub record IsFourth (need left d : ℕ) (y : Symbols) : Type 0 where

@@ -100,10 +100,10 @@ pub record Found (start : State) (octets value rest : List ℕ) : Type 0 where
   pub ended : ends last ≡ true
   pub stops : Stops step last rest
 
-abbrev done : {A : Type 0} → A → Result A Stuck
+abbrev pub done : {A : Type 0} → A → Result A Stuck
 done x = Ok x
 
-abbrev answer_by : Bool → Progress → List ℕ → Result (List ℕ × List ℕ) Stuck
+abbrev pub answer_by : Bool → Progress → List ℕ → Result (List ℕ × List ℕ) Stuck
 answer_by true p octets = Ok (take p.count octets, drop p.count octets)
 answer_by false p octets = stuck_at (drop p.count octets)
 
@@ -126,7 +126,7 @@ value_found start octets p value rest true t r e =
     }
 value_found start octets p value rest false t r e = absurd cc
 
-value_answer : (start : State) (octets : List ℕ) (b : Bool) → ends (progress start octets).state ≡ b → value_at start octets ≡ answer_by b (progress start octets) octets
+pub value_answer : (start : State) (octets : List ℕ) (b : Bool) → ends (progress start octets).state ≡ b → value_at start octets ≡ answer_by b (progress start octets) octets
 unfolding value_at
 value_answer start octets true e = rw e refl
 value_answer start octets false e = rw e refl
@@ -137,7 +137,7 @@ value-found start octets value rest e =
     value_found start octets p value rest (ends p.state) refl (reached start octets) (sym (value_answer start octets (ends p.state) refl) ∙ e)
 
 -- a walk that ends where no octet more can stand is how far octets can stand
-passes : (s : State) (value rest : List ℕ) (last : State) → walk step s value ≡ Some last → Stops step last rest → progress s (value ++ rest) ≡ record { state = last; count = length value }
+pub passes : (s : State) (value rest : List ℕ) (last : State) → walk step s value ≡ Some last → Stops step last rest → progress s (value ++ rest) ≡ record { state = last; count = length value }
 unfolding progress walk
 passes s [] [] last w stops = rw (walk-nil step s last w) refl
 passes s [] (x ∷ xs) last w stops = let e : s ≡ last = walk-nil step s last w in rw (e, stops) refl
