@@ -18,3 +18,5 @@ pub mod FurtherWalks
 pub mod OneCut
 pub mod Places
 pub mod Completions
+pub mod SoundTexts
+pub mod PlaceLaws

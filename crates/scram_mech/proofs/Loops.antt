@@ -5,12 +5,6 @@ use Rattle.std.proofs.lemmas.Grind.{common_steps}
 use Rattle.scram_mech.specs.declared.name.Escape.TheVariants.{Outside, Comma, Equals}
 use Rattle.scram_mech.specs.Name.{unescaped}
 use Rattle.scram_mech.specs.Reading.{word_at, stuck_at}
-use Rattle.scram_mech.proofs.Walks.{Reached}
-use Rattle.scram_mech.proofs.Masks.{same-key}
-use Rattle.scram_mech.proofs.SignWalks.{decimal-walk}
-use Rattle.scram_mech.proofs.Written.{judged-whole}
-use Rattle.scram_mech.proofs.Places.{refused_pieces}
-use Rattle.scram_mech.proofs.Completions.{symbols-complete}
 
 -- a word that isn't read whole is stuck at the end
 pub word-stuck : (word octets : List ℕ) (i : ℕ) → i < length word → length octets < 1 → word_at (drop i word) octets ≡ stuck_at octets

@@ -68,7 +68,7 @@ name_comma Begun need left = refl
 name_comma Comma need left = refl
 name_comma Equals need left = refl
 
-name_walk : (s : Name) (octets : List ℕ) (last : State) → walk step (states.Name s) octets ≡ Some last → (e : Name) × (walk name_step s octets ≡ Some e) × (states.Name e ≡ last)
+pub name_walk : (s : Name) (octets : List ℕ) (last : State) → walk step (states.Name s) octets ≡ Some last → (e : Name) × (walk name_step s octets ≡ Some e) × (states.Name e ≡ last)
 name_walk s octets last w = map_some states.Name (walk name_step s octets) last (sym (walk-map states.Name name_step step (λ t x. refl) s octets) ∙ w)
 
 pub name-again : (value rest other : List ℕ) → Takes a_name value rest → AtComma other → Takes a_name value other
@@ -95,7 +95,7 @@ rounds-again value rest other t at =
 
 -- ---- further parts
 
-further_walk : (s : Further) (octets : List ℕ) (last : State) → walk step (states.Further s) octets ≡ Some last → (e : Further) × (walk further_step s octets ≡ Some e) × (states.Further e ≡ last)
+pub further_walk : (s : Further) (octets : List ℕ) (last : State) → walk step (states.Further s) octets ≡ Some last → (e : Further) × (walk further_step s octets ≡ Some e) × (states.Further e ≡ last)
 further_walk s octets last w = map_some states.Further (walk further_step s octets) last (sym (walk-map states.Further further_step step (λ t x. refl) s octets) ∙ w)
 
 abbrev none_of : Option Further

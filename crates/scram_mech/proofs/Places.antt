@@ -56,13 +56,13 @@ pub record StuckAt (format : List Segment) (octets : List ℕ) (stuck : Stuck) :
   pub reaches : Spelled format values (front ++ more) []
   pub stays : (x : ℕ) (others : List ℕ) → back ≡ x ∷ others → (rest : List ℕ) → pieces format (front ++ x ∷ rest) ≡ stuck_at (x ∷ rest)
 
-abbrev failed : {A E : Type 0} → E → Result A E
+abbrev pub failed : {A E : Type 0} → E → Result A E
 failed e = Err e
 
 failed_is : {A E : Type 0} (c d : E) → failed {A = A} c ≡ failed d → c ≡ d
 failed_is c d e = cc
 
-bind_err : {A B E : Type 0} (r : Result A E) (f : A → Result B E) (d : E) → (r >>= f) ≡ Err d → (r ≡ Err d) ⊎ ((x : A) × (r ≡ Ok x) × (f x ≡ Err d))
+pub bind_err : {A B E : Type 0} (r : Result A E) (f : A → Result B E) (d : E) → (r >>= f) ≡ Err d → (r ≡ Err d) ⊎ ((x : A) × (r ≡ Ok x) × (f x ≡ Err d))
 bind_err {A} {B} {E} (Ok x) f d e = inr (x, refl, e)
 bind_err {A} {B} {E} (Err c) f d e = inl (ap (λ (x : E). failed {A = A} x) (failed_is {A = B} c d e))
 

@@ -1,5 +1,5 @@
 -- Laws of the exchange, in the words of RFC 5802 section 3.
-use Rattle.std.specs.Prelude.{◌≡◌, ℕ, ◌≤◌, true, List, [], ◌∷◌, ◌++◌, length, slice_get, Option, Some, Result, Ok}
+use Rattle.std.specs.Prelude.{◌≡◌, ℕ, ◌≤◌, true, List, [], ◌∷◌, ◌++◌, length, slice_get, Option, Some, Result, Ok, Err}
 use Rattle.krb_tokens.specs.declared.done.MechDone.{MechDone}
 use Rattle.scram_mech.specs.declared.verifiers.Verifier.{Verifier}
 use Rattle.std.specs.List.{list_all}
@@ -7,10 +7,13 @@ use Rattle.base64.specs.GeneralPurpose.{IsBytes}
 use Rattle.scram_mech.specs.Signs.{is_printable}
 use Rattle.scram_mech.specs.Judging.{is_extended, are_rounds, data_of, carried, is_bound, unframed}
 use Rattle.scram_mech.specs.Base64.{encoded}
-use Rattle.scram_mech.specs.FirstText.{First, first_of}
-use Rattle.scram_mech.specs.SecondText.{Second, second_of}
-use Rattle.scram_mech.specs.ThirdText.{Third, third_of}
-use Rattle.scram_mech.specs.FinalText.{final_of}
+use Rattle.scram_mech.specs.declared.refusal.ScramRefusal.TheVariants.{Text}
+use Rattle.scram_mech.specs.Formats.{values_of}
+use Rattle.scram_mech.specs.Places.{LongestFront}
+use Rattle.scram_mech.specs.FirstText.{First, first_format, first_of}
+use Rattle.scram_mech.specs.SecondText.{Second, second_format, second_of}
+use Rattle.scram_mech.specs.ThirdText.{Third, third_format, third_of}
+use Rattle.scram_mech.specs.FinalText.{signature_format, error_format, final_of}
 use Rattle.scram_mech.specs.Secrets.{Secret, client_key, stored_key, auth_message, masked, proof_of, key_of_client, context_key}
 use Rattle.scram_mech.specs.AuthParts.{AuthParts, auth_parts}
 use Rattle.scram_mech.specs.MechMaking.{MechMaking, signature_making, VerifiesProof, Verifies, AmongMakings}
@@ -118,3 +121,9 @@ pub record Laws : Type 0 where
   pub one_cut : (t1 t2 t3 u1 u2 u3 : List ℕ) (first : First) (second : Second) (third : Third) (other : First) (next : Second) (last : Third)
       → first_of t1 ≡ Ok first → second_of t2 ≡ Ok second → third_of t3 ≡ Ok third → first_of u1 ≡ Ok other → second_of u2 ≡ Ok next → third_of u3 ≡ Ok last
       → auth_message t1 t2 third.bare ≡ auth_message u1 u2 last.bare → (t1 ≡ u1) × (t2 ≡ u2) × (third.bare ≡ last.bare)
+  -- each text is refused at the end of the longest front of it with which some text of its format begins
+  pub first_place : (text : List ℕ) (at : ℕ) → values_of first_format text ≡ Err (Text at) → LongestFront first_format text at
+  pub second_place : (text : List ℕ) (at : ℕ) → values_of second_format text ≡ Err (Text at) → LongestFront second_format text at
+  pub third_place : (text : List ℕ) (at : ℕ) → values_of third_format text ≡ Err (Text at) → LongestFront third_format text at
+  pub signature_place : (text : List ℕ) (at : ℕ) → values_of signature_format text ≡ Err (Text at) → LongestFront signature_format text at
+  pub error_place : (text : List ℕ) (at : ℕ) → values_of error_format text ≡ Err (Text at) → LongestFront error_format text at

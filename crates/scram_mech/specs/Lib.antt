@@ -19,5 +19,6 @@ pub mod Judging
 pub mod Initiator
 pub mod Verifiers
 pub mod Acceptor
+pub mod Places
 pub mod Laws
 pub mod AuthParts
