@@ -1,9 +1,7 @@
 -- An honest pair completes and agrees.
-use Rattle.std.proofs.Common.{◌≡◌, ℕ, suc, ◌+◌, ◌-◌, ◌*◌, ◌/◌, ◌<◌, ◌≤◌, ◌^◌, Bool, true, false, cond, ◌&&◌, ◌==◌, List, [], ◌∷◌, ◌++◌, length, take, drop, Option, Some, None, unwrap_or, Result, Ok, Err, nat_lt, nat_le, nat_eq, refl, sym, ap, ◌∙◌, arith, subst, length-append, codes}
-use Rattle.std.specs.List.{list_all}
+use Rattle.std.proofs.Common.{◌≡◌, ℕ, ◌<◌, ◌^◌, true, false, List, [], ◌∷◌, ◌++◌, length, take, Option, Some, Ok, nat_lt, nat_le, refl, sym, ap, arith, length-append}
 use Rattle.std.proofs.lemmas.Grind.{common_steps}
 use Rattle.std.proofs.lemmas.Bool.Decides.{nat_tests}
-use Rattle.std.specs.Cmp.Lexicographic.{pointwise}
 use Rattle.sha1.specs.Sha1.{sha1}
 use Rattle.sec_base.specs.Moment.{greatest_moment}
 use Rattle.gss_base.specs.Bindings.{hash_of}
@@ -11,24 +9,20 @@ use Rattle.gss_base.specs.Mech.{oid_of}
 use Rattle.gss_base.specs.declared.mech.MechKind.TheVariants.{Scram}
 use Rattle.der_core.specs.Frame.{framed}
 use Rattle.krb_derive.proofs.Tags.{same_tag}
-use Rattle.base64.specs.GeneralPurpose.{IsBytes}
-use Rattle.scram_mech.specs.declared.refusal.ScramRefusal.{ScramRefusal}
-use Rattle.scram_mech.specs.declared.refusal.ScramRefusal.TheVariants as refusals
 use Rattle.scram_mech.specs.declared.run.Class.TheVariants.{Printable}
 use Rattle.scram_mech.specs.declared.verifiers.Verifier.{Verifier}
-use Rattle.scram_mech.specs.Reading.{◌>>=◌}
 use Rattle.scram_mech.specs.Signs.{is_nonce}
 use Rattle.scram_mech.specs.Base64.{encoded}
-use Rattle.scram_mech.specs.Judging.{demand, judged, same, is_extended, are_rounds, data_of, carried, is_bound, unframed}
+use Rattle.scram_mech.specs.Judging.{judged, same, is_extended, are_rounds, data_of, is_bound, unframed}
 use Rattle.scram_mech.specs.FirstText.{First, first_of, first_text}
 use Rattle.scram_mech.specs.SecondText.{Second, second_of, second_text}
 use Rattle.scram_mech.specs.ThirdText.{Third, third_of, bare_text, with_proof}
 use Rattle.scram_mech.specs.FinalText.{final_of, final_text}
-use Rattle.scram_mech.specs.Secrets.{Secret, client_key, stored_key, server_key, auth_message, masked, proof_of, signature_of, key_of_client, context_key}
+use Rattle.scram_mech.specs.Secrets.{Secret, stored_key, server_key, auth_message, masked, proof_of, signature_of}
 use Rattle.scram_mech.specs.MechMaking.{signature_making}
-use Rattle.scram_mech.specs.Initiator.{InitModel, WaitModel, InitStarted, InitAnswered, InitFinished, init_started, secret_of, bare_of, auth_of, wait_with, answer_with, init_answered, init_finished}
+use Rattle.scram_mech.specs.Initiator.{InitModel, WaitModel, InitFinished, init_started, secret_of, bare_of, auth_of, wait_with, answer_with, init_answered, init_finished}
 use Rattle.scram_mech.specs.Verifiers.{line_for, line_with}
-use Rattle.scram_mech.specs.Acceptor.{AcceptModel, AcceptStarted, AcceptFinished, nonce_of, second_by, accept_with, line_or_none, auth_with, is_proof, finish_with, accept_started, accept_finished}
+use Rattle.scram_mech.specs.Acceptor.{AcceptModel, nonce_of, second_by, accept_with, auth_with, is_proof, finish_with, accept_started, accept_finished}
 use Rattle.scram_mech.specs.Laws as laws
 use Rattle.scram_mech.proofs.Sextets.{and_true}
 use Rattle.scram_mech.proofs.Written.{first-read, second-read, third-read, final-read, encoded-nonce, length-encoded, all-append, judged-whole}

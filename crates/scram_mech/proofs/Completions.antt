@@ -1,5 +1,5 @@
 -- Every front of a value goes on to a whole one.
-use Rattle.std.proofs.Common.{◌≡◌, ℕ, zero, suc, ◌+◌, ◌-◌, ◌*◌, ◌%◌, ◌<◌, ◌≤◌, ◌⊎◌, inl, inr, Bool, true, false, not, cond, ◌&&◌, ◌||◌, ◌==◌, List, [], ◌∷◌, ◌++◌, length, Option, Some, None, nat_le, nat_lt, nat_eq, refl, sym, ap, ◌∙◌, arith, subst}
+use Rattle.std.proofs.Common.{◌≡◌, ℕ, zero, suc, ◌-◌, ◌≤◌, ◌⊎◌, inl, inr, Bool, true, false, ◌&&◌, ◌||◌, ◌==◌, List, [], ◌∷◌, Some, nat_le, refl, ◌∙◌, arith, subst}
 use Rattle.std.proofs.lemmas.Bool.{cases_lt}
 use Rattle.std.proofs.lemmas.Bool.Decides.{nat_tests}
 use Rattle.scram_mech.specs.declared.symbols.Spot.{Spot}
@@ -7,7 +7,7 @@ use Rattle.scram_mech.specs.declared.symbols.Spot.TheVariants.{First, Second, Th
 use Rattle.scram_mech.specs.declared.symbols.Symbols.{Symbols}
 use Rattle.scram_mech.specs.Symbols.{may_be_last, symbols_step, symbols_end}
 use Rattle.scram_mech.proofs.Walks.{walk, walk-cons, walk-nil, walk-step}
-use Rattle.scram_mech.proofs.Sextets.{sign, and_true, eq_of}
+use Rattle.scram_mech.proofs.Sextets.{sign, and_true}
 use Rattle.scram_mech.proofs.SymbolSteps.{st, last_of, first-step, second-step, third-step, fourth-step, padding-step, full-step}
 use Rattle.scram_mech.proofs.SignWalks.{first_on, second_on, second_last, third_on, third_last, fourth_on, third_pad, fourth_pad, last_pad}
 

@@ -1,8 +1,7 @@
 -- What each answer of an exchange is made of.
-use Rattle.std.proofs.Common.{◌≡◌, ℕ, zero, suc, ◌≤◌, ◌⊎◌, inl, inr, Bool, true, false, cond, List, [], ◌∷◌, ◌++◌, length, Option, Some, None, Result, Ok, Err, refl, sym, ap, ◌∙◌, arith, subst}
+use Rattle.std.proofs.Common.{◌≡◌, ℕ, suc, inl, inr, Bool, true, false, cond, List, [], ◌∷◌, ◌++◌, length, Option, Some, None, Result, Ok, Err, refl, sym, ap, ◌∙◌, arith, subst}
 use Rattle.std.specs.List.{slice_get}
-use Rattle.std.specs.Cmp.Lexicographic.{pointwise, same_text}
-use Rattle.std.proofs.Common.{nat_eq}
+use Rattle.std.specs.Cmp.Lexicographic.{same_text}
 use Rattle.sha1.specs.Sha1.{sha1}
 use Rattle.scram_mech.specs.declared.refusal.Stuck.{Stuck}
 use Rattle.scram_mech.specs.declared.refusal.ScramRefusal.{ScramRefusal}
@@ -10,27 +9,26 @@ use Rattle.scram_mech.specs.declared.refusal.ScramRefusal.TheVariants as refusal
 use Rattle.scram_mech.specs.declared.verifiers.Verifier.{Verifier}
 use Rattle.scram_mech.specs.declared.state.State.{State}
 use Rattle.scram_mech.specs.declared.symbols.Spot.TheVariants as spots
-use Rattle.scram_mech.specs.Reading.{◌>>=◌, in_text, text_refusal}
+use Rattle.scram_mech.specs.Reading.{◌>>=◌, in_text}
 use Rattle.scram_mech.specs.State.{base64, ends}
 use Rattle.scram_mech.specs.Judging.{demand, same, is_extended, are_rounds, is_bound, unframed}
-use Rattle.scram_mech.specs.Base64.{encoded, decoded}
+use Rattle.scram_mech.specs.Base64.{decoded}
 use Rattle.scram_mech.specs.Formats.{Segment, pieces_of, piece, is_mandatory, values_of}
-use Rattle.scram_mech.specs.FirstText.{First, first_of}
-use Rattle.scram_mech.specs.SecondText.{Second, second_of}
+use Rattle.scram_mech.specs.FirstText.{first_of}
+use Rattle.scram_mech.specs.SecondText.{second_of}
 use Rattle.scram_mech.specs.ThirdText.{Third, third_format, third_of}
 use Rattle.scram_mech.specs.FinalText.{final_of}
 use Rattle.scram_mech.specs.Secrets.{Secret, stored_key, masked, proof_of, signature_of}
 use Rattle.scram_mech.specs.MechMaking.{MechMaking, signature_making, proof_making, VerifiesProof, Verifies, AmongMakings}
 use Rattle.scram_mech.specs.Initiator.{InitModel, WaitModel, InitAnswered, InitFinished, secret_of, bare_of, auth_of, answer_with, init_answered, init_finished}
 use Rattle.scram_mech.specs.Verifiers.{line_for}
-use Rattle.scram_mech.specs.Acceptor.{AcceptModel, AcceptStarted, AcceptFinished, nonce_of, second_by, accept_with, line_or_none, auth_with, is_proof, finish_with, accept_started, accept_finished}
+use Rattle.scram_mech.specs.Acceptor.{AcceptModel, AcceptStarted, AcceptFinished, nonce_of, line_or_none, auth_with, is_proof, finish_with, accept_started, accept_finished}
 use Rattle.scram_mech.specs.Laws as laws
-use Rattle.scram_mech.proofs.Walks.{ok_is}
 use Rattle.scram_mech.proofs.SymbolSteps.{st, some_is}
 use Rattle.scram_mech.proofs.Signs64.{decodes}
 use Rattle.scram_mech.proofs.ValueFacts.{symbols_walk}
 use Rattle.scram_mech.proofs.Pieces.{Spelled, Takes, bind_ok, pieces_of-found}
-use Rattle.scram_mech.proofs.Masks.{proof-gives, length-proof, same-key}
+use Rattle.scram_mech.proofs.Masks.{proof-gives, length-proof}
 
 demanded : {E : Type 0} (b : Bool) (e : E) (u : Unit {0}) → demand b e ≡ Ok u → b ≡ true
 demanded true e u h = refl

@@ -1,9 +1,8 @@
 -- A frame gives back what it holds.
-use Rattle.std.proofs.Common.{◌≡◌, ℕ, suc, ◌+◌, ◌*◌, ◌<◌, ◌≤◌, ◌^◌, Bool, true, false, cond, ◌==◌, List, [], ◌∷◌, ◌++◌, length, Result, Ok, nat_lt, refl, sym, ap, ◌∙◌, arith, length-append, codes}
+use Rattle.std.proofs.Common.{◌≡◌, ℕ, suc, ◌*◌, ◌<◌, ◌≤◌, ◌^◌, Bool, true, false, cond, ◌==◌, List, [], ◌∷◌, ◌++◌, length, Ok, nat_lt, ap, arith, length-append, codes}
 use Rattle.std.proofs.lemmas.Bool.Decides.{nat_tests}
 use Rattle.gss_base.specs.Mech.{oid_of}
 use Rattle.gss_base.specs.declared.mech.MechKind.TheVariants.{Scram}
-use Rattle.der_core.specs.Format.{all_of}
 use Rattle.der_core.specs.Header.{tlv, length_octets}
 use Rattle.der_core.specs.Values.{object_identifier}
 use Rattle.der_core.specs.Frame.{framed}

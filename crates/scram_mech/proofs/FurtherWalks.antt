@@ -1,12 +1,11 @@
 -- Further parts up to a letter, and up to the end.
-use Rattle.std.proofs.Common.{◌≡◌, ℕ, zero, suc, ◌+◌, ◌⊎◌, inl, inr, Bool, true, false, not, cond, ◌&&◌, ◌||◌, ◌==◌, List, [], ◌∷◌, ◌++◌, length, Option, Some, None, nat_eq, refl, sym, ap, ◌∙◌, arith, subst}
-use Rattle.std.specs.Option.{is_none}
+use Rattle.std.proofs.Common.{◌≡◌, ℕ, ◌⊎◌, inl, inr, Bool, true, false, cond, ◌==◌, List, [], ◌∷◌, ◌++◌, Option, Some, None, refl, sym, ap, ◌∙◌, arith, subst}
 use Rattle.std.proofs.lemmas.Bool.Decides.{nat_tests}
 use Rattle.scram_mech.specs.declared.further.Due.{Due}
 use Rattle.scram_mech.specs.declared.further.Due.TheVariants.{Part, Letter, Equals, Value, Nothing}
 use Rattle.scram_mech.specs.declared.further.Further.{Further}
 use Rattle.scram_mech.specs.Signs.{is_value, is_free}
-use Rattle.scram_mech.specs.Further.{go, is_last, letter, further_step, further_ends}
+use Rattle.scram_mech.specs.Further.{go, further_step, further_ends}
 use Rattle.scram_mech.proofs.Walks.{walk, walk-cons, walk-nil, walk-step, walk-append}
 use Rattle.scram_mech.proofs.Sextets.{eq_of}
 use Rattle.scram_mech.proofs.SymbolSteps.{some_is}

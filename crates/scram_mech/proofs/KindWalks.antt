@@ -1,23 +1,17 @@
 -- Values of each kind are walked whole.
-use Rattle.std.proofs.Common.{◌≡◌, ℕ, zero, suc, ◌+◌, ◌-◌, ◌*◌, ◌/◌, ◌%◌, ◌^◌, ◌<◌, ◌≤◌, ◌⊎◌, inl, inr, Bool, true, false, not, cond, ◌&&◌, ◌||◌, ◌==◌, List, [], ◌∷◌, ◌++◌, length, get_or, Option, Some, None, nat_lt, nat_le, nat_eq, refl, sym, ap, ◌∙◌, arith, subst}
+use Rattle.std.proofs.Common.{◌≡◌, ℕ, suc, ◌-◌, ◌≤◌, Bool, true, false, cond, ◌==◌, List, [], ◌∷◌, ◌++◌, length, Some, refl, ◌∙◌, arith}
 use Rattle.std.specs.List.{list_all}
 use Rattle.std.proofs.lemmas.Bool.Decides.{nat_tests}
-use Rattle.base64.specs.GeneralPurpose.{IsBytes}
 use Rattle.scram_mech.specs.declared.run.Class.{Class}
 use Rattle.scram_mech.specs.declared.run.Run.{Run}
-use Rattle.scram_mech.specs.declared.name.Escape.TheVariants.{Outside, Begun, Comma, Equals}
+use Rattle.scram_mech.specs.declared.name.Escape.TheVariants.{Outside}
 use Rattle.scram_mech.specs.declared.name.Name.{Name}
-use Rattle.scram_mech.specs.declared.symbols.Spot.TheVariants.{First, Second, Third, Fourth, Padding, Full}
-use Rattle.scram_mech.specs.declared.symbols.Symbols.{Symbols}
-use Rattle.scram_mech.specs.Signs.{is_printable, is_value, sextet_of}
+use Rattle.scram_mech.specs.Signs.{is_printable}
 use Rattle.scram_mech.specs.Run.{has, run_step}
 use Rattle.scram_mech.specs.Name.{escape_of, escaped, name_step}
-use Rattle.scram_mech.specs.Symbols.{symbols_step, symbols_end}
 use Rattle.scram_mech.proofs.Walks.{walk, walk-step}
-use Rattle.scram_mech.proofs.Sextets.{sign, sextet-of_sign, not_equals, and_true}
-use Rattle.scram_mech.proofs.SymbolSteps.{st}
+use Rattle.scram_mech.proofs.Sextets.{and_true}
 use Rattle.scram_mech.proofs.RunWalks.{run_of}
-use Rattle.scram_mech.proofs.Signs64.{signs}
 
 -- ---- runs
 

@@ -1,7 +1,6 @@
 -- Steps of loops over octets.
-use Rattle.std.proofs.Common.{◌≡◌, ℕ, ◌+◌, suc, ◌<◌, List, [], ◌∷◌, ◌++◌, length, drop, get_or, Result, Ok, Err, refl, sym, ap, ◌∙◌, arith, add-one, append_assoc}
+use Rattle.std.proofs.Common.{◌≡◌, ℕ, ◌+◌, ◌<◌, List, [], ◌∷◌, ◌++◌, length, drop, refl, sym, arith, add-one, append_assoc}
 use Rattle.std.proofs.Math.Seq.{drop-cons}
-use Rattle.std.proofs.lemmas.Grind.{common_steps}
 use Rattle.scram_mech.specs.declared.name.Escape.TheVariants.{Outside, Comma, Equals}
 use Rattle.scram_mech.specs.Name.{unescaped}
 use Rattle.scram_mech.specs.Reading.{word_at, stuck_at}

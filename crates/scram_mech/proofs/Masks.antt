@@ -1,5 +1,5 @@
 -- A mask over a mask takes it off.
-use Rattle.std.proofs.Common.{◌≡◌, ℕ, zero, suc, ◌+◌, ◌-◌, ◌*◌, ◌/◌, ◌<◌, ◌≤◌, min, List, [], ◌∷◌, ◌++◌, length, get_or, refl, sym, ap, ◌∙◌, arith, length-append}
+use Rattle.std.proofs.Common.{◌≡◌, ℕ, zero, suc, ◌*◌, ◌/◌, ◌≤◌, List, [], ◌∷◌, ◌++◌, length, get_or, refl, sym, ap, ◌∙◌, arith, length-append}
 use Rattle.std.specs.Int.{w32, to_be_bytes}
 use Rattle.std.specs.Int.Bits.{bit_xor, xor_assoc, xor_self, xor_zero_r}
 use Rattle.sha1.specs.Sha1.{sha1, digest_bytes, hash_after, padded_message}
@@ -8,8 +8,7 @@ use Rattle.mac_sha1.specs.Hi.{add_octets}
 use Rattle.base64.specs.GeneralPurpose.{IsBytes}
 use Rattle.std.proofs.lemmas.Nat.{xor_of_8}
 use Rattle.mac_sha1.proofs.Adding.{length-add_octets}
-use Rattle.krb_derive.specs.declared.key.Key.{Key}
-use Rattle.scram_mech.specs.Secrets.{Secret, client_key, stored_key, server_key, masked, proof_of, signature_of, key_of_client, context_key}
+use Rattle.scram_mech.specs.Secrets.{Secret, client_key, stored_key, masked, proof_of, signature_of, key_of_client, context_key}
 
 -- what is added twice goes
 cancel : (a b : ℕ) → bit_xor (bit_xor a b) b ≡ a

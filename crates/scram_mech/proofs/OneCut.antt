@@ -1,10 +1,9 @@
 -- An AuthMessage has one cut into its three texts.
-use Rattle.std.proofs.Common.{◌≡◌, ℕ, zero, suc, ◌+◌, ◌-◌, ◌*◌, ◌/◌, ◌≤◌, ◌<◌, Bool, true, false, cond, ◌||◌, ◌==◌, List, [], ◌∷◌, ◌++◌, length, take, Option, Some, None, Result, Ok, Err, refl, sym, ap, ◌∙◌, arith, subst, append_assoc, length-append, codes}
+use Rattle.std.proofs.Common.{◌≡◌, ℕ, ◌-◌, Bool, true, false, cond, ◌||◌, ◌==◌, List, [], ◌∷◌, ◌++◌, length, take, Option, Some, None, Result, Ok, refl, sym, ap, ◌∙◌, arith, subst, append_assoc, length-append, codes}
 use Rattle.std.proofs.lemmas.List.{append-nil}
 use Rattle.std.proofs.lemmas.Grind.{common_steps}
 use Rattle.scram_mech.specs.declared.refusal.Stuck.{Stuck}
 use Rattle.scram_mech.specs.declared.run.Class.TheVariants.{Nonce}
-use Rattle.scram_mech.specs.declared.run.Run.{Run}
 use Rattle.scram_mech.specs.declared.name.Escape.{Escape}
 use Rattle.scram_mech.specs.declared.name.Escape.TheVariants.{Outside, Begun, Comma, Equals}
 use Rattle.scram_mech.specs.declared.name.Name.{Name}
@@ -12,26 +11,23 @@ use Rattle.scram_mech.specs.declared.digits.Digits.{Digits}
 use Rattle.scram_mech.specs.declared.digits.Digits.TheVariants as digits
 use Rattle.scram_mech.specs.declared.symbols.Spot.TheVariants as spots
 use Rattle.scram_mech.specs.declared.symbols.Symbols.{Symbols}
-use Rattle.scram_mech.specs.declared.further.Due.{Due}
 use Rattle.scram_mech.specs.declared.further.Due.TheVariants as dues
 use Rattle.scram_mech.specs.declared.further.Further.{Further}
 use Rattle.scram_mech.specs.declared.state.State.{State}
 use Rattle.scram_mech.specs.declared.state.State.TheVariants as states
 use Rattle.scram_mech.specs.Signs.{is_free, sextet_of}
 use Rattle.scram_mech.specs.State.{some, a_name, base64, rounds_number, further_parts, step, ends}
-use Rattle.scram_mech.specs.Run.{run_step}
 use Rattle.scram_mech.specs.Name.{name_step, unescaped}
-use Rattle.scram_mech.specs.Digits.{digits_step, number_of}
+use Rattle.scram_mech.specs.Digits.{number_of}
 use Rattle.scram_mech.specs.Symbols.{symbols_step}
-use Rattle.scram_mech.specs.Further.{go, further_step, further_ends}
-use Rattle.scram_mech.specs.Base64.{encoded, decoded}
-use Rattle.scram_mech.specs.Reading.{◌>>=◌}
-use Rattle.scram_mech.specs.Formats.{Segment, Word, Value, End, pieces_of, piece, values_of}
+use Rattle.scram_mech.specs.Further.{go, further_step}
+use Rattle.scram_mech.specs.Base64.{decoded}
+use Rattle.scram_mech.specs.Formats.{pieces_of, piece, values_of}
 use Rattle.scram_mech.specs.FirstText.{First, first_format, first_of}
 use Rattle.scram_mech.specs.SecondText.{Second, second_format, second_of}
 use Rattle.scram_mech.specs.ThirdText.{Third, third_format, third_of}
 use Rattle.scram_mech.specs.Secrets.{auth_message}
-use Rattle.scram_mech.specs.AuthParts.{AuthParts, third_part, second_part, auth_format, parts_in, auth_parts}
+use Rattle.scram_mech.specs.AuthParts.{third_part, second_part, auth_format, parts_in, auth_parts}
 use Rattle.scram_mech.proofs.Walks.{walk, walk-map, map_some, walk-cons, Stops, ok_is}
 use Rattle.scram_mech.proofs.Sextets.{eq_of}
 use Rattle.scram_mech.proofs.RunWalks.{run_of, run-taken}
@@ -40,7 +36,7 @@ use Rattle.scram_mech.proofs.Signs64.{decodes, encoded-signs}
 use Rattle.scram_mech.proofs.Pieces.{Spelled, Takes, bind_ok, pieces_of-found, pieces_of-only}
 use Rattle.scram_mech.proofs.ExchangeLaws.{given, given_is, values-read}
 use Rattle.scram_mech.proofs.Written.{AtComma, length-encoded}
-use Rattle.scram_mech.proofs.FurtherWalks.{unclosed, up_to, closes, behind, Parted}
+use Rattle.scram_mech.proofs.FurtherWalks.{unclosed, up_to, closes, behind}
 
 -- ---- no value but further parts takes a comma
 

@@ -1,5 +1,5 @@
 -- Texts of a format: what is read is spelled so, and what is spelled so is read.
-use Rattle.std.proofs.Common.{◌≡◌, ℕ, zero, suc, Bool, true, false, cond, ◌==◌, List, [], ◌∷◌, ◌++◌, length, Option, Some, None, Result, Ok, Err, refl, sym, ap, ◌∙◌, arith, subst}
+use Rattle.std.proofs.Common.{◌≡◌, ℕ, Bool, true, false, cond, ◌==◌, List, [], ◌∷◌, ◌++◌, Some, Result, Ok, Err, refl, sym, ap, arith, subst}
 use Rattle.std.proofs.lemmas.Bool.Decides.{nat_tests}
 use Rattle.scram_mech.specs.declared.refusal.Stuck.{Stuck}
 use Rattle.scram_mech.specs.declared.state.State.{State}
@@ -7,7 +7,7 @@ use Rattle.scram_mech.specs.State.{step, ends}
 use Rattle.scram_mech.specs.Reading.{◌>>=◌, stuck_at, word_at, end_at}
 use Rattle.scram_mech.specs.Values.{value_at}
 use Rattle.scram_mech.specs.Formats.{Segment, Word, Value, End, pieces, pieces_of}
-use Rattle.scram_mech.proofs.Walks.{walk, Stops, Found, value-found, value-only, ok_is}
+use Rattle.scram_mech.proofs.Walks.{walk, Stops, value-found, value-only, ok_is}
 use Rattle.scram_mech.proofs.Sextets.{eq_of}
 
 -- a value of a state, behind which no octet of it can stand

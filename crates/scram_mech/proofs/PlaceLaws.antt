@@ -1,13 +1,13 @@
 -- A text is refused at the end of the longest front with which some text of its format begins.
-use Rattle.std.proofs.Common.{◌≡◌, ℕ, ◌-◌, ◌⊎◌, inl, inr, Bool, true, false, cond, List, [], ◌∷◌, ◌++◌, length, Result, Ok, Err, refl, sym, ap, ◌∙◌, arith, length-append}
+use Rattle.std.proofs.Common.{◌≡◌, ℕ, ◌-◌, inl, inr, Bool, true, false, cond, List, [], ◌∷◌, ◌++◌, length, Result, Ok, Err, refl, sym, ap, ◌∙◌, arith, length-append}
 use Rattle.scram_mech.specs.declared.refusal.Stuck.{Stuck}
 use Rattle.scram_mech.specs.declared.refusal.ScramRefusal.{ScramRefusal}
 use Rattle.scram_mech.specs.declared.refusal.ScramRefusal.TheVariants as refusals
-use Rattle.scram_mech.specs.Reading.{◌>>=◌, in_text, text_refusal, stuck_at}
+use Rattle.scram_mech.specs.Reading.{◌>>=◌, in_text, stuck_at}
 use Rattle.scram_mech.specs.Formats.{Segment, pieces, pieces_of, is_mandatory, values_of}
 use Rattle.scram_mech.specs.Places.{LongestFront}
-use Rattle.scram_mech.proofs.Pieces.{Spelled, pieces_of-only}
-use Rattle.scram_mech.proofs.Places.{Sound, StuckAt, pieces-stuck, bind_err, refused_pieces}
+use Rattle.scram_mech.proofs.Pieces.{pieces_of-only}
+use Rattle.scram_mech.proofs.Places.{Sound, pieces-stuck, bind_err, refused_pieces}
 
 abbrev pub refused_values : ScramRefusal → Result (List (List ℕ)) ScramRefusal
 refused_values refusal = Err refusal

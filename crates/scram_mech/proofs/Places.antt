@@ -1,18 +1,16 @@
 -- A reading is stuck at the end of the longest front with which some text of the format begins.
-use Rattle.std.proofs.Common.{◌≡◌, ℕ, zero, suc, ◌+◌, ◌-◌, ◌⊎◌, inl, inr, ◌≤◌, Bool, true, false, cond, ◌==◌, List, [], ◌∷◌, ◌++◌, length, take, drop, Option, Some, None, Result, Ok, Err, refl, sym, ap, ◌∙◌, arith, subst, append_assoc, length-append}
-use Rattle.std.proofs.lemmas.List.{append-nil}
-use Rattle.std.specs.Option.{option_and_then}
+use Rattle.std.proofs.Common.{◌≡◌, ℕ, ◌⊎◌, inl, inr, Bool, true, false, cond, ◌==◌, List, [], ◌∷◌, ◌++◌, length, take, drop, Some, None, Result, Ok, Err, refl, sym, ap, ◌∙◌, arith, subst, append_assoc}
 use Rattle.std.proofs.lemmas.Bool.Decides.{nat_tests}
 use Rattle.std.proofs.lemmas.Grind.{common_steps}
 use Rattle.scram_mech.specs.declared.refusal.Stuck.{Stuck}
 use Rattle.scram_mech.specs.declared.state.State.{State}
 use Rattle.scram_mech.specs.State.{step, ends}
-use Rattle.scram_mech.specs.Reading.{◌>>=◌, stuck_at, word_at, end_at}
+use Rattle.scram_mech.specs.Reading.{◌>>=◌, stuck_at, word_at}
 use Rattle.scram_mech.specs.Values.{Progress, progress, value_at}
 use Rattle.scram_mech.specs.Formats.{Segment, Word, Value, End, pieces}
 use Rattle.scram_mech.proofs.Walks.{walk, walk-append, Stops, Reached, reached, passes, value-only, answer_by, value_answer}
 use Rattle.scram_mech.proofs.Sextets.{eq_of}
-use Rattle.scram_mech.proofs.Pieces.{Spelled, Takes, word-only, word-found, word_read, value_read, value_taken}
+use Rattle.scram_mech.proofs.Pieces.{Spelled, Takes, word-only, word-found, value_taken}
 
 -- every front of a value goes on to a whole one
 abbrev pub Completable : State → Type 0

@@ -1,5 +1,5 @@
 -- Runs of octets of one class, and numbers, as they are read.
-use Rattle.std.proofs.Common.{◌≡◌, ℕ, zero, suc, ◌+◌, ◌-◌, ◌<◌, ◌≤◌, Bool, true, false, not, cond, ◌&&◌, ◌||◌, ◌==◌, List, [], ◌∷◌, length, Option, Some, None, nat_eq, refl, sym, ap, ◌∙◌, arith, subst}
+use Rattle.std.proofs.Common.{◌≡◌, ℕ, zero, suc, ◌+◌, ◌-◌, ◌<◌, ◌≤◌, Bool, true, false, not, cond, ◌||◌, ◌==◌, List, [], ◌∷◌, length, Option, Some, None, refl, sym, ◌∙◌, arith, subst}
 use Rattle.std.specs.List.{list_all}
 use Rattle.std.specs.Str.{IsAscii, IsUtf8}
 use Rattle.std.proofs.lemmas.Str.{IsUtf8-from_ascii}
@@ -9,10 +9,10 @@ use Rattle.scram_mech.specs.declared.run.Run.{Run}
 use Rattle.scram_mech.specs.declared.digits.Digits.{Digits}
 use Rattle.scram_mech.specs.declared.digits.Digits.TheVariants.{First, Zero, More}
 use Rattle.scram_mech.specs.Signs.{is_digit, is_printable, is_line_name}
-use Rattle.scram_mech.specs.Run.{has, run_step, run_ends}
-use Rattle.scram_mech.specs.Digits.{digit_step, digits_step, digits_end, AreDigits}
+use Rattle.scram_mech.specs.Run.{has, run_step}
+use Rattle.scram_mech.specs.Digits.{digit_step, digits_step}
 use Rattle.scram_mech.proofs.Walks.{walk, walk-cons, walk-nil}
-use Rattle.scram_mech.proofs.Sextets.{eq_of, and_true}
+use Rattle.scram_mech.proofs.Sextets.{and_true}
 use Rattle.scram_mech.proofs.SymbolSteps.{some_is}
 
 abbrev pub run_of : Class → ℕ → ℕ → Run

@@ -1,8 +1,7 @@
 -- The signs of octets, and decimal numbers, are walked whole.
-use Rattle.std.proofs.Common.{◌≡◌, ℕ, zero, suc, ◌+◌, ◌-◌, ◌*◌, ◌/◌, ◌%◌, ◌^◌, ◌<◌, ◌≤◌, Bool, true, false, not, cond, ◌&&◌, ◌||◌, ◌==◌, List, [], ◌∷◌, ◌++◌, length, get_or, Option, Some, None, nat_lt, nat_le, nat_eq, refl, sym, ap, ◌∙◌, arith, subst, rules}
+use Rattle.std.proofs.Common.{◌≡◌, ℕ, suc, ◌+◌, ◌-◌, ◌*◌, ◌/◌, ◌%◌, ◌^◌, ◌<◌, ◌≤◌, Bool, true, false, ◌&&◌, ◌||◌, ◌==◌, List, [], ◌∷◌, length, get_or, Some, nat_lt, nat_le, refl, ◌∙◌, arith, rules}
 use Rattle.std.specs.List.{list_all}
 use Rattle.std.specs.Fmt.{decimal}
-use Rattle.std.specs.Int.{IsInRange}
 use Rattle.std.proofs.lemmas.Bool.Decides.{nat_tests}
 use Rattle.std.proofs.lemmas.Str.Parse.{IsNumeralModel, numerals_by_fold}
 use Rattle.std.proofs.lemmas.Fmt.{digits_decimal, digits_value-decimal, first_decimal, length-decimal-le}
@@ -11,9 +10,9 @@ use Rattle.scram_mech.specs.declared.digits.Digits.{Digits}
 use Rattle.scram_mech.specs.declared.digits.Digits.TheVariants as digits
 use Rattle.scram_mech.specs.declared.symbols.Spot.TheVariants.{First, Second, Third, Fourth, Padding, Full}
 use Rattle.scram_mech.specs.declared.symbols.Symbols.{Symbols}
-use Rattle.scram_mech.specs.Signs.{is_digit, sextet_of}
-use Rattle.scram_mech.specs.Digits.{number_behind, number_of, digit_step, digits_step, digits_end}
-use Rattle.scram_mech.specs.Symbols.{pad, sextet, symbols_step, symbols_end}
+use Rattle.scram_mech.specs.Signs.{is_digit}
+use Rattle.scram_mech.specs.Digits.{number_behind, number_of, digits_step, digits_end}
+use Rattle.scram_mech.specs.Symbols.{sextet, symbols_step, symbols_end}
 use Rattle.scram_mech.proofs.Walks.{walk, walk-step}
 use Rattle.scram_mech.proofs.Sextets.{sign, sextet-of_sign, not_equals, and_true}
 use Rattle.scram_mech.proofs.SymbolSteps.{st}

@@ -1,18 +1,16 @@
 -- What base64 is read octet by octet is the base64 of what it decodes to.
-use Rattle.std.proofs.Common.{◌≡◌, ℕ, zero, suc, ◌+◌, ◌-◌, ◌*◌, ◌/◌, ◌%◌, ◌<◌, ◌≤◌, ◌⊎◌, inl, inr, Bool, true, false, cond, List, [], ◌∷◌, ◌++◌, length, get_or, Option, Some, None, nat_eq, unwrap_or, refl, sym, ap, ◌∙◌, arith, subst}
+use Rattle.std.proofs.Common.{◌≡◌, ℕ, zero, suc, ◌+◌, ◌-◌, ◌*◌, ◌/◌, ◌%◌, ◌<◌, ◌≤◌, inl, inr, true, false, List, [], ◌∷◌, length, Some, refl, sym, ◌∙◌, arith, subst}
 use Rattle.std.proofs.lemmas.Grind.{common_steps}
 use Rattle.base64.specs.Rfc4648.{encode_symbols}
-use Rattle.base64.specs.GeneralPurpose.{encode_of, IsBytes}
-use Rattle.base64.specs.Engines.{standard}
-use Rattle.scram_mech.specs.declared.symbols.Spot.{Spot}
+use Rattle.base64.specs.GeneralPurpose.{IsBytes}
 use Rattle.scram_mech.specs.declared.symbols.Spot.TheVariants.{First, Second, Third, Fourth, Padding, Full}
 use Rattle.scram_mech.specs.declared.symbols.Symbols.{Symbols}
 use Rattle.scram_mech.specs.Signs.{sextet_of}
 use Rattle.scram_mech.specs.Symbols.{symbols_step, symbols_end}
-use Rattle.scram_mech.specs.Base64.{encoded, bits, group, decoded, IsBase64, InRange}
+use Rattle.scram_mech.specs.Base64.{encoded, bits, decoded}
 use Rattle.scram_mech.proofs.Walks.{walk, walk-cons, walk-nil}
 use Rattle.scram_mech.proofs.Sextets.{sign, sextet-sign, not_equals, eq_of}
-use Rattle.scram_mech.proofs.SymbolSteps.{st, IsFirst, IsSecond, IsPad, IsThird, IsFourth, first-step, second-step, third-step, fourth-step, padding-step, full-step}
+use Rattle.scram_mech.proofs.SymbolSteps.{st, first-step, second-step, third-step, fourth-step, padding-step, full-step}
 
 -- the signs of octets, group by group
 unfoldable pub signs : List ℕ → List ℕ

@@ -1,19 +1,14 @@
 -- The formats of the texts: every front of a value goes on, and values end where the next word begins.
-use Rattle.std.proofs.Common.{◌≡◌, ℕ, zero, suc, ◌+◌, ◌-◌, ◌<◌, ◌≤◌, ◌⊎◌, inl, inr, Bool, true, false, not, cond, ◌&&◌, ◌||◌, ◌==◌, List, [], ◌∷◌, ◌++◌, length, Option, Some, None, refl, sym, ap, ◌∙◌, arith, subst, codes}
-use Rattle.std.specs.Option.{is_none}
-use Rattle.std.proofs.lemmas.List.{append-nil}
+use Rattle.std.proofs.Common.{◌≡◌, ℕ, ◌-◌, ◌≤◌, ◌⊎◌, inl, inr, Bool, true, false, cond, ◌==◌, List, [], ◌∷◌, ◌++◌, length, Option, Some, None, refl, sym, ap, ◌∙◌, arith, subst, codes}
 use Rattle.std.proofs.lemmas.Bool.{cases_lt}
 use Rattle.std.proofs.lemmas.Bool.Decides.{nat_tests}
-use Rattle.scram_mech.specs.declared.run.Class.{Class}
 use Rattle.scram_mech.specs.declared.run.Class.TheVariants.{Nonce}
-use Rattle.scram_mech.specs.declared.run.Run.{Run}
 use Rattle.scram_mech.specs.declared.name.Escape.{Escape}
 use Rattle.scram_mech.specs.declared.name.Escape.TheVariants.{Outside, Begun, Comma, Equals}
 use Rattle.scram_mech.specs.declared.name.Name.{Name}
 use Rattle.scram_mech.specs.declared.digits.Digits.{Digits}
 use Rattle.scram_mech.specs.declared.digits.Digits.TheVariants as digits
 use Rattle.scram_mech.specs.declared.symbols.Spot.TheVariants as spots
-use Rattle.scram_mech.specs.declared.symbols.Symbols.{Symbols}
 use Rattle.scram_mech.specs.declared.further.Due.{Due}
 use Rattle.scram_mech.specs.declared.further.Due.TheVariants as dues
 use Rattle.scram_mech.specs.declared.further.Further.{Further}
@@ -21,26 +16,23 @@ use Rattle.scram_mech.specs.declared.state.State.{State}
 use Rattle.scram_mech.specs.declared.state.State.TheVariants as states
 use Rattle.scram_mech.specs.Signs.{is_value, is_free}
 use Rattle.scram_mech.specs.State.{some, a_name, rounds_number, base64, further_parts, value_and_further, step, ends}
-use Rattle.scram_mech.specs.Run.{run_step}
 use Rattle.scram_mech.specs.Name.{longer, within, name_step}
-use Rattle.scram_mech.specs.Digits.{digits_step}
-use Rattle.scram_mech.specs.Symbols.{symbols_step, symbols_end}
+use Rattle.scram_mech.specs.Symbols.{symbols_step}
 use Rattle.scram_mech.specs.Further.{go, is_last, further_step, further_ends}
 use Rattle.scram_mech.specs.Formats.{Segment, Word, Value, End}
 use Rattle.scram_mech.specs.FirstText.{first_format}
 use Rattle.scram_mech.specs.SecondText.{second_format}
 use Rattle.scram_mech.specs.ThirdText.{third_format}
 use Rattle.scram_mech.specs.FinalText.{signature_format, error_format}
-use Rattle.scram_mech.proofs.Walks.{walk, walk-cons, walk-nil, walk-step, walk-map, map_some, Stops}
-use Rattle.scram_mech.proofs.Sextets.{eq_of}
+use Rattle.scram_mech.proofs.Walks.{walk, walk-cons, walk-nil, walk-map, Stops}
 use Rattle.scram_mech.proofs.SymbolSteps.{st, some_is}
 use Rattle.scram_mech.proofs.RunWalks.{run_of, run-taken}
 use Rattle.scram_mech.proofs.ValueFacts.{symbols_walk, run_walk, digits_walk}
-use Rattle.scram_mech.proofs.Pieces.{Spelled, Takes}
+use Rattle.scram_mech.proofs.Pieces.{Takes}
 use Rattle.scram_mech.proofs.Written.{AtComma}
 use Rattle.scram_mech.proofs.FurtherWalks.{unclosed, up_to}
 use Rattle.scram_mech.proofs.OneCut.{nonce-again, name-again, base64-again, rounds-again, further-comma, name_walk, further_walk}
-use Rattle.scram_mech.proofs.Completions.{Ends, symbols-complete}
+use Rattle.scram_mech.proofs.Completions.{symbols-complete}
 use Rattle.scram_mech.proofs.Places.{Completable, Parting, Sound}
 
 -- a completion inside one kind of state

@@ -1,11 +1,11 @@
 -- What the steps of base64 took.
-use Rattle.std.proofs.Common.{◌≡◌, ℕ, zero, suc, ◌+◌, ◌-◌, ◌%◌, ◌<◌, ◌≤◌, ◌⊎◌, inl, inr, Bool, true, false, cond, ◌&&◌, ◌||◌, ◌==◌, List, [], ◌∷◌, Option, Some, None, nat_lt, nat_le, nat_eq, refl, sym, ap, ◌∙◌, arith}
+use Rattle.std.proofs.Common.{◌≡◌, ℕ, ◌-◌, ◌%◌, ◌≤◌, ◌⊎◌, inl, inr, Bool, true, false, cond, ◌&&◌, ◌||◌, ◌==◌, Option, Some, None, nat_lt, nat_le, nat_eq, refl, arith}
 use Rattle.std.proofs.lemmas.Bool.Decides.{nat_tests}
 use Rattle.scram_mech.specs.declared.symbols.Spot.{Spot}
 use Rattle.scram_mech.specs.declared.symbols.Spot.TheVariants.{First, Second, Third, Fourth, Padding, Full}
 use Rattle.scram_mech.specs.declared.symbols.Symbols.{Symbols}
 use Rattle.scram_mech.specs.Signs.{sextet_of}
-use Rattle.scram_mech.specs.Symbols.{at, at_if, may_be_last, pad, next_group, sextet, sextet_or, symbols_step}
+use Rattle.scram_mech.specs.Symbols.{at_if, may_be_last, pad, sextet, sextet_or, symbols_step}
 use Rattle.scram_mech.proofs.Sextets.{eq_of, and_true}
 
 abbrev pub st : Spot → ℕ → ℕ → Symbols

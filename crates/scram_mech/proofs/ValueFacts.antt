@@ -1,9 +1,5 @@
 -- What the values are that were read.
-use Rattle.std.proofs.Common.{◌≡◌, ℕ, ◌+◌, ◌≤◌, ◌<◌, ◌-◌, Bool, true, List, [], ◌∷◌, length, Option, Some, Result, Ok, refl, sym, ap, ◌∙◌, arith, subst, length-append}
-use Rattle.std.specs.Str.{IsUtf8, is_utf8}
-use Rattle.std.specs.List.{list_all}
-use Rattle.base64.specs.GeneralPurpose.{encode_of, decode_of, IsBytes}
-use Rattle.base64.specs.Engines.{standard}
+use Rattle.std.proofs.Common.{◌≡◌, ℕ, ◌≤◌, ◌-◌, true, List, [], ◌∷◌, length, Some, Result, Ok, refl, sym, ap, ◌∙◌, arith, subst, length-append}
 use Rattle.scram_mech.specs.declared.run.Class.{Class}
 use Rattle.scram_mech.specs.declared.run.Class.TheVariants.{LineName}
 use Rattle.scram_mech.specs.declared.run.Run.{Run}
@@ -19,9 +15,9 @@ use Rattle.scram_mech.specs.Values.{value_at}
 use Rattle.scram_mech.specs.Reading.{end_at}
 use Rattle.scram_mech.specs.Run.{run_step, run_ends, IsLineName}
 use Rattle.scram_mech.specs.Digits.{digits_step, AreDigits}
-use Rattle.scram_mech.specs.Symbols.{symbols_step, symbols_end}
-use Rattle.scram_mech.specs.Base64.{encoded, decoded, IsBase64, InRange}
-use Rattle.scram_mech.proofs.Walks.{walk, walk-map, map_some, Found, value-found}
+use Rattle.scram_mech.specs.Symbols.{symbols_step}
+use Rattle.scram_mech.specs.Base64.{decoded, IsBase64, InRange}
+use Rattle.scram_mech.proofs.Walks.{walk, walk-map, map_some, value-found}
 use Rattle.scram_mech.proofs.Sextets.{eq_of}
 use Rattle.scram_mech.proofs.SymbolSteps.{st}
 use Rattle.scram_mech.proofs.Signs64.{Decodes, decodes, encoded-signs}

@@ -1,5 +1,5 @@
 -- What is written is read.
-use Rattle.std.proofs.Common.{◌≡◌, ℕ, zero, suc, ◌+◌, ◌-◌, ◌*◌, ◌/◌, ◌%◌, ◌^◌, ◌<◌, ◌≤◌, Bool, true, false, not, cond, ◌&&◌, ◌||◌, ◌==◌, List, [], ◌∷◌, ◌++◌, length, take, drop, get_or, Option, Some, None, Result, Ok, Err, nat_lt, nat_le, nat_eq, refl, sym, ap, ◌∙◌, arith, subst, append_assoc, length-append, codes}
+use Rattle.std.proofs.Common.{◌≡◌, ℕ, zero, suc, ◌+◌, ◌-◌, ◌*◌, ◌/◌, ◌%◌, ◌^◌, ◌<◌, ◌≤◌, Bool, true, false, cond, ◌&&◌, ◌||◌, ◌==◌, List, [], ◌∷◌, ◌++◌, length, take, Some, None, Ok, nat_eq, refl, sym, ap, ◌∙◌, arith, subst, append_assoc, length-append, codes}
 use Rattle.std.proofs.lemmas.List.{append-nil}
 use Rattle.std.proofs.lemmas.Grind.{common_steps}
 use Rattle.std.proofs.Common.{inl, inr}
@@ -8,31 +8,26 @@ use Rattle.std.specs.List.{list_all}
 use Rattle.std.specs.Fmt.{decimal}
 use Rattle.std.proofs.lemmas.Bool.Decides.{nat_tests}
 use Rattle.base64.specs.GeneralPurpose.{IsBytes}
-use Rattle.scram_mech.specs.declared.refusal.ScramRefusal.{ScramRefusal}
-use Rattle.scram_mech.specs.declared.refusal.ScramRefusal.TheVariants as refusals
 use Rattle.scram_mech.specs.declared.run.Class.{Class}
-use Rattle.scram_mech.specs.declared.run.Class.TheVariants.{Nonce, Printable, LineName}
+use Rattle.scram_mech.specs.declared.run.Class.TheVariants.{Nonce}
 use Rattle.scram_mech.specs.declared.run.Run.{Run}
-use Rattle.scram_mech.specs.declared.name.Escape.TheVariants.{Outside, Begun, Comma, Equals}
-use Rattle.scram_mech.specs.declared.digits.Digits.{Digits}
+use Rattle.scram_mech.specs.declared.name.Escape.TheVariants.{Outside}
 use Rattle.scram_mech.specs.declared.digits.Digits.TheVariants as digits
 use Rattle.scram_mech.specs.declared.symbols.Spot.TheVariants as spots
 use Rattle.scram_mech.specs.declared.symbols.Symbols.{Symbols}
 use Rattle.scram_mech.specs.declared.further.Due.TheVariants as dues
-use Rattle.scram_mech.specs.declared.state.State.{State}
 use Rattle.scram_mech.specs.declared.state.State.TheVariants as states
 use Rattle.scram_mech.specs.Signs.{is_printable, is_nonce, sextet_of}
-use Rattle.scram_mech.specs.State.{some, a_name, rounds_number, base64, further_parts, step, ends}
-use Rattle.scram_mech.specs.Run.{has, run_step, run_ends}
-use Rattle.scram_mech.specs.Name.{escape_of, escaped, unescaped, name_step}
-use Rattle.scram_mech.specs.Digits.{number_of, digits_step, digits_end}
-use Rattle.scram_mech.specs.Symbols.{symbols_step, symbols_end}
-use Rattle.scram_mech.specs.Base64.{encoded, bits, group, decoded}
-use Rattle.scram_mech.specs.Reading.{◌>>=◌, in_text}
-use Rattle.scram_mech.specs.Formats.{Segment, Word, Value, End, pieces_of, piece, is_mandatory, values_of}
-use Rattle.scram_mech.specs.FirstText.{First, first_format, first_of, first_text}
-use Rattle.scram_mech.specs.SecondText.{Second, second_format, second_of, second_text}
-use Rattle.scram_mech.specs.ThirdText.{Third, third_format, third_of, bare_text, with_proof}
+use Rattle.scram_mech.specs.State.{some, a_name, rounds_number, base64, further_parts, step}
+use Rattle.scram_mech.specs.Run.{has, run_step}
+use Rattle.scram_mech.specs.Name.{escaped, unescaped, name_step}
+use Rattle.scram_mech.specs.Digits.{digits_step}
+use Rattle.scram_mech.specs.Symbols.{symbols_step}
+use Rattle.scram_mech.specs.Base64.{encoded, bits, decoded}
+use Rattle.scram_mech.specs.Formats.{Segment, Value, End, is_mandatory, values_of}
+use Rattle.scram_mech.specs.FirstText.{first_format, first_of, first_text}
+use Rattle.scram_mech.specs.SecondText.{second_format, second_of, second_text}
+use Rattle.scram_mech.specs.ThirdText.{third_format, third_of, bare_text, with_proof}
 use Rattle.scram_mech.specs.FinalText.{signature_format, begins_as_error, final_of, final_text}
 use Rattle.scram_mech.specs.Judging.{judged}
 use Rattle.scram_mech.proofs.Walks.{walk, walk-map, Stops}

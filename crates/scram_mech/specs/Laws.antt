@@ -1,6 +1,5 @@
 -- Laws of the exchange, in the words of RFC 5802 section 3.
-use Rattle.std.specs.Prelude.{◌≡◌, ℕ, ◌≤◌, true, List, [], ◌∷◌, ◌++◌, length, slice_get, Option, Some, Result, Ok, Err}
-use Rattle.krb_tokens.specs.declared.done.MechDone.{MechDone}
+use Rattle.std.specs.Prelude.{◌≡◌, ℕ, ◌≤◌, true, List, [], ◌∷◌, ◌++◌, length, slice_get, Option, Some, Ok, Err}
 use Rattle.scram_mech.specs.declared.verifiers.Verifier.{Verifier}
 use Rattle.std.specs.List.{list_all}
 use Rattle.base64.specs.GeneralPurpose.{IsBytes}
@@ -15,7 +14,7 @@ use Rattle.scram_mech.specs.SecondText.{Second, second_format, second_of}
 use Rattle.scram_mech.specs.ThirdText.{Third, third_format, third_of}
 use Rattle.scram_mech.specs.FinalText.{signature_format, error_format, final_of}
 use Rattle.scram_mech.specs.Secrets.{Secret, client_key, stored_key, auth_message, masked, proof_of, key_of_client, context_key}
-use Rattle.scram_mech.specs.AuthParts.{AuthParts, auth_parts}
+use Rattle.scram_mech.specs.AuthParts.{auth_parts}
 use Rattle.scram_mech.specs.MechMaking.{MechMaking, signature_making, VerifiesProof, Verifies, AmongMakings}
 use Rattle.scram_mech.specs.Initiator.{InitModel, WaitModel, InitStarted, InitAnswered, InitFinished, init_started, secret_of, bare_of, auth_of, answer_with, init_answered, init_finished}
 use Rattle.scram_mech.specs.Verifiers.{line_for, line_with}

@@ -1,16 +1,11 @@
 -- What is due of a part's value, octet by octet.
-use Rattle.std.specs.Prelude.{ℕ, Bool, Option, Some, None}
+use Rattle.std.specs.Prelude.{ℕ, Bool, Option, None}
 use Rattle.std.specs.Option.{option_map}
 use Rattle.scram_mech.specs.declared.run.Class.{Class}
-use Rattle.scram_mech.specs.declared.run.Run.{Run}
 use Rattle.scram_mech.specs.declared.name.Escape.TheVariants.{Outside}
-use Rattle.scram_mech.specs.declared.name.Name.{Name}
-use Rattle.scram_mech.specs.declared.digits.Digits.{Digits}
 use Rattle.scram_mech.specs.declared.digits.Digits.TheVariants as digits
 use Rattle.scram_mech.specs.declared.symbols.Spot.TheVariants as spots
-use Rattle.scram_mech.specs.declared.symbols.Symbols.{Symbols}
 use Rattle.scram_mech.specs.declared.further.Due.TheVariants as dues
-use Rattle.scram_mech.specs.declared.further.Further.{Further}
 use Rattle.scram_mech.specs.declared.state.State.{State}
 use Rattle.scram_mech.specs.declared.state.State.TheVariants as states
 use Rattle.scram_mech.specs.Run.{run_step, run_ends}

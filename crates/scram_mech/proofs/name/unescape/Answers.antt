@@ -1,8 +1,7 @@
-use Rattle.std.proofs.Common.{sym, ◌∙◌, ap, subst, ℕ, List, ◌≡◌, ◌++◌, drop}
+use Rattle.std.proofs.Common.{subst, ◌≡◌, ◌++◌, drop}
 use Rattle.scram_mech.proofs.Loops.{closes_comma, closes_equals}
 use Rattle.scram_mech.specs.Name.{unescaped}
 use Rattle.scram_mech.specs.declared.name.Escape.{Escape}
-use Rattle.scram_mech.specs.declared.name.Escape.TheVariants.{Comma, Equals}
 use Rattle.scram_mech.specs.declared.name.Escape.TheVariants.{Outside}
 use Rattle.scram_mech.proofs.name.unescape.Goals as goal
 

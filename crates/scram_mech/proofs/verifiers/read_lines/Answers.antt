@@ -1,4 +1,4 @@
-use Rattle.std.proofs.Common.{◌≡◌, ◌<◌, ◌+◌, ◌∙◌, length, arith, sym}
+use Rattle.std.proofs.Common.{◌<◌, ◌+◌, ◌∙◌, length, arith, sym}
 use Rattle.std.proofs.lemmas.Result.{err_from_is_err_and}
 use Rattle.scram_mech.proofs.Lines.{starts, is_done, is_full, fails, goes_on}
 use Rattle.scram_mech.proofs.verifiers.read_lines.Goals as goal
