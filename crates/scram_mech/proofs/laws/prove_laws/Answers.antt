@@ -1,0 +1,30 @@
+use Rattle.scram_mech.proofs.ExchangeLaws.{proves, completes, takes, accepts, proof-verifies}
+use Rattle.scram_mech.proofs.Masks.{proof-gives, same-key}
+use Rattle.scram_mech.proofs.Agreement.{agrees}
+use Rattle.scram_mech.proofs.OneCut.{parts-of, one-cut}
+use Rattle.scram_mech.specs.FirstText.{first_format}
+use Rattle.scram_mech.specs.SecondText.{second_format}
+use Rattle.scram_mech.specs.ThirdText.{third_format}
+use Rattle.scram_mech.specs.FinalText.{signature_format, error_format}
+use Rattle.scram_mech.proofs.SoundTexts.{first-sound, second-sound, third-sound, signature-sound, error-sound}
+use Rattle.scram_mech.proofs.PlaceLaws.{longest}
+use Rattle.scram_mech.proofs.laws.prove_laws.Goals as goal
+
+pub returns : goal.returns
+returns c = record {
+  proves = proves;
+  completes = completes;
+  takes = takes;
+  accepts = accepts;
+  recovers = proof-gives;
+  one_key = same-key;
+  proof_verifies = proof-verifies;
+  agrees = agrees;
+  parts = parts-of;
+  one_cut = one-cut;
+  first_place = longest first_format first-sound;
+  second_place = longest second_format second-sound;
+  third_place = longest third_format third-sound;
+  signature_place = longest signature_format signature-sound;
+  error_place = longest error_format error-sound;
+}

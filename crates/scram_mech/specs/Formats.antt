@@ -1,0 +1,47 @@
+-- Texts as words and values one behind the other.
+use Rattle.std.specs.Prelude.{ℕ, Bool, false, ◌==◌, ◌&&◌, List, [], ◌∷◌, slice_index_or, Result, Ok, Err, if◌then◌else◌}
+use Rattle.scram_mech.specs.declared.refusal.Stuck.{Stuck}
+use Rattle.scram_mech.specs.declared.refusal.ScramRefusal.{ScramRefusal}
+use Rattle.scram_mech.specs.declared.refusal.ScramRefusal.TheVariants as refusals
+use Rattle.scram_mech.specs.declared.state.State.{State}
+use Rattle.scram_mech.specs.Reading.{◌>>=◌, in_text, word_at, end_at}
+use Rattle.scram_mech.specs.Values.{value_at}
+
+pub data Segment : Type 0 where
+  Word : List ℕ → Segment
+  Value : State → Segment
+  End : Segment
+
+-- the values at the front, and what is left behind them
+unfoldable pub pieces : List Segment → List ℕ → Result (List (List ℕ) × List ℕ) Stuck
+pieces [] octets = Ok ([], octets)
+pieces (Word word ∷ format) octets = do
+  word ← word_at word octets
+  pieces format word.1
+pieces (Value start ∷ format) octets = do
+  value ← value_at start octets
+  others ← pieces format value.1
+  Ok (value.0 ∷ others.0, others.1)
+pieces (End ∷ format) octets = do
+  end ← end_at octets
+  pieces format end.1
+
+-- the values of a whole text
+unfoldable pub pieces_of : List Segment → List ℕ → Result (List (List ℕ)) Stuck
+pieces_of format text = do
+  values ← pieces format text
+  Ok values.0
+
+-- the value at a place
+abbrev pub piece : List (List ℕ) → ℕ → List ℕ
+piece values at = slice_index_or values at []
+
+-- the text begins `m=`, RFC 5802 section 5.1
+abbrev pub is_mandatory : List ℕ → Bool
+is_mandatory [] = false
+is_mandatory (a ∷ []) = false
+is_mandatory (a ∷ b ∷ octets) = (a == 109) && (b == 61)
+
+-- the values of a text of an exchange: a mandatory extension is judged first
+unfoldable pub values_of : List Segment → List ℕ → Result (List (List ℕ)) ScramRefusal
+values_of format text = if is_mandatory text then Err refusals.Mandatory else in_text text (pieces_of format text)

@@ -1,0 +1,161 @@
+//! The acceptor's end.
+
+ghost use Rattle.std.specs.Prelude.{◌≡◌, ◌++◌, IfOk, option_map};
+ghost use Rattle.sec_base.specs.Answers.{Gives};
+ghost use Rattle.scram_mech.specs.declared.refusal.ScramRefusal.TheVariants as refusals;
+ghost use Rattle.scram_mech.specs.Reading.{seen};
+ghost use Rattle.scram_mech.specs.SecondText.{second_text};
+ghost use Rattle.scram_mech.specs.Acceptor.{accepting, nonce_of, second_by, auth_with, accept_started, accept_finished};
+
+use crate::encoding::encode;
+use crate::final_text::write_final;
+use crate::first_text::read_first;
+use crate::judging::{bindings_of, is_bound, nobody, unframed};
+use crate::name::unescape;
+use crate::refusal::ScramRefusal;
+use crate::second_text::put_second;
+use crate::secrets::{auth_message, code_of, key_of_client, masked, same, twenty};
+use crate::texts::put;
+use crate::third_text::read_third;
+use crate::verifiers::{Verifier, Verifiers};
+use gss_base::{Bindings, binding_hash};
+use krb_tokens::MechDone;
+use sec_base::{Moment, NoMemory, Octets};
+use sha1::Sha1;
+use std::alloc::Global;
+use std::marker::Model;
+
+/// The microseconds that a context lasts.
+const LIFE: u64 = 86_400_000_000;
+
+/// The acceptor's first text is out, and the proof is due.
+#[derive(Debug, Drop)]
+pub struct ScramAccept {
+    line: Verifier,
+    first: Octets,
+    client: Octets,
+    own: Octets,
+}
+
+impl Model for ScramAccept {
+    ghost use Rattle.scram_mech.specs.Acceptor.{AcceptModel};
+
+    ghost Value = { AcceptModel };
+
+    ghost view = { λ a. record { line = a.line; first = a.first; client = a.client; own = a.own } };
+}
+
+impl ScramAccept {
+    /// Takes an initiator's first token, framed, with 18 octets that were drawn for the nonce: the acceptor's first text.
+    #[tactic(auto, unfolding(crate::specs::Acceptor::accept_started))]
+    pub fn start(
+        alloc: Global,
+        verifiers: &Verifiers,
+        token: &[u8],
+        nonce: &[u8; 18],
+    ) -> Result<(ScramAccept, Octets), ScramRefusal>
+        ensures { Gives refusals.NoMemory (λ p. record { end = p.0; token = p.1 }) result (accept_started verifiers.now token.now nonce.now) }
+    {
+        let text = unframed(token)?;
+        let first = read_first(text)?;
+        let name = unescape(alloc, first.name)?;
+        let Some(line) = verifiers.find(name.as_slice()) else {
+            return Err(ScramRefusal::NoUser);
+        };
+        let accept = ScramAccept {
+            line: line.copied(alloc)?,
+            first: Octets::of(alloc, text)?,
+            client: Octets::of(alloc, first.nonce)?,
+            own: encode(alloc, nonce)?,
+        };
+        let token = accept.second(alloc)?;
+        Ok((accept, token))
+    }
+
+    /// The whole nonce.
+    fn nonce(&self, alloc: Global) -> Result<Octets, NoMemory>
+        ensures { IfOk result (λ o. o ≡ nonce_of self.now) }
+    {
+        let mut nonce = Vec::new(alloc);
+        put(&mut nonce, self.client.as_slice())?;
+        put(&mut nonce, self.own.as_slice())?;
+        Ok(Octets::from_vec(nonce))
+    }
+
+    /// The second text.
+    fn second(&self, alloc: Global) -> Result<Octets, NoMemory>
+        ensures { IfOk result (λ o. o ≡ second_by self.now) }
+    {
+        let nonce = self.nonce(alloc)?;
+        let mut text = Vec::new(alloc);
+        let salt = self.line.salt.as_slice();
+        put_second(alloc, &mut text, nonce.as_slice(), salt, self.line.rounds)?;
+        Ok(Octets::from_vec(text))
+    }
+
+    /// The AuthMessage with a third text without its proof.
+    fn auth(&self, alloc: Global, bare: &[u8]) -> Result<Octets, NoMemory>
+        ensures { IfOk result (λ o. o ≡ auth_with self.now bare.now) }
+    {
+        let second = self.second(alloc)?;
+        auth_message(alloc, self.first.as_slice(), second.as_slice(), bare)
+    }
+
+    /// Takes the text with the proof: what the exchange gives, and the final text. The end is spent, whatever the answer. An acceptor
+    /// without bindings takes whatever data come; the context ends a day after `now`.
+    pub fn finish(
+        self,
+        alloc: Global,
+        text: &[u8],
+        bindings: Option<&Bindings>,
+        now: Moment,
+    ) -> Result<(MechDone, Octets), ScramRefusal>
+        ensures { Gives refusals.NoMemory (λ p. record { done = p.0; token = p.1 }) result
+            (seen accepting (accept_finished self text.now (option_map (λ b. b.now) bindings.entry) now)) }
+    {
+        self.finished(alloc, text, bindings, now)
+    }
+
+    #[tactic(auto, unfolding(crate::specs::Acceptor::accept_finished, crate::specs::Secrets::signature_of, crate::specs::Secrets::context_key))]
+    fn finished(
+        &self,
+        alloc: Global,
+        text: &[u8],
+        bindings: Option<&Bindings>,
+        now: Moment,
+    ) -> Result<(MechDone, Octets), ScramRefusal>
+        ensures { Gives refusals.NoMemory (λ p. record { done = p.0; token = p.1 }) result
+            (seen accepting (accept_finished self.now text.now (option_map (λ b. b.now) bindings.entry) now)) }
+    {
+        let third = read_third(text)?;
+        let nonce = self.nonce(alloc)?;
+        if !same(third.nonce, nonce.as_slice()) {
+            return Err(ScramRefusal::Nonce);
+        }
+        let binding = third.binding.decode(alloc)?;
+        if !is_bound(bindings, binding.as_slice()) {
+            return Err(ScramRefusal::Bindings);
+        }
+        let auth = self.auth(alloc, third.bare)?;
+        let proof = third.proof.decode(alloc)?;
+        let client = masked(
+            &self.line.stored,
+            auth.as_slice(),
+            &twenty(proof.as_slice()),
+        );
+        if !same(&Sha1::digest(&client), &self.line.stored) {
+            return Err(ScramRefusal::Proof);
+        }
+        let signature = code_of(&self.line.server, auth.as_slice());
+        let token = write_final(alloc, &signature)?;
+        let done = MechDone {
+            key: key_of_client(&self.line.stored, &client, auth.as_slice()),
+            subkey: false,
+            initiator: self.line.name,
+            acceptor: nobody(),
+            hash: binding_hash(bindings_of(binding).as_ref()),
+            ends: now.later(LIFE),
+        };
+        Ok((done, token))
+    }
+}

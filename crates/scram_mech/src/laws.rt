@@ -1,0 +1,8 @@
+//! What holds of the definitions alone.
+
+ghost use Rattle.scram_mech.specs.Laws.{Laws};
+
+/// Does nothing; its contract holds the laws of an exchange: what each end made and found verified where it answered.
+pub fn prove_laws()
+    ensures { Laws }
+{}

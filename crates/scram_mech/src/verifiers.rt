@@ -1,0 +1,238 @@
+//! The file of verifiers: a line `name:rounds:salt:stored:server` for each user.
+
+ghost use Rattle.std.specs.Prelude.{◌≡◌, ◌≤◌, ◌<◌, ◌^◌, ◌++◌, ◌∷◌, [], length, IfOk, OnOk, option_copied, Option};
+ghost use Rattle.sec_base.specs.Answers.{Gives};
+ghost use Rattle.scram_mech.specs.declared.refusal.ScramRefusal.TheVariants as refusals;
+ghost use Rattle.scram_mech.specs.declared.refusal.VerifierRefusal.TheVariants as verifier_refusals;
+ghost use Rattle.scram_mech.specs.Base64.{InRange, decoded};
+ghost use Rattle.scram_mech.specs.Digits.{number_of};
+ghost use Rattle.scram_mech.specs.Reading.{Reads, Answers, MayRead};
+ghost use Rattle.scram_mech.specs.Formats.{pieces};
+ghost use Rattle.scram_mech.specs.Verifiers.{line_format, line_at, lines_at, line_for, once, verifiers_of, line_text, made_line};
+
+use crate::cursor::Cursor;
+use crate::digits::Decimal;
+use crate::encoding::{Encoded, put_encoded};
+use crate::judging::{are_rounds, judge};
+use crate::refusal::{ScramRefusal, Stuck, VerifierRefusal};
+use crate::run::Class;
+use crate::second_text::put_decimal;
+use crate::secrets::{Secrets, same, twenty};
+use crate::texts::put;
+use gss_base::Label;
+use sec_base::{NoMemory, Octets};
+use std::alloc::Global;
+use std::marker::Model;
+
+/// The octets of a stored key and of a server key.
+const KEY: u16 = 20;
+
+/// What an acceptor knows of a user.
+#[derive(Debug, Drop)]
+pub struct Verifier {
+    pub name: Label,
+    pub rounds: u32,
+    pub salt: Octets,
+    pub stored: [u8; 20],
+    pub server: [u8; 20],
+}
+
+impl Verifier {
+    /// A copy of it.
+    pub fn copied(&self, alloc: Global) -> Result<Verifier, NoMemory>
+        ensures { IfOk result (λ v. v ≡ self.now) }
+    {
+        let stored = self.stored;
+        let server = self.server;
+        Ok(Verifier {
+            name: self.name,
+            rounds: self.rounds,
+            salt: Octets::of(alloc, self.salt.as_slice())?,
+            stored,
+            server,
+        })
+    }
+}
+
+/// The verifiers of users, no name twice. Contracts see the list of their lines.
+#[derive(Debug, Drop)]
+pub struct Verifiers {
+    lines: Vec<Verifier>,
+}
+
+impl Model for Verifiers {
+    ghost use Rattle.std.specs.Prelude.{List};
+    ghost use Rattle.scram_mech.specs.declared.verifiers.Verifier.{Verifier};
+
+    ghost Value = { List Verifier };
+
+    ghost view = { λ v. v.lines.items };
+}
+
+/// The values of a line, as they stand there.
+#[derive(Clone, Copy)]
+struct LineText<'a> {
+    name: Label,
+    rounds: Decimal<'a>,
+    salt: Encoded<'a>,
+    stored: Encoded<'a>,
+    server: Encoded<'a>,
+}
+
+#[tactic(auto, unfolding(crate::specs::Formats::pieces, crate::specs::Verifiers::line_format))]
+fn parts_of<'a>(cursor: &mut Cursor<'a>) -> Result<LineText<'a>, Stuck>
+    ensures read { Reads (λ t. t.name ∷ t.rounds.digits.now ∷ t.salt.signs.now ∷ t.stored.signs.now ∷ t.server.signs.now ∷ []) cursor.new result (pieces line_format cursor.old) }
+    ensures stored { IfOk result (λ t. InRange 20 20 (decoded t.stored.signs.now)) }
+    ensures server { IfOk result (λ t. InRange 20 20 (decoded t.server.signs.now)) }
+{
+    let name = cursor.line_name()?;
+    cursor.word(b":")?;
+    let rounds = cursor.number()?;
+    cursor.word(b":")?;
+    let salt = cursor.base64(1, 64)?;
+    cursor.word(b":")?;
+    let stored = cursor.base64(KEY, KEY)?;
+    cursor.word(b":")?;
+    let server = cursor.base64(KEY, KEY)?;
+    cursor.word(b"\n")?;
+    Ok(LineText {
+        name,
+        rounds,
+        salt,
+        stored,
+        server,
+    })
+}
+
+/// The line of this number, which stands at the front.
+#[tactic(auto, unfolding(crate::specs::Verifiers::line_at))]
+fn read_line(alloc: Global, cursor: &mut Cursor, number: usize) -> Result<Verifier, VerifierRefusal>
+    ensures read { MayRead verifier_refusals.NoMemory (λ v. v) cursor.new result (line_at number cursor.old) }
+{
+    let Ok(line) = parts_of(cursor) else {
+        return Err(VerifierRefusal::Line { number });
+    };
+    let rounds = line.rounds.number();
+    if !are_rounds(rounds) {
+        return Err(VerifierRefusal::Line { number });
+    }
+    let stored = line.stored.decode(alloc)?;
+    let server = line.server.decode(alloc)?;
+    Ok(Verifier {
+        name: line.name,
+        rounds: rounds as u32,
+        salt: line.salt.decode(alloc)?,
+        stored: twenty(stored.as_slice()),
+        server: twenty(server.as_slice()),
+    })
+}
+
+/// All lines of a file.
+fn read_lines(alloc: Global, bytes: &[u8]) -> Result<Vec<Verifier>, VerifierRefusal>
+    ensures { Gives verifier_refusals.NoMemory (λ v. v.items) result (lines_at (length bytes.now) 1 bytes.now) }
+{
+    let mut cursor = Cursor::new(bytes);
+    let mut lines = Vec::new(alloc);
+    for count in 0..bytes.len() {
+        if cursor.left() == 0 {
+            return Ok(lines);
+        }
+        let line = read_line(alloc, &mut cursor, count + 1)?;
+        lines.push(line)?;
+    }
+    Ok(lines)
+}
+
+/// The first line of a name.
+fn line_for<'a>(lines: &'a [Verifier], name: &[u8]) -> Option<&'a Verifier>
+    ensures { option_copied result ≡ line_for lines.now name.now }
+{
+    for line in lines {
+        if same(line.name.text().as_bytes(), name) {
+            return Some(line);
+        }
+    }
+    None
+}
+
+/// Refuses the first line whose name stands in a line before it.
+#[tactic(auto, unfolding(crate::specs::Verifiers::once))]
+fn check_once(lines: &[Verifier]) -> Result<(), VerifierRefusal>
+    ensures { Answers (λ u. u) result (once [] 1 lines.now) }
+{
+    for (count, line) in lines.iter().enumerate() {
+        if line_for(&lines[..count], line.name.text().as_bytes()).is_some() {
+            return Err(VerifierRefusal::Twice { number: count + 1 });
+        }
+    }
+    Ok(())
+}
+
+/// The verifiers in a file: lines `name:rounds:salt:stored:server`, each ended by a line feed. A name is 1 to 255 octets of printable
+/// ASCII without a colon; rounds are decimal, from 4,096 to 200,000; the rest is base64, of 1 to 64 octets and of 20 each.
+#[tactic(auto, unfolding(crate::specs::Verifiers::verifiers_of))]
+pub fn read_verifiers(alloc: Global, bytes: &[u8]) -> Result<Verifiers, VerifierRefusal>
+    ensures { Gives verifier_refusals.NoMemory (λ v. v) result (verifiers_of bytes.now) }
+{
+    let lines = read_lines(alloc, bytes)?;
+    check_once(lines.as_slice())?;
+    Ok(Verifiers { lines })
+}
+
+impl Verifiers {
+    /// The first line of a name.
+    pub(crate) fn find(&self, name: &[u8]) -> Option<&Verifier>
+        ensures { option_copied result ≡ line_for self.now name.now }
+    {
+        line_for(self.lines.as_slice(), name)
+    }
+}
+
+/// The line of a user in a verifier file.
+#[tactic(auto, unfolding(crate::specs::Verifiers::line_text))]
+fn write_line(
+    alloc: Global,
+    user: &[u8],
+    salt: &[u8],
+    rounds: u32,
+    secrets: &Secrets,
+) -> Result<Octets, NoMemory>
+    ensures { IfOk result (λ o. o ≡ line_text (record { name = user.now; rounds = rounds; salt = salt.now; stored = secrets.now.stored; server = secrets.now.server })) }
+{
+    let mut line = Vec::new(alloc);
+    put(&mut line, user)?;
+    put(&mut line, b":")?;
+    put_decimal(alloc, &mut line, rounds)?;
+    put(&mut line, b":")?;
+    put_encoded(alloc, &mut line, salt)?;
+    put(&mut line, b":")?;
+    put_encoded(alloc, &mut line, &secrets.stored)?;
+    put(&mut line, b":")?;
+    put_encoded(alloc, &mut line, &secrets.server)?;
+    put(&mut line, b"\n")?;
+    Ok(Octets::from_vec(line))
+}
+
+/// The line of a user with a password, to be put into a verifier file. A user has 1 to 255 octets of printable ASCII without a colon, a
+/// password 1 to 1,024 of printable ASCII; where one isn't so, the place is its first octet that can't stand there.
+#[tactic(auto, unfolding(crate::specs::Verifiers::made_line))]
+pub fn make_verifier(
+    alloc: Global,
+    user: &str,
+    password: &str,
+    salt: &[u8],
+    rounds: u32,
+) -> Result<Octets, ScramRefusal>
+    requires some { 1 ≤ length salt.now }
+    requires few { length salt.now ≤ 64 }
+    ensures { Gives refusals.NoMemory (λ o. o) result (made_line user.now password.now salt.now rounds) }
+{
+    judge(user.as_bytes(), Class::LineName, 255)?;
+    judge(password.as_bytes(), Class::Printable, 1_024)?;
+    if !are_rounds(rounds as u64) {
+        return Err(ScramRefusal::Rounds);
+    }
+    let secrets = Secrets::of(password.as_bytes(), salt, rounds);
+    let line = write_line(alloc, user.as_bytes(), salt, rounds, &secrets)?;
+    Ok(line)
+}
