@@ -39,10 +39,6 @@ token_short token h =
     let own : Within token 61040 = record { most = h } in
     omega (arith, (resp_within (token_sent token) 61040 (λ v e. none-is v 9 e) (λ v e. some-is token v 61040 own e) (λ v e. none-is v 28 e)).most)
 
-pub mic_short : (talk : Talk) (outcome : Outcome) → IsShort (resp_octets (mic_sent (own_mic talk outcome)))
-mic_short talk outcome =
-    omega (arith, (resp_within (mic_sent (own_mic talk outcome)) 0 (λ v e. none-is v 9 e) (λ v e. none-is v 0 e) (λ v e. some-is (own_mic talk outcome) v 28 (list_mic_within outcome Initiator (own_list talk.own)) e)).most)
-
 own_within : (cred : MechCred) → Within (object_identifier.spell (oid_of (kind_of cred))) 15
 own_within (creds.Kerberos credential) = oid_within (oid_of kinds.Kerberos) nine
   where
@@ -75,3 +71,8 @@ if_short (Err refusal) token e h = tt
 pub if_first : {E : Type 0} (own : InitSetup) (token : List ℕ) (list : List (List ℕ)) (r : Result (List ℕ) E) → list ≡ own_list own → IfOk r (λ o. o ≡ init_octets (record { list = list; flags = None; token = Some token; mic = None })) → is_own_list own.list ≡ true → FitsBeside token → IfOk r IsShort
 if_first own token list r e g l h =
     if_short r (init_octets (first_sent own token)) (subst (λ (x : List (List ℕ)). IfOk r (λ o. o ≡ init_octets (record { list = x; flags = None; token = Some token; mic = None }))) e g) (first_short own token l h)
+
+pub if_mic : {E : Type 0} (outcome : Outcome) (list : List (List ℕ)) (mic : List ℕ) (r : Result (List ℕ) E) → mic ≡ list_mic outcome Initiator list → IfOk r (λ o. o ≡ resp_octets (mic_sent mic)) → IfOk r IsShort
+if_mic outcome list mic r e h =
+    let own : Within mic 28 = subst (λ (x : List ℕ). Within x 28) (sym e) (list_mic_within outcome Initiator list) in
+    if_short r (resp_octets (mic_sent mic)) h (omega (arith, (resp_within (mic_sent mic) 0 (λ v f. none-is v 9 f) (λ v f. none-is v 0 f) (λ v f. some-is mic v 28 own f)).most))
