@@ -1,5 +1,5 @@
 -- What was found verified where an end goes on.
-use Rattle.std.proofs.Common.{◌≡◌, ℕ, ◌+◌, Bool, true, ◌&&◌, eqb, List, [], ◌∷◌, Option, Some, None, Ok, option_and_then, refl, sym, ap, subst, ◌∙◌, arith, eqb-true}
+use Rattle.std.proofs.Common.{◌≡◌, ℕ, true, eqb, List, Option, Some, None, Ok, option_and_then, sym, ap, subst, ◌∙◌, arith, eqb-true}
 use Rattle.gss_base.specs.Name.{Name}
 use Rattle.gss_base.specs.SameName.{same_name}
 use Rattle.der_core.specs.Format.{all_of}
@@ -8,11 +8,10 @@ use Rattle.krb_derive.specs.declared.key.Etype.{Etype}
 use Rattle.krb_derive.specs.declared.key.Key.{Key}
 use Rattle.krb_derive.specs.Key.{etype_of}
 use Rattle.krb_derive.specs.Sealing.{opened}
-use Rattle.krb_derive.specs.Making.{VerifiesSealed, sealed_making}
+use Rattle.krb_derive.specs.Making.{VerifiesSealed}
 use Rattle.krb_msgs.specs.declared.encrypted_data.EncryptedData.{EncryptedData}
 use Rattle.krb_msgs.specs.declared.enc_ticket_part.EncTicketPart.{EncTicketPart}
 use Rattle.krb_msgs.specs.declared.authenticator.Authenticator.{Authenticator}
-use Rattle.krb_msgs.specs.declared.enc_ap_rep_part.EncApRepPart.{EncApRepPart}
 use Rattle.krb_msgs.specs.Ticket.{ticket}
 use Rattle.krb_msgs.specs.EncTicketPart.{enc_ticket_part}
 use Rattle.krb_msgs.specs.Authenticator.{authenticator}
@@ -25,12 +24,12 @@ use Rattle.ap_exchange.specs.declared.refusal.ApRefusal.{ApRefusal}
 use Rattle.ap_exchange.specs.declared.refusal.ApRefusal.TheVariants as refusals
 use Rattle.ap_exchange.specs.declared.judged.Judged.{Judged}
 use Rattle.ap_exchange.specs.declared.request.ApInit.{ApInit}
-use Rattle.ap_exchange.specs.Steps.{◌>>=◌, der_in, or_refuse, due}
+use Rattle.ap_exchange.specs.Steps.{der_in, due}
 use Rattle.ap_exchange.specs.Keys.{ticket_usage, authenticator_usage, reply_usage, known_key, key_in, subkey_in, is_type_of, opened_or, data_opened}
 use Rattle.ap_exchange.specs.Request.{seconds_of, micros_of}
-use Rattle.ap_exchange.specs.Exchange.{requested, name_in_realm, ticket_for, service_key, ticket_opened, Exchange, exchange_of, verified_in, judge_found}
+use Rattle.ap_exchange.specs.Exchange.{requested, name_in_realm, ticket_for, service_key, ticket_opened, Exchange, exchange_of, verified_in}
 use Rattle.ap_exchange.specs.Judging.{client_granted, client_said, hash_carried, is_bound, timely, hash_claimed, judged_as, claim_judged, judged}
-use Rattle.ap_exchange.specs.Reply.{replied, reply_opened, is_stamped, reply_done, part_taken, reply_taken, reply_verified, reply_found}
+use Rattle.ap_exchange.specs.Reply.{replied, reply_opened, is_stamped, part_taken, reply_taken, reply_verified}
 use Rattle.ap_exchange.specs.Laws.{JudgesBy, TakesBy}
 use Rattle.ap_exchange.proofs.Passed.{bind_ok, due_ok, or_ok, der_ok, opened_ok, if_ok, ok_is, same_is}
 

@@ -1,5 +1,5 @@
 -- Two ends whose facts fit.
-use Rattle.std.proofs.Common.{◌≡◌, ℕ, ◌+◌, ◌*◌, ◌/◌, ◌%◌, Bool, true, eqb, leb, List, [], ◌∷◌, ◌++◌, length, take, drop, ℤ, pos, Option, Some, None, Result, Ok, refl, sym, ap, subst, ◌∙◌, arith, eq-eqb}
+use Rattle.std.proofs.Common.{◌≡◌, ℕ, ◌+◌, true, leb, List, [], ◌∷◌, ◌++◌, length, take, pos, Option, Some, None, Result, Ok, refl, sym, ap, subst, ◌∙◌, arith, eq-eqb}
 use Rattle.std.proofs.lemmas.Bool.{le-leb}
 use Rattle.std.proofs.lemmas.List.{length-take-le, length-append}
 use Rattle.std.proofs.Math.Seq.{take-append_seam}
@@ -7,22 +7,18 @@ use Rattle.gss_base.specs.declared.mech.MechKind.TheVariants.{Kerberos}
 use Rattle.gss_base.specs.Mech.{oid_of}
 use Rattle.gss_base.specs.Name.{Name}
 use Rattle.gss_base.specs.Bindings.{hash_of}
-use Rattle.der_core.specs.Format.{all_of}
 use Rattle.der_core.specs.Frame.{framed}
 use Rattle.der_core.proofs.Wholes.{framed_law}
 use Rattle.krb_derive.specs.declared.key.Etype.{Etype}
 use Rattle.krb_derive.specs.declared.key.Etype.TheVariants as types
 use Rattle.krb_derive.specs.declared.key.Key.{Key}
 use Rattle.krb_derive.specs.declared.key.Key.TheVariants as keys
-use Rattle.krb_derive.specs.Key.{number_of_etype, type_of_key, key_octets, key_of, etype_of}
-use Rattle.krb_derive.specs.Sealing.{seal_of, opened}
+use Rattle.krb_derive.specs.Key.{number_of_etype, type_of_key, etype_of}
 use Rattle.krb_msgs.specs.declared.ap_req.ApReq.{ApReq}
 use Rattle.krb_msgs.specs.declared.ap_rep.ApRep.{ApRep}
 use Rattle.krb_msgs.specs.declared.enc_ticket_part.EncTicketPart.{EncTicketPart}
 use Rattle.krb_msgs.specs.ApReq.{ap_req}
 use Rattle.krb_msgs.specs.ApRep.{ap_rep}
-use Rattle.krb_msgs.specs.Authenticator.{authenticator}
-use Rattle.krb_msgs.specs.EncApRepPart.{enc_ap_rep_part}
 use Rattle.krb_msgs.proofs.MessageLaws.{ap_req_law, ap_rep_law, authenticator_law, enc_ap_rep_part_law}
 use Rattle.krb_files.specs.declared.keytab.Entry.{Entry}
 use Rattle.krb_files.specs.Granted.{Granted}
@@ -33,10 +29,10 @@ use Rattle.ap_exchange.specs.declared.judged.Judged.{Judged}
 use Rattle.ap_exchange.specs.Tokens.{inner_of, ap_req_id, ap_rep_id, token_of}
 use Rattle.ap_exchange.specs.Keys.{authenticator_usage, reply_usage, known_key, subkey_in, key_value, sealed_data, SealedOpens, is_type_of, data_opened}
 use Rattle.ap_exchange.specs.Draws.{drawn_subkey, drawn_confounder}
-use Rattle.ap_exchange.specs.Request.{label_of, seconds_of, micros_of, checksum_for, own_subkey, authenticator_of, authenticator_octets, ap_req_of, waiting, request_token, RequestFits}
+use Rattle.ap_exchange.specs.Request.{label_of, seconds_of, micros_of, checksum_for, authenticator_of, authenticator_octets, ap_req_of, waiting, request_token, RequestFits}
 use Rattle.ap_exchange.specs.Exchange.{requested, name_in_realm, ticket_for, exchange_of}
-use Rattle.ap_exchange.specs.Judging.{client_granted, client_said, hash_carried, end_of, timely, hash_claimed, claim_judged, judged}
-use Rattle.ap_exchange.specs.Answer.{acceptor_subkey, reply_part_of, reply_octets, ap_rep_of, answer_done, answer_token, AnswerFits}
+use Rattle.ap_exchange.specs.Judging.{client_granted, hash_carried, end_of, timely, hash_claimed, claim_judged, judged}
+use Rattle.ap_exchange.specs.Answer.{reply_part_of, reply_octets, ap_rep_of, answer_done, answer_token, AnswerFits}
 use Rattle.ap_exchange.specs.Reply.{replied, reply_opened, reply_done, part_taken, reply_taken}
 use Rattle.ap_exchange.specs.Laws.{Fits, honest_judged, Agrees}
 use Rattle.ap_exchange.proofs.Passed.{same_own}

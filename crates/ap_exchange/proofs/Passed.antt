@@ -1,5 +1,5 @@
 -- What follows from a step that didn't refuse, and names that are the same.
-use Rattle.std.proofs.Common.{◌≡◌, ℕ, Bool, true, false, cond, ◌&&◌, List, Option, Some, None, Result, Ok, Err, refl, sym, ap, subst}
+use Rattle.std.proofs.Common.{◌≡◌, ℕ, Bool, true, false, cond, List, Option, Some, None, Result, Ok, Err, refl, subst}
 use Rattle.std.specs.Prelude.{nat_eq}
 use lib.Pointwise.{pointwise, pointwise_decides, bytes_decides}
 use Rattle.gss_base.specs.Name.{Name}

@@ -1,5 +1,5 @@
 -- The place of a refusal is at most the place behind the last octet that is read.
-use Rattle.std.proofs.Common.{◌≡◌, ℕ, zero, suc, ◌-◌, ◌≤◌, Bool, true, false, cond, ltb, leb, eqb, ◌||◌, take, drop, List, [], ◌∷◌, length, Option, Result, Ok, Err, refl, arith}
+use Rattle.std.proofs.Common.{◌≡◌, ℕ, zero, suc, ◌-◌, ◌≤◌, Bool, true, false, cond, ltb, leb, eqb, ◌||◌, take, drop, List, [], ◌∷◌, length, Result, Ok, Err, arith}
 use Rattle.gss_base.specs.Principal.{is_count, is_named}
 use Rattle.der_core.specs.declared.refusal.DerRefusal.{DerRefusal}
 use Rattle.der_core.specs.declared.refusal.DerWhy.TheVariants.{Short, Tag, Length, NotShortest, Value}
@@ -9,7 +9,7 @@ use Rattle.der_core.specs.Header.{is_shortest_length, long_length_at, length_fro
 use Rattle.der_core.specs.Element.{element, whole, explicit, plain, guarded, kept, any_octets, octet_string}
 use Rattle.der_core.specs.Fields.{done, with_known, with_field, optional_at, with_optional, seen, many_step, many_of, many, list_of}
 use Rattle.der_core.specs.Integer.{has_spare_octet, signed_of, is_natural, shortest_of, shortest_at, int32_at, int32, natural_at, natural}
-use Rattle.der_core.specs.Values.{is_text, text, flags_of, flags_content, flags}
+use Rattle.der_core.specs.Values.{is_text, text, flags_of, flags}
 use Rattle.krb_msgs.specs.Constant.{constant}
 use Rattle.krb_msgs.specs.PrincipalName.{name_parts, principal_name_fields, principal_name, name_in}
 use Rattle.krb_msgs.specs.EncryptedData.{encrypted_data_fields, encrypted_data}

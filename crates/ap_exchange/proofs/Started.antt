@@ -1,5 +1,5 @@
 -- What was written of a request is its token.
-use Rattle.std.proofs.Common.{◌≡◌, ℕ, List, ◌∷◌, Option, Ok, refl, sym, ap, ◌∙◌}
+use Rattle.std.proofs.Common.{◌≡◌, ℕ, List, ◌∷◌, Option, Ok, refl, ap, ◌∙◌}
 use Rattle.gss_base.specs.declared.mech.MechKind.TheVariants.{Kerberos}
 use Rattle.gss_base.specs.Mech.{oid_of}
 use Rattle.gss_base.specs.Bindings.{hash_of}
@@ -16,7 +16,7 @@ use Rattle.ap_exchange.specs.declared.refusal.Part.TheVariants as parts
 use Rattle.ap_exchange.specs.Steps.{der_in}
 use Rattle.ap_exchange.specs.Tokens.{ap_req_id, token_of}
 use Rattle.ap_exchange.specs.Draws.{drawn_subkey}
-use Rattle.ap_exchange.specs.Request.{label_of, own_subkey, authenticator_with, ap_req_with, WritesRequest, waiting, request_token, request_of}
+use Rattle.ap_exchange.specs.Request.{label_of, own_subkey, authenticator_with, ap_req_with, WritesRequest, request_token, request_of}
 
 request_is : (credential : Granted) (stamp : ℕ) (draws : List ℕ) (bindings : Option (List ℕ)) (subkey : Key) (hash token : List ℕ) → subkey ≡ own_subkey credential draws → hash ≡ hash_of bindings → WritesRequest credential stamp draws subkey hash token → token ≡ request_token credential stamp draws bindings
 unfolding request_token token_of

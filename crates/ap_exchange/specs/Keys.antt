@@ -1,5 +1,5 @@
 -- Keys and sealed data in messages.
-use Rattle.std.specs.Prelude.{◌≡◌, ℕ, pos, ℤ, Bool, false, ◌==◌, if◌then◌else◌, List, Option, Some, None, option_and_then, Result, Ok, Err}
+use Rattle.std.specs.Prelude.{◌≡◌, ℕ, pos, Bool, false, ◌==◌, if◌then◌else◌, List, Option, Some, None, option_and_then, Result, Ok, Err}
 use Rattle.krb_derive.specs.declared.key.Etype.{Etype}
 use Rattle.krb_derive.specs.declared.key.Key.{Key}
 use Rattle.krb_derive.specs.declared.sealing.OpenRefusal.{OpenRefusal}

@@ -1,8 +1,6 @@
 -- What holds of both ends' definitions: what was found verified where an end goes on, and that two ends whose facts fit agree.
-use Rattle.std.specs.Prelude.{◌≡◌, ℕ, ◌+◌, ◌≤◌, true, List, [], ◌∷◌, length, Option, Some, None, Result, Ok}
-use Rattle.sec_base.specs.Moment.{greatest_moment}
+use Rattle.std.specs.Prelude.{◌≡◌, ℕ, ◌+◌, true, List, [], ◌∷◌, length, Option, Some, Ok}
 use Rattle.gss_base.specs.Name.{Name}
-use Rattle.gss_base.specs.SameName.{same_name}
 use Rattle.gss_base.specs.Bindings.{hash_of}
 use Rattle.der_core.specs.Format.{all_of}
 use Rattle.krb_derive.specs.declared.key.Etype.{Etype}
@@ -25,7 +23,7 @@ use Rattle.ap_exchange.specs.declared.request.ApInit.{ApInit}
 use Rattle.ap_exchange.specs.Keys.{ticket_usage, authenticator_usage, reply_usage, known_key, subkey_in}
 use Rattle.ap_exchange.specs.Request.{label_of, waiting, request_token, RequestFits}
 use Rattle.ap_exchange.specs.Exchange.{name_in_realm, Exchange, exchange_of, judge_found}
-use Rattle.ap_exchange.specs.Judging.{client_granted, client_said, stamp_of, hash_carried, is_bound, is_near, is_begun, is_lasting, end_of, judged_as, judged}
+use Rattle.ap_exchange.specs.Judging.{client_granted, client_said, hash_carried, is_bound, is_near, is_begun, is_lasting, end_of, judged_as, judged}
 use Rattle.ap_exchange.specs.Answer.{answer_done, answer_token, AnswerFits}
 use Rattle.ap_exchange.specs.Reply.{reply_done, reply_taken, reply_found}
 

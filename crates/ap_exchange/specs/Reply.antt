@@ -5,7 +5,6 @@ use Rattle.der_core.specs.Format.{all_of}
 use Rattle.krb_derive.specs.declared.key.Key.{Key}
 use Rattle.krb_derive.specs.Making.{Making, sealed_making}
 use Rattle.krb_msgs.specs.declared.ap_rep.ApRep.{ApRep}
-use Rattle.krb_msgs.specs.declared.krb_error.KrbError.{KrbError}
 use Rattle.krb_msgs.specs.declared.enc_ap_rep_part.EncApRepPart.{EncApRepPart}
 use Rattle.krb_msgs.specs.ApRep.{ap_rep}
 use Rattle.krb_msgs.specs.KrbError.{krb_error}

@@ -1,4 +1,4 @@
-use Rattle.std.proofs.Common.{◌≡◌, true, is_ok, ap}
+use Rattle.std.proofs.Common.{is_ok, ap}
 use Rattle.std.proofs.lemmas.Bool.{and_from}
 use Rattle.ap_exchange.proofs.Fits.{octets_are}
 use Rattle.ap_exchange.proofs.message.ticket_in.Goals as goal

@@ -1,4 +1,4 @@
-use Rattle.std.proofs.Common.{List, ℕ, ◌∙◌, ap}
+use Rattle.std.proofs.Common.{◌∙◌, ap}
 use Rattle.krb_files.specs.Granted.{Granted}
 use Rattle.ap_exchange.specs.Request.{label_of}
 use Rattle.ap_exchange.proofs.Started.{started}
