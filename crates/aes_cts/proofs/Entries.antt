@@ -1,12 +1,12 @@
 -- Each table's entries are what the definitions give, by a test of all of them that the checker computes.
-use Rattle.std.proofs.Common.{◌≡◌, ℕ, zero, suc, ◌+◌, ◌<◌, Bool, true, false, List, if◌then◌else◌, refl, sym, ap, ◌∙◌, arith, get_or, eqb, inl, inr}
+use Rattle.std.proofs.Common.{◌≡◌, ℕ, zero, suc, ◌+◌, ◌<◌, Bool, true, false, List, [], if◌then◌else◌, refl, sym, ap, ◌∙◌, arith, get_or, eqb, inl, inr}
 use Rattle.std.specs.Prelude.{nat_lt}
 use Rattle.std.proofs.lemmas.Bool.{eqb-true, ltb-true, cases_lt}
 use Rattle.aes_cts.specs.Field.{times_x, product, times, power, inverse, sbox, inverse_sbox}
 use Rattle.aes_cts.specs.State.{Column, octet_of, column_of}
 use Rattle.aes_cts.specs.Words.{part0, part1, part2, part3, unpart0, unpart1, unpart2, unpart3}
 use Rattle.aes_cts.specs.Schedule.{x_power}
-use Rattle.aes_cts.specs.declared.tables.TheConstants.{SBOX, INVERSE_SBOX, MIX0, MIX1, MIX2, MIX3, UNMIX0, UNMIX1, UNMIX2, UNMIX3, RCON}
+use Rattle.aes_cts.specs.declared.tables.TheConstants.{SBOX, INVERSE_SBOX, MIX, UNMIX, RCON}
 
 -- a test passes at every number below a bound
 unfoldable pub all_below : (ℕ → Bool) → ℕ → Bool
@@ -102,6 +102,10 @@ sbox-inverse_sbox x h =
 
 -- ---- the tables of columns
 
+-- the table of a row
+abbrev pub table : List (List ℕ) → ℕ → List ℕ
+table tables row = get_or tables row []
+
 -- a word has these octets
 rows : ℕ → ℕ → ℕ → ℕ → ℕ → Bool
 rows word a b c d =
@@ -131,61 +135,61 @@ entry-column words octets part all x h =
     let k : Column = part (get_or octets x 0) in
     rows-column (get_or words x 0) k.row0 k.row1 k.row2 k.row3 (below-each (entry words octets part) 256 all x h)
 
-mix0_checked : all_below (entry MIX0 SBOX part0) 256 ≡ true
+mix0_checked : all_below (entry (table MIX 0) SBOX part0) 256 ≡ true
 unfolding all_below entry rows times product times_x
 mix0_checked = refl
 
-pub MIX0-at : (x : ℕ) → x < 256 → column_of (get_or MIX0 x 0) ≡ part0 (sbox x)
-MIX0-at x h = entry-column MIX0 SBOX part0 mix0_checked x h ∙ ap part0 (SBOX-at x h)
+pub MIX0-at : (x : ℕ) → x < 256 → column_of (get_or (table MIX 0) x 0) ≡ part0 (sbox x)
+MIX0-at x h = entry-column (table MIX 0) SBOX part0 mix0_checked x h ∙ ap part0 (SBOX-at x h)
 
-mix1_checked : all_below (entry MIX1 SBOX part1) 256 ≡ true
+mix1_checked : all_below (entry (table MIX 1) SBOX part1) 256 ≡ true
 unfolding all_below entry rows times product times_x
 mix1_checked = refl
 
-pub MIX1-at : (x : ℕ) → x < 256 → column_of (get_or MIX1 x 0) ≡ part1 (sbox x)
-MIX1-at x h = entry-column MIX1 SBOX part1 mix1_checked x h ∙ ap part1 (SBOX-at x h)
+pub MIX1-at : (x : ℕ) → x < 256 → column_of (get_or (table MIX 1) x 0) ≡ part1 (sbox x)
+MIX1-at x h = entry-column (table MIX 1) SBOX part1 mix1_checked x h ∙ ap part1 (SBOX-at x h)
 
-mix2_checked : all_below (entry MIX2 SBOX part2) 256 ≡ true
+mix2_checked : all_below (entry (table MIX 2) SBOX part2) 256 ≡ true
 unfolding all_below entry rows times product times_x
 mix2_checked = refl
 
-pub MIX2-at : (x : ℕ) → x < 256 → column_of (get_or MIX2 x 0) ≡ part2 (sbox x)
-MIX2-at x h = entry-column MIX2 SBOX part2 mix2_checked x h ∙ ap part2 (SBOX-at x h)
+pub MIX2-at : (x : ℕ) → x < 256 → column_of (get_or (table MIX 2) x 0) ≡ part2 (sbox x)
+MIX2-at x h = entry-column (table MIX 2) SBOX part2 mix2_checked x h ∙ ap part2 (SBOX-at x h)
 
-mix3_checked : all_below (entry MIX3 SBOX part3) 256 ≡ true
+mix3_checked : all_below (entry (table MIX 3) SBOX part3) 256 ≡ true
 unfolding all_below entry rows times product times_x
 mix3_checked = refl
 
-pub MIX3-at : (x : ℕ) → x < 256 → column_of (get_or MIX3 x 0) ≡ part3 (sbox x)
-MIX3-at x h = entry-column MIX3 SBOX part3 mix3_checked x h ∙ ap part3 (SBOX-at x h)
+pub MIX3-at : (x : ℕ) → x < 256 → column_of (get_or (table MIX 3) x 0) ≡ part3 (sbox x)
+MIX3-at x h = entry-column (table MIX 3) SBOX part3 mix3_checked x h ∙ ap part3 (SBOX-at x h)
 
-unmix0_checked : all_below (entry UNMIX0 INVERSE_SBOX unpart0) 256 ≡ true
+unmix0_checked : all_below (entry (table UNMIX 0) INVERSE_SBOX unpart0) 256 ≡ true
 unfolding all_below entry rows times product times_x
 unmix0_checked = refl
 
-pub UNMIX0-at : (x : ℕ) → x < 256 → column_of (get_or UNMIX0 x 0) ≡ unpart0 (inverse_sbox x)
-UNMIX0-at x h = entry-column UNMIX0 INVERSE_SBOX unpart0 unmix0_checked x h ∙ ap unpart0 (INVERSE_SBOX-at x h)
+pub UNMIX0-at : (x : ℕ) → x < 256 → column_of (get_or (table UNMIX 0) x 0) ≡ unpart0 (inverse_sbox x)
+UNMIX0-at x h = entry-column (table UNMIX 0) INVERSE_SBOX unpart0 unmix0_checked x h ∙ ap unpart0 (INVERSE_SBOX-at x h)
 
-unmix1_checked : all_below (entry UNMIX1 INVERSE_SBOX unpart1) 256 ≡ true
+unmix1_checked : all_below (entry (table UNMIX 1) INVERSE_SBOX unpart1) 256 ≡ true
 unfolding all_below entry rows times product times_x
 unmix1_checked = refl
 
-pub UNMIX1-at : (x : ℕ) → x < 256 → column_of (get_or UNMIX1 x 0) ≡ unpart1 (inverse_sbox x)
-UNMIX1-at x h = entry-column UNMIX1 INVERSE_SBOX unpart1 unmix1_checked x h ∙ ap unpart1 (INVERSE_SBOX-at x h)
+pub UNMIX1-at : (x : ℕ) → x < 256 → column_of (get_or (table UNMIX 1) x 0) ≡ unpart1 (inverse_sbox x)
+UNMIX1-at x h = entry-column (table UNMIX 1) INVERSE_SBOX unpart1 unmix1_checked x h ∙ ap unpart1 (INVERSE_SBOX-at x h)
 
-unmix2_checked : all_below (entry UNMIX2 INVERSE_SBOX unpart2) 256 ≡ true
+unmix2_checked : all_below (entry (table UNMIX 2) INVERSE_SBOX unpart2) 256 ≡ true
 unfolding all_below entry rows times product times_x
 unmix2_checked = refl
 
-pub UNMIX2-at : (x : ℕ) → x < 256 → column_of (get_or UNMIX2 x 0) ≡ unpart2 (inverse_sbox x)
-UNMIX2-at x h = entry-column UNMIX2 INVERSE_SBOX unpart2 unmix2_checked x h ∙ ap unpart2 (INVERSE_SBOX-at x h)
+pub UNMIX2-at : (x : ℕ) → x < 256 → column_of (get_or (table UNMIX 2) x 0) ≡ unpart2 (inverse_sbox x)
+UNMIX2-at x h = entry-column (table UNMIX 2) INVERSE_SBOX unpart2 unmix2_checked x h ∙ ap unpart2 (INVERSE_SBOX-at x h)
 
-unmix3_checked : all_below (entry UNMIX3 INVERSE_SBOX unpart3) 256 ≡ true
+unmix3_checked : all_below (entry (table UNMIX 3) INVERSE_SBOX unpart3) 256 ≡ true
 unfolding all_below entry rows times product times_x
 unmix3_checked = refl
 
-pub UNMIX3-at : (x : ℕ) → x < 256 → column_of (get_or UNMIX3 x 0) ≡ unpart3 (inverse_sbox x)
-UNMIX3-at x h = entry-column UNMIX3 INVERSE_SBOX unpart3 unmix3_checked x h ∙ ap unpart3 (INVERSE_SBOX-at x h)
+pub UNMIX3-at : (x : ℕ) → x < 256 → column_of (get_or (table UNMIX 3) x 0) ≡ unpart3 (inverse_sbox x)
+UNMIX3-at x h = entry-column (table UNMIX 3) INVERSE_SBOX unpart3 unmix3_checked x h ∙ ap unpart3 (INVERSE_SBOX-at x h)
 
 -- ---- the round constants
 

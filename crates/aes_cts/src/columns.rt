@@ -50,14 +50,16 @@ pub fn state_words(block: &[u8]) -> Columns
 pub fn block_of(state: Columns) -> [u8; 16]
     ensures { result ≡ state_octets (state_of state) }
 {
-    let a = state.first.to_be_bytes();
-    let b = state.second.to_be_bytes();
-    let c = state.third.to_be_bytes();
-    let d = state.fourth.to_be_bytes();
-    [
-        a[0], a[1], a[2], a[3], b[0], b[1], b[2], b[3], c[0], c[1], c[2], c[3], d[0], d[1], d[2],
-        d[3],
-    ]
+    let first = state.first.to_be_bytes();
+    let second = state.second.to_be_bytes();
+    let third = state.third.to_be_bytes();
+    let fourth = state.fourth.to_be_bytes();
+    let mut block = [0u8; 16];
+    block[..4].copy_from_slice(&first);
+    block[4..8].copy_from_slice(&second);
+    block[8..12].copy_from_slice(&third);
+    block[12..].copy_from_slice(&fourth);
+    block
 }
 
 // SubBytes of the column whose rows stand in these four.

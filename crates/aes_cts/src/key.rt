@@ -20,13 +20,15 @@ pub struct AesKey {
     ghost whole: { length octets ≡ 32 },
     ghost low: { 10 ≤ rounds },
     ghost high: { rounds ≤ 14 },
+    ghost sized: { rounds ≢ 10 → rounds ≡ 14 },
     ghost scheduled: { (i : ℕ) → i < 4 * rounds + 4 → column_of (slice_index forward i) ≡ column_at (key_schedule (take (4 * (rounds - 6)) octets)) i },
     ghost mixed: { (i : ℕ) → 4 ≤ i → i < 4 * rounds → column_of (slice_index backward i) ≡ inverse_mix_column (column_of (slice_index forward i)) },
 }
 
 impl AesKey {
     ghost use Rattle.aes_cts.specs.Words.{state_of};
-    ghost use Rattle.aes_cts.specs.Cipher.{cipher, inverse_cipher, cipher_state, inverse_cipher_state, IsOctets};
+    ghost use Rattle.aes_cts.specs.State.{State};
+    ghost use Rattle.aes_cts.specs.Cipher.{cipher, inverse_cipher, cipher_state, inverse_cipher_state, after_rounds, after_inverse_rounds, IsOctets};
     ghost use Rattle.aes_cts.specs.AesKey.{cipher_key};
 
     /// The key of 16 octets, with 10 rounds.
@@ -60,25 +62,81 @@ impl AesKey {
         }
     }
 
+    // The state after round `number`, which isn't the last, from that after the rounds before it.
+    #[inline(always)]
+    fn after(&self, state: Columns, number: usize) -> Columns
+        requires some { 0 < number }
+        requires inner { number < self.now.rounds }
+        ensures { (s : State) → state_of state ≡ after_rounds (key_schedule (cipher_key self.now)) s (number - 1) → state_of result ≡ after_rounds (key_schedule (cipher_key self.now)) s number }
+    {
+        round(state, &self.forward, 4 * number)
+    }
+
+    // The rounds are written out one by one: in a loop the state's words would be packed into a vector and taken apart at each round.
+    #[inline(always)]
     pub(crate) fn encrypt(&self, block: Columns) -> Columns
         ensures { state_of result ≡ cipher_state (key_schedule (cipher_key self.now)) self.now.rounds (state_of block) }
     {
-        let words = &self.forward;
-        let mut state = add(block, words, 0);
-        'rounds: for r in 0..self.rounds - 1 {
-            state = round(state, words, 4 * r + 4);
+        let begun = add(block, &self.forward, 0);
+        let one = self.after(begun, 1);
+        let two = self.after(one, 2);
+        let three = self.after(two, 3);
+        let four = self.after(three, 4);
+        let five = self.after(four, 5);
+        let six = self.after(five, 6);
+        let seven = self.after(six, 7);
+        let eight = self.after(seven, 8);
+        let nine = self.after(eight, 9);
+        if self.rounds == 10 {
+            return last_round(nine, &self.forward, 40);
         }
-        last_round(state, words, 4 * self.rounds)
+        let ten = self.after(nine, 10);
+        let eleven = self.after(ten, 11);
+        let twelve = self.after(eleven, 12);
+        let thirteen = self.after(twelve, 13);
+        last_round(thirteen, &self.forward, 56)
     }
 
+    // The state of the inverse after its round with the key of round `number`, which isn't its last.
+    #[inline(always)]
+    fn before(&self, state: Columns, number: usize) -> Columns
+        requires some { 0 < number }
+        requires inner { number < self.now.rounds }
+        ensures { (s : State) (done : ℕ) → done + number + 1 ≡ self.now.rounds → state_of state ≡ after_inverse_rounds (key_schedule (cipher_key self.now)) self.now.rounds s done → state_of result ≡ after_inverse_rounds (key_schedule (cipher_key self.now)) self.now.rounds s (done + 1) }
+    {
+        inverse_round(state, &self.backward, 4 * number)
+    }
+
+    // The state of the inverse before its round with the key of round 9.
+    #[inline(always)]
+    fn begun(&self, block: Columns) -> Columns
+        ensures { state_of result ≡ after_inverse_rounds (key_schedule (cipher_key self.now)) self.now.rounds (state_of block) (self.now.rounds - 10) }
+    {
+        let whole = add(block, &self.forward, 4 * self.rounds);
+        if self.rounds == 10 {
+            return whole;
+        }
+        let thirteen = self.before(whole, 13);
+        let twelve = self.before(thirteen, 12);
+        let eleven = self.before(twelve, 11);
+        self.before(eleven, 10)
+    }
+
+    #[inline(always)]
     pub(crate) fn decrypt(&self, block: Columns) -> Columns
         ensures { state_of result ≡ inverse_cipher_state (key_schedule (cipher_key self.now)) self.now.rounds (state_of block) }
     {
-        let mut state = add(block, &self.forward, 4 * self.rounds);
-        'rounds: for r in 0..self.rounds - 1 {
-            state = inverse_round(state, &self.backward, 4 * (self.rounds - 1 - r));
-        }
-        inverse_last_round(state, &self.forward, 0)
+        let begun = self.begun(block);
+        let nine = self.before(begun, 9);
+        let eight = self.before(nine, 8);
+        let seven = self.before(eight, 7);
+        let six = self.before(seven, 6);
+        let five = self.before(six, 5);
+        let four = self.before(five, 4);
+        let three = self.before(four, 3);
+        let two = self.before(three, 2);
+        let one = self.before(two, 1);
+        inverse_last_round(one, &self.forward, 0)
     }
 
     /// The cipher of a block, FIPS 197 section 5.1.

@@ -1,5 +1,4 @@
 pub mod Fits
-pub mod Named
 pub mod Places
 pub mod Sealed
 pub mod Started

@@ -11,7 +11,7 @@ mod stamps;
 ghost use Rattle.std.specs.Prelude.{◌≤◌, length, IfOk};
 
 use crate::*;
-use answered::{Answer, BOUND, BOUND_ANSWER, PLAIN, PLAIN_ANSWER, UNASKED, UNASKED_ANSWER};
+use answered::Answer;
 use der_core::DerWhy;
 use gss_base::{Bindings, Principal};
 use krb_derive::{Etype, Key};
@@ -60,48 +60,51 @@ fn refusal_of(alloc: Global, request: &Request) -> Result<Option<ApRefusal>, Fai
 fn requests_with_a_fault_are_refused_for_it(rt: HostRuntime) -> Result<(), Fail> {
     let alloc = rt.alloc();
     assert_eq!(rt;
-        refusal_of(alloc, &refused::NOT_MUTUAL)?,
+        refusal_of(alloc, &refused::not_mutual())?,
         Some(ApRefusal::NotMutual)
     );
     assert_eq!(rt;
-        refusal_of(alloc, &refused::OTHER_SERVER)?,
+        refusal_of(alloc, &refused::other_server())?,
         Some(ApRefusal::TicketNames)
     );
     assert_eq!(rt;
-        refusal_of(alloc, &refused::NO_KEY)?,
+        refusal_of(alloc, &refused::no_key())?,
         Some(ApRefusal::NoKey)
     );
     assert_eq!(rt;
-        refusal_of(alloc, &refused::TICKET_CLOSED)?,
+        refusal_of(alloc, &refused::ticket_closed())?,
         Some(ApRefusal::TicketClosed)
     );
     assert_eq!(rt;
-        refusal_of(alloc, &refused::SESSION_TYPE)?,
+        refusal_of(alloc, &refused::session_type())?,
         Some(ApRefusal::KeyType)
     );
     assert_eq!(rt;
-        refusal_of(alloc, &refused::AUTHENTICATOR_CLOSED)?,
+        refusal_of(alloc, &refused::authenticator_closed())?,
         Some(ApRefusal::AuthClosed)
     );
     assert_eq!(rt;
-        refusal_of(alloc, &refused::OTHER_CLIENT)?,
+        refusal_of(alloc, &refused::other_client())?,
         Some(ApRefusal::NameMatch)
     );
     assert_eq!(rt;
-        refusal_of(alloc, &refused::NO_CHECKSUM)?,
+        refusal_of(alloc, &refused::no_checksum())?,
         Some(ApRefusal::ChecksumType)
     );
     assert_eq!(rt;
-        refusal_of(alloc, &refused::OTHER_BINDINGS)?,
+        refusal_of(alloc, &refused::other_bindings())?,
         Some(ApRefusal::Bindings)
     );
-    assert_eq!(rt; refusal_of(alloc, &refused::SKEWED)?, Some(ApRefusal::Skew));
     assert_eq!(rt;
-        refusal_of(alloc, &refused::NOT_YET)?,
+        refusal_of(alloc, &refused::skewed())?,
+        Some(ApRefusal::Skew)
+    );
+    assert_eq!(rt;
+        refusal_of(alloc, &refused::not_yet())?,
         Some(ApRefusal::NotYet)
     );
     assert_eq!(rt;
-        refusal_of(alloc, &refused::EXPIRED)?,
+        refusal_of(alloc, &refused::expired())?,
         Some(ApRefusal::Expired)
     );
     Ok(())
@@ -110,9 +113,9 @@ fn requests_with_a_fault_are_refused_for_it(rt: HostRuntime) -> Result<(), Fail>
 #[test]
 fn octets_outside_the_grammar_are_refused_at_their_place(rt: HostRuntime) -> Result<(), Fail> {
     let alloc = rt.alloc();
-    let authenticator = refusal_of(alloc, &refused::BROKEN_AUTHENTICATOR)?;
-    let ticket = refusal_of(alloc, &refused::BROKEN_TICKET)?;
-    let frame = refusal_of(alloc, &refused::OTHER_MECHANISM)?;
+    let authenticator = refusal_of(alloc, &refused::broken_authenticator())?;
+    let ticket = refusal_of(alloc, &refused::broken_ticket())?;
+    let frame = refusal_of(alloc, &refused::other_mechanism())?;
     assert_eq!(rt;
         authenticator,
         Some(ApRefusal::Der {
@@ -161,9 +164,9 @@ fn is_answered(alloc: Global, request: &Request, answer: &Answer) -> Result<bool
 #[test]
 fn requests_are_answered_octet_by_octet(rt: HostRuntime) -> Result<(), Fail> {
     let alloc = rt.alloc();
-    assert!(rt; is_answered(alloc, &PLAIN, &PLAIN_ANSWER)?);
-    assert!(rt; is_answered(alloc, &BOUND, &BOUND_ANSWER)?);
-    assert!(rt; is_answered(alloc, &UNASKED, &UNASKED_ANSWER)?);
+    assert!(rt; is_answered(alloc, &answered::plain(), &answered::plain_answer())?);
+    assert!(rt; is_answered(alloc, &answered::bound(), &answered::bound_answer())?);
+    assert!(rt; is_answered(alloc, &answered::unasked(), &answered::unasked_answer())?);
     Ok(())
 }
 
@@ -210,10 +213,10 @@ fn refusal_after(alloc: Global, start: &Start, reply: &[u8]) -> Result<Option<Ap
 #[test]
 fn requests_are_made_octet_by_octet(rt: HostRuntime) -> Result<(), Fail> {
     let alloc = rt.alloc();
-    let (_end, short) = started(alloc, &replies::SHORT)?;
-    let (_end, long) = started(alloc, &replies::LONG)?;
-    assert!(rt; short.as_slice() == replies::SHORT.token);
-    assert!(rt; long.as_slice() == replies::LONG.token);
+    let (_end, short) = started(alloc, &replies::short())?;
+    let (_end, long) = started(alloc, &replies::long())?;
+    assert!(rt; short.as_slice() == replies::short().token);
+    assert!(rt; long.as_slice() == replies::long().token);
     Ok(())
 }
 
@@ -221,12 +224,12 @@ fn requests_are_made_octet_by_octet(rt: HostRuntime) -> Result<(), Fail> {
 #[test]
 fn replies_give_the_subkey_or_else_the_own_key(rt: HostRuntime) -> Result<(), Fail> {
     let alloc = rt.alloc();
-    let with = done_after(alloc, &replies::SHORT, replies::SHORT_SUBKEY)?;
-    let without = done_after(alloc, &replies::SHORT, replies::SHORT_NO_SUBKEY)?;
-    let long = done_after(alloc, &replies::LONG, replies::LONG_SUBKEY)?;
-    assert!(rt; with.subkey && with.key.bytes() == replies::SHORT_KEY);
-    assert!(rt; !without.subkey && without.key.bytes() == replies::SHORT_OWN_KEY);
-    assert!(rt; long.subkey && long.key.bytes() == replies::LONG_KEY);
+    let with = done_after(alloc, &replies::short(), replies::short_subkey())?;
+    let without = done_after(alloc, &replies::short(), replies::short_no_subkey())?;
+    let long = done_after(alloc, &replies::long(), replies::long_subkey())?;
+    assert!(rt; with.subkey && with.key.bytes() == replies::short_key());
+    assert!(rt; !without.subkey && without.key.bytes() == replies::short_own_key());
+    assert!(rt; long.subkey && long.key.bytes() == replies::long_key());
     assert_eq!(rt; with.ends, Moment::greatest());
     Ok(())
 }
@@ -240,27 +243,27 @@ fn replies_with_a_fault_are_refused_for_it(rt: HostRuntime) -> Result<(), Fail> 
         why: DerWhy::Short,
     };
     assert_eq!(rt;
-        refusal_after(alloc, &replies::SHORT, replies::SHORT_CLOSED)?,
+        refusal_after(alloc, &replies::short(), replies::short_closed())?,
         Some(ApRefusal::ReplyClosed)
     );
     assert_eq!(rt;
-        refusal_after(alloc, &replies::LONG, replies::LONG_KEY_TYPE)?,
+        refusal_after(alloc, &replies::long(), replies::long_key_type())?,
         Some(ApRefusal::KeyType)
     );
     assert_eq!(rt;
-        refusal_after(alloc, &replies::LONG, replies::LONG_STAMP)?,
+        refusal_after(alloc, &replies::long(), replies::long_stamp())?,
         Some(ApRefusal::ReplyStamp)
     );
     assert_eq!(rt;
-        refusal_after(alloc, &replies::LONG, replies::ERROR_37)?,
+        refusal_after(alloc, &replies::long(), replies::error_37())?,
         Some(ApRefusal::PeerError { code: 37 })
     );
     assert_eq!(rt;
-        refusal_after(alloc, &replies::LONG, replies::LONG.token)?,
+        refusal_after(alloc, &replies::long(), replies::long().token)?,
         Some(ApRefusal::Kind)
     );
     assert_eq!(rt;
-        refusal_after(alloc, &replies::LONG, replies::CUT)?,
+        refusal_after(alloc, &replies::long(), replies::cut())?,
         Some(cut)
     );
     Ok(())
@@ -269,7 +272,7 @@ fn replies_with_a_fault_are_refused_for_it(rt: HostRuntime) -> Result<(), Fail> 
 /// The request and the reply of MIT's library, judged and taken at the moment of the request.
 fn is_taken(alloc: Global, exchange: &real::Exchange) -> Result<bool, Fail> {
     let request = Request {
-        keytab: real::KEYTAB,
+        keytab: real::keytab(),
         secs: exchange.secs,
         micros: exchange.micros,
         bindings: b"",
@@ -293,8 +296,8 @@ fn is_taken(alloc: Global, exchange: &real::Exchange) -> Result<bool, Fail> {
 #[test]
 fn exchanges_of_another_implementation_are_taken(rt: HostRuntime) -> Result<(), Fail> {
     let alloc = rt.alloc();
-    assert!(rt; is_taken(alloc, &real::FIRST)?);
-    assert!(rt; is_taken(alloc, &real::SECOND)?);
-    assert!(rt; is_taken(alloc, &real::THIRD)?);
+    assert!(rt; is_taken(alloc, &real::first())?);
+    assert!(rt; is_taken(alloc, &real::second())?);
+    assert!(rt; is_taken(alloc, &real::third())?);
     Ok(())
 }

@@ -142,7 +142,7 @@ fn is_for_server(entry: &Entry, server: &Principal, etype: Etype) -> bool
 fn numbered(entries: &[Entry], server: &Principal, number: u32, etype: Etype) -> Option<Key>
     ensures { result ≡ key_numbered server.now number etype entries.now }
 {
-    for entry in entries {
+    for entry in entries.iter() {
         if is_for_server(entry, server, etype) && entry.number == number {
             return entry.key;
         }

@@ -1,5 +1,5 @@
 use super::*;
-use crate::real_files::{CACHE, KEYTAB};
+use crate::real_files::{CACHE, CACHE_256, KEYTAB};
 use gss_base::Principal;
 use krb_derive::{Etype, Key};
 use std::test::Fail;
@@ -225,5 +225,40 @@ fn a_credential_of_a_real_cache_is_found(rt: HostRuntime) -> Result<(), Fail> {
     assert!(rt; credential.client == owner);
     assert!(rt; credential.session.etype() == Etype::Aes128);
     assert!(rt; Some(credential.ticket.as_slice()) == CACHE.get(792..1192));
+    Ok(())
+}
+
+#[test]
+fn a_credential_of_type_18_of_a_real_cache_is_found(rt: HostRuntime) -> Result<(), Fail> {
+    let cache = read_ccache(rt.alloc(), CACHE_256).ok().ok_or("a cache")?;
+    let server = Principal::parse(rt.alloc(), "rpc/host@R")
+        .ok()
+        .ok_or("a principal")?;
+    let credential = cache.find(&server).ok_or("a credential")?;
+    assert!(rt; credential.session.etype() == Etype::Aes256);
+    assert!(rt; Some(credential.ticket.as_slice()) == CACHE_256.get(808..1224));
+    Ok(())
+}
+
+// The numbers that a real keytab has for its names: 1, and 2 besides where the key was rolled.
+#[test]
+fn names_of_a_real_keytab_are_found(rt: HostRuntime) -> Result<(), Fail> {
+    let keytab = read_keytab(rt.alloc(), KEYTAB).ok().ok_or("a keytab")?;
+    for text in ["rpc/host@R", "rpc/localhost@R", "rpc/host128@R"] {
+        let name = Principal::parse(rt.alloc(), text)
+            .ok()
+            .ok_or("a principal")?;
+        assert!(rt; keytab.serves(&name), "{text}");
+        let newest = keytab.find(&name, None, Etype::Aes128);
+        assert!(rt; newest.is_some(), "{text}");
+        assert!(rt;
+            newest == keytab.find(&name, Some(1), Etype::Aes128),
+            "{text}"
+        );
+        assert!(rt;
+            keytab.find(&name, Some(2), Etype::Aes128).is_none(),
+            "{text}"
+        );
+    }
     Ok(())
 }

@@ -1,3 +1,4 @@
 pub mod MessageLaws
+pub mod Named
 pub mod PartLaws
 pub mod WrittenMessages

@@ -11,5 +11,6 @@ pub mod EncryptionKey
 pub mod HostAddress
 pub mod KrbError
 pub mod PrincipalName
+pub mod SameParts
 pub mod Ticket
 pub mod TransitedEncoding

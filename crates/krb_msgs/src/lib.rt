@@ -34,3 +34,5 @@ pub use transited_encoding::TransitedEncoding;
 
 #[cfg(test)]
 mod tests;
+#[cfg(test)]
+mod writing_tests;

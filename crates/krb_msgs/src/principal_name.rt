@@ -19,10 +19,22 @@ use std::alloc::Global;
 /// |---|---|
 /// | 0 | name-type |
 /// | 1 | name-string, 1 to 8 texts |
-#[derive(Debug, Drop, PartialEq)]
+#[derive(Debug, Drop)]
 pub struct PrincipalName {
     pub name_type: i32,
     pub name_string: Items<Text>,
+}
+
+impl PartialEq for PrincipalName {
+    ghost use Rattle.krb_msgs.specs.SameParts.{same_parts, same_parts_per};
+
+    ghost eq = { same_parts };
+
+    ghost laws = { same_parts_per };
+
+    fn eq(&self, other: &PrincipalName) -> bool {
+        self.name_string == other.name_string
+    }
 }
 
 /// The most parts of a name.

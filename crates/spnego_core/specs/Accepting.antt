@@ -80,7 +80,7 @@ abbrev pub finished : Turn → Running → Outcome → ℕ → List ℕ → Answ
 finished turn running outcome lasts token =
     if running.due
     then afters.More (ends.Owes (record { received = running.received; outcome = outcome; lasts = lasts }))
-        (reply turn running.chosen true true (Some token) (Some (list_mic outcome Acceptor running.received)))
+    (reply turn running.chosen true true (Some token) (Some (list_mic outcome Acceptor running.received)))
     else afters.Done outcome lasts (reply turn running.chosen false true (Some token) None)
 
 -- the step that follows once nothing is to be asked
@@ -114,15 +114,19 @@ told_makes running (answers.Pauses mark outcome lasts token) = mic_made running 
 abbrev pub fixed_with : List (List ℕ) → Built → Fixed
 fixed_with received built = record { received = received; outcome = built.outcome; basis = built.basis }
 
--- the step by what the mechanism made of its token; its refusal is the end's
-abbrev pub run : Turn → Running → Result MechTaken MechRefusal → Result Accepted NegRefusal
-run turn running (Err refusal) = Err (Mech refusal)
-run turn running (Ok taken) = Ok (record {
+-- the step by what the mechanism made of its token
+abbrev pub ran_with : Turn → Running → MechTaken → Accepted
+ran_with turn running taken = record {
   step = told turn running taken.answer;
   makes = taken.makes ++ told_makes running taken.answer;
   found = taken.found;
   fixes = option_map (fixed_with running.received) taken.built;
-})
+}
+
+-- the mechanism's refusal is the end's
+abbrev pub run : Turn → Running → Result MechTaken MechRefusal → Result Accepted NegRefusal
+run turn running (Err refusal) = Err (Mech refusal)
+run turn running (Ok taken) = Ok (ran_with turn running taken)
 
 -- ---- the first token
 

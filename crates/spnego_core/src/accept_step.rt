@@ -1,8 +1,9 @@
 //! The acceptor's steps, RFC 4178 sections 3.2, 4.2.2 and 5.
 
-ghost use Rattle.std.specs.Prelude.{◌≡◌, Ok, Some, None};
+ghost use Rattle.std.specs.Prelude.{◌≡◌, IfOk};
 ghost use Rattle.sec_base.specs.Answers.{Gives};
 ghost use Rattle.spnego_core.specs.AcceptMech.{accept_taken};
+ghost use Rattle.spnego_core.specs.Sizes.{ShortAccept};
 ghost use Rattle.spnego_core.specs.Accepting.{begun, token_for, started, chose, begins, proceeds, closes, run, step_of, accept_step};
 
 use crate::accept_end::{AcceptEnd, AcceptStep, Owing, Running, Turn};
@@ -155,6 +156,27 @@ fn closes(alloc: Global, owing: Owing, resp: NegResp) -> Result<AcceptStep, NegR
     Ok(AcceptStep::Done(owing.outcome, owing.lasts, nothing))
 }
 
+/// What follows the initiator's next token.
+fn stepped(
+    alloc: Global,
+    setup: &AcceptSetup,
+    end: AcceptEnd,
+    token: &[u8],
+    now: Moment,
+    draws: &[u8; 66],
+) -> Result<AcceptStep, NegRefusal>
+    ensures { Gives NegRefusal.NoMemory (λ s. s) result (step_of (accept_step setup.now end token.now now draws.now)) }
+{
+    match end {
+        AcceptEnd::New => begins(alloc, setup, init_read(alloc, token)?, now, draws),
+        AcceptEnd::Runs(running) => {
+            let resp = resp_read(alloc, token)?;
+            proceeds(alloc, setup, token.len(), running, resp, now, draws)
+        }
+        AcceptEnd::Owes(owing) => closes(alloc, owing, resp_read(alloc, token)?),
+    }
+}
+
 impl AcceptEnd {
     /// Takes the initiator's next token, at this moment, with random octets that serve no other step. The end is spent, whatever the answer.
     pub fn step(
@@ -166,14 +188,8 @@ impl AcceptEnd {
         draws: &[u8; 66],
     ) -> Result<AcceptStep, NegRefusal>
         ensures exact { Gives NegRefusal.NoMemory (λ s. s) result (step_of (accept_step setup.now self token.now now draws.now)) }
+        ensures short { IfOk result ShortAccept }
     {
-        match self {
-            AcceptEnd::New => begins(alloc, setup, init_read(alloc, token)?, now, draws),
-            AcceptEnd::Runs(running) => {
-                let resp = resp_read(alloc, token)?;
-                proceeds(alloc, setup, token.len(), running, resp, now, draws)
-            }
-            AcceptEnd::Owes(owing) => closes(alloc, owing, resp_read(alloc, token)?),
-        }
+        stepped(alloc, setup, self, token, now, draws)
     }
 }

@@ -7,6 +7,7 @@ ghost use Rattle.spnego_core.specs.ListMic.{is_list_mic};
 ghost use Rattle.spnego_core.specs.InitMech.{kinds_of, init_begun};
 ghost use Rattle.spnego_core.specs.Choice.{is_first};
 ghost use Rattle.spnego_core.specs.Tokens.{resp_octets};
+ghost use Rattle.spnego_core.specs.Sizes.{IsShort, FitsBeside, ShortInit};
 ghost use Rattle.spnego_core.specs.Initiating.{own_list, token_sent, mic_sent, own_mic, ended, is_mic_owed, completes_now, completes_later, looks, looks_again, step_of};
 
 use crate::choice::same_kind;
@@ -25,7 +26,8 @@ use std::alloc::Global;
 
 /// A later token with the mechanism's.
 pub fn token_sent(alloc: Global, token: Octets) -> Result<Octets, NoMemory>
-    ensures { IfOk result (λ o. o ≡ resp_octets (token_sent token)) }
+    ensures exact { IfOk result (λ o. o ≡ resp_octets (token_sent token)) }
+    ensures short { FitsBeside token → IfOk result IsShort }
 {
     let resp = NegResp {
         state: None,
@@ -38,7 +40,8 @@ pub fn token_sent(alloc: Global, token: Octets) -> Result<Octets, NoMemory>
 
 /// The token with the own MIC.
 fn mic_sent(alloc: Global, talk: &Talk, outcome: &Outcome) -> Result<Octets, NoMemory>
-    ensures { IfOk result (λ o. o ≡ resp_octets (mic_sent (own_mic talk.now outcome.now))) }
+    ensures exact { IfOk result (λ o. o ≡ resp_octets (mic_sent (own_mic talk.now outcome.now))) }
+    ensures short { IfOk result IsShort }
 {
     let list = own_list(alloc, &talk.own)?;
     let mic = list_mic(alloc, outcome, Side::Initiator, list.as_slice())?;
@@ -59,7 +62,8 @@ fn ended(
     listed: bool,
     completes: bool,
 ) -> Result<InitStep, NoMemory>
-    ensures { IfOk result (λ s. s ≡ (ended talk outcome listed completes).step) }
+    ensures exact { IfOk result (λ s. s ≡ (ended talk outcome listed completes).step) }
+    ensures short { IfOk result ShortInit }
 {
     if completes {
         return Ok(InitStep::Done(outcome));
@@ -111,12 +115,7 @@ fn completes_later(state: Option<NegState>) -> bool
 }
 
 /// Takes a MIC of the acceptor over the own list.
-fn listed(
-    alloc: Global,
-    talk: &Talk,
-    outcome: &Outcome,
-    mic: &Octets,
-) -> Result<bool, NegRefusal>
+fn listed(alloc: Global, talk: &Talk, outcome: &Outcome, mic: &Octets) -> Result<bool, NegRefusal>
     ensures { Gives NegRefusal.NoMemory (λ b. b) result (Ok (is_list_mic outcome.now Initiator (own_list talk.now.own) mic.now)) }
 {
     let list = own_list(alloc, &talk.own)?;
@@ -131,7 +130,8 @@ pub fn looks(
     state: Option<NegState>,
     mic: Option<Octets>,
 ) -> Result<InitStep, NegRefusal>
-    ensures { Gives NegRefusal.NoMemory (λ s. s) result (step_of (looks talk outcome state mic)) }
+    ensures exact { Gives NegRefusal.NoMemory (λ s. s) result (step_of (looks talk outcome state mic)) }
+    ensures short { IfOk result ShortInit }
 {
     match mic {
         None => {
@@ -158,7 +158,8 @@ pub fn looks_again(
     state: Option<NegState>,
     mic: Option<Octets>,
 ) -> Result<InitStep, NegRefusal>
-    ensures { Gives NegRefusal.NoMemory (λ s. s) result (step_of (looks_again signed state mic)) }
+    ensures exact { Gives NegRefusal.NoMemory (λ s. s) result (step_of (looks_again signed state mic)) }
+    ensures short { IfOk result ShortInit }
 {
     if let Some(mic) = mic {
         if !listed(alloc, &signed.talk, &signed.outcome, &mic)? {

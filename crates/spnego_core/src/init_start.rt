@@ -4,6 +4,7 @@ ghost use Rattle.std.specs.Prelude.{◌≡◌, IfOk, true, map, length};
 ghost use Rattle.sec_base.specs.Answers.{Gives};
 ghost use Rattle.spnego_core.specs.InitMech.{is_own_list};
 ghost use Rattle.spnego_core.specs.Tokens.{init_octets};
+ghost use Rattle.spnego_core.specs.Sizes.{IsShort, FitsBeside};
 ghost use Rattle.spnego_core.specs.Initiating.{own_list, first_sent, opens, starts, sent_of, init_start};
 
 use crate::init_end::{InitEnd, Opening};
@@ -27,7 +28,8 @@ pub fn own_list(alloc: Global, own: &InitSetup) -> Result<Vec<Oid>, NoMemory>
 /// The first token: the own list, and the first token of its first mechanism.
 fn first_sent(alloc: Global, own: &InitSetup, token: Octets) -> Result<Octets, NoMemory>
     requires { is_own_list own.now.list ≡ true }
-    ensures { IfOk result (λ o. o ≡ init_octets (first_sent own.now token)) }
+    ensures exact { IfOk result (λ o. o ≡ init_octets (first_sent own.now token)) }
+    ensures short { FitsBeside token → IfOk result IsShort }
 {
     let list = own_list(alloc, own)?;
     let init = NegInit {
@@ -44,6 +46,7 @@ impl InitEnd {
     pub fn start(alloc: Global, setup: InitSetup) -> Result<(InitEnd, Octets), NegRefusal>
         requires { is_own_list setup.list ≡ true }
         ensures exact { Gives NegRefusal.NoMemory (λ p. p) result (sent_of (init_start setup)) }
+        ensures short { IfOk result (λ p. IsShort p.1) }
     {
         let Some(first) = setup.list.as_slice().first() else {
             unreachable!();

@@ -1,8 +1,9 @@
 //! The initiator's steps, RFC 4178 sections 3.2, 4.2.2 and 5.
 
-ghost use Rattle.std.specs.Prelude.{◌≡◌};
+ghost use Rattle.std.specs.Prelude.{◌≡◌, IfOk};
 ghost use Rattle.sec_base.specs.Answers.{Gives};
 ghost use Rattle.spnego_core.specs.InitMech.{is_own, cred_for};
+ghost use Rattle.spnego_core.specs.Sizes.{ShortInit, ShortAnswer};
 ghost use Rattle.spnego_core.specs.Initiating.{told, run, begins_other, switches, talk_with, picks, own_kind, opened, is_chosen, talk_after, talked, closed, init_step, step_of};
 
 use crate::choice::{is_kind, same_kind};
@@ -25,7 +26,8 @@ fn told(
     mic: Option<Octets>,
     answer: InitAnswer,
 ) -> Result<InitStep, NegRefusal>
-    ensures { Gives NegRefusal.NoMemory (λ s. s) result (step_of (told talk state mic answer)) }
+    ensures exact { Gives NegRefusal.NoMemory (λ s. s) result (step_of (told talk state mic answer)) }
+    ensures short { ShortAnswer answer → IfOk result ShortInit }
 {
     match answer {
         InitAnswer::More(mech, token) => {
@@ -51,7 +53,8 @@ fn run(
     token: Option<Octets>,
     mic: Option<Octets>,
 ) -> Result<InitStep, NegRefusal>
-    ensures { Gives NegRefusal.NoMemory (λ s. s) result (step_of (run size talk mech state token mic)) }
+    ensures exact { Gives NegRefusal.NoMemory (λ s. s) result (step_of (run size talk mech state token mic)) }
+    ensures short { IfOk result ShortInit }
 {
     let Some(token) = token else {
         return Err(NegRefusal::Defective { at: size });
@@ -62,7 +65,8 @@ fn run(
 
 /// Another mechanism than the own first begins.
 fn begins_other(alloc: Global, talk: Talk) -> Result<InitStep, NegRefusal>
-    ensures { Gives NegRefusal.NoMemory (λ s. s) result (step_of (begins_other talk (cred_for talk.own.list talk.chosen))) }
+    ensures exact { Gives NegRefusal.NoMemory (λ s. s) result (step_of (begins_other talk (cred_for talk.own.list talk.chosen))) }
+    ensures short { IfOk result ShortInit }
 {
     let Some(cred) = cred_for(talk.own.list.as_slice(), talk.chosen) else {
         return Err(NegRefusal::MechNotMine);
@@ -80,12 +84,14 @@ fn switches(
     state: Option<NegState>,
     token: Option<Octets>,
 ) -> Result<InitStep, NegRefusal>
-    ensures { Gives NegRefusal.NoMemory (λ s. s) result (step_of (switches talk state token)) }
+    ensures exact { Gives NegRefusal.NoMemory (λ s. s) result (step_of (switches talk state token)) }
+    ensures short { IfOk result ShortInit }
 {
     match token {
         Some(_) => Err(NegRefusal::Defective { at: 0 }),
         None => {
-            if says_completed(state) {
+            let complete = says_completed(state);
+            if complete {
                 return Err(NegRefusal::Defective { at: 0 });
             }
             begins_other(alloc, talk)
@@ -115,7 +121,8 @@ fn picks(
     token: Option<Octets>,
     mic: Option<Octets>,
 ) -> Result<InitStep, NegRefusal>
-    ensures { Gives NegRefusal.NoMemory (λ s. s) result (step_of (picks size opening kind state token mic)) }
+    ensures exact { Gives NegRefusal.NoMemory (λ s. s) result (step_of (picks size opening kind state token mic)) }
+    ensures short { IfOk result ShortInit }
 {
     let Opening { own, mech } = opening;
     let first = is_first_own(own.list.as_slice(), kind);
@@ -150,7 +157,8 @@ fn opened(
     opening: Opening,
     resp: NegResp,
 ) -> Result<InitStep, NegRefusal>
-    ensures { Gives NegRefusal.NoMemory (λ s. s) result (step_of (opened size opening resp)) }
+    ensures exact { Gives NegRefusal.NoMemory (λ s. s) result (step_of (opened size opening resp)) }
+    ensures short { IfOk result ShortInit }
 {
     let NegResp {
         state,
@@ -203,7 +211,8 @@ fn talked(
     talking: Talking,
     resp: NegResp,
 ) -> Result<InitStep, NegRefusal>
-    ensures { Gives NegRefusal.NoMemory (λ s. s) result (step_of (talked size talking resp)) }
+    ensures exact { Gives NegRefusal.NoMemory (λ s. s) result (step_of (talked size talking resp)) }
+    ensures short { IfOk result ShortInit }
 {
     let NegResp {
         state,
@@ -224,7 +233,8 @@ fn talked(
 /// What follows a reply to the own MIC.
 #[tactic(auto, unfolding(crate::specs::Initiating::closed))]
 fn closed(alloc: Global, signed: Signed, resp: NegResp) -> Result<InitStep, NegRefusal>
-    ensures { Gives NegRefusal.NoMemory (λ s. s) result (step_of (closed signed resp)) }
+    ensures exact { Gives NegRefusal.NoMemory (λ s. s) result (step_of (closed signed resp)) }
+    ensures short { IfOk result ShortInit }
 {
     let NegResp {
         state,
@@ -245,6 +255,7 @@ impl InitEnd {
     /// Takes the acceptor's reply. The end is spent, whatever the answer.
     pub fn step(self, alloc: Global, token: &[u8]) -> Result<InitStep, NegRefusal>
         ensures exact { Gives NegRefusal.NoMemory (λ s. s) result (step_of (init_step self token.now)) }
+        ensures short { IfOk result ShortInit }
     {
         match self {
             InitEnd::Opens(opening) => {

@@ -11,15 +11,19 @@ mod init_mech;
 mod init_reply;
 mod init_start;
 mod init_step;
+mod laws;
 mod list_mic;
 mod outcome;
+mod pair_laws;
 mod refusal;
 mod setup;
 mod tokens;
 
 pub use accept_end::{AcceptEnd, AcceptPause, AcceptStep};
 pub use init_end::{InitEnd, InitStep};
+pub use laws::{prove_accept_laws, prove_init_laws};
 pub use outcome::Outcome;
+pub use pair_laws::prove_pair_laws;
 pub use refusal::{MechRefusal, NegRefusal};
 pub use setup::{AcceptSetup, InitSetup, MechCred};
 

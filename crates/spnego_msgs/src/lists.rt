@@ -5,7 +5,7 @@ ghost use Rattle.der_core.specs.Format.{MayRead, Puts, PutsAll, Spells};
 ghost use Rattle.der_core.specs.Element.{explicit};
 ghost use Rattle.der_core.specs.Fields.{list_of, many};
 ghost use Rattle.der_core.specs.Values.{object_identifier};
-ghost use Rattle.spnego_msgs.specs.Lists.{is_count, mech_types};
+ghost use Rattle.spnego_msgs.specs.Lists.{is_count, mech_types, OneList};
 
 use der_core::{DerRefusal, DerWhy, Element, Reader, Writer};
 use sec_base::{Items, NoMemory, Octets, Oid};
@@ -27,6 +27,11 @@ pub fn list_bytes(alloc: Global, list: &[Oid]) -> Result<Octets, NoMemory>
     out.put_tlv(SEQUENCE, content.as_slice())?;
     out.finish()
 }
+
+/// No two lists have the same octets, so a MIC over a list's octets speaks of that list alone.
+pub fn prove_one_list()
+    ensures { OneList }
+{}
 
 /// Adds the identifiers one behind the other.
 fn put_oids(out: &mut Writer, list: &[Oid]) -> Result<(), NoMemory>

@@ -7,8 +7,13 @@ use Rattle.aes_cts.proofs.columns.block_of.Goals as goal
 pub returns : goal.returns
 unfolding state_of state_octets column_of
 returns c =
-    let first = c.to_be_bytes-a.ensures ∙ to_be_bytes-octets c.args.state.first in
-    let second = c.to_be_bytes-b.ensures ∙ to_be_bytes-octets c.args.state.second in
-    let third = c.to_be_bytes-c.ensures ∙ to_be_bytes-octets c.args.state.third in
-    let fourth = c.to_be_bytes-d.ensures ∙ to_be_bytes-octets c.args.state.fourth in
-    rw (first, second, third, fourth) refl
+    let first = c.to_be_bytes-first.ensures ∙ to_be_bytes-octets c.args.state.first in
+    let second = c.to_be_bytes-second.ensures ∙ to_be_bytes-octets c.args.state.second in
+    let third = c.to_be_bytes-third.ensures ∙ to_be_bytes-octets c.args.state.third in
+    let fourth = c.to_be_bytes-fourth.ensures ∙ to_be_bytes-octets c.args.state.fourth in
+    rw (
+      c.copy_from_slice.ensures.after ∙ first,
+      c.copy_from_slice-2.ensures.after ∙ second,
+      c.copy_from_slice-3.ensures.after ∙ third,
+      c.copy_from_slice-4.ensures.after ∙ fourth,
+    ) refl

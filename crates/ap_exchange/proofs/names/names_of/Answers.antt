@@ -1,5 +1,5 @@
 use Rattle.ap_exchange.specs.Request.{name_value}
-use Rattle.ap_exchange.proofs.Named.{realm_free, is_name}
+use Rattle.krb_msgs.proofs.Named.{realm_free, is_name}
 use Rattle.ap_exchange.proofs.names.names_of.Goals as goal
 
 pub returns-clause-realm : goal.returns-clause-realm

@@ -1,9 +1,0 @@
-use Rattle.std.proofs.Common.{◌≡◌}
-use Rattle.aes_cts.specs.Words.{state_of}
-use Rattle.aes_cts.specs.AesKey.{cipher_key}
-use Rattle.aes_cts.specs.Schedule.{key_schedule}
-use Rattle.aes_cts.specs.Cipher.{after_inverse_rounds}
-use Rattle.aes_cts.proofs.key.AesKey.decrypt.Given as goal
-
-abbrev pub invariant-rounds : goal.invariant-rounds
-invariant-rounds l = state_of l.state ≡ after_inverse_rounds (key_schedule (cipher_key l.self)) l.self.rounds (state_of l.fn.block) l.r

@@ -1,0 +1,359 @@
+-- What an initiator's step shows, part by part.
+use Rattle.std.proofs.Common.{◌≡◌, ◌⊎◌, ℕ, Bool, true, false, not, ◌||◌, if◌then◌else◌, refl, sym, ap, ◌∙◌, subst, inl, inr, List, [], ◌∷◌, ◌++◌, length, Option, Some, None, Result, Ok, Err}
+use Rattle.gss_base.specs.declared.mech.MechKind.{MechKind}
+use Rattle.gss_base.specs.declared.mech.MechKind.TheVariants as kinds
+use Rattle.gss_base.specs.Mech.{mech_of}
+use Rattle.krb_derive.specs.Making.{Making, Among}
+use Rattle.krb_derive.proofs.Makings.{among_both, among_front, among_back}
+use Rattle.krb_tokens.specs.declared.done.MechDone.{MechDone}
+use Rattle.krb_tokens.specs.declared.end.Side.TheVariants.{Initiator}
+use Rattle.krb_files.specs.Granted.{Granted}
+use Rattle.spnego_msgs.specs.declared.neg_state.NegState.{NegState}
+use Rattle.spnego_msgs.specs.declared.neg_resp.NegResp.{NegResp}
+use Rattle.ap_exchange.specs.declared.refusal.ApRefusal.{ApRefusal}
+use Rattle.ap_exchange.specs.declared.request.ApInit.{ApInit}
+use Rattle.ap_exchange.specs.Request.{waiting, request_of, request_making, request_makes}
+use Rattle.ap_exchange.specs.Reply.{reply_taken, reply_found}
+use Rattle.spnego_core.specs.declared.outcome.Outcome.{Outcome}
+use Rattle.spnego_core.specs.declared.refusal.NegRefusal.{NegRefusal}
+use Rattle.spnego_core.specs.declared.refusal.NegRefusal.TheVariants.{Defective, Rejected, MechNotMine, MicMissing, MicBad, Mech}
+use Rattle.spnego_core.specs.declared.refusal.MechRefusal.{MechRefusal}
+use Rattle.spnego_core.specs.declared.setup.MechCred.{MechCred}
+use Rattle.spnego_core.specs.declared.setup.MechCred.TheVariants as creds
+use Rattle.spnego_core.specs.declared.setup.InitSetup.{InitSetup}
+use Rattle.spnego_core.specs.declared.init_mech.InitMech.{InitMech}
+use Rattle.spnego_core.specs.declared.init_mech.InitMech.TheVariants as mechs
+use Rattle.spnego_core.specs.declared.init_mech.InitAnswer.{InitAnswer}
+use Rattle.spnego_core.specs.declared.init_mech.InitAnswer.TheVariants as answers
+use Rattle.spnego_core.specs.declared.init_end.Opening.{Opening}
+use Rattle.spnego_core.specs.declared.init_end.Talk.{Talk}
+use Rattle.spnego_core.specs.declared.init_end.Talking.{Talking}
+use Rattle.spnego_core.specs.declared.init_end.Signed.{Signed}
+use Rattle.spnego_core.specs.declared.init_end.InitEnd.{InitEnd}
+use Rattle.spnego_core.specs.declared.init_end.InitEnd.TheVariants as ends
+use Rattle.spnego_core.specs.declared.init_end.InitStep.{InitStep}
+use Rattle.spnego_core.specs.declared.init_end.InitStep.TheVariants as steps
+use Rattle.spnego_core.specs.Outcome.{outcome_of}
+use Rattle.spnego_core.specs.Steps.{◌>>=◌, due, or_refuse}
+use Rattle.spnego_core.specs.Tokens.{rejects, says_completed, resp_read, last_read}
+use Rattle.spnego_core.specs.ListMic.{is_list_mic, mic_making, mic_found}
+use Rattle.spnego_core.specs.Choice.{is_first, same_kind}
+use Rattle.spnego_core.specs.InitMech.{kind_of, kinds_of, cred_for, MechBegun, request_begun, init_begun, MechReplied, reply_answered, init_taken}
+use Rattle.spnego_core.specs.Initiating.{Initiated, Started, opens, starts, init_start, opened, talked, closed, init_step, behind, own_list, ended, is_mic_owed, is_chosen, completes_now, completes_later, looks, told, ran, run, begins_other, switched, switches, talk_with, talk_after, picks, own_kind, settles, looks_again}
+use Rattle.spnego_core.specs.InitLaws.{own_of, chosen_of, listed_of, finished_of, finished_in, IsWaiting, IsMechOf, kind_of_mech, Covered, GoodInit, GoesOn, After, IsRequest, IsOwnMic, ByReply, SeesMic, InitLaw, StartLaw}
+use Rattle.spnego_core.proofs.Requests.{request-waits}
+
+-- a fact of a step that was taken
+abbrev pub On : (Initiated → Type 0) → Result Initiated NegRefusal → Type 0
+On P (Ok taken) = P taken
+On P (Err refusal) = Unit {0}
+
+-- one of two results by a test
+either : (P : Initiated → Type 0) (b : Bool) (x y : Result Initiated NegRefusal) → (b ≡ true → On P x) → (b ≡ false → On P y) → On P (if b then x else y)
+either P true x y f g = f refl
+either P false x y f g = g refl
+
+-- an end that goes on without an outcome has none
+unfinished : (outcome : Outcome) → None ≡ Some outcome → ⊥
+unfinished outcome e = cc
+
+one : (making first : Making) → Among (first ∷ []) making → making ≡ first
+one making first (inl e) = e
+one making first (inr h) = absurd h
+
+seen-more : (own : InitSetup) (outcome : Outcome) (front back found : List Making) → found ≡ front ++ back → SeesMic own front outcome → SeesMic own found outcome
+seen-more own outcome front back found e s =
+    record { mic = s.mic; right = s.right; verified = rw e (among_front front back _ s.verified) }
+
+seen-behind : (own : InitSetup) (outcome : Outcome) (front back : List Making) → SeesMic own back outcome → SeesMic own (front ++ back) outcome
+seen-behind own outcome front back s = record { mic = s.mic; right = s.right; verified = among_back front back _ s.verified }
+
+-- ---- the end of a mechanism that is done
+
+pub record Ended (talk : Talk) (outcome : Outcome) (taken : Initiated) : Type 0 where
+  pub after : outcome.mech ≡ talk.chosen → After talk.own taken.chosen taken.listed taken.step
+  pub finished : finished_in taken.step ≡ Some outcome
+  pub chosen : taken.chosen ≡ Some talk.chosen
+  pub covered : Covered talk.own talk.chosen taken.listed
+  pub made : (making : Making) → Among taken.makes making → making ≡ mic_making outcome Initiator (own_list talk.own)
+  pub sees : taken.listed ≡ true → SeesMic talk.own taken.found outcome
+
+ended-law : (talk : Talk) (outcome : Outcome) (listed completes : Bool) (found : List Making) → Covered talk.own talk.chosen listed → (listed ≡ true → SeesMic talk.own found outcome) → On (Ended talk outcome) (behind [] found (Ok (ended talk outcome listed completes)))
+ended-law talk outcome listed true found covered sees = record {
+  after = λ e. tt;
+  finished = refl;
+  chosen = refl;
+  covered = covered;
+  made = λ making h. absurd h;
+  sees = λ e. seen-more talk.own outcome found [] (found ++ []) refl (sees e);
+}
+ended-law talk outcome listed false found covered sees = record {
+  after = λ e. record { own_is = refl; good = record { covered = covered; chosen = e }; chosen_is = refl; listed_is = refl };
+  finished = refl;
+  chosen = refl;
+  covered = covered;
+  made = λ making h. one making _ h;
+  sees = λ e. seen-more talk.own outcome found [] (found ++ []) refl (sees e);
+}
+
+unowed : (first asked : Bool) → (not first || asked) ≡ false → first ≡ true
+unowed true asked e = refl
+unowed false asked e = cc
+
+looks-law : (talk : Talk) (outcome : Outcome) (state : Option NegState) (mic : Option (List ℕ)) → On (Ended talk outcome) (looks talk outcome state mic)
+looks-law talk outcome state None =
+    either (Ended talk outcome) (is_mic_owed talk) (Err MicMissing) (Ok (ended talk outcome false (completes_now state false))) (λ e. tt)
+    (λ e. ended-law talk outcome false (completes_now state false) [] (inl (unowed (is_first (kinds_of talk.own.list) talk.chosen) talk.asked e)) (λ f. absurd (let g : false ≡ true = f in cc)))
+looks-law talk outcome state (Some mic) =
+    let seen : List Making = mic_found outcome Initiator (own_list talk.own) mic ∷ [] in
+    either (Ended talk outcome) (is_list_mic outcome Initiator (own_list talk.own) mic) (behind [] seen (Ok (ended talk outcome true (completes_now state true)))) (Err MicBad)
+    (λ e. ended-law talk outcome true (completes_now state true) seen (inr refl) (λ f. record { mic = mic; right = e; verified = inl refl })) (λ e. tt)
+
+-- ---- a step of an end whose mechanism wasn't done
+
+pub record Ran (own : InitSetup) (kind : MechKind) (taken : Initiated) : Type 0 where
+  pub after : After own taken.chosen taken.listed taken.step
+  pub chosen : taken.chosen ≡ Some kind
+  pub made : (making : Making) → Among taken.makes making → IsRequest own taken.chosen making ⊎ IsOwnMic own taken.step making
+  pub finishes : (outcome : Outcome) → finished_in taken.step ≡ Some outcome → ByReply own taken.found outcome
+  pub sees : (outcome : Outcome) → finished_in taken.step ≡ Some outcome → taken.listed ≡ true → SeesMic own taken.found outcome
+  pub covered : (outcome : Outcome) → finished_in taken.step ≡ Some outcome → Covered own kind taken.listed
+  pub mech : (outcome : Outcome) → finished_in taken.step ≡ Some outcome → outcome.mech ≡ kind
+
+same-outcome : (step : InitStep) (a b : Outcome) → finished_in step ≡ Some a → finished_in step ≡ Some b → a ≡ b
+same-outcome step a b e f = let both : Some a ≡ Some b = sym e ∙ f in cc
+
+ran-ended : (talk : Talk) (outcome : Outcome) (before : List Making) → outcome.mech ≡ talk.chosen → ByReply talk.own before outcome → (r : Result Initiated NegRefusal) → On (Ended talk outcome) r → On (Ran talk.own talk.chosen) (behind [] before r)
+ran-ended talk outcome before mech by (Err refusal) h = tt
+ran-ended talk outcome before mech by (Ok taken) h =
+    let same : (o : Outcome) → finished_in taken.step ≡ Some o → outcome ≡ o = λ o e. same-outcome taken.step outcome o h.finished e in
+    record {
+      after = h.after mech;
+      chosen = h.chosen;
+      made = λ making m. inr (record { outcome = outcome; finished = h.finished; made = h.made making m });
+      finishes = λ o e. subst (λ (x : Outcome). ByReply talk.own (before ++ taken.found) x) (same o e) (record {
+        end = by.end;
+        token = by.token;
+        made = by.made;
+        waits = by.waits;
+        takes = by.takes;
+        outcome_is = by.outcome_is;
+        verified = λ making m. among_front before taken.found making (by.verified making m);
+      });
+      sees = λ o e l. subst (λ (x : Outcome). SeesMic talk.own (before ++ taken.found) x) (same o e) (seen-behind talk.own outcome before taken.found (h.sees l));
+      covered = λ o e. h.covered;
+      mech = λ o e. sym (ap (λ (x : Outcome). x.mech) (same o e)) ∙ mech;
+    }
+
+ran-law : (talk : Talk) (state : Option NegState) (mic : Option (List ℕ)) (end : ApInit) (token : List ℕ) (result : Result MechDone ApRefusal) → IsWaiting talk.own end → kinds.Kerberos ≡ talk.chosen → reply_taken end token ≡ result → On (Ran talk.own talk.chosen) (ran talk state mic (reply_answered (reply_found end token) result))
+ran-law talk state mic end token (Err refusal) waits mech takes = tt
+ran-law talk state mic end token (Ok made) waits mech takes =
+    ran-ended talk (outcome_of kinds.Kerberos made) (reply_found end token) mech
+    (record { end = end; token = token; made = made; waits = waits; takes = takes; outcome_is = refl; verified = λ making m. m })
+    (looks talk (outcome_of kinds.Kerberos made) state mic) (looks-law talk (outcome_of kinds.Kerberos made) state mic)
+
+run-law : (size : ℕ) (talk : Talk) (mech : InitMech) (state : Option NegState) (token mic : Option (List ℕ)) → IsMechOf talk.own mech → kind_of_mech mech ≡ talk.chosen → On (Ran talk.own talk.chosen) (run size talk mech state token mic)
+unfolding run init_taken
+run-law size talk mech state None mic waits kind = tt
+run-law size talk (mechs.Kerberos end) state (Some token) mic waits kind = ran-law talk state mic end token (reply_taken end token) waits kind refl
+
+-- ---- another mechanism begins
+
+same_kind-is : (a b : MechKind) → same_kind a b ≡ true → a ≡ b
+same_kind-is kinds.Kerberos kinds.Kerberos e = refl
+same_kind-is kinds.Kerberos kinds.Scram e = cc
+same_kind-is kinds.Scram kinds.Kerberos e = cc
+same_kind-is kinds.Scram kinds.Scram e = refl
+
+first-same : (list : List MechKind) (a b : MechKind) → is_first list a ≡ true → is_first list b ≡ true → a ≡ b
+first-same [] a b e f = cc
+first-same (first ∷ rest) a b e f = sym (same_kind-is first a e) ∙ same_kind-is first b f
+
+by_test : (b : Bool) (kind : MechKind) (first cred : MechCred) (rest : Option MechCred) → (b ≡ true → kind_of first ≡ kind) → (rest ≡ Some cred → kind_of cred ≡ kind) → (if b then Some first else rest) ≡ Some cred → kind_of cred ≡ kind
+by_test true kind first cred rest f g e = let same : first ≡ cred = cc in sym (ap kind_of same) ∙ f refl
+by_test false kind first cred rest f g e = g e
+
+cred_for-kind : (list : List MechCred) (kind : MechKind) (cred : MechCred) → cred_for list kind ≡ Some cred → kind_of cred ≡ kind
+cred_for-kind [] kind cred e = cc
+cred_for-kind (first ∷ rest) kind cred e =
+    by_test (same_kind (kind_of first) kind) kind first cred (cred_for rest kind) (λ f. same_kind-is (kind_of first) kind f) (λ f. cred_for-kind rest kind cred f) e
+
+request-begun : (talk : Talk) (credential : Granted) (result : Result (ApInit × List ℕ) ApRefusal) → kinds.Kerberos ≡ talk.chosen → cred_for talk.own.list kinds.Kerberos ≡ Some (creds.Kerberos credential) → request_of credential talk.own.stamp talk.own.draws talk.own.bindings ≡ result → On (Ran talk.own talk.chosen) (switched talk (request_begun (request_makes credential talk.own.stamp talk.own.draws talk.own.bindings) result))
+request-begun talk credential (Err refusal) kind is_own sends = tt
+request-begun talk credential (Ok sent) kind is_own sends = record {
+  after = record {
+    own_is = refl;
+    good = record {
+      mech = record { credential = credential; is_own = is_own; waits = request-waits credential talk.own.stamp talk.own.draws talk.own.bindings sent sends };
+      chosen = kind;
+    };
+    chosen_is = refl;
+    listed_is = refl;
+  };
+  chosen = refl;
+  made = λ making m. inl (record { credential = credential; is_own = is_own; made = one making _ m; now = ap Some (sym kind) });
+  finishes = λ o e. absurd (unfinished o e);
+  sees = λ o e l. absurd (unfinished o e);
+  covered = λ o e. absurd (unfinished o e);
+  mech = λ o e. absurd (unfinished o e);
+}
+
+switched-law : (talk : Talk) (cred : MechCred) → cred_for talk.own.list talk.chosen ≡ Some cred → On (Ran talk.own talk.chosen) (switched talk (init_begun talk.own cred))
+unfolding init_begun
+switched-law talk (creds.Kerberos credential) e =
+    let kind : kinds.Kerberos ≡ talk.chosen = cred_for-kind talk.own.list talk.chosen (creds.Kerberos credential) e in
+    request-begun talk credential (request_of credential talk.own.stamp talk.own.draws talk.own.bindings) kind (rw kind e) refl
+
+begins_other-law : (talk : Talk) (found : Option MechCred) → cred_for talk.own.list talk.chosen ≡ found → On (Ran talk.own talk.chosen) (begins_other talk found)
+begins_other-law talk None e = tt
+begins_other-law talk (Some cred) e = switched-law talk cred e
+
+switches-law : (talk : Talk) (state : Option NegState) (token : Option (List ℕ)) → On (Ran talk.own talk.chosen) (switches talk state token)
+switches-law talk state (Some token) = tt
+switches-law talk state None =
+    either (Ran talk.own talk.chosen) (says_completed state) (Err (Defective 0)) (begins_other talk (cred_for talk.own.list talk.chosen)) (λ e. tt)
+    (λ e. begins_other-law talk (cred_for talk.own.list talk.chosen) refl)
+
+-- ---- the machine
+
+picks-law : (size : ℕ) (opening : Opening) (kind : MechKind) (state : Option NegState) (token mic : Option (List ℕ)) → GoodInit (ends.Opens opening) → On (Ran opening.own kind) (picks size opening kind state token mic)
+unfolding picks
+picks-law size opening kind state token mic good =
+    let first : Bool = is_first (kinds_of opening.own.list) kind in
+    let talk : Talk = talk_with opening.own kind state in
+    either (Ran opening.own kind) (is_first (kinds_of opening.own.list) kind) (run size (talk_with opening.own kind state) opening.mech state token mic) (switches (talk_with opening.own kind state) state token)
+    (λ e. run-law size (talk_with opening.own kind state) opening.mech state token mic good.mech (first-same (kinds_of opening.own.list) (kind_of_mech opening.mech) kind good.first e))
+    (λ e. switches-law (talk_with opening.own kind state) state token)
+
+on-bind : {A : Type 0} (P : Initiated → Type 0) (r : Result A NegRefusal) (next : A → Result Initiated NegRefusal) → ((x : A) → On P (next x)) → On P (r >>= next)
+on-bind P (Ok x) next f = f x
+on-bind P (Err refusal) next f = tt
+
+-- what a step of an unfinished end shows
+fresh : (old : InitEnd) (kind : MechKind) → finished_of old ≡ None → ((k : MechKind) → chosen_of old ≡ Some k → kind ≡ k) → (r : Result Initiated NegRefusal) → On (Ran (own_of old) kind) r → On (InitLaw old) r
+fresh old kind unfinished_yet turns (Err refusal) h = tt
+fresh old kind unfinished_yet turns (Ok taken) h = record {
+  after = h.after;
+  made = h.made;
+  finishes = λ o e. inr (h.finishes o e);
+  sees = λ o e l. inr (h.sees o e l);
+  chosen = λ o e. h.chosen ∙ ap Some (sym (h.mech o e));
+  covered = λ o e. subst (λ (k : MechKind). Covered (own_of old) k taken.listed) (sym (h.mech o (rw e refl))) (h.covered o (rw e refl));
+  turns = λ k e. h.chosen ∙ ap Some (turns k e);
+  stays = λ o e. absurd (let f : None ≡ Some o = sym unfinished_yet ∙ e in cc);
+}
+
+opened-law : (size : ℕ) (opening : Opening) (resp : NegResp) → GoodInit (ends.Opens opening) → On (InitLaw (ends.Opens opening)) (opened size opening resp)
+unfolding opened
+opened-law size opening resp good =
+    let P : Initiated → Type 0 = InitLaw (ends.Opens opening) in
+    on-bind {A = Unit {0}} P (due Rejected (not (rejects resp.state)))
+    (λ goes. or_refuse (Defective size) resp.state >>= (λ state. or_refuse (Defective size) resp.mech >>= (λ oid. or_refuse MechNotMine (own_kind opening.own.list (mech_of oid)) >>= (λ kind. picks size opening kind (Some state) resp.token resp.mic))))
+    (λ goes. on-bind {A = NegState} P (or_refuse (Defective size) resp.state)
+    (λ state. or_refuse (Defective size) resp.mech >>= (λ oid. or_refuse MechNotMine (own_kind opening.own.list (mech_of oid)) >>= (λ kind. picks size opening kind (Some state) resp.token resp.mic)))
+    (λ state. on-bind {A = List ℕ} P (or_refuse (Defective size) resp.mech)
+    (λ oid. or_refuse MechNotMine (own_kind opening.own.list (mech_of oid)) >>= (λ kind. picks size opening kind (Some state) resp.token resp.mic))
+    (λ oid. on-bind {A = MechKind} P (or_refuse MechNotMine (own_kind opening.own.list (mech_of oid)))
+    (λ kind. picks size opening kind (Some state) resp.token resp.mic)
+    (λ kind. fresh (ends.Opens opening) kind refl (λ k e. absurd (let f : None ≡ Some k = e in cc)) (picks size opening kind (Some state) resp.token resp.mic)
+    (picks-law size opening kind (Some state) resp.token resp.mic good)))))
+
+talked-law : (size : ℕ) (talking : Talking) (resp : NegResp) → GoodInit (ends.Talks talking) → On (InitLaw (ends.Talks talking)) (talked size talking resp)
+unfolding talked
+talked-law size talking resp good =
+    let P : Initiated → Type 0 = InitLaw (ends.Talks talking) in
+    on-bind {A = Unit {0}} P (due Rejected (not (rejects resp.state)))
+    (λ goes. due MechNotMine (is_chosen talking.talk.chosen resp.mech) >>= (λ same. run size (talk_after talking.talk resp.state) talking.mech resp.state resp.token resp.mic))
+    (λ goes. on-bind {A = Unit {0}} P (due MechNotMine (is_chosen talking.talk.chosen resp.mech))
+    (λ same. run size (talk_after talking.talk resp.state) talking.mech resp.state resp.token resp.mic)
+    (λ same. fresh (ends.Talks talking) talking.talk.chosen refl (λ k e. let f : Some talking.talk.chosen ≡ Some k = e in cc)
+    (run size (talk_after talking.talk resp.state) talking.mech resp.state resp.token resp.mic)
+    (run-law size (talk_after talking.talk resp.state) talking.mech resp.state resp.token resp.mic good.mech good.chosen)))
+
+settles-law : (signed : Signed) (listed completes : Bool) (found : List Making) → GoodInit (ends.Signed signed) → (listed ≡ true → (signed.listed ≡ true) ⊎ SeesMic signed.talk.own found signed.outcome) → (signed.listed ≡ true → listed ≡ true) → On (InitLaw (ends.Signed signed)) (behind [] found (settles signed listed completes))
+settles-law signed listed false found good sees grows = tt
+settles-law signed listed true found good sees grows =
+    let same : (o : Outcome) → Some signed.outcome ≡ Some o → signed.outcome ≡ o = λ o e. cc in
+    record {
+      after = tt;
+      made = λ making m. absurd m;
+      finishes = λ o e. inl e;
+      sees = λ o e l. seen o (same o e) (sees l);
+      chosen = λ o e. ap Some (sym good.chosen ∙ ap (λ (x : Outcome). x.mech) (same o e));
+      covered = λ o e. subst (λ (k : MechKind). Covered signed.talk.own k listed) (sym good.chosen ∙ ap (λ (x : Outcome). x.mech) (let f : signed.outcome ≡ o = cc in f)) (covers good.covered);
+      turns = λ k e. e;
+      stays = λ o e. e;
+    }
+  where
+    seen : (o : Outcome) → signed.outcome ≡ o → (signed.listed ≡ true) ⊎ SeesMic signed.talk.own found signed.outcome → (signed.listed ≡ true) ⊎ SeesMic signed.talk.own (found ++ []) o
+    seen o e (inl l) = inl l
+    seen o e (inr s) = inr (subst (λ (x : Outcome). SeesMic signed.talk.own (found ++ []) x) e (seen-more signed.talk.own signed.outcome found [] (found ++ []) refl s))
+
+    covers : Covered signed.talk.own signed.talk.chosen signed.listed → Covered signed.talk.own signed.talk.chosen listed
+    covers (inl e) = inl e
+    covers (inr e) = inr (grows e)
+
+looks_again-law : (signed : Signed) (state : Option NegState) (mic : Option (List ℕ)) → GoodInit (ends.Signed signed) → On (InitLaw (ends.Signed signed)) (looks_again signed state mic)
+looks_again-law signed state None good = unseen (completes_later state)
+  where
+    unseen : (completes : Bool) → On (InitLaw (ends.Signed signed)) (settles signed signed.listed completes)
+    unseen true = settles-law signed signed.listed true [] good (λ l. inl l) (λ l. l)
+    unseen false = tt
+looks_again-law signed state (Some mic) good =
+    let found : List Making = mic_found signed.outcome Initiator (own_list signed.talk.own) mic ∷ [] in
+    either (InitLaw (ends.Signed signed)) (is_list_mic signed.outcome Initiator (own_list signed.talk.own) mic) (behind [] found (settles signed true (completes_later state))) (Err MicBad)
+    (λ e. settles-law signed true (completes_later state) found good (λ l. inr (record { mic = mic; right = e; verified = inl refl })) (λ l. refl)) (λ e. tt)
+
+closed-law : (signed : Signed) (resp : NegResp) → GoodInit (ends.Signed signed) → On (InitLaw (ends.Signed signed)) (closed signed resp)
+unfolding closed
+closed-law signed resp good =
+    let P : Initiated → Type 0 = InitLaw (ends.Signed signed) in
+    on-bind {A = Unit {0}} P (due Rejected (not (rejects resp.state)))
+    (λ goes. due MechNotMine (is_chosen signed.talk.chosen resp.mech) >>= (λ same. looks_again signed resp.state resp.mic))
+    (λ goes. on-bind {A = Unit {0}} P (due MechNotMine (is_chosen signed.talk.chosen resp.mech))
+    (λ same. looks_again signed resp.state resp.mic)
+    (λ same. looks_again-law signed resp.state resp.mic good))
+
+step-law : (old : InitEnd) (token : List ℕ) → GoodInit old → On (InitLaw old) (init_step old token)
+step-law (ends.Opens opening) token good =
+    on-bind (InitLaw (ends.Opens opening)) (resp_read token) (opened (length token) opening) (λ resp. opened-law (length token) opening resp good)
+step-law (ends.Talks talking) token good =
+    on-bind (InitLaw (ends.Talks talking)) (resp_read token) (talked (length token) talking) (λ resp. talked-law (length token) talking resp good)
+step-law (ends.Signed signed) token good =
+    on-bind (InitLaw (ends.Signed signed)) (last_read token) (closed signed) (λ resp. closed-law signed resp good)
+
+on-ok : (P : Initiated → Type 0) (r : Result Initiated NegRefusal) (taken : Initiated) → r ≡ Ok taken → On P r → P taken
+on-ok P r taken e h = subst (On P) e h
+
+pub init_steps : (old : InitEnd) (token : List ℕ) (taken : Initiated) → GoodInit old → init_step old token ≡ Ok taken → InitLaw old taken
+init_steps old token taken good e = on-ok (InitLaw old) (init_step old token) taken e (step-law old token good)
+
+-- ---- the start
+
+OnStarted : (Started → Type 0) → Result Started NegRefusal → Type 0
+OnStarted P (Ok started) = P started
+OnStarted P (Err refusal) = Unit {0}
+
+request-opens : (own : InitSetup) (credential : Granted) (rest : List MechCred) (result : Result (ApInit × List ℕ) ApRefusal) → own.list ≡ creds.Kerberos credential ∷ rest → request_of credential own.stamp own.draws own.bindings ≡ result → OnStarted (StartLaw own) (opens own (request_begun (request_makes credential own.stamp own.draws own.bindings) result))
+unfolding OnStarted
+request-opens own credential rest (Err refusal) list sends = tt
+request-opens own credential rest (Ok sent) list sends =
+    let is_own : cred_for own.list kinds.Kerberos ≡ Some (creds.Kerberos credential) = rw list refl in
+    record {
+      own_is = refl;
+      good = record {
+        mech = record { credential = credential; is_own = is_own; waits = request-waits credential own.stamp own.draws own.bindings sent sends };
+        first = rw list refl;
+      };
+      unchosen = refl;
+      made = λ making m. (credential, is_own, one making _ m);
+    }
+
+starts-law : (own : InitSetup) (list : List MechCred) → own.list ≡ list → OnStarted (StartLaw own) (starts own list)
+unfolding OnStarted init_begun
+starts-law own [] e = tt
+starts-law own (creds.Kerberos credential ∷ rest) e = request-opens own credential rest (request_of credential own.stamp own.draws own.bindings) e refl
+
+pub init_starts : (own : InitSetup) (started : Started) → init_start own ≡ Ok started → StartLaw own started
+unfolding OnStarted
+init_starts own started e = subst (OnStarted (StartLaw own)) e (starts-law own own.list refl)

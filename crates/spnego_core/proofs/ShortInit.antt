@@ -1,0 +1,78 @@
+-- The tokens of an initiator are short.
+use Rattle.std.proofs.Common.{◌≡◌, ℕ, ◌+◌, ◌≤◌, Bool, true, false, not, if◌then◌else◌, refl, sym, subst, arith, List, [], ◌∷◌, ◌++◌, length, map, Option, Some, None, Result, Ok, Err}
+use Rattle.gss_base.specs.declared.mech.MechKind.{MechKind}
+use Rattle.gss_base.specs.declared.mech.MechKind.TheVariants as kinds
+use Rattle.gss_base.specs.Mech.{oid_of}
+use Rattle.gss_base.specs.Principal.{is_named}
+use Rattle.krb_tokens.specs.declared.end.Side.TheVariants.{Initiator}
+use Rattle.krb_files.specs.Granted.{Granted}
+use Rattle.der_core.specs.Element.{explicit, octet_string}
+use Rattle.der_core.specs.Values.{object_identifier}
+use Rattle.der_core.specs.Fields.{many_spelling}
+use Rattle.spnego_msgs.specs.declared.neg_init.NegInit.{NegInit}
+use Rattle.spnego_msgs.specs.Lists.{mech_types}
+use Rattle.spnego_msgs.specs.NegInit.{spnego_identifier, req_flags, neg_init}
+use Rattle.ap_exchange.specs.declared.request.ApInit.{ApInit}
+use Rattle.ap_exchange.specs.Request.{request_token, request_of, RequestFits}
+use Rattle.spnego_core.specs.declared.outcome.Outcome.{Outcome}
+use Rattle.spnego_core.specs.declared.setup.MechCred.{MechCred}
+use Rattle.spnego_core.specs.declared.setup.MechCred.TheVariants as creds
+use Rattle.spnego_core.specs.declared.setup.InitSetup.{InitSetup}
+use Rattle.spnego_core.specs.declared.init_end.Talk.{Talk}
+use Rattle.spnego_core.specs.Tokens.{init_octets, resp_octets}
+use Rattle.spnego_core.specs.ListMic.{list_mic}
+use Rattle.spnego_core.specs.InitMech.{kind_of, is_own_list}
+use Rattle.spnego_core.specs.Initiating.{own_list, first_sent, token_sent, mic_sent, own_mic}
+use Rattle.std.specs.Prelude.{IfOk}
+use Rattle.spnego_core.specs.Sizes.{IsShort, FitsBeside}
+use Rattle.spnego_core.proofs.Requests.{request-token}
+use Rattle.spnego_core.proofs.Sizes.{Within, more, none, both, element_within, string_within, oid_within, request_within}
+use Rattle.spnego_core.proofs.Short.{resp_within, some-is, none-is, list_mic_within}
+
+pub request_fits : (credential : Granted) (stamp : ℕ) (draws : List ℕ) (bindings : Option (List ℕ)) (end : ApInit) (token : List ℕ) → request_of credential stamp draws bindings ≡ Ok (end, token) → length draws ≡ 66 → length credential.ticket ≤ 60000 → is_named credential.client.realm credential.client.parts ≡ true → RequestFits credential stamp draws bindings → FitsBeside token
+request_fits credential stamp draws bindings end token sent drawn ticket named fits =
+    let is : token ≡ request_token credential stamp draws bindings = request-token credential stamp draws bindings (end, token) sent in
+    subst FitsBeside (sym is) (request_within credential stamp draws bindings drawn ticket named fits.hash).most
+
+pub token_short : (token : List ℕ) → FitsBeside token → IsShort (resp_octets (token_sent token))
+token_short token h =
+    let own : Within token 61040 = record { most = h } in
+    omega (arith, (resp_within (token_sent token) 61040 (λ v e. none-is v 9 e) (λ v e. some-is token v 61040 own e) (λ v e. none-is v 28 e)).most)
+
+own_within : (cred : MechCred) → Within (object_identifier.spell (oid_of (kind_of cred))) 15
+own_within (creds.Kerberos credential) = oid_within (oid_of kinds.Kerberos) nine
+  where
+    nine : Within (oid_of kinds.Kerberos) 9
+    nine = record { most = omega arith }
+
+list_within : (list : List MechCred) → is_own_list list ≡ true → Within (many_spelling object_identifier (map (λ cred. oid_of (kind_of cred)) list)) 30
+list_within [] e = cc
+list_within (only ∷ []) e = more 30 (omega arith) (both (own_within only) none)
+list_within (first ∷ second ∷ []) e = more 30 (omega arith) (both (own_within first) (both (own_within second) none))
+list_within (first ∷ second ∷ third ∷ rest) e = cc
+
+pub first_short : (own : InitSetup) (token : List ℕ) → is_own_list own.list ≡ true → FitsBeside token → IsShort (init_octets (first_sent own token))
+unfolding init_octets neg_init spnego_identifier mech_types
+first_short own token list h =
+    let sent : Within token 61040 = record { most = h } in
+    let name : Within (0x2b ∷ 6 ∷ 1 ∷ 5 ∷ 5 ∷ 2 ∷ []) 6 = record { most = omega arith } in
+    let all : Within (init_octets (first_sent own token)) 61124 =
+    more 61124 (omega arith) (element_within 0x60 (both (element_within 6 name) (element_within 0xa0 (element_within 0x30
+    (both (element_within 0xa0 (element_within 0x30 (list_within own.list list)))
+    (both none
+    (both (element_within 0xa2 (string_within token sent))
+    (both none none)))))))) in
+    omega (arith, all.most)
+
+pub if_short : {E : Type 0} (r : Result (List ℕ) E) (token : List ℕ) → IfOk r (λ o. o ≡ token) → IsShort token → IfOk r IsShort
+if_short (Ok o) token e h = subst IsShort (sym e) h
+if_short (Err refusal) token e h = tt
+
+pub if_first : {E : Type 0} (own : InitSetup) (token : List ℕ) (list : List (List ℕ)) (r : Result (List ℕ) E) → list ≡ own_list own → IfOk r (λ o. o ≡ init_octets (record { list = list; flags = None; token = Some token; mic = None })) → is_own_list own.list ≡ true → FitsBeside token → IfOk r IsShort
+if_first own token list r e g l h =
+    if_short r (init_octets (first_sent own token)) (subst (λ (x : List (List ℕ)). IfOk r (λ o. o ≡ init_octets (record { list = x; flags = None; token = Some token; mic = None }))) e g) (first_short own token l h)
+
+pub if_mic : {E : Type 0} (outcome : Outcome) (list : List (List ℕ)) (mic : List ℕ) (r : Result (List ℕ) E) → mic ≡ list_mic outcome Initiator list → IfOk r (λ o. o ≡ resp_octets (mic_sent mic)) → IfOk r IsShort
+if_mic outcome list mic r e h =
+    let own : Within mic 28 = subst (λ (x : List ℕ). Within x 28) (sym e) (list_mic_within outcome Initiator list) in
+    if_short r (resp_octets (mic_sent mic)) h (omega (arith, (resp_within (mic_sent mic) 0 (λ v f. none-is v 9 f) (λ v f. none-is v 0 f) (λ v f. some-is mic v 28 own f)).most))

@@ -1,0 +1,5 @@
+use Rattle.spnego_core.proofs.AcceptSteps.{accept_steps}
+use Rattle.spnego_core.proofs.laws.prove_accept_laws.Goals as goal
+
+pub returns : goal.returns
+returns c = record { steps = accept_steps }

@@ -1,0 +1,5 @@
+use Rattle.spnego_core.proofs.InitSteps.{init_starts, init_steps}
+use Rattle.spnego_core.proofs.laws.prove_init_laws.Goals as goal
+
+pub returns : goal.returns
+returns c = record { starts = init_starts; steps = init_steps }

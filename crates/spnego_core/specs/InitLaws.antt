@@ -1,0 +1,161 @@
+-- What holds of an initiator over its steps.
+use Rattle.std.specs.Prelude.{◌≡◌, ◌⊎◌, ℕ, Bool, true, false, List, Option, Some, None, Result, Ok}
+use Rattle.gss_base.specs.declared.mech.MechKind.{MechKind}
+use Rattle.gss_base.specs.declared.mech.MechKind.TheVariants as kinds
+use Rattle.krb_derive.specs.Making.{Making, Among}
+use Rattle.krb_tokens.specs.declared.done.MechDone.{MechDone}
+use Rattle.krb_tokens.specs.declared.end.Side.TheVariants.{Initiator}
+use Rattle.krb_files.specs.Granted.{Granted}
+use Rattle.ap_exchange.specs.declared.request.ApInit.{ApInit}
+use Rattle.ap_exchange.specs.Request.{waiting, request_making}
+use Rattle.ap_exchange.specs.Reply.{reply_taken, reply_found}
+use Rattle.spnego_core.specs.declared.outcome.Outcome.{Outcome}
+use Rattle.spnego_core.specs.declared.refusal.NegRefusal.{NegRefusal}
+use Rattle.spnego_core.specs.declared.setup.MechCred.TheVariants as creds
+use Rattle.spnego_core.specs.declared.setup.InitSetup.{InitSetup}
+use Rattle.spnego_core.specs.declared.init_mech.InitMech.{InitMech}
+use Rattle.spnego_core.specs.declared.init_mech.InitMech.TheVariants as mechs
+use Rattle.spnego_core.specs.declared.init_end.Opening.{Opening}
+use Rattle.spnego_core.specs.declared.init_end.Talking.{Talking}
+use Rattle.spnego_core.specs.declared.init_end.Signed.{Signed}
+use Rattle.spnego_core.specs.declared.init_end.InitEnd.{InitEnd}
+use Rattle.spnego_core.specs.declared.init_end.InitEnd.TheVariants as ends
+use Rattle.spnego_core.specs.declared.init_end.InitStep.{InitStep}
+use Rattle.spnego_core.specs.declared.init_end.InitStep.TheVariants as steps
+use Rattle.spnego_core.specs.Outcome.{outcome_of}
+use Rattle.spnego_core.specs.ListMic.{is_list_mic, mic_making, mic_found}
+use Rattle.spnego_core.specs.Choice.{is_first}
+use Rattle.spnego_core.specs.InitMech.{kinds_of, is_own_list, cred_for}
+use Rattle.spnego_core.specs.Initiating.{Started, Initiated, own_list, init_start, init_step}
+
+-- ---- what an end knows
+
+-- what it was begun with
+abbrev pub own_of : InitEnd → InitSetup
+own_of (ends.Opens opening) = opening.own
+own_of (ends.Talks talking) = talking.talk.own
+own_of (ends.Signed signed) = signed.talk.own
+
+-- the mechanism that the acceptor chose
+abbrev pub chosen_of : InitEnd → Option MechKind
+chosen_of (ends.Opens opening) = None
+chosen_of (ends.Talks talking) = Some talking.talk.chosen
+chosen_of (ends.Signed signed) = Some signed.talk.chosen
+
+-- the acceptor's MIC over the own list was verified
+abbrev pub listed_of : InitEnd → Bool
+listed_of (ends.Opens opening) = false
+listed_of (ends.Talks talking) = false
+listed_of (ends.Signed signed) = signed.listed
+
+-- the outcome of a mechanism that is done
+abbrev pub finished_of : InitEnd → Option Outcome
+finished_of (ends.Opens opening) = None
+finished_of (ends.Talks talking) = None
+finished_of (ends.Signed signed) = Some signed.outcome
+
+abbrev pub finished_in : InitStep → Option Outcome
+finished_in (steps.More end token) = finished_of end
+finished_in (steps.Done outcome) = Some outcome
+
+-- ---- good ends: those that runs reach
+
+-- a Kerberos end that waits for the reply to a request by the own credential
+pub record IsWaiting (own : InitSetup) (end : ApInit) : Type 0 where
+  pub credential : Granted
+  pub is_own : cred_for own.list kinds.Kerberos ≡ Some (creds.Kerberos credential)
+  pub waits : end ≡ waiting credential own.stamp own.draws own.bindings
+
+abbrev pub IsMechOf : InitSetup → InitMech → Type 0
+IsMechOf own (mechs.Kerberos end) = IsWaiting own end
+
+abbrev pub kind_of_mech : InitMech → MechKind
+kind_of_mech (mechs.Kerberos end) = kinds.Kerberos
+
+-- the chosen mechanism is the own first choice, or the acceptor's MIC over the own list was verified: the list arrived as it was sent
+abbrev pub Covered : InitSetup → MechKind → Bool → Type 0
+Covered own chosen listed = (is_first (kinds_of own.list) chosen ≡ true) ⊎ (listed ≡ true)
+
+pub record GoodOpening (opening : Opening) : Type 0 where
+  pub mech : IsMechOf opening.own opening.mech
+  pub first : is_first (kinds_of opening.own.list) (kind_of_mech opening.mech) ≡ true
+
+pub record GoodTalking (talking : Talking) : Type 0 where
+  pub mech : IsMechOf talking.talk.own talking.mech
+  pub chosen : kind_of_mech talking.mech ≡ talking.talk.chosen
+
+pub record GoodSigned (signed : Signed) : Type 0 where
+  pub covered : Covered signed.talk.own signed.talk.chosen signed.listed
+  pub chosen : signed.outcome.mech ≡ signed.talk.chosen
+
+abbrev pub GoodInit : InitEnd → Type 0
+GoodInit (ends.Opens opening) = GoodOpening opening
+GoodInit (ends.Talks talking) = GoodTalking talking
+GoodInit (ends.Signed signed) = GoodSigned signed
+
+-- ---- what a step shows
+
+-- the end that goes on keeps what it was begun with, is good, and knows what is chosen and whether the acceptor's MIC was verified
+pub record GoesOn (own : InitSetup) (chosen : Option MechKind) (listed : Bool) (end : InitEnd) : Type 0 where
+  pub own_is : own_of end ≡ own
+  pub good : GoodInit end
+  pub chosen_is : chosen_of end ≡ chosen
+  pub listed_is : listed_of end ≡ listed
+
+abbrev pub After : InitSetup → Option MechKind → Bool → InitStep → Type 0
+After own chosen listed (steps.More end token) = GoesOn own chosen listed end
+After own chosen listed (steps.Done outcome) = Unit {0}
+
+-- a request by the own credential of a mechanism that is chosen now
+pub record IsRequest (own : InitSetup) (chosen : Option MechKind) (making : Making) : Type 0 where
+  pub credential : Granted
+  pub is_own : cred_for own.list kinds.Kerberos ≡ Some (creds.Kerberos credential)
+  pub made : making ≡ request_making credential own.stamp own.draws own.bindings
+  pub now : chosen ≡ Some kinds.Kerberos
+
+-- the MIC over the own list, under the key of the finished mechanism
+pub record IsOwnMic (own : InitSetup) (step : InitStep) (making : Making) : Type 0 where
+  pub outcome : Outcome
+  pub finished : finished_in step ≡ Some outcome
+  pub made : making ≡ mic_making outcome Initiator (own_list own)
+
+-- a reply was taken, and what was found verified in it is among what the step found
+pub record ByReply (own : InitSetup) (found : List Making) (outcome : Outcome) : Type 0 where
+  pub end : ApInit
+  pub token : List ℕ
+  pub made : MechDone
+  pub waits : IsWaiting own end
+  pub takes : reply_taken end token ≡ Ok made
+  pub outcome_is : outcome ≡ outcome_of kinds.Kerberos made
+  pub verified : (making : Making) → Among (reply_found end token) making → Among found making
+
+-- the acceptor's MIC over the own list was verified in this step
+pub record SeesMic (own : InitSetup) (found : List Making) (outcome : Outcome) : Type 0 where
+  pub mic : List ℕ
+  pub right : is_list_mic outcome Initiator (own_list own) mic ≡ true
+  pub verified : Among found (mic_found outcome Initiator (own_list own) mic)
+
+pub record InitLaw (old : InitEnd) (taken : Initiated) : Type 0 where
+  pub after : After (own_of old) taken.chosen taken.listed taken.step
+  -- what is handed out: a request by the own credential, or the MIC over the own list
+  pub made : (making : Making) → Among taken.makes making → IsRequest (own_of old) taken.chosen making ⊎ IsOwnMic (own_of old) taken.step making
+  -- a mechanism is finished by a reply that it takes; it was then, or is now
+  pub finishes : (outcome : Outcome) → finished_in taken.step ≡ Some outcome → (finished_of old ≡ Some outcome) ⊎ ByReply (own_of old) taken.found outcome
+  -- the acceptor's MIC is known as verified only where it was found so, then or now
+  pub sees : (outcome : Outcome) → finished_in taken.step ≡ Some outcome → taken.listed ≡ true → (listed_of old ≡ true) ⊎ SeesMic (own_of old) taken.found outcome
+  -- a finished mechanism is the chosen one, and a context on another than the own first choice stands only with the acceptor's MIC
+  pub chosen : (outcome : Outcome) → finished_in taken.step ≡ Some outcome → taken.chosen ≡ Some outcome.mech
+  pub covered : (outcome : Outcome) → taken.step ≡ steps.Done outcome → Covered (own_of old) outcome.mech taken.listed
+  -- what is chosen or finished stays so
+  pub turns : (kind : MechKind) → chosen_of old ≡ Some kind → taken.chosen ≡ Some kind
+  pub stays : (outcome : Outcome) → finished_of old ≡ Some outcome → finished_in taken.step ≡ Some outcome
+
+pub record StartLaw (own : InitSetup) (started : Started) : Type 0 where
+  pub own_is : own_of started.end ≡ own
+  pub good : GoodInit started.end
+  pub unchosen : chosen_of started.end ≡ None
+  pub made : (making : Making) → Among started.makes making → (credential : Granted) × (cred_for own.list kinds.Kerberos ≡ Some (creds.Kerberos credential)) × (making ≡ request_making credential own.stamp own.draws own.bindings)
+
+pub record InitLaws : Type 0 where
+  pub starts : (own : InitSetup) (started : Started) → init_start own ≡ Ok started → StartLaw own started
+  pub steps : (old : InitEnd) (token : List ℕ) (taken : Initiated) → GoodInit old → init_step old token ≡ Ok taken → InitLaw old taken

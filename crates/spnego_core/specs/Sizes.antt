@@ -1,0 +1,35 @@
+-- Each token that is answered has at most 65,536 octets, so that it fits into a call or a reply.
+use Rattle.std.specs.Prelude.{ℕ, ◌≤◌, List, length}
+use Rattle.spnego_core.specs.declared.accept_end.Answered.{Answered}
+use Rattle.spnego_core.specs.declared.accept_end.Answered.TheVariants as afters
+use Rattle.spnego_core.specs.declared.accept_end.AcceptStep.{AcceptStep}
+use Rattle.spnego_core.specs.declared.accept_end.AcceptStep.TheVariants as steps
+use Rattle.spnego_core.specs.declared.init_mech.InitAnswer.{InitAnswer}
+use Rattle.spnego_core.specs.declared.init_mech.InitAnswer.TheVariants as answers
+use Rattle.spnego_core.specs.declared.init_end.InitStep.{InitStep}
+use Rattle.spnego_core.specs.declared.init_end.InitStep.TheVariants as turns
+
+abbrev pub IsShort : List ℕ → Type 0
+IsShort token = length token ≤ 65536
+
+abbrev pub ShortAnswered : Answered → Type 0
+ShortAnswered (afters.More end token) = IsShort token
+ShortAnswered (afters.Done outcome lasts token) = IsShort token
+
+-- the token of an acceptor's step; where it pauses, that of the step that goes on
+abbrev pub ShortAccept : AcceptStep → Type 0
+ShortAccept (steps.More end token) = IsShort token
+ShortAccept (steps.Done outcome lasts token) = IsShort token
+ShortAccept (steps.WantsAuth pause) = ShortAnswered pause.after
+
+abbrev pub ShortInit : InitStep → Type 0
+ShortInit (turns.More end token) = IsShort token
+ShortInit (turns.Done outcome) = Unit {0}
+
+-- a mechanism's own token leaves room for the negotiation's
+abbrev pub FitsBeside : List ℕ → Type 0
+FitsBeside token = length token ≤ 61040
+
+abbrev pub ShortAnswer : InitAnswer → Type 0
+ShortAnswer (answers.More mech token) = FitsBeside token
+ShortAnswer (answers.Done outcome) = Unit {0}
