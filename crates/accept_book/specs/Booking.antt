@@ -39,7 +39,7 @@ use Rattle.accept_book.specs.declared.book_answer.BookRefusal.TheVariants as ref
 use Rattle.accept_book.specs.declared.book_answer.NegAnswer.{NegAnswer}
 use Rattle.accept_book.specs.declared.book_answer.NegAnswer.TheVariants as answers
 use Rattle.accept_book.specs.History.{Standing, Unknown, Open, Whole, Over, standing, has_auth, taken_of}
-use Rattle.accept_book.specs.Answers.{refused}
+use Rattle.accept_book.specs.Answers.{refused, Free}
 use Rattle.accept_book.specs.Entering.{id_of, entered, mark_refused}
 use Rattle.accept_book.specs.Replays.{Accepting, Naming}
 
@@ -233,6 +233,11 @@ abbrev pub lease_refused : Accepting AcceptEnd Outcome → Lease → ℕ → Opt
 lease_refused core lease seq =
     if has_key (slot_at core.table lease.id) lease.outcome.key then refused core.limit core.width core.history lease.id seq
     else Some admits.Gone
+
+-- an admission by a lease is free: its context is complete with the lease's key, the number may be called, and a place of the log is free
+pub record FreeFor (core : Accepting AcceptEnd Outcome) (lease : Lease) (seq : ℕ) : Type 0 where
+  pub key : has_key (slot_at core.table lease.id) lease.outcome.key ≡ true
+  pub free : Free core.limit core.width core.history lease.id seq
 
 -- ---- looks
 

@@ -10,7 +10,7 @@ ghost use Rattle.accept_book.specs.Answers.{refused, or_refused, after, admitted
 ghost use Rattle.accept_book.specs.Entering.{auth_of, auth_after, given, gained};
 ghost use Rattle.accept_book.specs.Replays.{Keeps, Replays};
 ghost use Rattle.accept_book.specs.Legal.{Legal};
-ghost use Rattle.accept_book.specs.Booking.{names_of, by_outcome, Fits, AllFit, OthersFit, StepFits, mark_of, settled_of, stands_of, raised, by_step, begun, opened_by, gone_on_by, taken, negotiated, after_refusal, refusal_of_mark, lease_refused, has_key, same_key};
+ghost use Rattle.accept_book.specs.Booking.{names_of, by_outcome, Fits, AllFit, OthersFit, StepFits, mark_of, settled_of, stands_of, raised, by_step, begun, opened_by, gone_on_by, taken, negotiated, after_refusal, refusal_of_mark, lease_refused, FreeFor, has_key, same_key};
 
 use crate::acceptance::{Core, blank};
 use crate::answer::{AdmitRefusal, LookRefusal, MarkRefusal, Next, RoomRefusal};
@@ -412,6 +412,7 @@ fn admit_by(
     requires { AllFit core.old }
     ensures answer { result ≡ or_refused (refused core.old.limit core.old.width core.old.history id seq) (admitted core.old.history (Entry.Call id seq procedure args)) }
     ensures history { core.new.history ≡ after (refused core.old.limit core.old.width core.old.history id seq) (Entry.Call id seq procedure args) core.old.history }
+    ensures exactly { IsOk result ↔ Free core.old.limit core.old.width core.old.history id seq }
     ensures unchanged { OnErr result (core.new ≡ core.old) }
     ensures keeps { Keeps core.old core.new }
     ensures fits { AllFit core.new }
@@ -426,6 +427,7 @@ fn end_by(core: &mut Core<AcceptEnd, Outcome>, id: u64, seq: u32) -> Result<Rece
     requires { AllFit core.old }
     ensures answer { result ≡ or_refused (refused core.old.limit core.old.width core.old.history id seq) (receipt_of core.old.history (Entry.Ended id (EndCause.Destroyed seq))) }
     ensures history { core.new.history ≡ after (refused core.old.limit core.old.width core.old.history id seq) (Entry.Ended id (EndCause.Destroyed seq)) core.old.history }
+    ensures exactly { IsOk result ↔ Free core.old.limit core.old.width core.old.history id seq }
     ensures unchanged { OnErr result (core.new ≡ core.old) }
     ensures keeps { Keeps core.old core.new }
     ensures fits { AllFit core.new }
@@ -519,6 +521,7 @@ impl Book {
     ) -> Result<Admitted, AdmitRefusal>
         ensures answer { result ≡ or_refused (lease_refused self.old.core lease.now seq) (admitted self.old.core.history (Entry.Call lease.now.id seq procedure args)) }
         ensures history { self.new.core.history ≡ after (lease_refused self.old.core lease.now seq) (Entry.Call lease.now.id seq procedure args) self.old.core.history }
+        ensures exactly { IsOk result ↔ FreeFor self.old.core lease.now seq }
         ensures unchanged { OnErr result (self.new ≡ self.old) }
         ensures keeps { Keeps self.old.core self.new.core }
         ensures setup { self.new.setup ≡ self.old.setup }
@@ -533,6 +536,7 @@ impl Book {
     pub fn end(&mut self, lease: &Lease, seq: u32) -> Result<Receipt, AdmitRefusal>
         ensures answer { result ≡ or_refused (lease_refused self.old.core lease.now seq) (receipt_of self.old.core.history (Entry.Ended lease.now.id (EndCause.Destroyed seq))) }
         ensures history { self.new.core.history ≡ after (lease_refused self.old.core lease.now seq) (Entry.Ended lease.now.id (EndCause.Destroyed seq)) self.old.core.history }
+        ensures exactly { IsOk result ↔ FreeFor self.old.core lease.now seq }
         ensures unchanged { OnErr result (self.new ≡ self.old) }
         ensures keeps { Keeps self.old.core self.new.core }
         ensures setup { self.new.setup ≡ self.old.setup }
