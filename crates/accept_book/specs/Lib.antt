@@ -11,3 +11,8 @@ pub mod Stepping
 pub mod Booking
 pub mod Phases
 pub mod Naming
+pub mod Statuses
+pub mod Served
+pub mod RecordShown
+pub mod RecordRule
+pub mod RuleExamples

@@ -1,6 +1,7 @@
 //! Laws over all legal histories.
 ghost use Rattle.accept_book.specs.Examples.{Examples};
 ghost use Rattle.accept_book.specs.Once.{CallsOnce, MarksOnce};
+ghost use Rattle.accept_book.specs.RuleExamples.{RulesByHand};
 
 /// No number of a context stands twice in a legal history.
 pub fn calls_once()
@@ -15,4 +16,9 @@ pub fn marks_once()
 /// Histories by hand: a legal one with all kinds of entries, and for each condition what may follow and what may not.
 pub fn histories_by_hand()
     ensures { Examples }
+{}
+
+/// Rules of records by hand: what single records are answered, given what was answered to the questions that they ask.
+pub fn rules_by_hand()
+    ensures { RulesByHand }
 {}

@@ -1,0 +1,164 @@
+-- What a call says, and the replies to it: the parts of which the rule of a record is made.
+use Rattle.std.specs.Prelude.{ℕ, ◌+◌, ◌*◌, Bool, true, false, not, ◌==◌, ◌&&◌, ◌||◌, nat_lt, List, [], ◌∷◌, ◌++◌, length, take, drop, is_ok, is_err, Option, Some, None, is_none, if◌then◌else◌, Result, Ok, Err}
+use Rattle.std.specs.Int.{w32, w64, from_be_bytes, to_be_bytes}
+use Rattle.sha1.specs.Sha1.{sha1}
+use Rattle.rpc_msgs.specs.Words.{word, opaque}
+use Rattle.rpc_msgs.specs.Auths.{AuthValue}
+use Rattle.rpc_msgs.specs.Calls.{CallValue, call_at}
+use Rattle.rpc_msgs.specs.Replies.{ReplyValue, accepted, mismatch, auth_error, reply_octets}
+use Rattle.rpc_msgs.specs.declared.call.CallRefusal.{CallRefusal}
+use Rattle.rpc_msgs.specs.declared.call.CallRefusal.TheVariants.{Unreadable, NotCall, RpcVersion}
+use Rattle.rpc_msgs.specs.declared.xdr_reader.XdrRefusal.{XdrRefusal}
+use Rattle.rpcsec_msgs.specs.Cred.{CredValue, cred_at}
+use Rattle.rpcsec_msgs.specs.InitRes.{init_res_octets}
+use Rattle.rpcsec_msgs.specs.Bodies.{checked_at, checked_octets, sealed_at}
+use Rattle.rpcsec_msgs.specs.declared.cred.CredRefusal.{CredRefusal}
+use Rattle.krb_tokens.specs.Mic.{mic_of, checked_mic}
+use Rattle.krb_tokens.specs.Wrap.{wrap_of, unwrapped}
+use Rattle.krb_tokens.specs.declared.end.Side.TheVariants.{Acceptor}
+use Rattle.krb_tokens.specs.declared.end.TokenEnd.{TokenEnd}
+use Rattle.krb_tokens.specs.declared.end.TokenRefusal.{TokenRefusal}
+use Rattle.krb_tokens.specs.declared.wrap.Unwrapped.{Unwrapped}
+use Rattle.spnego_core.specs.Outcome.{token_end}
+use Rattle.accept_book.specs.Statuses.{Status, book_status}
+use Rattle.accept_book.specs.Served.{one_opaque, are_args, result_of}
+use Rattle.accept_book.specs.declared.answer.AdmitRefusal.{AdmitRefusal}
+use Rattle.accept_book.specs.declared.answer.AdmitRefusal.TheVariants as admits
+use Rattle.accept_book.specs.declared.answer.LookRefusal.{LookRefusal}
+use Rattle.accept_book.specs.declared.answer.LookRefusal.TheVariants as looks
+use Rattle.accept_book.specs.declared.book_answer.BookRefusal.{BookRefusal}
+use Rattle.accept_book.specs.declared.book_answer.BookRefusal.TheVariants as books
+use Rattle.accept_book.specs.declared.book_answer.Lease.{Lease}
+use Rattle.accept_book.specs.declared.book_answer.NegAnswer.{NegAnswer}
+use Rattle.accept_book.specs.declared.book_answer.NegAnswer.TheVariants as steps
+use Rattle.accept_book.specs.declared.book_answer.Negotiated.{Negotiated}
+use Rattle.accept_book.specs.declared.entry.Admitted.{Admitted}
+use Rattle.accept_book.specs.declared.entry.Receipt.{Receipt}
+
+-- the moment and the draws of a record, and what the shared state answered, where it was asked
+pub record KeptAnswers : Type 0 where
+  pub now : ℕ
+  pub draws : List ℕ
+  pub negotiated : Option Negotiated
+  pub looked : Option (Result Lease LookRefusal)
+  pub admitted : Option (Result Admitted AdmitRefusal)
+  pub ended : Option (Result Receipt AdmitRefusal)
+
+-- what the shared state may be asked: to take a token of a creation, to show a context, to admit a call's number, to end a context
+pub data Question : Type 0 where
+  Negotiate : (id : Option ℕ) (token : List ℕ) (now : ℕ) (draws : List ℕ) → Question
+  Look : (id now : ℕ) → Question
+  Admit : (lease : Lease) (seq procedure : ℕ) (args : List ℕ) → Question
+  End : (lease : Lease) (seq : ℕ) → Question
+
+-- a question with its answer
+pub data Asked : Type 0 where
+  AskedStep : (id : Option ℕ) (token : List ℕ) (now : ℕ) (draws : List ℕ) (answer : Negotiated) → Asked
+  AskedLook : (id now : ℕ) (answer : Result Lease LookRefusal) → Asked
+  AskedAdmit : (lease : Lease) (seq procedure : ℕ) (args : List ℕ) (answer : Result Admitted AdmitRefusal) → Asked
+  AskedEnd : (lease : Lease) (seq : ℕ) (answer : Result Receipt AdmitRefusal) → Asked
+
+-- the rule and the reply; the questions that are due and were answered, in order, and the next that is due and wasn't, when there is no rule
+pub record Ruling : Type 0 where
+  pub rule : ℕ
+  pub reply : Option (List ℕ)
+  pub asked : List Asked
+  pub due : Option Question
+
+abbrev pub decided : ℕ → Option (List ℕ) → Ruling
+decided rule reply = record { rule = rule; reply = reply; asked = []; due = None }
+
+abbrev pub waiting : Question → Ruling
+waiting question = record { rule = 0; reply = None; asked = []; due = Some question }
+
+abbrev pub asking : Asked → Ruling → Ruling
+asking one ruling = record { rule = ruling.rule; reply = ruling.reply; asked = one ∷ ruling.asked; due = ruling.due }
+
+-- ---- what a call says
+
+-- a call that was read, with the octets of its record, and the moment, draws and width with which it is answered
+pub record Shown : Type 0 where
+  pub record_octets : List ℕ
+  pub call : CallValue
+  pub now : ℕ
+  pub draws : List ℕ
+  pub width : ℕ
+
+-- the first word is there and isn't 1
+abbrev pub is_other_version : List ℕ → Bool
+is_other_version body = if nat_lt (length body) 4 then false else not (from_be_bytes w32 (take 4 body) == 1)
+
+-- a handle is the id in 8 octets
+abbrev pub handle_of : ℕ → List ℕ
+handle_of id = to_be_bytes w64 id
+
+abbrev pub handle_id : List ℕ → Option ℕ
+handle_id handle = if length handle == 8 then Some (from_be_bytes w64 handle) else None
+
+-- ---- tokens of the context. Numbers: 1 for the window's MIC, twice the call's for a verifier, and one more for a body
+
+abbrev pub end_of : Lease → TokenEnd
+end_of lease = token_end lease.outcome Acceptor
+
+-- the verifier is a MIC over the octets up to the end of the credential
+unfoldable pub is_verified : Shown → Lease → Bool
+is_verified s lease = s.call.verf.flavour == 6 && is_ok (checked_mic (end_of lease) s.call.verf.body (take s.call.header s.record_octets))
+
+-- a databody is the call's number and the arguments
+abbrev pub numbered : ℕ → List ℕ → Option (List ℕ)
+numbered seq databody =
+    if nat_lt (length databody) 4 then None else if from_be_bytes w32 (take 4 databody) == seq then Some (drop 4 databody) else None
+
+abbrev pub checked_args : TokenEnd → ℕ → Result (List ℕ × List ℕ) XdrRefusal → Option (List ℕ)
+checked_args end seq (Ok body) = if is_ok (checked_mic end body.1 body.0) then numbered seq body.0 else None
+checked_args end seq (Err refusal) = None
+
+abbrev pub unsealed_args : ℕ → Result Unwrapped TokenRefusal → Option (List ℕ)
+unsealed_args seq (Ok body) = if body.sealed then numbered seq body.content else None
+unsealed_args seq (Err refusal) = None
+
+abbrev pub sealed_args : TokenEnd → ℕ → Result (List ℕ) XdrRefusal → Option (List ℕ)
+sealed_args end seq (Ok token) = unsealed_args seq (unwrapped end token)
+sealed_args end seq (Err refusal) = None
+
+-- the arguments that a body carries by its service: 1 none, 2 integrity, 3 privacy
+unfoldable pub body_args : TokenEnd → CredValue → List ℕ → Option (List ℕ)
+body_args end cred body =
+    if cred.service == 1 then Some body else if cred.service == 2 then checked_args end cred.seq (checked_at body) else sealed_args end cred.seq (sealed_at body)
+
+-- the body of a reply with a result, by the call's service
+unfoldable pub result_body : TokenEnd → CredValue → List ℕ → List ℕ → List ℕ
+result_body end cred confounder result =
+    if cred.service == 1 then result
+    else if cred.service == 2 then checked_octets (word cred.seq ++ result) (mic_of end (2 * cred.seq + 1) (word cred.seq ++ result))
+    else opaque (wrap_of end (2 * cred.seq + 1) true confounder (word cred.seq ++ result))
+
+-- ---- replies
+
+abbrev pub plain : Shown → ℕ → ℕ → ℕ → List ℕ → Option (List ℕ)
+plain s stat low high result = Some (reply_octets (accepted s.call.xid 0 [] stat low high result))
+
+-- with the verifier of a reply: a MIC over the call's number
+abbrev pub signed : Shown → CredValue → Lease → ℕ → ℕ → ℕ → List ℕ → Option (List ℕ)
+signed s cred lease stat low high result =
+    Some (reply_octets (accepted s.call.xid 6 (mic_of (end_of lease) (2 * cred.seq) (word cred.seq)) stat low high result))
+
+abbrev pub denied : Shown → ℕ → Option (List ℕ)
+denied s stat = Some (reply_octets (auth_error s.call.xid stat))
+
+-- the results of a creation: a context that goes on, one that is complete, with a MIC over its window, a refused token
+abbrev pub going : Shown → ℕ → List ℕ → Option (List ℕ)
+going s id token = plain s 0 0 0 (init_res_octets (record { context = handle_of id; major = 1; minor = 0; window = 0; token = token }))
+
+abbrev pub settled : Shown → Lease → List ℕ → Option (List ℕ)
+settled s lease token =
+    Some (reply_octets (accepted s.call.xid 6 (mic_of (end_of lease) 1 (word s.width)) 0 0 0 (init_res_octets (record { context = handle_of lease.id; major = 0; minor = 0; window = s.width; token = token }))))
+
+-- a negotiation token that says reject; none where the context was complete
+abbrev pub refusal_token : BookRefusal → List ℕ
+refusal_token books.AlreadyComplete = []
+refusal_token refusal = 0xa1 ∷ 7 ∷ 0x30 ∷ 5 ∷ 0xa0 ∷ 3 ∷ 10 ∷ 1 ∷ 2 ∷ []
+
+abbrev pub refused : Shown → BookRefusal → Option (List ℕ)
+refused s refusal =
+    plain s 0 0 0 (init_res_octets (record { context = []; major = (book_status refusal).major; minor = (book_status refusal).minor; window = 0; token = refusal_token refusal }))
