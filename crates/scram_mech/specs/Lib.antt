@@ -20,5 +20,7 @@ pub mod Initiator
 pub mod Verifiers
 pub mod Acceptor
 pub mod Places
+pub mod Grammar
+pub mod VerifierFile
 pub mod Laws
 pub mod AuthParts
