@@ -82,7 +82,7 @@ line_values (a ∷ b ∷ c ∷ d ∷ e ∷ []) octets rest ranged s =
     }
 line_values (a ∷ b ∷ c ∷ d ∷ e ∷ f ∷ more) octets rest ranged s = absurd s.3.2.3.2.3.2.3.2.3.2
 
-abbrev line_read : Verifier → List ℕ → Result (Verifier × List ℕ) VerifierRefusal
+abbrev pub line_read : Verifier → List ℕ → Result (Verifier × List ℕ) VerifierRefusal
 line_read line rest = Ok (line, rest)
 
 whole_same : (p q : Verifier × List ℕ) → line_read p.0 p.1 ≡ line_read q.0 q.1 → p ≡ q
@@ -107,7 +107,7 @@ line_from_found : (number : ℕ) (octets : List ℕ) (r : Result (List (List ℕ
 line_from_found number octets (Err stuck) line rest p e = absurd cc
 line_from_found number octets (Ok x) line rest p e = line_by number octets x.0 x.1 line rest (are_rounds (number_of (piece x.0 1))) p refl e
 
-line-found : (number : ℕ) (octets : List ℕ) (line : Verifier) (rest : List ℕ) → line_at number octets ≡ line_read line rest → LineFound line octets rest
+pub line-found : (number : ℕ) (octets : List ℕ) (line : Verifier) (rest : List ℕ) → line_at number octets ≡ line_read line rest → LineFound line octets rest
 unfolding line_at
 line-found number octets line rest e = line_from_found number octets (pieces line_format octets) line rest refl e
 
@@ -227,26 +227,26 @@ line_back number line rest is =
     let r = and_true (nat_le 4096 line.rounds) (nat_le line.rounds 200000) is.ranged in
     rw (number-decimal line.rounds (in_word line.rounds r.1), is.ranged, decoded-encoded line.salt is.salted.each, decoded-encoded line.stored is.stored.each, decoded-encoded line.server is.server.each) refl
 
-line-only : (number : ℕ) (line : Verifier) (rest : List ℕ) → IsLine line → line_at number (line_text line ++ rest) ≡ line_read line rest
+pub line-only : (number : ℕ) (line : Verifier) (rest : List ℕ) → IsLine line → line_at number (line_text line ++ rest) ≡ line_read line rest
 unfolding line_at
 line-only number line rest is = rw (pieces-only line_format (values_of_line line) (line_text line ++ rest) rest (line_spelled line rest is)) (line_back number line rest is)
 
 -- ---- all lines
 
-some_text : (line : Verifier) → IsLine line → 1 ≤ length (line_text line)
+pub some_text : (line : Verifier) → IsLine line → 1 ≤ length (line_text line)
 unfolding line_text
 some_text line is = let some : 1 ≤ length line.name = is.named.some in simp length-append (omega arith)
 
-abbrev lines_read : List Verifier → Result (List Verifier) VerifierRefusal
+abbrev pub lines_read : List Verifier → Result (List Verifier) VerifierRefusal
 lines_read lines = Ok lines
 
 lines_same : (a b : List Verifier) → lines_read a ≡ lines_read b → a ≡ b
 lines_same a b e = cc
 
-abbrev Lined : List Verifier → List ℕ → Type 0
+abbrev pub Lined : List Verifier → List ℕ → Type 0
 Lined lines octets = AreLines lines × (octets ≡ lines_text lines)
 
-lines-found : (most number : ℕ) (octets : List ℕ) (lines : List Verifier) → length octets ≤ most → lines_at most number octets ≡ lines_read lines → Lined lines octets
+pub lines-found : (most number : ℕ) (octets : List ℕ) (lines : List Verifier) → length octets ≤ most → lines_at most number octets ≡ lines_read lines → Lined lines octets
 unfolding lines_at
 lines-found zero number [] lines few e = subst (λ (ls : List Verifier). Lined ls []) (lines_same [] lines e) (tt, refl)
 lines-found zero number (o ∷ os) lines few e = absurd (omega arith)
@@ -287,7 +287,7 @@ unnamed_by : (line : Verifier) (lines : List Verifier) (name : List ℕ) (b : Bo
 unnamed_by line lines name true e none others = absurd (clash true none refl)
 unnamed_by line lines name false e none others = (λ (is : line.name ≡ name). clash (same line.name name) e (same_tag line.name name is), others none)
 
-unnamed : (lines : List Verifier) (name : List ℕ) → is_there (line_for lines name) ≡ false → NotNamed name lines
+pub unnamed : (lines : List Verifier) (name : List ℕ) → is_there (line_for lines name) ≡ false → NotNamed name lines
 unnamed [] name e = tt
 unnamed (line ∷ lines) name e = unnamed_by line lines name (same line.name name) refl e (λ f. unnamed lines name f)
 
@@ -295,7 +295,7 @@ absent_by : (line : Verifier) (lines : List Verifier) (name : List ℕ) (b : Boo
 absent_by line lines name true e none others = absurd (none.0 (same_is line.name name e))
 absent_by line lines name false e none others = others
 
-absent : (lines : List Verifier) (name : List ℕ) → NotNamed name lines → is_there (line_for lines name) ≡ false
+pub absent : (lines : List Verifier) (name : List ℕ) → NotNamed name lines → is_there (line_for lines name) ≡ false
 absent [] name none = refl
 absent (line ∷ lines) name none = absent_by line lines name (same line.name name) refl none (absent lines name none.1)
 

@@ -105,10 +105,10 @@ bare_joined bare b c r f x e a d = e ∙ sym (rw (a, ← d) (bare_whole b r f))
 third_joined : (text bare whole p q : List ℕ) → text ≡ whole ++ (codes ",p=" ++ p) → bare ≡ whole → q ≡ p → text ≡ bare ++ codes ",p=" ++ q
 third_joined text bare whole p q e a b = e ∙ sym (rw (a, b) (simp append_assoc))
 
-abbrev third_shown : List (List ℕ) → List ℕ → Third
+abbrev pub third_shown : List (List ℕ) → List ℕ → Third
 third_shown values text = record { binding = decoded (piece values 0); nonce = piece values 1; proof = decoded (piece values 3); bare = take (length text - 31) text }
 
-third_values : (values : List (List ℕ)) (text rest : List ℕ) → Spelled third_format values text rest → SpellsThird (third_shown values text) text
+pub third_values : (values : List (List ℕ)) (text rest : List ℕ) → Spelled third_format values text rest → SpellsThird (third_shown values text) text
 unfolding third_format
 third_values [] text rest s = absurd s.2
 third_values (a ∷ []) text rest s = absurd s.2.3.2
@@ -151,16 +151,16 @@ third-found text third e =
 
 -- ---- the final text
 
-abbrev by_error : List ℕ → Result (List ℕ) ScramRefusal
+abbrev pub by_error : List ℕ → Result (List ℕ) ScramRefusal
 by_error text = values_of error_format text >>= (λ values. Err refusals.PeerError)
 
-abbrev by_signature : List ℕ → Result (List ℕ) ScramRefusal
+abbrev pub by_signature : List ℕ → Result (List ℕ) ScramRefusal
 by_signature text = values_of signature_format text >>= (λ values. Ok (decoded (piece values 0)))
 
 final_joined : (text s t f x : List ℕ) → text ≡ codes "v=" ++ (s ++ f) → t ≡ s → f ≡ x → text ≡ codes "v=" ++ t ++ x
 final_joined text s t f x e a b = e ∙ sym (rw (a, ← b) refl)
 
-signature_values : (values : List (List ℕ)) (text rest : List ℕ) → Spelled signature_format values text rest → SpellsFinal (decoded (piece values 0)) text
+pub signature_values : (values : List (List ℕ)) (text rest : List ℕ) → Spelled signature_format values text rest → SpellsFinal (decoded (piece values 0)) text
 unfolding signature_format
 signature_values [] text rest s = absurd s.2
 signature_values (a ∷ []) text rest s = absurd s.2.3
@@ -199,10 +199,10 @@ final-found text signature e = final_by text signature (begins_as_error text) e
 
 -- ---- the text of an error
 
-abbrev refused : {A : Type 0} → ScramRefusal → Result A ScramRefusal
+abbrev pub refused : {A : Type 0} → ScramRefusal → Result A ScramRefusal
 refused refusal = Err refusal
 
-refusal_is : {A : Type 0} (a b : ScramRefusal) → refused {A = A} a ≡ refused {A = A} b → a ≡ b
+pub refusal_is : {A : Type 0} (a b : ScramRefusal) → refused {A = A} a ≡ refused {A = A} b → a ≡ b
 refusal_is a b e = cc
 
 text_no_peer : (text : List ℕ) (r : Result (List (List ℕ)) Stuck) → in_text text r ≡ refused refusals.PeerError → ⊥
@@ -214,11 +214,11 @@ no_peer_by format text true e = cc
 no_peer_by format text false e = text_no_peer text (pieces_of format text) e
 
 -- reading alone never tells of an error at the other end
-no_peer : (format : List Segment) (text : List ℕ) → values_of format text ≡ refused refusals.PeerError → ⊥
+pub no_peer : (format : List Segment) (text : List ℕ) → values_of format text ≡ refused refusals.PeerError → ⊥
 unfolding values_of
 no_peer format text e = no_peer_by format text (is_mandatory text) e
 
-opened : (r : Result (List (List ℕ)) ScramRefusal) → (r ≡ refused refusals.PeerError → ⊥) → (r >>= (λ values. refused {A = List ℕ} refusals.PeerError)) ≡ refused refusals.PeerError → (values : List (List ℕ)) × (r ≡ Ok values)
+pub opened : (r : Result (List (List ℕ)) ScramRefusal) → (r ≡ refused refusals.PeerError → ⊥) → (r >>= (λ values. refused {A = List ℕ} refusals.PeerError)) ≡ refused refusals.PeerError → (values : List (List ℕ)) × (r ≡ Ok values)
 opened (Ok values) none e = (values, refl)
 opened (Err d) none e = absurd (none (ap (λ (x : ScramRefusal). refused {A = List (List ℕ)} x) (refusal_is {A = List ℕ} d refusals.PeerError e)))
 
@@ -229,7 +229,7 @@ shut (Err d) none e = none (ap (λ (x : ScramRefusal). refused {A = List (List �
 error_joined : (text e v x : List ℕ) → text ≡ codes "e=" ++ e → e ≡ v ++ x → text ≡ codes "e=" ++ v ++ x
 error_joined text e v x a b = a ∙ rw b (simp append_assoc)
 
-error_values : (values : List (List ℕ)) (text rest : List ℕ) → Spelled error_format values text rest → SpellsError text
+pub error_values : (values : List (List ℕ)) (text rest : List ℕ) → Spelled error_format values text rest → SpellsError text
 unfolding error_format
 error_values [] text rest s = absurd s.2
 error_values (a ∷ others) text rest s =

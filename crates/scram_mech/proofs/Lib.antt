@@ -26,3 +26,5 @@ pub mod Extras
 pub mod NameShapes
 pub mod FoundTexts
 pub mod OnlyTexts
+pub mod RefusedTexts
+pub mod RefusedFiles

@@ -22,5 +22,7 @@ pub mod Acceptor
 pub mod Places
 pub mod Grammar
 pub mod VerifierFile
+pub mod FilePlaces
+pub mod GrammarPlaces
 pub mod Laws
 pub mod AuthParts

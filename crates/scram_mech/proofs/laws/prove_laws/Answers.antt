@@ -11,6 +11,8 @@ use Rattle.scram_mech.proofs.PlaceLaws.{longest}
 use Rattle.scram_mech.proofs.FileLaws.{file-found, file-only}
 use Rattle.scram_mech.proofs.FoundTexts.{first-found, second-found, third-found, final-found, error-found}
 use Rattle.scram_mech.proofs.OnlyTexts.{first-only, second-only, third-only, final-only, error-only}
+use Rattle.scram_mech.proofs.RefusedTexts.{first-refused, second-refused, third-refused, final-refused}
+use Rattle.scram_mech.proofs.RefusedFiles.{file-bad_line, file-named_twice}
 use Rattle.scram_mech.proofs.laws.prove_laws.Goals as goal
 
 pub returns : goal.returns
@@ -32,6 +34,8 @@ returns c = record {
   error_place = longest error_format error-sound;
   file_found = file-found;
   file_only = file-only;
+  file_bad_line = file-bad_line;
+  file_named_twice = file-named_twice;
   first_found = first-found;
   second_found = second-found;
   third_found = third-found;
@@ -42,4 +46,8 @@ returns c = record {
   third_only = third-only;
   final_only = final-only;
   error_only = error-only;
+  first_refused = first-refused;
+  second_refused = second-refused;
+  third_refused = third-refused;
+  final_refused = final-refused;
 }
