@@ -20,3 +20,11 @@ pub mod Places
 pub mod Completions
 pub mod SoundTexts
 pub mod PlaceLaws
+pub mod ValueGrammar
+pub mod FileLaws
+pub mod Extras
+pub mod NameShapes
+pub mod FoundTexts
+pub mod OnlyTexts
+pub mod RefusedTexts
+pub mod RefusedFiles

@@ -6,7 +6,7 @@ use Rattle.base64.specs.GeneralPurpose.{IsBytes}
 use Rattle.scram_mech.specs.Signs.{is_printable}
 use Rattle.scram_mech.specs.Judging.{is_extended, are_rounds, data_of, carried, is_bound, unframed}
 use Rattle.scram_mech.specs.Base64.{encoded}
-use Rattle.scram_mech.specs.declared.refusal.ScramRefusal.TheVariants.{Text}
+use Rattle.scram_mech.specs.declared.refusal.ScramRefusal.TheVariants.{Text, PeerError}
 use Rattle.scram_mech.specs.Formats.{values_of}
 use Rattle.scram_mech.specs.Places.{LongestFront}
 use Rattle.scram_mech.specs.FirstText.{First, first_format, first_of}
@@ -17,7 +17,12 @@ use Rattle.scram_mech.specs.Secrets.{Secret, client_key, stored_key, auth_messag
 use Rattle.scram_mech.specs.AuthParts.{auth_parts}
 use Rattle.scram_mech.specs.MechMaking.{MechMaking, signature_making, VerifiesProof, Verifies, AmongMakings}
 use Rattle.scram_mech.specs.Initiator.{InitModel, WaitModel, InitStarted, InitAnswered, InitFinished, init_started, secret_of, bare_of, auth_of, answer_with, init_answered, init_finished}
-use Rattle.scram_mech.specs.Verifiers.{line_for, line_with}
+use Rattle.scram_mech.specs.Verifiers.{line_for, line_with, verifiers_of}
+use Rattle.scram_mech.specs.VerifierFile.{SpellsFile}
+use Rattle.scram_mech.specs.FilePlaces.{BadLine, NamedTwice}
+use Rattle.scram_mech.specs.declared.refusal.VerifierRefusal.TheVariants.{Line, Twice}
+use Rattle.scram_mech.specs.GrammarPlaces.{IsFirst, IsSecond, IsThird, IsFinal, LongestOf}
+use Rattle.scram_mech.specs.Grammar.{SpellsFirst, SpellsSecond, SpellsThird, SpellsFinal, SpellsError}
 use Rattle.scram_mech.specs.Acceptor.{AcceptModel, AcceptStarted, AcceptFinished, nonce_of, second_by, accept_with, auth_with, finish_with, accept_started, accept_finished}
 
 -- an initiator answered a second text: with its own secret, over the AuthMessage of its own first text, that second text and its own data
@@ -126,3 +131,26 @@ pub record Laws : Type 0 where
   pub third_place : (text : List ℕ) (at : ℕ) → values_of third_format text ≡ Err (Text at) → LongestFront third_format text at
   pub signature_place : (text : List ℕ) (at : ℕ) → values_of signature_format text ≡ Err (Text at) → LongestFront signature_format text at
   pub error_place : (text : List ℕ) (at : ℕ) → values_of error_format text ≡ Err (Text at) → LongestFront error_format text at
+  -- the verifiers of a file are its lines, and a file of such lines is read to them; so one that is refused has no such lines
+  pub file_found : (octets : List ℕ) (lines : List Verifier) → verifiers_of octets ≡ Ok lines → SpellsFile lines octets
+  pub file_only : (octets : List ℕ) (lines : List Verifier) → SpellsFile lines octets → verifiers_of octets ≡ Ok lines
+  -- and one that is refused is refused at its first bad line, or at the first whose name stands in a line before it
+  pub file_bad_line : (octets : List ℕ) (number : ℕ) → verifiers_of octets ≡ Err (Line number) → BadLine octets number
+  pub file_named_twice : (octets : List ℕ) (number : ℕ) → verifiers_of octets ≡ Err (Twice number) → NamedTwice octets number
+  -- each text that is read is one of the grammar, with these values
+  pub first_found : (text : List ℕ) (first : First) → first_of text ≡ Ok first → SpellsFirst first text
+  pub second_found : (text : List ℕ) (second : Second) → second_of text ≡ Ok second → SpellsSecond second text
+  pub third_found : (text : List ℕ) (third : Third) → third_of text ≡ Ok third → SpellsThird third text
+  pub final_found : (text signature : List ℕ) → final_of text ≡ Ok signature → SpellsFinal signature text
+  pub error_found : (text : List ℕ) → final_of text ≡ Err PeerError → SpellsError text
+  -- and each text of the grammar is read, to these values; so one that is refused is no text of the grammar
+  pub first_only : (text : List ℕ) (first : First) → SpellsFirst first text → first_of text ≡ Ok first
+  pub second_only : (text : List ℕ) (second : Second) → SpellsSecond second text → second_of text ≡ Ok second
+  pub third_only : (text : List ℕ) (third : Third) → SpellsThird third text → third_of text ≡ Ok third
+  pub final_only : (text signature : List ℕ) → SpellsFinal signature text → final_of text ≡ Ok signature
+  pub error_only : (text : List ℕ) → SpellsError text → final_of text ≡ Err PeerError
+  -- a text that is refused as no text of the grammar is refused at the end of the longest front with which some text of the grammar begins
+  pub first_refused : (text : List ℕ) (at : ℕ) → first_of text ≡ Err (Text at) → LongestOf IsFirst text at
+  pub second_refused : (text : List ℕ) (at : ℕ) → second_of text ≡ Err (Text at) → LongestOf IsSecond text at
+  pub third_refused : (text : List ℕ) (at : ℕ) → third_of text ≡ Err (Text at) → LongestOf IsThird text at
+  pub final_refused : (text : List ℕ) (at : ℕ) → final_of text ≡ Err (Text at) → LongestOf IsFinal text at

@@ -20,5 +20,9 @@ pub mod Initiator
 pub mod Verifiers
 pub mod Acceptor
 pub mod Places
+pub mod Grammar
+pub mod VerifierFile
+pub mod FilePlaces
+pub mod GrammarPlaces
 pub mod Laws
 pub mod AuthParts

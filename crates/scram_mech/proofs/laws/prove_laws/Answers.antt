@@ -8,6 +8,11 @@ use Rattle.scram_mech.specs.ThirdText.{third_format}
 use Rattle.scram_mech.specs.FinalText.{signature_format, error_format}
 use Rattle.scram_mech.proofs.SoundTexts.{first-sound, second-sound, third-sound, signature-sound, error-sound}
 use Rattle.scram_mech.proofs.PlaceLaws.{longest}
+use Rattle.scram_mech.proofs.FileLaws.{file-found, file-only}
+use Rattle.scram_mech.proofs.FoundTexts.{first-found, second-found, third-found, final-found, error-found}
+use Rattle.scram_mech.proofs.OnlyTexts.{first-only, second-only, third-only, final-only, error-only}
+use Rattle.scram_mech.proofs.RefusedTexts.{first-refused, second-refused, third-refused, final-refused}
+use Rattle.scram_mech.proofs.RefusedFiles.{file-bad_line, file-named_twice}
 use Rattle.scram_mech.proofs.laws.prove_laws.Goals as goal
 
 pub returns : goal.returns
@@ -27,4 +32,22 @@ returns c = record {
   third_place = longest third_format third-sound;
   signature_place = longest signature_format signature-sound;
   error_place = longest error_format error-sound;
+  file_found = file-found;
+  file_only = file-only;
+  file_bad_line = file-bad_line;
+  file_named_twice = file-named_twice;
+  first_found = first-found;
+  second_found = second-found;
+  third_found = third-found;
+  final_found = final-found;
+  error_found = error-found;
+  first_only = first-only;
+  second_only = second-only;
+  third_only = third-only;
+  final_only = final-only;
+  error_only = error-only;
+  first_refused = first-refused;
+  second_refused = second-refused;
+  third_refused = third-refused;
+  final_refused = final-refused;
 }
