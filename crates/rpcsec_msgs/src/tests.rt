@@ -151,6 +151,7 @@ fn bodies_by_integrity_both_ways(rt: HostRuntime) -> Result<(), Fail> {
         match split_checked(octets) {
             Ok((body, tag)) => {
                 assert!(rt; refused.is_none(), "{octets:?}");
+                assert!(rt; body.len() < 100 && tag.len() < 100, "{octets:?}");
                 let joined = join_checked(rt.alloc(), body, tag)?;
                 assert_eq!(rt; joined.as_slice(), octets);
             }
@@ -168,6 +169,7 @@ fn bodies_by_privacy_both_ways(rt: HostRuntime) -> Result<(), Fail> {
         match split_sealed(octets) {
             Ok(token) => {
                 assert!(rt; refused.is_none(), "{octets:?}");
+                assert!(rt; token.len() < 100, "{octets:?}");
                 let joined = join_sealed(rt.alloc(), token)?;
                 assert_eq!(rt; joined.as_slice(), octets);
             }
