@@ -1,5 +1,5 @@
 use Rattle.std.proofs.Common.{refl}
-use Rattle.gss_server.proofs.Saying.{said}
+use Rattle.gss_server.proofs.StatusLines.{said}
 use Rattle.gss_server.proofs.server.run_desk.Goals as goal
 
 pub returns-then-not-is_command-clause-said : goal.returns-then-not-is_command-clause-said
