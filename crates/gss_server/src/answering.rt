@@ -96,12 +96,7 @@ fn misplaced(call: &Call<'_>, cred: &GssCred<'_>) -> bool
 }
 
 /// Answers a call with this credential.
-fn say_with<G: Gate>(
-    alloc: Global,
-    gate: &mut G,
-    heard: &Heard<'_>,
-    cred: &GssCred<'_>,
-) -> Asks
+fn say_with<G: Gate>(alloc: Global, gate: &mut G, heard: &Heard<'_>, cred: &GssCred<'_>) -> Asks
     requires { heard.now.call.header ≤ length heard.now.bytes.now }
     ensures says { Says result.said.reply result.said.rule (cred_ruling (shown heard.entry.now) result.negotiated result.looked result.admitted result.ended (Ok (cred_value cred.now))) }
     ensures fits { Fits result.said.reply }

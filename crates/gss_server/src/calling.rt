@@ -125,7 +125,17 @@ fn say_result(
     ensures fits { Fits result.reply }
 {
     match make_body(alloc, heard, cred, lease, args, posts) {
-        Ok(body) => say_signed(alloc, heard, cred, lease, 23, SUCCESS, 0, 0, body.as_slice()),
+        Ok(body) => say_signed(
+            alloc,
+            heard,
+            cred,
+            lease,
+            23,
+            SUCCESS,
+            0,
+            0,
+            body.as_slice(),
+        ),
         Err(_) => say_no_memory(23),
     }
 }
@@ -305,7 +315,17 @@ pub(crate) fn say_data<G: Gate>(
         return unasked(say_signed(alloc, heard, cred, lease, 9, PROG_UNAVAIL, 0, 0, &[]));
     }
     if call.version != VERSION {
-        return unasked(say_signed(alloc, heard, cred, lease, 10, PROG_MISMATCH, VERSION, VERSION, &[]));
+        return unasked(say_signed(
+            alloc,
+            heard,
+            cred,
+            lease,
+            10,
+            PROG_MISMATCH,
+            VERSION,
+            VERSION,
+            &[],
+        ));
     }
     if call.procedure > LAST_PROCEDURE {
         return unasked(say_signed(alloc, heard, cred, lease, 11, PROC_UNAVAIL, 0, 0, &[]));

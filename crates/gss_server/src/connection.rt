@@ -133,7 +133,16 @@ fn turn<L: Link, G: Gate, C: Clock, D: Draw>(
     ensures faults { L.faults link.old ≤ L.faults link.new }
 {
     match receive(alloc, link) {
-        Ok(octets) => reply_to_record(alloc, link, octets.as_slice(), kept, gate, clock, draw, width),
+        Ok(octets) => reply_to_record(
+            alloc,
+            link,
+            octets.as_slice(),
+            kept,
+            gate,
+            clock,
+            draw,
+            width,
+        ),
         Err(end) => Some(end),
     }
 }

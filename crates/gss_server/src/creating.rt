@@ -18,8 +18,10 @@ ghost use Rattle.gss_server.specs.Telling.{Gains, told_of, token_size};
 use crate::gate::Gate;
 use crate::heard::Heard;
 use crate::rules::*;
+use crate::saying::{
+    AUTH_NONE, GSS, Said, end_at, say_denied, say_no_memory, say_plain, say_reply,
+};
 use crate::statuses::status_of;
-use crate::saying::{AUTH_NONE, GSS, Said, end_at, say_denied, say_no_memory, say_plain, say_reply};
 use accept_book::{BookRefusal, Lease, NegAnswer, Negotiated};
 use rpc_msgs::{Reply as RpcReply, XdrReader, XdrRefusal};
 use rpcsec_msgs::{GssCred, InitRes, write_init_res};

@@ -4,8 +4,8 @@ ghost use Rattle.std.specs.Prelude.{◌≡◌, ◌≢◌, ◌≤◌, ◌⊎◌, 
 ghost use Rattle.sec_base.specs.Answers.{Rose};
 ghost use Rattle.gss_server.specs.Desks.{ServedInOrder, NoneWanted, AllWithin};
 
-use crate::gate::Gate;
 use crate::connection::{ConnEnd, Served, serve_link};
+use crate::gate::Gate;
 use sec_base::{Clock, Draw, Port};
 use std::alloc::Global;
 
@@ -59,14 +59,7 @@ where
             Err(_) => return DeskEnd::PortFault,
             Ok(None) => return DeskEnd::Done,
             Ok(Some(link)) => {
-                let served = serve_link(
-                    alloc,
-                    link,
-                    gate,
-                    &mut desk.clock,
-                    &mut desk.draw,
-                    WIDTH,
-                );
+                let served = serve_link(alloc, link, gate, &mut desk.clock, &mut desk.draw, WIDTH);
                 let end = served.end;
                 let _ = desk.served.push(served);
                 match end {

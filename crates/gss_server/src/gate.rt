@@ -1,6 +1,6 @@
 //! The shared state, as the server asks it.
 
-use accept_book::{Admitted, AdmitRefusal, Lease, LookRefusal, Negotiated, Receipt};
+use accept_book::{AdmitRefusal, Admitted, Lease, LookRefusal, Negotiated, Receipt};
 use sec_base::Moment;
 use std::alloc::Global;
 

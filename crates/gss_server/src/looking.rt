@@ -104,7 +104,17 @@ fn say_destroy<G: Gate>(
         return unended(say_signed(alloc, heard, cred, lease, 9, PROG_UNAVAIL, 0, 0, &[]));
     }
     if call.version != VERSION {
-        return unended(say_signed(alloc, heard, cred, lease, 10, PROG_MISMATCH, VERSION, VERSION, &[]));
+        return unended(say_signed(
+            alloc,
+            heard,
+            cred,
+            lease,
+            10,
+            PROG_MISMATCH,
+            VERSION,
+            VERSION,
+            &[],
+        ));
     }
     ask_for_end(alloc, gate, heard, cred, lease)
 }
@@ -114,10 +124,7 @@ fn unended(said: Said) -> Ends
     ensures ended { result.ended ≡ None }
     ensures said { result.said ≡ said }
 {
-    Ends {
-        ended: None,
-        said,
-    }
+    Ends { ended: None, said }
 }
 
 /// Answers a call by what a look answered.

@@ -11,7 +11,9 @@ use std::alloc::Global;
 
 /// The served program, its version and its last procedure.
 pub(crate) const PROGRAM: u32 = 0x2000_4753;
+
 pub(crate) const VERSION: u32 = 1;
+
 pub(crate) const LAST_PROCEDURE: u32 = 4;
 
 /// The procedure that needs no authentication.
@@ -19,17 +21,26 @@ pub(crate) const NULL: u32 = 0;
 
 /// Accept stats (RFC 5531 section 9).
 pub(crate) const SUCCESS: u32 = 0;
+
 pub(crate) const PROG_UNAVAIL: u32 = 1;
+
 pub(crate) const PROG_MISMATCH: u32 = 2;
+
 pub(crate) const PROC_UNAVAIL: u32 = 3;
+
 pub(crate) const GARBAGE_ARGS: u32 = 4;
+
 pub(crate) const SYSTEM_ERR: u32 = 5;
 
 /// Auth stats (RFC 5531 section 9).
 pub(crate) const BAD_CRED: u32 = 1;
+
 pub(crate) const REJECTED_CRED: u32 = 2;
+
 pub(crate) const TOO_WEAK: u32 = 5;
+
 pub(crate) const CRED_PROBLEM: u32 = 13;
+
 pub(crate) const CTX_PROBLEM: u32 = 14;
 
 /// Answers a call without authentication.

@@ -19,6 +19,7 @@ use std::alloc::Global;
 
 /// The flavour without authentication (RFC 5531 section 8.2), and that of RPCSEC_GSS (RFC 2203).
 pub(crate) const AUTH_NONE: u32 = 0;
+
 pub(crate) const GSS: u32 = 6;
 
 /// A rule, and the reply by it.

@@ -50,7 +50,11 @@ fn exchanging(refusal: ApRefusal) -> (u32, u32)
     ensures minor { result.1 ≡ (ap_status refusal).minor }
 {
     match refusal {
-        ApRefusal::Der { part: _, at: _, why: _ } => (major(DEFECTIVE_TOKEN), 101),
+        ApRefusal::Der {
+            part: _,
+            at: _,
+            why: _,
+        } => (major(DEFECTIVE_TOKEN), 101),
         ApRefusal::Kind => (major(DEFECTIVE_TOKEN), 102),
         ApRefusal::NotMutual => (major(FAILURE), 103),
         ApRefusal::TicketNames => (major(FAILURE), 104),

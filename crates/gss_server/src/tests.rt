@@ -32,7 +32,15 @@ fn served(
     let link = MemLink::new(alloc, input, pieces, failing);
     let mut clock = MemClock::new(Vec::new(alloc));
     let mut draw = MemDraw::new(Vec::new(alloc));
-    Ok(serve_link(alloc, link, &mut clock, &mut draw))
+    let mut gate = ListGate::new(alloc, Vec::new(alloc))?;
+    Ok(serve_link(
+        alloc,
+        link,
+        &mut gate,
+        &mut clock,
+        &mut draw,
+        128,
+    ))
 }
 
 #[test]
@@ -106,6 +114,19 @@ fn the_longest_record_in_the_most_fragments_is_answered(rt: HostRuntime) -> Resu
     Ok(())
 }
 
+/// The answer to this record by a gate without answers.
+fn answered(alloc: Global, record: &[u8]) -> Result<Answered, Fail> {
+    let mut gate = ListGate::new(alloc, Vec::new(alloc))?;
+    Ok(answer_record(
+        alloc,
+        &mut gate,
+        record,
+        Moment::start(),
+        &[0; 82],
+        128,
+    ))
+}
+
 // The call of `CALL` with one octet changed: the octet's place in the record, the octet, the rule, and the reply behind its xid
 // (RFC 5531 section 9): another kind, RPC version 3, flavour 1, another program, version 2, procedure 5, procedure 1.
 const RULES: [(usize, u8, u8, &[u8]); 7] = [
@@ -149,12 +170,12 @@ const RULES: [(usize, u8, u8, &[u8]); 7] = [
 ];
 
 #[test]
-fn the_first_rule_that_applies_answers(rt: HostRuntime) {
+fn the_first_rule_that_applies_answers(rt: HostRuntime) -> Result<(), Fail> {
     for (place, octet, rule, reply) in RULES {
         let mut record = [0; 40];
         record.copy_from_slice(&CALL[4..]);
         record[place % 40] = octet;
-        let answered = answer_record(rt.alloc(), &record, Moment::start(), &[0; 82]);
+        let answered = answered(rt.alloc(), &record)?;
         assert_eq!(rt; answered.rule, rule);
         match answered.reply {
             Reply::Bytes(octets) => {
@@ -165,18 +186,20 @@ fn the_first_rule_that_applies_answers(rt: HostRuntime) {
             Reply::NoMemory => assert!(rt; false),
         }
     }
+    Ok(())
 }
 
 // The first 39 octets of the call have no reply; with an octet of arguments it is answered GARBAGE_ARGS.
 #[test]
-fn a_call_too_short_or_with_arguments(rt: HostRuntime) {
-    let short = answer_record(rt.alloc(), &CALL[4..43], Moment::start(), &[0; 82]);
+fn a_call_too_short_or_with_arguments(rt: HostRuntime) -> Result<(), Fail> {
+    let short = answered(rt.alloc(), &CALL[4..43])?;
     assert_eq!(rt; short.rule, 1);
     assert!(rt; matches!(short.reply, Reply::Silent));
     let mut record = [0; 41];
     record[..40].copy_from_slice(&CALL[4..]);
-    let long = answer_record(rt.alloc(), &record, Moment::start(), &[0; 82]);
+    let long = answered(rt.alloc(), &record)?;
     assert_eq!(rt; long.rule, 14);
+    Ok(())
 }
 
 // Calls 1 and 2 read the record, 3 writes the reply, and 4 reads the end.

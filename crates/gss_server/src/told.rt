@@ -1,6 +1,6 @@
 //! What a gate tells of what it was asked.
 
-use accept_book::{Admitted, AdmitRefusal, BookRefusal, Lease, LookRefusal, Receipt, Receipts};
+use accept_book::{AdmitRefusal, Admitted, BookRefusal, Lease, LookRefusal, Receipt, Receipts};
 use sec_base::Moment;
 
 /// What a step's answer tells: its tokens by their SHA-1.
