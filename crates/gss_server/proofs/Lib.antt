@@ -1,8 +1,10 @@
+pub mod ReplyLengths
+pub mod BodyLengths
+pub mod Arguments
 pub mod KeptInARow
 pub mod OneReading
 pub mod Turning
 pub mod Replying
-pub mod Saying
+pub mod StatusLines
 pub mod ServedLinks
 pub mod Words
-pub mod ReplyLengths

@@ -295,8 +295,8 @@ caused Budget rest coming count clear none h = at-budget count (rest ++ coming) 
 caused NoMemory rest coming count clear none h = absurd (none refl)
 
 -- a connection that neither failed nor wanted memory has the end of its stream
-pub comes : {old new : Wire} {kept : List Kept} (ending expected : ConnEnd) → IsServed old new kept ending → StreamEnds old new expected → ending ≢ LinkFault → ending ≢ NoMemory → ending ≡ expected
-comes {old} {new} ending expected s e clear none =
+pub comes : (width : ℕ) {old new : Wire} {kept : List Kept} (ending expected : ConnEnd) → IsServed width old new kept ending → StreamEnds old new expected → ending ≢ LinkFault → ending ≢ NoMemory → ending ≡ expected
+comes width {old} {new} ending expected s e clear none =
     let same : octets_of s.records ++ s.rest ≡ e.took = append_cancel_left old.taken (octets_of s.records ++ s.rest) e.took (sym s.went.taken ∙ e.taken) in
     let stream : octets_of s.records ++ (s.rest ++ new.coming) ≡ octets_of e.records ++ e.rest = sym (append_assoc (octets_of s.records) s.rest new.coming) ∙ (ap (λ (zs : List ℕ). zs ++ new.coming) same ∙ e.stream) in
     one-end 0 s.records e.records (s.rest ++ new.coming) e.rest ending expected stream s.each e.each

@@ -1,5 +1,5 @@
 -- How long replies are.
-use Rattle.std.proofs.Common.{◌≡◌, ℕ, ◌≤◌, Bool, true, false, cond, [], ◌++◌, length, arith, eqb}
+use Rattle.std.proofs.Common.{◌≡◌, ℕ, ◌+◌, ◌≤◌, Bool, true, false, cond, List, [], ◌++◌, length, arith, eqb}
 use Rattle.std.proofs.lemmas.List.{length-append}
 use Rattle.rpc_msgs.specs.Words.{word}
 use Rattle.rpc_msgs.specs.Replies.{accepted_head, accepted_body, mismatch_octets, auth_error_octets}
@@ -8,15 +8,15 @@ use Rattle.rpc_msgs.proofs.WordLengths.{length-word, length-opaque}
 two_words : (low high : ℕ) → length (word low ++ word high) ≡ 8
 two_words low high = simp (length-append, length-word) (omega arith)
 
-body : (b c : Bool) (low high : ℕ) → length (cond b [] (cond c (word low ++ word high) [])) ≤ 8
-body true c low high = omega arith
-body false true low high = omega (arith, two_words low high)
-body false false low high = omega arith
+body-fits : (b c : Bool) (low high : ℕ) (result : List ℕ) → length (cond b result (cond c (word low ++ word high) [])) ≤ 8 + length result
+body-fits true c low high result = omega arith
+body-fits false true low high result = omega (arith, two_words low high)
+body-fits false false low high result = omega arith
 
-pub accepted-fits : (xid stat low high : ℕ) → length (accepted_head xid 0 [] stat ++ accepted_body stat low high []) ≤ 131072
-accepted-fits xid stat low high =
-    let head : length (accepted_head xid 0 [] stat) ≡ 24 = simp (length-append, length-word, length-opaque) (omega arith) in
-    omega (arith, length-append (accepted_head xid 0 [] stat) (accepted_body stat low high []), body (eqb stat 0) (eqb stat 2) low high)
+pub accepted-fits : (xid flavour : ℕ) (verf : List ℕ) (stat low high : ℕ) (result : List ℕ) → length verf ≤ 400 → length result ≤ 130000 → length (accepted_head xid flavour verf stat ++ accepted_body stat low high result) ≤ 131072
+accepted-fits xid flavour verf stat low high result few size =
+    let head : length (accepted_head xid flavour verf stat) ≤ 427 = simp (length-append, length-word, length-opaque) (omega arith) in
+    omega (arith, length-append (accepted_head xid flavour verf stat) (accepted_body stat low high result), body-fits (eqb stat 0) (eqb stat 2) low high result)
 
 pub mismatch-fits : (xid low high : ℕ) → length (mismatch_octets xid low high) ≤ 131072
 mismatch-fits xid low high = simp (length-append, length-word) (omega arith)

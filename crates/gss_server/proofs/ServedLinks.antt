@@ -7,20 +7,20 @@ use Rattle.gss_server.specs.declared.connection.Served.{Served}
 use Rattle.gss_server.specs.declared.connection.ConnEnd.TheVariants.{NoMemory}
 use Rattle.gss_server.specs.Desks.{AllServed, ServedLink, ServedInOrder, NoneWanted, AllWithin}
 
-all-served-push : {L : Type 0} (tells : L → Bool) (wire : L → Wire) (faults : L → ℕ) (links : List L) (served : List (Served L)) (link : L) (one : Served L) → AllServed tells wire faults links served → ServedLink tells wire faults link one → AllServed tells wire faults (links ++ link ∷ []) (served ++ one ∷ [])
-all-served-push tells wire faults [] [] link one a s = (s, tt)
-all-served-push tells wire faults [] (x ∷ served) link one a s = absurd a
-all-served-push tells wire faults (l ∷ links) [] link one a s = absurd a
-all-served-push tells wire faults (l ∷ links) (x ∷ served) link one a s = (a.0, all-served-push tells wire faults links served link one a.1 s)
+all-served-push : {L : Type 0} (width : ℕ) (tells : L → Bool) (wire : L → Wire) (faults : L → ℕ) (links : List L) (served : List (Served L)) (link : L) (one : Served L) → AllServed width tells wire faults links served → ServedLink width tells wire faults link one → AllServed width tells wire faults (links ++ link ∷ []) (served ++ one ∷ [])
+all-served-push width tells wire faults [] [] link one a s = (s, tt)
+all-served-push width tells wire faults [] (x ∷ served) link one a s = absurd a
+all-served-push width tells wire faults (l ∷ links) [] link one a s = absurd a
+all-served-push width tells wire faults (l ∷ links) (x ∷ served) link one a s = (a.0, all-served-push width tells wire faults links served link one a.1 s)
 
-pub served-none : {L : Type 0} (tells : L → Bool) (wire : L → Wire) (faults : L → ℕ) (before : List L) → ServedInOrder tells wire faults before before []
-served-none tells wire faults before = record { links = []; split = refl; each = tt }
+pub served-none : {L : Type 0} (width : ℕ) (tells : L → Bool) (wire : L → Wire) (faults : L → ℕ) (before : List L) → ServedInOrder width tells wire faults before before []
+served-none width tells wire faults before = record { links = []; split = refl; each = tt }
 
-pub served-more : {L : Type 0} (tells : L → Bool) (wire : L → Wire) (faults : L → ℕ) (before after last : List L) (served : List (Served L)) (link : L) (one : Served L) → ServedInOrder tells wire faults before after served → after ≡ link ∷ last → ServedLink tells wire faults link one → ServedInOrder tells wire faults before last (served ++ one ∷ [])
-served-more tells wire faults before after last served link one p e s = record {
+pub served-more : {L : Type 0} (width : ℕ) (tells : L → Bool) (wire : L → Wire) (faults : L → ℕ) (before after last : List L) (served : List (Served L)) (link : L) (one : Served L) → ServedInOrder width tells wire faults before after served → after ≡ link ∷ last → ServedLink width tells wire faults link one → ServedInOrder width tells wire faults before last (served ++ one ∷ [])
+served-more width tells wire faults before after last served link one p e s = record {
   links = p.links ++ link ∷ [];
   split = p.split ∙ (ap (λ xs. p.links ++ xs) e ∙ sym (append_assoc p.links (link ∷ []) last));
-  each = all-served-push tells wire faults p.links served link one p.each s;
+  each = all-served-push width tells wire faults p.links served link one p.each s;
 }
 
 pub none-wanted-more : {L : Type 0} (served : List (Served L)) (one : Served L) → NoneWanted served → one.end ≢ NoMemory → NoneWanted (served ++ one ∷ [])

@@ -3,7 +3,8 @@ use Rattle.std.specs.Prelude.{◌≡◌, ◌⊎◌, ℕ, ◌+◌, ◌<◌, List,
 use Rattle.std.specs.List.{AllByRecursion, flat_map}
 use Rattle.sec_base.specs.Link.{Wire}
 use Rattle.rpc_msgs.specs.Records.{Fragments, octets_in, frame, last_fragment, IsRecord, IsTooLong, IsTooMany, IsFront, IsTorn}
-use Rattle.gss_server.specs.Rules.{reply_to}
+use Rattle.accept_book.specs.RecordRule.{record_ruling}
+use Rattle.gss_server.specs.Hearing.{kept_answers}
 use Rattle.gss_server.specs.declared.answer.Kept.{Kept}
 use Rattle.gss_server.specs.declared.connection.ConnEnd.{ConnEnd}
 use Rattle.gss_server.specs.declared.connection.ConnEnd.TheVariants.{Ended, LinkFault, TooLong, TooManyFragments, Torn, Budget, NoMemory}
@@ -17,14 +18,18 @@ abbrev pub framed : Option (List ℕ) → List ℕ
 framed None = []
 framed (Some octets) = last_fragment octets
 
-abbrev pub written_for : List ℕ → Kept → List ℕ
-written_for octets kept = framed (reply_to octets)
+-- the reply of a record, by its kept answer and the width of the windows
+abbrev pub reply_to : ℕ → List ℕ → Kept → Option (List ℕ)
+reply_to width octets kept = (record_ruling octets (kept_answers kept) width).reply
+
+abbrev pub written_for : ℕ → List ℕ → Kept → List ℕ
+written_for width octets kept = framed (reply_to width octets kept)
 
 -- what is written for records with their kept answers, in order
-abbrev pub written_in : List Fragments → List Kept → List ℕ
-written_in [] kept = []
-written_in (cut ∷ records) [] = []
-written_in (cut ∷ records) (one ∷ kept) = written_for (octets_in cut) one ++ written_in records kept
+abbrev pub written_in : ℕ → List Fragments → List Kept → List ℕ
+written_in width [] kept = []
+written_in width (cut ∷ records) [] = []
+written_in width (cut ∷ records) (one ∷ kept) = written_for width (octets_in cut) one ++ written_in width records kept
 
 -- `took` was taken, of what was there or came meanwhile, and `wrote` was written
 pub record Went (old new : Wire) (took wrote : List ℕ) : Type 0 where
@@ -63,14 +68,14 @@ IsCounted Torn records kept = records ≡ kept
 IsCounted Budget records kept = records ≡ kept
 IsCounted NoMemory records kept = (records ≡ kept) ⊎ (records ≡ kept + 1)
 
-pub record IsServed (old new : Wire) (kept : List Kept) (ending : ConnEnd) : Type 0 where
+pub record IsServed (width : ℕ) (old new : Wire) (kept : List Kept) (ending : ConnEnd) : Type 0 where
   pub records : List Fragments
   pub rest : List ℕ
   pub wrote : List ℕ
   pub each : AllByRecursion IsRecord records
   pub went : Went old new (octets_of records ++ rest) wrote
   pub cause : HasCause ending rest new.coming (length records)
-  pub replies : IsWritten ending (written_in records kept) wrote
+  pub replies : IsWritten ending (written_in width records kept) wrote
   pub counted : IsCounted ending (length records) (length kept)
 
 -- the end that a stream has, by what follows its whole records and how many they are

@@ -9,22 +9,22 @@ use Rattle.gss_server.specs.declared.connection.ConnEnd.TheVariants.{LinkFault, 
 use Rattle.gss_server.specs.declared.connection.Served.{Served}
 
 -- a link was served to its end, as the connection's own contract says
-pub record ServedLink {L : Type 0} (tells : L → Bool) (wire : L → Wire) (faults : L → ℕ) (link : L) (served : Served L) : Type 0 where
-  pub told : IsTrue (tells link) → IsServed (wire link) (wire served.link) served.kept.items served.end
+pub record ServedLink {L : Type 0} (width : ℕ) (tells : L → Bool) (wire : L → Wire) (faults : L → ℕ) (link : L) (served : Served L) : Type 0 where
+  pub told : IsTrue (tells link) → IsServed width (wire link) (wire served.link) served.kept.items served.end
   pub always : IsTrue (tells link) → (expected : ConnEnd) → StreamEnds (wire link) (wire served.link) expected → served.end ≢ LinkFault → served.end ≢ NoMemory → served.end ≡ expected
   pub fault : served.end ≡ LinkFault → Rose (faults link) (faults served.link)
 
-abbrev pub AllServed : {L : Type 0} → (L → Bool) → (L → Wire) → (L → ℕ) → List L → List (Served L) → Type 0
-AllServed tells wire faults [] [] = Unit {0}
-AllServed tells wire faults [] (one ∷ more) = ⊥
-AllServed tells wire faults (link ∷ links) [] = ⊥
-AllServed tells wire faults (link ∷ links) (one ∷ more) = ServedLink tells wire faults link one × AllServed tells wire faults links more
+abbrev pub AllServed : {L : Type 0} → ℕ → (L → Bool) → (L → Wire) → (L → ℕ) → List L → List (Served L) → Type 0
+AllServed width tells wire faults [] [] = Unit {0}
+AllServed width tells wire faults [] (one ∷ more) = ⊥
+AllServed width tells wire faults (link ∷ links) [] = ⊥
+AllServed width tells wire faults (link ∷ links) (one ∷ more) = ServedLink width tells wire faults link one × AllServed width tells wire faults links more
 
 -- the first links that were to come were served, in order, and the others are still to come
-pub record ServedInOrder {L : Type 0} (tells : L → Bool) (wire : L → Wire) (faults : L → ℕ) (before after : List L) (served : List (Served L)) : Type 0 where
+pub record ServedInOrder {L : Type 0} (width : ℕ) (tells : L → Bool) (wire : L → Wire) (faults : L → ℕ) (before after : List L) (served : List (Served L)) : Type 0 where
   pub links : List L
   pub split : before ≡ links ++ after
-  pub each : AllServed tells wire faults links served
+  pub each : AllServed width tells wire faults links served
 
 -- no connection ended for want of memory
 abbrev pub NoneWanted : {L : Type 0} → List (Served L) → Type 0

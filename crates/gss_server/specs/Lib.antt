@@ -1,8 +1,9 @@
 pub mod Answers
 pub mod Connections
 pub mod Desks
+pub mod Hearing
 pub mod Kept
 pub mod Lines
-pub mod Rules
 pub mod Serving
+pub mod Telling
 pub mod Turns

@@ -7,9 +7,9 @@ use Rattle.gss_server.specs.Connections.{Went, octets_of, written_in}
 use Rattle.gss_server.specs.declared.answer.Kept.{Kept}
 
 -- so many records were read, and all that is due to them was written
-pub record Serving (old new : Wire) (kept : List Kept) (number : ℕ) : Type 0 where
+pub record Serving (width : ℕ) (old new : Wire) (kept : List Kept) (number : ℕ) : Type 0 where
   pub records : List Fragments
   pub each : AllByRecursion IsRecord records
-  pub went : Went old new (octets_of records) (written_in records kept)
+  pub went : Went old new (octets_of records) (written_in width records kept)
   pub count : length records ≡ number
   pub counted : length records ≡ length kept

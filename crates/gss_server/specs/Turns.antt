@@ -36,15 +36,15 @@ pub record Keeping (old new : Wire) (octets : List ℕ) (before after : List Kep
   pub put : Put old new wrote
 
 -- a record was answered, or the connection ended while it was
-abbrev pub Replies : Wire → Wire → List ℕ → List Kept → List Kept → Option ConnEnd → Type 0
-Replies old new octets before after None = (one : Kept) × Keeping old new octets before after one (written_for octets one)
-Replies old new octets before after (Some Ended) = ⊥
-Replies old new octets before after (Some LinkFault) = (one : Kept) × (count : ℕ) × Keeping old new octets before after one (take count (written_for octets one))
-Replies old new octets before after (Some TooLong) = ⊥
-Replies old new octets before after (Some TooManyFragments) = ⊥
-Replies old new octets before after (Some Torn) = ⊥
-Replies old new octets before after (Some Budget) = ⊥
-Replies old new octets before after (Some NoMemory) = ((after ≡ before) × Put old new []) ⊎ ((one : Kept) × (count : ℕ) × Keeping old new octets before after one (take count (written_for octets one)))
+abbrev pub Replies : ℕ → Wire → Wire → List ℕ → List Kept → List Kept → Option ConnEnd → Type 0
+Replies width old new octets before after None = (one : Kept) × Keeping old new octets before after one (written_for width octets one)
+Replies width old new octets before after (Some Ended) = ⊥
+Replies width old new octets before after (Some LinkFault) = (one : Kept) × (count : ℕ) × Keeping old new octets before after one (take count (written_for width octets one))
+Replies width old new octets before after (Some TooLong) = ⊥
+Replies width old new octets before after (Some TooManyFragments) = ⊥
+Replies width old new octets before after (Some Torn) = ⊥
+Replies width old new octets before after (Some Budget) = ⊥
+Replies width old new octets before after (Some NoMemory) = ((after ≡ before) × Put old new []) ⊎ ((one : Kept) × (count : ℕ) × Keeping old new octets before after one (take count (written_for width octets one)))
 
 -- a record was read and its answer kept, and this was written
 pub record Serves (old new : Wire) (before after : List Kept) (cut : Fragments) (one : Kept) (wrote : List ℕ) : Type 0 where
@@ -53,20 +53,20 @@ pub record Serves (old new : Wire) (before after : List Kept) (cut : Fragments) 
   pub went : Went old new (frame cut) wrote
 
 -- a record was read and its answer kept, and a front of what is due to it was written
-abbrev pub ServesInPart : Wire → Wire → List Kept → List Kept → Type 0
-ServesInPart old new before after = (cut : Fragments) × (one : Kept) × (count : ℕ) × Serves old new before after cut one (take count (written_for (octets_in cut) one))
+abbrev pub ServesInPart : ℕ → Wire → Wire → List Kept → List Kept → Type 0
+ServesInPart width old new before after = (cut : Fragments) × (one : Kept) × (count : ℕ) × Serves old new before after cut one (take count (written_for width (octets_in cut) one))
 
 -- these octets were read, and nothing was kept or written
 pub record Stops (old new : Wire) (before after : List Kept) (octets : List ℕ) : Type 0 where
   pub kept : after ≡ before
   pub went : Went old new octets []
 
-abbrev pub Turns : Wire → Wire → List Kept → List Kept → Option ConnEnd → Type 0
-Turns old new before after None = (cut : Fragments) × (one : Kept) × Serves old new before after cut one (written_for (octets_in cut) one)
-Turns old new before after (Some Ended) = Stops old new before after [] × (new.coming ≡ [])
-Turns old new before after (Some LinkFault) = ((octets : List ℕ) × IsFront octets × Stops old new before after octets) ⊎ ServesInPart old new before after
-Turns old new before after (Some TooLong) = (octets : List ℕ) × IsTooLong octets × Stops old new before after octets
-Turns old new before after (Some TooManyFragments) = (octets : List ℕ) × IsTooMany octets × Stops old new before after octets
-Turns old new before after (Some Torn) = (octets : List ℕ) × IsTorn octets × Stops old new before after octets × (new.coming ≡ [])
-Turns old new before after (Some Budget) = ⊥
-Turns old new before after (Some NoMemory) = ((octets : List ℕ) × (IsFront octets ⊎ IsWhole octets) × Stops old new before after octets) ⊎ ServesInPart old new before after
+abbrev pub Turns : ℕ → Wire → Wire → List Kept → List Kept → Option ConnEnd → Type 0
+Turns width old new before after None = (cut : Fragments) × (one : Kept) × Serves old new before after cut one (written_for width (octets_in cut) one)
+Turns width old new before after (Some Ended) = Stops old new before after [] × (new.coming ≡ [])
+Turns width old new before after (Some LinkFault) = ((octets : List ℕ) × IsFront octets × Stops old new before after octets) ⊎ ServesInPart width old new before after
+Turns width old new before after (Some TooLong) = (octets : List ℕ) × IsTooLong octets × Stops old new before after octets
+Turns width old new before after (Some TooManyFragments) = (octets : List ℕ) × IsTooMany octets × Stops old new before after octets
+Turns width old new before after (Some Torn) = (octets : List ℕ) × IsTorn octets × Stops old new before after octets × (new.coming ≡ [])
+Turns width old new before after (Some Budget) = ⊥
+Turns width old new before after (Some NoMemory) = ((octets : List ℕ) × (IsFront octets ⊎ IsWhole octets) × Stops old new before after octets) ⊎ ServesInPart width old new before after

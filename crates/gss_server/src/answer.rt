@@ -1,20 +1,22 @@
 //! The answer to one record.
 
 ghost use Rattle.std.specs.Prelude.{◌≡◌};
-ghost use Rattle.gss_server.specs.Answers.{IsReply, Fits};
-ghost use Rattle.gss_server.specs.Rules.{rule_of, reply_to};
+ghost use Rattle.gss_server.specs.Answers.{Fits};
 
-use crate::rules::{Said, say};
+use accept_book::{AdmitRefusal, Admitted, Lease, LookRefusal, Negotiated, Receipt};
 use sec_base::{Moment, Octets};
-use std::alloc::Global;
 
-/// What is kept of the answer to a record.
+/// What is kept of the answer to a record: the moment and the draws, and what the gate answered, where it was asked.
 #[derive(Debug, Drop)]
 pub struct Kept {
     /// The moment at which the record was answered.
     pub now: Moment,
     /// The octets that were drawn for its answer.
     pub draws: [u8; 82],
+    pub negotiated: Option<Negotiated>,
+    pub looked: Option<Result<Lease, LookRefusal>>,
+    pub admitted: Option<Result<Admitted, AdmitRefusal>>,
+    pub ended: Option<Result<Receipt, AdmitRefusal>>,
 }
 
 /// What goes back to the peer.
@@ -24,7 +26,7 @@ pub enum Reply {
     Silent,
     /// These octets, as one record.
     Bytes(Octets),
-    /// There was no memory for the reply that is due.
+    /// There was no memory for the answer.
     NoMemory,
 }
 
@@ -35,21 +37,4 @@ pub struct Answered {
     pub rule: u8,
     pub kept: Kept,
     pub reply: Reply,
-}
-
-/// Answers a record by the first rule that applies.
-pub fn answer_record(alloc: Global, bytes: &[u8], now: Moment, draws: &[u8; 82]) -> Answered
-    ensures rule { result.rule ≡ rule_of bytes.now }
-    ensures now { result.kept.now ≡ now }
-    ensures draws { result.kept.draws ≡ draws.now }
-    ensures reply { IsReply (reply_to bytes.now) result.reply }
-    ensures fits { Fits result.reply }
-{
-    let draws = *draws;
-    let Said { rule, reply } = say(alloc, bytes);
-    Answered {
-        rule,
-        kept: Kept { now, draws },
-        reply,
-    }
 }

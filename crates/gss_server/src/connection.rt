@@ -4,11 +4,12 @@ ghost use Rattle.std.specs.Prelude.{◌≡◌, ◌≢◌, ◌≤◌, ℕ, List, 
 ghost use Rattle.sec_base.specs.Answers.{Rose};
 ghost use Rattle.gss_server.specs.Answers.{IsReply, Fits};
 ghost use Rattle.gss_server.specs.Kept.{Keeps, moments_of, draws_of};
-ghost use Rattle.gss_server.specs.Rules.{reply_to};
 ghost use Rattle.gss_server.specs.Turns.{Receives, Responds, Replies, Turns};
-ghost use Rattle.gss_server.specs.Connections.{framed, IsServed, StreamEnds};
+ghost use Rattle.gss_server.specs.Connections.{framed, reply_to, IsServed, StreamEnds};
 
-use crate::answer::{Kept, Reply, answer_record};
+use crate::answer::{Kept, Reply};
+use crate::answering::answer_record;
+use crate::gate::Gate;
 use rpc_msgs::{RecordRefusal, next_record, write_record};
 use sec_base::{Clock, Draw, Link, Octets};
 use std::alloc::Global;
@@ -47,14 +48,16 @@ pub struct Served<L> {
 
 /// Serves a connection: answers its records, in order, each before the next is read, and closes the link at its end. The records are
 /// those of the stream, however the link's reads cut it.
-pub fn serve_link<L: Link, C: Clock, D: Draw>(
+pub fn serve_link<L: Link, G: Gate, C: Clock, D: Draw>(
     alloc: Global,
     link: L,
+    gate: &mut G,
     clock: &mut C,
     draw: &mut D,
+    width: u32,
 ) -> Served<L>
     requires { L.closed link ≡ false }
-    ensures told { IsTrue (L.tells link) → IsServed (L.wire link) (L.wire result.link) result.kept.items result.end }
+    ensures told { IsTrue (L.tells link) → IsServed width (L.wire link) (L.wire result.link) result.kept.items result.end }
     // The end that the stream has comes, unless the link failed or there was no memory.
     ensures always { IsTrue (L.tells link) → (expected : ConnEnd) → StreamEnds (L.wire link) (L.wire result.link) expected
         → result.end ≢ ConnEnd.LinkFault → result.end ≢ ConnEnd.NoMemory → result.end ≡ expected }
@@ -70,22 +73,24 @@ pub fn serve_link<L: Link, C: Clock, D: Draw>(
 {
     let mut link = link;
     let mut kept = Vec::new(alloc);
-    let end = serve(alloc, &mut link, &mut kept, clock, draw);
+    let end = serve(alloc, &mut link, &mut kept, gate, clock, draw, width);
     link.close();
     Served { link, kept, end }
 }
 
 /// Answers records up to the end of the connection.
-fn serve<L: Link, C: Clock, D: Draw>(
+fn serve<L: Link, G: Gate, C: Clock, D: Draw>(
     alloc: Global,
     link: &mut L,
     kept: &mut Vec<Kept>,
+    gate: &mut G,
     clock: &mut C,
     draw: &mut D,
+    width: u32,
 ) -> ConnEnd
     requires unclosed { L.closed link.old ≡ false }
     requires none { kept.old.items ≡ [] }
-    ensures told { IsTrue (L.tells link.old) → IsServed (L.wire link.old) (L.wire link.new) kept.new.items result }
+    ensures told { IsTrue (L.tells link.old) → IsServed width (L.wire link.old) (L.wire link.new) kept.new.items result }
     ensures fault { result ≡ ConnEnd.LinkFault → Rose (L.faults link.old) (L.faults link.new) }
     ensures moments { IsTrue (C.tells clock.new) → Keeps (C.given clock.old) (C.given clock.new) [] kept.new.items moments_of }
     ensures draws { IsTrue (D.tells draw.new) → Keeps (D.given draw.old) (D.given draw.new) [] kept.new.items draws_of }
@@ -97,7 +102,7 @@ fn serve<L: Link, C: Clock, D: Draw>(
     ensures faults { L.faults link.old ≤ L.faults link.new }
 {
     for number in 0..RECORDS {
-        match turn(alloc, link, kept, clock, draw) {
+        match turn(alloc, link, kept, gate, clock, draw, width) {
             None => {}
             Some(end) => return end,
         }
@@ -106,15 +111,17 @@ fn serve<L: Link, C: Clock, D: Draw>(
 }
 
 /// Reads a record and answers it; the end of the connection, where it comes.
-fn turn<L: Link, C: Clock, D: Draw>(
+fn turn<L: Link, G: Gate, C: Clock, D: Draw>(
     alloc: Global,
     link: &mut L,
     kept: &mut Vec<Kept>,
+    gate: &mut G,
     clock: &mut C,
     draw: &mut D,
+    width: u32,
 ) -> Option<ConnEnd>
     requires unclosed { L.closed link.old ≡ false }
-    ensures told { IsTrue (L.tells link.old) → Turns (L.wire link.old) (L.wire link.new) kept.old.items kept.new.items result }
+    ensures told { IsTrue (L.tells link.old) → Turns width (L.wire link.old) (L.wire link.new) kept.old.items kept.new.items result }
     ensures fault { result ≡ Some ConnEnd.LinkFault → Rose (L.faults link.old) (L.faults link.new) }
     ensures moments { IsTrue (C.tells clock.new) → Keeps (C.given clock.old) (C.given clock.new) kept.old.items kept.new.items moments_of }
     ensures draws { IsTrue (D.tells draw.new) → Keeps (D.given draw.old) (D.given draw.new) kept.old.items kept.new.items draws_of }
@@ -126,7 +133,16 @@ fn turn<L: Link, C: Clock, D: Draw>(
     ensures faults { L.faults link.old ≤ L.faults link.new }
 {
     match receive(alloc, link) {
-        Ok(octets) => reply_to_record(alloc, link, octets.as_slice(), kept, clock, draw),
+        Ok(octets) => reply_to_record(
+            alloc,
+            link,
+            octets.as_slice(),
+            kept,
+            gate,
+            clock,
+            draw,
+            width,
+        ),
         Err(end) => Some(end),
     }
 }
@@ -152,16 +168,18 @@ fn receive<L: Link>(alloc: Global, link: &mut L) -> Result<Octets, ConnEnd>
 }
 
 /// Makes room for the kept answer, answers a record and writes its reply.
-fn reply_to_record<L: Link, C: Clock, D: Draw>(
+fn reply_to_record<L: Link, G: Gate, C: Clock, D: Draw>(
     alloc: Global,
     link: &mut L,
     octets: &[u8],
     kept: &mut Vec<Kept>,
+    gate: &mut G,
     clock: &mut C,
     draw: &mut D,
+    width: u32,
 ) -> Option<ConnEnd>
     requires unclosed { L.closed link.old ≡ false }
-    ensures told { IsTrue (L.tells link.old) → Replies (L.wire link.old) (L.wire link.new) octets.now kept.old.items kept.new.items result }
+    ensures told { IsTrue (L.tells link.old) → Replies width (L.wire link.old) (L.wire link.new) octets.now kept.old.items kept.new.items result }
     ensures fault { result ≡ Some ConnEnd.LinkFault → Rose (L.faults link.old) (L.faults link.new) }
     ensures moments { IsTrue (C.tells clock.new) → Keeps (C.given clock.old) (C.given clock.new) kept.old.items kept.new.items moments_of }
     ensures draws { IsTrue (D.tells draw.new) → Keeps (D.given draw.old) (D.given draw.new) kept.old.items kept.new.items draws_of }
@@ -175,7 +193,7 @@ fn reply_to_record<L: Link, C: Clock, D: Draw>(
     if kept.reserve(1).is_err() {
         return Some(ConnEnd::NoMemory);
     }
-    let reply = answer(alloc, octets, kept, clock, draw);
+    let reply = answer(alloc, octets, kept, gate, clock, draw, width);
     match respond(link, &reply) {
         Ok(()) => None,
         Err(end) => Some(end),
@@ -183,15 +201,17 @@ fn reply_to_record<L: Link, C: Clock, D: Draw>(
 }
 
 /// Answers a record with the next moment and draws, and keeps the answer.
-fn answer<C: Clock, D: Draw>(
+fn answer<G: Gate, C: Clock, D: Draw>(
     alloc: Global,
     octets: &[u8],
     kept: &mut Vec<Kept>,
+    gate: &mut G,
     clock: &mut C,
     draw: &mut D,
+    width: u32,
 ) -> Reply
     requires room { vec_len kept.old + 1 ≤ vec_capacity kept.old }
-    ensures reply { (one : Kept) × (kept.new.items ≡ kept.old.items ++ one ∷ []) × IsReply (reply_to octets.now) result }
+    ensures reply { (one : Kept) × (kept.new.items ≡ kept.old.items ++ one ∷ []) × IsReply (reply_to width octets.now one) result }
     ensures fits { Fits result }
     ensures moments { IsTrue (C.tells clock.new) → Keeps (C.given clock.old) (C.given clock.new) kept.old.items kept.new.items moments_of }
     ensures draws { IsTrue (D.tells draw.new) → Keeps (D.given draw.old) (D.given draw.new) kept.old.items kept.new.items draws_of }
@@ -201,7 +221,7 @@ fn answer<C: Clock, D: Draw>(
     let now = clock.now();
     let mut draws = [0; 82];
     draw.fill(&mut draws);
-    let answered = answer_record(alloc, octets, now, &draws);
+    let answered = answer_record(alloc, gate, octets, now, &draws, width);
     let _ = kept.push(answered.kept);
     answered.reply
 }

@@ -5,8 +5,12 @@ ghost use Rattle.sec_base.specs.Answers.{Rose};
 ghost use Rattle.gss_server.specs.Desks.{ServedInOrder, NoneWanted, AllWithin};
 
 use crate::connection::{ConnEnd, Served, serve_link};
+use crate::gate::Gate;
 use sec_base::{Clock, Draw, Port};
 use std::alloc::Global;
+
+/// The width of the windows of contexts.
+const WIDTH: u32 = 128;
 
 /// A port with the clock and the draw that serve its connections, and those that were served.
 #[derive(Drop)]
@@ -29,15 +33,16 @@ pub enum DeskEnd {
 }
 
 /// Serves the links of a desk's port, one after the other, at most `connections`.
-pub fn serve_desk<P: Port, C: Clock, D: Draw>(
+pub fn serve_desk<P: Port, G: Gate, C: Clock, D: Draw>(
     alloc: Global,
     desk: &mut Desk<P, C, D>,
+    gate: &mut G,
     connections: u32,
 ) -> DeskEnd
 where
     P::Link: Drop,
     requires { desk.old.served.items ≡ [] }
-    ensures told { IsTrue (P.tells desk.old.port) → ServedInOrder P.Link.tells P.Link.wire P.Link.faults (P.links desk.old.port) (P.links desk.new.port) desk.new.served.items }
+    ensures told { IsTrue (P.tells desk.old.port) → ServedInOrder 128 P.Link.tells P.Link.wire P.Link.faults (P.links desk.old.port) (P.links desk.new.port) desk.new.served.items }
     ensures done { result ≡ DeskEnd.Done → IsTrue (P.tells desk.old.port) → (P.links desk.new.port ≡ []) ⊎ (vec_len desk.new.served ≡ connections) }
     ensures none_wanted { result ≡ DeskEnd.Done → NoneWanted desk.new.served.items }
     ensures fault { result ≡ DeskEnd.PortFault → Rose (P.faults desk.old.port) (P.faults desk.new.port) }
@@ -54,7 +59,7 @@ where
             Err(_) => return DeskEnd::PortFault,
             Ok(None) => return DeskEnd::Done,
             Ok(Some(link)) => {
-                let served = serve_link(alloc, link, &mut desk.clock, &mut desk.draw);
+                let served = serve_link(alloc, link, gate, &mut desk.clock, &mut desk.draw, WIDTH);
                 let end = served.end;
                 let _ = desk.served.push(served);
                 match end {

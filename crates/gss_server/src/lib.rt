@@ -2,14 +2,29 @@
 #![tactic(auto)]
 
 mod answer;
+mod answering;
+mod calling;
 mod connection;
+mod creating;
 mod desk;
+mod gate;
+mod heard;
+mod list_gate;
+mod looking;
+mod opening;
 mod rules;
+mod saying;
 mod server;
+mod statuses;
 #[cfg(test)]
 mod tests;
+mod told;
 
-pub use answer::{Answered, Kept, Reply, answer_record};
+pub use answer::{Answered, Kept, Reply};
+pub use answering::answer_record;
 pub use connection::{ConnEnd, Served, serve_link};
 pub use desk::{Desk, DeskEnd, serve_desk};
+pub use gate::Gate;
+pub use list_gate::{GateAnswer, ListGate, Step};
 pub use server::{ServerEnd, run_server};
+pub use told::{StepTold, Told};

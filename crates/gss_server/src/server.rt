@@ -7,6 +7,7 @@ ghost use Rattle.gss_server.specs.Lines.{Says, SaysLine};
 
 use crate::connection::Served;
 use crate::desk::{Desk, DeskEnd, serve_desk};
+use crate::list_gate::ListGate;
 use sec_base::{Clock, Draw, Moment, Port, Sink, Text};
 use std::alloc::Global;
 
@@ -54,7 +55,7 @@ where
     // In every case the first links of the port were served, in order.
     ensures served { (before after : _) → desks.old.items ≡ before ∷ [] → desks.new.items ≡ after ∷ []
         → IsTrue (P.tells before.port)
-        → ServedInOrder P.Link.tells P.Link.wire P.Link.faults (P.links before.port) (P.links after.port) after.served.items }
+        → ServedInOrder 128 P.Link.tells P.Link.wire P.Link.faults (P.links before.port) (P.links after.port) after.served.items }
     ensures all { (before after : _) → desks.old.items ≡ before ∷ [] → desks.new.items ≡ after ∷ [] → result.status ≡ 0
         → IsTrue (P.tells before.port) → (P.links after.port ≡ []) ⊎ (vec_len after.served ≡ 1000) }
     ensures none_wanted { (before after : _) → desks.old.items ≡ before ∷ [] → desks.new.items ≡ after ∷ [] → result.status ≡ 0
@@ -86,7 +87,7 @@ where
     ensures always_usage { words.now ≢ codes "stdio" ∷ [] → result.status ≢ 6 → result.status ≡ 2 }
     ensures unasked { result.status ≡ 2 → desk.new ≡ desk.old }
     ensures served { IsTrue (P.tells desk.old.port)
-        → ServedInOrder P.Link.tells P.Link.wire P.Link.faults (P.links desk.old.port) (P.links desk.new.port) desk.new.served.items }
+        → ServedInOrder 128 P.Link.tells P.Link.wire P.Link.faults (P.links desk.old.port) (P.links desk.new.port) desk.new.served.items }
     ensures all { result.status ≡ 0 → IsTrue (P.tells desk.old.port)
         → (P.links desk.new.port ≡ []) ⊎ (vec_len desk.new.served ≡ 1000) }
     ensures none_wanted { result.status ≡ 0 → NoneWanted desk.new.served.items }
@@ -98,7 +99,10 @@ where
     if !is_command(words) {
         return say(err, 2, USAGE);
     }
-    match serve_desk(alloc, desk, CONNECTIONS) {
+    let Ok(mut gate) = ListGate::new(alloc, Vec::new(alloc)) else {
+        return say(err, 8, OUT_OF_MEMORY);
+    };
+    match serve_desk(alloc, desk, &mut gate, CONNECTIONS) {
         DeskEnd::Done => report(alloc, desk.served.as_slice(), err),
         DeskEnd::PortFault => say(err, 5, PORT_FAULT),
         DeskEnd::NoMemory => say(err, 8, OUT_OF_MEMORY),

@@ -7,13 +7,13 @@ use Rattle.gss_server.proofs.connection.serve.Goals as goal
 pub returns-in-Some-clause-told : goal.returns-in-Some-clause-told
 returns-in-Some-clause-told g c = λ t.
     let tells : IsTrue (g.L.Link.tells c.loop-number.link) = rw c.loop-number.invariant.tells t in
-    serving-stop c.turn.new.kept.items (c.loop-number.invariant.told t) c.loop-number-test.true c.in-Some.end (c.in-Some.ensures.told tells)
+    serving-stop c.args.width c.turn.new.kept.items (c.loop-number.invariant.told t) c.loop-number-test.true c.in-Some.end (c.in-Some.ensures.told tells)
 
 pub loop-number-preserved : goal.loop-number-preserved
 loop-number-preserved g c = record {
   told = λ t.
       let tells : IsTrue (g.L.Link.tells c.loop-number.link) = rw c.loop-number.invariant.tells t in
-      serving-more c.turn.new.kept.items c.loop-number.number (c.loop-number.invariant.told t) (c.in-None.ensures.told tells);
+      serving-more c.args.width c.turn.new.kept.items c.loop-number.number (c.loop-number.invariant.told t) (c.in-None.ensures.told tells);
   tells = c.in-None.ensures.tells ∙ c.loop-number.invariant.tells;
   unclosed = c.in-None.ensures.unclosed;
   faults = omega (arith, c.in-None.ensures.faults);

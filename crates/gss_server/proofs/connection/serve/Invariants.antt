@@ -5,7 +5,7 @@ use Rattle.gss_server.proofs.connection.serve.Given as goal
 
 abbrev pub invariant-loop-number : goal.invariant-loop-number
 invariant-loop-number g l = record {
-  told : IsTrue (g.L.Link.tells l.fn.link) → Serving (g.L.Link.wire l.fn.link) (g.L.Link.wire l.link) l.kept.items l.number;
+  told : IsTrue (g.L.Link.tells l.fn.link) → Serving l.width (g.L.Link.wire l.fn.link) (g.L.Link.wire l.link) l.kept.items l.number;
   tells : g.L.Link.tells l.link ≡ g.L.Link.tells l.fn.link;
   unclosed : g.L.Link.closed l.link ≡ false;
   faults : g.L.Link.faults l.fn.link ≤ g.L.Link.faults l.link;

@@ -3,4 +3,4 @@ use Rattle.gss_server.proofs.connection.serve_link.Goals as goal
 
 pub returns-clause-always : goal.returns-clause-always
 returns-clause-always g c = λ t expected ends fault memory.
-    comes c.serve-end.result expected (c.serve-end.ensures.told t) (rw c.close.ensures.told at ends) fault memory
+    comes c.args.width c.serve-end.result expected (c.serve-end.ensures.told t) (rw c.close.ensures.told at ends) fault memory

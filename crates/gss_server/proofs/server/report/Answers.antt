@@ -1,6 +1,6 @@
 use Rattle.std.proofs.Common.{refl, ap, ◌∙◌, ℕ, length}
 use Rattle.gss_server.specs.Lines.{served_line}
-use Rattle.gss_server.proofs.Saying.{said}
+use Rattle.gss_server.proofs.StatusLines.{said}
 use Rattle.gss_server.proofs.server.report.Goals as goal
 
 pub returns-in-Ok-clause-said : goal.returns-in-Ok-clause-said

@@ -1,5 +1,0 @@
-use Rattle.gss_server.proofs.ReplyLengths.{auth_error-fits}
-use Rattle.gss_server.proofs.rules.say_denied.Goals as goal
-
-pub say_reply-requires-clause-fits : goal.say_reply-requires-clause-fits
-say_reply-requires-clause-fits c = auth_error-fits c.args.xid c.args.stat

@@ -1,0 +1,36 @@
+-- What a gate tells of the questions that it was asked.
+use Rattle.std.specs.Prelude.{◌≡◌, ℕ, ◌+◌, List, ◌++◌, length}
+use Rattle.sha1.specs.Sha1.{sha1}
+use Rattle.accept_book.specs.RecordShown.{Asked, AskedStep, AskedLook, AskedAdmit, AskedEnd}
+use Rattle.accept_book.specs.declared.book_answer.NegAnswer.{NegAnswer}
+use Rattle.accept_book.specs.declared.book_answer.NegAnswer.TheVariants as steps
+use Rattle.gss_server.specs.declared.told.StepTold.{StepTold}
+use Rattle.gss_server.specs.declared.told.StepTold.TheVariants as tolds
+use Rattle.gss_server.specs.declared.told.Told.{Told}
+use Rattle.gss_server.specs.declared.told.Told.TheVariants.{Negotiating, Looking, Admitting, Ending}
+
+-- a step's answer, its tokens by their SHA-1
+abbrev pub step_told : NegAnswer → StepTold
+step_told (steps.Going id token) = tolds.Going id (sha1 token)
+step_told (steps.Settled lease token) = tolds.Settled lease (sha1 token)
+step_told (steps.Refused refusal) = tolds.Refused refusal
+step_told steps.NoMemory = tolds.NoMemory
+
+-- a question with its answer, as it is told
+abbrev pub told_of : Asked → Told
+told_of (AskedStep id token now draws answer) = Negotiating id (sha1 token) now draws (step_told answer.answer) answer.receipts
+told_of (AskedLook id now answer) = Looking id now answer
+told_of (AskedAdmit lease seq procedure args answer) = Admitting lease seq procedure args answer
+told_of (AskedEnd lease seq answer) = Ending lease seq answer
+
+-- how many octets an answer's token has
+abbrev pub token_size : NegAnswer → ℕ
+token_size (steps.Going id token) = length token
+token_size (steps.Settled lease token) = length token
+token_size (steps.Refused refusal) = 0
+token_size steps.NoMemory = 0
+
+-- these were told, each in one place of the room
+pub record Gains (room room' : ℕ) (old new more : List Told) : Type 0 where
+  pub gained : new ≡ old ++ more
+  pub used : room ≡ room' + length more

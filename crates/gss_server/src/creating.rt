@@ -1,0 +1,314 @@
+//! The rules of creation: INIT and CONTINUE_INIT.
+
+ghost use Rattle.std.specs.Prelude.{◌≡◌, ◌≤◌, IsTrue, length, map, is_some, if◌then◌else◌, None, Some, Ok, take, IfOk};
+ghost use Rattle.rpc_msgs.specs.Words.{word};
+ghost use Rattle.rpc_msgs.specs.Replies.{accepted, reply_octets};
+ghost use Rattle.rpc_msgs.specs.Xdr.{Answers};
+ghost use Rattle.rpcsec_msgs.specs.Cred.{cred_value};
+ghost use Rattle.rpcsec_msgs.specs.InitRes.{init_res_octets};
+ghost use Rattle.krb_tokens.specs.Mic.{mic_of};
+ghost use Rattle.accept_book.specs.Served.{one_opaque};
+ghost use Rattle.accept_book.specs.Statuses.{book_status};
+ghost use Rattle.accept_book.specs.RecordShown.{decided, plain, going, settled, refused, refusal_token, handle_of, handle_id, end_of};
+ghost use Rattle.accept_book.specs.RecordRule.{stepped, ask_step, continued, token_ruling, creation_ruling};
+ghost use Rattle.gss_server.specs.Answers.{Says, Fits};
+ghost use Rattle.gss_server.specs.Hearing.{shown, handle_or_none};
+ghost use Rattle.gss_server.specs.Telling.{Gains, told_of, token_size};
+
+use crate::gate::Gate;
+use crate::heard::Heard;
+use crate::rules::*;
+use crate::saying::{
+    AUTH_NONE, GSS, Said, end_at, say_denied, say_no_memory, say_plain, say_reply,
+};
+use crate::statuses::status_of;
+use accept_book::{BookRefusal, Lease, NegAnswer, Negotiated};
+use rpc_msgs::{Reply as RpcReply, XdrReader, XdrRefusal};
+use rpcsec_msgs::{GssCred, InitRes, write_init_res};
+use sec_base::{NoMemory, Octets};
+use std::alloc::Global;
+
+/// A negotiation token that says reject (RFC 4178 section 4.2.2).
+static REJECT: [u8; 9] = [0xa1, 7, 0x30, 5, 0xa0, 3, 10, 1, 2];
+
+/// The octets that a token may have.
+const TOKEN: u32 = 65_536;
+
+/// The procedure of a first token.
+const INIT: u32 = 1;
+
+/// What a step was answered.
+pub(crate) struct Steps {
+    pub negotiated: Option<Negotiated>,
+    pub said: Said,
+}
+
+/// The octets of a creation's result.
+fn result_octets(
+    alloc: Global,
+    id: Option<u64>,
+    major: u32,
+    minor: u32,
+    window: u32,
+    token: &[u8],
+) -> Result<Octets, NoMemory>
+    requires { length token.now ≤ 65536 }
+    ensures value { IfOk result (λ octets. octets ≡ init_res_octets (record { context = handle_or_none id; major = major; minor = minor; window = window; token = token.now })) }
+    ensures size { IfOk result (λ octets. length octets ≤ 130000) }
+{
+    let result = InitRes {
+        context: handle(alloc, id)?,
+        major,
+        minor,
+        window,
+        token: Octets::of(alloc, token)?,
+    };
+    write_init_res(alloc, &result)
+}
+
+/// A handle: the id in 8 octets, or nothing.
+fn handle(alloc: Global, id: Option<u64>) -> Result<Octets, NoMemory>
+    ensures { IfOk result (λ octets. octets ≡ handle_or_none id) }
+{
+    match id {
+        Some(id) => Octets::of(alloc, &id.to_be_bytes()),
+        None => Octets::of(alloc, &[]),
+    }
+}
+
+/// A context goes on: its handle, and the token for the initiator.
+fn say_going(alloc: Global, heard: &Heard<'_>, id: u64, token: &[u8]) -> Said
+    requires { length token.now ≤ 65536 }
+    ensures says { Says result.reply result.rule (decided 21 (going (shown heard.entry.now) id token.now)) }
+    ensures fits { Fits result.reply }
+{
+    match result_octets(alloc, Some(id), 1, 0, 0, token) {
+        Ok(result) => say_creation(alloc, heard, 21, result.as_slice()),
+        Err(_) => say_no_memory(21),
+    }
+}
+
+/// A creation's result without a verifier.
+fn say_creation(alloc: Global, heard: &Heard<'_>, rule: u8, body: &[u8]) -> Said
+    requires { length body.now ≤ 130000 }
+    ensures says { Says result.reply result.rule (decided rule (plain (shown heard.entry.now) 0 0 0 body.now)) }
+    ensures fits { Fits result.reply }
+{
+    let reply = RpcReply::Accepted {
+        xid: heard.call.xid,
+        flavour: AUTH_NONE,
+        verf: &[],
+        stat: SUCCESS,
+        low: 0,
+        high: 0,
+        result: body,
+    };
+    say_reply(alloc, rule, &reply)
+}
+
+/// A context is complete: its handle, the window, the token for the initiator, and a MIC over the window.
+fn say_settled(alloc: Global, heard: &Heard<'_>, lease: &Lease, token: &[u8]) -> Said
+    requires { length token.now ≤ 65536 }
+    ensures says { Says result.reply result.rule (decided 22 (settled (shown heard.entry.now) lease.now token.now)) }
+    ensures fits { Fits result.reply }
+{
+    match result_octets(alloc, Some(lease.id), 0, 0, heard.width, token) {
+        Ok(result) => say_window(alloc, heard, lease, result.as_slice()),
+        Err(_) => say_no_memory(22),
+    }
+}
+
+/// A creation's result with a MIC over the window.
+fn say_window(alloc: Global, heard: &Heard<'_>, lease: &Lease, body: &[u8]) -> Said
+    requires { length body.now ≤ 130000 }
+    ensures says { Says result.reply result.rule (decided 22 (Some (reply_octets (accepted heard.entry.now.call.xid 6 (mic_of (end_of lease.now) 1 (word heard.entry.now.width)) 0 0 0 body.now)))) }
+    ensures fits { Fits result.reply }
+{
+    let mic = window_mic(heard.width, lease);
+    let reply = RpcReply::Accepted {
+        xid: heard.call.xid,
+        flavour: GSS,
+        verf: &mic,
+        stat: SUCCESS,
+        low: 0,
+        high: 0,
+        result: body,
+    };
+    say_reply(alloc, 22, &reply)
+}
+
+/// The MIC over the window.
+#[tactic(auto, unfolding(rpc_msgs::specs::Words::word))]
+fn window_mic(width: u32, lease: &Lease) -> [u8; 28]
+    ensures { result ≡ mic_of (end_of lease.now) 1 (word width) }
+{
+    end_at(lease).make_mic(1, &width.to_be_bytes())
+}
+
+/// The token that says reject, or none where the context was complete.
+fn reject(refusal: &BookRefusal) -> &'static [u8]
+    ensures value { result.now ≡ refusal_token refusal.now }
+    ensures size { length result.now ≤ 9 }
+{
+    match refusal {
+        BookRefusal::AlreadyComplete => &[],
+        _ => &REJECT,
+    }
+}
+
+/// A refused step: its major and minor status.
+fn say_refused(alloc: Global, heard: &Heard<'_>, refusal: &BookRefusal) -> Said
+    ensures says { Says result.reply result.rule (decided 20 (refused (shown heard.entry.now) refusal.now)) }
+    ensures fits { Fits result.reply }
+{
+    let (major, minor) = status_of(refusal);
+    match result_octets(alloc, None, major, minor, 0, reject(refusal)) {
+        Ok(result) => say_creation(alloc, heard, 20, result.as_slice()),
+        Err(_) => say_no_memory(20),
+    }
+}
+
+/// What a step was answered.
+fn say_stepped(alloc: Global, heard: &Heard<'_>, answer: &NegAnswer) -> Said
+    requires { token_size answer.now ≤ 65536 }
+    ensures says { Says result.reply result.rule (stepped (shown heard.entry.now) answer.now) }
+    ensures fits { Fits result.reply }
+{
+    match answer {
+        NegAnswer::Going { id, token } => say_going(alloc, heard, *id, token.as_slice()),
+        NegAnswer::Settled { lease, token } => say_settled(alloc, heard, lease, token.as_slice()),
+        NegAnswer::Refused(BookRefusal::NoContext) => say_denied(alloc, heard, 6, CRED_PROBLEM),
+        NegAnswer::Refused(refusal) => say_refused(alloc, heard, refusal),
+        NegAnswer::NoMemory => say_no_memory(0),
+    }
+}
+
+/// The first 66 draws, which go to the step.
+fn step_draws(draws: &[u8; 82]) -> [u8; 66]
+    ensures { result ≡ take 66 draws.now }
+{
+    let mut first = [0; 66];
+    first.copy_from_slice(&draws[..66]);
+    first
+}
+
+/// Asks for a step.
+fn ask_for_step<G: Gate>(
+    alloc: Global,
+    gate: &mut G,
+    heard: &Heard<'_>,
+    id: Option<u64>,
+    token: &[u8],
+) -> Steps
+    ensures says { Says result.said.reply result.said.rule (ask_step (shown heard.entry.now) id token.now result.negotiated) }
+    ensures fits { Fits result.said.reply }
+    ensures exact { length (ask_step (shown heard.entry.now) id token.now result.negotiated).asked ≡ (if is_some result.negotiated then 1 else 0) }
+    ensures tells { G.tells gate.new ≡ G.tells gate.old }
+    ensures told { IsTrue (G.tells gate.old) → 1 ≤ G.room gate.old → Gains (G.room gate.old) (G.room gate.new) (G.told gate.old) (G.told gate.new) (map told_of (ask_step (shown heard.entry.now) id token.now result.negotiated).asked) }
+{
+    let draws = step_draws(&heard.draws);
+    let negotiated = gate.negotiate(alloc, id, token, heard.now, &draws);
+    let said = say_stepped(alloc, heard, &negotiated.answer);
+    Steps {
+        negotiated: Some(negotiated),
+        said,
+    }
+}
+
+/// Answers a later token by the id of its context.
+fn say_continued<G: Gate>(
+    alloc: Global,
+    gate: &mut G,
+    heard: &Heard<'_>,
+    token: &[u8],
+    id: Option<u64>,
+) -> Steps
+    ensures says { Says result.said.reply result.said.rule (continued (shown heard.entry.now) token.now result.negotiated id) }
+    ensures fits { Fits result.said.reply }
+    ensures exact { length (continued (shown heard.entry.now) token.now result.negotiated id).asked ≡ (if is_some result.negotiated then 1 else 0) }
+    ensures tells { G.tells gate.new ≡ G.tells gate.old }
+    ensures told { IsTrue (G.tells gate.old) → 1 ≤ G.room gate.old → Gains (G.room gate.old) (G.room gate.new) (G.told gate.old) (G.told gate.new) (map told_of (continued (shown heard.entry.now) token.now result.negotiated id).asked) }
+{
+    match id {
+        None => unstepped(say_denied(alloc, heard, 6, CRED_PROBLEM)),
+        Some(id) => ask_for_step(alloc, gate, heard, Some(id), token),
+    }
+}
+
+/// Answers a creation call with this token.
+fn say_token<G: Gate>(
+    alloc: Global,
+    gate: &mut G,
+    heard: &Heard<'_>,
+    cred: &GssCred<'_>,
+    token: &[u8],
+) -> Steps
+    ensures says { Says result.said.reply result.said.rule (token_ruling (shown heard.entry.now) (cred_value cred.now) result.negotiated (Ok token.now)) }
+    ensures fits { Fits result.said.reply }
+    ensures exact { length (token_ruling (shown heard.entry.now) (cred_value cred.now) result.negotiated (Ok token.now)).asked ≡ (if is_some result.negotiated then 1 else 0) }
+    ensures tells { G.tells gate.new ≡ G.tells gate.old }
+    ensures told { IsTrue (G.tells gate.old) → 1 ≤ G.room gate.old → Gains (G.room gate.old) (G.room gate.new) (G.told gate.old) (G.told gate.new) (map told_of (token_ruling (shown heard.entry.now) (cred_value cred.now) result.negotiated (Ok token.now)).asked) }
+{
+    if cred.proc == INIT {
+        return ask_for_step(alloc, gate, heard, None, token);
+    }
+    say_continued(alloc, gate, heard, token, id_in(cred.context))
+}
+
+/// Answers a creation call.
+#[tactic(auto, unfolding(accept_book::specs::RecordRule::creation_ruling))]
+pub(crate) fn say_creating<G: Gate>(
+    alloc: Global,
+    gate: &mut G,
+    heard: &Heard<'_>,
+    cred: &GssCred<'_>,
+) -> Steps
+    ensures says { Says result.said.reply result.said.rule (creation_ruling (shown heard.entry.now) (cred_value cred.now) result.negotiated) }
+    ensures fits { Fits result.said.reply }
+    ensures exact { length (creation_ruling (shown heard.entry.now) (cred_value cred.now) result.negotiated).asked ≡ (if is_some result.negotiated then 1 else 0) }
+    ensures tells { G.tells gate.new ≡ G.tells gate.old }
+    ensures told { IsTrue (G.tells gate.old) → 1 ≤ G.room gate.old → Gains (G.room gate.old) (G.room gate.new) (G.told gate.old) (G.told gate.new) (map told_of (creation_ruling (shown heard.entry.now) (cred_value cred.now) result.negotiated).asked) }
+{
+    let call = &heard.call;
+    if call.program != PROGRAM {
+        return unstepped(say_plain(alloc, heard, 9, PROG_UNAVAIL, 0, 0));
+    }
+    if call.version != VERSION {
+        return unstepped(say_plain(alloc, heard, 10, PROG_MISMATCH, VERSION, VERSION));
+    }
+    match token_in(call.args) {
+        Ok(token) => say_token(alloc, gate, heard, cred, token),
+        Err(_) => unstepped(say_plain(alloc, heard, 14, GARBAGE_ARGS, 0, 0)),
+    }
+}
+
+/// Nothing was asked.
+fn unstepped(said: Said) -> Steps
+    ensures negotiated { result.negotiated ≡ None }
+    ensures said { result.said ≡ said }
+{
+    Steps {
+        negotiated: None,
+        said,
+    }
+}
+
+/// The one token that arguments of a creation are.
+fn token_in(args: &[u8]) -> Result<&[u8], XdrRefusal>
+    ensures { Answers (λ token. token.now) result (one_opaque args.now) }
+{
+    let mut reader = XdrReader::new(args);
+    let token = reader.opaque(TOKEN)?;
+    reader.end()?;
+    Ok(token)
+}
+
+/// The id that a handle is.
+pub(crate) fn id_in(handle: &[u8]) -> Option<u64>
+    ensures { result ≡ handle_id handle.now }
+{
+    match handle {
+        [a, b, c, d, e, f, g, h] => Some(u64::from_be_bytes([*a, *b, *c, *d, *e, *f, *g, *h])),
+        _ => None,
+    }
+}

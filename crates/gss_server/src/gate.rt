@@ -1,0 +1,55 @@
+//! The shared state, as the server asks it.
+
+use accept_book::{AdmitRefusal, Admitted, Lease, LookRefusal, Negotiated, Receipt};
+use sec_base::Moment;
+use std::alloc::Global;
+
+/// What the server asks of the state that its threads share.
+///
+/// A gate may tell what it was asked, each question with its answer, as long as it has room. `room` says how many more it can tell.
+pub trait Gate {
+    ghost use Rattle.std.specs.Prelude.{◌≡◌, ◌≤◌, Bool, List, ℕ, [], ◌∷◌, IsTrue};
+    ghost use Rattle.accept_book.specs.RecordShown.{AskedStep, AskedLook, AskedAdmit, AskedEnd};
+    ghost use Rattle.gss_server.specs.Telling.{Gains, told_of, token_size};
+    ghost use Rattle.gss_server.specs.declared.told.Told.{Told};
+
+    ghost tells: { Self → Bool };
+
+    ghost room: { Self → ℕ };
+
+    ghost told: { Self → List Told };
+
+    /// Takes a token, a first one where no id is given.
+    fn negotiate(
+        &mut self,
+        alloc: Global,
+        id: Option<u64>,
+        token: &[u8],
+        now: Moment,
+        draws: &[u8; 66],
+    ) -> Negotiated
+        ensures size { token_size result.answer ≤ 65536 }
+        ensures tells { tells self.new ≡ tells self.old }
+        ensures told { IsTrue (tells self.old) → 1 ≤ room self.old → Gains (room self.old) (room self.new) (told self.old) (told self.new) (told_of (AskedStep id token.now now draws.now result) ∷ []) };
+
+    /// Shows a complete context.
+    fn look(&mut self, id: u64, now: Moment) -> Result<Lease, LookRefusal>
+        ensures tells { tells self.new ≡ tells self.old }
+        ensures told { IsTrue (tells self.old) → 1 ≤ room self.old → Gains (room self.old) (room self.new) (told self.old) (told self.new) (told_of (AskedLook id now result) ∷ []) };
+
+    /// Takes the number of a call.
+    fn admit(
+        &mut self,
+        lease: &Lease,
+        seq: u32,
+        procedure: u32,
+        args: [u8; 20],
+    ) -> Result<Admitted, AdmitRefusal>
+        ensures tells { tells self.new ≡ tells self.old }
+        ensures told { IsTrue (tells self.old) → 1 ≤ room self.old → Gains (room self.old) (room self.new) (told self.old) (told self.new) (told_of (AskedAdmit lease.now seq procedure args result) ∷ []) };
+
+    /// Takes the number of a call that ends its context.
+    fn end(&mut self, lease: &Lease, seq: u32) -> Result<Receipt, AdmitRefusal>
+        ensures tells { tells self.new ≡ tells self.old }
+        ensures told { IsTrue (tells self.old) → 1 ≤ room self.old → Gains (room self.old) (room self.new) (told self.old) (told self.new) (told_of (AskedEnd lease.now seq result) ∷ []) };
+}

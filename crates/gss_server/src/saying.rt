@@ -1,0 +1,156 @@
+//! Replies of every kind.
+
+ghost use Rattle.std.specs.Prelude.{◌≡◌, ◌≢◌, ◌≤◌, ◌*◌, length, [], None, Some};
+ghost use Rattle.rpc_msgs.specs.Replies.{IsReply, reply_octets, reply_value};
+ghost use Rattle.rpc_msgs.specs.Words.{word};
+ghost use Rattle.rpcsec_msgs.specs.Cred.{cred_value};
+ghost use Rattle.krb_tokens.specs.Mic.{mic_of};
+ghost use Rattle.accept_book.specs.RecordShown.{decided, plain, signed, denied, end_of};
+ghost use Rattle.gss_server.specs.Answers.{Says, Fits};
+ghost use Rattle.gss_server.specs.Hearing.{shown};
+
+use crate::answer::Reply;
+use crate::heard::Heard;
+use accept_book::Lease;
+use krb_tokens::{Side, TokenEnd};
+use rpc_msgs::{Reply as RpcReply, write_reply};
+use rpcsec_msgs::GssCred;
+use std::alloc::Global;
+
+/// The flavour without authentication (RFC 5531 section 8.2), and that of RPCSEC_GSS (RFC 2203).
+pub(crate) const AUTH_NONE: u32 = 0;
+
+pub(crate) const GSS: u32 = 6;
+
+/// A rule, and the reply by it.
+#[derive(Debug, Drop)]
+pub(crate) struct Said {
+    pub rule: u8,
+    pub reply: Reply,
+}
+
+/// No reply.
+pub(crate) fn say_nothing(rule: u8) -> Said
+    ensures says { Says result.reply result.rule (decided rule None) }
+    ensures fits { Fits result.reply }
+{
+    Said {
+        rule,
+        reply: Reply::Silent,
+    }
+}
+
+/// There was no memory for the answer by this rule.
+pub(crate) fn say_no_memory(rule: u8) -> Said
+    ensures reply { result.reply ≡ Reply.NoMemory }
+{
+    Said {
+        rule,
+        reply: Reply::NoMemory,
+    }
+}
+
+/// The reply to a caller who isn't accepted.
+pub(crate) fn say_denied(alloc: Global, heard: &Heard<'_>, rule: u8, stat: u32) -> Said
+    ensures says { Says result.reply result.rule (decided rule (denied (shown heard.entry.now) stat)) }
+    ensures fits { Fits result.reply }
+{
+    let xid = heard.call.xid;
+    say_reply(alloc, rule, &RpcReply::AuthError { xid, stat })
+}
+
+/// An accepted reply without verifier.
+pub(crate) fn say_plain(
+    alloc: Global,
+    heard: &Heard<'_>,
+    rule: u8,
+    stat: u32,
+    low: u32,
+    high: u32,
+) -> Said
+    requires low { stat ≢ 2 → low ≡ 0 }
+    requires high { stat ≢ 2 → high ≡ 0 }
+    ensures says { Says result.reply result.rule (decided rule (plain (shown heard.entry.now) stat low high [])) }
+    ensures fits { Fits result.reply }
+{
+    let reply = RpcReply::Accepted {
+        xid: heard.call.xid,
+        flavour: AUTH_NONE,
+        verf: &[],
+        stat,
+        low,
+        high,
+        result: &[],
+    };
+    say_reply(alloc, rule, &reply)
+}
+
+/// A reply that fits into a record.
+pub(crate) fn say_reply(alloc: Global, rule: u8, reply: &RpcReply<'_>) -> Said
+    requires proper { IsReply (reply_value reply.now) }
+    requires fits { length (reply_octets (reply_value reply.now)) ≤ 131072 }
+    ensures says { Says result.reply result.rule (decided rule (Some (reply_octets (reply_value reply.now)))) }
+    ensures fits { Fits result.reply }
+{
+    match write_reply(alloc, reply) {
+        Ok(octets) => Said {
+            rule,
+            reply: Reply::Bytes(octets),
+        },
+        Err(_) => Said {
+            rule,
+            reply: Reply::NoMemory,
+        },
+    }
+}
+
+/// The end of a context that takes and makes its tokens here.
+pub(crate) fn end_at(lease: &Lease) -> TokenEnd
+    ensures { result ≡ end_of lease.now }
+{
+    TokenEnd {
+        key: lease.outcome.key,
+        side: Side::Acceptor,
+        subkey: lease.outcome.subkey,
+    }
+}
+
+/// The verifier of a reply: a MIC over the number of the call.
+#[tactic(auto, unfolding(rpc_msgs::specs::Words::word))]
+fn verifier(seq: u32, lease: &Lease) -> [u8; 28]
+    ensures { result ≡ mic_of (end_of lease.now) (2 * seq) (word seq) }
+{
+    end_at(lease).make_mic(2 * seq as u64, &seq.to_be_bytes())
+}
+
+/// An accepted reply with the verifier of a reply to a call.
+pub(crate) fn say_signed(
+    alloc: Global,
+    heard: &Heard<'_>,
+    cred: &GssCred<'_>,
+    lease: &Lease,
+    rule: u8,
+    stat: u32,
+    low: u32,
+    high: u32,
+    body: &[u8],
+) -> Said
+    requires low { stat ≢ 2 → low ≡ 0 }
+    requires high { stat ≢ 2 → high ≡ 0 }
+    requires body { stat ≢ 0 → body.now ≡ [] }
+    requires size { length body.now ≤ 130000 }
+    ensures says { Says result.reply result.rule (decided rule (signed (shown heard.entry.now) (cred_value cred.now) lease.now stat low high body.now)) }
+    ensures fits { Fits result.reply }
+{
+    let mic = verifier(cred.seq, lease);
+    let reply = RpcReply::Accepted {
+        xid: heard.call.xid,
+        flavour: GSS,
+        verf: &mic,
+        stat,
+        low,
+        high,
+        result: body,
+    };
+    say_reply(alloc, rule, &reply)
+}
