@@ -1,4 +1,4 @@
-use Rattle.std.proofs.Common.{◌≡◌, ◌+◌, ◌∙◌, ap, arith, length, ℕ}
+use Rattle.std.proofs.Common.{◌∙◌, ap, arith, length, ℕ}
 use Rattle.rpc_msgs.proofs.WordLengths.{length-opaque}
 use Rattle.gss_server.proofs.BodyLengths.{length-wrap_of, sized}
 use Rattle.gss_server.proofs.results.seal_body.Goals as goal
