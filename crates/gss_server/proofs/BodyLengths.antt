@@ -1,5 +1,5 @@
 -- How long the bodies of replies are.
-use Rattle.std.proofs.Common.{◌≡◌, ℕ, ◌+◌, ◌*◌, ◌≤◌, Bool, true, false, cond, List, [], ◌++◌, length, ap, ◌∙◌, refl, arith, eqb, Result, Ok, Err, IfOk, lit≤, Option, Some, None}
+use Rattle.std.proofs.Common.{◌≡◌, ℕ, ◌+◌, ◌≤◌, Bool, true, false, cond, List, [], ◌++◌, length, ap, ◌∙◌, refl, arith, eqb, Result, Ok, Err, IfOk, lit≤, Option, Some, None}
 use Rattle.std.proofs.lemmas.List.{length-append}
 use Rattle.rpc_msgs.specs.Words.{word, opaque}
 use Rattle.rpc_msgs.proofs.WordLengths.{length-word, length-opaque}

@@ -11,10 +11,11 @@ ghost use Rattle.gss_server.specs.Hearing.{shown, kept_answers, count_of};
 ghost use Rattle.gss_server.specs.Telling.{Gains, told_of};
 
 use crate::answer::{Answered, Kept};
-use crate::creating::{Steps, id_in, say_creating};
+use crate::creating::{Steps, say_creating};
 use crate::gate::Gate;
 use crate::heard::Heard;
 use crate::looking::{Looks, ask_for_look};
+use crate::opening::id_in;
 use crate::rules::*;
 use crate::saying::{AUTH_NONE, GSS, Said, say_denied, say_nothing, say_reply};
 use accept_book::{AdmitRefusal, Admitted, Lease, LookRefusal, Negotiated, Receipt};

@@ -3,7 +3,6 @@
 ghost use Rattle.std.specs.Prelude.{◌≡◌, ◌≤◌, IsTrue, length, map, is_some, if◌then◌else◌, None, Some, Ok, take, IfOk};
 ghost use Rattle.rpc_msgs.specs.Words.{word};
 ghost use Rattle.rpc_msgs.specs.Replies.{accepted, reply_octets};
-ghost use Rattle.rpc_msgs.specs.Xdr.{Answers};
 ghost use Rattle.rpcsec_msgs.specs.Cred.{cred_value};
 ghost use Rattle.rpcsec_msgs.specs.InitRes.{init_res_octets};
 ghost use Rattle.krb_tokens.specs.Mic.{mic_of};
@@ -17,22 +16,20 @@ ghost use Rattle.gss_server.specs.Telling.{Gains, told_of, token_size};
 
 use crate::gate::Gate;
 use crate::heard::Heard;
+use crate::opening::{id_in, token_in};
 use crate::rules::*;
 use crate::saying::{
     AUTH_NONE, GSS, Said, end_at, say_denied, say_no_memory, say_plain, say_reply,
 };
 use crate::statuses::status_of;
 use accept_book::{BookRefusal, Lease, NegAnswer, Negotiated};
-use rpc_msgs::{Reply as RpcReply, XdrReader, XdrRefusal};
+use rpc_msgs::Reply as RpcReply;
 use rpcsec_msgs::{GssCred, InitRes, write_init_res};
 use sec_base::{NoMemory, Octets};
 use std::alloc::Global;
 
 /// A negotiation token that says reject (RFC 4178 section 4.2.2).
 static REJECT: [u8; 9] = [0xa1, 7, 0x30, 5, 0xa0, 3, 10, 1, 2];
-
-/// The octets that a token may have.
-const TOKEN: u32 = 65_536;
 
 /// The procedure of a first token.
 const INIT: u32 = 1;
@@ -290,25 +287,5 @@ fn unstepped(said: Said) -> Steps
     Steps {
         negotiated: None,
         said,
-    }
-}
-
-/// The one token that arguments of a creation are.
-fn token_in(args: &[u8]) -> Result<&[u8], XdrRefusal>
-    ensures { Answers (λ token. token.now) result (one_opaque args.now) }
-{
-    let mut reader = XdrReader::new(args);
-    let token = reader.opaque(TOKEN)?;
-    reader.end()?;
-    Ok(token)
-}
-
-/// The id that a handle is.
-pub(crate) fn id_in(handle: &[u8]) -> Option<u64>
-    ensures { result ≡ handle_id handle.now }
-{
-    match handle {
-        [a, b, c, d, e, f, g, h] => Some(u64::from_be_bytes([*a, *b, *c, *d, *e, *f, *g, *h])),
-        _ => None,
     }
 }

@@ -5,6 +5,8 @@ mod answer;
 mod answering;
 mod calling;
 mod connection;
+#[cfg(test)]
+mod context_tests;
 mod creating;
 mod desk;
 mod gate;
@@ -12,6 +14,7 @@ mod heard;
 mod list_gate;
 mod looking;
 mod opening;
+mod results;
 mod rules;
 mod saying;
 mod server;

@@ -1,19 +1,20 @@
-//! The bodies of calls, RFC 2203 section 5.3.2.
+//! What calls carry: handles, tokens, and the bodies of RFC 2203 section 5.3.2.
 
 ghost use Rattle.std.specs.Prelude.{◌≡◌, ◌≤◌, true, length, IfOk, Some};
+ghost use Rattle.rpc_msgs.specs.Xdr.{Answers};
 ghost use Rattle.rpcsec_msgs.specs.Cred.{cred_value};
 ghost use Rattle.rpcsec_msgs.specs.Bodies.{checked_at, sealed_at};
 ghost use Rattle.krb_tokens.specs.Wrap.{unwrapped};
-ghost use Rattle.accept_book.specs.RecordShown.{numbered, checked_args, sealed_args, unsealed_args, body_args};
-ghost use Rattle.accept_book.specs.Served.{are_args, is_one_opaque};
+ghost use Rattle.accept_book.specs.RecordShown.{numbered, checked_args, sealed_args, unsealed_args, body_args, handle_id};
+ghost use Rattle.accept_book.specs.Served.{are_args, is_one_opaque, one_opaque};
 
 use krb_tokens::{TokenEnd, TokenRefusal};
-use rpc_msgs::XdrReader;
+use rpc_msgs::{XdrReader, XdrRefusal};
 use rpcsec_msgs::{GssCred, split_checked, split_sealed};
 use sec_base::{NoMemory, Octets};
 use std::alloc::Global;
 
-/// The octets that an argument of ECHO or POST may have.
+/// The octets that an argument may have: a token, or that of ECHO or POST.
 const ARGUMENT: u32 = 65_536;
 
 /// The arguments that a body carries by the service of its call, where it is one.
@@ -134,5 +135,25 @@ pub(crate) fn is_argument(octets: &[u8]) -> bool
     match reader.opaque(ARGUMENT) {
         Ok(_) => reader.end().is_ok(),
         Err(_) => false,
+    }
+}
+
+/// The one token that arguments of a creation are.
+pub(crate) fn token_in(args: &[u8]) -> Result<&[u8], XdrRefusal>
+    ensures { Answers (λ token. token.now) result (one_opaque args.now) }
+{
+    let mut reader = XdrReader::new(args);
+    let token = reader.opaque(ARGUMENT)?;
+    reader.end()?;
+    Ok(token)
+}
+
+/// The id that a handle is.
+pub(crate) fn id_in(handle: &[u8]) -> Option<u64>
+    ensures { result ≡ handle_id handle.now }
+{
+    match handle {
+        [a, b, c, d, e, f, g, h] => Some(u64::from_be_bytes([*a, *b, *c, *d, *e, *f, *g, *h])),
+        _ => None,
     }
 }

@@ -2,7 +2,7 @@ use Rattle.std.proofs.Common.{ap, arith, length, ℕ}
 use Rattle.std.proofs.lemmas.List.{length-append}
 use Rattle.accept_book.specs.Served.{result_of}
 use Rattle.gss_server.proofs.BodyLengths.{result-fits}
-use Rattle.gss_server.proofs.calling.result_octets.Goals as goal
+use Rattle.gss_server.proofs.results.result_octets.Goals as goal
 
 pub returns-clause-size : goal.returns-clause-size
 returns-clause-size c =

@@ -1,6 +1,6 @@
 use Rattle.std.proofs.Common.{arith}
 use Rattle.gss_server.proofs.BodyLengths.{checked-fits, sized}
-use Rattle.gss_server.proofs.calling.sign_body.Goals as goal
+use Rattle.gss_server.proofs.results.sign_body.Goals as goal
 
 pub returns-clause-size : goal.returns-clause-size
 returns-clause-size c =

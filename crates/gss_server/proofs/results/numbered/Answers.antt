@@ -2,7 +2,7 @@ use Rattle.std.proofs.Common.{ap, arith, length, ℕ}
 use Rattle.rpc_msgs.specs.Words.{word}
 use Rattle.std.proofs.lemmas.List.{length-append}
 use Rattle.rpc_msgs.proofs.WordLengths.{length-word}
-use Rattle.gss_server.proofs.calling.numbered.Goals as goal
+use Rattle.gss_server.proofs.results.numbered.Goals as goal
 
 pub returns-clause-size : goal.returns-clause-size
 returns-clause-size c =

@@ -1,7 +1,7 @@
-use Rattle.std.proofs.Common.{◌≡◌, ◌+◌, ◌∙◌, ap, arith, length, ℕ}
+use Rattle.std.proofs.Common.{◌∙◌, ap, arith, length, ℕ}
 use Rattle.rpc_msgs.proofs.WordLengths.{length-opaque}
 use Rattle.gss_server.proofs.BodyLengths.{length-wrap_of, sized}
-use Rattle.gss_server.proofs.calling.seal_body.Goals as goal
+use Rattle.gss_server.proofs.results.seal_body.Goals as goal
 
 pub join_sealed-requires : goal.join_sealed-requires
 join_sealed-requires c =
