@@ -1,10 +1,10 @@
 -- Words of 32 bits as columns of four octets.
 use Rattle.std.proofs.Common.{◌≡◌, ℕ, zero, suc, ◌/◌, ◌%◌, ◌<◌, ◌^◌, List, [], ◌∷◌, get_or, refl, sym, ap, ◌∙◌, arith}
-use Rattle.std.specs.Int.Bits.{bit_xor}
+use Rattle.std.specs.Int.Bits.{bit_xor, xor_assoc, xor_zero_r}
 use Rattle.std.specs.Int.{w32, from_be_bytes, to_be_bytes}
-use Rattle.std.proofs.lemmas.Nat.{xor_shr, xor_mod, be_bytes_4, mod_below}
+use Rattle.std.proofs.lemmas.Nat.{xor_comm, xor_shr, xor_mod, be_bytes_4, mod_below}
 use Rattle.std.proofs.Math.Nat.{div-one}
-use Rattle.aes_cts.specs.State.{octet_of, column_of, add_column, mix_column, inverse_mix_column}
+use Rattle.aes_cts.specs.State.{Column, octet_of, column_of, add_column, mix_column, inverse_mix_column}
 use Rattle.aes_cts.specs.Words.{part0, part1, part2, part3, unpart0, unpart1, unpart2, unpart3}
 
 pub octet_of-xor : (a b shift : ℕ) → octet_of (bit_xor a b) shift ≡ bit_xor (octet_of a shift) (octet_of b shift)
@@ -49,3 +49,18 @@ pub unmixed-parts : (p q r s a b c d : ℕ) → column_of p ≡ unpart0 a → co
 unfolding inverse_mix_column add_column
 unmixed-parts p q r s a b c d hp hq hr hs =
     rw (column_of-xor (bit_xor (bit_xor p q) r) s, column_of-xor (bit_xor p q) r, column_of-xor p q, hp, hq, hr, hs) refl
+
+-- a sum of five in another order
+pub turned_about : (a b c d k : ℕ) → bit_xor (bit_xor (bit_xor (bit_xor k d) c) a) b ≡ bit_xor (bit_xor (bit_xor (bit_xor a b) c) d) k
+turned_about a b c d k =
+    xor_assoc (bit_xor (bit_xor k d) c) a b
+    ∙ xor_comm (bit_xor (bit_xor k d) c) (bit_xor a b)
+    ∙ ap (λ (x : ℕ). bit_xor (bit_xor a b) x) (xor_comm (bit_xor k d) c)
+    ∙ ap (λ (x : ℕ). bit_xor (bit_xor a b) (bit_xor c x)) (xor_comm k d)
+    ∙ sym (xor_assoc (bit_xor a b) c (bit_xor d k))
+    ∙ sym (xor_assoc (bit_xor (bit_xor a b) c) d k)
+
+-- nothing is added by a word of zeros
+pub add_column-zero : (a : Column) → add_column a (column_of 0) ≡ a
+unfolding add_column column_of
+add_column-zero a = rw (xor_zero_r a.row0, xor_zero_r a.row1, xor_zero_r a.row2, xor_zero_r a.row3) refl

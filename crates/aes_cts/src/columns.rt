@@ -87,19 +87,20 @@ fn unsubstitute(a: u32, b: u32, c: u32, d: u32) -> u32
     ])
 }
 
-// MixColumns after SubBytes of the column whose rows stand in these four.
+// A column of a round: MixColumns after SubBytes of the column whose rows stand in these four, with a word of the key.
+// The word of the key comes first in the sum and the last row next: in another order the compiler keeps octets on the stack, and each round waits for them.
 #[inline]
-fn mix(a: u32, b: u32, c: u32, d: u32) -> u32
-    ensures { column_of result ≡ mix_column (sub_column (across (column_of a) (column_of b) (column_of c) (column_of d))) }
+fn mix(key: u32, a: u32, b: u32, c: u32, d: u32) -> u32
+    ensures { column_of result ≡ add_column (mix_column (sub_column (across (column_of a) (column_of b) (column_of c) (column_of d)))) (column_of key) }
 {
-    mix0(octet(a, 24)) ^ mix1(octet(b, 16)) ^ mix2(octet(c, 8)) ^ mix3(octet(d, 0))
+    key ^ mix3(octet(d, 0)) ^ mix2(octet(c, 8)) ^ mix0(octet(a, 24)) ^ mix1(octet(b, 16))
 }
 
 #[inline]
-fn unmix(a: u32, b: u32, c: u32, d: u32) -> u32
-    ensures { column_of result ≡ inverse_mix_column (inverse_sub_column (across (column_of a) (column_of b) (column_of c) (column_of d))) }
+fn unmix(key: u32, a: u32, b: u32, c: u32, d: u32) -> u32
+    ensures { column_of result ≡ add_column (inverse_mix_column (inverse_sub_column (across (column_of a) (column_of b) (column_of c) (column_of d)))) (column_of key) }
 {
-    unmix0(octet(a, 24)) ^ unmix1(octet(b, 16)) ^ unmix2(octet(c, 8)) ^ unmix3(octet(d, 0))
+    key ^ unmix3(octet(d, 0)) ^ unmix2(octet(c, 8)) ^ unmix0(octet(a, 24)) ^ unmix1(octet(b, 16))
 }
 
 // InvMixColumns of a word of the key schedule.
@@ -107,7 +108,7 @@ pub fn unmixed(word: u32) -> u32
     ensures { column_of result ≡ inverse_mix_column (column_of word) }
 {
     let put = substitute(word, word, word, word);
-    unmix(put, put, put, put)
+    unmix(0, put, put, put, put)
 }
 
 #[inline]
@@ -134,13 +135,12 @@ pub fn round(s: Columns, words: &[u32; 60], at: usize) -> Columns
         third: c,
         fourth: d,
     } = s;
-    let mixed = Columns {
-        first: mix(a, b, c, d),
-        second: mix(b, c, d, a),
-        third: mix(c, d, a, b),
-        fourth: mix(d, a, b, c),
-    };
-    add(mixed, words, at)
+    Columns {
+        first: mix(words[at], a, b, c, d),
+        second: mix(words[at + 1], b, c, d, a),
+        third: mix(words[at + 2], c, d, a, b),
+        fourth: mix(words[at + 3], d, a, b, c),
+    }
 }
 
 #[inline]
@@ -175,13 +175,12 @@ pub fn inverse_round(s: Columns, words: &[u32; 60], at: usize) -> Columns
         third: c,
         fourth: d,
     } = s;
-    let mixed = Columns {
-        first: unmix(a, d, c, b),
-        second: unmix(b, a, d, c),
-        third: unmix(c, b, a, d),
-        fourth: unmix(d, c, b, a),
-    };
-    add(mixed, words, at)
+    Columns {
+        first: unmix(words[at], a, d, c, b),
+        second: unmix(words[at + 1], b, a, d, c),
+        third: unmix(words[at + 2], c, b, a, d),
+        fourth: unmix(words[at + 3], d, c, b, a),
+    }
 }
 
 #[inline]

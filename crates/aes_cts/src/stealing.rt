@@ -70,7 +70,7 @@ impl AesKey {
     }
 
     // A block of CBC.
-    #[inline]
+    #[inline(always)]
     fn chain(&self, before: Columns, block: &[u8]) -> Columns
         requires { length block.now ≡ 16 }
         ensures { state_octets (state_of result) ≡ cipher (cipher_key self.now) (add_octets (state_octets (state_of before)) block.now) }
@@ -79,6 +79,7 @@ impl AesKey {
     }
 
     // The first `count` blocks of CBC; answers the last of them.
+    #[inline(never)]
     fn encrypt_blocks(&self, bytes: &mut [u8], count: usize) -> Columns
         requires { 16 * count ≤ length bytes.old }
         ensures bytes { bytes.new ≡ chained (cipher_key self.now) bytes.old count ++ drop (16 * count) bytes.old }
@@ -110,6 +111,7 @@ impl AesKey {
     }
 
     // The first `count` blocks of CBC deciphered.
+    #[inline(never)]
     fn decrypt_blocks(&self, bytes: &mut [u8], count: usize)
         requires { 16 * count ≤ length bytes.old }
         ensures { bytes.new ≡ unchained (cipher_key self.now) bytes.old count ++ drop (16 * count) bytes.old }
