@@ -4,8 +4,8 @@ ghost use Rattle.krb_msgs.specs.PrincipalName.{IsName};
 
 use crate::{
     ApRep, Authenticator, AuthorizationDatum, Checksum, EncTicketPart, EncryptedData,
-    EncryptionKey, HostAddress, KrbError, PrincipalName, Ticket, TransitedEncoding, write_ap_rep,
-    write_authenticator, write_enc_ticket_part, write_krb_error, write_ticket,
+    EncryptionKey, HostAddress, KrbError, PrincipalName, Ticket, TransitedEncoding, read_krb_error,
+    write_ap_rep, write_authenticator, write_enc_ticket_part, write_krb_error, write_ticket,
 };
 use gss_base::Principal;
 use sec_base::{Items, Moment, Octets, Text};
@@ -33,6 +33,9 @@ const AP_REP: &[u8] =
 
 const KRB_ERROR_OF_FEW: &[u8] =
     b"~>0<\xa0\x03\x02\x01\x05\xa1\x03\x02\x01\x1e\xa4\x11\x18\x0f19700101000002Z\xa5\x03\x02\x01\x06\xa6\x03\x02\x01%\xa9\x03\x1b\x01R\xaa\x0e0\x0c\xa0\x03\x02\x01\x01\xa1\x050\x03\x1b\x01a";
+
+const KRB_ERROR: &[u8] =
+    b"~u0s\xa0\x03\x02\x01\x05\xa1\x03\x02\x01\x1e\xa2\x11\x18\x0f19700101000001Z\xa3\x03\x02\x01\x05\xa4\x11\x18\x0f19700101000002Z\xa5\x03\x02\x01\x06\xa6\x03\x02\x01%\xa7\x03\x1b\x01R\xa8\x0e0\x0c\xa0\x03\x02\x01\x01\xa1\x050\x03\x1b\x01a\xa9\x03\x1b\x01R\xaa\x0e0\x0c\xa0\x03\x02\x01\x01\xa1\x050\x03\x1b\x01a\xab\x03\x1b\x01t\xac\x03\x04\x01d";
 
 #[tactic(auto, using(crate::proofs::Named::is_name, crate::proofs::Named::realm_free))]
 fn realm_and_name(alloc: Global) -> Result<(Text, PrincipalName), Fail>
@@ -191,5 +194,28 @@ fn an_error_is_written(rt: HostRuntime) -> Result<(), Fail> {
     };
     let octets = write_krb_error(rt.alloc(), &error)?;
     assert_eq!(rt; octets.as_slice(), KRB_ERROR_OF_FEW);
+    Ok(())
+}
+
+#[test]
+fn a_whole_error_both_ways(rt: HostRuntime) -> Result<(), Fail> {
+    let (crealm, cname) = realm_and_name(rt.alloc())?;
+    let (realm, sname) = realm_and_name(rt.alloc())?;
+    let error = KrbError {
+        ctime: Some(second(1)?),
+        cusec: Some(5),
+        stime: second(2)?,
+        susec: 6,
+        error_code: 37,
+        crealm: Some(crealm),
+        cname: Some(cname),
+        realm,
+        sname,
+        e_text: Some(Text::of(rt.alloc(), "t")?),
+        e_data: Some(Octets::of(rt.alloc(), b"d")?),
+    };
+    let octets = write_krb_error(rt.alloc(), &error)?;
+    assert_eq!(rt; octets.as_slice(), KRB_ERROR);
+    assert!(rt; read_krb_error(rt.alloc(), KRB_ERROR)? == error);
     Ok(())
 }
