@@ -5,3 +5,4 @@ pub mod Fitting
 pub mod Opening
 pub mod Asking
 pub mod HonestRecords
+pub mod HonestMakings

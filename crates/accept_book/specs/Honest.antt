@@ -1,11 +1,11 @@
 -- Records of honest callers: a data call of a context, made with the context's key by its initiator (RFC 2203 sections 5.3.1 and 5.3.2), and
 -- what it is answered.
-use Rattle.std.specs.Prelude.{◌≡◌, ◌⊎◌, ◌≤◌, ℕ, ◌*◌, ◌==◌, true, List, [], ◌∷◌, ◌++◌, take, drop, is_ok, Option, Some, None, Result, Ok, Err}
+use Rattle.std.specs.Prelude.{◌≡◌, ◌⊎◌, ◌<◌, ◌≤◌, ◌^◌, ℕ, ◌*◌, ◌==◌, true, List, [], ◌∷◌, ◌++◌, length, take, drop, is_ok, Option, Some, None, Result, Ok, Err}
 use Rattle.sha1.specs.Sha1.{sha1}
 use Rattle.rpc_msgs.specs.Words.{word, opaque}
-use Rattle.rpc_msgs.specs.Calls.{CallValue, call_at}
+use Rattle.rpc_msgs.specs.Calls.{CallValue, header_octets, call_octets, secure_call, call_at}
 use Rattle.rpc_msgs.specs.Replies.{accepted, reply_octets}
-use Rattle.rpcsec_msgs.specs.Cred.{CredValue, cred_at}
+use Rattle.rpcsec_msgs.specs.Cred.{CredValue, cred_octets, cred_at}
 use Rattle.rpcsec_msgs.specs.Bodies.{IsLong, checked_octets}
 use Rattle.krb_tokens.specs.declared.end.Side.TheVariants.{Initiator}
 use Rattle.krb_tokens.specs.declared.end.TokenEnd.{TokenEnd}
@@ -87,3 +87,23 @@ abbrev pub HonestLaw : Lease → Type 0
 HonestLaw lease =
     (octets : List ℕ) (kept : KeptAnswers) (width n procedure : ℕ) (args : List ℕ) (honest : Honest octets (caller_of lease) n procedure args) (id : ℕ)
     → handle_id honest.cred.context ≡ Some id → kept.looked ≡ Some (Ok lease) → HonestRuled octets kept width lease n procedure args honest.call honest.cred id
+
+-- ---- what an end makes
+
+-- the octets of a data call up to the end of its credential
+abbrev pub data_header : ℕ → ℕ → CredValue → List ℕ
+data_header xid procedure cred = header_octets xid 0x20004753 1 procedure (record { flavour = 6; body = cred_octets cred })
+
+-- a data call with this credential and body, whose verifier an end makes with a number of its tokens
+abbrev pub made_call : TokenEnd → ℕ → ℕ → ℕ → CredValue → List ℕ → List ℕ
+made_call end number xid procedure cred body =
+    call_octets (secure_call xid 0x20004753 1 procedure (cred_octets cred) (record { flavour = 6; body = mic_of end number (data_header xid procedure cred) }) body)
+
+-- what an end makes so is honest, by each service, if its body carries the call's number and arguments; a body by integrity that it makes does
+pub record HonestMade : Type 0 where
+  pub call : (end : TokenEnd) (number xid n procedure service : ℕ) (handle args body : List ℕ) → number < 2 ^ 64 → xid < 2 ^ 32 → n ≤ 0x80000000 → procedure ≤ 4
+      → (service ≡ 1 → procedure ≡ 0) → length handle ≡ 8 → are_args procedure args ≡ true → Carries end service n args body
+      → Honest (made_call end number xid procedure (record { proc = 0; seq = n; service = service; context = handle }) body) end n procedure args
+  pub bare : (end : TokenEnd) (n : ℕ) (args : List ℕ) → Carries end 1 n args args
+  pub by_integrity : (end : TokenEnd) (number n : ℕ) (args : List ℕ) → number < 2 ^ 64 → IsLong (word n ++ args)
+      → Carries end 2 n args (checked_octets (word n ++ args) (mic_of end number (word n ++ args)))

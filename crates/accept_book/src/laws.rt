@@ -1,7 +1,7 @@
 //! Laws over all legal histories.
 ghost use Rattle.accept_book.specs.Asking.{AsksLaws};
 ghost use Rattle.accept_book.specs.Examples.{Examples};
-ghost use Rattle.accept_book.specs.Honest.{HonestLaw};
+ghost use Rattle.accept_book.specs.Honest.{HonestLaw, HonestMade};
 ghost use Rattle.accept_book.specs.Once.{CallsOnce, MarksOnce};
 ghost use Rattle.accept_book.specs.RuleExamples.{RulesByHand};
 
@@ -40,3 +40,8 @@ pub fn honest_records(lease: &Lease)
 {
     let _keys = SealKeys::of(&lease.outcome.key, 24);
 }
+
+/// Calls that an end makes by the protocol are honest: what is said of honest records is said of these.
+pub fn made_calls_are_honest()
+    ensures { HonestMade }
+{}
