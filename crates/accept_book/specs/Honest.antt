@@ -1,6 +1,6 @@
 -- Records of honest callers: a data call of a context, made with the context's key by its initiator (RFC 2203 sections 5.3.1 and 5.3.2), and
 -- what it is answered.
-use Rattle.std.specs.Prelude.{◌≡◌, ◌⊎◌, ◌<◌, ◌≤◌, ◌^◌, ℕ, ◌*◌, ◌==◌, true, List, [], ◌∷◌, ◌++◌, length, take, drop, is_ok, Option, Some, None, Result, Ok, Err}
+use Rattle.std.specs.Prelude.{◌≡◌, ◌⊎◌, ◌<◌, ◌≤◌, ◌^◌, ℕ, ◌*◌, ◌==◌, true, List, [], ◌∷◌, ◌++◌, length, slice_index, take, drop, is_ok, Option, Some, None, Result, Ok, Err}
 use Rattle.sha1.specs.Sha1.{sha1}
 use Rattle.rpc_msgs.specs.Words.{word, opaque}
 use Rattle.rpc_msgs.specs.Calls.{CallValue, header_octets, call_octets, secure_call, call_at}
@@ -10,6 +10,7 @@ use Rattle.rpcsec_msgs.specs.Bodies.{IsLong, checked_octets}
 use Rattle.krb_tokens.specs.declared.end.Side.TheVariants.{Initiator}
 use Rattle.krb_tokens.specs.declared.end.TokenEnd.{TokenEnd}
 use Rattle.krb_tokens.specs.Mic.{mic_of}
+use Rattle.krb_tokens.specs.Wrap.{wrap_of}
 use Rattle.krb_tokens.specs.Tokens.{IsMicOf, IsWrapOf}
 use Rattle.spnego_core.specs.Outcome.{token_end}
 use Rattle.accept_book.specs.Served.{are_args, result_of}
@@ -90,6 +91,9 @@ HonestLaw lease =
 
 -- ---- what an end makes
 
+abbrev pub IsOctets : List ℕ → Type 0
+IsOctets octets = (i : ℕ) → slice_index octets i < 256
+
 -- the octets of a data call up to the end of its credential
 abbrev pub data_header : ℕ → ℕ → CredValue → List ℕ
 data_header xid procedure cred = header_octets xid 0x20004753 1 procedure (record { flavour = 6; body = cred_octets cred })
@@ -99,7 +103,7 @@ abbrev pub made_call : TokenEnd → ℕ → ℕ → ℕ → CredValue → List �
 made_call end number xid procedure cred body =
     call_octets (secure_call xid 0x20004753 1 procedure (cred_octets cred) (record { flavour = 6; body = mic_of end number (data_header xid procedure cred) }) body)
 
--- what an end makes so is honest, by each service, if its body carries the call's number and arguments; a body by integrity that it makes does
+-- a call that an end makes so is honest if its body carries its number and arguments; the bodies that an end makes do, by each service
 pub record HonestMade : Type 0 where
   pub call : (end : TokenEnd) (number xid n procedure service : ℕ) (handle args body : List ℕ) → number < 2 ^ 64 → xid < 2 ^ 32 → n ≤ 0x80000000 → procedure ≤ 4
       → (service ≡ 1 → procedure ≡ 0) → length handle ≡ 8 → are_args procedure args ≡ true → Carries end service n args body
@@ -107,3 +111,5 @@ pub record HonestMade : Type 0 where
   pub bare : (end : TokenEnd) (n : ℕ) (args : List ℕ) → Carries end 1 n args args
   pub by_integrity : (end : TokenEnd) (number n : ℕ) (args : List ℕ) → number < 2 ^ 64 → IsLong (word n ++ args)
       → Carries end 2 n args (checked_octets (word n ++ args) (mic_of end number (word n ++ args)))
+  pub by_privacy : (end : TokenEnd) (number n : ℕ) (confounder args : List ℕ) → number < 2 ^ 64 → length confounder ≡ 16 → IsOctets (confounder ++ (word n ++ args))
+      → IsLong (wrap_of end number true confounder (word n ++ args)) → Carries end 3 n args (opaque (wrap_of end number true confounder (word n ++ args)))
