@@ -3,3 +3,6 @@ pub mod Steps
 pub mod Onces
 pub mod Fitting
 pub mod Opening
+pub mod Asking
+pub mod HonestRecords
+pub mod HonestMakings

@@ -1,7 +1,12 @@
 //! Laws over all legal histories.
+ghost use Rattle.accept_book.specs.Asking.{AsksLaws};
 ghost use Rattle.accept_book.specs.Examples.{Examples};
+ghost use Rattle.accept_book.specs.Honest.{HonestLaw, HonestMade};
 ghost use Rattle.accept_book.specs.Once.{CallsOnce, MarksOnce};
 ghost use Rattle.accept_book.specs.RuleExamples.{RulesByHand};
+
+use crate::book_answer::Lease;
+use krb_derive::SealKeys;
 
 /// No number of a context stands twice in a legal history.
 pub fn calls_once()
@@ -21,4 +26,22 @@ pub fn histories_by_hand()
 /// Rules of records by hand: what single records are answered, given what was answered to the questions that they ask.
 pub fn rules_by_hand()
     ensures { RulesByHand }
+{}
+
+/// No record asks more than two questions, and one that is refused before its number is judged asks for no number.
+pub fn records_ask_in_order()
+    ensures { AsksLaws }
+{}
+
+/// Does nothing that stays; its contract says what an honest record of a context is answered: its number is asked for, and its call is done
+/// exactly where that is admitted.
+pub fn honest_records(lease: &Lease)
+    ensures { HonestLaw lease.now }
+{
+    let _keys = SealKeys::of(&lease.outcome.key, 24);
+}
+
+/// Calls that an end makes by the protocol are honest: what is said of honest records is said of these.
+pub fn made_calls_are_honest()
+    ensures { HonestMade }
 {}

@@ -1,6 +1,6 @@
 //! The rules of creation: INIT and CONTINUE_INIT.
 
-ghost use Rattle.std.specs.Prelude.{◌≡◌, ◌≤◌, IsTrue, length, map, is_some, if◌then◌else◌, None, Some, Ok, take, IfOk};
+ghost use Rattle.std.specs.Prelude.{◌≡◌, ◌<◌, ◌≤◌, IsTrue, length, map, is_some, if◌then◌else◌, None, Some, Ok, take, IfOk};
 ghost use Rattle.rpc_msgs.specs.Words.{word};
 ghost use Rattle.rpc_msgs.specs.Replies.{accepted, reply_octets};
 ghost use Rattle.rpcsec_msgs.specs.Cred.{cred_value};
@@ -12,7 +12,8 @@ ghost use Rattle.accept_book.specs.RecordShown.{decided, plain, going, settled, 
 ghost use Rattle.accept_book.specs.RecordRule.{stepped, ask_step, continued, token_ruling, creation_ruling};
 ghost use Rattle.gss_server.specs.Answers.{Says, Fits};
 ghost use Rattle.gss_server.specs.Hearing.{shown, handle_or_none};
-ghost use Rattle.gss_server.specs.Telling.{Gains, told_of, token_size};
+ghost use Rattle.accept_book.specs.Booking.{token_size};
+ghost use Rattle.gss_server.specs.Telling.{Gains, told_of};
 
 use crate::gate::Gate;
 use crate::heard::Heard;
@@ -81,13 +82,14 @@ fn say_going(alloc: Global, heard: &Heard<'_>, id: u64, token: &[u8]) -> Said
 {
     match result_octets(alloc, Some(id), 1, 0, 0, token) {
         Ok(result) => say_creation(alloc, heard, 21, result.as_slice()),
-        Err(_) => say_no_memory(21),
+        Err(_) => say_no_memory(),
     }
 }
 
 /// A creation's result without a verifier.
 fn say_creation(alloc: Global, heard: &Heard<'_>, rule: u8, body: &[u8]) -> Said
-    requires { length body.now ≤ 130000 }
+    requires rule { 0 < rule }
+    requires size { length body.now ≤ 130000 }
     ensures says { Says result.reply result.rule (decided rule (plain (shown heard.entry.now) 0 0 0 body.now)) }
     ensures fits { Fits result.reply }
 {
@@ -111,7 +113,7 @@ fn say_settled(alloc: Global, heard: &Heard<'_>, lease: &Lease, token: &[u8]) ->
 {
     match result_octets(alloc, Some(lease.id), 0, 0, heard.width, token) {
         Ok(result) => say_window(alloc, heard, lease, result.as_slice()),
-        Err(_) => say_no_memory(22),
+        Err(_) => say_no_memory(),
     }
 }
 
@@ -161,7 +163,7 @@ fn say_refused(alloc: Global, heard: &Heard<'_>, refusal: &BookRefusal) -> Said
     let (major, minor) = status_of(refusal);
     match result_octets(alloc, None, major, minor, 0, reject(refusal)) {
         Ok(result) => say_creation(alloc, heard, 20, result.as_slice()),
-        Err(_) => say_no_memory(20),
+        Err(_) => say_no_memory(),
     }
 }
 
@@ -176,7 +178,7 @@ fn say_stepped(alloc: Global, heard: &Heard<'_>, answer: &NegAnswer) -> Said
         NegAnswer::Settled { lease, token } => say_settled(alloc, heard, lease, token.as_slice()),
         NegAnswer::Refused(BookRefusal::NoContext) => say_denied(alloc, heard, 6, CRED_PROBLEM),
         NegAnswer::Refused(refusal) => say_refused(alloc, heard, refusal),
-        NegAnswer::NoMemory => say_no_memory(0),
+        NegAnswer::NoMemory => say_no_memory(),
     }
 }
 
@@ -201,6 +203,7 @@ fn ask_for_step<G: Gate>(
     ensures fits { Fits result.said.reply }
     ensures exact { length (ask_step (shown heard.entry.now) id token.now result.negotiated).asked ≡ (if is_some result.negotiated then 1 else 0) }
     ensures tells { G.tells gate.new ≡ G.tells gate.old }
+    ensures limits { G.limits gate.new ≡ G.limits gate.old }
     ensures told { IsTrue (G.tells gate.old) → 1 ≤ G.room gate.old → Gains (G.room gate.old) (G.room gate.new) (G.told gate.old) (G.told gate.new) (map told_of (ask_step (shown heard.entry.now) id token.now result.negotiated).asked) }
 {
     let draws = step_draws(&heard.draws);
@@ -224,6 +227,7 @@ fn say_continued<G: Gate>(
     ensures fits { Fits result.said.reply }
     ensures exact { length (continued (shown heard.entry.now) token.now result.negotiated id).asked ≡ (if is_some result.negotiated then 1 else 0) }
     ensures tells { G.tells gate.new ≡ G.tells gate.old }
+    ensures limits { G.limits gate.new ≡ G.limits gate.old }
     ensures told { IsTrue (G.tells gate.old) → 1 ≤ G.room gate.old → Gains (G.room gate.old) (G.room gate.new) (G.told gate.old) (G.told gate.new) (map told_of (continued (shown heard.entry.now) token.now result.negotiated id).asked) }
 {
     match id {
@@ -244,6 +248,7 @@ fn say_token<G: Gate>(
     ensures fits { Fits result.said.reply }
     ensures exact { length (token_ruling (shown heard.entry.now) (cred_value cred.now) result.negotiated (Ok token.now)).asked ≡ (if is_some result.negotiated then 1 else 0) }
     ensures tells { G.tells gate.new ≡ G.tells gate.old }
+    ensures limits { G.limits gate.new ≡ G.limits gate.old }
     ensures told { IsTrue (G.tells gate.old) → 1 ≤ G.room gate.old → Gains (G.room gate.old) (G.room gate.new) (G.told gate.old) (G.told gate.new) (map told_of (token_ruling (shown heard.entry.now) (cred_value cred.now) result.negotiated (Ok token.now)).asked) }
 {
     if cred.proc == INIT {
@@ -264,6 +269,7 @@ pub(crate) fn say_creating<G: Gate>(
     ensures fits { Fits result.said.reply }
     ensures exact { length (creation_ruling (shown heard.entry.now) (cred_value cred.now) result.negotiated).asked ≡ (if is_some result.negotiated then 1 else 0) }
     ensures tells { G.tells gate.new ≡ G.tells gate.old }
+    ensures limits { G.limits gate.new ≡ G.limits gate.old }
     ensures told { IsTrue (G.tells gate.old) → 1 ≤ G.room gate.old → Gains (G.room gate.old) (G.room gate.new) (G.told gate.old) (G.told gate.new) (map told_of (creation_ruling (shown heard.entry.now) (cred_value cred.now) result.negotiated).asked) }
 {
     let call = &heard.call;

@@ -3,6 +3,7 @@
 
 mod answer;
 mod answering;
+mod book_gate;
 mod calling;
 mod connection;
 #[cfg(test)]
@@ -10,6 +11,7 @@ mod context_tests;
 mod creating;
 mod desk;
 mod gate;
+mod gate_answer;
 mod heard;
 mod list_gate;
 mod looking;
@@ -28,6 +30,7 @@ pub use answering::answer_record;
 pub use connection::{ConnEnd, Served, serve_link};
 pub use desk::{Desk, DeskEnd, serve_desk};
 pub use gate::Gate;
-pub use list_gate::{GateAnswer, ListGate, Step};
+pub use gate_answer::{GateAnswer, Step};
+pub use list_gate::ListGate;
 pub use server::{ServerEnd, run_server};
 pub use told::{StepTold, Told};
