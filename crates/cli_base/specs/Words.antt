@@ -1,5 +1,5 @@
 -- The words of a command line. An option is a name that begins with `-`, and a value behind it that doesn't. The other words are plain.
-use Rattle.std.specs.Prelude.{ℕ, Bool, true, false, ◌&&◌, not, nat_eq, List, [], ◌∷◌, Option, Some, None, if◌then◌else◌}
+use Rattle.std.specs.Prelude.{ℕ, Bool, true, false, ◌&&◌, not, nat_eq, List, [], ◌∷◌, Option, Some, None, if◌then◌else◌, map}
 use denote.Ref.{Bor}
 use lib.Pointwise.{pointwise}
 
@@ -11,9 +11,9 @@ abbrev pub is_one_of : List ℕ → List (List ℕ) → Bool
 is_one_of word [] = false
 is_one_of word (one ∷ words) = if pointwise nat_eq one word then true else is_one_of word words
 
-abbrev pub is_name : List ℕ → List (Bor (List ℕ)) → Bool
-is_name word [] = false
-is_name word (name ∷ names) = if pointwise nat_eq name.now word then true else is_name word names
+-- the texts that are lent
+abbrev pub texts : List (Bor (List ℕ)) → List (List ℕ)
+texts names = map (λ name. name.now) names
 
 -- a value stands first
 abbrev pub has_value : List (List ℕ) → Bool
@@ -21,11 +21,11 @@ has_value [] = false
 has_value (word ∷ words) = not (is_dashed word)
 
 -- a name that doesn't come again, with its value behind it
-abbrev pub is_option : List (Bor (List ℕ)) → List ℕ → List (List ℕ) → Bool
-is_option names word behind = is_name word names && (has_value behind && not (is_one_of word behind))
+abbrev pub is_option : List (List ℕ) → List ℕ → List (List ℕ) → Bool
+is_option names word behind = is_one_of word names && (has_value behind && not (is_one_of word behind))
 
 -- each word that begins with `-` is one of the names, has a value behind it, and stands there once
-abbrev pub are_words : List (Bor (List ℕ)) → List (List ℕ) → Bool
+abbrev pub are_words : List (List ℕ) → List (List ℕ) → Bool
 are_words names [] = true
 are_words names (word ∷ words) = (if is_dashed word then is_option names word words else true) && are_words names words
 

@@ -2,7 +2,7 @@
 
 ghost use Rattle.std.specs.Prelude.{◌≡◌, false, length, slice_get};
 ghost use Rattle.std.specs.Option.{option_map};
-ghost use Rattle.cli_base.specs.Words.{is_dashed, is_one_of, is_name, has_value, is_option, are_words, value_of, first_word, plain_of};
+ghost use Rattle.cli_base.specs.Words.{is_dashed, is_one_of, texts, has_value, is_option, are_words, value_of, first_word, plain_of};
 
 use sec_base::Text;
 
@@ -18,7 +18,7 @@ fn is_dashed(word: &str) -> bool
 
 /// Whether a word is one of these names.
 fn is_name(word: &str, names: &[&str]) -> bool
-    ensures { result ≡ is_name word.now names.now }
+    ensures { result ≡ is_one_of word.now (texts names.now) }
 {
     for name in names {
         if *name == word {
@@ -52,7 +52,7 @@ fn has_value(words: &[Text]) -> bool
 
 /// Whether a word is an option: a name that doesn't come again, and its value behind it.
 fn is_option(word: &str, behind: &[Text], names: &[&str]) -> bool
-    ensures { result ≡ is_option names.now word.now behind.now }
+    ensures { result ≡ is_option (texts names.now) word.now behind.now }
 {
     is_name(word, names) && has_value(behind) && !is_one_of(word, behind)
 }
@@ -60,7 +60,7 @@ fn is_option(word: &str, behind: &[Text], names: &[&str]) -> bool
 /// Whether each word that begins with `-` is one of these names, stands there once, and has a value behind it: a word that doesn't
 /// begin with `-`.
 pub fn are_words(words: &[Text], names: &[&str]) -> bool
-    ensures { result ≡ are_words names.now words.now }
+    ensures { result ≡ are_words (texts names.now) words.now }
 {
     for (at, word) in words.iter().enumerate() {
         if is_dashed(word.as_str()) && !is_option(word.as_str(), &words[at + 1..], names) {
