@@ -9,3 +9,4 @@ pub mod StatusLines
 pub mod EmptyKeytab
 pub mod DeskRuns
 pub mod ServedLinks
+pub mod Wanting
