@@ -2,6 +2,7 @@
 ghost use Rattle.std.specs.Prelude.{⊤, ◌≡◌, false, List, [], ◌∷◌, ◌≢◌, ℕ, ◌+◌, ◌<◌, ◌≤◌, ◌↔◌, Option, IfOk, IfSome, IsSome, IsOk, IfErr, OnErr, None, Some, Ok, Err, length, max, reverse};
 ghost use Rattle.gss_base.specs.Mech.{is_kerberos};
 ghost use Rattle.spnego_core.specs.Accepting.{IsSettled, accept_step};
+ghost use Rattle.spnego_core.specs.Sizes.{ShortAccept};
 ghost use Rattle.context_table.specs.Places.{slot_at, live_of, phase_of, KeepsOthers, Marks, HasValue, IsHeld, IsPast};
 ghost use Rattle.accept_book.specs.Phases.{PhaseBy};
 ghost use Rattle.accept_book.specs.Stepping.{SameWindows};
@@ -11,7 +12,7 @@ ghost use Rattle.accept_book.specs.Answers.{refused, or_refused, after, admitted
 ghost use Rattle.accept_book.specs.Entering.{auth_of, auth_after, given, gained};
 ghost use Rattle.accept_book.specs.Replays.{Keeps, Replays};
 ghost use Rattle.accept_book.specs.Legal.{Legal};
-ghost use Rattle.accept_book.specs.Booking.{names_of, by_outcome, Changed, change_refused, Fits, AllFit, OthersFit, StepFits, mark_of, settled_of, stands_of, raised, by_step, begun, opened_by, gone_on_by, taken, negotiated, after_refusal, refusal_of_mark, lease_refused, FreeFor, has_key, same_key};
+ghost use Rattle.accept_book.specs.Booking.{names_of, by_outcome, Changed, change_refused, Fits, AllFit, OthersFit, StepFits, token_size, mark_of, settled_of, stands_of, raised, by_step, begun, opened_by, gone_on_by, taken, negotiated, after_refusal, refusal_of_mark, lease_refused, FreeFor, has_key, same_key};
 
 use crate::acceptance::{Core, blank};
 use crate::answer::{AdmitRefusal, LookRefusal, MarkRefusal, Next, RoomRefusal};
@@ -146,9 +147,11 @@ fn go_on(
     requires first { IsSome mark → auth_of id core.old.history ≡ false }
     requires fits { Fits end (auth_after id mark core.old.history) }
     requires others { OthersFit id core.old }
+    requires short { length token ≤ 65536 }
     ensures answer { (past : Option ℕ) → IsPast core.old.table core.old.cache.greatest past → result.answer ≡ (taken (stands_of core.old) id past mark (AcceptStep.More end token)).answer }
     ensures history { (past : Option ℕ) → IsPast core.old.table core.old.cache.greatest past → core.new.history ≡ (taken (stands_of core.old) id past mark (AcceptStep.More end token)).history }
     ensures contexts { (past : Option ℕ) → IsPast core.old.table core.old.cache.greatest past → Changed core.old.table (taken (stands_of core.old) id past mark (AcceptStep.More end token)).change core.new.table }
+    ensures size { token_size result.answer ≤ 65536 }
     ensures receipts { given result.receipts ≡ gained (length core.old.history) core.new.history }
     ensures windows { SameWindows core.old.table core.new.table }
     ensures told { result.answer ≢ NegAnswer.NoMemory }
@@ -181,9 +184,11 @@ fn settle(
     requires first { IsSome mark → auth_of id core.old.history ≡ false }
     requires fits { auth_after id mark core.old.history ≡ is_kerberos outcome.mech }
     requires others { OthersFit id core.old }
+    requires short { length token ≤ 65536 }
     ensures answer { (past : Option ℕ) → IsPast core.old.table core.old.cache.greatest past → result.answer ≡ (taken (stands_of core.old) id past mark (AcceptStep.Done outcome ends token)).answer }
     ensures history { (past : Option ℕ) → IsPast core.old.table core.old.cache.greatest past → core.new.history ≡ (taken (stands_of core.old) id past mark (AcceptStep.Done outcome ends token)).history }
     ensures contexts { (past : Option ℕ) → IsPast core.old.table core.old.cache.greatest past → Changed core.old.table (taken (stands_of core.old) id past mark (AcceptStep.Done outcome ends token)).change core.new.table }
+    ensures size { token_size result.answer ≤ 65536 }
     ensures receipts { given result.receipts ≡ gained (length core.old.history) core.new.history }
     ensures windows { SameWindows core.old.table core.new.table }
     ensures told { result.answer ≢ NegAnswer.NoMemory }
@@ -224,9 +229,11 @@ fn finish(
     requires first { IsSome mark → auth_of id core.old.history ≡ false }
     requires fits { StepFits step (auth_after id mark core.old.history) }
     requires others { OthersFit id core.old }
+    requires short { ShortAccept step }
     ensures answer { (past : Option ℕ) → IsPast core.old.table core.old.cache.greatest past → result.answer ≡ (taken (stands_of core.old) id past mark step).answer }
     ensures history { (past : Option ℕ) → IsPast core.old.table core.old.cache.greatest past → core.new.history ≡ (taken (stands_of core.old) id past mark step).history }
     ensures contexts { (past : Option ℕ) → IsPast core.old.table core.old.cache.greatest past → Changed core.old.table (taken (stands_of core.old) id past mark step).change core.new.table }
+    ensures size { token_size result.answer ≤ 65536 }
     ensures receipts { given result.receipts ≡ gained (length core.old.history) core.new.history }
     ensures windows { SameWindows core.old.table core.new.table }
     ensures told { result.answer ≢ NegAnswer.NoMemory }
@@ -247,9 +254,11 @@ fn enter(core: &mut Core<AcceptEnd, Outcome>, id: Option<u64>, step: AcceptStep)
     requires held { IfSome id (λ id. IsHeld (slot_at core.old.table id)) }
     requires fits { StepFits step (auth_of id core.old.history) }
     requires others { OthersFit id core.old }
+    requires short { ShortAccept step }
     ensures answer { (past : Option ℕ) → IsPast core.old.table core.old.cache.greatest past → result.answer ≡ (taken (stands_of core.old) id past (mark_of step) (settled_of step)).answer }
     ensures history { (past : Option ℕ) → IsPast core.old.table core.old.cache.greatest past → core.new.history ≡ (taken (stands_of core.old) id past (mark_of step) (settled_of step)).history }
     ensures contexts { (past : Option ℕ) → IsPast core.old.table core.old.cache.greatest past → Changed core.old.table (taken (stands_of core.old) id past (mark_of step) (settled_of step)).change core.new.table }
+    ensures size { token_size result.answer ≤ 65536 }
     ensures receipts { given result.receipts ≡ gained (length core.old.history) core.new.history }
     ensures windows { SameWindows core.old.table core.new.table }
     ensures told { result.answer ≢ NegAnswer.NoMemory }
@@ -301,6 +310,7 @@ fn take_step(
         → Changed core.old.table (by_step (stands_of core.old) id past (accept_step setup.now end token.now now draws.now)).change core.new.table }
     ensures memory { result.answer ≡ NegAnswer.NoMemory → core.new.history ≡ after_refusal id core.old.history }
     ensures forgotten { result.answer ≡ NegAnswer.NoMemory → Changed core.old.table (change_refused id) core.new.table }
+    ensures size { token_size result.answer ≤ 65536 }
     ensures receipts { given result.receipts ≡ gained (length core.old.history) core.new.history }
     ensures windows { SameWindows core.old.table core.new.table }
     ensures keeps { Keeps core.old core.new }
@@ -331,6 +341,7 @@ fn begin(
         → Changed core.old.table (begun setup.now (stands_of core.old) past token.now now draws.now).change core.new.table }
     ensures memory { result.answer ≡ NegAnswer.NoMemory → core.new.history ≡ core.old.history }
     ensures forgotten { result.answer ≡ NegAnswer.NoMemory → Changed core.old.table (change_refused None) core.new.table }
+    ensures size { token_size result.answer ≤ 65536 }
     ensures receipts { given result.receipts ≡ gained (length core.old.history) core.new.history }
     ensures windows { SameWindows core.old.table core.new.table }
     ensures keeps { Keeps core.old core.new }
@@ -373,6 +384,7 @@ fn proceed(
         → Changed core.old.table (opened_by setup.now (stands_of core.old) id past token.now now draws.now).change core.new.table }
     ensures memory { result.answer ≡ NegAnswer.NoMemory → core.new.history ≡ after_refusal (Some id) core.old.history }
     ensures forgotten { result.answer ≡ NegAnswer.NoMemory → Changed core.old.table (change_refused (Some id)) core.new.table }
+    ensures size { token_size result.answer ≤ 65536 }
     ensures receipts { given result.receipts ≡ gained (length core.old.history) core.new.history }
     ensures windows { SameWindows core.old.table core.new.table }
     ensures keeps { Keeps core.old core.new }
@@ -406,6 +418,7 @@ fn continue_with(
         → Changed core.old.table (gone_on_by (standing id core.old.history) setup.now (stands_of core.old) id past token.now now draws.now).change core.new.table }
     ensures memory { result.answer ≡ NegAnswer.NoMemory → core.new.history ≡ after_refusal (Some id) core.old.history }
     ensures forgotten { result.answer ≡ NegAnswer.NoMemory → Changed core.old.table (change_refused (Some id)) core.new.table }
+    ensures size { token_size result.answer ≤ 65536 }
     ensures receipts { given result.receipts ≡ gained (length core.old.history) core.new.history }
     ensures windows { SameWindows core.old.table core.new.table }
     ensures keeps { Keeps core.old core.new }
@@ -519,6 +532,7 @@ impl Book {
             → Changed self.old.core.table (negotiated self.old.setup (raised self.old.core now) id past token.now now draws.now).change self.new.core.table }
         ensures memory { result.answer ≡ NegAnswer.NoMemory → self.new.core.history ≡ after_refusal id self.old.core.history }
         ensures forgotten { result.answer ≡ NegAnswer.NoMemory → Changed self.old.core.table (change_refused id) self.new.core.table }
+        ensures size { token_size result.answer ≤ 65536 }
         ensures receipts { given result.receipts ≡ gained (length self.old.core.history) self.new.core.history }
         ensures windows { SameWindows self.old.core.table self.new.core.table }
         ensures notes { NotesMoment self.old self.new now }
