@@ -1,5 +1,5 @@
 -- A book: the contexts of an acceptor, each negotiating by an end of its own or complete with its outcome.
-use Rattle.std.specs.Prelude.{◌≡◌, ◌⊎◌, ◌≢◌, ℕ, ◌+◌, ◌<◌, ◌≤◌, Bool, true, false, nat_eq, nat_lt, nat_le, ◌&&◌, max, is_none, is_some, if◌then◌else◌, List, [], ◌∷◌, ◌++◌, length, Option, None, Some, Result, Ok, Err, IfOk}
+use Rattle.std.specs.Prelude.{◌≡◌, ◌⊎◌, ◌≢◌, ℕ, ◌+◌, ◌<◌, ◌≤◌, Bool, true, false, nat_eq, nat_lt, nat_le, ◌==◌, ◌&&◌, max, is_none, is_some, if◌then◌else◌, List, [], ◌∷◌, ◌++◌, length, Option, None, Some, Result, Ok, Err, IfOk}
 use lib.Pointwise.{pointwise}
 use Rattle.sha1.specs.Sha1.{sha1}
 use Rattle.gss_base.specs.declared.mark.Mark.{Mark}
