@@ -177,6 +177,18 @@ lives-opened naming wide posted h table cache other r some =
       | inr early ↦ omega (arith, early)
     ]
 
+unknown-none : {N S : Type 0} (naming : Naming S) (wide : ℕ) (slot : Option (Slot N S)) (ns : List ℕ) → SameSlot naming wide slot Unknown ns → slot ≡ None
+unknown-none naming wide None ns same = refl
+unknown-none naming wide (Some x) ns same = absurd same.state
+
+-- the next id has no slot
+pub unopened : {N S : Type 0} (naming : Naming S) (wide posted : ℕ) (h : List Entry) (table : Places N S) (cache : Cached)
+    → Replays naming wide posted h table cache → slot_at table (opened h + 1) ≡ None
+unopened naming wide posted h table cache r =
+    let s : Silent (opened h + 1) h = silent wide h (opened h + 1) r.legal (omega arith) in
+    unknown-none naming wide (slot_at table (opened h + 1)) (numbers (opened h + 1) h)
+    (subst (λ (st : Standing). SameSlot naming wide (slot_at table (opened h + 1)) st (numbers (opened h + 1) h)) s.stands (r.slots (opened h + 1)))
+
 -- an authenticator
 pub replays-auth : {N S : Type 0} (naming : Naming S) (wide posted : ℕ) (h : List Entry) (table : Places N S) (cache after : Cached) (id : ℕ) (mark : Mark) (now : ℕ)
     → Replays naming wide posted h table cache → MayAuth h id mark now → now ≡ after.greatest

@@ -35,15 +35,15 @@ use Rattle.spnego_core.specs.declared.accept_end.Answered.TheVariants as afters
 use Rattle.context_table.specs.declared.slot.Slot.{Slot}
 use Rattle.context_table.specs.declared.slot.SlotState.{SlotState}
 use Rattle.context_table.specs.declared.slot.SlotState.TheVariants.{Negotiating, Held, Complete}
-use Rattle.context_table.specs.Slots.{state_taken, is_whole, HasState}
-use Rattle.context_table.specs.Places.{slot_at, state_of, is_complete, Marks}
+use Rattle.context_table.specs.Slots.{is_whole, HasState}
+use Rattle.context_table.specs.Places.{slot_at, is_complete, Marks}
 use Rattle.krb_derive.specs.declared.key.Key.{Key}
 use Rattle.accept_book.specs.Naming.{IsValueAt}
 use Rattle.accept_book.specs.declared.entry.Entry.{Entry}
 use Rattle.accept_book.specs.History.{has_auth}
 use Rattle.accept_book.specs.Entering.{id_of}
 use Rattle.accept_book.specs.Replays.{Accepting}
-use Rattle.accept_book.specs.Stepping.{Stays}
+use Rattle.accept_book.specs.Stepping.{Context, context_of, Stays}
 use Rattle.accept_book.specs.Booking.{Fits, FitsState, FitsSlot, AllFit, OthersFit, AnsweredFits, StepFits, Stands, mark_of, settled_of, by_step, refuses, same_key, state_key, has_key, taken as taken_with}
 use Rattle.accept_book.specs.declared.book_answer.BookRefusal.TheVariants as refusals
 use Rattle.spnego_core.specs.declared.accept_end.AcceptStep.{AcceptStep}
@@ -123,20 +123,16 @@ fits_after (afters.Done outcome lasts token) auth fits = fits
 
 -- ---- a book after a step
 
-none_state : (end : AcceptEnd) → None ≡ Some end → ⊥
-none_state end e = cc
+none_context : (x : Context AcceptEnd Outcome) → ◌≡◌ {A = Option (Context AcceptEnd Outcome)} None (Some x) → ⊥
+none_context x e = cc
 
-some_state : {a b : AcceptEnd} → Some a ≡ Some b → a ≡ b
-some_state e = cc
+some_context : {x y : Context AcceptEnd Outcome} → ◌≡◌ {A = Option (Context AcceptEnd Outcome)} (Some x) (Some y) → x.state ≡ y.state
+some_context e = cc
 
-state_fits : (state : SlotState AcceptEnd Outcome) (end : AcceptEnd) (auth : Bool) → state_taken state ≡ Some end → Fits end auth → FitsState state auth
-state_fits (Negotiating held) end auth e fits = subst (λ (x : AcceptEnd). Fits x auth) (sym (some_state e)) fits
-state_fits Held end auth e fits = absurd (none_state end e)
-state_fits (Complete value) end auth e fits = absurd (none_state end e)
-
-pub slot_fits : (o : Option (Slot AcceptEnd Outcome)) (end : AcceptEnd) (auth : Bool) → state_of o ≡ Some end → Fits end auth → FitsSlot o auth
-slot_fits None end auth e fits = absurd (none_state end e)
-slot_fits (Some slot) end auth e fits = state_fits slot.state end auth e fits
+pub slot_fits : (o : Option (Slot AcceptEnd Outcome)) (end : AcceptEnd) (until : ℕ) (auth : Bool)
+    → context_of o ≡ Some (record { state = Negotiating end; ends = until }) → Fits end auth → FitsSlot o auth
+slot_fits None end until auth e fits = absurd (none_context _ e)
+slot_fits (Some slot) end until auth e fits = subst (λ (x : SlotState AcceptEnd Outcome). FitsState x auth) (sym (some_context e)) fits
 
 no_other : (id : Option ℕ) (h : List Entry) (at other : ℕ) → at ≡ id_of id h → at ≢ other → id ≢ Some other
 no_other None h at other e ne same = let z : None ≡ Some other = same in cc

@@ -6,3 +6,5 @@ pub mod Opening
 pub mod Asking
 pub mod HonestRecords
 pub mod HonestMakings
+pub mod Contexts
+pub mod Changes

@@ -17,7 +17,9 @@ use Rattle.accept_book.specs.declared.book_answer.BookRefusal.TheVariants as ref
 use Rattle.accept_book.specs.History.{Standing, Unknown, Open, Whole, Over, taken_of}
 use Rattle.accept_book.specs.Answers.{taken_by}
 use Rattle.accept_book.specs.Entering.{mark_refused, finished, noted}
-use Rattle.accept_book.specs.Booking.{Stands, Outcomes, answer_with, next_of, mark_of, settled_of, refusal_of_mark, refuses, by_mark, taken, by_step, later_step, opened_by}
+use Rattle.accept_book.specs.Stepping.{ends_at, context_after}
+use Rattle.accept_book.proofs.Contexts.{same_ends}
+use Rattle.accept_book.specs.Booking.{Becomes, Stands, Outcomes, answer_with, next_of, mark_of, settled_of, refusal_of_mark, refuses, by_mark, taken, by_step, later_step, opened_by}
 
 -- ---- the id that is past is the same
 
@@ -58,21 +60,26 @@ past_held old new id now (Some first) held others h =
 -- ---- what a step comes to hangs on history, room for marks and greatest moment alone
 
 by_mark_same : (a b : Stands) (id : ℕ) (past : Option ℕ) (mark : Option Mark) (step : AcceptStep) (refusal : Option MarkRefusal) → a.history ≡ b.history
-    → a.greatest ≡ b.greatest → by_mark a (Some id) past mark step refusal ≡ by_mark b (Some id) past mark step refusal
-by_mark_same a b id past mark step (Some refusal) h g = ap (λ (xs : List Entry). refuses (Some id) xs (refusal_of_mark refusal)) h
-by_mark_same a b id past mark step None h g =
-    λ i. record { answer = answer_with id step; history = finished false (next_of step) id (g i) (noted mark id (g i) (h i)) }
+    → a.greatest ≡ b.greatest → ends_at (slot_at a.table id) ≡ ends_at (slot_at b.table id)
+    → by_mark a (Some id) past mark step refusal ≡ by_mark b (Some id) past mark step refusal
+by_mark_same a b id past mark step (Some refusal) h g u = ap (λ (xs : List Entry). refuses (Some id) xs (refusal_of_mark refusal)) h
+by_mark_same a b id past mark step None h g u = λ i. record {
+  answer = answer_with id step;
+  history = finished false (next_of step) id (g i) (noted mark id (g i) (h i));
+  change = Becomes None id (context_after (u i) (next_of step));
+}
 
 taken_same : (a b : Stands) (id : ℕ) (past : Option ℕ) (mark : Option Mark) (step : AcceptStep) → a.history ≡ b.history → a.capacity ≡ b.capacity
-    → a.greatest ≡ b.greatest → taken a (Some id) past mark step ≡ taken b (Some id) past mark step
-taken_same a b id past mark step h c g =
-    by_mark_same a b id past mark step (mark_refused a.capacity a.greatest (taken_of a.history) mark) h g
+    → a.greatest ≡ b.greatest → ends_at (slot_at a.table id) ≡ ends_at (slot_at b.table id)
+    → taken a (Some id) past mark step ≡ taken b (Some id) past mark step
+taken_same a b id past mark step h c g u =
+    by_mark_same a b id past mark step (mark_refused a.capacity a.greatest (taken_of a.history) mark) h g u
     ∙ ap (λ (refusal : Option MarkRefusal). by_mark b (Some id) past mark step refusal) (λ i. mark_refused (c i) (g i) (taken_of (h i)) mark)
 
 by_step_same : (a b : Stands) (id : ℕ) (past : Option ℕ) (r : Result Accepted NegRefusal) → a.history ≡ b.history → a.capacity ≡ b.capacity
-    → a.greatest ≡ b.greatest → by_step a (Some id) past r ≡ by_step b (Some id) past r
-by_step_same a b id past (Err refusal) h c g = ap (λ (xs : List Entry). refuses (Some id) xs (refusals.Neg refusal)) h
-by_step_same a b id past (Ok accepted) h c g = taken_same a b id past (mark_of accepted.step) (settled_of accepted.step) h c g
+    → a.greatest ≡ b.greatest → ends_at (slot_at a.table id) ≡ ends_at (slot_at b.table id) → by_step a (Some id) past r ≡ by_step b (Some id) past r
+by_step_same a b id past (Err refusal) h c g u = ap (λ (xs : List Entry). refuses (Some id) xs (refusals.Neg refusal)) h
+by_step_same a b id past (Ok accepted) h c g u = taken_same a b id past (mark_of accepted.step) (settled_of accepted.step) h c g u
 
 -- ---- the state that was taken
 
@@ -88,8 +95,9 @@ taken_state Over state end e = absurd (other_way end _ e)
 
 pub opened_step : (setup : AcceptSetup) (a b : Stands) (id : ℕ) (past : Option ℕ) (token : List ℕ) (now : ℕ) (draws : List ℕ) (stands : Standing) (end : AcceptEnd)
     → length b.history + 4 ≤ b.limit → Ok end ≡ taken_by stands (state_of (slot_at b.table id)) → a.history ≡ b.history → a.capacity ≡ b.capacity
-    → a.greatest ≡ b.greatest → by_step a (Some id) past (accept_step setup end token now draws) ≡ opened_by setup b id past token now draws
-opened_step setup a b id past token now draws stands end room took h c g =
+    → a.greatest ≡ b.greatest → slot_at a.table id ≡ held_after (slot_at b.table id)
+    → by_step a (Some id) past (accept_step setup end token now draws) ≡ opened_by setup b id past token now draws
+opened_step setup a b id past token now draws stands end room took h c g held =
     let state : state_of (slot_at b.table id) ≡ Some end = taken_state stands (state_of (slot_at b.table id)) end took in
-    by_step_same a b id past (accept_step setup end token now draws) h c g
+    by_step_same a b id past (accept_step setup end token now draws) h c g (ap ends_at held ∙ same_ends (slot_at b.table id))
     ∙ sym (rw (le-ltb b.limit (length b.history + 4) room, state) refl)

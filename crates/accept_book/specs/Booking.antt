@@ -1,5 +1,5 @@
 -- A book: the contexts of an acceptor, each negotiating by an end of its own or complete with its outcome.
-use Rattle.std.specs.Prelude.{◌≡◌, ◌⊎◌, ◌≢◌, ℕ, ◌+◌, ◌<◌, ◌≤◌, Bool, true, false, nat_eq, nat_lt, nat_le, ◌&&◌, max, is_none, is_some, if◌then◌else◌, List, [], ◌∷◌, ◌++◌, length, Option, None, Some, Result, Ok, Err, IfOk}
+use Rattle.std.specs.Prelude.{◌≡◌, ◌⊎◌, ◌≢◌, ℕ, ◌+◌, ◌<◌, ◌≤◌, Bool, true, false, nat_eq, nat_lt, nat_le, ◌==◌, ◌&&◌, max, is_none, is_some, if◌then◌else◌, List, [], ◌∷◌, ◌++◌, length, Option, None, Some, Result, Ok, Err, IfOk}
 use lib.Pointwise.{pointwise}
 use Rattle.sha1.specs.Sha1.{sha1}
 use Rattle.gss_base.specs.declared.mark.Mark.{Mark}
@@ -42,6 +42,7 @@ use Rattle.accept_book.specs.History.{Standing, Unknown, Open, Whole, Over, stan
 use Rattle.accept_book.specs.Answers.{refused, Free}
 use Rattle.accept_book.specs.Entering.{id_of, entered, mark_refused}
 use Rattle.accept_book.specs.Replays.{Accepting, Naming}
+use Rattle.accept_book.specs.Stepping.{Context, context_of, context_after, until_of}
 
 -- the digest by which the log knows an outcome: SHA-1 of both names, each with an octet 00 behind it, the key's octets, and 01 where
 -- the key is the acceptor's subkey, else 00
@@ -165,22 +166,56 @@ abbrev pub after_refusal : Option ℕ → List Entry → List Entry
 after_refusal None h = h
 after_refusal (Some id) h = Ended id Refused ∷ h
 
--- an answer, and the history after it
+-- what a token changes of the contexts: nothing, one ends, or one becomes what its step makes of it, before which another may lapse
+pub data Change : Type 0 where
+  Same : Change
+  Ends : (id : ℕ) → Change
+  Becomes : (lapsed : Option ℕ) (id : ℕ) (after : Context AcceptEnd Outcome) → Change
+
+abbrev pub without : Option ℕ → ℕ → Option (Context AcceptEnd Outcome) → Option (Context AcceptEnd Outcome)
+without None id before = before
+without (Some gone) id before = if gone == id then None else before
+
+-- a context after the change, by what it was before
+abbrev pub changed : Change → ℕ → Option (Context AcceptEnd Outcome) → Option (Context AcceptEnd Outcome)
+changed Same id before = before
+changed (Ends gone) id before = if gone == id then None else before
+changed (Becomes lapsed own after) id before = if own == id then Some after else without lapsed id before
+
+-- each context is what the change makes of it
+abbrev pub Changed : Places AcceptEnd Outcome → Change → Places AcceptEnd Outcome → Type 0
+Changed old change new = (id : ℕ) → context_of (slot_at new id) ≡ changed change id (context_of (slot_at old id))
+
+abbrev pub change_refused : Option ℕ → Change
+change_refused None = Same
+change_refused (Some id) = Ends id
+
+-- the context that lapses: only for a first token, and only where the table is at its limit
+abbrev pub lapsed_by : Option ℕ → Bool → Option ℕ → Option ℕ
+lapsed_by None true past = None
+lapsed_by None false past = past
+lapsed_by (Some id) place past = None
+
+-- an answer, the history after it, and what became of the contexts
 pub record Outcomes : Type 0 where
   pub answer : NegAnswer
   pub history : List Entry
+  pub change : Change
 
 abbrev pub refuses : Option ℕ → List Entry → BookRefusal → Outcomes
-refuses id h refusal = record { answer = answers.Refused refusal; history = after_refusal id h }
+refuses id h refusal =
+    record { answer = answers.Refused refusal; history = after_refusal id h; change = change_refused id }
 
 abbrev pub leaves : List Entry → BookRefusal → Outcomes
-leaves h refusal = record { answer = answers.Refused refusal; history = h }
+leaves h refusal = record { answer = answers.Refused refusal; history = h; change = Same }
 
 abbrev pub by_mark : Stands → Option ℕ → Option ℕ → Option Mark → AcceptStep → Option MarkRefusal → Outcomes
 by_mark book id past mark step (Some refusal) = refuses id book.history (refusal_of_mark refusal)
 by_mark book id past mark step None = record {
   answer = answer_with (id_of id book.history) step;
   history = entered id (nat_lt (live_of book.table) book.table.limit) past mark (next_of step) book.greatest book.history;
+  change = Becomes (lapsed_by id (nat_lt (live_of book.table) book.table.limit) past) (id_of id book.history)
+      (context_after (until_of id book.greatest book.table) (next_of step));
 }
 
 -- a step with its mark, where it has one

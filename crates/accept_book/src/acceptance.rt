@@ -1,17 +1,18 @@
 //! The acceptance history as a plain sequential object.
 ghost use Rattle.std.specs.Prelude.{⊤, ◌≡◌, ◌≢◌, ℕ, ◌+◌, ◌<◌, ◌≤◌, ◌↔◌, List, [], ◌∷◌, ◌++◌, Option, IfOk, IfSome, IsSome, IsOk, is_some, is_none, is_ok, None, Some, Ok, Err, length, reverse, max, nat_lt, ◌==◌, ◌||◌, true, false, IfErr, OnErr, if◌then◌else◌};
 ghost use Rattle.context_table.specs.declared.slot.SlotState.{SlotState};
-ghost use Rattle.context_table.specs.Places.{slot_at, live_of, KeepsOthers, phase_of, is_complete, state_of, held_after, IsHeld, IsPast, IsFreshAt, Marks, with_state, settled_as};
+ghost use Rattle.seq_window.specs.Marks.{Shows};
+ghost use Rattle.context_table.specs.Places.{slot_at, live_of, KeepsOthers, phase_of, is_complete, state_of, held_after, IsHeld, IsPast, IsFreshAt, Marks, with_state, settled_as, HasValue};
 ghost use Rattle.accept_book.specs.declared.entry.Entry.{Entry};
 ghost use Rattle.accept_book.specs.History.{standing, has_auth, opened, posts, taken_of};
 ghost use Rattle.accept_book.specs.Legal.{Legal, MayCall, MayEnd, MayAuth};
 ghost use Rattle.gss_base.specs.Mech.{is_kerberos};
 ghost use Rattle.replay_cache.specs.Taking.{cache_verdict};
-ghost use Rattle.accept_book.specs.Replays.{Keeps, Replays};
+ghost use Rattle.accept_book.specs.Replays.{Keeps, Replays, end_of_opened};
 ghost use Rattle.accept_book.specs.Answers.{refused, or_refused, after, admitted, receipt_of, Free, taken_by, LooksBy, with_end};
 ghost use Rattle.accept_book.specs.Phases.{PhaseBy};
 ghost use Rattle.accept_book.specs.Naming.{NamedBy, IsValueAt};
-ghost use Rattle.accept_book.specs.Stepping.{lapsed_slot, kept_slot, StateAfter, Stays};
+ghost use Rattle.accept_book.specs.Stepping.{lapsed_slot, kept_slot, context_of, context_after, slot_after, until_of, SameWindow, Stays};
 ghost use Rattle.accept_book.specs.Entering.{id_of, lapsed, started, noted, finished, entered, mark_refused, after_mark, auth_of, auth_after, SettlesBy, given, gained};
 
 use crate::answer::{
@@ -217,6 +218,8 @@ impl<N: Drop, S: Named + Drop> Core<N, S> {
         ensures held { IsHeld (slot_at self.new.table result) }
         ensures auth { has_auth result self.new.history ≡ false }
         ensures others { KeepsOthers self.old.table self.new.table result }
+        ensures context { context_of (slot_at self.new.table result) ≡ Some (record { state = SlotState.Held; ends = end_of_opened self.old.cache.greatest }) }
+        ensures window { IfSome (slot_at self.new.table result) (λ slot. Shows slot.window []) }
     {
         let id = self.given + 1;
         let now = self.cache.greatest();
@@ -240,6 +243,7 @@ impl<N: Drop, S: Named + Drop> Core<N, S> {
         ensures slots { (past : Option ℕ) → IsPast self.old.table self.old.cache.greatest past → (other : ℕ) → slot_at self.new.table other ≡ lapsed_slot (nat_lt (live_of self.old.table) self.old.table.limit) past other (slot_at self.old.table other) }
         ensures stays { (other : ℕ) → Stays (slot_at self.old.table other) (slot_at self.new.table other) }
         ensures auths { (other : ℕ) → has_auth other self.new.history ≡ has_auth other self.old.history }
+        ensures unopened { slot_at self.old.table (opened self.old.history + 1) ≡ None }
     {
         if self.table.live() < self.log.contexts() as usize {
             return;
@@ -268,6 +272,8 @@ impl<N: Drop, S: Named + Drop> Core<N, S> {
         ensures slots { (past : Option ℕ) → IsPast self.old.table self.old.cache.greatest past → (other : ℕ) → result ≢ other → slot_at self.new.table other ≡ kept_slot id (nat_lt (live_of self.old.table) self.old.table.limit) past other (slot_at self.old.table other) }
         ensures stays { (other : ℕ) → result ≢ other → Stays (slot_at self.old.table other) (slot_at self.new.table other) }
         ensures auths { (other : ℕ) → has_auth other self.new.history ≡ has_auth other self.old.history }
+        ensures context { context_of (slot_at self.new.table result) ≡ Some (record { state = SlotState.Held; ends = until_of id self.old.cache.greatest self.old.table }) }
+        ensures window { SameWindow (slot_at self.old.table result) (slot_at self.new.table result) }
     {
         match id {
             Some(id) => id,
@@ -325,7 +331,7 @@ impl<N: Drop, S: Named + Drop> Core<N, S> {
         ensures keeps { Keeps self.old self.new }
         ensures grows { length self.old.history ≤ length self.new.history }
         ensures count { length self.new.history ≤ length self.old.history + 1 }
-        ensures slot { StateAfter step (slot_at self.new.table id) }
+        ensures slot { slot_at self.new.table id ≡ slot_after step (slot_at self.old.table id) }
         ensures others { KeepsOthers self.old.table self.new.table id }
         ensures auths { (other : ℕ) → has_auth other self.new.history ≡ has_auth other self.old.history }
     {
@@ -345,7 +351,7 @@ impl<N: Drop, S: Named + Drop> Core<N, S> {
         requires room { length self.old.history < self.old.limit }
         ensures history { self.new.history ≡ (if first then self.old.history else Entry.Went id self.old.cache.greatest ∷ self.old.history) }
         ensures keeps { Keeps self.old self.new }
-        ensures slot { state_of (slot_at self.new.table id) ≡ Some state }
+        ensures slot { slot_at self.new.table id ≡ with_state (slot_at self.old.table id) (SlotState.Negotiating state) }
         ensures others { KeepsOthers self.old.table self.new.table id }
         ensures auths { (other : ℕ) → has_auth other self.new.history ≡ has_auth other self.old.history }
     {
@@ -472,7 +478,8 @@ impl<N: Drop, S: Named + Drop> Core<N, S> {
         ensures id { IfOk result (λ entered. entered.id ≡ id_of id self.old.history) }
         ensures history { (past : Option ℕ) → IsPast self.old.table self.old.cache.greatest past → self.new.history ≡ after_mark (mark_refused self.old.cache.capacity self.old.cache.greatest (taken_of self.old.history) mark) self.old.history (entered id (nat_lt (live_of self.old.table) self.old.table.limit) past mark step self.old.cache.greatest self.old.history) }
         ensures receipts { IfOk result (λ entered. given entered.receipts ≡ gained (length self.old.history) self.new.history) }
-        ensures slot { IfOk result (λ entered. StateAfter step (slot_at self.new.table entered.id)) }
+        ensures context { IfOk result (λ entered. context_of (slot_at self.new.table entered.id) ≡ Some (context_after (until_of id self.old.cache.greatest self.old.table) step)) }
+        ensures window { IfOk result (λ entered. SameWindow (slot_at self.old.table entered.id) (slot_at self.new.table entered.id)) }
         ensures others { IfOk result (λ entered. (past : Option ℕ) → IsPast self.old.table self.old.cache.greatest past → (other : ℕ) → entered.id ≢ other → slot_at self.new.table other ≡ kept_slot id (nat_lt (live_of self.old.table) self.old.table.limit) past other (slot_at self.old.table other)) }
         ensures stays { IfOk result (λ entered. (other : ℕ) → entered.id ≢ other → Stays (slot_at self.old.table other) (slot_at self.new.table other)) }
         ensures auth { IfOk result (λ entered. has_auth entered.id self.new.history ≡ auth_after id mark self.old.history) }
@@ -505,6 +512,7 @@ impl<N: Drop, S: Named + Drop> Core<N, S> {
 
     /// The value of a complete context and its end.
     pub fn peek(&self, id: u64, now: Moment) -> Result<(&S, Moment), LookRefusal>
+        ensures value { IfOk result (λ found. HasValue (slot_at self.now.table id) found.0.now found.1) }
         ensures looks { LooksBy (standing id self.now.history) (slot_at self.now.table id) now result }
         ensures named { IfOk result (λ found. NamedBy (record { mech = S.mech_of; names = S.names_of }) (standing id self.now.history) found.0.now found.1) }
     {
@@ -526,6 +534,7 @@ impl<N: Drop, S: Named + Drop> Core<N, S> {
     }
 
     fn show(&self, id: u64, now: Moment) -> Result<(&S, &Moment), LookRefusal>
+        ensures value { IfOk result (λ found. HasValue (slot_at self.now.table id) found.0.now found.1.now) }
         ensures looks { LooksBy (standing id self.now.history) (slot_at self.now.table id) now (with_end result) }
         ensures named { IfOk result (λ found. NamedBy (record { mech = S.mech_of; names = S.names_of }) (standing id self.now.history) found.0.now found.1.now) }
     {

@@ -3,15 +3,16 @@ ghost use Rattle.std.specs.Prelude.{⊤, ◌≡◌, false, List, [], ◌∷◌, 
 ghost use Rattle.gss_base.specs.Mech.{is_kerberos};
 ghost use Rattle.spnego_core.specs.Accepting.{IsSettled, accept_step};
 ghost use Rattle.spnego_core.specs.Sizes.{ShortAccept};
-ghost use Rattle.context_table.specs.Places.{slot_at, live_of, phase_of, IsHeld, IsPast};
+ghost use Rattle.context_table.specs.Places.{slot_at, live_of, phase_of, KeepsOthers, Marks, HasValue, IsHeld, IsPast};
 ghost use Rattle.accept_book.specs.Phases.{PhaseBy};
+ghost use Rattle.accept_book.specs.Stepping.{SameWindows};
 ghost use Rattle.accept_book.specs.declared.entry.Entry.{Entry};
 ghost use Rattle.accept_book.specs.History.{standing, has_auth, opened, posts};
 ghost use Rattle.accept_book.specs.Answers.{refused, or_refused, after, admitted, receipt_of, Free};
 ghost use Rattle.accept_book.specs.Entering.{auth_of, auth_after, given, gained};
 ghost use Rattle.accept_book.specs.Replays.{Keeps, Replays};
 ghost use Rattle.accept_book.specs.Legal.{Legal};
-ghost use Rattle.accept_book.specs.Booking.{names_of, by_outcome, Fits, AllFit, OthersFit, StepFits, token_size, mark_of, settled_of, stands_of, raised, by_step, begun, opened_by, gone_on_by, taken, negotiated, after_refusal, refusal_of_mark, lease_refused, FreeFor, has_key, same_key};
+ghost use Rattle.accept_book.specs.Booking.{names_of, by_outcome, Changed, change_refused, Fits, AllFit, OthersFit, StepFits, token_size, mark_of, settled_of, stands_of, raised, by_step, begun, opened_by, gone_on_by, taken, negotiated, after_refusal, refusal_of_mark, lease_refused, FreeFor, has_key, same_key};
 
 use crate::acceptance::{Core, blank};
 use crate::answer::{AdmitRefusal, LookRefusal, MarkRefusal, Next, RoomRefusal};
@@ -102,6 +103,8 @@ fn refuse(core: &mut Core<AcceptEnd, Outcome>, id: Option<u64>, answer: NegAnswe
     ensures answer { result.answer ≡ answer }
     ensures history { core.new.history ≡ after_refusal id core.old.history }
     ensures receipts { given result.receipts ≡ gained (length core.old.history) core.new.history }
+    ensures contexts { Changed core.old.table (change_refused id) core.new.table }
+    ensures windows { SameWindows core.old.table core.new.table }
     ensures keeps { Keeps core.old core.new }
     ensures fits { AllFit core.new }
 {
@@ -147,8 +150,10 @@ fn go_on(
     requires short { length token ≤ 65536 }
     ensures answer { (past : Option ℕ) → IsPast core.old.table core.old.cache.greatest past → result.answer ≡ (taken (stands_of core.old) id past mark (AcceptStep.More end token)).answer }
     ensures history { (past : Option ℕ) → IsPast core.old.table core.old.cache.greatest past → core.new.history ≡ (taken (stands_of core.old) id past mark (AcceptStep.More end token)).history }
+    ensures contexts { (past : Option ℕ) → IsPast core.old.table core.old.cache.greatest past → Changed core.old.table (taken (stands_of core.old) id past mark (AcceptStep.More end token)).change core.new.table }
     ensures size { token_size result.answer ≤ 65536 }
     ensures receipts { given result.receipts ≡ gained (length core.old.history) core.new.history }
+    ensures windows { SameWindows core.old.table core.new.table }
     ensures told { result.answer ≢ NegAnswer.NoMemory }
     ensures keeps { Keeps core.old core.new }
     ensures fits { AllFit core.new }
@@ -182,8 +187,10 @@ fn settle(
     requires short { length token ≤ 65536 }
     ensures answer { (past : Option ℕ) → IsPast core.old.table core.old.cache.greatest past → result.answer ≡ (taken (stands_of core.old) id past mark (AcceptStep.Done outcome ends token)).answer }
     ensures history { (past : Option ℕ) → IsPast core.old.table core.old.cache.greatest past → core.new.history ≡ (taken (stands_of core.old) id past mark (AcceptStep.Done outcome ends token)).history }
+    ensures contexts { (past : Option ℕ) → IsPast core.old.table core.old.cache.greatest past → Changed core.old.table (taken (stands_of core.old) id past mark (AcceptStep.Done outcome ends token)).change core.new.table }
     ensures size { token_size result.answer ≤ 65536 }
     ensures receipts { given result.receipts ≡ gained (length core.old.history) core.new.history }
+    ensures windows { SameWindows core.old.table core.new.table }
     ensures told { result.answer ≢ NegAnswer.NoMemory }
     ensures keeps { Keeps core.old core.new }
     ensures fits { AllFit core.new }
@@ -225,8 +232,10 @@ fn finish(
     requires short { ShortAccept step }
     ensures answer { (past : Option ℕ) → IsPast core.old.table core.old.cache.greatest past → result.answer ≡ (taken (stands_of core.old) id past mark step).answer }
     ensures history { (past : Option ℕ) → IsPast core.old.table core.old.cache.greatest past → core.new.history ≡ (taken (stands_of core.old) id past mark step).history }
+    ensures contexts { (past : Option ℕ) → IsPast core.old.table core.old.cache.greatest past → Changed core.old.table (taken (stands_of core.old) id past mark step).change core.new.table }
     ensures size { token_size result.answer ≤ 65536 }
     ensures receipts { given result.receipts ≡ gained (length core.old.history) core.new.history }
+    ensures windows { SameWindows core.old.table core.new.table }
     ensures told { result.answer ≢ NegAnswer.NoMemory }
     ensures keeps { Keeps core.old core.new }
     ensures fits { AllFit core.new }
@@ -248,8 +257,10 @@ fn enter(core: &mut Core<AcceptEnd, Outcome>, id: Option<u64>, step: AcceptStep)
     requires short { ShortAccept step }
     ensures answer { (past : Option ℕ) → IsPast core.old.table core.old.cache.greatest past → result.answer ≡ (taken (stands_of core.old) id past (mark_of step) (settled_of step)).answer }
     ensures history { (past : Option ℕ) → IsPast core.old.table core.old.cache.greatest past → core.new.history ≡ (taken (stands_of core.old) id past (mark_of step) (settled_of step)).history }
+    ensures contexts { (past : Option ℕ) → IsPast core.old.table core.old.cache.greatest past → Changed core.old.table (taken (stands_of core.old) id past (mark_of step) (settled_of step)).change core.new.table }
     ensures size { token_size result.answer ≤ 65536 }
     ensures receipts { given result.receipts ≡ gained (length core.old.history) core.new.history }
+    ensures windows { SameWindows core.old.table core.new.table }
     ensures told { result.answer ≢ NegAnswer.NoMemory }
     ensures keeps { Keeps core.old core.new }
     ensures fits { AllFit core.new }
@@ -295,9 +306,13 @@ fn take_step(
         → result.answer ≡ (by_step (stands_of core.old) id past (accept_step setup.now end token.now now draws.now)).answer }
     ensures history { (past : Option ℕ) → IsPast core.old.table core.old.cache.greatest past → result.answer ≢ NegAnswer.NoMemory
         → core.new.history ≡ (by_step (stands_of core.old) id past (accept_step setup.now end token.now now draws.now)).history }
+    ensures contexts { (past : Option ℕ) → IsPast core.old.table core.old.cache.greatest past → result.answer ≢ NegAnswer.NoMemory
+        → Changed core.old.table (by_step (stands_of core.old) id past (accept_step setup.now end token.now now draws.now)).change core.new.table }
     ensures memory { result.answer ≡ NegAnswer.NoMemory → core.new.history ≡ after_refusal id core.old.history }
+    ensures forgotten { result.answer ≡ NegAnswer.NoMemory → Changed core.old.table (change_refused id) core.new.table }
     ensures size { token_size result.answer ≤ 65536 }
     ensures receipts { given result.receipts ≡ gained (length core.old.history) core.new.history }
+    ensures windows { SameWindows core.old.table core.new.table }
     ensures keeps { Keeps core.old core.new }
     ensures fits { AllFit core.new }
 {
@@ -322,9 +337,13 @@ fn begin(
         → result.answer ≡ (begun setup.now (stands_of core.old) past token.now now draws.now).answer }
     ensures history { (past : Option ℕ) → IsPast core.old.table core.old.cache.greatest past → result.answer ≢ NegAnswer.NoMemory
         → core.new.history ≡ (begun setup.now (stands_of core.old) past token.now now draws.now).history }
+    ensures contexts { (past : Option ℕ) → IsPast core.old.table core.old.cache.greatest past → result.answer ≢ NegAnswer.NoMemory
+        → Changed core.old.table (begun setup.now (stands_of core.old) past token.now now draws.now).change core.new.table }
     ensures memory { result.answer ≡ NegAnswer.NoMemory → core.new.history ≡ core.old.history }
+    ensures forgotten { result.answer ≡ NegAnswer.NoMemory → Changed core.old.table (change_refused None) core.new.table }
     ensures size { token_size result.answer ≤ 65536 }
     ensures receipts { given result.receipts ≡ gained (length core.old.history) core.new.history }
+    ensures windows { SameWindows core.old.table core.new.table }
     ensures keeps { Keeps core.old core.new }
     ensures fits { AllFit core.new }
 {
@@ -361,9 +380,13 @@ fn proceed(
         → result.answer ≡ (opened_by setup.now (stands_of core.old) id past token.now now draws.now).answer }
     ensures history { (past : Option ℕ) → IsPast core.old.table core.old.cache.greatest past → result.answer ≢ NegAnswer.NoMemory
         → core.new.history ≡ (opened_by setup.now (stands_of core.old) id past token.now now draws.now).history }
+    ensures contexts { (past : Option ℕ) → IsPast core.old.table core.old.cache.greatest past → result.answer ≢ NegAnswer.NoMemory
+        → Changed core.old.table (opened_by setup.now (stands_of core.old) id past token.now now draws.now).change core.new.table }
     ensures memory { result.answer ≡ NegAnswer.NoMemory → core.new.history ≡ after_refusal (Some id) core.old.history }
+    ensures forgotten { result.answer ≡ NegAnswer.NoMemory → Changed core.old.table (change_refused (Some id)) core.new.table }
     ensures size { token_size result.answer ≤ 65536 }
     ensures receipts { given result.receipts ≡ gained (length core.old.history) core.new.history }
+    ensures windows { SameWindows core.old.table core.new.table }
     ensures keeps { Keeps core.old core.new }
     ensures fits { AllFit core.new }
 {
@@ -391,9 +414,13 @@ fn continue_with(
         → result.answer ≡ (gone_on_by (standing id core.old.history) setup.now (stands_of core.old) id past token.now now draws.now).answer }
     ensures history { (past : Option ℕ) → IsPast core.old.table core.old.cache.greatest past → result.answer ≢ NegAnswer.NoMemory
         → core.new.history ≡ (gone_on_by (standing id core.old.history) setup.now (stands_of core.old) id past token.now now draws.now).history }
+    ensures contexts { (past : Option ℕ) → IsPast core.old.table core.old.cache.greatest past → result.answer ≢ NegAnswer.NoMemory
+        → Changed core.old.table (gone_on_by (standing id core.old.history) setup.now (stands_of core.old) id past token.now now draws.now).change core.new.table }
     ensures memory { result.answer ≡ NegAnswer.NoMemory → core.new.history ≡ after_refusal (Some id) core.old.history }
+    ensures forgotten { result.answer ≡ NegAnswer.NoMemory → Changed core.old.table (change_refused (Some id)) core.new.table }
     ensures size { token_size result.answer ≤ 65536 }
     ensures receipts { given result.receipts ≡ gained (length core.old.history) core.new.history }
+    ensures windows { SameWindows core.old.table core.new.table }
     ensures keeps { Keeps core.old core.new }
     ensures fits { AllFit core.new }
 {
@@ -426,6 +453,8 @@ fn admit_by(
     ensures answer { result ≡ or_refused (refused core.old.limit core.old.width core.old.history id seq) (admitted core.old.history (Entry.Call id seq procedure args)) }
     ensures history { core.new.history ≡ after (refused core.old.limit core.old.width core.old.history id seq) (Entry.Call id seq procedure args) core.old.history }
     ensures exactly { IsOk result ↔ Free core.old.limit core.old.width core.old.history id seq }
+    ensures slot { IsOk result → Marks (slot_at core.old.table id) (slot_at core.new.table id) seq }
+    ensures others { KeepsOthers core.old.table core.new.table id }
     ensures unchanged { OnErr result (core.new ≡ core.old) }
     ensures keeps { Keeps core.old core.new }
     ensures fits { AllFit core.new }
@@ -441,6 +470,8 @@ fn end_by(core: &mut Core<AcceptEnd, Outcome>, id: u64, seq: u32) -> Result<Rece
     ensures answer { result ≡ or_refused (refused core.old.limit core.old.width core.old.history id seq) (receipt_of core.old.history (Entry.Ended id (EndCause.Destroyed seq))) }
     ensures history { core.new.history ≡ after (refused core.old.limit core.old.width core.old.history id seq) (Entry.Ended id (EndCause.Destroyed seq)) core.old.history }
     ensures exactly { IsOk result ↔ Free core.old.limit core.old.width core.old.history id seq }
+    ensures gone { IsOk result → slot_at core.new.table id ≡ None }
+    ensures others { KeepsOthers core.old.table core.new.table id }
     ensures unchanged { OnErr result (core.new ≡ core.old) }
     ensures keeps { Keeps core.old core.new }
     ensures fits { AllFit core.new }
@@ -473,6 +504,7 @@ impl Book {
         ensures limit { IfOk result (λ book. book.core.limit ≡ limits.log) }
         ensures width { IfOk result (λ book. book.core.width ≡ limits.width) }
         ensures contexts { IfOk result (λ book. book.core.table.limit ≡ limits.contexts) }
+        ensures empty { IfOk result (λ book. book.core.table.slots ≡ []) }
         ensures marks { IfOk result (λ book. book.core.cache.capacity ≡ limits.marks) }
         ensures greatest { IfOk result (λ book. book.core.cache.greatest ≡ start) }
     {
@@ -496,9 +528,13 @@ impl Book {
             → result.answer ≡ (negotiated self.old.setup (raised self.old.core now) id past token.now now draws.now).answer }
         ensures history { (past : Option ℕ) → IsPast self.old.core.table (max self.old.core.cache.greatest now) past → result.answer ≢ NegAnswer.NoMemory
             → self.new.core.history ≡ (negotiated self.old.setup (raised self.old.core now) id past token.now now draws.now).history }
+        ensures contexts { (past : Option ℕ) → IsPast self.old.core.table (max self.old.core.cache.greatest now) past → result.answer ≢ NegAnswer.NoMemory
+            → Changed self.old.core.table (negotiated self.old.setup (raised self.old.core now) id past token.now now draws.now).change self.new.core.table }
         ensures memory { result.answer ≡ NegAnswer.NoMemory → self.new.core.history ≡ after_refusal id self.old.core.history }
+        ensures forgotten { result.answer ≡ NegAnswer.NoMemory → Changed self.old.core.table (change_refused id) self.new.core.table }
         ensures size { token_size result.answer ≤ 65536 }
         ensures receipts { given result.receipts ≡ gained (length self.old.core.history) self.new.core.history }
+        ensures windows { SameWindows self.old.core.table self.new.core.table }
         ensures notes { NotesMoment self.old self.new now }
     {
         self.core.raise(now);
@@ -511,6 +547,7 @@ impl Book {
     /// Takes note of a moment, and gives the lease of a complete context.
     pub fn look(&mut self, id: u64, now: Moment) -> Result<Lease, LookRefusal>
         ensures answer { LeasedBy (standing id self.old.core.history) id now result }
+        ensures value { IfOk result (λ lease. HasValue (slot_at self.old.core.table id) lease.outcome lease.ends) }
         ensures looked { IsLooked self.old.core now self.new.core }
         ensures setup { self.new.setup ≡ self.old.setup }
     {
@@ -536,6 +573,8 @@ impl Book {
         ensures answer { result ≡ or_refused (lease_refused self.old.core lease.now seq) (admitted self.old.core.history (Entry.Call lease.now.id seq procedure args)) }
         ensures history { self.new.core.history ≡ after (lease_refused self.old.core lease.now seq) (Entry.Call lease.now.id seq procedure args) self.old.core.history }
         ensures exactly { IsOk result ↔ FreeFor self.old.core lease.now seq }
+        ensures slot { IsOk result → Marks (slot_at self.old.core.table lease.now.id) (slot_at self.new.core.table lease.now.id) seq }
+        ensures others { KeepsOthers self.old.core.table self.new.core.table lease.now.id }
         ensures unchanged { OnErr result (self.new ≡ self.old) }
         ensures keeps { Keeps self.old.core self.new.core }
         ensures setup { self.new.setup ≡ self.old.setup }
@@ -551,6 +590,8 @@ impl Book {
         ensures answer { result ≡ or_refused (lease_refused self.old.core lease.now seq) (receipt_of self.old.core.history (Entry.Ended lease.now.id (EndCause.Destroyed seq))) }
         ensures history { self.new.core.history ≡ after (lease_refused self.old.core lease.now seq) (Entry.Ended lease.now.id (EndCause.Destroyed seq)) self.old.core.history }
         ensures exactly { IsOk result ↔ FreeFor self.old.core lease.now seq }
+        ensures gone { IsOk result → slot_at self.new.core.table lease.now.id ≡ None }
+        ensures others { KeepsOthers self.old.core.table self.new.core.table lease.now.id }
         ensures unchanged { OnErr result (self.new ≡ self.old) }
         ensures keeps { Keeps self.old.core self.new.core }
         ensures setup { self.new.setup ≡ self.old.setup }

@@ -38,11 +38,21 @@ pub fn turn(order: &mut Vec<u32>, place: usize, live: usize)
     ensures moved { (k : ℕ) → slice_index order.new.items k ≡ slice_index order.old.items (turned place live k) }
     ensures count { length order.new.items ≡ length order.old.items }
 {
-    let cell = order[place];
+    turn_cells(order.as_mut_slice(), place, live);
+}
+
+// The same over a slice, whose octets the compiler moves many at a time.
+fn turn_cells(cells: &mut [u32], place: usize, live: usize)
+    requires within { place < live }
+    requires few { live ≤ length cells.old }
+    ensures moved { (k : ℕ) → slice_index cells.new k ≡ slice_index cells.old (turned place live k) }
+    ensures count { length cells.new ≡ length cells.old }
+{
+    let cell = cells[place];
     for k in place..live - 1 {
-        order[k] = order[k + 1];
+        cells[k] = cells[k + 1];
     }
-    order[live - 1] = cell;
+    cells[live - 1] = cell;
 }
 
 /// The least id of a live slot whose end lies before `now`.

@@ -8,6 +8,7 @@ use Rattle.context_table.specs.declared.slot.Slot.{Slot}
 use Rattle.accept_book.specs.Replays.{Naming, Replays}
 use Rattle.accept_book.proofs.Appended.{lives-opened}
 use Rattle.accept_book.proofs.Steps.{some-and}
+use Rattle.accept_book.proofs.Appended.{unopened}
 use Rattle.accept_book.proofs.acceptance.Core.make_place.Goals as goal
 
 pub returns-in-Some-clause-live : goal.returns-in-Some-clause-live
@@ -16,3 +17,13 @@ returns-in-Some-clause-live g c =
     let fewer = rw lives at (rw (← c.self.view_is) at c.close.ensures.live) in
     let limit = rw (← c.self.view_is) at c.close.ensures.keeps.contexts in
     omega (arith, fewer, limit, c.live.ensures.value, c.live.ensures.most)
+
+pub returns-then-live-contexts-clause-unopened : goal.returns-then-live-contexts-clause-unopened
+returns-then-live-contexts-clause-unopened g c =
+    let naming : Naming g.row.S.Denot = record { mech = g.S.Named.mech_of; names = g.S.Named.names_of } in
+    rw (← c.self.view_is) (unopened naming c.self.inside.log.width c.self.inside.posts (reverse c.self.inside.log.entries) c.self.inside.table c.self.inside.cache c.self.invariant.replays)
+
+pub returns-in-Some-clause-unopened : goal.returns-in-Some-clause-unopened
+returns-in-Some-clause-unopened g c =
+    let naming : Naming g.row.S.Denot = record { mech = g.S.Named.mech_of; names = g.S.Named.names_of } in
+    rw (← c.self.view_is) (unopened naming c.self.inside.log.width c.self.inside.posts (reverse c.self.inside.log.entries) c.self.inside.table c.self.inside.cache c.self.invariant.replays)

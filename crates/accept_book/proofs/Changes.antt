@@ -1,0 +1,93 @@
+-- What a token changes of the contexts of a book.
+use Rattle.std.proofs.Common.{◌≡◌, ◌≢◌, ◌∙◌, ℕ, Bool, true, false, ◌==◌, if◌then◌else◌, nat_lt, Option, None, Some, refl, sym, ap, subst, inl, inr}
+use Rattle.std.specs.Prelude.{Result, Ok, Err, is_none}
+use Rattle.std.proofs.lemmas.Bool.{cases_eq, eq-eqb, ne_eqb}
+use Rattle.gss_base.specs.declared.mark.Mark.{Mark}
+use Rattle.spnego_core.specs.declared.accept_end.AcceptEnd.{AcceptEnd}
+use Rattle.spnego_core.specs.declared.accept_end.AcceptStep.{AcceptStep}
+use Rattle.spnego_core.specs.declared.outcome.Outcome.{Outcome}
+use Rattle.spnego_core.specs.declared.refusal.NegRefusal.{NegRefusal}
+use Rattle.spnego_core.specs.Accepting.{Accepted}
+use Rattle.context_table.specs.declared.slot.Slot.{Slot}
+use Rattle.context_table.specs.Places.{Places, slot_at, live_of, KeepsOthers}
+use Rattle.accept_book.specs.declared.answer.MarkRefusal.{MarkRefusal}
+use Rattle.accept_book.specs.History.{taken_of}
+use Rattle.accept_book.specs.Entering.{id_of, mark_refused}
+use Rattle.accept_book.specs.Replays.{Accepting}
+use Rattle.accept_book.specs.Stepping.{Context, context_of, context_after, until_of, kept_slot}
+use Rattle.accept_book.specs.Booking.{Change, Same, Ends, Becomes, changed, Changed, without, lapsed_by, Stands, stands_of, next_of, by_mark, taken, by_step, mark_of, settled_of}
+
+pub changed_same : (table : Places AcceptEnd Outcome) → Changed table Same table
+changed_same table = λ id. refl
+
+pub changed_gone : (old new : Places AcceptEnd Outcome) (id : ℕ) → slot_at new id ≡ None → KeepsOthers old new id → Changed old (Ends id) new
+changed_gone old new id gone others = λ other. elim (cases_eq id other) [
+  | inl e ↦ rw (eq-eqb id other e) (ap context_of (ap (slot_at new) (sym e) ∙ gone))
+  | inr ne ↦ rw (ne_eqb id other ne) (ap context_of (others.others other ne))
+]
+
+kept_if : (b : Bool) (slot : Option (Slot AcceptEnd Outcome)) → context_of (if b then None else slot) ≡ (if b then None else context_of slot)
+kept_if true slot = refl
+kept_if false slot = refl
+
+kept_context : (id : Option ℕ) (place : Bool) (past : Option ℕ) (other : ℕ) (slot : Option (Slot AcceptEnd Outcome))
+    → context_of (kept_slot id place past other slot) ≡ without (lapsed_by id place past) other (context_of slot)
+kept_context None true past other slot = refl
+kept_context None false None other slot = refl
+kept_context None false (Some gone) other slot = kept_if (gone == other) slot
+kept_context (Some id) place past other slot = refl
+
+pub changed_entered : (old new : Places AcceptEnd Outcome) (id : Option ℕ) (place : Bool) (past : Option ℕ) (own : ℕ) (after : Context AcceptEnd Outcome)
+    → context_of (slot_at new own) ≡ Some after → ((other : ℕ) → own ≢ other → slot_at new other ≡ kept_slot id place past other (slot_at old other))
+    → Changed old (Becomes (lapsed_by id place past) own after) new
+changed_entered old new id place past own after is others = λ other. elim (cases_eq own other) [
+  | inl e ↦ rw (eq-eqb own other e) (ap context_of (ap (slot_at new) (sym e)) ∙ is)
+  | inr ne ↦ rw (ne_eqb own other ne) (ap context_of (others other ne) ∙ kept_context id place past other (slot_at old other))
+]
+
+entered_change : (book : Stands) (id past : Option ℕ) (mark : Option Mark) (step : AcceptStep) (refusal : Option MarkRefusal) → true ≡ is_none refusal
+    → Becomes (lapsed_by id (nat_lt (live_of book.table) book.table.limit) past) (id_of id book.history) (context_after (until_of id book.greatest book.table) (next_of step))
+    ≡ (by_mark book id past mark step refusal).change
+entered_change book id past mark step None taken = refl
+entered_change book id past mark step (Some refusal) taken = let z : true ≡ false = taken in absurd cc
+
+-- a step that was taken
+pub changed_taken : (core : Accepting AcceptEnd Outcome) (new : Places AcceptEnd Outcome) (id past : Option ℕ) (mark : Option Mark) (step : AcceptStep) (own : ℕ)
+    → true ≡ is_none (mark_refused core.cache.capacity core.cache.greatest (taken_of core.history) mark) → own ≡ id_of id core.history
+    → context_of (slot_at new own) ≡ Some (context_after (until_of id core.cache.greatest core.table) (next_of step))
+    → ((other : ℕ) → own ≢ other → slot_at new other ≡ kept_slot id (nat_lt (live_of core.table) core.table.limit) past other (slot_at core.table other))
+    → Changed core.table (taken (stands_of core) id past mark step).change new
+changed_taken core new id past mark step own took is context others =
+    subst (λ (change : Change). Changed core.table change new)
+    (ap (λ (k : ℕ). Becomes (lapsed_by id (nat_lt (live_of core.table) core.table.limit) past) k (context_after (until_of id core.cache.greatest core.table) (next_of step))) is
+    ∙ entered_change (stands_of core) id past mark step (mark_refused core.cache.capacity core.cache.greatest (taken_of core.history) mark) took)
+    (changed_entered core.table new id (nat_lt (live_of core.table) core.table.limit) past own _ context others)
+
+-- ---- a later token's change is of its own context alone
+
+abbrev pub Owns : Change → ℕ → Type 0
+Owns Same id = ⊥
+Owns (Ends gone) id = gone ≡ id
+Owns (Becomes lapsed own after) id = own ≡ id
+
+owned : (change : Change) (id : ℕ) (a b : Option (Context AcceptEnd Outcome)) → Owns change id → changed change id a ≡ changed change id b
+owned Same id a b owns = absurd owns
+owned (Ends gone) id a b owns = rw (eq-eqb gone id owns) refl
+owned (Becomes lapsed own after) id a b owns = rw (eq-eqb own id owns) refl
+
+pub changed_held : (old held new : Places AcceptEnd Outcome) (id : ℕ) (change : Change) → Owns change id → KeepsOthers old held id → Changed held change new
+    → Changed old change new
+changed_held old held new id change owns others is = λ other. elim (cases_eq id other) [
+  | inl e ↦ is other ∙ owned change other _ _ (subst (Owns change) e owns)
+  | inr ne ↦ is other ∙ ap (λ (slot : Option (Slot _ _)). changed change other (context_of slot)) (others.others other ne)
+]
+
+owns_mark : (book : Stands) (id : ℕ) (past : Option ℕ) (mark : Option Mark) (step : AcceptStep) (refusal : Option MarkRefusal)
+    → Owns (by_mark book (Some id) past mark step refusal).change id
+owns_mark book id past mark step None = refl
+owns_mark book id past mark step (Some refusal) = refl
+
+pub owns_step : (book : Stands) (id : ℕ) (past : Option ℕ) (r : Result Accepted NegRefusal) → Owns (by_step book (Some id) past r).change id
+owns_step book id past (Err refusal) = refl
+owns_step book id past (Ok accepted) =
+    owns_mark book id past (mark_of accepted.step) (settled_of accepted.step) (mark_refused book.capacity book.greatest (taken_of book.history) (mark_of accepted.step))
