@@ -1,0 +1,5 @@
+pub mod NextRecord
+pub mod Parts
+pub mod CallLengths
+pub mod TalkSteps
+pub mod NoFaults

@@ -1,0 +1,7 @@
+pub mod Calling
+pub mod Exchanging
+pub mod Hearing
+pub mod Judging
+pub mod Session
+pub mod Talk
+pub mod Talking

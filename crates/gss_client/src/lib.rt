@@ -1,0 +1,18 @@
+//! The client: a session of RPCSEC_GSS over a link.
+#![tactic(auto)]
+
+mod answer;
+mod calling;
+mod creation;
+mod exchange;
+mod refusal;
+mod results;
+mod service;
+mod session;
+mod start;
+
+pub use refusal::{ClientRefusal, Denial, ReplyWhy};
+pub use service::Service;
+pub use session::Session;
+
+pub use start::Start;
