@@ -3,3 +3,4 @@ pub mod Parts
 pub mod CallLengths
 pub mod TalkSteps
 pub mod NoFaults
+pub mod Nearer

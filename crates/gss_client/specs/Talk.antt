@@ -14,6 +14,7 @@ use Rattle.gss_client.specs.declared.service.Service.{Service}
 use Rattle.gss_client.specs.declared.start.Start.{Start}
 use Rattle.gss_client.specs.Calling.{creation_call, data_call, destroy_call}
 use Rattle.gss_client.specs.Judging.{creation_step, result_taken, destroyed_in}
+use Rattle.gss_client.specs.Rank.{replies_left}
 use Rattle.gss_client.specs.Session.{SessionState, xid_after}
 use Rattle.gss_client.specs.Talking.{Said, Talking, said, after, ◌>>=◌, judges, exchanges}
 
@@ -33,7 +34,7 @@ abbrev pub by_turn : Service → ℕ → ℕ → (Offer → Talking SessionState
 by_turn service first xid next (created.Going offer) = next offer
 by_turn service first xid next (created.Stands outcome handle) = judges (Ok (begun service first (xid_after xid) outcome handle))
 
--- turn after turn, of which so many may still come
+-- turn after turn, of which so many may still come; it is begun with as many as the end takes replies, so that there is always one left
 unfoldable pub creates : ℕ → Service → ℕ → ℕ → ℕ → Offer → Talking SessionState
 creates zero service first xid proc offer = judges (Err (BadReply Steps))
 creates (suc left) service first xid proc offer = do
@@ -42,7 +43,7 @@ creates (suc left) service first xid proc offer = do
 
 abbrev pub begins : Service → ℕ → Result Started NegRefusal → Talking SessionState
 begins service first (Err refusal) = judges (Err (Negotiation refusal))
-begins service first (Ok started) = creates 16 service first 1 1 (record { end = started.end; handle = []; token = started.token })
+begins service first (Ok started) = creates (replies_left started.end) service first 1 1 (record { end = started.end; handle = []; token = started.token })
 
 unfoldable pub created_from : Start → Talking SessionState
 created_from start = begins start.service start.first (init_start start.setup)

@@ -1,9 +1,10 @@
 //! The replies to creation calls, RFC 2203 section 5.2.3.
 
-ghost use Rattle.std.specs.Prelude.{◌≡◌, ◌≢◌, IfOk};
+ghost use Rattle.std.specs.Prelude.{◌≡◌, ◌≢◌, ℕ, IfOk};
 ghost use Rattle.rpc_msgs.specs.declared.xdr_reader.XdrWhy.TheVariants as whys;
 ghost use Rattle.sec_base.specs.Answers.{Gives};
 ghost use Rattle.gss_client.specs.Exchanging.{FitsCreated, IsHandle};
+ghost use Rattle.gss_client.specs.Rank.{replies_left, IsNearer, IsCloser};
 ghost use Rattle.gss_client.specs.Judging.{answer_value, place_of, granted_value, granted_in, by_step, creation_step};
 ghost use Rattle.spnego_core.specs.Sizes.{ShortInit};
 
@@ -86,6 +87,7 @@ fn by_step(
     requires handle { IsHandle granted.context }
     requires token { ShortInit step }
     ensures exact { result ≡ by_step (record { answer = answer_value answer.now; result = granted }) step }
+    ensures closer { (count : ℕ) → IsNearer count step → IfOk result (IsCloser count) }
     ensures fits { IfOk result FitsCreated }
 {
     match step {
@@ -123,6 +125,7 @@ pub(crate) fn creation_step(
     bytes: &[u8],
 ) -> Result<Created, ClientRefusal>
     ensures exact { Gives ClientRefusal.NoMemory (λ c. c) result (creation_step end xid bytes.now) }
+    ensures closer { IfOk result (IsCloser (replies_left end)) }
     ensures fits { IfOk result FitsCreated }
 {
     let Granted { answer, result } = granted_in(alloc, xid, bytes)?;

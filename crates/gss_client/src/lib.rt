@@ -4,6 +4,7 @@
 mod answer;
 mod calling;
 mod creation;
+mod establish;
 mod exchange;
 mod refusal;
 mod results;

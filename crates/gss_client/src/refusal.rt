@@ -72,6 +72,7 @@ impl From<NoMemory> for ClientRefusal {
 pub(crate) fn not_negotiated(refusal: NegRefusal) -> ClientRefusal
     ensures negotiation { refusal ≢ negs.NoMemory → result ≡ ClientRefusal.Negotiation refusal }
     ensures memory { refusal ≡ negs.NoMemory → result ≡ ClientRefusal.NoMemory }
+    ensures fault { result ≢ ClientRefusal.LinkFault }
 {
     match refusal {
         NegRefusal::NoMemory => ClientRefusal::NoMemory,
