@@ -4,3 +4,4 @@ pub mod CallLengths
 pub mod TalkSteps
 pub mod NoFaults
 pub mod Nearer
+pub mod ResultStands

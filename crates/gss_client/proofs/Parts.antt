@@ -82,7 +82,7 @@ talks-then part next a b c x (Ok y) d e = record {
 }
 talks-then part next a b c x (Err refusal) d s =
     let both : (part >>= next) ((d.took ++ s.took) ++ c.coming) ≡ after d.wrote (next x (s.took ++ c.coming)) =
-        ap (part >>= next) (append_assoc d.took s.took c.coming) ∙ joined-by part next (d.took ++ (s.took ++ c.coming)) d.wrote (s.took ++ c.coming) x (d.whole (s.took ++ c.coming)) in
+    ap (part >>= next) (append_assoc d.took s.took c.coming) ∙ joined-by part next (d.took ++ (s.took ++ c.coming)) d.wrote (s.took ++ c.coming) x (d.whole (s.took ++ c.coming)) in
     record {
       took = d.took ++ s.took;
       wrote = d.wrote ++ s.wrote;

@@ -79,11 +79,7 @@ fn granted_in(alloc: Global, xid: u32, bytes: &[u8]) -> Result<Granted<'_>, Clie
 
 /// What the end's step leads to.
 #[tactic(auto, unfolding(crate::specs::Judging::by_step))]
-fn by_step(
-    answer: &Answer<'_>,
-    granted: InitRes,
-    step: InitStep,
-) -> Result<Created, ClientRefusal>
+fn by_step(answer: &Answer<'_>, granted: InitRes, step: InitStep) -> Result<Created, ClientRefusal>
     requires handle { IsHandle granted.context }
     requires token { ShortInit step }
     ensures exact { result ≡ by_step (record { answer = answer_value answer.now; result = granted }) step }
