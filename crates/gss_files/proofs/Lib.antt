@@ -1,0 +1,5 @@
+pub mod ShortNames
+pub mod PartSteps
+pub mod Spelled
+pub mod SpelledKeytab
+pub mod SpelledCcache
