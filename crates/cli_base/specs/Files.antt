@@ -1,0 +1,59 @@
+-- The files that words name.
+use Rattle.std.specs.Prelude.{◌≡◌, ℕ, List, [], ◌∷◌, ◌++◌, length, take, codes, Option, Some, None, Result, Ok, Err, if◌then◌else◌, nat_le}
+use Rattle.std.specs.Fmt.{decimal}
+use Rattle.sec_base.specs.Shelf.{content_of}
+use Rattle.sec_base.specs.declared.shelf.NamedFile.{NamedFile}
+use Rattle.krb_files.specs.declared.refusal.FileRefusal.{FileRefusal}
+use Rattle.krb_files.specs.declared.refusal.FileWhy.{FileWhy}
+use Rattle.krb_files.specs.declared.refusal.FileWhy.TheVariants as whys
+use Rattle.cli_base.specs.Lines.{memory_line}
+use Rattle.cli_base.specs.declared.files.FileStop.{FileStop}
+use Rattle.cli_base.specs.declared.files.FileStop.TheVariants.{CannotLoad, Bad, NoMemory}
+
+-- the most octets of a file
+abbrev pub most : ℕ
+most = 1048576
+
+abbrev pub file_within : Option (List ℕ) → Result (List ℕ) FileStop
+file_within None = Err CannotLoad
+file_within (Some octets) = if nat_le (length octets) most then Ok octets else Err (Bad most)
+
+-- the octets of the first file of this name; it can't be loaded where there is none, and is bad at the limit where it is longer
+abbrev pub file_in : List NamedFile → List ℕ → Result (List ℕ) FileStop
+file_in files name = file_within (content_of files name)
+
+-- what `load` answers, by what the shelf has: a fault and want of memory may come at any name
+abbrev pub LoadsFile : Result (List ℕ) FileStop → Result (List ℕ) FileStop → Type 0
+LoadsFile due (Ok octets) = due ≡ Ok octets
+LoadsFile due (Err (Bad at)) = due ≡ Err (Bad at)
+LoadsFile due (Err CannotLoad) = Unit {0}
+LoadsFile due (Err NoMemory) = Unit {0}
+
+-- the name was put at the end of those that were asked; want of memory may leave it out
+abbrev pub AsksFile : List (List ℕ) → List (List ℕ) → List ℕ → Result (List ℕ) FileStop → Type 0
+AsksFile old new name (Ok octets) = new ≡ old ++ name ∷ []
+AsksFile old new name (Err (Bad at)) = new ≡ old ++ name ∷ []
+AsksFile old new name (Err CannotLoad) = new ≡ old ++ name ∷ []
+AsksFile old new name (Err NoMemory) = (count : ℕ) × (new ≡ old ++ take count (name ∷ []))
+
+abbrev pub stop_for : FileWhy → ℕ → FileStop
+stop_for whys.Magic at = Bad at
+stop_for whys.Short at = Bad at
+stop_for whys.Length at = Bad at
+stop_for whys.Name at = Bad at
+stop_for whys.NoMemory at = NoMemory
+
+-- a refused file is bad at the refusal's place
+abbrev pub stop_by : FileRefusal → FileStop
+stop_by refusal = stop_for refusal.why refusal.at
+
+abbrev pub stop_status : FileStop → ℕ
+stop_status CannotLoad = 3
+stop_status (Bad at) = 4
+stop_status NoMemory = 8
+
+-- `cannot load NAME`, `bad NAME at N`
+abbrev pub stop_line : List ℕ → FileStop → List ℕ
+stop_line name CannotLoad = codes "cannot load " ++ (name ++ codes "\n")
+stop_line name (Bad at) = codes "bad " ++ (name ++ (codes " at " ++ (decimal at ++ codes "\n")))
+stop_line name NoMemory = memory_line
