@@ -1,3 +1,4 @@
 pub mod Fields
 pub mod KeytabFile
 pub mod CcacheFile
+pub mod Words

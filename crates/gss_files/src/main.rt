@@ -5,6 +5,8 @@
 mod ccache_file;
 mod fields;
 mod keytab_file;
+mod refusal;
+mod words;
 
 use std::process::ExitCode;
 
