@@ -3,3 +3,4 @@ pub mod PartSteps
 pub mod Spelled
 pub mod SpelledKeytab
 pub mod SpelledCcache
+pub mod UsageLine
