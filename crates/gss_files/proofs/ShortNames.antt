@@ -1,9 +1,7 @@
 -- The realm and the components of a principal are no longer than its text form.
-use Rattle.std.proofs.Common.{◌≡◌, ℕ, ◌+◌, ◌≤◌, Bool, true, false, cond, List, [], ◌∷◌, ◌++◌, length, Option, Some, None, Result, Ok, Err, nat_le, refl, ap, ◌∙◌, arith, length-append}
-use Rattle.gss_base.specs.Name.{Name}
-use Rattle.gss_base.specs.declared.principal.NameRefusal.{NameRefusal}
+use Rattle.std.proofs.Common.{◌≡◌, ℕ, ◌+◌, ◌≤◌, Bool, true, false, cond, List, [], ◌∷◌, length, Option, Some, None, Ok, Err, nat_le, refl, arith, length-append}
 use Rattle.gss_base.specs.declared.principal.NameRefusal.TheVariants.{PartCount, TooLong}
-use Rattle.gss_base.specs.Principal.{is_mark, quoted, further, joined, text_form, zero_from, is_count, is_named, is_found, name_within, name_unless_zero}
+use Rattle.gss_base.specs.Principal.{is_mark, quoted, further, joined, text_form, zero_from, is_count, is_named, is_found, name_unless_zero}
 use Rattle.gss_files.specs.Fields.{AreShort}
 
 quoted_step : (b : Bool) (o : ℕ) (q os : List ℕ) → length os ≤ length q → length (o ∷ os) ≤ length (cond b (92 ∷ o ∷ q) (o ∷ q))

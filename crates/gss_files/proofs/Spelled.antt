@@ -1,17 +1,17 @@
 -- What is written is spelled as the grammars of the files say.
-use Rattle.std.proofs.Common.{◌≡◌, ℕ, zero, suc, ◌+◌, ◌*◌, ◌%◌, ◌^◌, ◌<◌, ◌≤◌, Bool, true, List, [], ◌∷◌, ◌++◌, length, Option, Some, Result, Ok, pos, refl, sym, ap, ◌∙◌, arith, append-nil, pow-suc, mul_comm, mod-eq_of_lt}
-use Rattle.std.specs.List.{AllByRecursion, flat_map}
+use Rattle.std.proofs.Common.{◌≡◌, ℕ, zero, suc, ◌+◌, ◌*◌, ◌%◌, ◌^◌, ◌<◌, List, [], ◌∷◌, ◌++◌, length, Some, pos, refl, sym, ap, ◌∙◌, arith, append-nil, pow-suc, mul_comm, mod-eq_of_lt}
+use Rattle.std.specs.List.{flat_map}
 use Rattle.std.specs.Int.{byte_at, bytes_high_first}
 use Rattle.std.proofs.Math.Nat.{pow-le-pow_right}
 use Rattle.std.proofs.Math.Arith.{mod-mul}
 use Rattle.gss_base.specs.Name.{Name}
-use Rattle.gss_base.specs.Principal.{text_form, name_of}
+use Rattle.gss_base.specs.Principal.{text_form}
 use Rattle.gss_base.proofs.Spelling.{judged_is}
 use Rattle.krb_derive.specs.declared.key.Key.{Key}
 use Rattle.krb_derive.specs.declared.key.Key.TheVariants.{Aes128, Aes256}
-use Rattle.krb_derive.specs.Key.{number_of_etype, key_length, type_of_key, key_octets, etype_of}
+use Rattle.krb_derive.specs.Key.{key_octets, etype_of}
 use Rattle.krb_files.specs.Fields.{number_of, number_behind}
-use Rattle.krb_files.specs.Grammar.{Then, Gives, Plain, Number, Counted, Texts, Named, Principal, IsKey, KeyField}
+use Rattle.krb_files.specs.Grammar.{Then, Gives, Number, Counted, Texts, Principal, IsKey, KeyField}
 use Rattle.gss_files.specs.Fields.{number, counted, principal, key_field, AreShort, IsTextName, IsSizedKey}
 use Rattle.gss_files.proofs.ShortNames.{fits_name}
 

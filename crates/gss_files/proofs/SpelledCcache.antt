@@ -1,12 +1,11 @@
 -- The credential cache that is written is one of the grammar, with this credential alone.
-use Rattle.std.proofs.Common.{◌≡◌, ℕ, ◌+◌, ◌^◌, ◌<◌, ◌≤◌, true, List, [], ◌∷◌, ◌++◌, length, Some, Result, Ok, Err, IfOk, OnOk, nat_le, refl, sym, ap, subst, ◌∙◌, arith, append-nil, length-append}
+use Rattle.std.proofs.Common.{◌≡◌, ℕ, ◌≤◌, true, List, [], ◌∷◌, ◌++◌, length, Some, Result, Ok, Err, IfOk, OnOk, nat_le, refl, sym, ap, subst, ◌∙◌, arith, append-nil, length-append}
 use Rattle.gss_base.specs.Name.{Name}
 use Rattle.krb_files.specs.Granted.{Granted}
-use Rattle.krb_files.specs.declared.pieces.Next.{Next}
 use Rattle.krb_files.specs.declared.pieces.Next.TheVariants.{Item}
 use Rattle.krb_files.specs.Ccache.{kept_of, ccache_of}
-use Rattle.krb_files.specs.Grammar.{Then, Counted}
-use Rattle.krb_files.specs.CcacheGrammar.{CacheName, TypedList, TicketField, Credential, Credentials, SpellsCcache}
+use Rattle.krb_files.specs.Grammar.{Counted}
+use Rattle.krb_files.specs.CcacheGrammar.{CacheName, TypedList, TicketField, Credential, SpellsCcache}
 use Rattle.krb_files.proofs.CcacheLaws.{ccache_only}
 use Rattle.gss_files.specs.declared.ccache_file.Times.{Times}
 use Rattle.gss_files.specs.Fields.{number, counted, principal, key_field, IsTextName}

@@ -1,5 +1,5 @@
 -- The keytab that is written is one of the grammar, with this key's record alone.
-use Rattle.std.proofs.Common.{◌≡◌, ℕ, ◌+◌, ◌*◌, ◌%◌, ◌^◌, ◌<◌, ◌≤◌, Bool, true, false, cond, ◌==◌, List, [], ◌∷◌, ◌++◌, length, take, Some, Result, Ok, Err, IfOk, OnOk, inl, nat_lt, refl, sym, ap, subst, ◌∙◌, arith, append-nil, length-append}
+use Rattle.std.proofs.Common.{◌≡◌, ℕ, ◌+◌, ◌*◌, ◌%◌, ◌^◌, ◌<◌, ◌≤◌, Bool, true, false, cond, ◌==◌, List, [], ◌∷◌, ◌++◌, length, take, Some, Result, Ok, Err, IfOk, OnOk, inl, refl, sym, ap, subst, ◌∙◌, arith, append-nil, length-append}
 use Rattle.std.specs.List.{flat_map}
 use Rattle.std.proofs.lemmas.List.{take_all}
 use Rattle.gss_base.specs.Name.{Name}
@@ -7,18 +7,15 @@ use Rattle.krb_derive.specs.declared.key.Key.{Key}
 use Rattle.krb_derive.specs.declared.key.Key.TheVariants.{Aes128, Aes256}
 use Rattle.krb_derive.specs.Key.{number_of_etype, type_of_key, key_octets}
 use Rattle.krb_files.specs.declared.keytab.Entry.{Entry}
-use Rattle.krb_files.specs.declared.pieces.Next.{Next}
 use Rattle.krb_files.specs.declared.pieces.Next.TheVariants.{Item}
-use Rattle.krb_files.specs.Fields.{number_of}
-use Rattle.krb_files.specs.Keytab.{version_of, longer_version, keytab_of}
-use Rattle.krb_files.specs.Grammar.{Then, Number}
-use Rattle.krb_files.specs.KeytabGrammar.{Rest, SpellsEntry, Sized, Piece, SpellsKeytab}
+use Rattle.krb_files.specs.Keytab.{version_of, keytab_of}
+use Rattle.krb_files.specs.KeytabGrammar.{SpellsEntry, Piece, SpellsKeytab}
 use Rattle.krb_files.proofs.KeytabLaws.{keytab_only}
 use Rattle.gss_files.specs.declared.keytab_file.ServiceKey.{ServiceKey}
 use Rattle.gss_files.specs.Fields.{number, counted, principal, key_field, AreShort, IsTextName, IsSizedKey}
 use Rattle.gss_files.specs.KeytabFile.{IsServiceKey, entry_of, key_record, keytab_file}
 use Rattle.gss_files.proofs.ShortNames.{fits_name}
-use Rattle.gss_files.proofs.Spelled.{number_length, number_spelled, counted_spelled, principal_spelled, key_spelled}
+use Rattle.gss_files.proofs.Spelled.{number_length, number_spelled, principal_spelled, key_spelled}
 
 counted_length : (size : ℕ) (octets : List ℕ) → length (counted size octets) ≡ size + length octets
 unfolding counted

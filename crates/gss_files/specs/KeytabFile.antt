@@ -1,5 +1,5 @@
 -- Keytabs as they are written: `05 02`, then one record behind its length.
-use Rattle.std.specs.Prelude.{ℕ, ◌<◌, ◌^◌, ◌%◌, List, [], ◌∷◌, ◌++◌, Some}
+use Rattle.std.specs.Prelude.{ℕ, ◌<◌, ◌^◌, ◌%◌, List, ◌∷◌, ◌++◌, Some}
 use Rattle.krb_files.specs.declared.keytab.Entry.{Entry}
 use Rattle.gss_files.specs.declared.keytab_file.ServiceKey.{ServiceKey}
 use Rattle.gss_files.specs.Fields.{number, counted, principal, key_field, IsTextName, IsSizedKey}

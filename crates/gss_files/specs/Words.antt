@@ -1,6 +1,6 @@
 -- What the words of a command line ask for: `keytab PRINCIPAL KVNO TYPE KEYHEX`, `ccache CLIENT SERVER KVNO TYPE KEYHEX HOURS`,
 -- `verifier USER PASSWORD SALTHEX ROUNDS`.
-use Rattle.std.specs.Prelude.{ℕ, ◌+◌, ◌-◌, ◌^◌, Bool, ◌&&◌, ◌==◌, nat_eq, nat_lt, List, [], length, codes, slice_index_or, Option, Some, None, Result, Ok, Err, if◌then◌else◌}
+use Rattle.std.specs.Prelude.{ℕ, ◌+◌, Bool, ◌&&◌, ◌==◌, nat_eq, nat_lt, List, [], length, codes, slice_index_or, Option, Some, None, Result, Ok, Err, if◌then◌else◌}
 use lib.Pointwise.{pointwise}
 use Rattle.gss_base.specs.Name.{Name}
 use Rattle.gss_base.specs.Signs.{parsed}

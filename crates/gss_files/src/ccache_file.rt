@@ -69,11 +69,7 @@ fn put_credential(out: &mut Vec<u8>, times: Times, credential: &Credential) -> R
 
 /// The octets of a cache of this credential.
 #[tactic(auto, unfolding(crate::specs::CcacheFile::ccache_file))]
-fn ccache_octets(
-    alloc: Global,
-    times: Times,
-    credential: &Credential,
-) -> Result<Octets, NoMemory>
+fn ccache_octets(alloc: Global, times: Times, credential: &Credential) -> Result<Octets, NoMemory>
     ensures written { IfOk result (λ o. o ≡ ccache_file times credential.now) }
     ensures writable { OnOk result (IsWritable credential.now) }
 {

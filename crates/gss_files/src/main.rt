@@ -8,6 +8,8 @@ mod keytab_file;
 mod making;
 mod refusal;
 mod running;
+#[cfg(test)]
+mod tests;
 mod words;
 
 use running::run_files;

@@ -255,12 +255,7 @@ fn verifier_for(
 }
 
 /// The file that an order asks for.
-fn file_for(
-    alloc: Global,
-    order: Order,
-    now: Moment,
-    draws: &[u8; DRAWS],
-) -> Result<Octets, NoFile>
+fn file_for(alloc: Global, order: Order, now: Moment, draws: &[u8; DRAWS]) -> Result<Octets, NoFile>
     ensures { Gives NoFile.NoMemory (λ o. o) result (file_for now draws.now order) }
 {
     match order {

@@ -12,7 +12,8 @@ use sec_base::{Clock, Draw, Moment, Octets, Sink, Text};
 use std::alloc::Global;
 
 /// The line of status 2.
-const USAGE: &str = "usage: gss_files keytab PRINCIPAL KVNO TYPE KEYHEX | ccache CLIENT SERVER KVNO TYPE KEYHEX HOURS | verifier USER PASSWORD SALTHEX ROUNDS\n";
+const USAGE: &str =
+    "usage: gss_files keytab PRINCIPAL KVNO TYPE KEYHEX | ccache CLIENT SERVER KVNO TYPE KEYHEX HOURS | verifier USER PASSWORD SALTHEX ROUNDS\n";
 
 /// How a run ended, and what its file was made with.
 #[derive(Clone, Copy, Debug, PartialEq, Eq)]

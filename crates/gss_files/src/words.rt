@@ -17,7 +17,9 @@ use std::alloc::Global;
 #[derive(Debug, Drop)]
 pub enum Order {
     /// A keytab of this key.
-    Keytab { service: ServiceKey },
+    Keytab {
+        service: ServiceKey,
+    },
     /// A credential cache of this client with a ticket that is sealed under this key, for so many hours from now.
     Ccache {
         client: Principal,

@@ -4,7 +4,6 @@ use Rattle.std.proofs.lemmas.Result.{on_ok_weaker}
 use Rattle.gss_base.specs.Name.{Name}
 use Rattle.std.proofs.lemmas.Str.{is_utf8-from_IsUtf8}
 use Rattle.krb_files.specs.Names.{are_texts}
-use Rattle.gss_files.specs.Fields.{AreShort}
 use Rattle.gss_files.proofs.ShortNames.{fits_name}
 use Rattle.gss_files.proofs.fields.put_principal.Goals as goal
 

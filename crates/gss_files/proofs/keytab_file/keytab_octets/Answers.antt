@@ -1,4 +1,4 @@
-use Rattle.std.proofs.Common.{◌≡◌, ◌<◌, ◌^◌, length, arith}
+use Rattle.std.proofs.Common.{arith}
 use Rattle.gss_files.proofs.SpelledKeytab.{record_length}
 use Rattle.gss_files.proofs.keytab_file.keytab_octets.Goals as goal
 
