@@ -1,6 +1,6 @@
 //! Numbers as words have them.
 
-ghost use Rattle.std.specs.Prelude.{◌≡◌, ◌≤◌, true, length};
+ghost use Rattle.std.specs.Prelude.{◌≡◌, ◌≤◌, true, length, IfSome};
 ghost use Rattle.cli_base.specs.Numbers.{are_digits, is_numeral, number_of, number_in};
 
 /// Whether these are digits.
@@ -41,7 +41,8 @@ fn number_of(digits: &[u8]) -> u64
 
 /// The decimal number of a text, without sign and leading zero, where it is one from `least` to `most`.
 pub fn number_in(text: &str, least: u32, most: u32) -> Option<u32>
-    ensures { result ≡ number_in least most text.now }
+    ensures value { result ≡ number_in least most text.now }
+    ensures range { IfSome result (λ number. (least ≤ number) × (number ≤ most)) }
 {
     let digits = text.as_bytes();
     if !is_numeral(digits) {

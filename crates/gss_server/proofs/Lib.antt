@@ -6,5 +6,7 @@ pub mod OneReading
 pub mod Turning
 pub mod Replying
 pub mod StatusLines
+pub mod EmptyKeytab
+pub mod DeskRuns
 pub mod ServedLinks
-pub mod Words
+pub mod Wanting

@@ -1,9 +1,35 @@
--- The line of a status is said.
-use Rattle.std.proofs.Common.{◌≡◌, ◌≢◌, ℕ, List, ◌++◌, take, ap, sym, ◌∙◌}
-use Rattle.gss_server.specs.Lines.{line_of, Says, SaysLine}
+-- The line of a known status is the line that is due.
+use Rattle.std.proofs.Common.{◌≡◌, ◌≢◌, ℕ, ◌<◌, List, [], true, false, refl, arith}
+use Rattle.gss_server.specs.Desks.{is_begun}
+use Rattle.gss_server.specs.Lines.{line_of}
+use Rattle.gss_server.specs.declared.ending.Counts.{Counts}
+use Rattle.gss_server.specs.declared.ending.RunEnd.{RunEnd}
+use Rattle.gss_server.specs.declared.ending.RunEnd.TheVariants.{Usage, CannotLoad, Bad, NoKey, PortFault, NoMemory, Served}
+use Rattle.cli_base.specs.Lines.{SaysLine, Says, memory_line}
 
-pub said : {old new : List ℕ} {status : ℕ} {line : List ℕ} (known connections records : ℕ) → SaysLine old new status line → line ≡ line_of known connections records → (status ≢ 6 → status ≡ known) → Says old new status connections records
-said {old} {new} {status} known connections records p e is = record {
-  line = λ h. p.whole h ∙ ap (λ (xs : List ℕ). old ++ xs) (e ∙ ap (λ (k : ℕ). line_of k connections records) (sym (is h)));
-  front = λ h. let f = p.front h in (known, f.0, f.1 ∙ ap (λ (xs : List ℕ). old ++ take f.0 xs) e);
+pub known-said : {old new : List ℕ} {status : ℕ} {line : List ℕ} (known : ℕ) → known < 6 → (status ≢ 6 → status ≡ known) → SaysLine old new status line → Says old new status line
+known-said {old} {new} {status} {line} known small same said = record {
+  whole = λ n m. said.whole n;
+  memory = λ e. absurd (let ne : status ≢ 6 = (λ q. omega arith) in let is : status ≡ known = same ne in omega arith);
+  front = λ e. let f = said.front e in (false, f.0, f.1);
 }
+
+pub memory-said : {old new : List ℕ} {status : ℕ} {due : List ℕ} → (status ≢ 6 → status ≡ 8) → SaysLine old new status memory_line → Says old new status due
+memory-said {old} {new} {status} {due} same said = record {
+  whole = λ n m. absurd (m (same n));
+  memory = λ e. said.whole (λ q. omega arith);
+  front = λ e. let f = said.front e in (true, f.0, f.1);
+}
+
+false≢true : false ≡ true → ⊥
+false≢true e = cc
+
+-- behind the keytab the line is one that speaks of no file
+pub end-line : (end : RunEnd) (file name : List ℕ) (counts : Counts) → (end ≢ NoMemory → is_begun end ≡ true) → line_of [] [] counts end ≡ line_of file name counts end
+end-line Usage file name counts begun = absurd (false≢true (begun (λ e. cc)))
+end-line CannotLoad file name counts begun = absurd (false≢true (begun (λ e. cc)))
+end-line (Bad at) file name counts begun = absurd (false≢true (begun (λ e. cc)))
+end-line NoKey file name counts begun = absurd (false≢true (begun (λ e. cc)))
+end-line (PortFault desk) file name counts begun = refl
+end-line NoMemory file name counts begun = refl
+end-line Served file name counts begun = refl

@@ -1,5 +1,5 @@
 -- What a desk did: it served the links of its port, in order.
-use Rattle.std.specs.Prelude.{◌≡◌, ◌≢◌, ℕ, ◌≤◌, Bool, List, [], ◌∷◌, ◌++◌, IsTrue, vec_len, sum_by}
+use Rattle.std.specs.Prelude.{◌≡◌, ◌≢◌, ◌⊎◌, ℕ, ◌+◌, ◌<◌, ◌≤◌, Bool, true, false, List, [], ◌∷◌, ◌++◌, IsTrue, vec_len, sum_by}
 use Rattle.std.specs.List.{AllByRecursion}
 use Rattle.sec_base.specs.Answers.{Rose}
 use Rattle.sec_base.specs.Link.{Wire}
@@ -7,6 +7,11 @@ use Rattle.gss_server.specs.Connections.{IsServed, StreamEnds}
 use Rattle.gss_server.specs.declared.connection.ConnEnd.{ConnEnd}
 use Rattle.gss_server.specs.declared.connection.ConnEnd.TheVariants.{LinkFault, NoMemory}
 use Rattle.gss_server.specs.declared.connection.Served.{Served}
+use Rattle.gss_server.specs.declared.desk.Desk.{Desk}
+use Rattle.gss_server.specs.declared.desk.DeskEnd.{DeskEnd}
+use Rattle.gss_server.specs.declared.desk.DeskEnd.TheVariants as ends
+use Rattle.gss_server.specs.declared.ending.RunEnd.{RunEnd}
+use Rattle.gss_server.specs.declared.ending.RunEnd.TheVariants as whole
 
 -- a link was served to its end, as the connection's own contract says
 pub record ServedLink {L : Type 0} (width : ℕ) (tells : L → Bool) (wire : L → Wire) (faults : L → ℕ) (link : L) (served : Served L) : Type 0 where
@@ -37,3 +42,76 @@ records_of served = sum_by (λ one. vec_len one.kept) served
 -- each connection had at most 65,536 records
 abbrev pub AllWithin : {L : Type 0} → List (Served L) → Type 0
 AllWithin served = AllByRecursion (λ one. vec_len one.kept ≤ 65536) served
+
+-- ---- one desk
+
+-- it has served no link yet
+abbrev pub IsFresh : {P C D L : Type 0} → Desk P C D L → Type 0
+IsFresh desk = desk.served.items ≡ []
+
+-- it served the first links of its port, in order, and at most so many
+pub record DeskServed {P C D L : Type 0} (width connections : ℕ) (port_tells : P → Bool) (links : P → List L) (tells : L → Bool) (wire : L → Wire) (faults : L → ℕ) (old new : Desk P C D L) : Type 0 where
+  pub order : IsTrue (port_tells old.port) → ServedInOrder width tells wire faults (links old.port) (links new.port) new.served.items
+  pub most : vec_len new.served ≤ connections
+  pub within : AllWithin new.served.items
+
+-- it is done: all links of its port were served, or so many, and none ended for want of memory
+pub record DeskDone {P C D L : Type 0} (connections : ℕ) (port_tells : P → Bool) (links : P → List L) (old new : Desk P C D L) : Type 0 where
+  pub all : IsTrue (port_tells old.port) → (links new.port ≡ []) ⊎ (vec_len new.served ≡ connections)
+  pub none_wanted : NoneWanted new.served.items
+
+-- its port failed
+abbrev pub DeskFailed : {P C D L : Type 0} → (P → ℕ) → Desk P C D L → Desk P C D L → Type 0
+DeskFailed faults old new = Rose (faults old.port) (faults new.port)
+
+-- so few connections and records that they can be counted
+pub record IsSmall {P C D L : Type 0} (desk : Desk P C D L) : Type 0 where
+  pub few : vec_len desk.served ≤ 1000000
+  pub within : AllWithin desk.served.items
+
+-- ---- several desks, one after the other
+
+-- desks were served: the words were in the command, and the keytab was there
+abbrev pub is_begun : RunEnd → Bool
+is_begun (whole.PortFault desk) = true
+is_begun whole.NoMemory = false
+is_begun whole.Usage = false
+is_begun whole.CannotLoad = false
+is_begun (whole.Bad at) = false
+is_begun whole.NoKey = false
+is_begun whole.Served = true
+
+-- the end of a run behind a desk: as the first desk that failed has it
+abbrev pub joined : RunEnd → ℕ → DeskEnd → RunEnd
+joined (whole.PortFault first) desk end = whole.PortFault first
+joined whole.NoMemory desk end = whole.NoMemory
+joined whole.Usage desk end = whole.Usage
+joined whole.CannotLoad desk end = whole.CannotLoad
+joined (whole.Bad at) desk end = whole.Bad at
+joined whole.NoKey desk end = whole.NoKey
+joined whole.Served desk ends.Done = whole.Served
+joined whole.Served desk ends.PortFault = whole.PortFault desk
+joined whole.Served desk ends.NoMemory = whole.NoMemory
+
+-- the desk, counted from 0, stands before the one that failed
+abbrev pub IsBefore : ℕ → RunEnd → Type 0
+IsBefore i (whole.PortFault desk) = i + 1 < desk
+IsBefore i whole.NoMemory = ⊥
+IsBefore i whole.Usage = ⊥
+IsBefore i whole.CannotLoad = ⊥
+IsBefore i (whole.Bad at) = ⊥
+IsBefore i whole.NoKey = ⊥
+IsBefore i whole.Served = Unit {0}
+
+-- what a desk came to in a run of this end: the desks before the one that failed are done
+pub record Ran {A : Type 0} (Base Done Failed : A → A → Type 0) (end : RunEnd) (i : ℕ) (old new : A) : Type 0 where
+  pub base : Base old new
+  pub done : IsBefore i end → Done old new
+  pub failed : end ≡ whole.PortFault (i + 1) → Failed old new
+
+-- how many connections, and how many records, the desks have
+abbrev pub all_connections : {P C D L : Type 0} → List (Desk P C D L) → ℕ
+all_connections desks = sum_by (λ desk. vec_len desk.served) desks
+
+abbrev pub all_records : {P C D L : Type 0} → List (Desk P C D L) → ℕ
+all_records desks = sum_by (λ desk. records_of desk.served.items) desks

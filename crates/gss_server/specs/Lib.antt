@@ -3,8 +3,11 @@ pub mod Connections
 pub mod Desks
 pub mod Hearing
 pub mod Kept
+pub mod Keytabs
 pub mod Lines
+pub mod Options
 pub mod Listed
+pub mod Runs
 pub mod Serving
 pub mod Telling
 pub mod Turns

@@ -1,31 +1,40 @@
 -- What the server prints on standard error.
-use Rattle.std.specs.Prelude.{◌≡◌, ◌≢◌, ℕ, List, ◌++◌, take, codes, if◌then◌else◌, nat_eq}
+use Rattle.std.specs.Prelude.{ℕ, List, ◌++◌, codes}
 use Rattle.std.specs.Fmt.{decimal}
-
-abbrev pub served_line : ℕ → ℕ → List ℕ
-served_line connections records = codes "served " ++ (decimal connections ++ (codes " connections " ++ (decimal records ++ codes " records 0 entries\n")))
+use Rattle.cli_base.specs.Files.{stop_line}
+use Rattle.cli_base.specs.Lines.{memory_line}
+use Rattle.cli_base.specs.declared.files.FileStop.TheVariants as stops
+use Rattle.gss_server.specs.declared.ending.Counts.{Counts}
+use Rattle.gss_server.specs.declared.ending.RunEnd.{RunEnd}
+use Rattle.gss_server.specs.declared.ending.RunEnd.TheVariants.{Usage, CannotLoad, Bad, NoKey, PortFault, NoMemory, Served}
 
 abbrev pub usage_line : List ℕ
 usage_line = codes "usage: gssrpcd ADDRESS --keytab FILE --verifiers FILE --name PRINCIPAL [options]\n"
 
-abbrev pub port_line : List ℕ
-port_line = codes "port fault at desk 1\n"
+abbrev pub no_key_line : List ℕ → List ℕ
+no_key_line name = codes "no key for " ++ (name ++ codes "\n")
 
-abbrev pub memory_line : List ℕ
-memory_line = codes "out of memory\n"
+abbrev pub port_line : ℕ → List ℕ
+port_line desk = codes "port fault at desk " ++ (decimal desk ++ codes "\n")
 
--- the line of a status: 0 all connections were served, 2 the words aren't in the command, 5 a port failed, 8 want of memory
-abbrev pub line_of : ℕ → ℕ → ℕ → List ℕ
-line_of status connections records =
-    if nat_eq status 0 then served_line connections records
-    else (if nat_eq status 2 then usage_line else (if nat_eq status 5 then port_line else memory_line))
+abbrev pub served_line : Counts → List ℕ
+served_line counts = codes "served " ++ (decimal counts.connections ++ (codes " connections " ++ (decimal counts.records ++ (codes " records " ++ (decimal counts.entries ++ codes " entries\n")))))
 
--- this line was written, or at status 6 a front of it
-pub record SaysLine (old new : List ℕ) (status : ℕ) (line : List ℕ) : Type 0 where
-  pub whole : status ≢ 6 → new ≡ old ++ line
-  pub front : status ≡ 6 → (count : ℕ) × (new ≡ old ++ take count line)
+abbrev pub status_of : RunEnd → ℕ
+status_of Usage = 2
+status_of CannotLoad = 3
+status_of (Bad at) = 4
+status_of NoKey = 4
+status_of (PortFault desk) = 5
+status_of NoMemory = 8
+status_of Served = 0
 
--- the line of the status was written, or at status 6 a front of the line of another
-pub record Says (old new : List ℕ) (status connections records : ℕ) : Type 0 where
-  pub line : status ≢ 6 → new ≡ old ++ line_of status connections records
-  pub front : status ≡ 6 → (other count : ℕ) × (new ≡ old ++ take count (line_of other connections records))
+-- the line of an end, by the name of the keytab's file, the own name and what was served
+abbrev pub line_of : List ℕ → List ℕ → Counts → RunEnd → List ℕ
+line_of file name counts Usage = usage_line
+line_of file name counts CannotLoad = stop_line file stops.CannotLoad
+line_of file name counts (Bad at) = stop_line file (stops.Bad at)
+line_of file name counts NoKey = no_key_line name
+line_of file name counts (PortFault desk) = port_line desk
+line_of file name counts NoMemory = memory_line
+line_of file name counts Served = served_line counts

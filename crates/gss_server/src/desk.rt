@@ -9,9 +9,6 @@ use crate::gate::Gate;
 use sec_base::{Clock, Draw, Port};
 use std::alloc::Global;
 
-/// The width of the windows of contexts.
-const WIDTH: u32 = 128;
-
 /// A port with the clock and the draw that serve its connections, and those that were served.
 #[derive(Drop)]
 pub struct Desk<P: Port, C, D> {
@@ -32,23 +29,25 @@ pub enum DeskEnd {
     NoMemory,
 }
 
-/// Serves the links of a desk's port, one after the other, at most `connections`.
+/// Serves the links of a desk's port, one after the other, at most `connections`, with windows of this width.
 pub fn serve_desk<P: Port, G: Gate, C: Clock, D: Draw>(
     alloc: Global,
     desk: &mut Desk<P, C, D>,
     gate: &mut G,
     connections: u32,
+    width: u32,
 ) -> DeskEnd
 where
     P::Link: Drop,
     requires { desk.old.served.items ≡ [] }
-    ensures told { IsTrue (P.tells desk.old.port) → ServedInOrder 128 P.Link.tells P.Link.wire P.Link.faults (P.links desk.old.port) (P.links desk.new.port) desk.new.served.items }
+    ensures told { IsTrue (P.tells desk.old.port) → ServedInOrder width P.Link.tells P.Link.wire P.Link.faults (P.links desk.old.port) (P.links desk.new.port) desk.new.served.items }
     ensures done { result ≡ DeskEnd.Done → IsTrue (P.tells desk.old.port) → (P.links desk.new.port ≡ []) ⊎ (vec_len desk.new.served ≡ connections) }
     ensures none_wanted { result ≡ DeskEnd.Done → NoneWanted desk.new.served.items }
     ensures fault { result ≡ DeskEnd.PortFault → Rose (P.faults desk.old.port) (P.faults desk.new.port) }
     ensures faults { P.faults desk.old.port ≤ P.faults desk.new.port }
     ensures most { vec_len desk.new.served ≤ connections }
     ensures within { AllWithin desk.new.served.items }
+    ensures limits { G.limits gate.new ≡ G.limits gate.old }
 {
     for number in 0..connections {
         match desk.served.reserve(1) {
@@ -59,7 +58,7 @@ where
             Err(_) => return DeskEnd::PortFault,
             Ok(None) => return DeskEnd::Done,
             Ok(Some(link)) => {
-                let served = serve_link(alloc, link, gate, &mut desk.clock, &mut desk.draw, WIDTH);
+                let served = serve_link(alloc, link, gate, &mut desk.clock, &mut desk.draw, width);
                 let end = served.end;
                 let _ = desk.served.push(served);
                 match end {

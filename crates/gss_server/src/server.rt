@@ -1,42 +1,265 @@
 //! The run of the server.
 
-ghost use Rattle.std.specs.Prelude.{◌≡◌, ◌≢◌, ◌≤◌, ◌⊎◌, ℕ, List, [], ◌∷◌, ◌++◌, ◌↔◌, IsTrue, length, vec_len, codes};
+ghost use Rattle.std.specs.Prelude.{◌≡◌, ◌≢◌, ◌≤◌, ℕ, List, [], true, false, IsTrue, IfOk, Some, Ok, Err, unwrap_or, length, reverse, slice_get};
+ghost use Rattle.std.specs.List.{AllByRecursion};
 ghost use Rattle.sec_base.specs.Answers.{Rose};
-ghost use Rattle.gss_server.specs.Desks.{ServedInOrder, NoneWanted, records_of, AllWithin};
-ghost use Rattle.gss_server.specs.Lines.{Says, SaysLine};
+ghost use Rattle.cli_base.specs.Lines.{Says};
+ghost use Rattle.accept_book.specs.Legal.{Legal};
+ghost use Rattle.gss_base.specs.Principal.{text_form};
+ghost use Rattle.gss_server.specs.Desks.{IsFresh, IsSmall, DeskServed, DeskDone, DeskFailed, is_begun, Ran, all_connections, all_records};
+ghost use Rattle.gss_server.specs.Lines.{status_of, line_of};
+ghost use Rattle.gss_server.specs.Options.{options_of, IsRanged};
+ghost use Rattle.gss_server.specs.Runs.{file_of, name_of, EndsBy, Begins, HasLimits, no_log};
+ghost use Rattle.gss_server.specs.Keytabs.{IsKeytab};
 
-use crate::connection::Served;
-use crate::desk::{Desk, DeskEnd, serve_desk};
-use crate::list_gate::ListGate;
-use sec_base::{Clock, Draw, Moment, Port, Sink, Text};
+use crate::desk::Desk;
+use crate::desks::{count_connections, count_records, serve_desks};
+use crate::ending::{Counts, RunEnd, say_end};
+use crate::keytab::keytab_given;
+use crate::options::{Options, WordsRefusal, read_options};
+use accept_book::{Book, Limits, Log};
+use gss_base::{MechKind, Principal};
+use krb_files::Keytab;
+use sec_base::{Clock, Draw, Items, Moment, NoMemory, Port, Shelf, Sink, Text};
+use spnego_core::AcceptSetup;
 use std::alloc::Global;
 
-/// How many links of a port are served.
-const CONNECTIONS: u32 = 1000;
-
-/// The line of status 5.
-const PORT_FAULT: &str = "port fault at desk 1\n";
-
-/// The line of status 8.
-const OUT_OF_MEMORY: &str = "out of memory\n";
-
-/// The line of status 2.
-const USAGE: &str =
-    "usage: gssrpcd ADDRESS --keytab FILE --verifiers FILE --name PRINCIPAL [options]\n";
-
 /// How the run ended.
-#[derive(Clone, Copy, Debug, PartialEq, Eq)]
+#[derive(Drop)]
 pub struct ServerEnd {
-    /// The exit status: 0 all connections were served, 2 the words aren't in the command, 5 a port failed, 6 a sink failed, 8 there
-    /// was no memory.
+    /// The exit status: 0 all connections were served, 2 the words aren't in the command, 3 the keytab can't be loaded, 4 it is none,
+    /// or has no key for the own name, 5 a port failed, 6 a sink failed, 8 there was no memory.
     pub status: u8,
+    /// How the run ended, before its line was written.
+    pub end: RunEnd,
+    /// The log of the book, which is empty and has no limits where no book was opened.
+    pub log: Log,
 }
 
-/// Runs the server over one desk, and says on `err` how it ended. The words are `stdio` alone; the first 1,000 links of the desk's
-/// port are served.
-pub fn run_server<P: Port, C: Clock, D: Draw, O: Sink>(
+/// What is counted where nothing was served.
+const NOTHING: Counts = Counts {
+    connections: 0,
+    records: 0,
+    entries: 0,
+};
+
+/// What a run came to.
+#[derive(Drop)]
+struct Course {
+    end: RunEnd,
+    log: Log,
+}
+
+/// The book of a run.
+fn open_book(
+    alloc: Global,
+    options: Options,
+    keytab: Keytab,
+    start: Moment,
+) -> Result<Book, NoMemory>
+    requires { IsRanged options }
+    ensures history { IfOk result (λ book. book.core.history ≡ []) }
+    ensures limit { IfOk result (λ book. book.core.limit ≡ options.log) }
+    ensures width { IfOk result (λ book. book.core.width ≡ options.window) }
+    ensures contexts { IfOk result (λ book. book.core.table.limit ≡ options.contexts) }
+    ensures marks { IfOk result (λ book. book.core.cache.capacity ≡ options.marks) }
+    ensures own { IfOk result (λ book. book.setup.own ≡ options.name) }
+    ensures keytab { IfOk result (λ book. book.setup.keytab ≡ keytab) }
+    ensures bindings { IfOk result (λ book. book.setup.bindings ≡ options.bindings) }
+{
+    let mut offer = Vec::new(alloc);
+    offer.push(MechKind::Kerberos)?;
+    let limits = Limits {
+        contexts: options.contexts as usize,
+        marks: options.marks as usize,
+        log: options.log as usize,
+        width: options.window,
+    };
+    let setup = AcceptSetup {
+        own: options.name,
+        keytab,
+        bindings: options.bindings,
+        offer: Items::of(offer),
+    };
+    Book::open(alloc, setup, limits, start)
+}
+
+/// Serves the desks with a book.
+fn run_book<P: Port, C: Clock, D: Draw>(
+    alloc: Global,
+    book: Book,
+    desks: &mut Vec<Desk<P, C, D>>,
+    connections: u32,
+    width: u32,
+) -> Course
+where
+    P::Link: Drop,
+    requires fresh { AllByRecursion IsFresh desks.old.items }
+    requires connections { connections ≤ 1000000 }
+    ensures ran { (i : ℕ) (a b : _) → slice_get desks.old.items i ≡ Some a → slice_get desks.new.items i ≡ Some b
+        → Ran (DeskServed width connections P.tells P.links P.Link.tells P.Link.wire P.Link.faults) (DeskDone connections P.tells P.links) (DeskFailed P.faults) result.end i a b }
+    ensures begun { result.end ≢ RunEnd.NoMemory → is_begun result.end ≡ true }
+    ensures small { AllByRecursion IsSmall desks.new.items }
+    ensures legal { Legal result.log.width (reverse result.log.entries) }
+    ensures width { result.log.width ≡ book.core.width }
+    ensures limit { result.log.limit ≡ book.core.limit }
+    ensures contexts { result.log.contexts ≡ book.core.table.limit }
+    ensures marks { result.log.marks ≡ book.core.cache.capacity }
+{
+    let mut book = book;
+    let end = serve_desks(alloc, desks.as_mut_slice(), &mut book, connections, width);
+    Course {
+        end,
+        log: book.into_log(),
+    }
+}
+
+/// Opens the book and serves the desks.
+fn run_desks<P: Port, C: Clock, D: Draw>(
+    alloc: Global,
+    options: Options,
+    keytab: Keytab,
+    desks: &mut Vec<Desk<P, C, D>>,
+    start: Moment,
+) -> Course
+where
+    P::Link: Drop,
+    requires fresh { AllByRecursion IsFresh desks.old.items }
+    requires ranged { IsRanged options }
+    ensures ran { (i : ℕ) (a b : _) → slice_get desks.old.items i ≡ Some a → slice_get desks.new.items i ≡ Some b
+        → Ran (DeskServed options.window options.connections P.tells P.links P.Link.tells P.Link.wire P.Link.faults) (DeskDone options.connections P.tells P.links) (DeskFailed P.faults) result.end i a b }
+    ensures begun { result.end ≢ RunEnd.NoMemory → is_begun result.end ≡ true }
+    ensures small { AllByRecursion IsSmall desks.new.items }
+    ensures legal { Legal result.log.width (reverse result.log.entries) }
+    ensures limits { is_begun result.end ≡ true → HasLimits options result.log }
+{
+    let connections = options.connections;
+    let width = options.window;
+    match open_book(alloc, options, keytab, start) {
+        Ok(book) => run_book(alloc, book, desks, connections, width),
+        Err(_) => Course {
+            end: RunEnd::NoMemory,
+            log: Log::empty(alloc),
+        },
+    }
+}
+
+/// Says how a run ended that had its keytab.
+fn finish<P: Port, C, D, O: Sink>(
+    alloc: Global,
+    desks: &[Desk<P, C, D>],
+    course: Course,
+    err: &mut O,
+) -> ServerEnd
+    requires small { AllByRecursion IsSmall desks.now }
+    requires begun { course.end ≢ RunEnd.NoMemory → is_begun course.end ≡ true }
+    ensures status { result.status ≢ 6 → result.status ≢ 8 → result.status ≡ status_of result.end }
+    ensures sink_fault { result.status ≡ 6 → Rose (O.faults err.old) (O.faults err.new) }
+    ensures said { IsTrue (O.tells err.old) → (file name : List ℕ)
+        → Says (O.written err.old) (O.written err.new) result.status
+        (line_of file name (record { connections = all_connections desks.now; records = all_records desks.now; entries = length result.log.entries }) result.end) }
+    ensures end { result.end ≡ course.end }
+    ensures log { result.log ≡ course.log }
+{
+    let counts = Counts {
+        connections: count_connections(desks),
+        records: count_records(desks),
+        entries: course.log.len(),
+    };
+    let status = say_end(alloc, err, "", "", &counts, course.end);
+    ServerEnd {
+        status,
+        end: course.end,
+        log: course.log,
+    }
+}
+
+/// Says why a run has no keytab.
+fn unready<O: Sink>(
+    alloc: Global,
+    file: &Option<Text>,
+    own: &Principal,
+    end: RunEnd,
+    err: &mut O,
+) -> ServerEnd
+    requires { is_begun end ≡ false }
+    ensures status { result.status ≢ 6 → result.status ≢ 8 → result.status ≡ status_of result.end }
+    ensures sink_fault { result.status ≡ 6 → Rose (O.faults err.old) (O.faults err.new) }
+    ensures said { IsTrue (O.tells err.old) → (counts : Counts)
+        → Says (O.written err.old) (O.written err.new) result.status (line_of (unwrap_or file.now []) (text_form own.now.realm own.now.parts) counts end) }
+    ensures end { result.end ≡ end }
+    ensures log { result.log ≡ no_log }
+{
+    let file = match file {
+        Some(file) => file.as_str(),
+        None => "",
+    };
+    let status = say_end(alloc, err, file, own.label().text(), &NOTHING, end);
+    ServerEnd {
+        status,
+        end,
+        log: Log::empty(alloc),
+    }
+}
+
+/// Says that the words aren't in the command, or that there was no memory to read them.
+fn refused<O: Sink>(alloc: Global, end: RunEnd, err: &mut O) -> ServerEnd
+    requires { (end ≢ RunEnd.Usage) → (end ≡ RunEnd.NoMemory) }
+    ensures status { result.status ≢ 6 → result.status ≢ 8 → result.status ≡ status_of result.end }
+    ensures sink_fault { result.status ≡ 6 → Rose (O.faults err.old) (O.faults err.new) }
+    ensures said { IsTrue (O.tells err.old) → (file name : List ℕ) (counts : Counts)
+        → Says (O.written err.old) (O.written err.new) result.status (line_of file name counts end) }
+    ensures end { result.end ≡ end }
+    ensures log { result.log ≡ no_log }
+{
+    let status = say_end(alloc, err, "", "", &NOTHING, end);
+    ServerEnd {
+        status,
+        end,
+        log: Log::empty(alloc),
+    }
+}
+
+/// Runs the server with these options.
+fn run_with<F: Shelf, P: Port, C: Clock, D: Draw, O: Sink>(
+    alloc: Global,
+    options: Options,
+    shelf: &mut F,
+    desks: &mut Vec<Desk<P, C, D>>,
+    start: Moment,
+    err: &mut O,
+) -> ServerEnd
+where
+    P::Link: Drop,
+    requires fresh { AllByRecursion IsFresh desks.old.items }
+    requires ranged { IsRanged options }
+    ensures begins { Begins (F.tells shelf.old) (F.files shelf.old) (F.asked shelf.old) (F.asked shelf.new) (F.faults shelf.old) (F.faults shelf.new) options result.end }
+    ensures ran { (i : ℕ) (a b : _) → slice_get desks.old.items i ≡ Some a → slice_get desks.new.items i ≡ Some b
+        → Ran (DeskServed options.window options.connections P.tells P.links P.Link.tells P.Link.wire P.Link.faults) (DeskDone options.connections P.tells P.links) (DeskFailed P.faults) result.end i a b }
+    ensures legal { Legal result.log.width (reverse result.log.entries) }
+    ensures limits { is_begun result.end ≡ true → HasLimits options result.log }
+    ensures status { result.status ≢ 6 → result.status ≢ 8 → result.status ≡ status_of result.end }
+    ensures sink_fault { result.status ≡ 6 → Rose (O.faults err.old) (O.faults err.new) }
+    ensures said { IsTrue (O.tells err.old)
+        → Says (O.written err.old) (O.written err.new) result.status
+        (line_of (file_of (Ok options)) (name_of (Ok options)) (record { connections = all_connections desks.new.items; records = all_records desks.new.items; entries = length result.log.entries }) result.end) }
+    ensures other { result.end ≢ RunEnd.Usage }
+{
+    match keytab_given(alloc, shelf, &options.keytab, &options.name) {
+        Ok(keytab) => {
+            let course = run_desks(alloc, options, keytab, desks, start);
+            finish(alloc, desks.as_slice(), course, err)
+        }
+        Err(end) => unready(alloc, &options.keytab, &options.name, end, err),
+    }
+}
+
+/// Runs the server over its desks, one after the other, and says on `err` how it ended. The words are
+/// `ADDRESS [--keytab FILE --name PRINCIPAL] [--bind TEXT] [--window N] [--connections N] [--contexts N] [--marks N] [--log N]`.
+pub fn run_server<F: Shelf, P: Port, C: Clock, D: Draw, O: Sink>(
     alloc: Global,
     words: &[Text],
+    shelf: &mut F,
     desks: &mut Vec<Desk<P, C, D>>,
     start: Moment,
     out: &mut O,
@@ -44,119 +267,32 @@ pub fn run_server<P: Port, C: Clock, D: Draw, O: Sink>(
 ) -> ServerEnd
 where
     P::Link: Drop,
-    requires one { vec_len desks.old ≡ 1 }
-    requires fresh { (before : _) → desks.old.items ≡ before ∷ [] → before.served.items ≡ [] }
-    ensures usage { result.status ≡ 2 → words.now ≢ codes "stdio" ∷ [] }
-    ensures always_usage { words.now ≢ codes "stdio" ∷ [] → result.status ≢ 6 → result.status ≡ 2 }
-    ensures one_desk { vec_len desks.new ≡ 1 }
-    // Where the words aren't in the command the desk is as it was: no port was asked.
-    ensures unasked { (before after : _) → desks.old.items ≡ before ∷ [] → desks.new.items ≡ after ∷ [] → result.status ≡ 2
-        → after ≡ before }
-    // In every case the first links of the port were served, in order.
-    ensures served { (before after : _) → desks.old.items ≡ before ∷ [] → desks.new.items ≡ after ∷ []
-        → IsTrue (P.tells before.port)
-        → ServedInOrder 128 P.Link.tells P.Link.wire P.Link.faults (P.links before.port) (P.links after.port) after.served.items }
-    ensures all { (before after : _) → desks.old.items ≡ before ∷ [] → desks.new.items ≡ after ∷ [] → result.status ≡ 0
-        → IsTrue (P.tells before.port) → (P.links after.port ≡ []) ⊎ (vec_len after.served ≡ 1000) }
-    ensures none_wanted { (before after : _) → desks.old.items ≡ before ∷ [] → desks.new.items ≡ after ∷ [] → result.status ≡ 0
-        → NoneWanted after.served.items }
-    ensures port_fault { (before after : _) → desks.old.items ≡ before ∷ [] → desks.new.items ≡ after ∷ [] → result.status ≡ 5
-        → Rose (P.faults before.port) (P.faults after.port) }
+    requires fresh { AllByRecursion IsFresh desks.old.items }
+    // The status and the line on `err`: those of the end, unless there was no memory for the line, or the sink failed.
+    ensures status { result.status ≢ 6 → result.status ≢ 8 → result.status ≡ status_of result.end }
     ensures sink_fault { result.status ≡ 6 → Rose (O.faults err.old) (O.faults err.new) }
-    ensures statuses { result.status ≢ 0 → result.status ≢ 2 → result.status ≢ 5 → result.status ≢ 8 → result.status ≡ 6 }
-    // What err gained: the line of the status, or at status 6 a front of the line of another.
-    ensures said { (after : _) → desks.new.items ≡ after ∷ [] → IsTrue (O.tells err.old)
-        → Says (O.written err.old) (O.written err.new) result.status (vec_len after.served) (records_of after.served.items) }
+    ensures said { IsTrue (O.tells err.old)
+        → Says (O.written err.old) (O.written err.new) result.status
+        (line_of (file_of (options_of words.now)) (name_of (options_of words.now)) (record { connections = all_connections desks.new.items; records = all_records desks.new.items; entries = length result.log.entries }) result.end) }
     ensures out { O.written out.new ≡ O.written out.old }
+    // The words are refused exactly where they aren't in the command, want of memory aside.
+    ensures usage { result.end ≡ RunEnd.Usage → options_of words.now ≡ Err WordsRefusal.Usage }
+    ensures always_usage { options_of words.now ≡ Err WordsRefusal.Usage → result.end ≢ RunEnd.NoMemory → result.end ≡ RunEnd.Usage }
+    ensures unasked { result.end ≡ RunEnd.Usage → desks.new.items ≡ desks.old.items }
+    ensures unloaded { result.end ≡ RunEnd.Usage → F.asked shelf.new ≡ F.asked shelf.old }
+    // Words in the command: the run ends by what the keytab comes to.
+    ensures begins { (options : Options) → options_of words.now ≡ Ok options → result.end ≢ RunEnd.NoMemory
+        → Begins (F.tells shelf.old) (F.files shelf.old) (F.asked shelf.old) (F.asked shelf.new) (F.faults shelf.old) (F.faults shelf.new) options result.end }
+    // Each desk served the first links of its port, in order; where it is done, all of them or as many as the words say.
+    ensures ran { (options : Options) → options_of words.now ≡ Ok options → (i : ℕ) (a b : _) → slice_get desks.old.items i ≡ Some a → slice_get desks.new.items i ≡ Some b
+        → Ran (DeskServed options.window options.connections P.tells P.links P.Link.tells P.Link.wire P.Link.faults) (DeskDone options.connections P.tells P.links) (DeskFailed P.faults) result.end i a b }
+    // The log is legal, and was kept under the limits of the words.
+    ensures legal { Legal result.log.width (reverse result.log.entries) }
+    ensures limits { (options : Options) → options_of words.now ≡ Ok options → is_begun result.end ≡ true → HasLimits options result.log }
 {
-    let desk = &mut desks[0];
-    run_desk(alloc, words, desk, err)
-}
-
-/// Runs the server over this desk.
-fn run_desk<P: Port, C: Clock, D: Draw, O: Sink>(
-    alloc: Global,
-    words: &[Text],
-    desk: &mut Desk<P, C, D>,
-    err: &mut O,
-) -> ServerEnd
-where
-    P::Link: Drop,
-    requires { desk.old.served.items ≡ [] }
-    ensures usage { result.status ≡ 2 → words.now ≢ codes "stdio" ∷ [] }
-    ensures always_usage { words.now ≢ codes "stdio" ∷ [] → result.status ≢ 6 → result.status ≡ 2 }
-    ensures unasked { result.status ≡ 2 → desk.new ≡ desk.old }
-    ensures served { IsTrue (P.tells desk.old.port)
-        → ServedInOrder 128 P.Link.tells P.Link.wire P.Link.faults (P.links desk.old.port) (P.links desk.new.port) desk.new.served.items }
-    ensures all { result.status ≡ 0 → IsTrue (P.tells desk.old.port)
-        → (P.links desk.new.port ≡ []) ⊎ (vec_len desk.new.served ≡ 1000) }
-    ensures none_wanted { result.status ≡ 0 → NoneWanted desk.new.served.items }
-    ensures port_fault { result.status ≡ 5 → Rose (P.faults desk.old.port) (P.faults desk.new.port) }
-    ensures sink_fault { result.status ≡ 6 → Rose (O.faults err.old) (O.faults err.new) }
-    ensures statuses { result.status ≢ 0 → result.status ≢ 2 → result.status ≢ 5 → result.status ≢ 8 → result.status ≡ 6 }
-    ensures said { IsTrue (O.tells err.old) → Says (O.written err.old) (O.written err.new) result.status (vec_len desk.new.served) (records_of desk.new.served.items) }
-{
-    if !is_command(words) {
-        return say(err, 2, USAGE);
-    }
-    let Ok(mut gate) = ListGate::new(alloc, Vec::new(alloc)) else {
-        return say(err, 8, OUT_OF_MEMORY);
-    };
-    match serve_desk(alloc, desk, &mut gate, CONNECTIONS) {
-        DeskEnd::Done => report(alloc, desk.served.as_slice(), err),
-        DeskEnd::PortFault => say(err, 5, PORT_FAULT),
-        DeskEnd::NoMemory => say(err, 8, OUT_OF_MEMORY),
-    }
-}
-
-/// Whether the words are in the command.
-fn is_command(words: &[Text]) -> bool
-    ensures { IsTrue result ↔ (words.now ≡ codes "stdio" ∷ []) }
-{
-    match words {
-        [word] => word.as_str() == "stdio",
-        _ => false,
-    }
-}
-
-/// Says that all connections were served.
-fn report<L, O: Sink>(alloc: Global, served: &[Served<L>], err: &mut O) -> ServerEnd
-    requires count { length served.now ≤ 1000 }
-    requires within { AllWithin served.now }
-    ensures status { result.status ≢ 6 → result.status ≢ 8 → result.status ≡ 0 }
-    ensures sink_fault { result.status ≡ 6 → Rose (O.faults err.old) (O.faults err.new) }
-    ensures said { IsTrue (O.tells err.old) → Says (O.written err.old) (O.written err.new) result.status (length served.now) (records_of served.now) }
-{
-    let connections = served.len();
-    let records = count_records(served);
-    match format!(in alloc; "served {connections} connections {records} records 0 entries\n") {
-        Ok(line) => say(err, 0, line.as_str()),
-        Err(_) => say(err, 8, OUT_OF_MEMORY),
-    }
-}
-
-/// How many records the connections had.
-fn count_records<L>(served: &[Served<L>]) -> u64
-    requires count { length served.now ≤ 1000 }
-    requires within { AllWithin served.now }
-    ensures { result ≡ records_of served.now }
-{
-    let mut records = 0;
-    for connection in served {
-        records += connection.kept.len() as u64;
-    }
-    records
-}
-
-/// Writes the line of a status, and answers that status, or 6 where it can't be written.
-fn say<O: Sink>(err: &mut O, status: u8, line: &str) -> ServerEnd
-    requires { status ≢ 6 }
-    ensures status { result.status ≢ 6 → result.status ≡ status }
-    ensures sink_fault { result.status ≡ 6 → Rose (O.faults err.old) (O.faults err.new) }
-    ensures said { IsTrue (O.tells err.old) → SaysLine (O.written err.old) (O.written err.new) result.status line.now }
-{
-    match err.write(line.as_bytes()) {
-        Ok(()) => ServerEnd { status },
-        Err(_) => ServerEnd { status: 6 },
+    match read_options(alloc, words) {
+        Ok(options) => run_with(alloc, options, shelf, desks, start, err),
+        Err(WordsRefusal::Usage) => refused(alloc, RunEnd::Usage, err),
+        Err(WordsRefusal::NoMemory) => refused(alloc, RunEnd::NoMemory, err),
     }
 }

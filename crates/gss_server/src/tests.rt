@@ -1,12 +1,12 @@
 //! The server over devices in memory.
 
 use crate::*;
-use sec_base::{MemClock, MemDraw, MemLink, MemPort, MemSink, Moment, Text};
+use sec_base::{MemClock, MemDraw, MemLink, Moment};
 use std::alloc::Global;
 use std::test::Fail;
 
 /// A NULL call with xid 1 as one record.
-const CALL: [u8; 44] = [
+pub(crate) const CALL: [u8; 44] = [
     0x80, 0, 0, 40, 0, 0, 0, 1, 0, 0, 0, 0, 0, 0, 0, 2, 0x20, 0, 0x47, 0x53, 0, 0, 0, 1, 0, 0, 0,
     0, 0, 0, 0, 0, 0, 0, 0, 0, 0, 0, 0, 0, 0, 0, 0, 0,
 ];
@@ -197,48 +197,5 @@ fn a_call_that_fails_ends_the_connection(rt: HostRuntime) -> Result<(), Fail> {
         assert_eq!(rt; served.link.faults(), 1);
         assert_eq!(rt; served.link.written(), &REPLY[..written]);
     }
-    Ok(())
-}
-
-/// The status of a run with this word over a port with one call, where these calls of the port and of standard error fail.
-fn status(alloc: Global, word: &str, port: u64, sink: u64) -> Result<u8, Fail> {
-    let mut links = Vec::new(alloc);
-    let input = Vec::from_slice(alloc, &CALL)?;
-    links.push(MemLink::new(alloc, input, Vec::new(alloc), Vec::new(alloc)))?;
-    let port = MemPort::new(links, vec![in alloc; port]?);
-    let clock = MemClock::new(Vec::new(alloc));
-    let draw = MemDraw::new(Vec::new(alloc));
-    let mut desks = Vec::new(alloc);
-    let served = Vec::new(alloc);
-    desks.push(Desk {
-        port,
-        clock,
-        draw,
-        served,
-    })?;
-    let mut words = Vec::new(alloc);
-    words.push(Text::of(alloc, word)?)?;
-    let mut out = MemSink::new(alloc, Vec::new(alloc));
-    let mut err = MemSink::new(alloc, vec![in alloc; sink]?);
-    let end = run_server(
-        alloc,
-        words.as_slice(),
-        &mut desks,
-        Moment::start(),
-        &mut out,
-        &mut err,
-    );
-    Ok(end.status)
-}
-
-#[test]
-fn a_run_says_how_it_ended(rt: HostRuntime) -> Result<(), Fail> {
-    let alloc = rt.alloc();
-    assert_eq!(rt; status(alloc, "stdio", 9, 9)?, 0);
-    assert_eq!(rt; status(alloc, "drill", 9, 9)?, 2);
-    // the port fails at its first call, and at its second
-    assert_eq!(rt; status(alloc, "stdio", 1, 9)?, 5);
-    assert_eq!(rt; status(alloc, "stdio", 2, 9)?, 5);
-    assert_eq!(rt; status(alloc, "stdio", 9, 1)?, 6);
     Ok(())
 }

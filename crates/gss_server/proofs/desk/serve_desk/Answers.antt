@@ -6,9 +6,9 @@ use Rattle.gss_server.proofs.desk.serve_desk.Goals as goal
 pub returns-in-NoMemory-clause-told : goal.returns-in-NoMemory-clause-told
 returns-in-NoMemory-clause-told g c = λ t.
     let tells : IsTrue (g.P.Port.tells c.loop-number.desk.port) = rw c.loop-number.invariant.tells t in
-    subst (λ xs. ServedInOrder 128 g.P.Link.Link.tells g.P.Link.Link.wire g.P.Link.Link.faults (g.P.Port.links c.args.desk.now.port) (g.P.Port.links c.accept.new.self) xs)
+    subst (λ xs. ServedInOrder c.args.width g.P.Link.Link.tells g.P.Link.Link.wire g.P.Link.Link.faults (g.P.Port.links c.args.desk.now.port) (g.P.Port.links c.accept.new.self) xs)
     (sym (pushed c.push.result _ _ _ _ _ c.push.ensures.items c.push.ensures.full c.in-Ok.ensures.ok ∙ ap (λ xs. xs ++ c.serve_link-served.result ∷ []) c.reserve.ensures.items))
-    (served-more 128 _ _ _ _ (g.P.Port.links c.loop-number.desk.port) (g.P.Port.links c.accept.new.self) c.loop-number.desk.served.items c.in-Ok-Some.link c.serve_link-served.result
+    (served-more c.args.width _ _ _ _ (g.P.Port.links c.loop-number.desk.port) (g.P.Port.links c.accept.new.self) c.loop-number.desk.served.items c.in-Ok-Some.link c.serve_link-served.result
     (c.loop-number.invariant.told t)
     (accepted _ _ c.in-Ok-Some.link c.in-Ok-Some.field-0 c.in-Ok-Some.field-0-is (c.in-Ok-Some.ensures.told tells))
     (record { told = c.serve_link-served.ensures.told; always = c.serve_link-served.ensures.always; fault = c.serve_link-served.ensures.fault }))
@@ -17,9 +17,9 @@ pub loop-number-preserved : goal.loop-number-preserved
 loop-number-preserved g c = record {
   told = λ t.
       let tells : IsTrue (g.P.Port.tells c.loop-number.desk.port) = rw c.loop-number.invariant.tells t in
-      subst (λ xs. ServedInOrder 128 g.P.Link.Link.tells g.P.Link.Link.wire g.P.Link.Link.faults (g.P.Port.links c.args.desk.now.port) (g.P.Port.links c.accept.new.self) xs)
+      subst (λ xs. ServedInOrder c.args.width g.P.Link.Link.tells g.P.Link.Link.wire g.P.Link.Link.faults (g.P.Port.links c.args.desk.now.port) (g.P.Port.links c.accept.new.self) xs)
       (sym (pushed c.push.result _ _ _ _ _ c.push.ensures.items c.push.ensures.full c.in-Ok.ensures.ok ∙ ap (λ xs. xs ++ c.serve_link-served.result ∷ []) c.reserve.ensures.items))
-      (served-more 128 _ _ _ _ (g.P.Port.links c.loop-number.desk.port) (g.P.Port.links c.accept.new.self) c.loop-number.desk.served.items c.in-Ok-Some.link c.serve_link-served.result
+      (served-more c.args.width _ _ _ _ (g.P.Port.links c.loop-number.desk.port) (g.P.Port.links c.accept.new.self) c.loop-number.desk.served.items c.in-Ok-Some.link c.serve_link-served.result
       (c.loop-number.invariant.told t)
       (accepted _ _ c.in-Ok-Some.link c.in-Ok-Some.field-0 c.in-Ok-Some.field-0-is (c.in-Ok-Some.ensures.told tells))
       (record { told = c.serve_link-served.ensures.told; always = c.serve_link-served.ensures.always; fault = c.serve_link-served.ensures.fault }));
@@ -31,5 +31,6 @@ loop-number-preserved g c = record {
   within = subst (λ xs. AllWithin xs)
       (sym (pushed c.push.result _ _ _ _ _ c.push.ensures.items c.push.ensures.full c.in-Ok.ensures.ok ∙ ap (λ xs. xs ++ c.serve_link-served.result ∷ []) c.reserve.ensures.items))
       (within-more _ _ c.loop-number.invariant.within c.serve_link-served.ensures.bound);
+  limits = c.serve_link-served.ensures.limits ∙ c.loop-number.invariant.limits;
   count = omega (arith, pushed-count c.push.result _ _ _ _ c.push.ensures.len c.push.ensures.full c.in-Ok.ensures.ok, c.reserve.ensures.len);
 }

@@ -4,10 +4,11 @@ use Rattle.gss_server.proofs.desk.serve_desk.Given as goal
 
 abbrev pub invariant-loop-number : goal.invariant-loop-number
 invariant-loop-number g l = record {
-  told : IsTrue (g.P.Port.tells l.fn.desk.port) → ServedInOrder 128 g.P.Link.Link.tells g.P.Link.Link.wire g.P.Link.Link.faults (g.P.Port.links l.fn.desk.port) (g.P.Port.links l.desk.port) l.desk.served.items;
+  told : IsTrue (g.P.Port.tells l.fn.desk.port) → ServedInOrder l.width g.P.Link.Link.tells g.P.Link.Link.wire g.P.Link.Link.faults (g.P.Port.links l.fn.desk.port) (g.P.Port.links l.desk.port) l.desk.served.items;
   tells : g.P.Port.tells l.desk.port ≡ g.P.Port.tells l.fn.desk.port;
   faults : g.P.Port.faults l.fn.desk.port ≤ g.P.Port.faults l.desk.port;
   none_wanted : NoneWanted l.desk.served.items;
   within : AllWithin l.desk.served.items;
+  limits : g.G.Gate.limits l.gate ≡ g.G.Gate.limits l.fn.gate;
   count : vec_len l.desk.served ≡ l.number;
 }

@@ -1,6 +1,6 @@
 use Rattle.std.proofs.Common.{◌≡◌, ◌≤◌, ◌+◌, ◌*◌, drop}
 use Rattle.gss_server.specs.Desks.{records_of, AllWithin}
-use Rattle.gss_server.proofs.server.count_records.Given as goal
+use Rattle.gss_server.proofs.desks.count_kept.Given as goal
 
 abbrev pub invariant-loop-connection : goal.invariant-loop-connection
 invariant-loop-connection g l = record {

@@ -1,0 +1,26 @@
+use Rattle.std.proofs.Common.{arith, ◌≡◌, ◌<◌, ◌+◌, length, ◌∙◌}
+use Rattle.std.proofs.lemmas.Option.{slice_get-get_or, slice_get_within}
+use Rattle.gss_server.specs.Desks.{IsFresh}
+use Rattle.gss_server.proofs.DeskRuns.{run-step, all-more, begun-more}
+use Rattle.gss_server.proofs.desks.serve_desks.Goals as goal
+
+pub loop-desk-preserved : goal.loop-desk-preserved
+loop-desk-preserved g c =
+    let within : c.loop-desk.desk-index < length c.loop-desk.desks = omega (arith, c.loop-desk.auto.desks, c.loop-desk-test.true) in
+    record {
+      number = omega (arith, c.loop-desk.invariant.number);
+      fresh = all-more (IsFresh {P = g.row.P.Denot} {C = g.row.C.Denot} {D = g.row.D.Denot} {L = g.row.P-Link.Denot}) c.loop-desk.desks c.loop-desk.desk-index c.serve_desk-desk_end.new.desk c.loop-desk.invariant.fresh;
+      run = rw (c.joined-end.ensures) (rw (c.loop-desk.invariant.number)
+          (run-step _ _ _ _ _ _ _ c.loop-desk.invariant.run (slice_get-get_or c.loop-desk.desks c.loop-desk.desk-index c.desk-item.result within)
+          (record { order = c.serve_desk-desk_end.ensures.told; most = c.serve_desk-desk_end.ensures.most; within = c.serve_desk-desk_end.ensures.within })
+          (λ e. record { all = c.serve_desk-desk_end.ensures.done e; none_wanted = c.serve_desk-desk_end.ensures.none_wanted e })
+          c.serve_desk-desk_end.ensures.fault));
+      begun = rw (c.joined-end.ensures) (begun-more c.loop-desk.end c.serve_desk-desk_end.result (c.loop-desk.number + 1) c.loop-desk.invariant.begun);
+      limits = c.serve_desk-desk_end.ensures.limits ∙ c.loop-desk.invariant.limits;
+    }
+
+pub returns-clause-ran : goal.returns-clause-ran
+returns-clause-ran g c = λ i a b before after.
+    let within : i < length c.loop-desk.desks = slice_get_within _ _ _ after in
+    let counted : i < c.loop-desk.desk-index = omega (arith, c.loop-desk.auto.desks, c.loop-desk-test.false) in
+    c.loop-desk.invariant.run.each i a b counted before after

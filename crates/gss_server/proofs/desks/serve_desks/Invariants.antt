@@ -1,0 +1,15 @@
+use Rattle.std.proofs.Common.{◌≡◌, ◌≢◌, true, drop}
+use Rattle.std.specs.List.{AllByRecursion}
+use Rattle.gss_server.specs.Desks.{DeskServed, DeskDone, DeskFailed, IsFresh, is_begun}
+use Rattle.gss_server.specs.declared.ending.RunEnd.TheVariants.{NoMemory}
+use Rattle.gss_server.proofs.DeskRuns.{Runs}
+use Rattle.gss_server.proofs.desks.serve_desks.Given as goal
+
+abbrev pub invariant-loop-desk : goal.invariant-loop-desk
+invariant-loop-desk g l = record {
+  number : l.number ≡ l.desk-index;
+  fresh : AllByRecursion IsFresh (drop l.desk-index l.desks);
+  run : Runs (DeskServed l.width l.connections g.P.Port.tells g.P.Port.links g.P.Link.Link.tells g.P.Link.Link.wire g.P.Link.Link.faults) (DeskDone l.connections g.P.Port.tells g.P.Port.links) (DeskFailed g.P.Port.faults) l.end l.desk-index l.fn.desks l.desks;
+  begun : l.end ≢ NoMemory → is_begun l.end ≡ true;
+  limits : g.G.Gate.limits l.gate ≡ g.G.Gate.limits l.fn.gate;
+}

@@ -1,0 +1,15 @@
+use Rattle.std.proofs.Common.{arith, ◌≡◌, List, take, drop, length, ◌++◌, slice_get, Some, subst}
+use Rattle.gss_server.proofs.DeskRuns.{take-back, ran-small}
+use Rattle.gss_server.proofs.server.run_book.Goals as goal
+
+pub returns-clause-ran : goal.returns-clause-ran
+returns-clause-ran g c =
+    let count : c.args.desks.now.len ≡ length c.serve_desks-end.new.desks = omega (arith, c.serve_desks-end.ensures.count, c.as_mut_slice.ensures.len, c.args.desks.now.ok) in
+    let back : take c.args.desks.now.len (c.serve_desks-end.new.desks ++ drop (length c.serve_desks-end.new.desks) c.args.desks.now.items) ≡ c.serve_desks-end.new.desks = take-back _ _ _ count in
+    λ i a b before after. c.serve_desks-end.ensures.ran i a b (rw c.as_mut_slice.ensures.value before) (subst (λ xs. slice_get xs i ≡ Some b) back after)
+
+pub returns-clause-small : goal.returns-clause-small
+returns-clause-small g c =
+    let count : c.args.desks.now.len ≡ length c.serve_desks-end.new.desks = omega (arith, c.serve_desks-end.ensures.count, c.as_mut_slice.ensures.len, c.args.desks.now.ok) in
+    let back : take c.args.desks.now.len (c.serve_desks-end.new.desks ++ drop (length c.serve_desks-end.new.desks) c.args.desks.now.items) ≡ c.serve_desks-end.new.desks = take-back _ _ _ count in
+    rw back (ran-small g.P.Port.faults _ _ c.requires.connections c.serve_desks-end.ensures.count c.serve_desks-end.ensures.ran)

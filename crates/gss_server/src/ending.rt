@@ -1,0 +1,85 @@
+//! How the run of the server ends, and the line that says so.
+
+ghost use Rattle.std.specs.Prelude.{◌≡◌, ◌≢◌, ◌≤◌, IsTrue};
+ghost use Rattle.sec_base.specs.Answers.{Rose};
+ghost use Rattle.cli_base.specs.Lines.{Says};
+ghost use Rattle.gss_server.specs.Lines.{served_line, status_of, line_of};
+
+use cli_base::{FileStop, OUT_OF_MEMORY, say, say_made, say_stop};
+use sec_base::Sink;
+use std::alloc::Global;
+
+/// The line of status 2.
+const USAGE: &str =
+    "usage: gssrpcd ADDRESS --keytab FILE --verifiers FILE --name PRINCIPAL [options]\n";
+
+/// How the run ended, before its line was written.
+#[derive(Clone, Copy, Debug, PartialEq, Eq)]
+pub enum RunEnd {
+    /// The words aren't in the command.
+    Usage,
+    /// The keytab can't be loaded, and the shelf's count of faults rose.
+    CannotLoad,
+    /// The keytab has too many octets, or is none from this place on.
+    Bad { at: usize },
+    /// The keytab has no key for the own name.
+    NoKey,
+    /// The port of this desk, counted from 1, failed, and its count of faults rose.
+    PortFault { desk: usize },
+    /// There was no memory.
+    NoMemory,
+    /// All connections were served.
+    Served,
+}
+
+/// What a run served, and how many entries its log has.
+#[derive(Clone, Copy, Debug, PartialEq, Eq)]
+pub struct Counts {
+    pub connections: u128,
+    pub records: u128,
+    pub entries: u64,
+}
+
+/// Writes the line of an end, and answers its status; 8 also where there was no memory for the line, and 6 where it can't be written.
+pub fn say_end<O: Sink>(
+    alloc: Global,
+    err: &mut O,
+    file: &str,
+    name: &str,
+    counts: &Counts,
+    end: RunEnd,
+) -> u8
+    ensures status { result ≢ 6 → result ≢ 8 → result ≡ status_of end }
+    ensures fault { result ≡ 6 → Rose (O.faults err.old) (O.faults err.new) }
+    ensures said { IsTrue (O.tells err.old) → Says (O.written err.old) (O.written err.new) result (line_of file.now name.now counts.now end) }
+{
+    match end {
+        RunEnd::Usage => say(err, 2, USAGE),
+        RunEnd::CannotLoad => say_stop(alloc, err, file, FileStop::CannotLoad),
+        RunEnd::Bad { at } => say_stop(alloc, err, file, FileStop::Bad { at }),
+        RunEnd::NoKey => say_made(err, 4, format!(in alloc; "no key for {name}\n")),
+        RunEnd::PortFault { desk } => {
+            say_made(err, 5, format!(in alloc; "port fault at desk {desk}\n"))
+        }
+        RunEnd::NoMemory => say(err, 8, OUT_OF_MEMORY),
+        RunEnd::Served => say_served(alloc, err, counts),
+    }
+}
+
+/// Says what was served.
+fn say_served<O: Sink>(alloc: Global, err: &mut O, counts: &Counts) -> u8
+    ensures status { result ≢ 6 → result ≢ 8 → result ≡ 0 }
+    ensures fault { result ≡ 6 → Rose (O.faults err.old) (O.faults err.new) }
+    ensures said { IsTrue (O.tells err.old) → Says (O.written err.old) (O.written err.new) result (served_line counts.now) }
+{
+    let Counts {
+        connections,
+        records,
+        entries,
+    } = *counts;
+    say_made(
+        err,
+        0,
+        format!(in alloc; "served {connections} connections {records} records {entries} entries\n"),
+    )
+}
