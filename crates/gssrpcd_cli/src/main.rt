@@ -40,7 +40,10 @@ fn main(rt: HostRuntime) -> ExitCode {
 }
 
 /// A desk over a port, with the system's clock and random octets of its own; None where the system gives no seed.
-fn desk<P: Port>(rt: HostRuntime, port: P) -> Option<Desk<P, SystemClock<HostRuntime>, RandDraw>>
+fn desk<P: Port + Drop>(
+    rt: HostRuntime,
+    port: P,
+) -> Option<Desk<P, SystemClock<HostRuntime>, RandDraw>>
     ensures { IfSome result IsFresh }
 {
     let draw = match RandDraw::new(&rt) {
@@ -56,7 +59,7 @@ fn desk<P: Port>(rt: HostRuntime, port: P) -> Option<Desk<P, SystemClock<HostRun
 }
 
 /// Runs the server over desks.
-fn run<P: Port>(
+fn run<P: Port + Drop>(
     rt: HostRuntime,
     words: &[Text],
     desks: Vec<Desk<P, SystemClock<HostRuntime>, RandDraw>>,
