@@ -1,0 +1,55 @@
+//! An acceptor's end and the tokens that come to it.
+
+use crate::cells::{cell, octets};
+use crate::saying;
+use crate::setting::{Setting, acceptor, draws};
+use sec_base::Moment;
+use spnego_core::{AcceptEnd, AcceptSetup, AcceptStep};
+use std::alloc::Global;
+
+/// What a step says, after `before`, and the end behind it.
+fn shown(alloc: Global, before: &str, step: AcceptStep) -> Option<(Option<AcceptEnd>, String)> {
+    match step {
+        AcceptStep::More(end, token) => {
+            let token = cell(alloc, token.as_slice())?;
+            Some((Some(end), format!(in alloc; "{before}More:{token}").ok()?))
+        }
+        AcceptStep::Done(outcome, _ends, token) => {
+            let token = cell(alloc, token.as_slice())?;
+            let outcome = saying::outcome(alloc, &outcome)?;
+            Some((None, format!(in alloc; "{before}Done:{token}:{outcome}").ok()?))
+        }
+        AcceptStep::WantsAuth(_pause) => None,
+    }
+}
+
+/// What an end says to a token, and the end behind it. Where it asks whether the request was taken before, it goes on.
+fn taken(
+    alloc: Global,
+    setup: &AcceptSetup,
+    end: AcceptEnd,
+    token: &[u8],
+) -> Option<(Option<AcceptEnd>, String)> {
+    let now = Moment::new(1_000_000, 0)?;
+    match end.step(alloc, setup, token, now, &draws()) {
+        Ok(AcceptStep::WantsAuth(pause)) => shown(alloc, "Auth+", pause.go_on()),
+        Ok(step) => shown(alloc, "", step),
+        Err(refusal) => Some((None, saying::refusal(alloc, refusal)?)),
+    }
+}
+
+/// The line as the calls answer it: the offer, and `token=verdict` for each token.
+pub fn answered(alloc: Global, setting: &Setting, line: &str) -> Option<String> {
+    let (letters, tokens) = line.split_once(' ')?;
+    let setup = acceptor(alloc, setting, letters)?;
+    let mut said = String::from_str(alloc, letters).ok()?;
+    let mut end = Some(AcceptEnd::new());
+    for part in tokens.split(' ') {
+        let (token, _verdict) = part.split_once('=')?;
+        let octets = octets(alloc, token)?;
+        let (after, verdict) = taken(alloc, &setup, end.take()?, octets.as_slice())?;
+        end = after;
+        said.push_str(format!(in alloc; " {token}={verdict}").ok()?.as_str()).ok()?;
+    }
+    Some(said)
+}

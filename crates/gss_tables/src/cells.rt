@@ -1,0 +1,25 @@
+//! The cells of a table's lines: octets stand in hexadecimal, and `-` is none.
+
+use hex::FromHex;
+use std::alloc::Global;
+
+/// The octets of a cell.
+pub fn octets(alloc: Global, cell: &str) -> Option<Vec<u8>> {
+    if cell == "-" {
+        return Some(Vec::new(alloc));
+    }
+    hex::decode(alloc, cell).ok()
+}
+
+/// As many octets of a cell as are wanted, neither fewer nor more.
+pub fn exactly<const N: usize>(cell: &str) -> Option<[u8; N]> {
+    <[u8; N] as FromHex>::from_hex(cell).ok()
+}
+
+/// The cell of these octets.
+pub fn cell(alloc: Global, octets: &[u8]) -> Option<String> {
+    if octets.is_empty() {
+        return String::from_str(alloc, "-").ok();
+    }
+    hex::encode(alloc, octets).ok()
+}

@@ -1,0 +1,31 @@
+//! Compares tables of outside values with what the public calls answer, and says of each table how many lines agree, or which doesn't.
+#![tactic(auto)]
+
+mod accepting;
+mod cells;
+mod initiating;
+mod saying;
+mod setting;
+mod table;
+
+use setting::Setting;
+use std::fs;
+use std::io;
+use table::{Table, compared};
+
+const TABLES: [Table; 2] = [Table::Initiating, Table::Accepting];
+
+fn main(rt: HostRuntime) -> io::Result<()> {
+    let text = fs::read_to_string(&rt, "setting.txt")?;
+    let Some(setting) = Setting::read(rt.alloc(), text.as_str()) else {
+        return println!(rt; "setting.txt: not in its form");
+    };
+    for table in TABLES {
+        let text = fs::read_to_string(&rt, table.file())?;
+        match compared(rt.alloc(), &setting, table, text.as_str()) {
+            Some(line) => println!(rt; "{line}")?,
+            None => println!(rt; "{}: no memory", table.file())?,
+        }
+    }
+    Ok(())
+}

@@ -1,0 +1,42 @@
+//! Outcomes and refusals as the tables say them.
+
+use crate::cells::cell;
+use ap_exchange::ApRefusal;
+use gss_base::MechKind;
+use spnego_core::{MechRefusal, NegRefusal, Outcome};
+use std::alloc::Global;
+
+/// `mechanism:initiator:acceptor:type-key:subkey:hash`.
+pub fn outcome(alloc: Global, outcome: &Outcome) -> Option<String> {
+    let mech = match outcome.mech {
+        MechKind::Kerberos => "krb5",
+        MechKind::Scram => "scram",
+    };
+    let initiator = cell(alloc, outcome.initiator.text().as_bytes())?;
+    let acceptor = cell(alloc, outcome.acceptor.text().as_bytes())?;
+    let number = outcome.key.etype().number();
+    let key = cell(alloc, outcome.key.bytes())?;
+    let subkey = if outcome.subkey { 1u8 } else { 0u8 };
+    let hash = cell(alloc, &outcome.hash)?;
+    format!(in alloc; "{mech}:{initiator}:{acceptor}:{number}-{key}:{subkey}:{hash}").ok()
+}
+
+/// A refusal by name, with its place, and a mechanism's own.
+pub fn refusal(alloc: Global, refusal: NegRefusal) -> Option<String> {
+    match refusal {
+        NegRefusal::Defective { at } => format!(in alloc; "Defective:{at}").ok(),
+        NegRefusal::Mech(MechRefusal::Ap(refusal)) => kerberos(alloc, refusal),
+        refusal => format!(in alloc; "{refusal:?}").ok(),
+    }
+}
+
+/// A refusal of Kerberos's exchange.
+fn kerberos(alloc: Global, refusal: ApRefusal) -> Option<String> {
+    match refusal {
+        ApRefusal::Der { part, at, why } => {
+            format!(in alloc; "Mech:Der:{part:?}:{at}:{why:?}").ok()
+        }
+        ApRefusal::PeerError { code } => format!(in alloc; "Mech:PeerError:{code}").ok(),
+        refusal => format!(in alloc; "Mech:{refusal:?}").ok(),
+    }
+}

@@ -1,0 +1,57 @@
+//! The tables, and the comparison of one with what the calls answer.
+
+use crate::accepting;
+use crate::initiating;
+use crate::setting::Setting;
+use std::alloc::Global;
+
+/// A table of outside values.
+#[derive(Clone, Copy)]
+pub enum Table {
+    Initiating,
+    Accepting,
+}
+
+impl Table {
+    /// Its file.
+    pub fn file(self) -> &'static str {
+        match self {
+            Table::Initiating => "initiating.txt",
+            Table::Accepting => "accepting.txt",
+        }
+    }
+
+    /// A line as the calls answer it, None where it isn't in the table's form.
+    fn answered(self, alloc: Global, setting: &Setting, line: &str) -> Option<String> {
+        match self {
+            Table::Initiating => initiating::answered(alloc, setting, line),
+            Table::Accepting => accepting::answered(alloc, setting, line),
+        }
+    }
+}
+
+/// Whether every line of a table but its comments is as the calls answer it, and the first one that isn't.
+pub fn compared(
+    alloc: Global,
+    setting: &Setting,
+    table: Table,
+    text: &str,
+) -> Option<String> {
+    let file = table.file();
+    let mut count = 0u32;
+    for (at, line) in text.lines().enumerate() {
+        if line.starts_with('#') {
+            continue;
+        }
+        match table.answered(alloc, setting, line) {
+            None => return format!(in alloc; "{file}: index {at} isn't in the table's form").ok(),
+            Some(said) => {
+                if said.as_str() != line {
+                    return format!(in alloc; "{file}: index {at} is answered {said}").ok();
+                }
+            }
+        }
+        count = count.saturating_add(1);
+    }
+    format!(in alloc; "{file}: {count} lines").ok()
+}
