@@ -17,7 +17,10 @@ fn shown(alloc: Global, before: &str, step: AcceptStep) -> Option<(Option<Accept
         AcceptStep::Done(outcome, _ends, token) => {
             let token = cell(alloc, token.as_slice())?;
             let outcome = saying::outcome(alloc, &outcome)?;
-            Some((None, format!(in alloc; "{before}Done:{token}:{outcome}").ok()?))
+            Some((
+                None,
+                format!(in alloc; "{before}Done:{token}:{outcome}").ok()?,
+            ))
         }
         AcceptStep::WantsAuth(_pause) => None,
     }
@@ -49,7 +52,8 @@ pub fn answered(alloc: Global, setting: &Setting, line: &str) -> Option<String> 
         let octets = octets(alloc, token)?;
         let (after, verdict) = taken(alloc, &setup, end.take()?, octets.as_slice())?;
         end = after;
-        said.push_str(format!(in alloc; " {token}={verdict}").ok()?.as_str()).ok()?;
+        said.push_str(format!(in alloc; " {token}={verdict}").ok()?.as_str())
+            .ok()?;
     }
     Some(said)
 }

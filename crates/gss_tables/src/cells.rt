@@ -1,6 +1,7 @@
 //! The cells of a table's lines: octets stand in hexadecimal, and `-` is none.
 
 use hex::FromHex;
+use sec_base::Moment;
 use std::alloc::Global;
 
 /// The octets of a cell.
@@ -22,4 +23,10 @@ pub fn cell(alloc: Global, octets: &[u8]) -> Option<String> {
         return String::from_str(alloc, "-").ok();
     }
     hex::encode(alloc, octets).ok()
+}
+
+/// The moment of a cell `seconds.micros`.
+pub fn moment(cell: &str) -> Option<Moment> {
+    let (seconds, micros) = cell.split_once('.')?;
+    Moment::new(seconds.parse::<u64>().ok()?, micros.parse::<u32>().ok()?)
 }

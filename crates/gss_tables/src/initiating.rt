@@ -31,7 +31,8 @@ pub fn answered(alloc: Global, setting: &Setting, line: &str) -> Option<String> 
         let (reply, _verdict) = part.split_once('=')?;
         let (after, verdict) = replied(alloc, end.take()?, octets(alloc, reply)?.as_slice())?;
         end = after;
-        said.push_str(format!(in alloc; " {reply}={verdict}").ok()?.as_str()).ok()?;
+        said.push_str(format!(in alloc; " {reply}={verdict}").ok()?.as_str())
+            .ok()?;
     }
     Some(said)
 }

@@ -2,18 +2,19 @@
 #![tactic(auto)]
 
 mod accepting;
+mod asking;
 mod cells;
 mod initiating;
+mod rules;
 mod saying;
 mod setting;
 mod table;
 
 use setting::Setting;
-use std::fs;
-use std::io;
+use std::{fs, io};
 use table::{Table, compared};
 
-const TABLES: [Table; 2] = [Table::Initiating, Table::Accepting];
+const TABLES: [Table; 3] = [Table::Initiating, Table::Accepting, Table::Rules];
 
 fn main(rt: HostRuntime) -> io::Result<()> {
     let text = fs::read_to_string(&rt, "setting.txt")?;

@@ -1,5 +1,8 @@
 //! What the tables rest on: the keytab, the ticket and the session key of `alice@R` at `rpc/host@R`, and the random octets of both.
 
+ghost use Rattle.std.specs.Prelude.{◌≡◌, ◌≤◌, length, IfSome, true};
+ghost use Rattle.spnego_core.specs.InitMech.{is_own_list};
+
 use crate::cells::{exactly, octets};
 use gss_base::{MechKind, Principal};
 use krb_derive::{Etype, Key};
@@ -7,9 +10,6 @@ use krb_files::{Credential, read_keytab};
 use sec_base::{Items, Moment, Octets};
 use spnego_core::{AcceptSetup, InitSetup, MechCred};
 use std::alloc::Global;
-
-ghost use Rattle.std.specs.Prelude.{◌≡◌, ◌≤◌, length, IfSome, true};
-ghost use Rattle.spnego_core.specs.InitMech.{is_own_list};
 
 /// The octets of the file `setting.txt`.
 #[derive(Drop)]

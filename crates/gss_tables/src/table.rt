@@ -1,8 +1,7 @@
 //! The tables, and the comparison of one with what the calls answer.
 
-use crate::accepting;
-use crate::initiating;
 use crate::setting::Setting;
+use crate::{accepting, initiating, rules};
 use std::alloc::Global;
 
 /// A table of outside values.
@@ -10,6 +9,7 @@ use std::alloc::Global;
 pub enum Table {
     Initiating,
     Accepting,
+    Rules,
 }
 
 impl Table {
@@ -18,6 +18,7 @@ impl Table {
         match self {
             Table::Initiating => "initiating.txt",
             Table::Accepting => "accepting.txt",
+            Table::Rules => "rules.txt",
         }
     }
 
@@ -26,17 +27,13 @@ impl Table {
         match self {
             Table::Initiating => initiating::answered(alloc, setting, line),
             Table::Accepting => accepting::answered(alloc, setting, line),
+            Table::Rules => rules::answered(alloc, line),
         }
     }
 }
 
 /// Whether every line of a table but its comments is as the calls answer it, and the first one that isn't.
-pub fn compared(
-    alloc: Global,
-    setting: &Setting,
-    table: Table,
-    text: &str,
-) -> Option<String> {
+pub fn compared(alloc: Global, setting: &Setting, table: Table, text: &str) -> Option<String> {
     let file = table.file();
     let mut count = 0u32;
     for (at, line) in text.lines().enumerate() {

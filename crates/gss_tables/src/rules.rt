@@ -1,0 +1,135 @@
+//! The answer to one record, over a gate whose answers the line says.
+
+use crate::asking::Asking;
+use crate::cells::{cell, exactly, moment, octets};
+use accept_book::{AdmitRefusal, Admitted, EndCause, Entry, Lease, LookRefusal, Receipt};
+use gss_base::{Label, MechKind};
+use gss_server::{Answered, GateAnswer, ListGate, Reply, answer_record};
+use krb_derive::Key;
+use sec_base::Moment;
+use spnego_core::Outcome;
+use std::alloc::Global;
+
+/// The lease of a context: `id:key:subkey:initiator`, with a key of type 17.
+fn lease(alloc: Global, said: &str) -> Option<Lease> {
+    let mut parts = said.split(':');
+    let id = parts.next()?.parse::<u64>().ok()?;
+    let key = Key::Aes128(exactly(parts.next()?)?);
+    let subkey = parts.next()? == "1";
+    let initiator = octets(alloc, parts.next()?)?;
+    let outcome = Outcome {
+        mech: MechKind::Kerberos,
+        initiator: Label::new(str::from_utf8(initiator.as_slice()).ok()?)?,
+        acceptor: Label::new("rpc/host@R")?,
+        key,
+        subkey,
+        hash: [0; 16],
+    };
+    let ends = Moment::greatest();
+    Some(Lease { id, outcome, ends })
+}
+
+/// The receipt that such an answer has; no reply says anything of it.
+fn receipt(id: u64) -> Receipt {
+    let entry = Entry::Ended {
+        id,
+        cause: EndCause::Refused,
+    };
+    Receipt { place: 0, entry }
+}
+
+/// Why a number isn't admitted, by its name.
+fn refused(name: &str) -> Option<AdmitRefusal> {
+    match name {
+        "Gone" => Some(AdmitRefusal::Gone),
+        "AboveMax" => Some(AdmitRefusal::AboveMax),
+        "Below" => Some(AdmitRefusal::Below { last: 0 }),
+        "Repeat" => Some(AdmitRefusal::Repeat),
+        "LogFull" => Some(AdmitRefusal::LogFull),
+        _ => None,
+    }
+}
+
+/// The answer to the question that follows a look, of an end where `ends`.
+fn second(said: &str, id: u64, ends: bool) -> Option<GateAnswer> {
+    if said == "Ended" {
+        return Some(GateAnswer::Ended(Ok(receipt(id))));
+    }
+    if let Some(posts) = said.strip_prefix("Admitted:") {
+        let posts = posts.parse::<u32>().ok()?;
+        let receipt = receipt(id);
+        return Some(GateAnswer::Admitted(Ok(Admitted { receipt, posts })));
+    }
+    let refusal = refused(said)?;
+    if ends {
+        Some(GateAnswer::Ended(Err(refusal)))
+    } else {
+        Some(GateAnswer::Admitted(Err(refusal)))
+    }
+}
+
+/// Why a context isn't shown, by its name.
+fn unseen(name: &str) -> Option<LookRefusal> {
+    match name {
+        "NoContext" => Some(LookRefusal::NoContext),
+        "NotReady" => Some(LookRefusal::NotReady),
+        "Expired" => Some(LookRefusal::Expired),
+        _ => None,
+    }
+}
+
+/// The answers of the gate, the last one first.
+fn answers(alloc: Global, said: &str, ends: bool) -> Option<Vec<GateAnswer>> {
+    let mut answers = Vec::new(alloc);
+    if let Some(name) = said.strip_prefix("Looked:") {
+        answers.push(GateAnswer::Looked(Err(unseen(name)?))).ok()?;
+    }
+    if let Some(shown) = said.strip_prefix("LookedOk:") {
+        let (shown, then) = shown.split_once('/')?;
+        let lease = lease(alloc, shown)?;
+        answers.push(second(then, lease.id, ends)?).ok()?;
+        answers.push(GateAnswer::Looked(Ok(lease))).ok()?;
+    }
+    Some(answers)
+}
+
+/// The cell of a reply, `none` where there is none.
+fn replied(alloc: Global, reply: &Reply) -> Option<String> {
+    match reply {
+        Reply::Silent => String::from_str(alloc, "none").ok(),
+        Reply::Bytes(octets) => cell(alloc, octets.as_slice()),
+        Reply::NoMemory => None,
+    }
+}
+
+/// The line as the calls answer it: record, moment, random octets, width, the gate's answers, then the rule, the reply and the questions.
+pub fn answered(alloc: Global, line: &str) -> Option<String> {
+    let mut cells = line.split(' ');
+    let (record, now, draws) = (cells.next()?, cells.next()?, cells.next()?);
+    let (width, said) = (cells.next()?, cells.next()?);
+    let ends = line.contains("end:");
+    let mut gate = Asking {
+        alloc,
+        answers: ListGate::new(alloc, answers(alloc, said, ends)?).ok()?,
+        questions: String::new(alloc),
+    };
+    let Answered {
+        rule,
+        kept: _,
+        reply,
+    } = answer_record(
+        alloc,
+        &mut gate,
+        octets(alloc, record)?.as_slice(),
+        moment(now)?,
+        &exactly(draws)?,
+        width.parse::<u32>().ok()?,
+    );
+    let reply = replied(alloc, &reply)?;
+    let questions = if gate.questions.is_empty() {
+        "-"
+    } else {
+        gate.questions.as_str()
+    };
+    format!(in alloc; "{record} {now} {draws} {width} {said} {rule} {reply} {questions}").ok()
+}
