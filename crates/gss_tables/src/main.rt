@@ -4,17 +4,20 @@
 mod accepting;
 mod asking;
 mod cells;
+mod connections;
+mod entries;
 mod initiating;
 mod rules;
 mod saying;
 mod setting;
+mod sharing;
 mod table;
 
 use setting::Setting;
 use std::{fs, io};
 use table::{Table, compared};
 
-const TABLES: [Table; 3] = [Table::Initiating, Table::Accepting, Table::Rules];
+const TABLES: [Table; 1] = [Table::Connections];
 
 fn main(rt: HostRuntime) -> io::Result<()> {
     let text = fs::read_to_string(&rt, "setting.txt")?;

@@ -1,7 +1,7 @@
 //! The tables, and the comparison of one with what the calls answer.
 
 use crate::setting::Setting;
-use crate::{accepting, initiating, rules};
+use crate::{accepting, connections, initiating, rules};
 use std::alloc::Global;
 
 /// A table of outside values.
@@ -10,6 +10,7 @@ pub enum Table {
     Initiating,
     Accepting,
     Rules,
+    Connections,
 }
 
 impl Table {
@@ -19,6 +20,7 @@ impl Table {
             Table::Initiating => "initiating.txt",
             Table::Accepting => "accepting.txt",
             Table::Rules => "rules.txt",
+            Table::Connections => "connections.txt",
         }
     }
 
@@ -28,6 +30,7 @@ impl Table {
             Table::Initiating => initiating::answered(alloc, setting, line),
             Table::Accepting => accepting::answered(alloc, setting, line),
             Table::Rules => rules::answered(alloc, line),
+            Table::Connections => connections::answered(alloc, setting, line),
         }
     }
 }
