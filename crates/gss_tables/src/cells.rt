@@ -30,3 +30,12 @@ pub fn moment(cell: &str) -> Option<Moment> {
     let (seconds, micros) = cell.split_once('.')?;
     Moment::new(seconds.parse::<u64>().ok()?, micros.parse::<u32>().ok()?)
 }
+
+/// Adds one more to a cell of several, behind a mark that parts them.
+pub fn add(said: &mut String, mark: &str, one: &str) -> Option<()> {
+    if !said.is_empty() {
+        said.push_str(mark).ok()?;
+    }
+    said.push_str(one).ok()?;
+    Some(())
+}

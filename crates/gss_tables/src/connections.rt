@@ -1,6 +1,6 @@
 //! A whole connection over one book.
 
-use crate::cells::{cell, moment, octets};
+use crate::cells::{add, cell, moment, octets};
 use crate::entries;
 use crate::setting::{Setting, acceptor};
 use crate::sharing::Sharing;
@@ -51,24 +51,37 @@ fn link(alloc: Global, said: &str) -> Option<MemLink> {
     Some(MemLink::new(alloc, input, Vec::new(alloc), Vec::new(alloc)))
 }
 
-/// The numbers of the rules by which the records of the stream are answered, in order.
-fn rules(alloc: Global, setting: &Setting, said: &str, nows: &str, input: &str) -> Option<String> {
-    let mut gate = book(alloc, setting, said)?;
-    let mut clock = clock(alloc, nows)?;
-    let mut draw = MemDraw::new(Vec::new(alloc));
+/// What serves connections one after the other: a book, a clock and random octets that count.
+#[derive(Drop)]
+struct Desk {
+    gate: Sharing,
+    clock: MemClock,
+    draw: MemDraw,
+    width: u32,
+}
+
+/// A desk before its first connection, by the cells of limits and moments.
+fn new_desk(alloc: Global, setting: &Setting, said: &str, nows: &str) -> Option<Desk> {
+    Some(Desk {
+        gate: book(alloc, setting, said)?,
+        clock: clock(alloc, nows)?,
+        draw: MemDraw::new(Vec::new(alloc)),
+        width: limits(said)?.width,
+    })
+}
+
+/// The numbers of the rules by which the records of a stream are answered, in order.
+fn rules(alloc: Global, desk: &mut Desk, input: &str) -> Option<String> {
     let mut link = link(alloc, input)?;
     let mut rules = String::new(alloc);
-    let width = limits(said)?.width;
     while let Ok(Some(record)) = next_record(alloc, &mut link) {
-        let now = clock.now();
+        let now = desk.clock.now();
         let mut draws = [0; 82];
-        draw.fill(&mut draws);
-        let answered = answer_record(alloc, &mut gate, record.as_slice(), now, &draws, width);
-        let rule = answered.rule;
-        let comma = if rules.is_empty() { "" } else { "," };
-        rules
-            .push_str(format!(in alloc; "{comma}{rule}").ok()?.as_str())
-            .ok()?;
+        desk.draw.fill(&mut draws);
+        let record = record.as_slice();
+        let answered = answer_record(alloc, &mut desk.gate, record, now, &draws, desk.width);
+        let rule = format!(in alloc; "{}", answered.rule).ok()?;
+        add(&mut rules, ",", rule.as_str())?;
     }
     if rules.is_empty() {
         rules.push_str("-").ok()?;
@@ -76,21 +89,36 @@ fn rules(alloc: Global, setting: &Setting, said: &str, nows: &str, input: &str) 
     Some(rules)
 }
 
-/// The line as the calls answer it: limits, moments and stream, then what was written, the end, the rules, and the log.
+/// The rules of the connections that a line has, by a desk of their own.
+fn all_rules(alloc: Global, desk: Desk, inputs: &str) -> Option<String> {
+    let mut desk = desk;
+    let mut said = String::new(alloc);
+    for input in inputs.split('/') {
+        let rules = rules(alloc, &mut desk, input)?;
+        add(&mut said, "/", rules.as_str())?;
+    }
+    Some(said)
+}
+
+/// The line as the calls answer it: limits, moments and streams, then what was written, the ends, the rules, and the log.
 pub fn answered(alloc: Global, setting: &Setting, line: &str) -> Option<String> {
     let mut cells = line.split(' ');
-    let (limits_said, nows, input) = (cells.next()?, cells.next()?, cells.next()?);
-    let rules = rules(alloc, setting, limits_said, nows, input)?;
-    let mut gate = book(alloc, setting, limits_said)?;
-    let mut clock = clock(alloc, nows)?;
-    let mut draw = MemDraw::new(Vec::new(alloc));
-    let link = link(alloc, input)?;
-    let width = limits(limits_said)?.width;
-    let served = serve_link(alloc, link, &mut gate, &mut clock, &mut draw, width);
-    let end = served.end;
-    let output = cell(alloc, served.link.written())?;
-    let entries = gate.book.log().entries();
+    let (said, nows, inputs) = (cells.next()?, cells.next()?, cells.next()?);
+    let mut desk = new_desk(alloc, setting, said, nows)?;
+    let mut outputs = String::new(alloc);
+    let mut ends = String::new(alloc);
+    for input in inputs.split('/') {
+        let link = link(alloc, input)?;
+        let Desk { gate, clock, draw, width } = &mut desk;
+        let served = serve_link(alloc, link, gate, clock, draw, *width);
+        let output = cell(alloc, served.link.written())?;
+        add(&mut outputs, "/", output.as_str())?;
+        let end = format!(in alloc; "{:?}", served.end).ok()?;
+        add(&mut ends, "/", end.as_str())?;
+    }
+    let entries = desk.gate.book.log().entries();
     let digest = entries::digest(alloc, entries)?;
     let kinds = entries::kinds(alloc, entries)?;
-    format!(in alloc; "{limits_said} {nows} {input} {output} {end:?} {rules} {digest} {kinds}").ok()
+    let rules = all_rules(alloc, new_desk(alloc, setting, said, nows)?, inputs)?;
+    format!(in alloc; "{said} {nows} {inputs} {outputs} {ends} {rules} {digest} {kinds}").ok()
 }

@@ -1,6 +1,6 @@
 //! The entries of a log, as the tables say them.
 
-use crate::cells::cell;
+use crate::cells::{add, cell};
 use accept_book::{EndCause, Entry};
 use gss_base::MechKind;
 use sec_base::Moment;
@@ -99,10 +99,7 @@ pub fn digest(alloc: Global, entries: &[Entry]) -> Option<String> {
 pub fn kinds(alloc: Global, entries: &[Entry]) -> Option<String> {
     let mut said = String::new(alloc);
     for entry in entries {
-        if !said.is_empty() {
-            said.push_str(",").ok()?;
-        }
-        said.push_str(kind(entry)).ok()?;
+        add(&mut said, ",", kind(entry))?;
     }
     if said.is_empty() {
         said.push_str("-").ok()?;
