@@ -115,6 +115,13 @@ answer_with id (steps.More end token) = answers.Going id token
 answer_with id (steps.Done outcome lasts token) = answers.Settled (record { id = id; outcome = outcome; ends = lasts }) token
 answer_with id (steps.WantsAuth pause) = answer_after id pause.after
 
+-- how many octets an answer's token has
+abbrev pub token_size : NegAnswer → ℕ
+token_size (answers.Going id token) = length token
+token_size (answers.Settled lease token) = length token
+token_size (answers.Refused refusal) = 0
+token_size answers.NoMemory = 0
+
 -- ---- what a token comes to, by how a book stands once the moment was taken note of, and by the id that is past, where one is
 
 pub record Stands : Type 0 where

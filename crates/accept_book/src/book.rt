@@ -2,6 +2,7 @@
 ghost use Rattle.std.specs.Prelude.{⊤, ◌≡◌, false, List, [], ◌∷◌, ◌≢◌, ℕ, ◌+◌, ◌<◌, ◌≤◌, ◌↔◌, Option, IfOk, IfSome, IsSome, IsOk, IfErr, OnErr, None, Some, Ok, Err, length, max, reverse};
 ghost use Rattle.gss_base.specs.Mech.{is_kerberos};
 ghost use Rattle.spnego_core.specs.Accepting.{IsSettled, accept_step};
+ghost use Rattle.spnego_core.specs.Sizes.{ShortAccept};
 ghost use Rattle.context_table.specs.Places.{slot_at, live_of, phase_of, IsHeld, IsPast};
 ghost use Rattle.accept_book.specs.Phases.{PhaseBy};
 ghost use Rattle.accept_book.specs.declared.entry.Entry.{Entry};
@@ -10,7 +11,7 @@ ghost use Rattle.accept_book.specs.Answers.{refused, or_refused, after, admitted
 ghost use Rattle.accept_book.specs.Entering.{auth_of, auth_after, given, gained};
 ghost use Rattle.accept_book.specs.Replays.{Keeps, Replays};
 ghost use Rattle.accept_book.specs.Legal.{Legal};
-ghost use Rattle.accept_book.specs.Booking.{names_of, by_outcome, Fits, AllFit, OthersFit, StepFits, mark_of, settled_of, stands_of, raised, by_step, begun, opened_by, gone_on_by, taken, negotiated, after_refusal, refusal_of_mark, lease_refused, FreeFor, has_key, same_key};
+ghost use Rattle.accept_book.specs.Booking.{names_of, by_outcome, Fits, AllFit, OthersFit, StepFits, token_size, mark_of, settled_of, stands_of, raised, by_step, begun, opened_by, gone_on_by, taken, negotiated, after_refusal, refusal_of_mark, lease_refused, FreeFor, has_key, same_key};
 
 use crate::acceptance::{Core, blank};
 use crate::answer::{AdmitRefusal, LookRefusal, MarkRefusal, Next, RoomRefusal};
@@ -143,8 +144,10 @@ fn go_on(
     requires first { IsSome mark → auth_of id core.old.history ≡ false }
     requires fits { Fits end (auth_after id mark core.old.history) }
     requires others { OthersFit id core.old }
+    requires short { length token ≤ 65536 }
     ensures answer { (past : Option ℕ) → IsPast core.old.table core.old.cache.greatest past → result.answer ≡ (taken (stands_of core.old) id past mark (AcceptStep.More end token)).answer }
     ensures history { (past : Option ℕ) → IsPast core.old.table core.old.cache.greatest past → core.new.history ≡ (taken (stands_of core.old) id past mark (AcceptStep.More end token)).history }
+    ensures size { token_size result.answer ≤ 65536 }
     ensures receipts { given result.receipts ≡ gained (length core.old.history) core.new.history }
     ensures told { result.answer ≢ NegAnswer.NoMemory }
     ensures keeps { Keeps core.old core.new }
@@ -176,8 +179,10 @@ fn settle(
     requires first { IsSome mark → auth_of id core.old.history ≡ false }
     requires fits { auth_after id mark core.old.history ≡ is_kerberos outcome.mech }
     requires others { OthersFit id core.old }
+    requires short { length token ≤ 65536 }
     ensures answer { (past : Option ℕ) → IsPast core.old.table core.old.cache.greatest past → result.answer ≡ (taken (stands_of core.old) id past mark (AcceptStep.Done outcome ends token)).answer }
     ensures history { (past : Option ℕ) → IsPast core.old.table core.old.cache.greatest past → core.new.history ≡ (taken (stands_of core.old) id past mark (AcceptStep.Done outcome ends token)).history }
+    ensures size { token_size result.answer ≤ 65536 }
     ensures receipts { given result.receipts ≡ gained (length core.old.history) core.new.history }
     ensures told { result.answer ≢ NegAnswer.NoMemory }
     ensures keeps { Keeps core.old core.new }
@@ -217,8 +222,10 @@ fn finish(
     requires first { IsSome mark → auth_of id core.old.history ≡ false }
     requires fits { StepFits step (auth_after id mark core.old.history) }
     requires others { OthersFit id core.old }
+    requires short { ShortAccept step }
     ensures answer { (past : Option ℕ) → IsPast core.old.table core.old.cache.greatest past → result.answer ≡ (taken (stands_of core.old) id past mark step).answer }
     ensures history { (past : Option ℕ) → IsPast core.old.table core.old.cache.greatest past → core.new.history ≡ (taken (stands_of core.old) id past mark step).history }
+    ensures size { token_size result.answer ≤ 65536 }
     ensures receipts { given result.receipts ≡ gained (length core.old.history) core.new.history }
     ensures told { result.answer ≢ NegAnswer.NoMemory }
     ensures keeps { Keeps core.old core.new }
@@ -238,8 +245,10 @@ fn enter(core: &mut Core<AcceptEnd, Outcome>, id: Option<u64>, step: AcceptStep)
     requires held { IfSome id (λ id. IsHeld (slot_at core.old.table id)) }
     requires fits { StepFits step (auth_of id core.old.history) }
     requires others { OthersFit id core.old }
+    requires short { ShortAccept step }
     ensures answer { (past : Option ℕ) → IsPast core.old.table core.old.cache.greatest past → result.answer ≡ (taken (stands_of core.old) id past (mark_of step) (settled_of step)).answer }
     ensures history { (past : Option ℕ) → IsPast core.old.table core.old.cache.greatest past → core.new.history ≡ (taken (stands_of core.old) id past (mark_of step) (settled_of step)).history }
+    ensures size { token_size result.answer ≤ 65536 }
     ensures receipts { given result.receipts ≡ gained (length core.old.history) core.new.history }
     ensures told { result.answer ≢ NegAnswer.NoMemory }
     ensures keeps { Keeps core.old core.new }
@@ -287,6 +296,7 @@ fn take_step(
     ensures history { (past : Option ℕ) → IsPast core.old.table core.old.cache.greatest past → result.answer ≢ NegAnswer.NoMemory
         → core.new.history ≡ (by_step (stands_of core.old) id past (accept_step setup.now end token.now now draws.now)).history }
     ensures memory { result.answer ≡ NegAnswer.NoMemory → core.new.history ≡ after_refusal id core.old.history }
+    ensures size { token_size result.answer ≤ 65536 }
     ensures receipts { given result.receipts ≡ gained (length core.old.history) core.new.history }
     ensures keeps { Keeps core.old core.new }
     ensures fits { AllFit core.new }
@@ -313,6 +323,7 @@ fn begin(
     ensures history { (past : Option ℕ) → IsPast core.old.table core.old.cache.greatest past → result.answer ≢ NegAnswer.NoMemory
         → core.new.history ≡ (begun setup.now (stands_of core.old) past token.now now draws.now).history }
     ensures memory { result.answer ≡ NegAnswer.NoMemory → core.new.history ≡ core.old.history }
+    ensures size { token_size result.answer ≤ 65536 }
     ensures receipts { given result.receipts ≡ gained (length core.old.history) core.new.history }
     ensures keeps { Keeps core.old core.new }
     ensures fits { AllFit core.new }
@@ -351,6 +362,7 @@ fn proceed(
     ensures history { (past : Option ℕ) → IsPast core.old.table core.old.cache.greatest past → result.answer ≢ NegAnswer.NoMemory
         → core.new.history ≡ (opened_by setup.now (stands_of core.old) id past token.now now draws.now).history }
     ensures memory { result.answer ≡ NegAnswer.NoMemory → core.new.history ≡ after_refusal (Some id) core.old.history }
+    ensures size { token_size result.answer ≤ 65536 }
     ensures receipts { given result.receipts ≡ gained (length core.old.history) core.new.history }
     ensures keeps { Keeps core.old core.new }
     ensures fits { AllFit core.new }
@@ -380,6 +392,7 @@ fn continue_with(
     ensures history { (past : Option ℕ) → IsPast core.old.table core.old.cache.greatest past → result.answer ≢ NegAnswer.NoMemory
         → core.new.history ≡ (gone_on_by (standing id core.old.history) setup.now (stands_of core.old) id past token.now now draws.now).history }
     ensures memory { result.answer ≡ NegAnswer.NoMemory → core.new.history ≡ after_refusal (Some id) core.old.history }
+    ensures size { token_size result.answer ≤ 65536 }
     ensures receipts { given result.receipts ≡ gained (length core.old.history) core.new.history }
     ensures keeps { Keeps core.old core.new }
     ensures fits { AllFit core.new }
@@ -484,6 +497,7 @@ impl Book {
         ensures history { (past : Option ℕ) → IsPast self.old.core.table (max self.old.core.cache.greatest now) past → result.answer ≢ NegAnswer.NoMemory
             → self.new.core.history ≡ (negotiated self.old.setup (raised self.old.core now) id past token.now now draws.now).history }
         ensures memory { result.answer ≡ NegAnswer.NoMemory → self.new.core.history ≡ after_refusal id self.old.core.history }
+        ensures size { token_size result.answer ≤ 65536 }
         ensures receipts { given result.receipts ≡ gained (length self.old.core.history) self.new.core.history }
         ensures notes { NotesMoment self.old self.new now }
     {

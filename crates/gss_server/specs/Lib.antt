@@ -4,6 +4,7 @@ pub mod Desks
 pub mod Hearing
 pub mod Kept
 pub mod Lines
+pub mod Listed
 pub mod Serving
 pub mod Telling
 pub mod Turns

@@ -1,8 +1,12 @@
 -- What a gate tells of the questions that it was asked.
 use Rattle.std.specs.Prelude.{◌≡◌, ℕ, ◌+◌, List, ◌++◌, length}
 use Rattle.sha1.specs.Sha1.{sha1}
+use Rattle.spnego_core.specs.declared.accept_end.AcceptEnd.{AcceptEnd}
+use Rattle.spnego_core.specs.declared.outcome.Outcome.{Outcome}
+use Rattle.accept_book.specs.Replays.{Accepting}
 use Rattle.accept_book.specs.RecordShown.{Asked, AskedStep, AskedLook, AskedAdmit, AskedEnd}
 use Rattle.accept_book.specs.declared.book_answer.NegAnswer.{NegAnswer}
+use Rattle.accept_book.specs.declared.entry.Limits.{Limits}
 use Rattle.accept_book.specs.declared.book_answer.NegAnswer.TheVariants as steps
 use Rattle.gss_server.specs.declared.told.StepTold.{StepTold}
 use Rattle.gss_server.specs.declared.told.StepTold.TheVariants as tolds
@@ -23,14 +27,11 @@ told_of (AskedLook id now answer) = Looking id now answer
 told_of (AskedAdmit lease seq procedure args answer) = Admitting lease seq procedure args answer
 told_of (AskedEnd lease seq answer) = Ending lease seq answer
 
--- how many octets an answer's token has
-abbrev pub token_size : NegAnswer → ℕ
-token_size (steps.Going id token) = length token
-token_size (steps.Settled lease token) = length token
-token_size (steps.Refused refusal) = 0
-token_size steps.NoMemory = 0
-
 -- these were told, each in one place of the room
 pub record Gains (room room' : ℕ) (old new more : List Told) : Type 0 where
   pub gained : new ≡ old ++ more
   pub used : room ≡ room' + length more
+
+-- the limits under which a book is kept
+abbrev pub limits_of : Accepting AcceptEnd Outcome → Limits
+limits_of core = record { contexts = core.table.limit; marks = core.cache.capacity; log = core.limit; width = core.width }

@@ -67,6 +67,7 @@ fn say_by_id<G: Gate>(
     ensures fits { Fits result.said.reply }
     ensures exact { length (id_ruling (shown heard.entry.now) (cred_value cred.now) result.looked result.admitted result.ended id).asked ≡ count_of result.negotiated result.looked result.admitted result.ended }
     ensures tells { G.tells gate.new ≡ G.tells gate.old }
+    ensures limits { G.limits gate.new ≡ G.limits gate.old }
     ensures told { IsTrue (G.tells gate.old) → 2 ≤ G.room gate.old → Gains (G.room gate.old) (G.room gate.new) (G.told gate.old) (G.told gate.new) (map told_of (id_ruling (shown heard.entry.now) (cred_value cred.now) result.looked result.admitted result.ended id).asked) }
 {
     match id {
@@ -103,6 +104,7 @@ fn say_with<G: Gate>(alloc: Global, gate: &mut G, heard: &Heard<'_>, cred: &GssC
     ensures fits { Fits result.said.reply }
     ensures exact { length (cred_ruling (shown heard.entry.now) result.negotiated result.looked result.admitted result.ended (Ok (cred_value cred.now))).asked ≡ count_of result.negotiated result.looked result.admitted result.ended }
     ensures tells { G.tells gate.new ≡ G.tells gate.old }
+    ensures limits { G.limits gate.new ≡ G.limits gate.old }
     ensures told { IsTrue (G.tells gate.old) → 2 ≤ G.room gate.old → Gains (G.room gate.old) (G.room gate.new) (G.told gate.old) (G.told gate.new) (map told_of (cred_ruling (shown heard.entry.now) result.negotiated result.looked result.admitted result.ended (Ok (cred_value cred.now))).asked) }
 {
     if misplaced(&heard.call, cred) {
@@ -138,6 +140,7 @@ fn say_secure<G: Gate>(alloc: Global, gate: &mut G, heard: &Heard<'_>) -> Asks
     ensures fits { Fits result.said.reply }
     ensures exact { length (cred_ruling (shown heard.entry.now) result.negotiated result.looked result.admitted result.ended (cred_at heard.entry.now.call.cred.body.now)).asked ≡ count_of result.negotiated result.looked result.admitted result.ended }
     ensures tells { G.tells gate.new ≡ G.tells gate.old }
+    ensures limits { G.limits gate.new ≡ G.limits gate.old }
     ensures told { IsTrue (G.tells gate.old) → 2 ≤ G.room gate.old → Gains (G.room gate.old) (G.room gate.new) (G.told gate.old) (G.told gate.new) (map told_of (cred_ruling (shown heard.entry.now) result.negotiated result.looked result.admitted result.ended (cred_at heard.entry.now.call.cred.body.now)).asked) }
 {
     match read_cred(heard.call.cred.body) {
@@ -161,6 +164,7 @@ fn say_call<G: Gate>(alloc: Global, gate: &mut G, heard: &Heard<'_>) -> Asks
     ensures fits { Fits result.said.reply }
     ensures exact { length (call_ruling (shown heard.entry.now) result.negotiated result.looked result.admitted result.ended).asked ≡ count_of result.negotiated result.looked result.admitted result.ended }
     ensures tells { G.tells gate.new ≡ G.tells gate.old }
+    ensures limits { G.limits gate.new ≡ G.limits gate.old }
     ensures told { IsTrue (G.tells gate.old) → 2 ≤ G.room gate.old → Gains (G.room gate.old) (G.room gate.new) (G.told gate.old) (G.told gate.new) (map told_of (call_ruling (shown heard.entry.now) result.negotiated result.looked result.admitted result.ended).asked) }
 {
     let flavour = heard.call.cred.flavour;
@@ -186,6 +190,7 @@ fn say_record<G: Gate>(
     ensures fits { Fits result.said.reply }
     ensures exact { length (read_ruling bytes.now (record { now = now; draws = draws.now; negotiated = result.negotiated; looked = result.looked; admitted = result.admitted; ended = result.ended }) width (call_at bytes.now)).asked ≡ count_of result.negotiated result.looked result.admitted result.ended }
     ensures tells { G.tells gate.new ≡ G.tells gate.old }
+    ensures limits { G.limits gate.new ≡ G.limits gate.old }
     ensures told { IsTrue (G.tells gate.old) → 2 ≤ G.room gate.old → Gains (G.room gate.old) (G.room gate.new) (G.told gate.old) (G.told gate.new) (map told_of (read_ruling bytes.now (record { now = now; draws = draws.now; negotiated = result.negotiated; looked = result.looked; admitted = result.admitted; ended = result.ended }) width (call_at bytes.now)).asked) }
 {
     match read_call(bytes) {
@@ -236,6 +241,7 @@ pub fn answer_record<G: Gate>(
     // Each kept answer was asked for.
     ensures exact { length (record_ruling bytes.now (kept_answers result.kept) width).asked ≡ count_of result.kept.negotiated result.kept.looked result.kept.admitted result.kept.ended }
     ensures tells { G.tells gate.new ≡ G.tells gate.old }
+    ensures limits { G.limits gate.new ≡ G.limits gate.old }
     // Exactly the questions that are due were asked, in order, want of memory aside, where it was a front of them.
     ensures told { IsTrue (G.tells gate.old) → 2 ≤ G.room gate.old → Gains (G.room gate.old) (G.room gate.new) (G.told gate.old) (G.told gate.new) (map told_of (record_ruling bytes.now (kept_answers result.kept) width).asked) }
 {

@@ -93,6 +93,7 @@ fn ask_admission<G: Gate>(
     ensures fits { Fits result.said.reply }
     ensures exact { length (ask_admit (shown heard.entry.now) (cred_value cred.now) lease.now args.now result.admitted).asked ≡ (if is_some result.admitted then 1 else 0) }
     ensures tells { G.tells gate.new ≡ G.tells gate.old }
+    ensures limits { G.limits gate.new ≡ G.limits gate.old }
     ensures told { IsTrue (G.tells gate.old) → 1 ≤ G.room gate.old → Gains (G.room gate.old) (G.room gate.new) (G.told gate.old) (G.told gate.new) (map told_of (ask_admit (shown heard.entry.now) (cred_value cred.now) lease.now args.now result.admitted).asked) }
 {
     let digest = Sha1::digest(args);
@@ -117,6 +118,7 @@ fn say_args<G: Gate>(
     ensures fits { Fits result.said.reply }
     ensures exact { length (args_ruling (shown heard.entry.now) (cred_value cred.now) lease.now result.admitted args).asked ≡ (if is_some result.admitted then 1 else 0) }
     ensures tells { G.tells gate.new ≡ G.tells gate.old }
+    ensures limits { G.limits gate.new ≡ G.limits gate.old }
     ensures told { IsTrue (G.tells gate.old) → 1 ≤ G.room gate.old → Gains (G.room gate.old) (G.room gate.new) (G.told gate.old) (G.told gate.new) (map told_of (args_ruling (shown heard.entry.now) (cred_value cred.now) lease.now result.admitted args).asked) }
 {
     let args = match args {
@@ -153,6 +155,7 @@ pub(crate) fn say_data<G: Gate>(
     ensures fits { Fits result.said.reply }
     ensures exact { length (data_ruling (shown heard.entry.now) (cred_value cred.now) lease.now result.admitted).asked ≡ (if is_some result.admitted then 1 else 0) }
     ensures tells { G.tells gate.new ≡ G.tells gate.old }
+    ensures limits { G.limits gate.new ≡ G.limits gate.old }
     ensures told { IsTrue (G.tells gate.old) → 1 ≤ G.room gate.old → Gains (G.room gate.old) (G.room gate.new) (G.told gate.old) (G.told gate.new) (map told_of (data_ruling (shown heard.entry.now) (cred_value cred.now) lease.now result.admitted).asked) }
 {
     if !verified(heard, lease) {

@@ -64,6 +64,7 @@ pub fn serve_link<L: Link, G: Gate, C: Clock, D: Draw>(
     ensures fault { result.end ≡ ConnEnd.LinkFault → Rose (L.faults link) (L.faults result.link) }
     ensures moments { IsTrue (C.tells clock.new) → Keeps (C.given clock.old) (C.given clock.new) [] result.kept.items moments_of }
     ensures draws { IsTrue (D.tells draw.new) → Keeps (D.given draw.old) (D.given draw.new) [] result.kept.items draws_of }
+    ensures limits { G.limits gate.new ≡ G.limits gate.old }
     ensures clock_tells { IsTrue (C.tells clock.new) → IsTrue (C.tells clock.old) }
     ensures draw_tells { IsTrue (D.tells draw.new) → IsTrue (D.tells draw.old) }
     ensures bound { vec_len result.kept ≤ 65536 }
@@ -94,6 +95,7 @@ fn serve<L: Link, G: Gate, C: Clock, D: Draw>(
     ensures fault { result ≡ ConnEnd.LinkFault → Rose (L.faults link.old) (L.faults link.new) }
     ensures moments { IsTrue (C.tells clock.new) → Keeps (C.given clock.old) (C.given clock.new) [] kept.new.items moments_of }
     ensures draws { IsTrue (D.tells draw.new) → Keeps (D.given draw.old) (D.given draw.new) [] kept.new.items draws_of }
+    ensures limits { G.limits gate.new ≡ G.limits gate.old }
     ensures clock_tells { IsTrue (C.tells clock.new) → IsTrue (C.tells clock.old) }
     ensures draw_tells { IsTrue (D.tells draw.new) → IsTrue (D.tells draw.old) }
     ensures bound { vec_len kept.new ≤ 65536 }
@@ -125,6 +127,7 @@ fn turn<L: Link, G: Gate, C: Clock, D: Draw>(
     ensures fault { result ≡ Some ConnEnd.LinkFault → Rose (L.faults link.old) (L.faults link.new) }
     ensures moments { IsTrue (C.tells clock.new) → Keeps (C.given clock.old) (C.given clock.new) kept.old.items kept.new.items moments_of }
     ensures draws { IsTrue (D.tells draw.new) → Keeps (D.given draw.old) (D.given draw.new) kept.old.items kept.new.items draws_of }
+    ensures limits { G.limits gate.new ≡ G.limits gate.old }
     ensures clock_tells { IsTrue (C.tells clock.new) → IsTrue (C.tells clock.old) }
     ensures draw_tells { IsTrue (D.tells draw.new) → IsTrue (D.tells draw.old) }
     ensures count { vec_len kept.new ≤ vec_len kept.old + 1 }
@@ -183,6 +186,7 @@ fn reply_to_record<L: Link, G: Gate, C: Clock, D: Draw>(
     ensures fault { result ≡ Some ConnEnd.LinkFault → Rose (L.faults link.old) (L.faults link.new) }
     ensures moments { IsTrue (C.tells clock.new) → Keeps (C.given clock.old) (C.given clock.new) kept.old.items kept.new.items moments_of }
     ensures draws { IsTrue (D.tells draw.new) → Keeps (D.given draw.old) (D.given draw.new) kept.old.items kept.new.items draws_of }
+    ensures limits { G.limits gate.new ≡ G.limits gate.old }
     ensures clock_tells { IsTrue (C.tells clock.new) → IsTrue (C.tells clock.old) }
     ensures draw_tells { IsTrue (D.tells draw.new) → IsTrue (D.tells draw.old) }
     ensures count { vec_len kept.new ≤ vec_len kept.old + 1 }
@@ -215,6 +219,7 @@ fn answer<G: Gate, C: Clock, D: Draw>(
     ensures fits { Fits result }
     ensures moments { IsTrue (C.tells clock.new) → Keeps (C.given clock.old) (C.given clock.new) kept.old.items kept.new.items moments_of }
     ensures draws { IsTrue (D.tells draw.new) → Keeps (D.given draw.old) (D.given draw.new) kept.old.items kept.new.items draws_of }
+    ensures limits { G.limits gate.new ≡ G.limits gate.old }
     ensures clock_tells { IsTrue (C.tells clock.new) → IsTrue (C.tells clock.old) }
     ensures draw_tells { IsTrue (D.tells draw.new) → IsTrue (D.tells draw.old) }
 {

@@ -36,8 +36,8 @@ fn answered_in(
     record: &[u8],
 ) -> Result<Answered, Fail> {
     let mut answers = Vec::new(alloc);
-    answers.push(answer)?;
     answers.push(GateAnswer::Looked(Ok(*lease)))?;
+    answers.push(answer)?;
     let mut gate = ListGate::new(alloc, answers)?;
     Ok(answer_record(alloc, &mut gate, record, Moment::start(), &[0; 82], 128))
 }

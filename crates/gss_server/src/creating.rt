@@ -12,7 +12,8 @@ ghost use Rattle.accept_book.specs.RecordShown.{decided, plain, going, settled, 
 ghost use Rattle.accept_book.specs.RecordRule.{stepped, ask_step, continued, token_ruling, creation_ruling};
 ghost use Rattle.gss_server.specs.Answers.{Says, Fits};
 ghost use Rattle.gss_server.specs.Hearing.{shown, handle_or_none};
-ghost use Rattle.gss_server.specs.Telling.{Gains, told_of, token_size};
+ghost use Rattle.accept_book.specs.Booking.{token_size};
+ghost use Rattle.gss_server.specs.Telling.{Gains, told_of};
 
 use crate::gate::Gate;
 use crate::heard::Heard;
@@ -201,6 +202,7 @@ fn ask_for_step<G: Gate>(
     ensures fits { Fits result.said.reply }
     ensures exact { length (ask_step (shown heard.entry.now) id token.now result.negotiated).asked ≡ (if is_some result.negotiated then 1 else 0) }
     ensures tells { G.tells gate.new ≡ G.tells gate.old }
+    ensures limits { G.limits gate.new ≡ G.limits gate.old }
     ensures told { IsTrue (G.tells gate.old) → 1 ≤ G.room gate.old → Gains (G.room gate.old) (G.room gate.new) (G.told gate.old) (G.told gate.new) (map told_of (ask_step (shown heard.entry.now) id token.now result.negotiated).asked) }
 {
     let draws = step_draws(&heard.draws);
@@ -224,6 +226,7 @@ fn say_continued<G: Gate>(
     ensures fits { Fits result.said.reply }
     ensures exact { length (continued (shown heard.entry.now) token.now result.negotiated id).asked ≡ (if is_some result.negotiated then 1 else 0) }
     ensures tells { G.tells gate.new ≡ G.tells gate.old }
+    ensures limits { G.limits gate.new ≡ G.limits gate.old }
     ensures told { IsTrue (G.tells gate.old) → 1 ≤ G.room gate.old → Gains (G.room gate.old) (G.room gate.new) (G.told gate.old) (G.told gate.new) (map told_of (continued (shown heard.entry.now) token.now result.negotiated id).asked) }
 {
     match id {
@@ -244,6 +247,7 @@ fn say_token<G: Gate>(
     ensures fits { Fits result.said.reply }
     ensures exact { length (token_ruling (shown heard.entry.now) (cred_value cred.now) result.negotiated (Ok token.now)).asked ≡ (if is_some result.negotiated then 1 else 0) }
     ensures tells { G.tells gate.new ≡ G.tells gate.old }
+    ensures limits { G.limits gate.new ≡ G.limits gate.old }
     ensures told { IsTrue (G.tells gate.old) → 1 ≤ G.room gate.old → Gains (G.room gate.old) (G.room gate.new) (G.told gate.old) (G.told gate.new) (map told_of (token_ruling (shown heard.entry.now) (cred_value cred.now) result.negotiated (Ok token.now)).asked) }
 {
     if cred.proc == INIT {
@@ -264,6 +268,7 @@ pub(crate) fn say_creating<G: Gate>(
     ensures fits { Fits result.said.reply }
     ensures exact { length (creation_ruling (shown heard.entry.now) (cred_value cred.now) result.negotiated).asked ≡ (if is_some result.negotiated then 1 else 0) }
     ensures tells { G.tells gate.new ≡ G.tells gate.old }
+    ensures limits { G.limits gate.new ≡ G.limits gate.old }
     ensures told { IsTrue (G.tells gate.old) → 1 ≤ G.room gate.old → Gains (G.room gate.old) (G.room gate.new) (G.told gate.old) (G.told gate.new) (map told_of (creation_ruling (shown heard.entry.now) (cred_value cred.now) result.negotiated).asked) }
 {
     let call = &heard.call;

@@ -7,10 +7,13 @@ use std::alloc::Global;
 /// What the server asks of the state that its threads share.
 ///
 /// A gate may tell what it was asked, each question with its answer, as long as it has room. `room` says how many more it can tell.
+/// `limits` are those under which the state is kept; no question changes them.
 pub trait Gate {
     ghost use Rattle.std.specs.Prelude.{◌≡◌, ◌≤◌, Bool, List, ℕ, [], ◌∷◌, IsTrue};
     ghost use Rattle.accept_book.specs.RecordShown.{AskedStep, AskedLook, AskedAdmit, AskedEnd};
-    ghost use Rattle.gss_server.specs.Telling.{Gains, told_of, token_size};
+    ghost use Rattle.accept_book.specs.Booking.{token_size};
+    ghost use Rattle.accept_book.specs.declared.entry.Limits.{Limits};
+    ghost use Rattle.gss_server.specs.Telling.{Gains, told_of};
     ghost use Rattle.gss_server.specs.declared.told.Told.{Told};
 
     ghost tells: { Self → Bool };
@@ -18,6 +21,8 @@ pub trait Gate {
     ghost room: { Self → ℕ };
 
     ghost told: { Self → List Told };
+
+    ghost limits: { Self → Limits };
 
     /// Takes a token, a first one where no id is given.
     fn negotiate(
@@ -30,11 +35,13 @@ pub trait Gate {
     ) -> Negotiated
         ensures size { token_size result.answer ≤ 65536 }
         ensures tells { tells self.new ≡ tells self.old }
+        ensures limits { limits self.new ≡ limits self.old }
         ensures told { IsTrue (tells self.old) → 1 ≤ room self.old → Gains (room self.old) (room self.new) (told self.old) (told self.new) (told_of (AskedStep id token.now now draws.now result) ∷ []) };
 
     /// Shows a complete context.
     fn look(&mut self, id: u64, now: Moment) -> Result<Lease, LookRefusal>
         ensures tells { tells self.new ≡ tells self.old }
+        ensures limits { limits self.new ≡ limits self.old }
         ensures told { IsTrue (tells self.old) → 1 ≤ room self.old → Gains (room self.old) (room self.new) (told self.old) (told self.new) (told_of (AskedLook id now result) ∷ []) };
 
     /// Takes the number of a call.
@@ -46,10 +53,12 @@ pub trait Gate {
         args: [u8; 20],
     ) -> Result<Admitted, AdmitRefusal>
         ensures tells { tells self.new ≡ tells self.old }
+        ensures limits { limits self.new ≡ limits self.old }
         ensures told { IsTrue (tells self.old) → 1 ≤ room self.old → Gains (room self.old) (room self.new) (told self.old) (told self.new) (told_of (AskedAdmit lease.now seq procedure args result) ∷ []) };
 
     /// Takes the number of a call that ends its context.
     fn end(&mut self, lease: &Lease, seq: u32) -> Result<Receipt, AdmitRefusal>
         ensures tells { tells self.new ≡ tells self.old }
+        ensures limits { limits self.new ≡ limits self.old }
         ensures told { IsTrue (tells self.old) → 1 ≤ room self.old → Gains (room self.old) (room self.new) (told self.old) (told self.new) (told_of (AskedEnd lease.now seq result) ∷ []) };
 }

@@ -3,6 +3,7 @@
 
 mod answer;
 mod answering;
+mod book_gate;
 mod calling;
 mod connection;
 #[cfg(test)]

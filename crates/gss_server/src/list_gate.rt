@@ -1,8 +1,10 @@
 //! A gate over a list of answers, for tests.
 
-ghost use Rattle.std.specs.Prelude.{◌≡◌, ◌<◌, ◌≤◌, ◌+◌, ◌++◌, true, [], ◌∷◌, IfOk, vec_len, vec_capacity};
-ghost use Rattle.gss_server.specs.Telling.{step_told, told_of, token_size};
-ghost use Rattle.accept_book.specs.RecordShown.{AskedLook, AskedAdmit, AskedEnd};
+ghost use Rattle.std.specs.Prelude.{◌≡◌, ◌<◌, ◌≤◌, ◌+◌, ◌++◌, IsTrue, true, [], ◌∷◌, drop, IfOk, None, option_to_list, vec_len, vec_capacity};
+ghost use Rattle.gss_server.specs.Listed.{IsFull, StepNext, to_come, look_next, admission_next, end_next};
+ghost use Rattle.accept_book.specs.Booking.{token_size};
+ghost use Rattle.gss_server.specs.Telling.{Gains, step_told, told_of};
+ghost use Rattle.accept_book.specs.RecordShown.{AskedStep, AskedLook, AskedAdmit, AskedEnd};
 
 use crate::gate::Gate;
 use crate::told::{StepTold, Told};
@@ -30,7 +32,7 @@ pub enum GateAnswer {
     Ended(Result<Receipt, AdmitRefusal>),
 }
 
-/// A gate that gives the answers of a list, the last one first. Where the next answer is of another kind, or there is none, it answers
+/// A gate that gives the answers of a list, in order. Where the next answer is of another kind, or there is none, it answers
 /// LogFull, NoContext, Gone and Gone; such an answer is used up. It tells what it was asked, up to two questions more than it had answers.
 #[derive(Debug, Drop)]
 pub struct ListGate {
@@ -59,9 +61,19 @@ fn told_step(answer: &NegAnswer) -> StepTold
     }
 }
 
+/// The answer of a step.
+fn step_of(step: Step) -> Negotiated
+    ensures value { result ≡ step.negotiated }
+    ensures size { token_size result.answer ≤ 65536 }
+{
+    let Step { negotiated } = step;
+    negotiated
+}
+
 /// The answer where the list has none: no place in the log.
 fn log_full() -> Negotiated
-    ensures { token_size result.answer ≤ 65536 }
+    ensures full { IsFull result }
+    ensures size { token_size result.answer ≤ 65536 }
 {
     let entry = Entry::Ended {
         id: 0,
@@ -126,8 +138,9 @@ fn told_end(lease: &Lease, seq: u32, answer: &Result<Receipt, AdmitRefusal>) -> 
 }
 
 impl ListGate {
-    /// A gate that gives these answers, the last one first.
+    /// A gate that gives these answers, in order.
     pub fn new(alloc: Global, answers: Vec<GateAnswer>) -> Result<ListGate, NoMemory>
+        ensures answers { IfOk result (λ gate. to_come gate ≡ answers.items) }
         ensures tells { IfOk result (λ gate. ⟦<ListGate as Gate>⟧.tells gate ≡ true) }
         ensures told { IfOk result (λ gate. ⟦<ListGate as Gate>⟧.told gate ≡ []) }
         ensures room { IfOk result (λ gate. ⟦<ListGate as Gate>⟧.room gate ≡ vec_len answers + 2) }
@@ -141,18 +154,31 @@ impl ListGate {
         })
     }
 
-    /// Takes the next answer of the list to a step.
-    fn next_step(&mut self) -> Negotiated
-        ensures size { token_size result.answer ≤ 65536 }
+    /// Takes the next answer of the list.
+    fn take_next(&mut self) -> Option<GateAnswer>
+        ensures next { self.old.answers.items ≡ option_to_list result ++ self.new.answers.items }
+        ensures none { result ≡ None → self.old.answers.items ≡ [] }
         ensures told { self.new.told.items ≡ self.old.told.items }
         ensures count { vec_len self.new.told ≡ vec_len self.old.told }
         ensures limit { self.new.limit ≡ self.old.limit }
     {
-        match self.answers.pop() {
-            Some(GateAnswer::Negotiated(step)) => {
-                let Step { negotiated } = step;
-                negotiated
-            }
+        if self.answers.is_empty() {
+            return None;
+        }
+        Some(self.answers.remove(0))
+    }
+
+    /// Takes the next answer of the list to a step.
+    fn next_step(&mut self) -> Negotiated
+        ensures next { StepNext self.old.answers.items result }
+        ensures size { token_size result.answer ≤ 65536 }
+        ensures rest { self.new.answers.items ≡ drop 1 self.old.answers.items }
+        ensures told { self.new.told.items ≡ self.old.told.items }
+        ensures count { vec_len self.new.told ≡ vec_len self.old.told }
+        ensures limit { self.new.limit ≡ self.old.limit }
+    {
+        match self.take_next() {
+            Some(GateAnswer::Negotiated(step)) => step_of(step),
             Some(GateAnswer::Looked(_answer)) => log_full(),
             Some(GateAnswer::Admitted(_answer)) => log_full(),
             Some(GateAnswer::Ended(_answer)) => log_full(),
@@ -162,11 +188,13 @@ impl ListGate {
 
     /// Takes the next answer of the list to a look.
     fn next_look(&mut self) -> Result<Lease, LookRefusal>
+        ensures next { result ≡ look_next self.old.answers.items }
+        ensures rest { self.new.answers.items ≡ drop 1 self.old.answers.items }
         ensures told { self.new.told.items ≡ self.old.told.items }
         ensures count { vec_len self.new.told ≡ vec_len self.old.told }
         ensures limit { self.new.limit ≡ self.old.limit }
     {
-        match self.answers.pop() {
+        match self.take_next() {
             Some(GateAnswer::Looked(answer)) => answer,
             Some(GateAnswer::Negotiated(_answer)) => Err(LookRefusal::NoContext),
             Some(GateAnswer::Admitted(_answer)) => Err(LookRefusal::NoContext),
@@ -177,11 +205,13 @@ impl ListGate {
 
     /// Takes the next answer of the list to an admission.
     fn next_admission(&mut self) -> Result<Admitted, AdmitRefusal>
+        ensures next { result ≡ admission_next self.old.answers.items }
+        ensures rest { self.new.answers.items ≡ drop 1 self.old.answers.items }
         ensures told { self.new.told.items ≡ self.old.told.items }
         ensures count { vec_len self.new.told ≡ vec_len self.old.told }
         ensures limit { self.new.limit ≡ self.old.limit }
     {
-        match self.answers.pop() {
+        match self.take_next() {
             Some(GateAnswer::Admitted(answer)) => answer,
             Some(GateAnswer::Negotiated(_answer)) => Err(AdmitRefusal::Gone),
             Some(GateAnswer::Looked(_answer)) => Err(AdmitRefusal::Gone),
@@ -192,11 +222,13 @@ impl ListGate {
 
     /// Takes the next answer of the list to an end.
     fn next_end(&mut self) -> Result<Receipt, AdmitRefusal>
+        ensures next { result ≡ end_next self.old.answers.items }
+        ensures rest { self.new.answers.items ≡ drop 1 self.old.answers.items }
         ensures told { self.new.told.items ≡ self.old.told.items }
         ensures count { vec_len self.new.told ≡ vec_len self.old.told }
         ensures limit { self.new.limit ≡ self.old.limit }
     {
-        match self.answers.pop() {
+        match self.take_next() {
             Some(GateAnswer::Ended(answer)) => answer,
             Some(GateAnswer::Negotiated(_answer)) => Err(AdmitRefusal::Gone),
             Some(GateAnswer::Looked(_answer)) => Err(AdmitRefusal::Gone),
@@ -209,6 +241,7 @@ impl ListGate {
     fn tell(&mut self, one: Told)
         ensures told { vec_len self.old.told < self.old.limit → self.new.told.items ≡ self.old.told.items ++ one ∷ [] }
         ensures count { vec_len self.old.told < self.old.limit → vec_len self.new.told ≡ vec_len self.old.told + 1 }
+        ensures answers { self.new.answers.items ≡ self.old.answers.items }
         ensures limit { self.new.limit ≡ self.old.limit }
     {
         // The types inside are named, since the check has to know of them here.
@@ -236,6 +269,8 @@ impl Gate for ListGate {
 
     ghost told = { λ gate. gate.told.items };
 
+    ghost limits = { λ _. record { contexts = 0; marks = 0; log = 0; width = 0 } };
+
     fn negotiate(
         &mut self,
         alloc: Global,
@@ -243,7 +278,14 @@ impl Gate for ListGate {
         token: &[u8],
         now: Moment,
         draws: &[u8; 66],
-    ) -> Negotiated {
+    ) -> Negotiated
+        ensures next { StepNext (to_come self.old) result }
+        ensures rest { to_come self.new ≡ drop 1 (to_come self.old) }
+        ensures size { token_size result.answer ≤ 65536 }
+        ensures tells { ⟦<ListGate as Gate>⟧.tells self.new ≡ ⟦<ListGate as Gate>⟧.tells self.old }
+        ensures limits { ⟦<ListGate as Gate>⟧.limits self.new ≡ ⟦<ListGate as Gate>⟧.limits self.old }
+        ensures told { IsTrue (⟦<ListGate as Gate>⟧.tells self.old) → 1 ≤ ⟦<ListGate as Gate>⟧.room self.old → Gains (⟦<ListGate as Gate>⟧.room self.old) (⟦<ListGate as Gate>⟧.room self.new) (⟦<ListGate as Gate>⟧.told self.old) (⟦<ListGate as Gate>⟧.told self.new) (told_of (AskedStep id token.now now draws.now result) ∷ []) }
+    {
         let negotiated = self.next_step();
         let draws = *draws;
         let answer = told_step(&negotiated.answer);
@@ -259,7 +301,13 @@ impl Gate for ListGate {
         negotiated
     }
 
-    fn look(&mut self, id: u64, now: Moment) -> Result<Lease, LookRefusal> {
+    fn look(&mut self, id: u64, now: Moment) -> Result<Lease, LookRefusal>
+        ensures next { result ≡ look_next (to_come self.old) }
+        ensures rest { to_come self.new ≡ drop 1 (to_come self.old) }
+        ensures tells { ⟦<ListGate as Gate>⟧.tells self.new ≡ ⟦<ListGate as Gate>⟧.tells self.old }
+        ensures limits { ⟦<ListGate as Gate>⟧.limits self.new ≡ ⟦<ListGate as Gate>⟧.limits self.old }
+        ensures told { IsTrue (⟦<ListGate as Gate>⟧.tells self.old) → 1 ≤ ⟦<ListGate as Gate>⟧.room self.old → Gains (⟦<ListGate as Gate>⟧.room self.old) (⟦<ListGate as Gate>⟧.room self.new) (⟦<ListGate as Gate>⟧.told self.old) (⟦<ListGate as Gate>⟧.told self.new) (told_of (AskedLook id now result) ∷ []) }
+    {
         let answer = self.next_look();
         self.tell(told_look(id, now, &answer));
         answer
@@ -271,13 +319,25 @@ impl Gate for ListGate {
         seq: u32,
         procedure: u32,
         args: [u8; 20],
-    ) -> Result<Admitted, AdmitRefusal> {
+    ) -> Result<Admitted, AdmitRefusal>
+        ensures next { result ≡ admission_next (to_come self.old) }
+        ensures rest { to_come self.new ≡ drop 1 (to_come self.old) }
+        ensures tells { ⟦<ListGate as Gate>⟧.tells self.new ≡ ⟦<ListGate as Gate>⟧.tells self.old }
+        ensures limits { ⟦<ListGate as Gate>⟧.limits self.new ≡ ⟦<ListGate as Gate>⟧.limits self.old }
+        ensures told { IsTrue (⟦<ListGate as Gate>⟧.tells self.old) → 1 ≤ ⟦<ListGate as Gate>⟧.room self.old → Gains (⟦<ListGate as Gate>⟧.room self.old) (⟦<ListGate as Gate>⟧.room self.new) (⟦<ListGate as Gate>⟧.told self.old) (⟦<ListGate as Gate>⟧.told self.new) (told_of (AskedAdmit lease.now seq procedure args result) ∷ []) }
+    {
         let answer = self.next_admission();
         self.tell(told_admission(lease, seq, procedure, args, &answer));
         answer
     }
 
-    fn end(&mut self, lease: &Lease, seq: u32) -> Result<Receipt, AdmitRefusal> {
+    fn end(&mut self, lease: &Lease, seq: u32) -> Result<Receipt, AdmitRefusal>
+        ensures next { result ≡ end_next (to_come self.old) }
+        ensures rest { to_come self.new ≡ drop 1 (to_come self.old) }
+        ensures tells { ⟦<ListGate as Gate>⟧.tells self.new ≡ ⟦<ListGate as Gate>⟧.tells self.old }
+        ensures limits { ⟦<ListGate as Gate>⟧.limits self.new ≡ ⟦<ListGate as Gate>⟧.limits self.old }
+        ensures told { IsTrue (⟦<ListGate as Gate>⟧.tells self.old) → 1 ≤ ⟦<ListGate as Gate>⟧.room self.old → Gains (⟦<ListGate as Gate>⟧.room self.old) (⟦<ListGate as Gate>⟧.room self.new) (⟦<ListGate as Gate>⟧.told self.old) (⟦<ListGate as Gate>⟧.told self.new) (told_of (AskedEnd lease.now seq result) ∷ []) }
+    {
         let answer = self.next_end();
         self.tell(told_end(lease, seq, &answer));
         answer

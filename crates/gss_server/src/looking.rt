@@ -70,6 +70,7 @@ fn ask_for_end<G: Gate>(
     ensures fits { Fits result.said.reply }
     ensures exact { length (ask_end (shown heard.entry.now) (cred_value cred.now) lease.now result.ended).asked ≡ (if is_some result.ended then 1 else 0) }
     ensures tells { G.tells gate.new ≡ G.tells gate.old }
+    ensures limits { G.limits gate.new ≡ G.limits gate.old }
     ensures told { IsTrue (G.tells gate.old) → 1 ≤ G.room gate.old → Gains (G.room gate.old) (G.room gate.new) (G.told gate.old) (G.told gate.new) (map told_of (ask_end (shown heard.entry.now) (cred_value cred.now) lease.now result.ended).asked) }
 {
     let answer = gate.end(lease, cred.seq);
@@ -94,6 +95,7 @@ fn say_destroy<G: Gate>(
     ensures fits { Fits result.said.reply }
     ensures exact { length (destroy_ruling (shown heard.entry.now) (cred_value cred.now) lease.now result.ended).asked ≡ (if is_some result.ended then 1 else 0) }
     ensures tells { G.tells gate.new ≡ G.tells gate.old }
+    ensures limits { G.limits gate.new ≡ G.limits gate.old }
     ensures told { IsTrue (G.tells gate.old) → 1 ≤ G.room gate.old → Gains (G.room gate.old) (G.room gate.new) (G.told gate.old) (G.told gate.new) (map told_of (destroy_ruling (shown heard.entry.now) (cred_value cred.now) lease.now result.ended).asked) }
 {
     if !verified(heard, lease) {
@@ -140,6 +142,7 @@ fn say_looked<G: Gate>(
     ensures fits { Fits result.said.reply }
     ensures exact { length (looked_ruling (shown heard.entry.now) (cred_value cred.now) result.admitted result.ended answer.now).asked ≡ (if is_some result.admitted then 1 else 0) + (if is_some result.ended then 1 else 0) }
     ensures tells { G.tells gate.new ≡ G.tells gate.old }
+    ensures limits { G.limits gate.new ≡ G.limits gate.old }
     ensures told { IsTrue (G.tells gate.old) → 1 ≤ G.room gate.old → Gains (G.room gate.old) (G.room gate.new) (G.told gate.old) (G.told gate.new) (map told_of (looked_ruling (shown heard.entry.now) (cred_value cred.now) result.admitted result.ended answer.now).asked) }
 {
     match answer {
@@ -191,6 +194,7 @@ pub(crate) fn ask_for_look<G: Gate>(
     ensures fits { Fits result.said.reply }
     ensures exact { length (ask_look (shown heard.entry.now) (cred_value cred.now) id result.admitted result.ended result.looked).asked ≡ (if is_some result.looked then 1 else 0) + ((if is_some result.admitted then 1 else 0) + (if is_some result.ended then 1 else 0)) }
     ensures tells { G.tells gate.new ≡ G.tells gate.old }
+    ensures limits { G.limits gate.new ≡ G.limits gate.old }
     ensures told { IsTrue (G.tells gate.old) → 2 ≤ G.room gate.old → Gains (G.room gate.old) (G.room gate.new) (G.told gate.old) (G.told gate.new) (map told_of (ask_look (shown heard.entry.now) (cred_value cred.now) id result.admitted result.ended result.looked).asked) }
 {
     let answer = gate.look(id, heard.now);

@@ -18,6 +18,7 @@ loop-number-preserved g c = record {
   unclosed = c.in-None.ensures.unclosed;
   faults = omega (arith, c.in-None.ensures.faults);
   bound = omega (arith, c.in-None.ensures.count);
+  limits = c.in-None.ensures.limits ∙ c.loop-number.invariant.limits;
   clock_tells = λ t. c.loop-number.invariant.clock_tells (c.in-None.ensures.clock_tells t);
   draw_tells = λ t. c.loop-number.invariant.draw_tells (c.in-None.ensures.draw_tells t);
   moments = λ t. keeps-again moments_of moments_of-append (c.loop-number.invariant.moments (c.in-None.ensures.clock_tells t)) (c.in-None.ensures.moments t);

@@ -10,6 +10,7 @@ invariant-loop-number g l = record {
   unclosed : g.L.Link.closed l.link ≡ false;
   faults : g.L.Link.faults l.fn.link ≤ g.L.Link.faults l.link;
   bound : vec_len l.kept ≤ l.number;
+  limits : g.G.Gate.limits l.gate ≡ g.G.Gate.limits l.fn.gate;
   clock_tells : IsTrue (g.C.Clock.tells l.clock) → IsTrue (g.C.Clock.tells l.fn.clock);
   draw_tells : IsTrue (g.D.Draw.tells l.draw) → IsTrue (g.D.Draw.tells l.fn.draw);
   moments : IsTrue (g.C.Clock.tells l.clock) → Keeps (g.C.Clock.given l.fn.clock) (g.C.Clock.given l.clock) [] l.kept.items moments_of;

@@ -1,0 +1,54 @@
+-- What a gate over a list answers: the next answer of the list, where it is one to the question; else LogFull to a step, NoContext to a look,
+-- and Gone to an admission or an end. Whatever it was, the next answer is used up.
+use Rattle.std.specs.Prelude.{◌≡◌, List, [], ◌∷◌, Result, Ok, Err}
+use Rattle.accept_book.specs.Entering.{given}
+use Rattle.accept_book.specs.declared.answer.AdmitRefusal.{AdmitRefusal}
+use Rattle.accept_book.specs.declared.answer.AdmitRefusal.TheVariants.{Gone}
+use Rattle.accept_book.specs.declared.answer.LookRefusal.{LookRefusal}
+use Rattle.accept_book.specs.declared.answer.LookRefusal.TheVariants.{NoContext}
+use Rattle.accept_book.specs.declared.book_answer.BookRefusal.TheVariants.{LogFull}
+use Rattle.accept_book.specs.declared.book_answer.Lease.{Lease}
+use Rattle.accept_book.specs.declared.book_answer.NegAnswer.TheVariants.{Refused}
+use Rattle.accept_book.specs.declared.book_answer.Negotiated.{Negotiated}
+use Rattle.accept_book.specs.declared.entry.Admitted.{Admitted}
+use Rattle.accept_book.specs.declared.entry.Receipt.{Receipt}
+use Rattle.gss_server.specs.declared.list_gate.GateAnswer.{GateAnswer}
+use Rattle.gss_server.specs.declared.list_gate.GateAnswer.TheVariants as answers
+use Rattle.gss_server.specs.declared.list_gate.ListGate.{ListGate}
+
+-- the answers that are still to be given, in order
+abbrev pub to_come : ListGate → List GateAnswer
+to_come gate = gate.answers.items
+
+-- no step, for want of a place in the log
+pub record IsFull (negotiated : Negotiated) : Type 0 where
+  pub answer : negotiated.answer ≡ Refused LogFull
+  pub receipts : given negotiated.receipts ≡ []
+
+abbrev pub StepNext : List GateAnswer → Negotiated → Type 0
+StepNext [] negotiated = IsFull negotiated
+StepNext (answers.Negotiated step ∷ more) negotiated = negotiated ≡ step.negotiated
+StepNext (answers.Looked answer ∷ more) negotiated = IsFull negotiated
+StepNext (answers.Admitted answer ∷ more) negotiated = IsFull negotiated
+StepNext (answers.Ended answer ∷ more) negotiated = IsFull negotiated
+
+abbrev pub look_next : List GateAnswer → Result Lease LookRefusal
+look_next [] = Err NoContext
+look_next (answers.Negotiated step ∷ more) = Err NoContext
+look_next (answers.Looked answer ∷ more) = answer
+look_next (answers.Admitted answer ∷ more) = Err NoContext
+look_next (answers.Ended answer ∷ more) = Err NoContext
+
+abbrev pub admission_next : List GateAnswer → Result Admitted AdmitRefusal
+admission_next [] = Err Gone
+admission_next (answers.Negotiated step ∷ more) = Err Gone
+admission_next (answers.Looked answer ∷ more) = Err Gone
+admission_next (answers.Admitted answer ∷ more) = answer
+admission_next (answers.Ended answer ∷ more) = Err Gone
+
+abbrev pub end_next : List GateAnswer → Result Receipt AdmitRefusal
+end_next [] = Err Gone
+end_next (answers.Negotiated step ∷ more) = Err Gone
+end_next (answers.Looked answer ∷ more) = Err Gone
+end_next (answers.Admitted answer ∷ more) = Err Gone
+end_next (answers.Ended answer ∷ more) = answer
