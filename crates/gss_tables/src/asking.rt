@@ -38,6 +38,8 @@ impl Gate for Asking {
 
     ghost told = { λ _. [] };
 
+    ghost limits = { λ _. record { contexts = 0; marks = 0; log = 0; width = 0 } };
+
     fn negotiate(
         &mut self,
         alloc: Global,

@@ -3,7 +3,6 @@
 use crate::cells::{add, cell, moment, octets};
 use crate::entries;
 use crate::setting::{Setting, acceptor};
-use crate::sharing::Sharing;
 use accept_book::{Book, Limits};
 use gss_server::{answer_record, serve_link};
 use rpc_msgs::next_record;
@@ -22,7 +21,7 @@ fn limits(said: &str) -> Option<Limits> {
 }
 
 /// A book under these limits, which offers Kerberos and SCRAM; None where a limit is past what a book takes.
-fn book(alloc: Global, setting: &Setting, said: &str) -> Option<Sharing> {
+fn book(alloc: Global, setting: &Setting, said: &str) -> Option<Book> {
     let limits = limits(said)?;
     let start = Moment::new(1_000_000, 0)?;
     if limits.contexts > 65_536 || limits.marks == 0 || limits.marks > 1_000_000 {
@@ -32,8 +31,7 @@ fn book(alloc: Global, setting: &Setting, said: &str) -> Option<Sharing> {
         return None;
     }
     let setup = acceptor(alloc, setting, "ks")?;
-    let book = Book::open(alloc, setup, limits, start).ok()?;
-    Some(Sharing { book })
+    Book::open(alloc, setup, limits, start).ok()
 }
 
 /// A clock that gives the moments of a cell.
@@ -54,7 +52,7 @@ fn link(alloc: Global, said: &str) -> Option<MemLink> {
 /// What serves connections one after the other: a book, a clock and random octets that count.
 #[derive(Drop)]
 struct Desk {
-    gate: Sharing,
+    gate: Book,
     clock: MemClock,
     draw: MemDraw,
     width: u32,
@@ -109,14 +107,19 @@ pub fn answered(alloc: Global, setting: &Setting, line: &str) -> Option<String> 
     let mut ends = String::new(alloc);
     for input in inputs.split('/') {
         let link = link(alloc, input)?;
-        let Desk { gate, clock, draw, width } = &mut desk;
+        let Desk {
+            gate,
+            clock,
+            draw,
+            width,
+        } = &mut desk;
         let served = serve_link(alloc, link, gate, clock, draw, *width);
         let output = cell(alloc, served.link.written())?;
         add(&mut outputs, "/", output.as_str())?;
         let end = format!(in alloc; "{:?}", served.end).ok()?;
         add(&mut ends, "/", end.as_str())?;
     }
-    let entries = desk.gate.book.log().entries();
+    let entries = desk.gate.log().entries();
     let digest = entries::digest(alloc, entries)?;
     let kinds = entries::kinds(alloc, entries)?;
     let rules = all_rules(alloc, new_desk(alloc, setting, said, nows)?, inputs)?;

@@ -10,14 +10,18 @@ mod initiating;
 mod rules;
 mod saying;
 mod setting;
-mod sharing;
 mod table;
 
 use setting::Setting;
 use std::{fs, io};
 use table::{Table, compared};
 
-const TABLES: [Table; 1] = [Table::Connections];
+const TABLES: [Table; 4] = [
+    Table::Initiating,
+    Table::Accepting,
+    Table::Rules,
+    Table::Connections,
+];
 
 fn main(rt: HostRuntime) -> io::Result<()> {
     let text = fs::read_to_string(&rt, "setting.txt")?;

@@ -78,7 +78,7 @@ fn unseen(name: &str) -> Option<LookRefusal> {
     }
 }
 
-/// The answers of the gate, the last one first.
+/// The answers of the gate, in order.
 fn answers(alloc: Global, said: &str, ends: bool) -> Option<Vec<GateAnswer>> {
     let mut answers = Vec::new(alloc);
     if let Some(name) = said.strip_prefix("Looked:") {
@@ -87,8 +87,8 @@ fn answers(alloc: Global, said: &str, ends: bool) -> Option<Vec<GateAnswer>> {
     if let Some(shown) = said.strip_prefix("LookedOk:") {
         let (shown, then) = shown.split_once('/')?;
         let lease = lease(alloc, shown)?;
-        answers.push(second(then, lease.id, ends)?).ok()?;
         answers.push(GateAnswer::Looked(Ok(lease))).ok()?;
+        answers.push(second(then, lease.id, ends)?).ok()?;
     }
     Some(answers)
 }
