@@ -7,6 +7,7 @@ mod cells;
 mod connections;
 mod entries;
 mod initiating;
+mod kerberos;
 mod rules;
 mod saying;
 mod setting;
@@ -16,7 +17,9 @@ use setting::Setting;
 use std::{fs, io};
 use table::{Table, compared};
 
-const TABLES: [Table; 4] = [
+const TABLES: [Table; 6] = [
+    Table::Requests,
+    Table::Replies,
     Table::Initiating,
     Table::Accepting,
     Table::Rules,

@@ -3,6 +3,7 @@
 use crate::cells::cell;
 use ap_exchange::ApRefusal;
 use gss_base::MechKind;
+use sec_base::Moment;
 use spnego_core::{MechRefusal, NegRefusal, Outcome};
 use std::alloc::Global;
 
@@ -25,18 +26,25 @@ pub fn outcome(alloc: Global, outcome: &Outcome) -> Option<String> {
 pub fn refusal(alloc: Global, refusal: NegRefusal) -> Option<String> {
     match refusal {
         NegRefusal::Defective { at } => format!(in alloc; "Defective:{at}").ok(),
-        NegRefusal::Mech(MechRefusal::Ap(refusal)) => kerberos(alloc, refusal),
+        NegRefusal::Mech(MechRefusal::Ap(refusal)) => {
+            let said = kerberos(alloc, refusal)?;
+            format!(in alloc; "Mech:{said}").ok()
+        }
         refusal => format!(in alloc; "{refusal:?}").ok(),
     }
 }
 
 /// A refusal of Kerberos's exchange.
-fn kerberos(alloc: Global, refusal: ApRefusal) -> Option<String> {
+pub fn kerberos(alloc: Global, refusal: ApRefusal) -> Option<String> {
     match refusal {
-        ApRefusal::Der { part, at, why } => {
-            format!(in alloc; "Mech:Der:{part:?}:{at}:{why:?}").ok()
-        }
-        ApRefusal::PeerError { code } => format!(in alloc; "Mech:PeerError:{code}").ok(),
-        refusal => format!(in alloc; "Mech:{refusal:?}").ok(),
+        ApRefusal::Der { part, at, why } => { format!(in alloc; "Der:{part:?}:{at}:{why:?}").ok() }
+        ApRefusal::PeerError { code } => format!(in alloc; "PeerError:{code}").ok(),
+        refusal => format!(in alloc; "{refusal:?}").ok(),
     }
+}
+
+/// A moment as `seconds.micros`, with six digits behind the point.
+pub fn moment(alloc: Global, at: Moment) -> Option<String> {
+    let (seconds, micros) = (at.secs(), at.micros());
+    format!(in alloc; "{seconds}.{micros:06}").ok()
 }

@@ -61,7 +61,7 @@ pub fn draws() -> [u8; 66] {
 }
 
 /// A ticket, within its limit.
-fn ticket_of(alloc: Global, octets: &[u8]) -> Option<Octets>
+pub fn ticket_of(alloc: Global, octets: &[u8]) -> Option<Octets>
     ensures { IfSome result (λ o. length o ≤ 60000) }
 {
     if octets.len() > 60_000 {

@@ -1,12 +1,14 @@
 //! The tables, and the comparison of one with what the calls answer.
 
 use crate::setting::Setting;
-use crate::{accepting, connections, initiating, rules};
+use crate::{accepting, connections, initiating, kerberos, rules};
 use std::alloc::Global;
 
 /// A table of outside values.
 #[derive(Clone, Copy)]
 pub enum Table {
+    Requests,
+    Replies,
     Initiating,
     Accepting,
     Rules,
@@ -17,6 +19,8 @@ impl Table {
     /// Its file.
     pub fn file(self) -> &'static str {
         match self {
+            Table::Requests => "requests.txt",
+            Table::Replies => "replies.txt",
             Table::Initiating => "initiating.txt",
             Table::Accepting => "accepting.txt",
             Table::Rules => "rules.txt",
@@ -27,6 +31,8 @@ impl Table {
     /// A line as the calls answer it, None where it isn't in the table's form.
     fn answered(self, alloc: Global, setting: &Setting, line: &str) -> Option<String> {
         match self {
+            Table::Requests => kerberos::judged(alloc, line),
+            Table::Replies => kerberos::replied(alloc, line),
             Table::Initiating => initiating::answered(alloc, setting, line),
             Table::Accepting => accepting::answered(alloc, setting, line),
             Table::Rules => rules::answered(alloc, line),
