@@ -1,8 +1,8 @@
 //! An acceptor's end and the tokens that come to it.
 
-use crate::cells::{cell, octets};
+use crate::cells::{add, cell, octets};
 use crate::saying;
-use crate::setting::{Setting, acceptor, draws};
+use crate::setting::{Setting, draws};
 use sec_base::Moment;
 use spnego_core::{AcceptEnd, AcceptSetup, AcceptStep};
 use std::alloc::Global;
@@ -26,14 +26,14 @@ fn shown(alloc: Global, before: &str, step: AcceptStep) -> Option<(Option<Accept
     }
 }
 
-/// What an end says to a token, and the end behind it. Where it asks whether the request was taken before, it goes on.
+/// What an end says to a token at this moment, and the end behind it. Where it asks whether the request was taken before, it goes on.
 fn taken(
     alloc: Global,
     setup: &AcceptSetup,
     end: AcceptEnd,
     token: &[u8],
+    now: Moment,
 ) -> Option<(Option<AcceptEnd>, String)> {
-    let now = Moment::new(1_000_000, 0)?;
     match end.step(alloc, setup, token, now, &draws()) {
         Ok(AcceptStep::WantsAuth(pause)) => shown(alloc, "Auth+", pause.go_on()),
         Ok(step) => shown(alloc, "", step),
@@ -41,19 +41,25 @@ fn taken(
     }
 }
 
-/// The line as the calls answer it: the offer, and `token=verdict` for each token.
-pub fn answered(alloc: Global, setting: &Setting, line: &str) -> Option<String> {
-    let (letters, tokens) = line.split_once(' ')?;
-    let setup = acceptor(alloc, setting, letters)?;
-    let mut said = String::from_str(alloc, letters).ok()?;
+/// `token=verdict` for each of these tokens.
+pub fn talk(alloc: Global, setup: &AcceptSetup, now: Moment, tokens: &str) -> Option<String> {
+    let mut said = String::new(alloc);
     let mut end = Some(AcceptEnd::new());
     for part in tokens.split(' ') {
         let (token, _verdict) = part.split_once('=')?;
         let octets = octets(alloc, token)?;
-        let (after, verdict) = taken(alloc, &setup, end.take()?, octets.as_slice())?;
+        let (after, verdict) = taken(alloc, setup, end.take()?, octets.as_slice(), now)?;
         end = after;
-        said.push_str(format!(in alloc; " {token}={verdict}").ok()?.as_str())
-            .ok()?;
+        let one = format!(in alloc; "{token}={verdict}").ok()?;
+        add(&mut said, " ", one.as_str())?;
     }
     Some(said)
+}
+
+/// The line as the calls answer it: the offer, and `token=verdict` for each token.
+pub fn answered(alloc: Global, setting: &Setting, line: &str) -> Option<String> {
+    let (letters, tokens) = line.split_once(' ')?;
+    let setup = setting.acceptor(alloc, letters)?;
+    let said = talk(alloc, &setup, Moment::new(1_000_000, 0)?, tokens)?;
+    format!(in alloc; "{letters} {said}").ok()
 }

@@ -39,3 +39,9 @@ pub fn add(said: &mut String, mark: &str, one: &str) -> Option<()> {
     said.push_str(one).ok()?;
     Some(())
 }
+
+/// The text of a cell.
+pub fn text(alloc: Global, cell: &str) -> Option<String> {
+    let octets = octets(alloc, cell)?;
+    String::from_str(alloc, str::from_utf8(octets.as_slice()).ok()?).ok()
+}

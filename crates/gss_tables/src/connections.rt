@@ -2,7 +2,7 @@
 
 use crate::cells::{add, cell, moment, octets};
 use crate::entries;
-use crate::setting::{Setting, acceptor};
+use crate::setting::Setting;
 use accept_book::{Book, Limits};
 use gss_server::{answer_record, serve_link};
 use rpc_msgs::next_record;
@@ -30,7 +30,7 @@ fn book(alloc: Global, setting: &Setting, said: &str) -> Option<Book> {
     if limits.log > 4_000_000 || limits.width == 0 || limits.width > 1024 {
         return None;
     }
-    let setup = acceptor(alloc, setting, "ks")?;
+    let setup = setting.acceptor(alloc, "ks")?;
     Book::open(alloc, setup, limits, start).ok()
 }
 

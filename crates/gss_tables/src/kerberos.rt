@@ -1,8 +1,8 @@
 //! Kerberos's exchange by itself: a request that is judged and answered, and a request that is made and takes its reply.
 
-use crate::cells::{cell, exactly, moment, octets};
+use crate::cells::{cell, exactly, moment, octets, text};
 use crate::saying;
-use crate::setting::ticket_of;
+use crate::setting::credential;
 use ap_exchange::{ApInit, judge_request};
 use gss_base::{Bindings, Principal};
 use krb_derive::{Etype, Key};
@@ -10,12 +10,6 @@ use krb_files::{Credential, read_keytab};
 use krb_tokens::MechDone;
 use sec_base::Octets;
 use std::alloc::Global;
-
-/// The principal whose text form is a cell.
-fn principal(alloc: Global, said: &str) -> Option<Principal> {
-    let text = octets(alloc, said)?;
-    Principal::parse(alloc, str::from_utf8(text.as_slice()).ok()?).ok()
-}
 
 /// The bindings with a cell's octets, none for `-`.
 fn bindings(alloc: Global, said: &str) -> Option<Option<Bindings>> {
@@ -59,7 +53,7 @@ fn verdict(
     draws: &str,
 ) -> Option<String> {
     let keytab = read_keytab(alloc, octets(alloc, keytab)?.as_slice()).ok()?;
-    let own = principal(alloc, own)?;
+    let own = Principal::parse(alloc, text(alloc, own)?.as_str()).ok()?;
     let bound = bindings(alloc, bound)?;
     let token = octets(alloc, token)?;
     let now = moment(now)?;
@@ -89,7 +83,7 @@ fn left(alloc: Global, done: &MechDone) -> Option<String> {
 }
 
 /// The credential of five cells.
-fn credential(
+fn credential_of(
     alloc: Global,
     client: &str,
     server: &str,
@@ -98,12 +92,16 @@ fn credential(
     ticket: &str,
 ) -> Option<Credential> {
     let etype = Etype::of(number.parse::<i32>().ok()?)?;
-    Some(Credential {
-        client: principal(alloc, client)?,
-        server: principal(alloc, server)?,
-        session: Key::new(etype, octets(alloc, session)?.as_slice())?,
-        ticket: ticket_of(alloc, octets(alloc, ticket)?.as_slice())?,
-    })
+    let key = Key::new(etype, octets(alloc, session)?.as_slice())?;
+    let (client, server) = (text(alloc, client)?, text(alloc, server)?);
+    let ticket = octets(alloc, ticket)?;
+    credential(
+        alloc,
+        client.as_str(),
+        server.as_str(),
+        key,
+        ticket.as_slice(),
+    )
 }
 
 /// What an initiator says to a reply.
@@ -126,12 +124,20 @@ pub fn replied(alloc: Global, line: &str) -> Option<String> {
     let (client, server, number) = (cells.next()?, cells.next()?, cells.next()?);
     let (session, ticket, stamp) = (cells.next()?, cells.next()?, cells.next()?);
     let (draws, bound, reply) = (cells.next()?, cells.next()?, cells.next()?);
-    let own = credential(alloc, client, server, number, session, ticket)?;
+    let own = credential_of(alloc, client, server, number, session, ticket)?;
     let bound_to = bindings(alloc, bound)?;
     let random = exactly(draws)?;
-    let (end, token) = ApInit::start(alloc, &own, moment(stamp)?, &random, bound_to.as_ref()).ok()?;
-    let token = cell(alloc, token.as_slice())?;
-    let said = taken(alloc, end, octets(alloc, reply)?.as_slice())?;
+    let said = match ApInit::start(alloc, &own, moment(stamp)?, &random, bound_to.as_ref()) {
+        Err(refusal) => {
+            let refusal = saying::kerberos(alloc, refusal)?;
+            format!(in alloc; "- {refusal}").ok()?
+        }
+        Ok((end, token)) => {
+            let token = cell(alloc, token.as_slice())?;
+            let verdict = taken(alloc, end, octets(alloc, reply)?.as_slice())?;
+            format!(in alloc; "{token} {verdict}").ok()?
+        }
+    };
     let who = format!(in alloc; "{client} {server} {number} {session} {ticket}").ok()?;
-    format!(in alloc; "{who} {stamp} {draws} {bound} {reply} {token} {said}").ok()
+    format!(in alloc; "{who} {stamp} {draws} {bound} {reply} {said}").ok()
 }

@@ -8,6 +8,7 @@ mod connections;
 mod entries;
 mod initiating;
 mod kerberos;
+mod peers;
 mod rules;
 mod saying;
 mod setting;
@@ -17,11 +18,12 @@ use setting::Setting;
 use std::{fs, io};
 use table::{Table, compared};
 
-const TABLES: [Table; 6] = [
+const TABLES: [Table; 7] = [
     Table::Requests,
     Table::Replies,
     Table::Initiating,
     Table::Accepting,
+    Table::Peers,
     Table::Rules,
     Table::Connections,
 ];

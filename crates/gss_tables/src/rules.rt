@@ -1,7 +1,7 @@
 //! The answer to one record, over a gate whose answers the line says.
 
 use crate::asking::Asking;
-use crate::cells::{cell, exactly, moment, octets};
+use crate::cells::{cell, exactly, moment, octets, text};
 use accept_book::{AdmitRefusal, Admitted, EndCause, Entry, Lease, LookRefusal, Receipt};
 use gss_base::{Label, MechKind};
 use gss_server::{Answered, GateAnswer, ListGate, Reply, answer_record};
@@ -16,10 +16,10 @@ fn lease(alloc: Global, said: &str) -> Option<Lease> {
     let id = parts.next()?.parse::<u64>().ok()?;
     let key = Key::Aes128(exactly(parts.next()?)?);
     let subkey = parts.next()? == "1";
-    let initiator = octets(alloc, parts.next()?)?;
+    let initiator = text(alloc, parts.next()?)?;
     let outcome = Outcome {
         mech: MechKind::Kerberos,
-        initiator: Label::new(str::from_utf8(initiator.as_slice()).ok()?)?,
+        initiator: Label::new(initiator.as_str())?,
         acceptor: Label::new("rpc/host@R")?,
         key,
         subkey,

@@ -70,21 +70,31 @@ pub fn ticket_of(alloc: Global, octets: &[u8]) -> Option<Octets>
     Octets::of(alloc, octets).ok()
 }
 
-/// What the initiator begins with: Kerberos alone, without bindings, at 1,000,000 seconds.
-pub fn initiator(alloc: Global, setting: &Setting) -> Option<InitSetup>
+/// A credential for these principals, by their text forms.
+pub fn credential(
+    alloc: Global,
+    client: &str,
+    server: &str,
+    session: Key,
+    ticket: &[u8],
+) -> Option<Credential> {
+    Some(Credential {
+        client: Principal::parse(alloc, client).ok()?,
+        server: Principal::parse(alloc, server).ok()?,
+        session,
+        ticket: ticket_of(alloc, ticket)?,
+    })
+}
+
+/// What an initiator begins with: this credential of Kerberos alone, without bindings, at this moment.
+pub fn initiator(alloc: Global, credential: Credential, stamp: Moment) -> Option<InitSetup>
     ensures { IfSome result (λ own. is_own_list own.list ≡ true) }
 {
-    let credential = Credential {
-        client: Principal::parse(alloc, "alice@R").ok()?,
-        server: Principal::parse(alloc, "rpc/host@R").ok()?,
-        session: Key::new(Etype::Aes128, &setting.session)?,
-        ticket: ticket_of(alloc, setting.ticket.as_slice())?,
-    };
     let list = vec![in alloc; MechCred::Kerberos(credential)].ok()?;
     Some(InitSetup {
         list: Items::of(list),
         bindings: None,
-        stamp: Moment::new(1_000_000, 0)?,
+        stamp,
         draws: own_draws(),
     })
 }
@@ -102,12 +112,31 @@ fn offer_of(alloc: Global, letters: &str) -> Option<Vec<MechKind>> {
     Some(offer)
 }
 
-/// What the acceptor begins with, by the letters of its offer, without bindings.
-pub fn acceptor(alloc: Global, setting: &Setting, letters: &str) -> Option<AcceptSetup> {
+/// What an acceptor begins with, by its name's text form, its keytab's octets and the letters of its offer, without bindings.
+pub fn acceptor(alloc: Global, own: &str, keytab: &[u8], letters: &str) -> Option<AcceptSetup> {
     Some(AcceptSetup {
-        own: Principal::parse(alloc, "rpc/host@R").ok()?,
-        keytab: read_keytab(alloc, setting.keytab.as_slice()).ok()?,
+        own: Principal::parse(alloc, own).ok()?,
+        keytab: read_keytab(alloc, keytab).ok()?,
         bindings: None,
         offer: Items::of(offer_of(alloc, letters)?),
     })
+}
+
+impl Setting {
+    /// The credential of `alice@R`.
+    pub fn credential(&self, alloc: Global) -> Option<Credential> {
+        let session = Key::new(Etype::Aes128, &self.session)?;
+        credential(
+            alloc,
+            "alice@R",
+            "rpc/host@R",
+            session,
+            self.ticket.as_slice(),
+        )
+    }
+
+    /// What `rpc/host@R` begins with, by the letters of its offer.
+    pub fn acceptor(&self, alloc: Global, letters: &str) -> Option<AcceptSetup> {
+        acceptor(alloc, "rpc/host@R", self.keytab.as_slice(), letters)
+    }
 }

@@ -1,7 +1,7 @@
 //! The tables, and the comparison of one with what the calls answer.
 
 use crate::setting::Setting;
-use crate::{accepting, connections, initiating, kerberos, rules};
+use crate::{accepting, connections, initiating, kerberos, peers, rules};
 use std::alloc::Global;
 
 /// A table of outside values.
@@ -11,6 +11,7 @@ pub enum Table {
     Replies,
     Initiating,
     Accepting,
+    Peers,
     Rules,
     Connections,
 }
@@ -23,6 +24,7 @@ impl Table {
             Table::Replies => "replies.txt",
             Table::Initiating => "initiating.txt",
             Table::Accepting => "accepting.txt",
+            Table::Peers => "peers.txt",
             Table::Rules => "rules.txt",
             Table::Connections => "connections.txt",
         }
@@ -35,6 +37,7 @@ impl Table {
             Table::Replies => kerberos::replied(alloc, line),
             Table::Initiating => initiating::answered(alloc, setting, line),
             Table::Accepting => accepting::answered(alloc, setting, line),
+            Table::Peers => peers::answered(alloc, line),
             Table::Rules => rules::answered(alloc, line),
             Table::Connections => connections::answered(alloc, setting, line),
         }
