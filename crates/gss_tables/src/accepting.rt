@@ -41,16 +41,28 @@ fn taken(
     }
 }
 
+/// `token=verdict` for a token to this end, and the end behind it.
+fn stepped(
+    alloc: Global,
+    setup: &AcceptSetup,
+    end: AcceptEnd,
+    part: &str,
+    now: Moment,
+) -> Option<(Option<AcceptEnd>, String)> {
+    let (token, _verdict) = part.split_once('=')?;
+    let octets = octets(alloc, token)?;
+    let (after, verdict) = taken(alloc, setup, end, octets.as_slice(), now)?;
+    let said = format!(in alloc; "{token}={verdict}").ok()?;
+    Some((after, said))
+}
+
 /// `token=verdict` for each of these tokens.
 pub fn talk(alloc: Global, setup: &AcceptSetup, now: Moment, tokens: &str) -> Option<String> {
     let mut said = String::new(alloc);
-    let mut end = Some(AcceptEnd::new());
+    let mut next = Some(AcceptEnd::new());
     for part in tokens.split(' ') {
-        let (token, _verdict) = part.split_once('=')?;
-        let octets = octets(alloc, token)?;
-        let (after, verdict) = taken(alloc, setup, end.take()?, octets.as_slice(), now)?;
-        end = after;
-        let one = format!(in alloc; "{token}={verdict}").ok()?;
+        let (after, one) = stepped(alloc, setup, next?, part, now)?;
+        next = after;
         add(&mut said, " ", one.as_str())?;
     }
     Some(said)

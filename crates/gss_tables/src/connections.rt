@@ -1,12 +1,12 @@
 //! A whole connection over one book.
 
-use crate::cells::{add, cell, moment, octets};
+use crate::cells::{add, cell, moment};
 use crate::entries;
+use crate::records::{link, records_of};
 use crate::setting::Setting;
 use accept_book::{Book, Limits};
-use gss_server::{answer_record, serve_link};
-use rpc_msgs::next_record;
-use sec_base::{Clock, Draw, MemClock, MemDraw, MemLink, Moment};
+use gss_server::{ConnEnd, answer_record, serve_link};
+use sec_base::{Clock, Draw, MemClock, MemDraw, Moment};
 use std::alloc::Global;
 
 /// The limits of a cell `contexts:marks:log:width`.
@@ -43,12 +43,6 @@ fn clock(alloc: Global, said: &str) -> Option<MemClock> {
     Some(MemClock::new(moments))
 }
 
-/// A link whose stream is a cell.
-fn link(alloc: Global, said: &str) -> Option<MemLink> {
-    let input = octets(alloc, said)?;
-    Some(MemLink::new(alloc, input, Vec::new(alloc), Vec::new(alloc)))
-}
-
 /// What serves connections one after the other: a book, a clock and random octets that count.
 #[derive(Drop)]
 struct Desk {
@@ -68,18 +62,20 @@ fn new_desk(alloc: Global, setting: &Setting, said: &str, nows: &str) -> Option<
     })
 }
 
+/// The number of the rule by which a record is answered.
+fn rule(alloc: Global, desk: &mut Desk, record: &[u8]) -> u8 {
+    let now = desk.clock.now();
+    let mut draws = [0; 82];
+    desk.draw.fill(&mut draws);
+    answer_record(alloc, &mut desk.gate, record, now, &draws, desk.width).rule
+}
+
 /// The numbers of the rules by which the records of a stream are answered, in order.
 fn rules(alloc: Global, desk: &mut Desk, input: &str) -> Option<String> {
-    let mut link = link(alloc, input)?;
     let mut rules = String::new(alloc);
-    while let Ok(Some(record)) = next_record(alloc, &mut link) {
-        let now = desk.clock.now();
-        let mut draws = [0; 82];
-        desk.draw.fill(&mut draws);
-        let record = record.as_slice();
-        let answered = answer_record(alloc, &mut desk.gate, record, now, &draws, desk.width);
-        let rule = format!(in alloc; "{}", answered.rule).ok()?;
-        add(&mut rules, ",", rule.as_str())?;
+    for record in records_of(alloc, input)?.as_slice() {
+        let rule = rule(alloc, desk, record.as_slice());
+        add(&mut rules, ",", format!(in alloc; "{rule}").ok()?.as_str())?;
     }
     if rules.is_empty() {
         rules.push_str("-").ok()?;
@@ -98,30 +94,49 @@ fn all_rules(alloc: Global, desk: Desk, inputs: &str) -> Option<String> {
     Some(said)
 }
 
+/// What is written on a connection, and its end.
+fn served(alloc: Global, desk: &mut Desk, input: &str) -> Option<(String, ConnEnd)> {
+    let link = link(alloc, input)?;
+    if link.is_closed() {
+        return None;
+    }
+    let Desk {
+        gate,
+        clock,
+        draw,
+        width,
+    } = desk;
+    let served = serve_link(alloc, link, gate, clock, draw, *width);
+    Some((cell(alloc, served.link.written())?, served.end))
+}
+
+/// What is written on the connections that a line has, and their ends.
+fn all_served(alloc: Global, desk: &mut Desk, inputs: &str) -> Option<String> {
+    let mut outputs = String::new(alloc);
+    let mut ends = String::new(alloc);
+    for input in inputs.split('/') {
+        let (output, end) = served(alloc, desk, input)?;
+        add(&mut outputs, "/", output.as_str())?;
+        add(&mut ends, "/", format!(in alloc; "{end:?}").ok()?.as_str())?;
+    }
+    format!(in alloc; "{outputs} {ends}").ok()
+}
+
+/// The digest and the kinds of a book's log.
+fn logged(alloc: Global, book: &Book) -> Option<String> {
+    let entries = book.log().entries();
+    let digest = entries::digest(alloc, entries)?;
+    let kinds = entries::kinds(alloc, entries)?;
+    format!(in alloc; "{digest} {kinds}").ok()
+}
+
 /// The line as the calls answer it: limits, moments and streams, then what was written, the ends, the rules, and the log.
 pub fn answered(alloc: Global, setting: &Setting, line: &str) -> Option<String> {
     let mut cells = line.split(' ');
     let (said, nows, inputs) = (cells.next()?, cells.next()?, cells.next()?);
     let mut desk = new_desk(alloc, setting, said, nows)?;
-    let mut outputs = String::new(alloc);
-    let mut ends = String::new(alloc);
-    for input in inputs.split('/') {
-        let link = link(alloc, input)?;
-        let Desk {
-            gate,
-            clock,
-            draw,
-            width,
-        } = &mut desk;
-        let served = serve_link(alloc, link, gate, clock, draw, *width);
-        let output = cell(alloc, served.link.written())?;
-        add(&mut outputs, "/", output.as_str())?;
-        let end = format!(in alloc; "{:?}", served.end).ok()?;
-        add(&mut ends, "/", end.as_str())?;
-    }
-    let entries = desk.gate.log().entries();
-    let digest = entries::digest(alloc, entries)?;
-    let kinds = entries::kinds(alloc, entries)?;
+    let output = all_served(alloc, &mut desk, inputs)?;
+    let log = logged(alloc, &desk.gate)?;
     let rules = all_rules(alloc, new_desk(alloc, setting, said, nows)?, inputs)?;
-    format!(in alloc; "{said} {nows} {inputs} {outputs} {ends} {rules} {digest} {kinds}").ok()
+    format!(in alloc; "{said} {nows} {inputs} {output} {rules} {log}").ok()
 }

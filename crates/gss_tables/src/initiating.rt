@@ -23,19 +23,44 @@ fn replied(alloc: Global, end: InitEnd, reply: &[u8]) -> Option<(Option<InitEnd>
     }
 }
 
-/// The first token, and `reply=verdict` for each of these replies.
-pub fn talk(alloc: Global, own: Credential, stamp: Moment, replies: &str) -> Option<String> {
-    let (end, first) = InitEnd::start(alloc, initiator(alloc, own, stamp)?).ok()?;
-    let mut said = cell(alloc, first.as_slice())?;
-    let mut end = Some(end);
+/// An end and its first token.
+fn begun(alloc: Global, own: Credential, stamp: Moment) -> Option<(InitEnd, String)> {
+    let setup = initiator(alloc, own, stamp)?;
+    let (end, first) = InitEnd::start(alloc, setup).ok()?;
+    Some((end, cell(alloc, first.as_slice())?))
+}
+
+/// `reply=verdict` for a reply to this end, and the end behind it.
+fn stepped(alloc: Global, end: InitEnd, part: &str) -> Option<(Option<InitEnd>, String)> {
+    let (reply, _verdict) = part.split_once('=')?;
+    let octets = octets(alloc, reply)?;
+    let (after, verdict) = replied(alloc, end, octets.as_slice())?;
+    let said = format!(in alloc; "{reply}={verdict}").ok()?;
+    Some((after, said))
+}
+
+/// `reply=verdict` for each of these replies, behind the first token.
+fn followed(alloc: Global, end: InitEnd, first: String, replies: &str) -> Option<String> {
+    let mut said = first;
+    let mut next = Some(end);
     for part in replies.split(' ') {
-        let (reply, _verdict) = part.split_once('=')?;
-        let (after, verdict) = replied(alloc, end.take()?, octets(alloc, reply)?.as_slice())?;
-        end = after;
-        let one = format!(in alloc; "{reply}={verdict}").ok()?;
+        let (after, one) = stepped(alloc, next?, part)?;
+        next = after;
         add(&mut said, " ", one.as_str())?;
     }
     Some(said)
+}
+
+/// The first token, and `reply=verdict` for each of these replies.
+pub fn talk(alloc: Global, own: Credential, stamp: Moment, replies: &str) -> Option<String> {
+    let (end, first) = begun(alloc, own, stamp)?;
+    followed(alloc, end, first, replies)
+}
+
+/// The first token alone.
+fn opened(alloc: Global, own: Credential, stamp: Moment) -> Option<String> {
+    let (_end, first) = begun(alloc, own, stamp)?;
+    Some(first)
 }
 
 /// The line as the calls answer it: `k`, the first token, and `reply=verdict` for each reply.
@@ -44,10 +69,7 @@ pub fn answered(alloc: Global, setting: &Setting, line: &str) -> Option<String> 
     let own = setting.credential(alloc)?;
     let stamp = Moment::new(1_000_000, 0)?;
     let said = match rest.split_once(' ') {
-        None => {
-            let (_end, first) = InitEnd::start(alloc, initiator(alloc, own, stamp)?).ok()?;
-            cell(alloc, first.as_slice())?
-        }
+        None => opened(alloc, own, stamp)?,
         Some((_first, replies)) => talk(alloc, own, stamp, replies)?,
     };
     format!(in alloc; "{letter} {said}").ok()

@@ -9,6 +9,7 @@ mod entries;
 mod initiating;
 mod kerberos;
 mod peers;
+mod records;
 mod rules;
 mod saying;
 mod setting;
@@ -18,7 +19,8 @@ use setting::Setting;
 use std::{fs, io};
 use table::{Table, compared};
 
-const TABLES: [Table; 7] = [
+const TABLES: [Table; 8] = [
+    Table::Records,
     Table::Requests,
     Table::Replies,
     Table::Initiating,

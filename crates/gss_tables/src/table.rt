@@ -1,12 +1,13 @@
 //! The tables, and the comparison of one with what the calls answer.
 
 use crate::setting::Setting;
-use crate::{accepting, connections, initiating, kerberos, peers, rules};
+use crate::{accepting, connections, initiating, kerberos, peers, records, rules};
 use std::alloc::Global;
 
 /// A table of outside values.
 #[derive(Clone, Copy)]
 pub enum Table {
+    Records,
     Requests,
     Replies,
     Initiating,
@@ -20,6 +21,7 @@ impl Table {
     /// Its file.
     pub fn file(self) -> &'static str {
         match self {
+            Table::Records => "records.txt",
             Table::Requests => "requests.txt",
             Table::Replies => "replies.txt",
             Table::Initiating => "initiating.txt",
@@ -33,6 +35,7 @@ impl Table {
     /// A line as the calls answer it, None where it isn't in the table's form.
     fn answered(self, alloc: Global, setting: &Setting, line: &str) -> Option<String> {
         match self {
+            Table::Records => records::answered(alloc, line),
             Table::Requests => kerberos::judged(alloc, line),
             Table::Replies => kerberos::replied(alloc, line),
             Table::Initiating => initiating::answered(alloc, setting, line),
