@@ -68,10 +68,9 @@ pub fn talk(alloc: Global, setup: &AcceptSetup, now: Moment, tokens: &str) -> Op
     Some(said)
 }
 
-/// The line as the calls answer it: the offer, and `token=verdict` for each token.
+/// `token=verdict` for each token of a line, which begins with the letters of the offer.
 pub fn answered(alloc: Global, setting: &Setting, line: &str) -> Option<String> {
     let (letters, tokens) = line.split_once(' ')?;
     let setup = setting.acceptor(alloc, letters)?;
-    let said = talk(alloc, &setup, Moment::new(1_000_000, 0)?, tokens)?;
-    format!(in alloc; "{letters} {said}").ok()
+    talk(alloc, &setup, Moment::new(1_000_000, 0)?, tokens)
 }

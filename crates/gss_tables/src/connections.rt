@@ -130,7 +130,7 @@ fn logged(alloc: Global, book: &Book) -> Option<String> {
     format!(in alloc; "{digest} {kinds}").ok()
 }
 
-/// The line as the calls answer it: limits, moments and streams, then what was written, the ends, the rules, and the log.
+/// What is written on the connections of a line, by the cells limits, moments and streams: then their ends, the rules, and the log.
 pub fn answered(alloc: Global, setting: &Setting, line: &str) -> Option<String> {
     let mut cells = line.split(' ');
     let (said, nows, inputs) = (cells.next()?, cells.next()?, cells.next()?);
@@ -138,5 +138,5 @@ pub fn answered(alloc: Global, setting: &Setting, line: &str) -> Option<String> 
     let output = all_served(alloc, &mut desk, inputs)?;
     let log = logged(alloc, &desk.gate)?;
     let rules = all_rules(alloc, new_desk(alloc, setting, said, nows)?, inputs)?;
-    format!(in alloc; "{said} {nows} {inputs} {output} {rules} {log}").ok()
+    format!(in alloc; "{output} {rules} {log}").ok()
 }

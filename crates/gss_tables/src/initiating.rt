@@ -63,14 +63,13 @@ fn opened(alloc: Global, own: Credential, stamp: Moment) -> Option<String> {
     Some(first)
 }
 
-/// The line as the calls answer it: `k`, the first token, and `reply=verdict` for each reply.
+/// The first token, and `reply=verdict` for each reply of a line, which begins with `k`.
 pub fn answered(alloc: Global, setting: &Setting, line: &str) -> Option<String> {
-    let (letter, rest) = line.split_once(' ')?;
+    let (_letter, rest) = line.split_once(' ')?;
     let own = setting.credential(alloc)?;
     let stamp = Moment::new(1_000_000, 0)?;
-    let said = match rest.split_once(' ') {
-        None => opened(alloc, own, stamp)?,
-        Some((_first, replies)) => talk(alloc, own, stamp, replies)?,
-    };
-    format!(in alloc; "{letter} {said}").ok()
+    match rest.split_once(' ') {
+        None => opened(alloc, own, stamp),
+        Some((_first, replies)) => talk(alloc, own, stamp, replies),
+    }
 }

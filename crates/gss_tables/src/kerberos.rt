@@ -3,13 +3,14 @@
 use crate::cells::{cell, exactly, moment, octets, text};
 use crate::saying;
 use crate::setting::credential;
-use ap_exchange::{ApInit, judge_request};
+use ap_exchange::{ApInit, Judged, judge_request};
 use gss_base::{Bindings, Principal};
 use krb_derive::{Etype, Key};
-use krb_files::{Credential, read_keytab};
+use krb_files::{Credential, Keytab, read_keytab};
 use krb_tokens::MechDone;
-use sec_base::Octets;
+use sec_base::{Moment, Octets};
 use std::alloc::Global;
+use std::str::Split;
 
 /// The bindings with a cell's octets, none for `-`.
 fn bindings(alloc: Global, said: &str) -> Option<Option<Bindings>> {
@@ -32,43 +33,56 @@ fn yes(holds: bool) -> &'static str {
     if holds { "1" } else { "0" }
 }
 
-/// The line as the calls answer it: keytab, own name, moment, bindings, token and random octets, then the mark, the reply and what the
-/// acceptor is left with, or the refusal.
-pub fn judged(alloc: Global, line: &str) -> Option<String> {
-    let mut cells = line.split(' ');
-    let (keytab, own, now) = (cells.next()?, cells.next()?, cells.next()?);
-    let (bound, token, draws) = (cells.next()?, cells.next()?, cells.next()?);
-    let said = verdict(alloc, keytab, own, now, bound, token, draws)?;
-    format!(in alloc; "{keytab} {own} {now} {bound} {token} {draws} {said}").ok()
+/// A request and who judges it.
+#[derive(Drop)]
+struct Request {
+    keytab: Keytab,
+    own: Principal,
+    now: Moment,
+    bindings: Option<Bindings>,
+    token: Vec<u8>,
+    draws: [u8; 66],
 }
 
-/// What is said to a request.
-fn verdict(
-    alloc: Global,
-    keytab: &str,
-    own: &str,
-    now: &str,
-    bound: &str,
-    token: &str,
-    draws: &str,
-) -> Option<String> {
-    let keytab = read_keytab(alloc, octets(alloc, keytab)?.as_slice()).ok()?;
-    let own = Principal::parse(alloc, text(alloc, own)?.as_str()).ok()?;
-    let bound = bindings(alloc, bound)?;
-    let token = octets(alloc, token)?;
-    let now = moment(now)?;
-    match judge_request(alloc, &keytab, &own, now, bound.as_ref(), token.as_slice()) {
+/// The cells keytab, own name, moment, bindings, token and random octets.
+fn request_in(alloc: Global, line: &str) -> Option<Request> {
+    let mut cells = line.split(' ');
+    let keytab = octets(alloc, cells.next()?)?;
+    let own = text(alloc, cells.next()?)?;
+    let now = moment(cells.next()?)?;
+    let bindings = bindings(alloc, cells.next()?)?;
+    let token = octets(alloc, cells.next()?)?;
+    let draws = exactly(cells.next()?)?;
+    Some(Request {
+        keytab: read_keytab(alloc, keytab.as_slice()).ok()?,
+        own: Principal::parse(alloc, own.as_str()).ok()?,
+        now,
+        bindings,
+        token,
+        draws,
+    })
+}
+
+/// What is said to the request of a line: the mark, the reply and what the acceptor is left with, or the refusal.
+pub fn judged(alloc: Global, line: &str) -> Option<String> {
+    let said = request_in(alloc, line)?;
+    let bound = said.bindings.as_ref();
+    let token = said.token.as_slice();
+    match judge_request(alloc, &said.keytab, &said.own, said.now, bound, token) {
         Err(refusal) => saying::kerberos(alloc, refusal),
-        Ok(request) => {
-            let mark = request.mark();
-            let who = cell(alloc, &mark.who)?;
-            let at = saying::moment(alloc, mark.at)?;
-            let (done, reply) = request.answer(alloc, &exactly(draws)?).ok()?;
-            let reply = cell(alloc, reply.as_slice())?;
-            let done = left(alloc, &done)?;
-            format!(in alloc; "Ok {who} {at} {reply} {done}").ok()
-        }
+        Ok(request) => answer(alloc, request, &said.draws),
     }
+}
+
+/// What is answered to a request that was judged.
+fn answer(alloc: Global, request: Judged, draws: &[u8; 66]) -> Option<String> {
+    let mark = request.mark();
+    let who = cell(alloc, &mark.who)?;
+    let at = saying::moment(alloc, mark.at)?;
+    let (done, reply) = request.answer(alloc, draws).ok()?;
+    let reply = cell(alloc, reply.as_slice())?;
+    let done = left(alloc, &done)?;
+    format!(in alloc; "Ok {who} {at} {reply} {done}").ok()
 }
 
 /// What an acceptor is left with: key, hash, both names, whether the key is a subkey, and the end.
@@ -82,19 +96,23 @@ fn left(alloc: Global, done: &MechDone) -> Option<String> {
     format!(in alloc; "{agreed} {hash} {initiator} {acceptor} {subkey} {ends}").ok()
 }
 
-/// The credential of five cells.
-fn credential_of(
-    alloc: Global,
-    client: &str,
-    server: &str,
-    number: &str,
-    session: &str,
-    ticket: &str,
-) -> Option<Credential> {
-    let etype = Etype::of(number.parse::<i32>().ok()?)?;
-    let key = Key::new(etype, octets(alloc, session)?.as_slice())?;
-    let (client, server) = (text(alloc, client)?, text(alloc, server)?);
-    let ticket = octets(alloc, ticket)?;
+/// What a request is made from, and the reply to it.
+#[derive(Drop)]
+struct Exchange {
+    own: Credential,
+    stamp: Moment,
+    draws: [u8; 66],
+    bindings: Option<Bindings>,
+    reply: Vec<u8>,
+}
+
+/// The cells client, server, type and octets of the session key and ticket.
+pub fn credential_in(alloc: Global, cells: &mut Split<'_, char>) -> Option<Credential> {
+    let client = text(alloc, cells.next()?)?;
+    let server = text(alloc, cells.next()?)?;
+    let etype = Etype::of(cells.next()?.parse::<i32>().ok()?)?;
+    let key = Key::new(etype, octets(alloc, cells.next()?)?.as_slice())?;
+    let ticket = octets(alloc, cells.next()?)?;
     credential(
         alloc,
         client.as_str(),
@@ -102,6 +120,23 @@ fn credential_of(
         key,
         ticket.as_slice(),
     )
+}
+
+/// The cells of a credential, moment, random octets, bindings and reply.
+fn exchange_in(alloc: Global, line: &str) -> Option<Exchange> {
+    let mut cells = line.split(' ');
+    let own = credential_in(alloc, &mut cells)?;
+    let stamp = moment(cells.next()?)?;
+    let draws = exactly(cells.next()?)?;
+    let bindings = bindings(alloc, cells.next()?)?;
+    let reply = octets(alloc, cells.next()?)?;
+    Some(Exchange {
+        own,
+        stamp,
+        draws,
+        bindings,
+        reply,
+    })
 }
 
 /// What an initiator says to a reply.
@@ -117,27 +152,19 @@ fn taken(alloc: Global, end: ApInit, reply: &[u8]) -> Option<String> {
     }
 }
 
-/// The line as the calls answer it: the credential (client, server, type, key, ticket), moment, random octets, bindings and reply, then the
-/// request, and what the initiator says to the reply.
+/// The request of a line, and what the initiator says to the reply.
 pub fn replied(alloc: Global, line: &str) -> Option<String> {
-    let mut cells = line.split(' ');
-    let (client, server, number) = (cells.next()?, cells.next()?, cells.next()?);
-    let (session, ticket, stamp) = (cells.next()?, cells.next()?, cells.next()?);
-    let (draws, bound, reply) = (cells.next()?, cells.next()?, cells.next()?);
-    let own = credential_of(alloc, client, server, number, session, ticket)?;
-    let bound_to = bindings(alloc, bound)?;
-    let random = exactly(draws)?;
-    let said = match ApInit::start(alloc, &own, moment(stamp)?, &random, bound_to.as_ref()) {
+    let said = exchange_in(alloc, line)?;
+    let bound = said.bindings.as_ref();
+    match ApInit::start(alloc, &said.own, said.stamp, &said.draws, bound) {
         Err(refusal) => {
             let refusal = saying::kerberos(alloc, refusal)?;
-            format!(in alloc; "- {refusal}").ok()?
+            format!(in alloc; "- {refusal}").ok()
         }
         Ok((end, token)) => {
             let token = cell(alloc, token.as_slice())?;
-            let verdict = taken(alloc, end, octets(alloc, reply)?.as_slice())?;
-            format!(in alloc; "{token} {verdict}").ok()?
+            let verdict = taken(alloc, end, said.reply.as_slice())?;
+            format!(in alloc; "{token} {verdict}").ok()
         }
-    };
-    let who = format!(in alloc; "{client} {server} {number} {session} {ticket}").ok()?;
-    format!(in alloc; "{who} {stamp} {draws} {bound} {reply} {said}").ok()
+    }
 }

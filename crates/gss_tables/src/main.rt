@@ -19,13 +19,14 @@ use setting::Setting;
 use std::{fs, io};
 use table::{Table, compared};
 
-const TABLES: [Table; 8] = [
+const TABLES: [Table; 9] = [
     Table::Records,
     Table::Requests,
     Table::Replies,
     Table::Initiating,
     Table::Accepting,
-    Table::Peers,
+    Table::PeerReplies,
+    Table::PeerRequests,
     Table::Rules,
     Table::Connections,
 ];

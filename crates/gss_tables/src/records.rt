@@ -44,7 +44,7 @@ fn record_cell(alloc: Global, record: &[u8]) -> Option<String> {
     cell(alloc, record)
 }
 
-/// The line as the calls answer it: the stream, then its records and its end.
+/// The records of the stream that a line begins with, and its end.
 pub fn answered(alloc: Global, line: &str) -> Option<String> {
     let (stream, _said) = line.split_once(' ')?;
     let mut link = link(alloc, stream)?;
@@ -63,7 +63,7 @@ pub fn answered(alloc: Global, line: &str) -> Option<String> {
             Err(refusal) => format!(in alloc; "{refusal:?}").ok()?,
         };
         let records = if said.is_empty() { "-" } else { said.as_str() };
-        return format!(in alloc; "{stream} {records}:{ended}").ok();
+        return format!(in alloc; "{records}:{ended}").ok();
     }
     None
 }

@@ -4,7 +4,7 @@ use crate::asking::Asking;
 use crate::cells::{cell, exactly, moment, octets, text};
 use accept_book::{AdmitRefusal, Admitted, EndCause, Entry, Lease, LookRefusal, Receipt};
 use gss_base::{Label, MechKind};
-use gss_server::{Answered, GateAnswer, ListGate, Reply, answer_record};
+use gss_server::{GateAnswer, ListGate, Reply, answer_record};
 use krb_derive::Key;
 use sec_base::Moment;
 use spnego_core::Outcome;
@@ -102,34 +102,54 @@ fn replied(alloc: Global, reply: &Reply) -> Option<String> {
     }
 }
 
-/// The line as the calls answer it: record, moment, random octets, width, the gate's answers, then the rule, the reply and the questions.
-pub fn answered(alloc: Global, line: &str) -> Option<String> {
+/// A record, and what it is answered by.
+#[derive(Drop)]
+struct Asked {
+    record: Vec<u8>,
+    now: Moment,
+    draws: [u8; 82],
+    width: u32,
+    gate: Asking,
+}
+
+/// The cells record, moment, random octets, width and the gate's answers.
+fn asked_in(alloc: Global, line: &str) -> Option<Asked> {
     let mut cells = line.split(' ');
-    let (record, now, draws) = (cells.next()?, cells.next()?, cells.next()?);
-    let (width, said) = (cells.next()?, cells.next()?);
-    let ends = line.contains("end:");
-    let mut gate = Asking {
+    let record = octets(alloc, cells.next()?)?;
+    let now = moment(cells.next()?)?;
+    let draws = exactly(cells.next()?)?;
+    let width = cells.next()?.parse::<u32>().ok()?;
+    let answers = answers(alloc, cells.next()?, line.contains("end:"))?;
+    let gate = Asking {
         alloc,
-        answers: ListGate::new(alloc, answers(alloc, said, ends)?).ok()?,
+        answers: ListGate::new(alloc, answers).ok()?,
         questions: String::new(alloc),
     };
-    let Answered {
-        rule,
-        kept: _,
-        reply,
-    } = answer_record(
-        alloc,
-        &mut gate,
-        octets(alloc, record)?.as_slice(),
-        moment(now)?,
-        &exactly(draws)?,
-        width.parse::<u32>().ok()?,
-    );
-    let reply = replied(alloc, &reply)?;
+    Some(Asked {
+        record,
+        now,
+        draws,
+        width,
+        gate,
+    })
+}
+
+/// The rule by which the record of a line is answered, the reply and the questions.
+pub fn answered(alloc: Global, line: &str) -> Option<String> {
+    let Asked {
+        record,
+        now,
+        draws,
+        width,
+        gate,
+    } = asked_in(alloc, line)?;
+    let mut gate = gate;
+    let answered = answer_record(alloc, &mut gate, record.as_slice(), now, &draws, width);
+    let (rule, reply) = (answered.rule, replied(alloc, &answered.reply)?);
     let questions = if gate.questions.is_empty() {
         "-"
     } else {
         gate.questions.as_str()
     };
-    format!(in alloc; "{record} {now} {draws} {width} {said} {rule} {reply} {questions}").ok()
+    format!(in alloc; "{rule} {reply} {questions}").ok()
 }
