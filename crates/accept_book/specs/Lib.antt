@@ -16,3 +16,5 @@ pub mod Served
 pub mod RecordShown
 pub mod RecordRule
 pub mod RuleExamples
+pub mod Asking
+pub mod Honest

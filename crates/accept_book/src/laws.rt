@@ -1,7 +1,12 @@
 //! Laws over all legal histories.
+ghost use Rattle.accept_book.specs.Asking.{AsksLaws};
 ghost use Rattle.accept_book.specs.Examples.{Examples};
+ghost use Rattle.accept_book.specs.Honest.{HonestLaw};
 ghost use Rattle.accept_book.specs.Once.{CallsOnce, MarksOnce};
 ghost use Rattle.accept_book.specs.RuleExamples.{RulesByHand};
+
+use crate::book_answer::Lease;
+use krb_derive::SealKeys;
 
 /// No number of a context stands twice in a legal history.
 pub fn calls_once()
@@ -22,3 +27,16 @@ pub fn histories_by_hand()
 pub fn rules_by_hand()
     ensures { RulesByHand }
 {}
+
+/// No record asks more than two questions, and one that is refused before its number is judged asks for no number.
+pub fn records_ask_in_order()
+    ensures { AsksLaws }
+{}
+
+/// Does nothing that stays; its contract says what an honest record of a context is answered: its number is asked for, and its call is done
+/// exactly where that is admitted.
+pub fn honest_records(lease: &Lease)
+    ensures { HonestLaw lease.now }
+{
+    let _keys = SealKeys::of(&lease.outcome.key, 24);
+}

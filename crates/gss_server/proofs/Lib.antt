@@ -8,3 +8,4 @@ pub mod Replying
 pub mod StatusLines
 pub mod ServedLinks
 pub mod Words
+pub mod Wanting

@@ -1,18 +1,24 @@
 -- Turn after turn of a connection.
-use Rattle.std.proofs.Common.{◌≡◌, inl, inr, lit<, lit≤, subst, ℕ, ◌+◌, ◌<◌, List, [], ◌∷◌, ◌++◌, length, take, refl, ap, sym, ◌∙◌, arith, append_assoc, Option, Some, None}
+use Rattle.std.proofs.Common.{◌≡◌, inl, inr, lit<, lit≤, subst, ℕ, ◌+◌, ◌*◌, ◌<◌, ◌≤◌, List, [], ◌∷◌, ◌++◌, length, take, refl, ap, sym, ◌∙◌, arith, append_assoc, Bool, Option, Some, None, Err}
 use Rattle.std.specs.List.{AllByRecursion}
 use Rattle.std.proofs.Math.Seq.{take-append-add, take-length}
 use Rattle.std.proofs.lemmas.Grind.{common_steps, flat_map-append}
-use Rattle.std.proofs.lemmas.List.{length-append, append-nil}
+use Rattle.std.proofs.lemmas.List.{length-append, append-nil, length-map}
 use Rattle.sec_base.specs.Link.{Wire}
 use Rattle.rpc_msgs.specs.Records.{Fragments, octets_in, frame, IsRecord, IsFront}
 use Rattle.rpc_msgs.specs.Streams.{Took, Put}
 use Rattle.gss_server.specs.declared.answer.Kept.{Kept}
 use Rattle.gss_server.specs.declared.connection.ConnEnd.{ConnEnd}
 use Rattle.gss_server.specs.declared.connection.ConnEnd.TheVariants.{Ended, LinkFault, TooLong, TooManyFragments, Torn, Budget, NoMemory}
-use Rattle.gss_server.specs.Connections.{Went, octets_of, written_for, written_in, HasCause, IsWritten, IsCounted, IsServed}
+use Rattle.accept_book.specs.RecordShown.{Ruling}
+use Rattle.accept_book.proofs.Asking.{record-at}
+use Rattle.gss_server.specs.Hearing.{kept_answers}
+use Rattle.gss_server.specs.Telling.{GainsWith, told_of}
+use Rattle.gss_server.specs.declared.told.Told.{Told}
+use Rattle.gss_server.specs.Answers.{IsDecided}
+use Rattle.gss_server.specs.Connections.{Went, octets_of, in_order, ruling_for, written_for, written_in, told_for, told_in, HasCause, IsWritten, IsCounted, AllDecided, LastWanted, IsAnswered, IsServedBy, IsServed}
 use Rattle.gss_server.specs.Serving.{Serving}
-use Rattle.gss_server.specs.Turns.{Replies, Turns, Serves, ServesInPart, Stops}
+use Rattle.gss_server.specs.Turns.{Receives, Replies, Turns, Serves, ServesInPart, Stops, Wanted}
 
 pub went-took : {a b : Wire} {xs : List ℕ} → Took a b xs → Went a b xs []
 went-took {a} {b} {xs} t = record {
@@ -46,16 +52,17 @@ went-same {a} {b} w e f = record {
 }
 
 -- a record was read and then answered
-pub turned : (width : ℕ) → {a b : Wire} (c : Wire) (before after : List Kept) (cut : Fragments) (result : Option ConnEnd) → IsRecord cut → Took a b (frame cut) → Replies width b c (octets_in cut) before after result → Turns width a c before after result
-turned width c before after cut None r t p = (cut, p.0, record { is_record = r; kept = p.1.kept; went = went-put t p.1.put })
-turned width c before after cut (Some Ended) r t p = absurd p
-turned width c before after cut (Some LinkFault) r t p = inr (cut, p.0, p.1, record { is_record = r; kept = p.2.kept; went = went-put t p.2.put })
-turned width c before after cut (Some TooLong) r t p = absurd p
-turned width c before after cut (Some TooManyFragments) r t p = absurd p
-turned width c before after cut (Some Torn) r t p = absurd p
-turned width c before after cut (Some Budget) r t p = absurd p
-turned width c before after cut (Some NoMemory) r t (inl p) = inl (frame cut, inr (record { cut = cut; is_record = r; spelled = refl }), record { kept = p.0; went = went-put t p.1 })
-turned width c before after cut (Some NoMemory) r t (inr p) = inr (cut, p.0, p.1, record { is_record = r; kept = p.2.kept; went = went-put t p.2.put })
+pub turned : (gained : List Told → Type 0) (width : ℕ) → {a b : Wire} (c : Wire) (before after : List Kept) (cut : Fragments) (result : Option ConnEnd) → IsRecord cut → Took a b (frame cut) → Replies gained width b c (octets_in cut) before after result → Turns gained width a c before after result
+turned gained width c before after cut None r t p = (cut, p.0, record { is_record = r; kept = p.1.kept; went = went-put t p.1.put; answered = p.1.answered; asked = p.1.asked })
+turned gained width c before after cut (Some Ended) r t p = absurd p
+turned gained width c before after cut (Some LinkFault) r t p = inr (cut, p.0, p.1, record { is_record = r; kept = p.2.kept; went = went-put t p.2.put; answered = p.2.answered; asked = p.2.asked })
+turned gained width c before after cut (Some TooLong) r t p = absurd p
+turned gained width c before after cut (Some TooManyFragments) r t p = absurd p
+turned gained width c before after cut (Some Torn) r t p = absurd p
+turned gained width c before after cut (Some Budget) r t p = absurd p
+turned gained width c before after cut (Some NoMemory) r t (inl p) =
+    inl (frame cut, inr (record { cut = cut; is_record = r; spelled = refl }), record { kept = p.kept; went = went-put t p.put; asked = p.asked })
+turned gained width c before after cut (Some NoMemory) r t (inr p) = inr (cut, p.0, p.1, record { is_record = r; kept = p.2.kept; went = went-put t p.2.put; answered = p.2.answered; asked = p.2.asked })
 
 each-push : (records : List Fragments) (cut : Fragments) → AllByRecursion IsRecord records → IsRecord cut → AllByRecursion IsRecord (records ++ cut ∷ [])
 each-push [] cut all r = (r, tt)
@@ -65,32 +72,90 @@ octets_of-push : (records : List Fragments) (cut : Fragments) → octets_of reco
 octets_of-push records cut =
     ap (λ (zs : List ℕ). octets_of records ++ zs) (sym (append-nil (frame cut))) ∙ sym (flat_map-append frame records (cut ∷ []))
 
-written-push : (width : ℕ) → (records : List Fragments) (kept : List Kept) (cut : Fragments) (one : Kept) → length records ≡ length kept → written_in width (records ++ cut ∷ []) (kept ++ one ∷ []) ≡ written_in width records kept ++ written_for width (octets_in cut) one
-written-push width [] [] cut one e = append-nil (written_for width (octets_in cut) one)
-written-push width [] (k ∷ kept) cut one e = absurd (omega arith)
-written-push width (x ∷ records) [] cut one e = absurd (omega arith)
-written-push width (x ∷ records) (k ∷ kept) cut one e =
-    ap (λ (zs : List ℕ). written_for width (octets_in x) k ++ zs) (written-push width records kept cut one (omega arith)) ∙ sym (append_assoc (written_for width (octets_in x) k) (written_in width records kept) (written_for width (octets_in cut) one))
+order-push : {A : Type 0} (each : List ℕ → Kept → List A) (records : List Fragments) (kept : List Kept) (cut : Fragments) (one : Kept) → length records ≡ length kept → in_order each (records ++ cut ∷ []) (kept ++ one ∷ []) ≡ in_order each records kept ++ each (octets_in cut) one
+order-push each [] [] cut one e = append-nil (each (octets_in cut) one)
+order-push each [] (k ∷ kept) cut one e = absurd (omega arith)
+order-push each (x ∷ records) [] cut one e = absurd (omega arith)
+order-push {A} each (x ∷ records) (k ∷ kept) cut one e =
+    ap (λ (zs : List A). each (octets_in x) k ++ zs) (order-push each records kept cut one (omega arith)) ∙ sym (append_assoc (each (octets_in x) k) (in_order each records kept) (each (octets_in cut) one))
 
--- a record without a kept answer has nothing written
-written-past : (width : ℕ) → (records : List Fragments) (kept : List Kept) (cut : Fragments) → length records ≡ length kept → written_in width (records ++ cut ∷ []) kept ≡ written_in width records kept
-written-past width [] [] cut e = refl
-written-past width [] (k ∷ kept) cut e = absurd (omega arith)
-written-past width (x ∷ records) [] cut e = absurd (omega arith)
-written-past width (x ∷ records) (k ∷ kept) cut e = ap (λ (zs : List ℕ). written_for width (octets_in x) k ++ zs) (written-past width records kept cut (omega arith))
+-- a record without a kept answer adds nothing
+order-past : {A : Type 0} (each : List ℕ → Kept → List A) (records : List Fragments) (kept : List Kept) (cut : Fragments) → length records ≡ length kept → in_order each (records ++ cut ∷ []) kept ≡ in_order each records kept
+order-past each [] [] cut e = refl
+order-past each [] (k ∷ kept) cut e = absurd (omega arith)
+order-past each (x ∷ records) [] cut e = absurd (omega arith)
+order-past {A} each (x ∷ records) (k ∷ kept) cut e = ap (λ (zs : List A). each (octets_in x) k ++ zs) (order-past each records kept cut (omega arith))
+
+decided-push : (width : ℕ) (records : List Fragments) (kept : List Kept) (cut : Fragments) (one : Kept) → length records ≡ length kept → AllDecided width records kept → IsDecided (ruling_for width (octets_in cut) one) → AllDecided width (records ++ cut ∷ []) (kept ++ one ∷ [])
+decided-push width [] [] cut one e all h = (h, tt)
+decided-push width [] (k ∷ kept) cut one e all h = absurd (omega arith)
+decided-push width (x ∷ records) [] cut one e all h = absurd (omega arith)
+decided-push width (x ∷ records) (k ∷ kept) cut one e all h = (all.0, decided-push width records kept cut one (omega arith) all.1 h)
+
+decided-past : (width : ℕ) (records : List Fragments) (kept : List Kept) (cut : Fragments) → length records ≡ length kept → AllDecided width records kept → AllDecided width (records ++ cut ∷ []) kept
+decided-past width [] [] cut e all = tt
+decided-past width [] (k ∷ kept) cut e all = absurd (omega arith)
+decided-past width (x ∷ records) [] cut e all = absurd (omega arith)
+decided-past width (x ∷ records) (k ∷ kept) cut e all = (all.0, decided-past width records kept cut (omega arith) all.1)
+
+-- what a gate gained before and then is what it gained since: at most two questions a record
+abbrev pub Joins : (List Told → Type 0) → (List Told → Type 0) → (List Told → Type 0) → ℕ → Type 0
+Joins earlier then since number = (m o : List Told) → length m ≤ 2 * number → earlier m → then o → since (m ++ o)
+
+few-told_for : (width : ℕ) (octets : List ℕ) (one : Kept) → length (told_for width octets one) ≤ 2
+few-told_for width octets one = omega (arith, length-map (ruling_for width octets one).asked told_of, (record-at octets (kept_answers one) width).few)
+
+few-told : (width : ℕ) (records : List Fragments) (kept : List Kept) → length (told_in width records kept) ≤ 2 * length records
+few-told width [] kept = omega arith
+few-told width (x ∷ records) [] = omega arith
+few-told width (x ∷ records) (k ∷ kept) =
+    omega (arith, few-told width records kept, length-append (told_for width (octets_in x) k) (told_in width records kept), few-told_for width (octets_in x) k)
+
+pub gains-none : (tells : Bool) (least room : ℕ) (told : List Told) → GainsWith tells least room room told told []
+gains-none tells least room told = λ t r. record { gained = sym (append-nil told); used = omega arith }
+
+pub joined : {tells tells' : Bool} {n r0 r1 r2 : ℕ} {t0 t1 t2 : List Told} → tells' ≡ tells → n < 65536 → Joins (GainsWith tells 131072 r0 r1 t0 t1) (GainsWith tells' 2 r1 r2 t1 t2) (GainsWith tells 131072 r0 r2 t0 t2) n
+joined {t0 = t0} e h = λ m o few p q t room.
+    let a = p t room in
+    let b = q (rw e t) (omega (arith, a.used, few, room, h)) in record {
+      gained = b.gained ∙ (ap (λ (zs : List Told). zs ++ o) a.gained ∙ append_assoc t0 m o);
+      used = omega (arith, a.used, b.used, length-append m o);
+    }
+
+-- no record was read
+pub unread : (gained : List Told → Type 0) (width : ℕ) (a b : Wire) (kept : List Kept) (ending : ConnEnd) → gained [] → Receives a b (Err ending) → Turns gained width a b kept kept (Some ending)
+unread gained width a b kept Ended g r = (record { kept = refl; went = went-took r.0; asked = g }, r.1)
+unread gained width a b kept LinkFault g r = inl (r.0, r.1, record { kept = refl; went = went-took r.2; asked = g })
+unread gained width a b kept TooLong g r = (r.0, r.1, record { kept = refl; went = went-took r.2; asked = g })
+unread gained width a b kept TooManyFragments g r = (r.0, r.1, record { kept = refl; went = went-took r.2; asked = g })
+unread gained width a b kept Torn g r = (r.0, r.1, record { kept = refl; went = went-took r.2; asked = g }, r.3)
+unread gained width a b kept Budget g r = absurd r
+unread gained width a b kept NoMemory g r = inl (r.0, r.1, record { kept = refl; went = went-took r.2; asked = g })
 
 -- nothing was read
-pub serving-none : (width : ℕ) → (w : Wire) → Serving width w w [] 0
-serving-none width w = record {
+pub serving-none : {gained : List Told → Type 0} (width : ℕ) → (w : Wire) → gained [] → Serving gained width w w [] 0
+serving-none width w none = record {
   records = [];
   each = tt;
   went = record { taken = sym (append-nil w.taken); coming = ([], append-nil w.coming); written = sym (append-nil w.written) };
   count = refl;
   counted = refl;
+  answered = tt;
+  asked = none;
 }
 
-pub serving-more : (width : ℕ) → {a b c : Wire} {before : List Kept} (after : List Kept) (n : ℕ) → Serving width a b before n → Turns width b c before after None → Serving width a c after (n + 1)
-serving-more width {before = before} after n s t =
+asked-more : {earlier then : List Told → Type 0} (since : List Told → Type 0) (width : ℕ) {a b : Wire} {before : List Kept} (after : List Kept) (n : ℕ) (cut : Fragments) (one : Kept) (s : Serving earlier width a b before n) → Joins earlier then since n → after ≡ before ++ one ∷ [] → then (told_for width (octets_in cut) one) → since (told_in width (s.records ++ cut ∷ []) after)
+asked-more since width {before = before} after n cut one s joins e t =
+    subst (λ (ks : List Kept). since (told_in width (s.records ++ cut ∷ []) ks)) (sym e)
+    (subst since (sym (order-push (told_for width) s.records before cut one s.counted))
+    (joins (told_in width s.records before) (told_for width (octets_in cut) one) (omega (arith, few-told width s.records before, s.count)) s.asked t))
+
+decided-more : (width : ℕ) {gained : List Told → Type 0} {a b : Wire} {before : List Kept} (after : List Kept) {n : ℕ} (cut : Fragments) (one : Kept) (s : Serving gained width a b before n) → after ≡ before ++ one ∷ [] → IsDecided (ruling_for width (octets_in cut) one) → AllDecided width (s.records ++ cut ∷ []) after
+decided-more width {before = before} after cut one s e h =
+    subst (λ (ks : List Kept). AllDecided width (s.records ++ cut ∷ []) ks) (sym e) (decided-push width s.records before cut one s.counted s.answered h)
+
+pub serving-more : {earlier then since : List Told → Type 0} (width : ℕ) → {a b c : Wire} {before : List Kept} (after : List Kept) (n : ℕ) → Joins earlier then since n → Serving earlier width a b before n → Turns then width b c before after None → Serving since width a c after (n + 1)
+serving-more {since = since} width {before = before} after n joins s t =
     let cut = t.0 in
     let one = t.1 in
     let counts : length (s.records ++ cut ∷ []) ≡ length s.records + 1 = length-append s.records (cut ∷ []) in
@@ -99,33 +164,43 @@ serving-more width {before = before} after n s t =
       records = s.records ++ cut ∷ [];
       each = each-push s.records cut s.each t.2.is_record;
       went = went-same (went-again s.went t.2.went) (octets_of-push s.records cut)
-          (sym (written-push width s.records before cut one s.counted) ∙ ap (λ (ks : List Kept). written_in width (s.records ++ cut ∷ []) ks) (sym t.2.kept));
+          (sym (order-push (written_for width) s.records before cut one s.counted) ∙ ap (λ (ks : List Kept). written_in width (s.records ++ cut ∷ []) ks) (sym t.2.kept));
       count = omega (arith, s.count);
       counted = counts ∙ (ap (λ (k : ℕ). k + 1) s.counted ∙ (sym keeps ∙ ap (length {A = Kept}) (sym t.2.kept)));
+      answered = decided-more width after cut one s t.2.kept t.2.answered;
+      asked = asked-more since width after n cut one s joins t.2.kept t.2.asked;
     }
 
 front-whole : (xs : List ℕ) → (count : ℕ) × (xs ≡ take count xs)
 front-whole xs = (length xs, sym (take-length xs))
 
-stop-went : (width : ℕ) → {a b c : Wire} {before : List Kept} (after : List Kept) {n : ℕ} {octets : List ℕ} (s : Serving width a b before n) → Stops b c before after octets → Went a c (octets_of s.records ++ octets) (written_in width s.records after)
+stop-went : {earlier then : List Told → Type 0} (width : ℕ) → {a b c : Wire} {before : List Kept} (after : List Kept) {n : ℕ} {octets : List ℕ} (s : Serving earlier width a b before n) → Stops then b c before after octets → Went a c (octets_of s.records ++ octets) (written_in width s.records after)
 stop-went width after s t = went-same (went-again s.went t.went) refl (append-nil _ ∙ ap (λ (ks : List Kept). written_in width s.records ks) (sym t.kept))
 
-stop-counted : (width : ℕ) → {a b c : Wire} {before : List Kept} (after : List Kept) {n : ℕ} {octets : List ℕ} (s : Serving width a b before n) → Stops b c before after octets → length s.records ≡ length after
+stop-counted : {earlier then : List Told → Type 0} (width : ℕ) → {a b c : Wire} {before : List Kept} (after : List Kept) {n : ℕ} {octets : List ℕ} (s : Serving earlier width a b before n) → Stops then b c before after octets → length s.records ≡ length after
 stop-counted width after s t = s.counted ∙ ap (length {A = Kept}) (sym t.kept)
 
+stop-decided : {earlier then : List Told → Type 0} (width : ℕ) → {a b c : Wire} {before : List Kept} (after : List Kept) {n : ℕ} {octets : List ℕ} (s : Serving earlier width a b before n) → Stops then b c before after octets → AllDecided width s.records after
+stop-decided width after s t = subst (λ (ks : List Kept). AllDecided width s.records ks) (sym t.kept) s.answered
+
+stop-asked : {earlier then : List Told → Type 0} (since : List Told → Type 0) (width : ℕ) → {a b c : Wire} {before : List Kept} (after : List Kept) {n : ℕ} {octets : List ℕ} (s : Serving earlier width a b before n) → Joins earlier then since n → Stops then b c before after octets → since (told_in width s.records after)
+stop-asked since width {before = before} after s joins t =
+    subst (λ (ks : List Kept). since (told_in width s.records ks)) (sym t.kept)
+    (subst since (append-nil _) (joins (told_in width s.records before) [] (omega (arith, few-told width s.records before, s.count)) s.asked t.asked))
+
 -- a record was answered, and a front of what is due to it was written
-part-went : (width : ℕ) → {a b c : Wire} {before : List Kept} (after : List Kept) {n : ℕ} (count : ℕ) {cut : Fragments} {one : Kept} (s : Serving width a b before n) → Serves b c before after cut one (take count (written_for width (octets_in cut) one)) → Went a c (octets_of (s.records ++ cut ∷ []) ++ []) (written_in width s.records before ++ take count (written_for width (octets_in cut) one))
+part-went : {earlier then : List Told → Type 0} {Is : Ruling → Type 0} (width : ℕ) → {a b c : Wire} {before : List Kept} (after : List Kept) {n : ℕ} (count : ℕ) {cut : Fragments} {one : Kept} (s : Serving earlier width a b before n) → Serves then Is width b c before after cut one (take count (written_for width (octets_in cut) one)) → Went a c (octets_of (s.records ++ cut ∷ []) ++ []) (written_in width s.records before ++ take count (written_for width (octets_in cut) one))
 part-went width after count {cut = cut} s t = went-same (went-again s.went t.went) (octets_of-push s.records cut ∙ sym (append-nil _)) refl
 
-part-written : (width : ℕ) → {a b c : Wire} {before : List Kept} (after : List Kept) {n : ℕ} (count : ℕ) {cut : Fragments} {one : Kept} (s : Serving width a b before n) → Serves b c before after cut one (take count (written_for width (octets_in cut) one)) → (m : ℕ) × (written_in width s.records before ++ take count (written_for width (octets_in cut) one) ≡ take m (written_in width (s.records ++ cut ∷ []) after))
+part-written : {earlier then : List Told → Type 0} {Is : Ruling → Type 0} (width : ℕ) → {a b c : Wire} {before : List Kept} (after : List Kept) {n : ℕ} (count : ℕ) {cut : Fragments} {one : Kept} (s : Serving earlier width a b before n) → Serves then Is width b c before after cut one (take count (written_for width (octets_in cut) one)) → (m : ℕ) × (written_in width s.records before ++ take count (written_for width (octets_in cut) one) ≡ take m (written_in width (s.records ++ cut ∷ []) after))
 part-written width {before = before} after count {cut = cut} {one = one} s t = (
   length (written_in width s.records before) + count,
   sym (take-append-add (written_in width s.records before) (written_for width (octets_in cut) one) count)
-      ∙ (ap (λ (zs : List ℕ). take (length (written_in width s.records before) + count) zs) (sym (written-push width s.records before cut one s.counted))
+      ∙ (ap (λ (zs : List ℕ). take (length (written_in width s.records before) + count) zs) (sym (order-push (written_for width) s.records before cut one s.counted))
       ∙ ap (λ (ks : List Kept). take (length (written_in width s.records before) + count) (written_in width (s.records ++ cut ∷ []) ks)) (sym t.kept)),
 )
 
-part-counted : (width : ℕ) → {a b c : Wire} {before : List Kept} (after : List Kept) {n : ℕ} {cut : Fragments} {wrote : List ℕ} {one : Kept} (s : Serving width a b before n) → Serves b c before after cut one wrote → length (s.records ++ cut ∷ []) ≡ length after
+part-counted : {earlier then : List Told → Type 0} {Is : Ruling → Type 0} (width : ℕ) → {a b c : Wire} {before : List Kept} (after : List Kept) {n : ℕ} {cut : Fragments} {wrote : List ℕ} {one : Kept} (s : Serving earlier width a b before n) → Serves then Is width b c before after cut one wrote → length (s.records ++ cut ∷ []) ≡ length after
 part-counted width {before = before} after {cut = cut} {one = one} s t =
     length-append s.records (cut ∷ []) ∙ (ap (λ (k : ℕ). k + 1) s.counted ∙ (sym (length-append before (one ∷ [])) ∙ ap (length {A = Kept}) (sym t.kept)))
 
@@ -133,8 +208,8 @@ no-front : IsFront []
 no-front = record { earlier = []; part = []; few = lit≤ tt; size = lit≤ tt; partial = inl (lit< tt); spelled = refl }
 
 -- the connection ended with these octets behind its whole records
-stopped : (width : ℕ) → {a b c : Wire} {before : List Kept} (after : List Kept) {n : ℕ} {octets : List ℕ} (s : Serving width a b before n) → Stops b c before after octets → (ending : ConnEnd) → HasCause ending octets c.coming (length s.records) → IsWritten ending (written_in width s.records after) (written_in width s.records after) → IsCounted ending (length s.records) (length after) → IsServed width a c after ending
-stopped width after {octets = octets} s t ending cause replies counted = record {
+stopped : {earlier then since : List Told → Type 0} (width : ℕ) → {a b c : Wire} {before : List Kept} (after : List Kept) {n : ℕ} {octets : List ℕ} (s : Serving earlier width a b before n) → Joins earlier then since n → Stops then b c before after octets → (ending : ConnEnd) → HasCause ending octets c.coming (length s.records) → IsWritten ending (written_in width s.records after) (written_in width s.records after) → IsCounted ending (length s.records) (length after) → (AllDecided width s.records after → IsAnswered ending width s.records after) → IsServedBy since width a c after ending
+stopped {since = since} width after {octets = octets} s joins t ending cause replies counted answered = record {
   records = s.records;
   rest = octets;
   wrote = written_in width s.records after;
@@ -143,11 +218,13 @@ stopped width after {octets = octets} s t ending cause replies counted = record 
   cause = cause;
   replies = replies;
   counted = counted;
+  answered = answered (stop-decided width after s t);
+  asked = stop-asked since width after s joins t;
 }
 
 -- the connection ended while the reply to its last record was written
-broken : (width : ℕ) → {a b c : Wire} {before : List Kept} (after : List Kept) {n : ℕ} (s : Serving width a b before n) → ServesInPart width b c before after → (ending : ConnEnd) → ((coming : List ℕ) (count : ℕ) → HasCause ending [] coming count) → ((due wrote : List ℕ) → (m : ℕ) × (wrote ≡ take m due) → IsWritten ending due wrote) → ((k : ℕ) → IsCounted ending k k) → IsServed width a c after ending
-broken width {c = c} {before = before} after s t ending cause written counted = record {
+broken : {earlier then since : List Told → Type 0} {Is : Ruling → Type 0} (width : ℕ) → {a b c : Wire} {before : List Kept} (after : List Kept) {n : ℕ} (s : Serving earlier width a b before n) → Joins earlier then since n → (t : ServesInPart then Is width b c before after) → (ending : ConnEnd) → ((coming : List ℕ) (count : ℕ) → HasCause ending [] coming count) → ((due wrote : List ℕ) → (m : ℕ) × (wrote ≡ take m due) → IsWritten ending due wrote) → ((k : ℕ) → IsCounted ending k k) → IsAnswered ending width (s.records ++ t.0 ∷ []) after → IsServedBy since width a c after ending
+broken {since = since} width {c = c} {before = before} after {n} s joins t ending cause written counted answered = record {
   records = s.records ++ t.0 ∷ [];
   rest = [];
   wrote = written_in width s.records before ++ take t.2 (written_for width (octets_in t.0) t.1);
@@ -156,11 +233,13 @@ broken width {c = c} {before = before} after s t ending cause written counted = 
   cause = cause c.coming (length (s.records ++ t.0 ∷ []));
   replies = written _ _ (part-written width after t.2 s t.3);
   counted = subst (λ (k : ℕ). IsCounted ending (length (s.records ++ t.0 ∷ [])) k) (part-counted width after s t.3) (counted (length (s.records ++ t.0 ∷ [])));
+  answered = answered;
+  asked = asked-more since width after n t.0 t.1 s joins t.3.kept t.3.asked;
 }
 
 -- a record was read for whose answer there was no memory
-unkept : (width : ℕ) → {a b c : Wire} {before : List Kept} (after : List Kept) {n : ℕ} (cut : Fragments) (octets : List ℕ) (s : Serving width a b before n) → IsRecord cut → octets ≡ frame cut → Stops b c before after octets → IsServed width a c after NoMemory
-unkept width {before = before} after cut octets s r e t = record {
+unkept : {earlier then since : List Told → Type 0} (width : ℕ) → {a b c : Wire} {before : List Kept} (after : List Kept) {n : ℕ} (cut : Fragments) (octets : List ℕ) (s : Serving earlier width a b before n) → Joins earlier then since n → IsRecord cut → octets ≡ frame cut → Stops then b c before after octets → IsServedBy since width a c after NoMemory
+unkept {since = since} width {before = before} after cut octets s joins r e t = record {
   records = s.records ++ cut ∷ [];
   rest = [];
   wrote = written_in width s.records before;
@@ -169,25 +248,40 @@ unkept width {before = before} after cut octets s r e t = record {
   cause = no-front;
   replies = (
     length (written_in width s.records before),
-    sym (take-length (written_in width s.records before)) ∙ (ap (λ (zs : List ℕ). take (length (written_in width s.records before)) zs) (sym (written-past width s.records before cut s.counted))
+    sym (take-length (written_in width s.records before)) ∙ (ap (λ (zs : List ℕ). take (length (written_in width s.records before)) zs) (sym (order-past (written_for width) s.records before cut s.counted))
         ∙ ap (λ (ks : List Kept). take (length (written_in width s.records before)) (written_in width (s.records ++ cut ∷ []) ks)) (sym t.kept)),
   );
   counted = inr (length-append s.records (cut ∷ []) ∙ ap (λ (k : ℕ). k + 1) (stop-counted width after s t));
+  answered = inl (decided-past width s.records after cut (stop-counted width after s t) (stop-decided width after s t));
+  asked = subst since (sym (order-past (told_for width) s.records after cut (stop-counted width after s t))) (stop-asked since width after s joins t);
 }
 
-pub serving-stop : (width : ℕ) → {a b c : Wire} {before : List Kept} (after : List Kept) {n : ℕ} → Serving width a b before n → n < 65536 → (ending : ConnEnd) → Turns width b c before after (Some ending) → IsServed width a c after ending
-serving-stop width after s h Ended t = stopped width after s t.0 Ended (refl, t.1, omega (arith, s.count)) refl (stop-counted width after s t.0)
-serving-stop width after s h LinkFault (inl t) = stopped width after s t.2 LinkFault t.1 (front-whole (written_in width s.records after)) (stop-counted width after s t.2)
-serving-stop width after s h LinkFault (inr t) = broken width after s t LinkFault (λ coming count. no-front) (λ due wrote p. p) (λ k. refl)
-serving-stop width after s h TooLong t = stopped width after s t.2 TooLong (t.1, omega (arith, s.count)) refl (stop-counted width after s t.2)
-serving-stop width after s h TooManyFragments t = stopped width after s t.2 TooManyFragments (t.1, omega (arith, s.count)) refl (stop-counted width after s t.2)
-serving-stop width after s h Torn t = stopped width after s t.2 Torn (t.1, t.3, omega (arith, s.count)) refl (stop-counted width after s t.2)
-serving-stop width after s h Budget t = absurd t
-serving-stop width after s h NoMemory (inl (octets, inl front, t)) = stopped width after s t NoMemory front (front-whole (written_in width s.records after)) (inl (stop-counted width after s t))
-serving-stop width after s h NoMemory (inl (octets, inr w, t)) = unkept width after w.cut octets s w.is_record w.spelled t
-serving-stop width after s h NoMemory (inr t) = broken width after s t NoMemory (λ coming count. no-front) (λ due wrote p. p) (λ k. inl refl)
+last-wanted : {earlier then : List Told → Type 0} (width : ℕ) → {a b c : Wire} {before : List Kept} (after : List Kept) {n : ℕ} (s : Serving earlier width a b before n) → (t : ServesInPart then Wanted width b c before after) → LastWanted width (s.records ++ t.0 ∷ []) after
+last-wanted width {before = before} after s t = record {
+  earlier = s.records;
+  last = t.0;
+  before = before;
+  one = t.1;
+  cut = refl;
+  keeps = t.3.kept;
+  decided = s.answered;
+  wanted = t.3.answered;
+}
 
-pub serving-full : (width : ℕ) → {a b : Wire} {kept : List Kept} → Serving width a b kept 65536 → IsServed width a b kept Budget
+pub serving-stop : {earlier then since : List Told → Type 0} (width : ℕ) → {a b c : Wire} {before : List Kept} (after : List Kept) {n : ℕ} → Joins earlier then since n → Serving earlier width a b before n → n < 65536 → (ending : ConnEnd) → Turns then width b c before after (Some ending) → IsServedBy since width a c after ending
+serving-stop width after joins s h Ended t = stopped width after s joins t.0 Ended (refl, t.1, omega (arith, s.count)) refl (stop-counted width after s t.0) (λ d. d)
+serving-stop width after joins s h LinkFault (inl t) = stopped width after s joins t.2 LinkFault t.1 (front-whole (written_in width s.records after)) (stop-counted width after s t.2) (λ d. d)
+serving-stop width after joins s h LinkFault (inr t) =
+    broken width after s joins t LinkFault (λ coming count. no-front) (λ due wrote p. p) (λ k. refl) (decided-more width after t.0 t.1 s t.3.kept t.3.answered)
+serving-stop width after joins s h TooLong t = stopped width after s joins t.2 TooLong (t.1, omega (arith, s.count)) refl (stop-counted width after s t.2) (λ d. d)
+serving-stop width after joins s h TooManyFragments t = stopped width after s joins t.2 TooManyFragments (t.1, omega (arith, s.count)) refl (stop-counted width after s t.2) (λ d. d)
+serving-stop width after joins s h Torn t = stopped width after s joins t.2 Torn (t.1, t.3, omega (arith, s.count)) refl (stop-counted width after s t.2) (λ d. d)
+serving-stop width after joins s h Budget t = absurd t
+serving-stop width after joins s h NoMemory (inl (octets, inl front, t)) = stopped width after s joins t NoMemory front (front-whole (written_in width s.records after)) (inl (stop-counted width after s t)) (λ d. inl d)
+serving-stop width after joins s h NoMemory (inl (octets, inr w, t)) = unkept width after w.cut octets s joins w.is_record w.spelled t
+serving-stop width after joins s h NoMemory (inr t) = broken width after s joins t NoMemory (λ coming count. no-front) (λ due wrote p. p) (λ k. inl refl) (inr (last-wanted width after s t))
+
+pub serving-full : {gained : List Told → Type 0} (width : ℕ) → {a b : Wire} {kept : List Kept} → Serving gained width a b kept 65536 → IsServedBy gained width a b kept Budget
 serving-full width {kept = kept} s = record {
   records = s.records;
   rest = [];
@@ -197,4 +291,21 @@ serving-full width {kept = kept} s = record {
   cause = (refl, s.count);
   replies = refl;
   counted = s.counted;
+  answered = s.answered;
+  asked = s.asked;
+}
+
+-- whatever the gate was asked
+pub served-so : {gained : List Told → Type 0} (width : ℕ) → {a b : Wire} {kept : List Kept} {ending : ConnEnd} → IsServedBy gained width a b kept ending → IsServed width a b kept ending
+served-so width s = record {
+  records = s.records;
+  rest = s.rest;
+  wrote = s.wrote;
+  each = s.each;
+  went = s.went;
+  cause = s.cause;
+  replies = s.replies;
+  counted = s.counted;
+  answered = s.answered;
+  asked = tt;
 }

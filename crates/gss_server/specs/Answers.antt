@@ -1,20 +1,36 @@
 -- What the answer to one record says.
-use Rattle.std.specs.Prelude.{◌≡◌, ◌≤◌, List, ℕ, length, Option, Some, None}
-use Rattle.accept_book.specs.RecordShown.{Ruling}
+use Rattle.std.specs.Prelude.{◌≡◌, ◌≤◌, ◌<◌, ◌==◌, ◌&&◌, ◌||◌, Bool, true, false, ℕ, length, is_some, Option, Some, None}
+use Rattle.accept_book.specs.RecordShown.{Ruling, Question, Negotiate, Look, Admit, End}
 use Rattle.gss_server.specs.declared.answer.Reply.{Reply}
 use Rattle.gss_server.specs.declared.answer.Reply.TheVariants.{Silent, Bytes, NoMemory}
 
--- the rule and the reply are the ruling's, unless there was no memory
-abbrev pub Says : Reply → ℕ → Ruling → Type 0
-Says Silent rule ruling = (rule ≡ ruling.rule) × (ruling.reply ≡ None)
-Says (Bytes octets) rule ruling = (rule ≡ ruling.rule) × (ruling.reply ≡ Some octets)
-Says NoMemory rule ruling = Unit {0}
+-- a rule decides, and no question is due
+abbrev pub IsDecided : Ruling → Type 0
+IsDecided ruling = 0 < ruling.rule
 
--- the reply that is due was made, unless there was no memory for it
-abbrev pub IsReply : Option (List ℕ) → Reply → Type 0
-IsReply due Silent = due ≡ None
-IsReply due (Bytes octets) = due ≡ Some octets
-IsReply due NoMemory = Unit {0}
+-- nothing is due, or an admission: a body is opened before its call is admitted, and that takes memory
+abbrev pub may_wait : Option Question → Bool
+may_wait None = true
+may_wait (Some (Negotiate id token now draws)) = false
+may_wait (Some (Look id now)) = false
+may_wait (Some (Admit lease seq procedure args)) = true
+may_wait (Some (End lease seq)) = false
+
+-- memory may be wanted: for the reply that is due, for a body whose call is to be admitted, or in the step of a creation
+abbrev pub may_want : Ruling → Bool
+may_want ruling = is_some ruling.reply || (ruling.rule == 0 && may_wait ruling.due)
+
+-- the rule and the reply are the ruling's, unless memory was wanted where it may be
+abbrev pub Says : Reply → ℕ → Ruling → Type 0
+Says Silent rule ruling = (rule ≡ ruling.rule) × (ruling.reply ≡ None) × IsDecided ruling
+Says (Bytes octets) rule ruling = (rule ≡ ruling.rule) × (ruling.reply ≡ Some octets) × IsDecided ruling
+Says NoMemory rule ruling = (rule ≡ 0) × (may_want ruling ≡ true)
+
+-- the same of the reply alone
+abbrev pub IsReply : Ruling → Reply → Type 0
+IsReply ruling Silent = (ruling.reply ≡ None) × IsDecided ruling
+IsReply ruling (Bytes octets) = (ruling.reply ≡ Some octets) × IsDecided ruling
+IsReply ruling NoMemory = may_want ruling ≡ true
 
 -- a reply fits into a record
 abbrev pub Fits : Reply → Type 0

@@ -1,11 +1,15 @@
 -- What a served connection did, over a link that tells its octets.
-use Rattle.std.specs.Prelude.{◌≡◌, ◌⊎◌, ℕ, ◌+◌, ◌<◌, List, [], ◌∷◌, ◌++◌, length, take, Option, Some, None}
+use Rattle.std.specs.Prelude.{◌≡◌, ◌⊎◌, ℕ, ◌+◌, ◌<◌, true, List, [], ◌∷◌, ◌++◌, length, map, take, Option, Some, None}
 use Rattle.std.specs.List.{AllByRecursion, flat_map}
 use Rattle.sec_base.specs.Link.{Wire}
 use Rattle.rpc_msgs.specs.Records.{Fragments, octets_in, frame, last_fragment, IsRecord, IsTooLong, IsTooMany, IsFront, IsTorn}
 use Rattle.accept_book.specs.RecordRule.{record_ruling}
+use Rattle.accept_book.specs.RecordShown.{Ruling}
+use Rattle.gss_server.specs.Answers.{IsDecided, may_want}
 use Rattle.gss_server.specs.Hearing.{kept_answers}
+use Rattle.gss_server.specs.Telling.{told_of}
 use Rattle.gss_server.specs.declared.answer.Kept.{Kept}
+use Rattle.gss_server.specs.declared.told.Told.{Told}
 use Rattle.gss_server.specs.declared.connection.ConnEnd.{ConnEnd}
 use Rattle.gss_server.specs.declared.connection.ConnEnd.TheVariants.{Ended, LinkFault, TooLong, TooManyFragments, Torn, Budget, NoMemory}
 
@@ -18,18 +22,28 @@ abbrev pub framed : Option (List ℕ) → List ℕ
 framed None = []
 framed (Some octets) = last_fragment octets
 
--- the reply of a record, by its kept answer and the width of the windows
-abbrev pub reply_to : ℕ → List ℕ → Kept → Option (List ℕ)
-reply_to width octets kept = (record_ruling octets (kept_answers kept) width).reply
+-- the ruling of a record, by its kept answer and the width of the windows
+abbrev pub ruling_for : ℕ → List ℕ → Kept → Ruling
+ruling_for width octets kept = record_ruling octets (kept_answers kept) width
 
 abbrev pub written_for : ℕ → List ℕ → Kept → List ℕ
-written_for width octets kept = framed (reply_to width octets kept)
+written_for width octets kept = framed (ruling_for width octets kept).reply
 
--- what is written for records with their kept answers, in order
+-- what the gate is asked for a record, as it is told
+abbrev pub told_for : ℕ → List ℕ → Kept → List Told
+told_for width octets kept = map told_of (ruling_for width octets kept).asked
+
+-- of records with their kept answers, in order
+abbrev pub in_order : {A : Type 0} → (List ℕ → Kept → List A) → List Fragments → List Kept → List A
+in_order each [] kept = []
+in_order each (cut ∷ records) [] = []
+in_order each (cut ∷ records) (one ∷ kept) = each (octets_in cut) one ++ in_order each records kept
+
 abbrev pub written_in : ℕ → List Fragments → List Kept → List ℕ
-written_in width [] kept = []
-written_in width (cut ∷ records) [] = []
-written_in width (cut ∷ records) (one ∷ kept) = written_for width (octets_in cut) one ++ written_in width records kept
+written_in width records kept = in_order (written_for width) records kept
+
+abbrev pub told_in : ℕ → List Fragments → List Kept → List Told
+told_in width records kept = in_order (told_for width) records kept
 
 -- `took` was taken, of what was there or came meanwhile, and `wrote` was written
 pub record Went (old new : Wire) (took wrote : List ℕ) : Type 0 where
@@ -68,7 +82,34 @@ IsCounted Torn records kept = records ≡ kept
 IsCounted Budget records kept = records ≡ kept
 IsCounted NoMemory records kept = (records ≡ kept) ⊎ (records ≡ kept + 1)
 
-pub record IsServed (width : ℕ) (old new : Wire) (kept : List Kept) (ending : ConnEnd) : Type 0 where
+-- a rule decided each record that has a kept answer
+abbrev pub AllDecided : ℕ → List Fragments → List Kept → Type 0
+AllDecided width [] kept = Unit {0}
+AllDecided width (cut ∷ records) [] = Unit {0}
+AllDecided width (cut ∷ records) (one ∷ kept) = IsDecided (ruling_for width (octets_in cut) one) × AllDecided width records kept
+
+-- each but the last, for whose answer memory was wanted
+pub record LastWanted (width : ℕ) (records : List Fragments) (kept : List Kept) : Type 0 where
+  pub earlier : List Fragments
+  pub last : Fragments
+  pub before : List Kept
+  pub one : Kept
+  pub cut : records ≡ earlier ++ last ∷ []
+  pub keeps : kept ≡ before ++ one ∷ []
+  pub decided : AllDecided width earlier before
+  pub wanted : may_want (ruling_for width (octets_in last) one) ≡ true
+
+abbrev pub IsAnswered : ConnEnd → ℕ → List Fragments → List Kept → Type 0
+IsAnswered Ended width records kept = AllDecided width records kept
+IsAnswered LinkFault width records kept = AllDecided width records kept
+IsAnswered TooLong width records kept = AllDecided width records kept
+IsAnswered TooManyFragments width records kept = AllDecided width records kept
+IsAnswered Torn width records kept = AllDecided width records kept
+IsAnswered Budget width records kept = AllDecided width records kept
+IsAnswered NoMemory width records kept = AllDecided width records kept ⊎ LastWanted width records kept
+
+-- `gained` says what the gate was asked
+pub record IsServedBy (gained : List Told → Type 0) (width : ℕ) (old new : Wire) (kept : List Kept) (ending : ConnEnd) : Type 0 where
   pub records : List Fragments
   pub rest : List ℕ
   pub wrote : List ℕ
@@ -77,6 +118,12 @@ pub record IsServed (width : ℕ) (old new : Wire) (kept : List Kept) (ending : 
   pub cause : HasCause ending rest new.coming (length records)
   pub replies : IsWritten ending (written_in width records kept) wrote
   pub counted : IsCounted ending (length records) (length kept)
+  pub answered : IsAnswered ending width records kept
+  pub asked : gained (told_in width records kept)
+
+-- whatever the gate was asked
+abbrev pub IsServed : ℕ → Wire → Wire → List Kept → ConnEnd → Type 0
+IsServed width old new kept ending = IsServedBy (λ told. Unit {0}) width old new kept ending
 
 -- the end that a stream has, by what follows its whole records and how many they are
 abbrev pub Ends : ConnEnd → List ℕ → ℕ → Type 0

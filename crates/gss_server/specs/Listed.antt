@@ -1,6 +1,6 @@
 -- What a gate over a list answers: the next answer of the list, where it is one to the question; else LogFull to a step, NoContext to a look,
 -- and Gone to an admission or an end. Whatever it was, the next answer is used up.
-use Rattle.std.specs.Prelude.{◌≡◌, List, [], ◌∷◌, Result, Ok, Err}
+use Rattle.std.specs.Prelude.{◌≡◌, List, [], ◌∷◌, Result, Err}
 use Rattle.accept_book.specs.Entering.{given}
 use Rattle.accept_book.specs.declared.answer.AdmitRefusal.{AdmitRefusal}
 use Rattle.accept_book.specs.declared.answer.AdmitRefusal.TheVariants.{Gone}
@@ -12,13 +12,8 @@ use Rattle.accept_book.specs.declared.book_answer.NegAnswer.TheVariants.{Refused
 use Rattle.accept_book.specs.declared.book_answer.Negotiated.{Negotiated}
 use Rattle.accept_book.specs.declared.entry.Admitted.{Admitted}
 use Rattle.accept_book.specs.declared.entry.Receipt.{Receipt}
-use Rattle.gss_server.specs.declared.list_gate.GateAnswer.{GateAnswer}
-use Rattle.gss_server.specs.declared.list_gate.GateAnswer.TheVariants as answers
-use Rattle.gss_server.specs.declared.list_gate.ListGate.{ListGate}
-
--- the answers that are still to be given, in order
-abbrev pub to_come : ListGate → List GateAnswer
-to_come gate = gate.answers.items
+use Rattle.gss_server.specs.declared.gate_answer.GateAnswer.{GateAnswer}
+use Rattle.gss_server.specs.declared.gate_answer.GateAnswer.TheVariants as answers
 
 -- no step, for want of a place in the log
 pub record IsFull (negotiated : Negotiated) : Type 0 where

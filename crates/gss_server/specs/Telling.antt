@@ -1,5 +1,5 @@
 -- What a gate tells of the questions that it was asked.
-use Rattle.std.specs.Prelude.{◌≡◌, ℕ, ◌+◌, List, ◌++◌, length}
+use Rattle.std.specs.Prelude.{◌≡◌, ◌≤◌, ℕ, ◌+◌, Bool, IsTrue, List, ◌++◌, length}
 use Rattle.sha1.specs.Sha1.{sha1}
 use Rattle.spnego_core.specs.declared.accept_end.AcceptEnd.{AcceptEnd}
 use Rattle.spnego_core.specs.declared.outcome.Outcome.{Outcome}
@@ -31,6 +31,10 @@ told_of (AskedEnd lease seq answer) = Ending lease seq answer
 pub record Gains (room room' : ℕ) (old new more : List Told) : Type 0 where
   pub gained : new ≡ old ++ more
   pub used : room ≡ room' + length more
+
+-- a gate that tells, and has room for so many, gained these
+abbrev pub GainsWith : (tells : Bool) (least room room' : ℕ) (old new more : List Told) → Type 0
+GainsWith tells least room room' old new more = IsTrue tells → least ≤ room → Gains room room' old new more
 
 -- the limits under which a book is kept
 abbrev pub limits_of : Accepting AcceptEnd Outcome → Limits

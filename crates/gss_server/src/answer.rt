@@ -33,7 +33,7 @@ pub enum Reply {
 /// The answer to a record.
 #[derive(Debug, Drop)]
 pub struct Answered {
-    /// The number of the rule by which it is answered.
+    /// The number of the rule by which it is answered; 0 where there was no memory for the answer.
     pub rule: u8,
     pub kept: Kept,
     pub reply: Reply,

@@ -2,7 +2,7 @@
 
 ghost use Rattle.std.specs.Prelude.{◌≡◌, ◌≤◌, IsTrue, length, map, is_some, if◌then◌else◌, None};
 ghost use Rattle.rpcsec_msgs.specs.Cred.{cred_value};
-ghost use Rattle.accept_book.specs.RecordShown.{is_verified};
+ghost use Rattle.accept_book.specs.RecordShown.{is_verified, body_args, end_of};
 ghost use Rattle.accept_book.specs.RecordRule.{unadmitted, admitted_ruling, ask_admit, args_ruling, data_ruling};
 ghost use Rattle.gss_server.specs.Answers.{Says, Fits};
 ghost use Rattle.gss_server.specs.Hearing.{shown};
@@ -141,6 +141,27 @@ fn say_args<G: Gate>(
     ask_admission(alloc, gate, heard, cred, lease, args.as_slice())
 }
 
+/// Answers a data call by the arguments that its body carries.
+fn say_body<G: Gate>(
+    alloc: Global,
+    gate: &mut G,
+    heard: &Heard<'_>,
+    cred: &GssCred<'_>,
+    lease: &Lease,
+) -> Admits
+    ensures says { Says result.said.reply result.said.rule (args_ruling (shown heard.entry.now) (cred_value cred.now) lease.now result.admitted (body_args (end_of lease.now) (cred_value cred.now) heard.entry.now.call.args.now)) }
+    ensures fits { Fits result.said.reply }
+    ensures exact { length (args_ruling (shown heard.entry.now) (cred_value cred.now) lease.now result.admitted (body_args (end_of lease.now) (cred_value cred.now) heard.entry.now.call.args.now)).asked ≡ (if is_some result.admitted then 1 else 0) }
+    ensures tells { G.tells gate.new ≡ G.tells gate.old }
+    ensures limits { G.limits gate.new ≡ G.limits gate.old }
+    ensures told { IsTrue (G.tells gate.old) → 1 ≤ G.room gate.old → Gains (G.room gate.old) (G.room gate.new) (G.told gate.old) (G.told gate.new) (map told_of (args_ruling (shown heard.entry.now) (cred_value cred.now) lease.now result.admitted (body_args (end_of lease.now) (cred_value cred.now) heard.entry.now.call.args.now)).asked) }
+{
+    match open_body(alloc, &end_at(lease), cred, heard.call.args) {
+        Ok(args) => say_args(alloc, gate, heard, cred, lease, args),
+        Err(_) => unasked(say_no_memory()),
+    }
+}
+
 /// Answers a data call of a context that was shown.
 #[tactic(auto, unfolding(accept_book::specs::RecordRule::data_ruling))]
 pub(crate) fn say_data<G: Gate>(
@@ -184,10 +205,7 @@ pub(crate) fn say_data<G: Gate>(
     if cred.service == 1 && call.procedure != NULL {
         return unasked(say_denied(alloc, heard, 12, TOO_WEAK));
     }
-    match open_body(alloc, &end_at(lease), cred, call.args) {
-        Ok(args) => say_args(alloc, gate, heard, cred, lease, args),
-        Err(_) => unasked(say_no_memory(13)),
-    }
+    say_body(alloc, gate, heard, cred, lease)
 }
 
 /// Nothing was asked.

@@ -2,10 +2,12 @@
 
 ghost use Rattle.std.specs.Prelude.{◌≡◌, ◌≢◌, ◌≤◌, ℕ, List, [], ◌∷◌, ◌++◌, false, true, IsTrue, IsErrOf, IsOk, Option, Some, length, vec_len, vec_capacity, ◌+◌, ◌<◌};
 ghost use Rattle.sec_base.specs.Answers.{Rose};
+ghost use Rattle.accept_book.specs.RecordShown.{Ruling};
 ghost use Rattle.gss_server.specs.Answers.{IsReply, Fits};
 ghost use Rattle.gss_server.specs.Kept.{Keeps, moments_of, draws_of};
-ghost use Rattle.gss_server.specs.Turns.{Receives, Responds, Replies, Turns};
-ghost use Rattle.gss_server.specs.Connections.{framed, reply_to, IsServed, StreamEnds};
+ghost use Rattle.gss_server.specs.Turns.{Receives, Responds, Ruled, Replies, Turns};
+ghost use Rattle.gss_server.specs.Connections.{framed, ruling_for, told_for, IsServedBy, IsServed, StreamEnds};
+ghost use Rattle.gss_server.specs.Telling.{GainsWith};
 
 use crate::answer::{Kept, Reply};
 use crate::answering::answer_record;
@@ -58,12 +60,15 @@ pub fn serve_link<L: Link, G: Gate, C: Clock, D: Draw>(
 ) -> Served<L>
     requires { L.closed link ≡ false }
     ensures told { IsTrue (L.tells link) → IsServed width (L.wire link) (L.wire result.link) result.kept.items result.end }
+    // A gate that tells, and has room for two questions a record, was asked what its records ask, in order.
+    ensures asked { IsTrue (L.tells link) → IsServedBy (GainsWith (G.tells gate.old) 131072 (G.room gate.old) (G.room gate.new) (G.told gate.old) (G.told gate.new)) width (L.wire link) (L.wire result.link) result.kept.items result.end }
     // The end that the stream has comes, unless the link failed or there was no memory.
     ensures always { IsTrue (L.tells link) → (expected : ConnEnd) → StreamEnds (L.wire link) (L.wire result.link) expected
         → result.end ≢ ConnEnd.LinkFault → result.end ≢ ConnEnd.NoMemory → result.end ≡ expected }
     ensures fault { result.end ≡ ConnEnd.LinkFault → Rose (L.faults link) (L.faults result.link) }
     ensures moments { IsTrue (C.tells clock.new) → Keeps (C.given clock.old) (C.given clock.new) [] result.kept.items moments_of }
     ensures draws { IsTrue (D.tells draw.new) → Keeps (D.given draw.old) (D.given draw.new) [] result.kept.items draws_of }
+    ensures gate_tells { G.tells gate.new ≡ G.tells gate.old }
     ensures limits { G.limits gate.new ≡ G.limits gate.old }
     ensures clock_tells { IsTrue (C.tells clock.new) → IsTrue (C.tells clock.old) }
     ensures draw_tells { IsTrue (D.tells draw.new) → IsTrue (D.tells draw.old) }
@@ -91,10 +96,11 @@ fn serve<L: Link, G: Gate, C: Clock, D: Draw>(
 ) -> ConnEnd
     requires unclosed { L.closed link.old ≡ false }
     requires none { kept.old.items ≡ [] }
-    ensures told { IsTrue (L.tells link.old) → IsServed width (L.wire link.old) (L.wire link.new) kept.new.items result }
+    ensures told { IsTrue (L.tells link.old) → IsServedBy (GainsWith (G.tells gate.old) 131072 (G.room gate.old) (G.room gate.new) (G.told gate.old) (G.told gate.new)) width (L.wire link.old) (L.wire link.new) kept.new.items result }
     ensures fault { result ≡ ConnEnd.LinkFault → Rose (L.faults link.old) (L.faults link.new) }
     ensures moments { IsTrue (C.tells clock.new) → Keeps (C.given clock.old) (C.given clock.new) [] kept.new.items moments_of }
     ensures draws { IsTrue (D.tells draw.new) → Keeps (D.given draw.old) (D.given draw.new) [] kept.new.items draws_of }
+    ensures gate_tells { G.tells gate.new ≡ G.tells gate.old }
     ensures limits { G.limits gate.new ≡ G.limits gate.old }
     ensures clock_tells { IsTrue (C.tells clock.new) → IsTrue (C.tells clock.old) }
     ensures draw_tells { IsTrue (D.tells draw.new) → IsTrue (D.tells draw.old) }
@@ -123,10 +129,11 @@ fn turn<L: Link, G: Gate, C: Clock, D: Draw>(
     width: u32,
 ) -> Option<ConnEnd>
     requires unclosed { L.closed link.old ≡ false }
-    ensures told { IsTrue (L.tells link.old) → Turns width (L.wire link.old) (L.wire link.new) kept.old.items kept.new.items result }
+    ensures told { IsTrue (L.tells link.old) → Turns (GainsWith (G.tells gate.old) 2 (G.room gate.old) (G.room gate.new) (G.told gate.old) (G.told gate.new)) width (L.wire link.old) (L.wire link.new) kept.old.items kept.new.items result }
     ensures fault { result ≡ Some ConnEnd.LinkFault → Rose (L.faults link.old) (L.faults link.new) }
     ensures moments { IsTrue (C.tells clock.new) → Keeps (C.given clock.old) (C.given clock.new) kept.old.items kept.new.items moments_of }
     ensures draws { IsTrue (D.tells draw.new) → Keeps (D.given draw.old) (D.given draw.new) kept.old.items kept.new.items draws_of }
+    ensures gate_tells { G.tells gate.new ≡ G.tells gate.old }
     ensures limits { G.limits gate.new ≡ G.limits gate.old }
     ensures clock_tells { IsTrue (C.tells clock.new) → IsTrue (C.tells clock.old) }
     ensures draw_tells { IsTrue (D.tells draw.new) → IsTrue (D.tells draw.old) }
@@ -182,10 +189,11 @@ fn reply_to_record<L: Link, G: Gate, C: Clock, D: Draw>(
     width: u32,
 ) -> Option<ConnEnd>
     requires unclosed { L.closed link.old ≡ false }
-    ensures told { IsTrue (L.tells link.old) → Replies width (L.wire link.old) (L.wire link.new) octets.now kept.old.items kept.new.items result }
+    ensures told { IsTrue (L.tells link.old) → Replies (GainsWith (G.tells gate.old) 2 (G.room gate.old) (G.room gate.new) (G.told gate.old) (G.told gate.new)) width (L.wire link.old) (L.wire link.new) octets.now kept.old.items kept.new.items result }
     ensures fault { result ≡ Some ConnEnd.LinkFault → Rose (L.faults link.old) (L.faults link.new) }
     ensures moments { IsTrue (C.tells clock.new) → Keeps (C.given clock.old) (C.given clock.new) kept.old.items kept.new.items moments_of }
     ensures draws { IsTrue (D.tells draw.new) → Keeps (D.given draw.old) (D.given draw.new) kept.old.items kept.new.items draws_of }
+    ensures gate_tells { G.tells gate.new ≡ G.tells gate.old }
     ensures limits { G.limits gate.new ≡ G.limits gate.old }
     ensures clock_tells { IsTrue (C.tells clock.new) → IsTrue (C.tells clock.old) }
     ensures draw_tells { IsTrue (D.tells draw.new) → IsTrue (D.tells draw.old) }
@@ -215,10 +223,11 @@ fn answer<G: Gate, C: Clock, D: Draw>(
     width: u32,
 ) -> Reply
     requires room { vec_len kept.old + 1 ≤ vec_capacity kept.old }
-    ensures reply { (one : Kept) × (kept.new.items ≡ kept.old.items ++ one ∷ []) × IsReply (reply_to width octets.now one) result }
+    ensures reply { (one : Kept) × (kept.new.items ≡ kept.old.items ++ one ∷ []) × IsReply (ruling_for width octets.now one) result × (GainsWith (G.tells gate.old) 2 (G.room gate.old) (G.room gate.new) (G.told gate.old) (G.told gate.new)) (told_for width octets.now one) }
     ensures fits { Fits result }
     ensures moments { IsTrue (C.tells clock.new) → Keeps (C.given clock.old) (C.given clock.new) kept.old.items kept.new.items moments_of }
     ensures draws { IsTrue (D.tells draw.new) → Keeps (D.given draw.old) (D.given draw.new) kept.old.items kept.new.items draws_of }
+    ensures gate_tells { G.tells gate.new ≡ G.tells gate.old }
     ensures limits { G.limits gate.new ≡ G.limits gate.old }
     ensures clock_tells { IsTrue (C.tells clock.new) → IsTrue (C.tells clock.old) }
     ensures draw_tells { IsTrue (D.tells draw.new) → IsTrue (D.tells draw.old) }
@@ -235,8 +244,9 @@ fn answer<G: Gate, C: Clock, D: Draw>(
 fn respond<L: Link>(link: &mut L, reply: &Reply) -> Result<(), ConnEnd>
     requires unclosed { L.closed link.old ≡ false }
     requires fits { Fits reply.now }
-    ensures told { IsTrue (L.tells link.old) → (due : Option (List ℕ)) → IsReply due reply.now
-        → Responds (L.wire link.old) (L.wire link.new) (framed due) result }
+    ensures told { IsTrue (L.tells link.old) → (ruling : Ruling) → IsReply ruling reply.now
+        → Responds (L.wire link.old) (L.wire link.new) (framed ruling.reply) result }
+    ensures ruled { (ruling : Ruling) → IsReply ruling reply.now → Ruled ruling result }
     ensures fault { IsErrOf result ConnEnd.LinkFault → Rose (L.faults link.old) (L.faults link.new) }
     ensures tells { L.tells link.new ≡ L.tells link.old }
     ensures unclosed { L.closed link.new ≡ false }

@@ -1,6 +1,6 @@
 //! The rules of creation: INIT and CONTINUE_INIT.
 
-ghost use Rattle.std.specs.Prelude.{◌≡◌, ◌≤◌, IsTrue, length, map, is_some, if◌then◌else◌, None, Some, Ok, take, IfOk};
+ghost use Rattle.std.specs.Prelude.{◌≡◌, ◌<◌, ◌≤◌, IsTrue, length, map, is_some, if◌then◌else◌, None, Some, Ok, take, IfOk};
 ghost use Rattle.rpc_msgs.specs.Words.{word};
 ghost use Rattle.rpc_msgs.specs.Replies.{accepted, reply_octets};
 ghost use Rattle.rpcsec_msgs.specs.Cred.{cred_value};
@@ -82,13 +82,14 @@ fn say_going(alloc: Global, heard: &Heard<'_>, id: u64, token: &[u8]) -> Said
 {
     match result_octets(alloc, Some(id), 1, 0, 0, token) {
         Ok(result) => say_creation(alloc, heard, 21, result.as_slice()),
-        Err(_) => say_no_memory(21),
+        Err(_) => say_no_memory(),
     }
 }
 
 /// A creation's result without a verifier.
 fn say_creation(alloc: Global, heard: &Heard<'_>, rule: u8, body: &[u8]) -> Said
-    requires { length body.now ≤ 130000 }
+    requires rule { 0 < rule }
+    requires size { length body.now ≤ 130000 }
     ensures says { Says result.reply result.rule (decided rule (plain (shown heard.entry.now) 0 0 0 body.now)) }
     ensures fits { Fits result.reply }
 {
@@ -112,7 +113,7 @@ fn say_settled(alloc: Global, heard: &Heard<'_>, lease: &Lease, token: &[u8]) ->
 {
     match result_octets(alloc, Some(lease.id), 0, 0, heard.width, token) {
         Ok(result) => say_window(alloc, heard, lease, result.as_slice()),
-        Err(_) => say_no_memory(22),
+        Err(_) => say_no_memory(),
     }
 }
 
@@ -162,7 +163,7 @@ fn say_refused(alloc: Global, heard: &Heard<'_>, refusal: &BookRefusal) -> Said
     let (major, minor) = status_of(refusal);
     match result_octets(alloc, None, major, minor, 0, reject(refusal)) {
         Ok(result) => say_creation(alloc, heard, 20, result.as_slice()),
-        Err(_) => say_no_memory(20),
+        Err(_) => say_no_memory(),
     }
 }
 
@@ -177,7 +178,7 @@ fn say_stepped(alloc: Global, heard: &Heard<'_>, answer: &NegAnswer) -> Said
         NegAnswer::Settled { lease, token } => say_settled(alloc, heard, lease, token.as_slice()),
         NegAnswer::Refused(BookRefusal::NoContext) => say_denied(alloc, heard, 6, CRED_PROBLEM),
         NegAnswer::Refused(refusal) => say_refused(alloc, heard, refusal),
-        NegAnswer::NoMemory => say_no_memory(0),
+        NegAnswer::NoMemory => say_no_memory(),
     }
 }
 

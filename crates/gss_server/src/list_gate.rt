@@ -1,12 +1,13 @@
 //! A gate over a list of answers, for tests.
 
 ghost use Rattle.std.specs.Prelude.{◌≡◌, ◌<◌, ◌≤◌, ◌+◌, ◌++◌, IsTrue, true, [], ◌∷◌, drop, IfOk, None, option_to_list, vec_len, vec_capacity};
-ghost use Rattle.gss_server.specs.Listed.{IsFull, StepNext, to_come, look_next, admission_next, end_next};
+ghost use Rattle.gss_server.specs.Listed.{IsFull, StepNext, look_next, admission_next, end_next};
 ghost use Rattle.accept_book.specs.Booking.{token_size};
 ghost use Rattle.gss_server.specs.Telling.{Gains, step_told, told_of};
 ghost use Rattle.accept_book.specs.RecordShown.{AskedStep, AskedLook, AskedAdmit, AskedEnd};
 
 use crate::gate::Gate;
+use crate::gate_answer::{GateAnswer, step_of};
 use crate::told::{StepTold, Told};
 use accept_book::{
     AdmitRefusal, Admitted, BookRefusal, EndCause, Entry, Lease, LookRefusal, NegAnswer,
@@ -15,22 +16,6 @@ use accept_book::{
 use sec_base::{Moment, NoMemory};
 use sha1::Sha1;
 use std::alloc::Global;
-
-/// A step's answer whose token has at most 65,536 octets.
-#[derive(Debug, Drop)]
-pub struct Step {
-    pub negotiated: Negotiated,
-    ghost small: { token_size negotiated.answer ≤ 65536 },
-}
-
-/// An answer to one question.
-#[derive(Debug, Drop)]
-pub enum GateAnswer {
-    Negotiated(Step),
-    Looked(Result<Lease, LookRefusal>),
-    Admitted(Result<Admitted, AdmitRefusal>),
-    Ended(Result<Receipt, AdmitRefusal>),
-}
 
 /// A gate that gives the answers of a list, in order. Where the next answer is of another kind, or there is none, it answers
 /// LogFull, NoContext, Gone and Gone; such an answer is used up. It tells what it was asked, up to two questions more than it had answers.
@@ -59,15 +44,6 @@ fn told_step(answer: &NegAnswer) -> StepTold
         NegAnswer::Refused(refusal) => StepTold::Refused(*refusal),
         NegAnswer::NoMemory => StepTold::NoMemory,
     }
-}
-
-/// The answer of a step.
-fn step_of(step: Step) -> Negotiated
-    ensures value { result ≡ step.negotiated }
-    ensures size { token_size result.answer ≤ 65536 }
-{
-    let Step { negotiated } = step;
-    negotiated
 }
 
 /// The answer where the list has none: no place in the log.
@@ -140,7 +116,7 @@ fn told_end(lease: &Lease, seq: u32, answer: &Result<Receipt, AdmitRefusal>) -> 
 impl ListGate {
     /// A gate that gives these answers, in order.
     pub fn new(alloc: Global, answers: Vec<GateAnswer>) -> Result<ListGate, NoMemory>
-        ensures answers { IfOk result (λ gate. to_come gate ≡ answers.items) }
+        ensures answers { IfOk result (λ gate. gate.answers.items ≡ answers.items) }
         ensures tells { IfOk result (λ gate. ⟦<ListGate as Gate>⟧.tells gate ≡ true) }
         ensures told { IfOk result (λ gate. ⟦<ListGate as Gate>⟧.told gate ≡ []) }
         ensures room { IfOk result (λ gate. ⟦<ListGate as Gate>⟧.room gate ≡ vec_len answers + 2) }
@@ -279,8 +255,8 @@ impl Gate for ListGate {
         now: Moment,
         draws: &[u8; 66],
     ) -> Negotiated
-        ensures next { StepNext (to_come self.old) result }
-        ensures rest { to_come self.new ≡ drop 1 (to_come self.old) }
+        ensures next { StepNext self.old.answers.items result }
+        ensures rest { self.new.answers.items ≡ drop 1 self.old.answers.items }
         ensures size { token_size result.answer ≤ 65536 }
         ensures tells { ⟦<ListGate as Gate>⟧.tells self.new ≡ ⟦<ListGate as Gate>⟧.tells self.old }
         ensures limits { ⟦<ListGate as Gate>⟧.limits self.new ≡ ⟦<ListGate as Gate>⟧.limits self.old }
@@ -302,8 +278,8 @@ impl Gate for ListGate {
     }
 
     fn look(&mut self, id: u64, now: Moment) -> Result<Lease, LookRefusal>
-        ensures next { result ≡ look_next (to_come self.old) }
-        ensures rest { to_come self.new ≡ drop 1 (to_come self.old) }
+        ensures next { result ≡ look_next self.old.answers.items }
+        ensures rest { self.new.answers.items ≡ drop 1 self.old.answers.items }
         ensures tells { ⟦<ListGate as Gate>⟧.tells self.new ≡ ⟦<ListGate as Gate>⟧.tells self.old }
         ensures limits { ⟦<ListGate as Gate>⟧.limits self.new ≡ ⟦<ListGate as Gate>⟧.limits self.old }
         ensures told { IsTrue (⟦<ListGate as Gate>⟧.tells self.old) → 1 ≤ ⟦<ListGate as Gate>⟧.room self.old → Gains (⟦<ListGate as Gate>⟧.room self.old) (⟦<ListGate as Gate>⟧.room self.new) (⟦<ListGate as Gate>⟧.told self.old) (⟦<ListGate as Gate>⟧.told self.new) (told_of (AskedLook id now result) ∷ []) }
@@ -320,8 +296,8 @@ impl Gate for ListGate {
         procedure: u32,
         args: [u8; 20],
     ) -> Result<Admitted, AdmitRefusal>
-        ensures next { result ≡ admission_next (to_come self.old) }
-        ensures rest { to_come self.new ≡ drop 1 (to_come self.old) }
+        ensures next { result ≡ admission_next self.old.answers.items }
+        ensures rest { self.new.answers.items ≡ drop 1 self.old.answers.items }
         ensures tells { ⟦<ListGate as Gate>⟧.tells self.new ≡ ⟦<ListGate as Gate>⟧.tells self.old }
         ensures limits { ⟦<ListGate as Gate>⟧.limits self.new ≡ ⟦<ListGate as Gate>⟧.limits self.old }
         ensures told { IsTrue (⟦<ListGate as Gate>⟧.tells self.old) → 1 ≤ ⟦<ListGate as Gate>⟧.room self.old → Gains (⟦<ListGate as Gate>⟧.room self.old) (⟦<ListGate as Gate>⟧.room self.new) (⟦<ListGate as Gate>⟧.told self.old) (⟦<ListGate as Gate>⟧.told self.new) (told_of (AskedAdmit lease.now seq procedure args result) ∷ []) }
@@ -332,8 +308,8 @@ impl Gate for ListGate {
     }
 
     fn end(&mut self, lease: &Lease, seq: u32) -> Result<Receipt, AdmitRefusal>
-        ensures next { result ≡ end_next (to_come self.old) }
-        ensures rest { to_come self.new ≡ drop 1 (to_come self.old) }
+        ensures next { result ≡ end_next self.old.answers.items }
+        ensures rest { self.new.answers.items ≡ drop 1 self.old.answers.items }
         ensures tells { ⟦<ListGate as Gate>⟧.tells self.new ≡ ⟦<ListGate as Gate>⟧.tells self.old }
         ensures limits { ⟦<ListGate as Gate>⟧.limits self.new ≡ ⟦<ListGate as Gate>⟧.limits self.old }
         ensures told { IsTrue (⟦<ListGate as Gate>⟧.tells self.old) → 1 ≤ ⟦<ListGate as Gate>⟧.room self.old → Gains (⟦<ListGate as Gate>⟧.room self.old) (⟦<ListGate as Gate>⟧.room self.new) (⟦<ListGate as Gate>⟧.told self.old) (⟦<ListGate as Gate>⟧.told self.new) (told_of (AskedEnd lease.now seq result) ∷ []) }

@@ -47,7 +47,7 @@ pub(crate) fn say_result(
             0,
             body.as_slice(),
         ),
-        Err(_) => say_no_memory(23),
+        Err(_) => say_no_memory(),
     }
 }
 

@@ -1,6 +1,6 @@
 //! Replies of every kind.
 
-ghost use Rattle.std.specs.Prelude.{◌≡◌, ◌≢◌, ◌≤◌, ◌*◌, length, [], None, Some};
+ghost use Rattle.std.specs.Prelude.{◌≡◌, ◌≢◌, ◌<◌, ◌≤◌, ◌*◌, length, [], None, Some};
 ghost use Rattle.rpc_msgs.specs.Replies.{IsReply, reply_octets, reply_value};
 ghost use Rattle.rpc_msgs.specs.Words.{word};
 ghost use Rattle.rpcsec_msgs.specs.Cred.{cred_value};
@@ -22,7 +22,7 @@ pub(crate) const AUTH_NONE: u32 = 0;
 
 pub(crate) const GSS: u32 = 6;
 
-/// A rule, and the reply by it.
+/// A rule, and the reply by it; at want of memory the rule is 0.
 #[derive(Debug, Drop)]
 pub(crate) struct Said {
     pub rule: u8,
@@ -31,6 +31,7 @@ pub(crate) struct Said {
 
 /// No reply.
 pub(crate) fn say_nothing(rule: u8) -> Said
+    requires { 0 < rule }
     ensures says { Says result.reply result.rule (decided rule None) }
     ensures fits { Fits result.reply }
 {
@@ -40,18 +41,20 @@ pub(crate) fn say_nothing(rule: u8) -> Said
     }
 }
 
-/// There was no memory for the answer by this rule.
-pub(crate) fn say_no_memory(rule: u8) -> Said
+/// There was no memory for the answer.
+pub(crate) fn say_no_memory() -> Said
+    ensures rule { result.rule ≡ 0 }
     ensures reply { result.reply ≡ Reply.NoMemory }
 {
     Said {
-        rule,
+        rule: 0,
         reply: Reply::NoMemory,
     }
 }
 
 /// The reply to a caller who isn't accepted.
 pub(crate) fn say_denied(alloc: Global, heard: &Heard<'_>, rule: u8, stat: u32) -> Said
+    requires { 0 < rule }
     ensures says { Says result.reply result.rule (decided rule (denied (shown heard.entry.now) stat)) }
     ensures fits { Fits result.reply }
 {
@@ -68,6 +71,7 @@ pub(crate) fn say_plain(
     low: u32,
     high: u32,
 ) -> Said
+    requires rule { 0 < rule }
     requires low { stat ≢ 2 → low ≡ 0 }
     requires high { stat ≢ 2 → high ≡ 0 }
     ensures says { Says result.reply result.rule (decided rule (plain (shown heard.entry.now) stat low high [])) }
@@ -87,6 +91,7 @@ pub(crate) fn say_plain(
 
 /// A reply that fits into a record.
 pub(crate) fn say_reply(alloc: Global, rule: u8, reply: &RpcReply<'_>) -> Said
+    requires rule { 0 < rule }
     requires proper { IsReply (reply_value reply.now) }
     requires fits { length (reply_octets (reply_value reply.now)) ≤ 131072 }
     ensures says { Says result.reply result.rule (decided rule (Some (reply_octets (reply_value reply.now)))) }
@@ -97,10 +102,7 @@ pub(crate) fn say_reply(alloc: Global, rule: u8, reply: &RpcReply<'_>) -> Said
             rule,
             reply: Reply::Bytes(octets),
         },
-        Err(_) => Said {
-            rule,
-            reply: Reply::NoMemory,
-        },
+        Err(_) => say_no_memory(),
     }
 }
 
@@ -135,6 +137,7 @@ pub(crate) fn say_signed(
     high: u32,
     body: &[u8],
 ) -> Said
+    requires rule { 0 < rule }
     requires low { stat ≢ 2 → low ≡ 0 }
     requires high { stat ≢ 2 → high ≡ 0 }
     requires body { stat ≢ 0 → body.now ≡ [] }

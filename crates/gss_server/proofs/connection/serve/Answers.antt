@@ -1,23 +1,24 @@
 use Rattle.std.proofs.Common.{arith, ◌∙◌, IsTrue}
 use Rattle.gss_server.specs.Kept.{moments_of, draws_of}
-use Rattle.gss_server.proofs.Turning.{serving-more, serving-stop}
+use Rattle.gss_server.proofs.Turning.{joined, serving-more, serving-stop}
 use Rattle.gss_server.proofs.KeptInARow.{keeps-again, moments_of-append, draws_of-append}
 use Rattle.gss_server.proofs.connection.serve.Goals as goal
 
 pub returns-in-Some-clause-told : goal.returns-in-Some-clause-told
 returns-in-Some-clause-told g c = λ t.
     let tells : IsTrue (g.L.Link.tells c.loop-number.link) = rw c.loop-number.invariant.tells t in
-    serving-stop c.args.width c.turn.new.kept.items (c.loop-number.invariant.told t) c.loop-number-test.true c.in-Some.end (c.in-Some.ensures.told tells)
+    serving-stop c.args.width c.turn.new.kept.items (joined c.loop-number.invariant.gate_tells c.loop-number-test.true) (c.loop-number.invariant.told t) c.loop-number-test.true c.in-Some.end (c.in-Some.ensures.told tells)
 
 pub loop-number-preserved : goal.loop-number-preserved
 loop-number-preserved g c = record {
   told = λ t.
       let tells : IsTrue (g.L.Link.tells c.loop-number.link) = rw c.loop-number.invariant.tells t in
-      serving-more c.args.width c.turn.new.kept.items c.loop-number.number (c.loop-number.invariant.told t) (c.in-None.ensures.told tells);
+      serving-more c.args.width c.turn.new.kept.items c.loop-number.number (joined c.loop-number.invariant.gate_tells c.loop-number-test.true) (c.loop-number.invariant.told t) (c.in-None.ensures.told tells);
   tells = c.in-None.ensures.tells ∙ c.loop-number.invariant.tells;
   unclosed = c.in-None.ensures.unclosed;
   faults = omega (arith, c.in-None.ensures.faults);
   bound = omega (arith, c.in-None.ensures.count);
+  gate_tells = c.in-None.ensures.gate_tells ∙ c.loop-number.invariant.gate_tells;
   limits = c.in-None.ensures.limits ∙ c.loop-number.invariant.limits;
   clock_tells = λ t. c.loop-number.invariant.clock_tells (c.in-None.ensures.clock_tells t);
   draw_tells = λ t. c.loop-number.invariant.draw_tells (c.in-None.ensures.draw_tells t);

@@ -1,6 +1,6 @@
 use Rattle.std.proofs.Common.{◌≡◌, ◌∙◌, IsTrue}
 use Rattle.rpc_msgs.specs.Records.{octets_in}
-use Rattle.gss_server.proofs.Turning.{turned}
+use Rattle.gss_server.proofs.Turning.{gains-none, turned, unread}
 use Rattle.gss_server.proofs.connection.turn.Goals as goal
 
 pub returns-in-Ok-clause-told : goal.returns-in-Ok-clause-told
@@ -8,4 +8,7 @@ returns-in-Ok-clause-told g c = λ t.
     let tells : IsTrue (g.L.Link.tells c.receive.new.link) = rw c.in-Ok.ensures.tells t in
     let read = c.in-Ok.ensures.told t in
     let octets : c.as_slice.result.now ≡ octets_in read.0 = c.as_slice.ensures ∙ read.2 in
-    turned c.args.width _ _ _ read.0 c.reply_to_record.result read.1 read.3 (rw octets at c.reply_to_record.ensures.told tells)
+    turned _ c.args.width _ _ _ read.0 c.reply_to_record.result read.1 read.3 (rw octets at c.reply_to_record.ensures.told tells)
+
+pub returns-in-Err-clause-told : goal.returns-in-Err-clause-told
+returns-in-Err-clause-told g c = λ t. unread _ c.args.width _ _ _ c.in-Err.end (gains-none _ 2 _ _) (c.in-Err.ensures.told t)
