@@ -45,3 +45,8 @@ pub fn text(alloc: Global, cell: &str) -> Option<String> {
     let octets = octets(alloc, cell)?;
     String::from_str(alloc, str::from_utf8(octets.as_slice()).ok()?).ok()
 }
+
+/// The cell of something said, `-` where it is empty.
+pub fn or_none(said: &str) -> &str {
+    if said.is_empty() { "-" } else { said }
+}

@@ -1,6 +1,6 @@
 //! The records of a stream.
 
-use crate::cells::{add, cell, octets};
+use crate::cells::{add, cell, octets, or_none};
 use rpc_msgs::{RecordRefusal, next_record};
 use sec_base::{MemLink, Octets};
 use std::alloc::Global;
@@ -62,7 +62,7 @@ pub fn answered(alloc: Global, line: &str) -> Option<String> {
             Ok(None) => String::from_str(alloc, "Ended").ok()?,
             Err(refusal) => format!(in alloc; "{refusal:?}").ok()?,
         };
-        let records = if said.is_empty() { "-" } else { said.as_str() };
+        let records = or_none(said.as_str());
         return format!(in alloc; "{records}:{ended}").ok();
     }
     None

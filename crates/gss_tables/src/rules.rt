@@ -1,7 +1,7 @@
 //! The answer to one record, over a gate whose answers the line says.
 
 use crate::asking::Asking;
-use crate::cells::{cell, exactly, moment, octets, text};
+use crate::cells::{cell, exactly, moment, octets, or_none, text};
 use accept_book::{AdmitRefusal, Admitted, EndCause, Entry, Lease, LookRefusal, Receipt};
 use gss_base::{Label, MechKind};
 use gss_server::{GateAnswer, ListGate, Reply, answer_record};
@@ -105,7 +105,7 @@ fn replied(alloc: Global, reply: &Reply) -> Option<String> {
 /// A record, and what it is answered by.
 #[derive(Drop)]
 struct Asked {
-    record: Vec<u8>,
+    octets: Vec<u8>,
     now: Moment,
     draws: [u8; 82],
     width: u32,
@@ -115,7 +115,7 @@ struct Asked {
 /// The cells record, moment, random octets, width and the gate's answers.
 fn asked_in(alloc: Global, line: &str) -> Option<Asked> {
     let mut cells = line.split(' ');
-    let record = octets(alloc, cells.next()?)?;
+    let octets = octets(alloc, cells.next()?)?;
     let now = moment(cells.next()?)?;
     let draws = exactly(cells.next()?)?;
     let width = cells.next()?.parse::<u32>().ok()?;
@@ -126,7 +126,7 @@ fn asked_in(alloc: Global, line: &str) -> Option<Asked> {
         questions: String::new(alloc),
     };
     Some(Asked {
-        record,
+        octets,
         now,
         draws,
         width,
@@ -137,19 +137,15 @@ fn asked_in(alloc: Global, line: &str) -> Option<Asked> {
 /// The rule by which the record of a line is answered, the reply and the questions.
 pub fn answered(alloc: Global, line: &str) -> Option<String> {
     let Asked {
-        record,
+        octets,
         now,
         draws,
         width,
         gate,
     } = asked_in(alloc, line)?;
     let mut gate = gate;
-    let answered = answer_record(alloc, &mut gate, record.as_slice(), now, &draws, width);
+    let answered = answer_record(alloc, &mut gate, octets.as_slice(), now, &draws, width);
     let (rule, reply) = (answered.rule, replied(alloc, &answered.reply)?);
-    let questions = if gate.questions.is_empty() {
-        "-"
-    } else {
-        gate.questions.as_str()
-    };
+    let questions = or_none(gate.questions.as_str());
     format!(in alloc; "{rule} {reply} {questions}").ok()
 }
