@@ -12,6 +12,7 @@ mod peers;
 mod records;
 mod rules;
 mod saying;
+mod sessions;
 mod setting;
 mod table;
 
@@ -19,7 +20,7 @@ use setting::Setting;
 use std::{fs, io};
 use table::{Table, compared};
 
-const TABLES: [Table; 9] = [
+const TABLES: [Table; 10] = [
     Table::Records,
     Table::Requests,
     Table::Replies,
@@ -29,6 +30,7 @@ const TABLES: [Table; 9] = [
     Table::PeerRequests,
     Table::Rules,
     Table::Connections,
+    Table::Sessions,
 ];
 
 fn main(rt: HostRuntime) -> io::Result<()> {

@@ -3,6 +3,7 @@
 use crate::cells::cell;
 use ap_exchange::ApRefusal;
 use gss_base::MechKind;
+use gss_client::{ClientRefusal, Denial, ReplyWhy};
 use sec_base::Moment;
 use spnego_core::{MechRefusal, NegRefusal, Outcome};
 use std::alloc::Global;
@@ -47,4 +48,30 @@ pub fn kerberos(alloc: Global, refusal: ApRefusal) -> Option<String> {
 pub fn moment(alloc: Global, at: Moment) -> Option<String> {
     let (seconds, micros) = (at.secs(), at.micros());
     format!(in alloc; "{seconds}.{micros:06}").ok()
+}
+
+/// Why a session ended.
+pub fn ended(alloc: Global, refusal: ClientRefusal) -> Option<String> {
+    match refusal {
+        ClientRefusal::Refused(denial) => denied(alloc, denial),
+        ClientRefusal::Negotiation(why) => {
+            let said = self::refusal(alloc, why)?;
+            format!(in alloc; "Negotiation:{said}").ok()
+        }
+        ClientRefusal::BadReply(ReplyWhy::Form { at }) => {
+            format!(in alloc; "BadReply:Form:{at}").ok()
+        }
+        ClientRefusal::BadReply(why) => format!(in alloc; "BadReply:{why:?}").ok(),
+        refusal => format!(in alloc; "{refusal:?}").ok(),
+    }
+}
+
+/// What a server denied.
+fn denied(alloc: Global, denial: Denial) -> Option<String> {
+    match denial {
+        Denial::Rpc { low, high } => format!(in alloc; "Refused:Rpc:{low}:{high}").ok(),
+        Denial::Auth { stat } => format!(in alloc; "Refused:Auth:{stat}").ok(),
+        Denial::Accept { stat } => format!(in alloc; "Refused:Accept:{stat}").ok(),
+        Denial::Gss { major, minor } => format!(in alloc; "Refused:Gss:{major}:{minor}").ok(),
+    }
 }

@@ -1,7 +1,7 @@
 //! The tables, and the comparison of one with what the calls answer.
 
 use crate::setting::Setting;
-use crate::{accepting, connections, initiating, kerberos, peers, records, rules};
+use crate::{accepting, connections, initiating, kerberos, peers, records, rules, sessions};
 use std::alloc::Global;
 
 /// A table of outside values.
@@ -16,6 +16,7 @@ pub enum Table {
     PeerRequests,
     Rules,
     Connections,
+    Sessions,
 }
 
 impl Table {
@@ -31,6 +32,7 @@ impl Table {
             Table::PeerRequests => "peer_requests.txt",
             Table::Rules => "rules.txt",
             Table::Connections => "connections.txt",
+            Table::Sessions => "sessions.txt",
         }
     }
 
@@ -39,6 +41,7 @@ impl Table {
         match self {
             Table::Records | Table::Initiating | Table::Accepting => 1,
             Table::Connections | Table::PeerRequests => 3,
+            Table::Sessions => 4,
             Table::Rules => 5,
             Table::Requests | Table::PeerReplies => 6,
             Table::Replies => 9,
@@ -57,6 +60,7 @@ impl Table {
             Table::PeerRequests => peers::accepted(alloc, line),
             Table::Rules => rules::answered(alloc, line),
             Table::Connections => connections::answered(alloc, setting, line),
+            Table::Sessions => sessions::answered(alloc, setting, line),
         }
     }
 }

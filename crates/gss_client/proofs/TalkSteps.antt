@@ -1,0 +1,115 @@
+-- The steps of a session, each by its exchange and the judgement of its reply.
+use Rattle.std.proofs.Common.{◌≡◌, ◌≢◌, ℕ, zero, suc, ◌-◌, ◌<◌, List, [], ◌++◌, refl, ap, subst, sym, ◌∙◌, arith, Result, Ok, Err}
+use Rattle.sec_base.specs.Link.{Wire}
+use Rattle.sec_base.specs.Answers.{Gives}
+use Rattle.gss_client.specs.declared.creation.Created.{Created}
+use Rattle.gss_client.specs.declared.creation.Created.TheVariants as created
+use Rattle.gss_client.specs.declared.creation.Offer.{Offer}
+use Rattle.gss_client.specs.declared.refusal.ClientRefusal.{ClientRefusal}
+use Rattle.gss_client.specs.declared.refusal.ClientRefusal.TheVariants.{LinkFault, Negotiation, NoMemory}
+use Rattle.gss_client.specs.declared.service.Service.{Service}
+use Rattle.gss_client.specs.declared.start.Start.{Start}
+use Rattle.gss_client.specs.Rank.{replies_left}
+use Rattle.spnego_core.specs.declared.init_end.InitEnd.{InitEnd}
+use Rattle.spnego_core.specs.declared.outcome.Outcome.{Outcome}
+use Rattle.spnego_core.specs.declared.refusal.NegRefusal.{NegRefusal}
+use Rattle.spnego_core.specs.declared.refusal.NegRefusal.TheVariants as negs
+use Rattle.spnego_core.specs.Initiating.{Started, sent_of, init_start}
+use Rattle.gss_client.specs.Calling.{creation_call, data_call, destroy_call}
+use Rattle.gss_client.specs.Exchanging.{Done, Stopped, Talks}
+use Rattle.gss_client.specs.Judging.{creation_step, result_taken, destroyed_in}
+use Rattle.gss_client.specs.Session.{SessionState, xid_after}
+use Rattle.gss_client.specs.Talk.{turns, begun, by_turn, creates, begins, created_from, calls, destroys}
+use Rattle.gss_client.specs.Talking.{Said, Talking, ◌>>=◌, judges, exchanges}
+use Rattle.gss_client.proofs.Parts.{went-nothing, stopped-first, talks-then, talks-judged}
+
+as-given : {A : Type 0} (r answer : Result A ClientRefusal) → r ≡ answer → Gives NoMemory (λ x. x) r answer
+as-given (Ok x) answer e = sym e
+as-given (Err refusal) answer e = λ memory. sym e
+
+-- the call that was written is the one that is due
+judged-reply : {A : Type 0} (call due : List ℕ) (judge : List ℕ → Result A ClientRefusal) (a b : Wire) (reply : List ℕ) (r : Result A ClientRefusal) → call ≡ due → Done (exchanges call) a b reply → Gives NoMemory (λ x. x) r (judge reply) → Talks (exchanges due >>= (λ octets. judges (judge octets))) a b r
+judged-reply call due judge a b reply r e d g =
+    talks-then (exchanges due) (λ octets. judges (judge octets)) a b b reply r (subst (λ (c : List ℕ). Done (exchanges c) a b reply) e d) (talks-judged (judge reply) r b g)
+
+no-reply : {A : Type 0} (call due : List ℕ) (judge : List ℕ → Result A ClientRefusal) (a b : Wire) (refusal : ClientRefusal) → call ≡ due → Stopped (exchanges call) a b refusal → Stopped (exchanges due >>= (λ octets. judges (judge octets))) a b refusal
+no-reply call due judge a b refusal e s =
+    stopped-first (exchanges due) (λ octets. judges (judge octets)) a b refusal (subst (λ (c : List ℕ). Stopped (exchanges c) a b refusal) e s)
+
+pub called : (s : SessionState) (procedure : ℕ) (args confounder call : List ℕ) (a b : Wire) (reply : List ℕ) (r : Result (SessionState × List ℕ) ClientRefusal) → call ≡ data_call s procedure args confounder → Done (exchanges call) a b reply → Gives NoMemory (λ x. x) r (result_taken s reply) → Talks (calls s procedure args confounder) a b r
+unfolding calls
+called s procedure args confounder call a b reply r e d g = judged-reply call (data_call s procedure args confounder) (result_taken s) a b reply r e d g
+
+pub uncalled : (s : SessionState) (procedure : ℕ) (args confounder call : List ℕ) (a b : Wire) (refusal : ClientRefusal) → call ≡ data_call s procedure args confounder → Stopped (exchanges call) a b refusal → Stopped (calls s procedure args confounder) a b refusal
+unfolding calls
+uncalled s procedure args confounder call a b refusal e d = no-reply call (data_call s procedure args confounder) (result_taken s) a b refusal e d
+
+pub destroyed : (s : SessionState) (call : List ℕ) (a b : Wire) (reply : List ℕ) (r : Result (Unit {0}) ClientRefusal) → call ≡ destroy_call s → Done (exchanges call) a b reply → r ≡ destroyed_in s.outcome s.number s.xid reply → Talks (destroys s) a b r
+unfolding destroys
+destroyed s call a b reply r e d g = judged-reply call (destroy_call s) (destroyed_in s.outcome s.number s.xid) a b reply r e d (as-given r (destroyed_in s.outcome s.number s.xid reply) g)
+
+pub undestroyed : (s : SessionState) (call : List ℕ) (a b : Wire) (refusal : ClientRefusal) → call ≡ destroy_call s → Stopped (exchanges call) a b refusal → Stopped (destroys s) a b refusal
+unfolding destroys
+undestroyed s call a b refusal e d = no-reply call (destroy_call s) (destroyed_in s.outcome s.number s.xid) a b refusal e d
+
+pub turned : (xid proc : ℕ) (offer : Offer) (call : List ℕ) (a b : Wire) (reply : List ℕ) (r : Result Created ClientRefusal) → call ≡ creation_call xid proc offer.handle offer.token → Done (exchanges call) a b reply → Gives NoMemory (λ x. x) r (creation_step offer.end xid reply) → Talks (turns xid proc offer) a b r
+unfolding turns
+turned xid proc offer call a b reply r e d g = judged-reply call (creation_call xid proc offer.handle offer.token) (creation_step offer.end xid) a b reply r e d g
+
+pub unturned : (xid proc : ℕ) (offer : Offer) (call : List ℕ) (a b : Wire) (refusal : ClientRefusal) → call ≡ creation_call xid proc offer.handle offer.token → Stopped (exchanges call) a b refusal → Stopped (turns xid proc offer) a b refusal
+unfolding turns
+unturned xid proc offer call a b refusal e d = no-reply call (creation_call xid proc offer.handle offer.token) (creation_step offer.end xid) a b refusal e d
+
+-- ---- turn after turn
+
+one-turn : (left : ℕ) (service : Service) (first xid proc : ℕ) (offer : Offer) → 0 < left → creates left service first xid proc offer ≡ (turns xid proc offer >>= by_turn service first xid (creates (left - 1) service first (xid_after xid) 2))
+unfolding creates
+one-turn zero service first xid proc offer h = absurd (omega arith)
+one-turn (suc left) service first xid proc offer h = let e : suc left - 1 ≡ left = omega arith in rw e refl
+
+pub established-on : (left : ℕ) (service : Service) (first xid proc : ℕ) (offer next : Offer) (a b c : Wire) (r : Result SessionState ClientRefusal) → 0 < left → Done (turns xid proc offer) a b (created.Going next) → Talks (creates (left - 1) service first (xid_after xid) 2 next) b c r → Talks (creates left service first xid proc offer) a c r
+established-on left service first xid proc offer next a b c r h d t =
+    subst (λ (part : Talking SessionState). Talks part a c r) (sym (one-turn left service first xid proc offer h))
+    (talks-then (turns xid proc offer) (by_turn service first xid (creates (left - 1) service first (xid_after xid) 2)) a b c (created.Going next) r d t)
+
+pub established : (left : ℕ) (service : Service) (first xid proc : ℕ) (offer : Offer) (outcome : Outcome) (handle : List ℕ) (a b : Wire) → 0 < left → Done (turns xid proc offer) a b (created.Stands outcome handle) → Done (creates left service first xid proc offer) a b (begun service first (xid_after xid) outcome handle)
+established left service first xid proc offer outcome handle a b h d =
+    subst (λ (part : Talking SessionState). Done part a b (begun service first (xid_after xid) outcome handle)) (sym (one-turn left service first xid proc offer h))
+    (talks-then (turns xid proc offer) (by_turn service first xid (creates (left - 1) service first (xid_after xid) 2)) a b b (created.Stands outcome handle) (Ok (begun service first (xid_after xid) outcome handle)) d
+    (talks-judged (Ok (begun service first (xid_after xid) outcome handle)) (Ok (begun service first (xid_after xid) outcome handle)) b refl))
+
+pub unestablished : (left : ℕ) (service : Service) (first xid proc : ℕ) (offer : Offer) (a b : Wire) (refusal : ClientRefusal) → 0 < left → Stopped (turns xid proc offer) a b refusal → Stopped (creates left service first xid proc offer) a b refusal
+unestablished left service first xid proc offer a b refusal h s =
+    subst (λ (part : Talking SessionState). Stopped part a b refusal) (sym (one-turn left service first xid proc offer h))
+    (stopped-first (turns xid proc offer) (by_turn service first xid (creates (left - 1) service first (xid_after xid) 2)) a b refusal s)
+
+-- ---- the start
+
+begun-with : (service : Service) (first : ℕ) (r : Result Started NegRefusal) (end : InitEnd) (token : List ℕ) → sent_of r ≡ Ok (end, token) → begins service first r ≡ creates (replies_left end) service first 1 1 (record { end = end; handle = []; token = token })
+begun-with service first (Ok started) end token e =
+    let pair : (started.end, started.token) ≡ (end, token) = cc in
+    let one : started.end ≡ end = ap (λ (p : InitEnd × List ℕ). p.0) pair in
+    let two : started.token ≡ token = ap (λ (p : InitEnd × List ℕ). p.1) pair in rw (one, two) refl
+begun-with service first (Err refusal) end token e = cc
+
+pub started : (start : Start) (end : InitEnd) (token : List ℕ) (a b : Wire) (r : Result SessionState ClientRefusal) → sent_of (init_start start.setup) ≡ Ok (end, token) → Talks (creates (replies_left end) start.service start.first 1 1 (record { end = end; handle = []; token = token })) a b r → Talks (created_from start) a b r
+unfolding created_from
+started start end token a b r e t = subst (λ (part : Talking SessionState). Talks part a b r) (sym (begun-with start.service start.first (init_start start.setup) end token e)) t
+
+not-begun : (service : Service) (first : ℕ) (r : Result Started NegRefusal) (refusal : NegRefusal) → sent_of r ≡ Err refusal → begins service first r ≡ judges (Err (Negotiation refusal))
+not-begun service first (Ok s) refusal e = cc
+not-begun service first (Err other) refusal e = let is : other ≡ refusal = cc in rw is refl
+
+unstarted-is : (start : Start) (refusal : NegRefusal) → sent_of (init_start start.setup) ≡ Err refusal → created_from start ≡ judges (Err (Negotiation refusal))
+unfolding created_from
+unstarted-is start refusal e = not-begun start.service start.first (init_start start.setup) refusal e
+
+pub unstarted : (start : Start) (refusal : NegRefusal) (answer : ClientRefusal) (a : Wire) → (refusal ≢ negs.NoMemory → sent_of (init_start start.setup) ≡ Err refusal) → (refusal ≢ negs.NoMemory → answer ≡ Negotiation refusal) → (refusal ≡ negs.NoMemory → answer ≡ NoMemory) → Stopped (created_from start) a a answer
+unstarted start refusal answer a is negotiation want = record {
+  took = [];
+  wrote = [];
+  went = went-nothing a;
+  front = ((created_from start a.coming).written, refl);
+  whole = λ fault memory. sym (ap (λ (part : Talking SessionState). (part a.coming).written) (unstarted-is start refusal (is (λ e. memory (want e)))));
+  cause = λ fault memory. ap (λ (part : Talking SessionState). (part a.coming).answer) (unstarted-is start refusal (is (λ e. memory (want e)))) ∙ ap (λ (d : ClientRefusal). Err d) (sym (negotiation (λ e. memory (want e))));
+}

@@ -1,0 +1,13 @@
+use Rattle.std.proofs.Common.{◌∙◌, ap, arith, length, ℕ}
+use Rattle.rpc_msgs.proofs.WordLengths.{length-opaque}
+use Rattle.gss_client.proofs.CallLengths.{length-wrap_of, sized}
+use Rattle.gss_client.proofs.calling.seal_body.Goals as goal
+
+pub join_sealed-requires : goal.join_sealed-requires
+join_sealed-requires c =
+    omega (arith, ap (length {A = ℕ}) (c.as_slice.ensures ∙ c.in_ok-token.ensures.value), length-wrap_of c.args.end.now c.args.number c.args.confounder.now c.args.databody.now (omega arith))
+
+pub returns-clause-size : goal.returns-clause-size
+returns-clause-size c =
+    sized c.join_sealed.result _ 130000 c.join_sealed.ensures
+    (omega (arith, length-opaque c.as_slice.result.now, ap (length {A = ℕ}) (c.as_slice.ensures ∙ c.in_ok-token.ensures.value), length-wrap_of c.args.end.now c.args.number c.args.confounder.now c.args.databody.now (omega arith)))

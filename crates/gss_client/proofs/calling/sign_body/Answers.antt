@@ -1,0 +1,7 @@
+use Rattle.std.proofs.Common.{arith}
+use Rattle.gss_client.proofs.CallLengths.{checked-fits, sized}
+use Rattle.gss_client.proofs.calling.sign_body.Goals as goal
+
+pub returns-clause-size : goal.returns-clause-size
+returns-clause-size c =
+    sized c.join_checked.result _ 130000 c.join_checked.ensures (checked-fits c.args.databody.now c.make_mic-tag.result (omega arith) c.requires)

@@ -1,0 +1,207 @@
+-- How a client judges a reply: the first rule that applies decides.
+use Rattle.std.specs.Prelude.{ℕ, ◌-◌, Bool, not, ◌==◌, ◌&&◌, nat_le, if◌then◌else◌, is_ok, List, length, Result, Ok, Err}
+use Rattle.krb_tokens.specs.declared.end.Side.TheVariants.{Initiator}
+use Rattle.krb_tokens.specs.declared.end.TokenEnd.{TokenEnd}
+use Rattle.krb_tokens.specs.declared.end.TokenRefusal.{TokenRefusal}
+use Rattle.krb_tokens.specs.declared.wrap.Unwrapped.{Unwrapped}
+use Rattle.krb_tokens.specs.Mic.{checked_mic}
+use Rattle.krb_tokens.specs.Wrap.{unwrapped}
+use Rattle.rpc_msgs.specs.Words.{word}
+use Rattle.rpc_msgs.specs.Xdr.{Input, whole, word_at}
+use Rattle.rpc_msgs.specs.Replies.{ReplyValue, accepted, mismatch, auth_error}
+use Rattle.rpc_msgs.specs.ReplyReading.{reply_at}
+use Rattle.rpc_msgs.specs.declared.reply_reading.ReplyRefusal.{ReplyRefusal}
+use Rattle.rpc_msgs.specs.declared.xdr_reader.XdrRefusal.{XdrRefusal}
+use Rattle.rpcsec_msgs.specs.Bodies.{checked_at, sealed_at}
+use Rattle.rpcsec_msgs.specs.InitRes.{init_res_at}
+use Rattle.rpcsec_msgs.specs.declared.init_res.InitRes.{InitRes}
+use Rattle.spnego_core.specs.declared.init_end.InitEnd.{InitEnd}
+use Rattle.spnego_core.specs.declared.init_end.InitStep.{InitStep}
+use Rattle.spnego_core.specs.declared.init_end.InitStep.TheVariants as steps
+use Rattle.spnego_core.specs.declared.outcome.Outcome.{Outcome}
+use Rattle.spnego_core.specs.declared.refusal.NegRefusal.{NegRefusal}
+use Rattle.spnego_core.specs.Initiating.{init_step, step_of}
+use Rattle.spnego_core.specs.Outcome.{token_end}
+use Rattle.gss_client.specs.declared.answer.Answer.{Answer}
+use Rattle.gss_client.specs.declared.creation.Granted.{Granted}
+use Rattle.gss_client.specs.declared.creation.Created.{Created}
+use Rattle.gss_client.specs.declared.creation.Created.TheVariants as created
+use Rattle.gss_client.specs.declared.refusal.ClientRefusal.{ClientRefusal}
+use Rattle.gss_client.specs.declared.refusal.ClientRefusal.TheVariants.{Refused, Negotiation, BadReply}
+use Rattle.gss_client.specs.declared.refusal.Denial.TheVariants.{Rpc, Auth, Accept, Gss}
+use Rattle.gss_client.specs.declared.refusal.ReplyWhy.TheVariants.{Form, Xid, Verifier, Steps, Width, Body, Number}
+use Rattle.gss_client.specs.Session.{SessionState, session_after}
+use Rattle.gss_client.specs.declared.service.Service.{Service}
+use Rattle.gss_client.specs.declared.service.Service.TheVariants as services
+
+-- the rules that follow, unless one before applied
+infixl 10 ◌>>=◌
+abbrev pub ◌>>=◌ : {A B : Type 0} → Result A ClientRefusal → (A → Result B ClientRefusal) → Result B ClientRefusal
+(Ok x) >>= next = next x
+(Err refusal) >>= next = Err refusal
+
+-- a rule: this refusal exactly where the test doesn't hold
+abbrev pub due : ClientRefusal → Bool → Result (Unit {0}) ClientRefusal
+due refusal holds = if holds then Ok tt else Err refusal
+
+-- ---- every reply
+
+-- an accepted reply: its verifier, its stat, what follows the stat, and how many octets the record has
+pub record AnswerValue : Type 0 where
+  pub flavour : ℕ
+  pub verf : List ℕ
+  pub stat : ℕ
+  pub result : List ℕ
+  pub size : ℕ
+
+abbrev pub answer_value : Answer → AnswerValue
+answer_value a = record { flavour = a.flavour; verf = a.verf.now; stat = a.stat; result = a.result.now; size = a.size }
+
+abbrev pub xid_of : ReplyValue → ℕ
+xid_of (accepted xid flavour verf stat low high result) = xid
+xid_of (mismatch xid low high) = xid
+xid_of (auth_error xid stat) = xid
+
+-- the place in the record of an octet of what follows the stat
+abbrev pub place_of : AnswerValue → ℕ → ℕ
+place_of answer at = answer.size - (length answer.result - at)
+
+-- C2
+abbrev pub formed : Result ReplyValue ReplyRefusal → Result ReplyValue ClientRefusal
+formed (Ok reply) = Ok reply
+formed (Err refusal) = Err (BadReply (Form refusal.at))
+
+-- C4: of a record of so many octets
+abbrev pub granted : ℕ → ReplyValue → Result AnswerValue ClientRefusal
+granted size (accepted xid flavour verf stat low high result) =
+    Ok (record { flavour = flavour; verf = verf; stat = stat; result = result; size = size })
+granted size (mismatch xid low high) = Err (Refused (Rpc low high))
+granted size (auth_error xid stat) = Err (Refused (Auth stat))
+
+unfoldable pub answer_in : ℕ → List ℕ → Result AnswerValue ClientRefusal
+answer_in xid octets = do
+  reply ← formed (reply_at octets)
+  -- C3
+  own ← due (BadReply Xid) (xid_of reply == xid)
+  granted (length octets) reply
+
+-- the verifier is the acceptor's MIC over this number (RFC 2203 sections 5.2.3.1 and 5.3.3.2)
+abbrev pub is_verified : Outcome → AnswerValue → ℕ → Bool
+is_verified outcome answer number = answer.flavour == 6 && is_ok (checked_mic (token_end outcome Initiator) answer.verf (word number))
+
+-- C5, C13
+abbrev pub succeeded : AnswerValue → Result (Unit {0}) ClientRefusal
+succeeded answer = due (Refused (Accept answer.stat)) (answer.stat == 0)
+
+-- ---- replies to creation calls
+
+-- an accepted reply and the creation's result in it
+pub record GrantedValue : Type 0 where
+  pub answer : AnswerValue
+  pub result : InitRes
+
+abbrev pub granted_value : Granted → GrantedValue
+granted_value g = record { answer = answer_value g.answer; result = g.result }
+
+-- C6: the place counts from the first octet of the record
+abbrev pub placed : AnswerValue → Result InitRes XdrRefusal → Result InitRes ClientRefusal
+placed answer (Ok result) = Ok result
+placed answer (Err refusal) = Err (BadReply (Form (place_of answer refusal.at)))
+
+unfoldable pub granted_in : ℕ → List ℕ → Result GrantedValue ClientRefusal
+granted_in xid octets = do
+  answer ← answer_in xid octets
+  success ← succeeded answer
+  result ← placed answer (init_res_at answer.result)
+  -- C7: complete is 0, and 1 that a further token is due
+  status ← due (Refused (Gss result.major result.minor)) (nat_le result.major 1)
+  Ok (record { answer = answer; result = result })
+
+-- C8
+abbrev pub negotiated : Result InitStep NegRefusal → Result InitStep ClientRefusal
+negotiated (Ok step) = Ok step
+negotiated (Err refusal) = Err (Negotiation refusal)
+
+-- what the end's step leads to
+unfoldable pub by_step : GrantedValue → InitStep → Result Created ClientRefusal
+by_step g (steps.More end token) = do
+  -- C9
+  unfinished ← due (BadReply Steps) (g.result.major == 1)
+  Ok (created.Going (record { end = end; handle = g.result.context; token = token }))
+by_step g (steps.Done outcome) = do
+  -- C9, C10, C11
+  finished ← due (BadReply Steps) (g.result.major == 0)
+  some ← due (BadReply Width) (not (g.result.window == 0))
+  proved ← due (BadReply Verifier) (is_verified outcome g.answer g.result.window)
+  Ok (created.Stands outcome g.result.context)
+
+unfoldable pub creation_step : InitEnd → ℕ → List ℕ → Result Created ClientRefusal
+creation_step end xid octets = do
+  g ← granted_in xid octets
+  step ← negotiated (step_of (init_step end g.result.token))
+  by_step g step
+
+-- ---- replies to calls
+
+-- C12, C13: the reply to the call of this number
+unfoldable pub verified_in : Outcome → ℕ → ℕ → List ℕ → Result AnswerValue ClientRefusal
+verified_in outcome number xid octets = do
+  answer ← answer_in xid octets
+  proved ← due (BadReply Verifier) (is_verified outcome answer number)
+  success ← succeeded answer
+  Ok answer
+
+-- C14
+abbrev pub or_body : {A E : Type 0} → Result A E → Result A ClientRefusal
+or_body (Ok x) = Ok x
+or_body (Err e) = Err (BadReply Body)
+
+-- C15: a databody is the call's number and the result
+abbrev pub or_number : Result (ℕ × Input) XdrRefusal → Result (ℕ × Input) ClientRefusal
+or_number (Ok seq) = Ok seq
+or_number (Err refusal) = Err (BadReply Number)
+
+unfoldable pub numbered : ℕ → List ℕ → Result (List ℕ) ClientRefusal
+numbered number databody = do
+  seq ← or_number (word_at (whole databody))
+  own ← due (BadReply Number) (seq.0 == number)
+  Ok seq.1.octets
+
+-- the result in a body by integrity: the databody, and the acceptor's MIC over it
+unfoldable pub checked_result : TokenEnd → ℕ → List ℕ → Result (List ℕ) ClientRefusal
+checked_result end number body = do
+  parts ← or_body (checked_at body)
+  proved ← or_body (checked_mic end parts.1 parts.0)
+  numbered number parts.0
+
+-- the result in a body by privacy: the databody, sealed by the acceptor
+unfoldable pub sealed_result : TokenEnd → ℕ → List ℕ → Result (List ℕ) ClientRefusal
+sealed_result end number body = do
+  token ← or_body (sealed_at body)
+  content ← or_body (unwrapped end token)
+  secret ← due (BadReply Body) content.sealed
+  numbered number content.content
+
+unfoldable pub body_result : TokenEnd → ℕ → List ℕ → Service → Result (List ℕ) ClientRefusal
+body_result end number body services.None = Ok body
+body_result end number body services.Integrity = checked_result end number body
+body_result end number body services.Privacy = sealed_result end number body
+
+unfoldable pub call_result : Outcome → Service → ℕ → ℕ → List ℕ → Result (List ℕ) ClientRefusal
+call_result outcome service number xid octets = do
+  answer ← verified_in outcome number xid octets
+  body_result (token_end outcome Initiator) number answer.result service
+
+-- the session behind the call, and its result
+unfoldable pub result_taken : SessionState → List ℕ → Result (SessionState × List ℕ) ClientRefusal
+result_taken s octets = do
+  result ← call_result s.outcome s.service s.number s.xid octets
+  Ok (session_after s, result)
+
+-- ---- the reply to a destruction
+
+-- C16: nothing follows the stat
+unfoldable pub destroyed_in : Outcome → ℕ → ℕ → List ℕ → Result (Unit {0}) ClientRefusal
+destroyed_in outcome number xid octets = do
+  answer ← verified_in outcome number xid octets
+  due (BadReply (Form (place_of answer 0))) (length answer.result == 0)

@@ -1,0 +1,9 @@
+pub mod Calling
+pub mod Exchanging
+pub mod Hearing
+pub mod Judging
+pub mod Laws
+pub mod Rank
+pub mod Session
+pub mod Talk
+pub mod Talking

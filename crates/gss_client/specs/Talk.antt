@@ -1,0 +1,62 @@
+-- A client's talk: from its start, its calls and the octets that it hears to what it writes, its outcome, its results and its end.
+use Rattle.std.specs.Prelude.{ℕ, zero, suc, ◌<◌, ◌≤◌, nat_lt, if◌then◌else◌, List, [], ◌∷◌, ◌++◌, Option, Some, None, Result, Ok, Err}
+use Rattle.spnego_core.specs.declared.init_end.InitEnd.{InitEnd}
+use Rattle.spnego_core.specs.declared.outcome.Outcome.{Outcome}
+use Rattle.spnego_core.specs.declared.refusal.NegRefusal.{NegRefusal}
+use Rattle.spnego_core.specs.Initiating.{Started, init_start}
+use Rattle.gss_client.specs.declared.creation.Created.{Created}
+use Rattle.gss_client.specs.declared.creation.Created.TheVariants as created
+use Rattle.gss_client.specs.declared.creation.Offer.{Offer}
+use Rattle.gss_client.specs.declared.refusal.ClientRefusal.{ClientRefusal}
+use Rattle.gss_client.specs.declared.refusal.ClientRefusal.TheVariants.{Negotiation, BadReply}
+use Rattle.gss_client.specs.declared.refusal.ReplyWhy.TheVariants.{Steps}
+use Rattle.gss_client.specs.declared.service.Service.{Service}
+use Rattle.gss_client.specs.declared.start.Start.{Start}
+use Rattle.gss_client.specs.Calling.{creation_call, data_call, destroy_call}
+use Rattle.gss_client.specs.Judging.{creation_step, result_taken, destroyed_in}
+use Rattle.gss_client.specs.Rank.{replies_left}
+use Rattle.gss_client.specs.Session.{SessionState, xid_after}
+use Rattle.gss_client.specs.Talking.{Said, Talking, said, after, ◌>>=◌, judges, exchanges}
+
+-- ---- creation
+
+-- one turn: a creation call with the offer's token and handle, and what its reply leads to
+unfoldable pub turns : ℕ → ℕ → Offer → Talking Created
+turns xid proc offer = do
+  reply ← exchanges (creation_call xid proc offer.handle offer.token)
+  judges (creation_step offer.end xid reply)
+
+-- the session that begins with this number
+abbrev pub begun : Service → ℕ → ℕ → Outcome → List ℕ → SessionState
+begun service first xid outcome handle = record { outcome = outcome; service = service; handle = handle; number = first; xid = xid }
+
+abbrev pub by_turn : Service → ℕ → ℕ → (Offer → Talking SessionState) → Created → Talking SessionState
+by_turn service first xid next (created.Going offer) = next offer
+by_turn service first xid next (created.Stands outcome handle) = judges (Ok (begun service first (xid_after xid) outcome handle))
+
+-- turn after turn, of which so many may still come; it is begun with as many as the end takes replies, so that there is always one left
+unfoldable pub creates : ℕ → Service → ℕ → ℕ → ℕ → Offer → Talking SessionState
+creates zero service first xid proc offer = judges (Err (BadReply Steps))
+creates (suc left) service first xid proc offer = do
+  what ← turns xid proc offer
+  by_turn service first xid (creates left service first (xid_after xid) 2) what
+
+abbrev pub begins : Service → ℕ → Result Started NegRefusal → Talking SessionState
+begins service first (Err refusal) = judges (Err (Negotiation refusal))
+begins service first (Ok started) = creates (replies_left started.end) service first 1 1 (record { end = started.end; handle = []; token = started.token })
+
+unfoldable pub created_from : Start → Talking SessionState
+created_from start = begins start.service start.first (init_start start.setup)
+
+-- ---- calls
+
+-- a call's result, and the session behind it
+unfoldable pub calls : SessionState → ℕ → List ℕ → List ℕ → Talking (SessionState × List ℕ)
+calls s procedure args confounder = do
+  reply ← exchanges (data_call s procedure args confounder)
+  judges (result_taken s reply)
+
+unfoldable pub destroys : SessionState → Talking (Unit {0})
+destroys s = do
+  reply ← exchanges (destroy_call s)
+  judges (destroyed_in s.outcome s.number s.xid reply)

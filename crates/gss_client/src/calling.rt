@@ -1,0 +1,272 @@
+//! The calls of a client, RFC 2203 sections 5.2.2, 5.3.1 and 5.3.2.
+
+ghost use Rattle.std.specs.Prelude.{◌≡◌, ◌≤◌, ◌+◌, ◌++◌, true, length, IfOk};
+ghost use Rattle.rpc_msgs.specs.Calls.{header_octets, call_octets, secure_call};
+ghost use Rattle.rpcsec_msgs.specs.Bodies.{checked_octets};
+ghost use Rattle.krb_tokens.specs.Mic.{mic_of};
+ghost use Rattle.krb_tokens.specs.Wrap.{wrap_of};
+ghost use Rattle.rpc_msgs.specs.Words.{word, opaque};
+ghost use Rattle.rpcsec_msgs.specs.Cred.{cred_octets};
+ghost use Rattle.gss_client.specs.Calling.{served_program, creation_call, signed_call, body_of, data_call, destroy_call};
+ghost use Rattle.gss_client.specs.Exchanging.{IsHandle};
+
+use crate::service::Service;
+use crate::session::Session;
+use krb_tokens::{Side, TokenEnd};
+use rpc_msgs::{XdrWriter, write_call};
+use rpcsec_msgs::{GssCred, join_checked, join_sealed, write_cred};
+use sec_base::{NoMemory, Octets};
+use std::alloc::Global;
+
+/// The program that is served.
+const PROGRAM: u32 = 0x2000_4753;
+
+/// Its version.
+const VERSION: u32 = 1;
+
+/// The version of RPC.
+const RPC_VERSION: u32 = 2;
+
+/// The flavour of calls without authentication.
+const AUTH_NONE: u32 = 0;
+
+/// The flavour of RPCSEC_GSS.
+const GSS: u32 = 6;
+
+/// The procedure of a call in a context.
+const DATA: u32 = 0;
+
+/// The procedure of a context's destruction.
+const DESTROY: u32 = 3;
+
+/// The service of calls that aren't data.
+const PLAIN: u32 = 1;
+
+/// The body of a credential.
+fn credential(
+    alloc: Global,
+    proc: u32,
+    seq: u32,
+    service: u32,
+    handle: &[u8],
+) -> Result<Octets, NoMemory>
+    requires { IsHandle handle.now }
+    ensures value { IfOk result (λ o. o ≡ cred_octets (record { proc = proc; seq = seq; service = service; context = handle.now })) }
+    ensures size { IfOk result (λ o. length o ≤ 400) }
+{
+    let cred = GssCred {
+        proc,
+        seq,
+        service,
+        context: handle,
+    };
+    write_cred(alloc, &cred)
+}
+
+/// The argument of a creation call.
+fn argument(alloc: Global, token: &[u8]) -> Result<Octets, NoMemory>
+    requires { length token.now ≤ 65536 }
+    ensures value { IfOk result (λ o. o ≡ opaque token.now) }
+    ensures size { IfOk result (λ o. length o ≤ 130000) }
+{
+    let mut out = XdrWriter::new(alloc);
+    out.opaque(token)?;
+    Ok(out.finish())
+}
+
+/// A call, with room for it in a record.
+fn call(
+    alloc: Global,
+    xid: u32,
+    procedure: u32,
+    cred: &[u8],
+    flavour: u32,
+    verf: &[u8],
+    args: &[u8],
+) -> Result<Octets, NoMemory>
+    requires cred { length cred.now ≤ 400 }
+    requires verf { length verf.now ≤ 400 }
+    requires args { length args.now ≤ 130000 }
+    ensures value { IfOk result (λ o. o ≡ call_octets (secure_call xid served_program 1 procedure cred.now (record { flavour = flavour; body = verf.now }) args.now)) }
+    ensures size { IfOk result (λ o. length o ≤ 131072) }
+{
+    write_call(
+        alloc, xid, PROGRAM, VERSION, procedure, cred, flavour, verf, args,
+    )
+}
+
+/// A creation call with this token.
+#[tactic(auto, unfolding(crate::specs::Calling::creation_call))]
+pub(crate) fn creation_call(
+    alloc: Global,
+    xid: u32,
+    proc: u32,
+    handle: &[u8],
+    token: &[u8],
+) -> Result<Octets, NoMemory>
+    requires handle { IsHandle handle.now }
+    requires token { length token.now ≤ 65536 }
+    ensures value { IfOk result (λ o. o ≡ creation_call xid proc handle.now token.now) }
+    ensures size { IfOk result (λ o. length o ≤ 131072) }
+{
+    let cred = credential(alloc, proc, 0, PLAIN, handle)?;
+    let args = argument(alloc, token)?;
+    call(
+        alloc,
+        xid,
+        0,
+        cred.as_slice(),
+        AUTH_NONE,
+        &[],
+        args.as_slice(),
+    )
+}
+
+/// A call up to the end of its credential.
+fn header(alloc: Global, xid: u32, procedure: u32, cred: &[u8]) -> Result<Octets, NoMemory>
+    requires { length cred.now ≤ 400 }
+    ensures { IfOk result (λ o. o ≡ header_octets xid served_program 1 procedure (record { flavour = 6; body = cred.now })) }
+{
+    let mut out = XdrWriter::new(alloc);
+    out.word(xid)?;
+    out.word(0)?;
+    out.word(RPC_VERSION)?;
+    out.word(PROGRAM)?;
+    out.word(VERSION)?;
+    out.word(procedure)?;
+    out.word(GSS)?;
+    out.opaque(cred)?;
+    Ok(out.finish())
+}
+
+/// A call in a context, with its verifier.
+#[tactic(auto, unfolding(crate::specs::Calling::signed_call, crate::specs::Calling::verifier_of, crate::specs::Calling::header_of))]
+fn signed_call(
+    alloc: Global,
+    session: &Session,
+    proc: u32,
+    service: u32,
+    procedure: u32,
+    body: &[u8],
+) -> Result<Octets, NoMemory>
+    requires { length body.now ≤ 130000 }
+    ensures value { IfOk result (λ o. o ≡ signed_call session.now proc service procedure body.now) }
+    ensures size { IfOk result (λ o. length o ≤ 131072) }
+{
+    let handle = session.handle.as_slice();
+    let cred = credential(alloc, proc, session.number, service, handle)?;
+    let header = header(alloc, session.xid, procedure, cred.as_slice())?;
+    let end = session.outcome.token_end(Side::Initiator);
+    let mic = end.make_mic(2 * session.number as u64, header.as_slice());
+    call(
+        alloc,
+        session.xid,
+        procedure,
+        cred.as_slice(),
+        GSS,
+        &mic,
+        body,
+    )
+}
+
+/// A databody: the number of the call and its arguments.
+fn databody(alloc: Global, number: u32, args: &[u8]) -> Result<Octets, NoMemory>
+    ensures value { IfOk result (λ o. o ≡ word number ++ args.now) }
+    ensures size { IfOk result (λ o. length o ≡ 4 + length args.now) }
+{
+    let mut out = XdrWriter::new(alloc);
+    out.word(number)?;
+    out.octets(args)?;
+    Ok(out.finish())
+}
+
+/// The arguments as the service sends them.
+#[tactic(auto, unfolding(crate::specs::Calling::body_of))]
+fn body_of(
+    alloc: Global,
+    session: &Session,
+    args: &[u8],
+    confounder: &[u8; 16],
+) -> Result<Octets, NoMemory>
+    requires { length args.now ≤ 65540 }
+    ensures value { IfOk result (λ o. o ≡ body_of session.now args.now confounder.now session.now.service) }
+    ensures size { IfOk result (λ o. length o ≤ 130000) }
+{
+    let end = session.outcome.token_end(Side::Initiator);
+    let number = 2 * session.number as u64 + 1;
+    match session.service {
+        Service::None => Octets::of(alloc, args),
+        Service::Integrity => {
+            let body = databody(alloc, session.number, args)?;
+            sign_body(alloc, &end, number, body.as_slice())
+        }
+        Service::Privacy => {
+            let body = databody(alloc, session.number, args)?;
+            seal_body(alloc, &end, number, confounder, body.as_slice())
+        }
+    }
+}
+
+/// A body by integrity: the databody and its MIC.
+fn sign_body(
+    alloc: Global,
+    end: &TokenEnd,
+    number: u64,
+    databody: &[u8],
+) -> Result<Octets, NoMemory>
+    requires { length databody.now ≤ 65544 }
+    ensures value { IfOk result (λ body. body ≡ checked_octets databody.now (mic_of end.now number databody.now)) }
+    ensures size { IfOk result (λ body. length body ≤ 130000) }
+{
+    let tag = end.make_mic(number, databody);
+    join_checked(alloc, databody, &tag)
+}
+
+/// A body by privacy: the sealed databody.
+fn seal_body(
+    alloc: Global,
+    end: &TokenEnd,
+    number: u64,
+    confounder: &[u8; 16],
+    databody: &[u8],
+) -> Result<Octets, NoMemory>
+    requires { length databody.now ≤ 65544 }
+    ensures value { IfOk result (λ body. body ≡ opaque (wrap_of end.now number true confounder.now databody.now)) }
+    ensures size { IfOk result (λ body. length body ≤ 130000) }
+{
+    let token = end.wrap(alloc, number, true, confounder, databody)?;
+    join_sealed(alloc, token.as_slice())
+}
+
+/// The call of a procedure.
+#[tactic(auto, unfolding(crate::specs::Calling::data_call))]
+pub(crate) fn data_call(
+    alloc: Global,
+    session: &Session,
+    procedure: u32,
+    args: &[u8],
+    confounder: &[u8; 16],
+) -> Result<Octets, NoMemory>
+    requires { length args.now ≤ 65540 }
+    ensures value { IfOk result (λ o. o ≡ data_call session.now procedure args.now confounder.now) }
+    ensures size { IfOk result (λ o. length o ≤ 131072) }
+{
+    let body = body_of(alloc, session, args, confounder)?;
+    signed_call(
+        alloc,
+        session,
+        DATA,
+        session.service.number(),
+        procedure,
+        body.as_slice(),
+    )
+}
+
+/// The call that destroys the context.
+#[tactic(auto, unfolding(crate::specs::Calling::destroy_call))]
+pub(crate) fn destroy_call(alloc: Global, session: &Session) -> Result<Octets, NoMemory>
+    ensures value { IfOk result (λ o. o ≡ destroy_call session.now) }
+    ensures size { IfOk result (λ o. length o ≤ 131072) }
+{
+    signed_call(alloc, session, DESTROY, PLAIN, 0, &[])
+}

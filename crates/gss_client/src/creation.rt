@@ -1,0 +1,132 @@
+//! The replies to creation calls, RFC 2203 section 5.2.3.
+
+ghost use Rattle.std.specs.Prelude.{◌≡◌, ◌≢◌, ℕ, IfOk};
+ghost use Rattle.rpc_msgs.specs.declared.xdr_reader.XdrWhy.TheVariants as whys;
+ghost use Rattle.sec_base.specs.Answers.{Gives};
+ghost use Rattle.gss_client.specs.Exchanging.{FitsCreated, IsHandle};
+ghost use Rattle.gss_client.specs.Rank.{replies_left, IsNearer, IsCloser};
+ghost use Rattle.gss_client.specs.Judging.{answer_value, place_of, granted_value, granted_in, by_step, creation_step};
+ghost use Rattle.spnego_core.specs.Sizes.{ShortInit};
+
+use crate::answer::{Answer, answer_in, is_verified, place_of, succeeded};
+use crate::refusal::{ClientRefusal, Denial, ReplyWhy, not_negotiated};
+use rpc_msgs::{XdrRefusal, XdrWhy};
+use rpcsec_msgs::{InitRes, read_init_res};
+use sec_base::Octets;
+use spnego_core::{InitEnd, InitStep, Outcome};
+use std::alloc::Global;
+
+/// What the next creation call is made of.
+#[derive(Debug, Drop)]
+pub struct Offer {
+    /// The end that takes the reply's token.
+    pub end: InitEnd,
+    /// The server's handle, none in the first call.
+    pub handle: Octets,
+    pub token: Octets,
+}
+
+/// An accepted reply and the creation's result in it.
+#[derive(Debug, Drop)]
+pub struct Granted<'a> {
+    pub answer: Answer<'a>,
+    pub result: InitRes,
+}
+
+/// What a reply to a creation call leads to.
+#[derive(Debug, Drop)]
+pub enum Created {
+    /// A further call is due.
+    Going(Offer),
+    /// The context stands.
+    Stands(Outcome, Octets),
+}
+
+/// The refusal of a creation's result.
+fn misplaced(answer: &Answer<'_>, refusal: XdrRefusal) -> ClientRefusal
+    ensures form { refusal.why ≢ whys.NoMemory → result ≡ ClientRefusal.BadReply (ReplyWhy.Form (place_of (answer_value answer.now) refusal.at)) }
+    ensures memory { refusal.why ≡ whys.NoMemory → result ≡ ClientRefusal.NoMemory }
+{
+    match refusal.why {
+        XdrWhy::NoMemory => ClientRefusal::NoMemory,
+        _ => ClientRefusal::BadReply(ReplyWhy::Form {
+            at: place_of(answer, refusal.at),
+        }),
+    }
+}
+
+/// The creation's result in the reply of this transaction number.
+#[tactic(auto, unfolding(crate::specs::Judging::granted_in))]
+fn granted_in(alloc: Global, xid: u32, bytes: &[u8]) -> Result<Granted<'_>, ClientRefusal>
+    ensures exact { Gives ClientRefusal.NoMemory granted_value result (granted_in xid bytes.now) }
+    ensures handle { IfOk result (λ g. IsHandle g.result.context) }
+{
+    let answer = answer_in(xid, bytes)?;
+    succeeded(&answer)?;
+    let result = match read_init_res(alloc, answer.result) {
+        Ok(result) => result,
+        Err(refusal) => return Err(misplaced(&answer, refusal)),
+    };
+    let InitRes { major, minor, .. } = &result;
+    if *major > 1 {
+        return Err(ClientRefusal::Refused(Denial::Gss {
+            major: *major,
+            minor: *minor,
+        }));
+    }
+    Ok(Granted { answer, result })
+}
+
+/// What the end's step leads to.
+#[tactic(auto, unfolding(crate::specs::Judging::by_step))]
+fn by_step(answer: &Answer<'_>, granted: InitRes, step: InitStep) -> Result<Created, ClientRefusal>
+    requires handle { IsHandle granted.context }
+    requires token { ShortInit step }
+    ensures exact { result ≡ by_step (record { answer = answer_value answer.now; result = granted }) step }
+    ensures closer { (count : ℕ) → IsNearer count step → IfOk result (IsCloser count) }
+    ensures fits { IfOk result FitsCreated }
+{
+    match step {
+        InitStep::More(end, token) => {
+            if granted.major != 1 {
+                return Err(ClientRefusal::BadReply(ReplyWhy::Steps));
+            }
+            Ok(Created::Going(Offer {
+                end,
+                handle: granted.context,
+                token,
+            }))
+        }
+        InitStep::Done(outcome) => {
+            if granted.major != 0 {
+                return Err(ClientRefusal::BadReply(ReplyWhy::Steps));
+            }
+            if granted.window == 0 {
+                return Err(ClientRefusal::BadReply(ReplyWhy::Width));
+            }
+            if !is_verified(&outcome, answer, granted.window) {
+                return Err(ClientRefusal::BadReply(ReplyWhy::Verifier));
+            }
+            Ok(Created::Stands(outcome, granted.context))
+        }
+    }
+}
+
+/// What the reply of this transaction number leads to.
+#[tactic(auto, unfolding(crate::specs::Judging::creation_step))]
+pub(crate) fn creation_step(
+    alloc: Global,
+    end: InitEnd,
+    xid: u32,
+    bytes: &[u8],
+) -> Result<Created, ClientRefusal>
+    ensures exact { Gives ClientRefusal.NoMemory (λ c. c) result (creation_step end xid bytes.now) }
+    ensures closer { IfOk result (IsCloser (replies_left end)) }
+    ensures fits { IfOk result FitsCreated }
+{
+    let Granted { answer, result } = granted_in(alloc, xid, bytes)?;
+    match end.step(alloc, result.token.as_slice()) {
+        Ok(step) => by_step(&answer, result, step),
+        Err(refusal) => Err(not_negotiated(refusal)),
+    }
+}

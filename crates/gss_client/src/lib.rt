@@ -1,0 +1,20 @@
+//! The client: a session of RPCSEC_GSS over a link.
+#![tactic(auto)]
+
+mod answer;
+mod calling;
+mod creation;
+mod establish;
+mod exchange;
+mod laws;
+mod refusal;
+mod results;
+mod service;
+mod session;
+mod start;
+
+pub use laws::prove_result_law;
+pub use refusal::{ClientRefusal, Denial, ReplyWhy};
+pub use service::Service;
+pub use session::Session;
+pub use start::Start;

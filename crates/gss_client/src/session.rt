@@ -1,0 +1,143 @@
+//! A session: a context of RPCSEC_GSS with a server, RFC 2203 section 5.
+
+ghost use Rattle.std.specs.Prelude.{◌≡◌, ◌≤◌, false, true, IsTrue, IsErrOf, length};
+ghost use Rattle.sec_base.specs.Answers.{Rose, Gives};
+ghost use Rattle.gss_client.specs.Judging.{result_taken};
+ghost use Rattle.gss_client.specs.Exchanging.{Talks};
+ghost use Rattle.gss_client.specs.Session.{xid_after, session_after};
+ghost use Rattle.gss_client.specs.Talk.{calls, destroys};
+
+use crate::calling::{data_call, destroy_call};
+use crate::exchange::exchange;
+use crate::refusal::ClientRefusal;
+use crate::results::{call_result, destroyed_in};
+use crate::service::Service;
+use sec_base::{Link, NoMemory, Octets};
+use spnego_core::Outcome;
+use std::alloc::Global;
+use std::marker::Model;
+
+/// A context that stands, and where its calls are. Each step consumes it and gives the next state.
+#[derive(Debug, Drop)]
+pub struct Session {
+    pub(crate) outcome: Outcome,
+    pub(crate) service: Service,
+    pub(crate) handle: Octets,
+    pub(crate) number: u32,
+    pub(crate) xid: u32,
+}
+
+impl Model for Session {
+    ghost use Rattle.std.specs.Prelude.{◌≤◌, length};
+    ghost use Rattle.gss_client.specs.Session.{SessionState};
+
+    ghost Value = { SessionState };
+
+    ghost view = { λ s. record { outcome = s.outcome; service = s.service; handle = s.handle; number = s.number; xid = s.xid } };
+
+    ghost invariant = { λ s. length s.handle ≤ 64 };
+}
+
+/// The transaction number after this one.
+pub(crate) fn xid_after(xid: u32) -> u32
+    ensures { result ≡ xid_after xid }
+{
+    xid.wrapping_add(1)
+}
+
+impl Session {
+    /// What both ends agree on.
+    pub fn outcome(&self) -> &Outcome
+        ensures { result.now ≡ self.now.outcome }
+    {
+        &self.outcome
+    }
+
+    /// The number of the next call.
+    pub fn next_number(&self) -> u32
+        ensures { result ≡ self.now.number }
+    {
+        self.number
+    }
+
+    /// The session behind a call.
+    fn next(self) -> Session
+        requires { self.number ≤ 0x7fffffff }
+        ensures { result ≡ session_after self }
+    {
+        Session {
+            outcome: self.outcome,
+            service: self.service,
+            handle: self.handle,
+            number: self.number + 1,
+            xid: xid_after(self.xid),
+        }
+    }
+
+    /// Calls a procedure: the result's octets, and the session behind the call. `confounder` are random octets, used once.
+    pub fn call<L: Link>(
+        self,
+        alloc: Global,
+        link: &mut L,
+        procedure: u32,
+        args: &[u8],
+        confounder: &[u8; 16],
+    ) -> Result<(Session, Octets), ClientRefusal>
+        requires unclosed { L.closed link.old ≡ false }
+        requires number { self.number ≤ 0x7fffffff }
+        requires args { length args.now ≤ 65540 }
+        ensures told { IsTrue (L.tells link.old) → Talks (calls self procedure args.now confounder.now) (L.wire link.old) (L.wire link.new) result }
+        ensures fault { IsErrOf result ClientRefusal.LinkFault → Rose (L.faults link.old) (L.faults link.new) }
+        ensures tells { L.tells link.new ≡ L.tells link.old }
+        ensures unclosed { L.closed link.new ≡ false }
+        ensures faults { L.faults link.old ≤ L.faults link.new }
+    {
+        let call = match data_call(alloc, &self, procedure, args, confounder) {
+            Ok(call) => call,
+            Err(NoMemory) => return Err(ClientRefusal::NoMemory),
+        };
+        match exchange(alloc, link, call.as_slice()) {
+            Ok(reply) => self.take_result(alloc, reply.as_slice()),
+            Err(refusal) => Err(refusal),
+        }
+    }
+
+    /// Judges the reply to a call.
+    #[tactic(auto, unfolding(crate::specs::Judging::result_taken))]
+    fn take_result(self, alloc: Global, reply: &[u8]) -> Result<(Session, Octets), ClientRefusal>
+        requires { self.number ≤ 0x7fffffff }
+        ensures judged { Gives ClientRefusal.NoMemory (λ p. p) result (result_taken self reply.now) }
+        ensures fault { IsErrOf result ClientRefusal.LinkFault → ⊥ }
+    {
+        match call_result(
+            alloc,
+            &self.outcome,
+            self.service,
+            self.number,
+            self.xid,
+            reply,
+        ) {
+            Ok(octets) => Ok((self.next(), octets)),
+            Err(refusal) => Err(refusal),
+        }
+    }
+
+    /// Destroys the context. The session is spent, whatever the answer.
+    pub fn destroy<L: Link>(self, alloc: Global, link: &mut L) -> Result<(), ClientRefusal>
+        requires unclosed { L.closed link.old ≡ false }
+        ensures told { IsTrue (L.tells link.old) → Talks (destroys self) (L.wire link.old) (L.wire link.new) result }
+        ensures fault { IsErrOf result ClientRefusal.LinkFault → Rose (L.faults link.old) (L.faults link.new) }
+        ensures tells { L.tells link.new ≡ L.tells link.old }
+        ensures unclosed { L.closed link.new ≡ false }
+        ensures faults { L.faults link.old ≤ L.faults link.new }
+    {
+        let call = match destroy_call(alloc, &self) {
+            Ok(call) => call,
+            Err(NoMemory) => return Err(ClientRefusal::NoMemory),
+        };
+        match exchange(alloc, link, call.as_slice()) {
+            Ok(reply) => destroyed_in(&self.outcome, self.number, self.xid, reply.as_slice()),
+            Err(refusal) => Err(refusal),
+        }
+    }
+}

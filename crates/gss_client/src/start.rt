@@ -1,0 +1,14 @@
+//! What a session is begun with.
+
+use crate::service::Service;
+use spnego_core::InitSetup;
+
+/// What a session is begun with.
+#[derive(Debug, Drop)]
+pub struct Start {
+    pub setup: InitSetup,
+    /// How the session's calls are protected.
+    pub service: Service,
+    /// The number of the first call, from 1 to 0x7fffffff.
+    pub first: u32,
+}
