@@ -3,7 +3,7 @@
 use crate::cells::{cell, exactly, moment, octets, text};
 use crate::saying;
 use crate::setting::credential;
-use ap_exchange::{ApInit, Judged, judge_request};
+use ap_exchange::{ApInit, ApRefusal, Judged, judge_request};
 use gss_base::{Bindings, Principal};
 use krb_derive::{Etype, Key};
 use krb_files::{Credential, Keytab, read_keytab};
@@ -63,12 +63,22 @@ fn request_in(alloc: Global, line: &str) -> Option<Request> {
     })
 }
 
+/// The judgement of a request.
+fn judge(alloc: Global, said: &Request) -> Result<Judged, ApRefusal> {
+    judge_request(
+        alloc,
+        &said.keytab,
+        &said.own,
+        said.now,
+        said.bindings.as_ref(),
+        said.token.as_slice(),
+    )
+}
+
 /// What is said to the request of a line: the mark, the reply and what the acceptor is left with, or the refusal.
 pub fn judged(alloc: Global, line: &str) -> Option<String> {
     let said = request_in(alloc, line)?;
-    let bound = said.bindings.as_ref();
-    let token = said.token.as_slice();
-    match judge_request(alloc, &said.keytab, &said.own, said.now, bound, token) {
+    match judge(alloc, &said) {
         Err(refusal) => saying::kerberos(alloc, refusal),
         Ok(request) => answer(alloc, request, &said.draws),
     }
@@ -152,19 +162,35 @@ fn taken(alloc: Global, end: ApInit, reply: &[u8]) -> Option<String> {
     }
 }
 
+/// An end and its request.
+fn begun(alloc: Global, said: &Exchange) -> Result<(ApInit, Octets), ApRefusal> {
+    ApInit::start(
+        alloc,
+        &said.own,
+        said.stamp,
+        &said.draws,
+        said.bindings.as_ref(),
+    )
+}
+
+/// The request, and what the initiator says to the reply.
+fn finished(alloc: Global, end: ApInit, token: &[u8], reply: &[u8]) -> Option<String> {
+    let token = cell(alloc, token)?;
+    let verdict = taken(alloc, end, reply)?;
+    format!(in alloc; "{token} {verdict}").ok()
+}
+
+/// The refusal to make a request.
+fn unmade(alloc: Global, refusal: ApRefusal) -> Option<String> {
+    let said = saying::kerberos(alloc, refusal)?;
+    format!(in alloc; "- {said}").ok()
+}
+
 /// The request of a line, and what the initiator says to the reply.
 pub fn replied(alloc: Global, line: &str) -> Option<String> {
     let said = exchange_in(alloc, line)?;
-    let bound = said.bindings.as_ref();
-    match ApInit::start(alloc, &said.own, said.stamp, &said.draws, bound) {
-        Err(refusal) => {
-            let refusal = saying::kerberos(alloc, refusal)?;
-            format!(in alloc; "- {refusal}").ok()
-        }
-        Ok((end, token)) => {
-            let token = cell(alloc, token.as_slice())?;
-            let verdict = taken(alloc, end, said.reply.as_slice())?;
-            format!(in alloc; "{token} {verdict}").ok()
-        }
+    match begun(alloc, &said) {
+        Err(refusal) => unmade(alloc, refusal),
+        Ok((end, token)) => finished(alloc, end, token.as_slice(), said.reply.as_slice()),
     }
 }

@@ -4,7 +4,7 @@ use crate::asking::Asking;
 use crate::cells::{cell, exactly, moment, octets, or_none, text};
 use accept_book::{AdmitRefusal, Admitted, EndCause, Entry, Lease, LookRefusal, Receipt};
 use gss_base::{Label, MechKind};
-use gss_server::{GateAnswer, ListGate, Reply, answer_record};
+use gss_server::{Answered, GateAnswer, ListGate, Reply, answer_record};
 use krb_derive::Key;
 use sec_base::Moment;
 use spnego_core::Outcome;
@@ -134,18 +134,24 @@ fn asked_in(alloc: Global, line: &str) -> Option<Asked> {
     })
 }
 
+/// The answer to the record.
+fn answer_to(alloc: Global, asked: &mut Asked) -> Answered {
+    answer_record(
+        alloc,
+        &mut asked.gate,
+        asked.octets.as_slice(),
+        asked.now,
+        &asked.draws,
+        asked.width,
+    )
+}
+
 /// The rule by which the record of a line is answered, the reply and the questions.
 pub fn answered(alloc: Global, line: &str) -> Option<String> {
-    let Asked {
-        octets,
-        now,
-        draws,
-        width,
-        gate,
-    } = asked_in(alloc, line)?;
-    let mut gate = gate;
-    let answered = answer_record(alloc, &mut gate, octets.as_slice(), now, &draws, width);
-    let (rule, reply) = (answered.rule, replied(alloc, &answered.reply)?);
-    let questions = or_none(gate.questions.as_str());
+    let mut asked = asked_in(alloc, line)?;
+    let answered = answer_to(alloc, &mut asked);
+    let rule = answered.rule;
+    let reply = replied(alloc, &answered.reply)?;
+    let questions = or_none(asked.gate.questions.as_str());
     format!(in alloc; "{rule} {reply} {questions}").ok()
 }
