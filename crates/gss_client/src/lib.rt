@@ -12,6 +12,8 @@ mod results;
 mod service;
 mod session;
 mod start;
+#[cfg(test)]
+mod tests;
 
 pub use laws::prove_result_law;
 pub use refusal::{ClientRefusal, Denial, ReplyWhy};

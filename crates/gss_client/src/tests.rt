@@ -54,22 +54,13 @@ fn draws() -> [u8; 66] {
     draws
 }
 
-/// A session created over a link with these octets to come.
-fn create(alloc: Global, link: &mut MemLink) -> Result<Session, ClientRefusal> {
-    let Ok(credential) = credential(alloc) else {
-        return Err(ClientRefusal::NoMemory);
-    };
-    let mut list = Vec::new(alloc);
-    if list.push(MechCred::Kerberos(credential)).is_err() {
-        return Err(ClientRefusal::NoMemory);
-    }
-    let Some(stamp) = Moment::new(1_000_000, 0) else {
-        return Err(ClientRefusal::NoMemory);
-    };
+/// What comes of a creation over a link.
+fn create(alloc: Global, link: &mut MemLink) -> Result<Result<Session, ClientRefusal>, Fail> {
+    let list = vec![in alloc; MechCred::Kerberos(credential(alloc)?)]?;
     let setup = InitSetup {
         list: Items::of(list),
         bindings: None,
-        stamp,
+        stamp: Moment::new(1_000_000, 0).ok_or("a moment")?,
         draws: draws(),
     };
     let start = Start {
@@ -77,7 +68,7 @@ fn create(alloc: Global, link: &mut MemLink) -> Result<Session, ClientRefusal> {
         service: Service::Integrity,
         first: 1,
     };
-    Session::create(alloc, link, start)
+    Ok(Session::create(alloc, link, start))
 }
 
 /// A link with these octets to come, whose calls of these numbers fail.
@@ -97,7 +88,7 @@ fn sha1(octets: &[u8]) -> [u8; 20] {
 fn session_of_two_calls(rt: HostRuntime) -> Result<(), Fail> {
     let alloc = rt.alloc();
     let mut link = link(alloc, replies(), &[])?;
-    let session = create(alloc, &mut link).ok().ok_or("a session")?;
+    let session = create(alloc, &mut link)?.ok().ok_or("a session")?;
     assert_eq!(rt; session.outcome().initiator.text(), "alice@R");
     assert_eq!(rt; session.outcome().acceptor.text(), "rpc/host@R");
     let (session, first) = session
@@ -119,7 +110,7 @@ fn session_of_two_calls(rt: HostRuntime) -> Result<(), Fail> {
 /// What comes of a creation whose link holds these octets.
 fn refusal(alloc: Global, octets: &[u8], failing: &[u64]) -> Result<ClientRefusal, Fail> {
     let mut link = link(alloc, octets, failing)?;
-    match create(alloc, &mut link) {
+    match create(alloc, &mut link)? {
         Ok(_) => Err(Fail::from("a session")),
         Err(refusal) => Ok(refusal),
     }
