@@ -1,0 +1,75 @@
+//! An initiator's end and the replies to it.
+
+use crate::cells::{add, cell, octets};
+use crate::saying;
+use crate::setting::{Setting, initiator};
+use krb_files::Credential;
+use sec_base::Moment;
+use spnego_core::{InitEnd, InitStep};
+use std::alloc::Global;
+
+/// What an end says to a reply, and the end behind it.
+fn replied(alloc: Global, end: InitEnd, reply: &[u8]) -> Option<(Option<InitEnd>, String)> {
+    match end.step(alloc, reply) {
+        Ok(InitStep::More(end, token)) => {
+            let token = cell(alloc, token.as_slice())?;
+            Some((Some(end), format!(in alloc; "More:{token}").ok()?))
+        }
+        Ok(InitStep::Done(outcome)) => {
+            let outcome = saying::outcome(alloc, &outcome)?;
+            Some((None, format!(in alloc; "Done:{outcome}").ok()?))
+        }
+        Err(refusal) => Some((None, saying::refusal(alloc, refusal)?)),
+    }
+}
+
+/// An end and its first token.
+fn begun(alloc: Global, own: Credential, stamp: Moment) -> Option<(InitEnd, String)> {
+    let setup = initiator(alloc, own, stamp)?;
+    let (end, first) = InitEnd::start(alloc, setup).ok()?;
+    Some((end, cell(alloc, first.as_slice())?))
+}
+
+/// `reply=verdict` for a reply to this end, and the end behind it.
+fn stepped(alloc: Global, end: InitEnd, part: &str) -> Option<(Option<InitEnd>, String)> {
+    let (reply, _verdict) = part.split_once('=')?;
+    let octets = octets(alloc, reply)?;
+    let (after, verdict) = replied(alloc, end, octets.as_slice())?;
+    let said = format!(in alloc; "{reply}={verdict}").ok()?;
+    Some((after, said))
+}
+
+/// `reply=verdict` for each of these replies, behind the first token.
+fn followed(alloc: Global, end: InitEnd, first: String, replies: &str) -> Option<String> {
+    let mut said = first;
+    let mut next = Some(end);
+    for part in replies.split(' ') {
+        let (after, one) = stepped(alloc, next?, part)?;
+        next = after;
+        add(&mut said, " ", one.as_str())?;
+    }
+    Some(said)
+}
+
+/// The first token, and `reply=verdict` for each of these replies.
+pub fn talk(alloc: Global, own: Credential, stamp: Moment, replies: &str) -> Option<String> {
+    let (end, first) = begun(alloc, own, stamp)?;
+    followed(alloc, end, first, replies)
+}
+
+/// The first token alone.
+fn opened(alloc: Global, own: Credential, stamp: Moment) -> Option<String> {
+    let (_end, first) = begun(alloc, own, stamp)?;
+    Some(first)
+}
+
+/// The first token, and `reply=verdict` for each reply of a line, which begins with `k`.
+pub fn answered(alloc: Global, setting: &Setting, line: &str) -> Option<String> {
+    let (_letter, rest) = line.split_once(' ')?;
+    let own = setting.credential(alloc)?;
+    let stamp = Moment::new(1_000_000, 0)?;
+    match rest.split_once(' ') {
+        None => opened(alloc, own, stamp),
+        Some((_first, replies)) => talk(alloc, own, stamp, replies),
+    }
+}

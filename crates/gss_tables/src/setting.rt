@@ -1,0 +1,142 @@
+//! What the tables rest on: the keytab, the ticket and the session key of `alice@R` at `rpc/host@R`, and the random octets of both.
+
+ghost use Rattle.std.specs.Prelude.{◌≡◌, ◌≤◌, length, IfSome, true};
+ghost use Rattle.spnego_core.specs.InitMech.{is_own_list};
+
+use crate::cells::{exactly, octets};
+use gss_base::{MechKind, Principal};
+use krb_derive::{Etype, Key};
+use krb_files::{Credential, read_keytab};
+use sec_base::{Items, Moment, Octets};
+use spnego_core::{AcceptSetup, InitSetup, MechCred};
+use std::alloc::Global;
+
+/// The octets of the file `setting.txt`.
+#[derive(Drop)]
+pub struct Setting {
+    pub keytab: Vec<u8>,
+    pub session: [u8; 16],
+    pub ticket: Vec<u8>,
+}
+
+/// The cell behind this name in the file.
+fn named<'a>(text: &'a str, name: &str) -> Option<&'a str> {
+    for line in text.lines() {
+        if let Some((first, rest)) = line.split_once(' ') {
+            if first == name {
+                return Some(rest);
+            }
+        }
+    }
+    None
+}
+
+impl Setting {
+    /// The setting that the file says.
+    pub fn read(alloc: Global, text: &str) -> Option<Setting> {
+        Some(Setting {
+            keytab: octets(alloc, named(text, "keytab")?)?,
+            session: exactly(named(text, "session")?)?,
+            ticket: octets(alloc, named(text, "ticket")?)?,
+        })
+    }
+}
+
+/// The initiator's random octets, 00 to 41.
+pub fn own_draws() -> [u8; 66] {
+    let mut draws = [0; 66];
+    for number in 0..66u8 {
+        draws[number as usize] = number;
+    }
+    draws
+}
+
+/// The acceptor's random octets, 80 to c1.
+pub fn draws() -> [u8; 66] {
+    let mut draws = [0; 66];
+    for number in 0..66u8 {
+        draws[number as usize] = 0x80 + number;
+    }
+    draws
+}
+
+/// A ticket, within its limit.
+pub fn ticket_of(alloc: Global, octets: &[u8]) -> Option<Octets>
+    ensures { IfSome result (λ o. length o ≤ 60000) }
+{
+    if octets.len() > 60_000 {
+        return None;
+    }
+    Octets::of(alloc, octets).ok()
+}
+
+/// A credential for these principals, by their text forms.
+pub fn credential(
+    alloc: Global,
+    client: &str,
+    server: &str,
+    session: Key,
+    ticket: &[u8],
+) -> Option<Credential> {
+    Some(Credential {
+        client: Principal::parse(alloc, client).ok()?,
+        server: Principal::parse(alloc, server).ok()?,
+        session,
+        ticket: ticket_of(alloc, ticket)?,
+    })
+}
+
+/// What an initiator begins with: this credential of Kerberos alone, without bindings, at this moment.
+pub fn initiator(alloc: Global, credential: Credential, stamp: Moment) -> Option<InitSetup>
+    ensures { IfSome result (λ own. is_own_list own.list ≡ true) }
+{
+    let list = vec![in alloc; MechCred::Kerberos(credential)].ok()?;
+    Some(InitSetup {
+        list: Items::of(list),
+        bindings: None,
+        stamp,
+        draws: own_draws(),
+    })
+}
+
+/// The mechanisms that an offer's letters name: `k` Kerberos, `s` SCRAM.
+fn offer_of(alloc: Global, letters: &str) -> Option<Vec<MechKind>> {
+    let mut offer = Vec::new(alloc);
+    for letter in letters.chars() {
+        match letter {
+            'k' => offer.push(MechKind::Kerberos).ok()?,
+            's' => offer.push(MechKind::Scram).ok()?,
+            _ => return None,
+        }
+    }
+    Some(offer)
+}
+
+/// What an acceptor begins with, by its name's text form, its keytab's octets and the letters of its offer, without bindings.
+pub fn acceptor(alloc: Global, own: &str, keytab: &[u8], letters: &str) -> Option<AcceptSetup> {
+    Some(AcceptSetup {
+        own: Principal::parse(alloc, own).ok()?,
+        keytab: read_keytab(alloc, keytab).ok()?,
+        bindings: None,
+        offer: Items::of(offer_of(alloc, letters)?),
+    })
+}
+
+impl Setting {
+    /// The credential of `alice@R`.
+    pub fn credential(&self, alloc: Global) -> Option<Credential> {
+        let session = Key::new(Etype::Aes128, &self.session)?;
+        credential(
+            alloc,
+            "alice@R",
+            "rpc/host@R",
+            session,
+            self.ticket.as_slice(),
+        )
+    }
+
+    /// What `rpc/host@R` begins with, by the letters of its offer.
+    pub fn acceptor(&self, alloc: Global, letters: &str) -> Option<AcceptSetup> {
+        acceptor(alloc, "rpc/host@R", self.keytab.as_slice(), letters)
+    }
+}
