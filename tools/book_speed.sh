@@ -5,22 +5,14 @@ set -eu
 scratch=$(mktemp -d)
 trap 'rm -rf "$scratch"' EXIT
 libraries=$(sed -n 's/^accept_book: //p' crates.txt)
-mkdir -p "$scratch/crates/book_speed/src"
-for crate in $libraries accept_book; do
-    [ -d "crates/$crate" ] || continue
-    mkdir "$scratch/crates/$crate"
+for crate in crates/*/; do
+    mkdir -p "$scratch/$crate"
     for part in src specs proofs; do
-        [ -d "crates/$crate/$part" ] && cp -r "crates/$crate/$part" "$scratch/crates/$crate/"
+        [ -d "$crate$part" ] && cp -r "$crate$part" "$scratch/$crate"
     done
-    grep "^$crate:" crates.txt >> "$scratch/crates.txt"
 done
-for crate in der_core aes_cts mac_sha1 krb_msgs; do
-    mkdir -p "$scratch/crates/$crate"
-    for part in src specs proofs; do
-        [ -d "crates/$crate/$part" ] && cp -r "crates/$crate/$part" "$scratch/crates/$crate/"
-    done
-    grep -q "^$crate:" "$scratch/crates.txt" || grep "^$crate:" crates.txt >> "$scratch/crates.txt"
-done
+mkdir "$scratch/crates/book_speed" "$scratch/crates/book_speed/src"
+cp crates.txt HANDLES "$scratch/"
 echo "book_speed: $libraries accept_book" >> "$scratch/crates.txt"
 cat > "$scratch/crates/book_speed/src/main.rt" <<'PROGRAM'
 //! Measures admissions, and what a table of many contexts costs.
