@@ -15,6 +15,8 @@
 #include <time.h>
 #include <unistd.h>
 
+/* The library marshals a call's whole body in the buffer that it sends from. */
+enum { BUFFER = 200000 };
 enum { PROGRAM = 0x20004753, VERSION = 1, NOTHING = 0, ECHO = 1, WHOAMI = 2, POST = 3, COUNT = 4 };
 
 static gss_OID_desc spnego = { 6, "\x2b\x06\x01\x05\x05\x02" };
@@ -42,7 +44,7 @@ static CLIENT *connected(int port)
     struct sockaddr_in address = { .sin_family = AF_INET, .sin_port = htons(port) };
     int socket = RPC_ANYSOCK;
     inet_pton(AF_INET, "127.0.0.1", &address.sin_addr);
-    return clnttcp_create(&address, PROGRAM, VERSION, &socket, 0, 0);
+    return clnttcp_create(&address, PROGRAM, VERSION, &socket, BUFFER, BUFFER);
 }
 
 static gss_name_t name_of(char *text)
