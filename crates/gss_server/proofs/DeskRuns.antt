@@ -13,7 +13,7 @@ use Rattle.gss_server.specs.declared.ending.RunEnd.TheVariants.{Usage, CannotLoa
 -- the first `count` desks have run, and the others are as they were
 pub record Runs {A : Type 0} (Base Done Failed : A → A → Type 0) (end : RunEnd) (count : ℕ) (olds news : List A) : Type 0 where
   pub rest : drop count news ≡ drop count olds
-  pub named : (desk : ℕ) → end ≡ PortFault desk → desk ≤ count
+  pub named : (desk : ℕ) → end ≡ PortFault desk → (0 < desk) × (desk ≤ count)
   pub each : (i : ℕ) (a b : A) → i < count → slice_get olds i ≡ Some a → slice_get news i ≡ Some b → Ran Base Done Failed end i a b
 
 set-below : {A : Type 0} (xs : List A) (k i : ℕ) (v : A) → i < k → slice_get (slice_set xs k v) i ≡ slice_get xs i
@@ -83,16 +83,16 @@ newest Served ends.Done count a b named base done failed = record { base = base;
 newest Served ends.PortFault count a b named base done failed = record { base = base; done = λ before. absurd (omega arith); failed = λ e. failed refl }
 newest Served ends.NoMemory count a b named base done failed = record { base = base; done = λ before. absurd before; failed = λ e. cc }
 
-named-more : (end : RunEnd) (ran : DeskEnd) (count : ℕ) → ((desk : ℕ) → end ≡ PortFault desk → desk ≤ count) → (desk : ℕ) → joined end (count + 1) ran ≡ PortFault desk → desk ≤ count + 1
-named-more (PortFault first) ran count named desk e = let most : desk ≤ count = named desk e in omega arith
-named-more NoMemory ran count named desk e = cc
-named-more Usage ran count named desk e = cc
-named-more CannotLoad ran count named desk e = cc
-named-more (Bad at) ran count named desk e = cc
-named-more NoKey ran count named desk e = cc
-named-more Served ends.Done count named desk e = cc
-named-more Served ends.PortFault count named desk e = let same : count + 1 ≡ desk = cc in omega arith
-named-more Served ends.NoMemory count named desk e = cc
+named-more : (end : RunEnd) (ran : DeskEnd) (count : ℕ) → ((desk : ℕ) → end ≡ PortFault desk → (0 < desk) × (desk ≤ count)) → (desk : ℕ) → joined end (count + 1) ran ≡ PortFault desk → (0 < desk) × (desk ≤ count + 1)
+named-more (PortFault first) ran count named desk e = let both : (0 < desk) × (desk ≤ count) = named desk e in (both.0, omega (arith, both.1))
+named-more NoMemory ran count named desk e = (cc, cc)
+named-more Usage ran count named desk e = (cc, cc)
+named-more CannotLoad ran count named desk e = (cc, cc)
+named-more (Bad at) ran count named desk e = (cc, cc)
+named-more NoKey ran count named desk e = (cc, cc)
+named-more Served ends.Done count named desk e = (cc, cc)
+named-more Served ends.PortFault count named desk e = let same : count + 1 ≡ desk = cc in (omega arith, omega arith)
+named-more Served ends.NoMemory count named desk e = (cc, cc)
 
 pub begun-more : (end : RunEnd) (ran : DeskEnd) (number : ℕ) → (end ≢ NoMemory → is_begun end ≡ true) → joined end number ran ≢ NoMemory → is_begun (joined end number ran) ≡ true
 begun-more (PortFault first) ran number begun other = refl
@@ -118,7 +118,7 @@ each-more {A} {Base} {Done} {Failed} end ran count olds news old new runs here b
     subst (λ (k : ℕ). Ran Base Done Failed (joined end (count + 1) ran) k a b) (sym at)
     (subst (λ (x : A). Ran Base Done Failed (joined end (count + 1) ran) count x b) (sym older)
     (subst (λ (x : A). Ran Base Done Failed (joined end (count + 1) ran) count old x) (sym newer)
-    (newest end ran count old new runs.named base done failed)))
+    (newest end ran count old new (λ desk e. (runs.named desk e).1) base done failed)))
 
 -- one more desk has run
 pub run-step : {A : Type 0} {Base Done Failed : A → A → Type 0} (end : RunEnd) (ran : DeskEnd) (count : ℕ) (olds news : List A) (old new : A) → Runs Base Done Failed end count olds news → slice_get news count ≡ Some old → Base old new → (ran ≡ ends.Done → Done old new) → (ran ≡ ends.PortFault → Failed old new) → Runs Base Done Failed (joined end (count + 1) ran) (count + 1) olds (slice_set news count new)
@@ -188,3 +188,9 @@ front {A} (x ∷ xs) zs = ap (λ (ys : List A). x ∷ ys) (front xs zs)
 -- what was written through a slice of a whole vector
 pub take-back : {A : Type 0} (count : ℕ) (xs ys : List A) → count ≡ length xs → take count (xs ++ drop (length xs) ys) ≡ xs
 take-back count xs ys e = rw e (front xs (drop (length xs) ys))
+
+-- there is an element at each place
+pub some-at : {A : Type 0} (xs : List A) (i : ℕ) → i < length xs → (x : A) × (slice_get xs i ≡ Some x)
+some-at [] i h = absurd (omega arith)
+some-at (x ∷ xs) zero h = (x, refl)
+some-at (x ∷ xs) (suc i) h = some-at xs i (omega arith)

@@ -10,3 +10,4 @@ pub mod EmptyKeytab
 pub mod DeskRuns
 pub mod ServedLinks
 pub mod Wanting
+pub mod Completions

@@ -1,7 +1,10 @@
 -- The run of the server.
-use Rattle.std.specs.Prelude.{◌≡◌, ◌≢◌, ℕ, Bool, true, List, [], Option, Some, None, unwrap_or, Result, Ok, Err}
+use Rattle.std.specs.Prelude.{◌≡◌, ◌≢◌, ℕ, Bool, true, IsTrue, List, [], Option, Some, None, unwrap_or, Result, Ok, Err}
 use Rattle.sec_base.specs.declared.shelf.NamedFile.{NamedFile}
+use Rattle.gss_base.specs.Name.{Name}
 use Rattle.gss_base.specs.Principal.{text_form}
+use Rattle.krb_files.specs.Keytab.{keytab_of, is_served}
+use Rattle.cli_base.specs.Files.{file_in}
 use Rattle.krb_files.specs.declared.keytab.Entry.{Entry}
 use Rattle.accept_book.specs.Logs.{LogOf}
 use Rattle.gss_server.specs.Desks.{is_begun}
@@ -31,6 +34,22 @@ pub record Begins (tells : Bool) (files : List NamedFile) (before after : List (
   pub keytab : Result (List Entry) RunEnd
   pub given : IsKeytab tells files before after faults faults' options.keytab options.name keytab
   pub ends : EndsBy keytab end
+
+-- the file of a keytab is there, is a keytab within the limit, and has a key for the own name
+pub record IsValidFile (tells : Bool) (files : List NamedFile) (file : List ℕ) (name : Name) : Type 0 where
+  pub told : IsTrue tells
+  pub octets : List ℕ
+  pub content : file_in files file ≡ Ok octets
+  pub entries : List Entry
+  pub read : keytab_of octets ≡ Ok entries
+  pub served : is_served name entries ≡ true
+
+abbrev pub IsValidKeytab : Bool → List NamedFile → Option (List ℕ) → Name → Type 0
+IsValidKeytab tells files None name = Unit {0}
+IsValidKeytab tells files (Some file) name = IsValidFile tells files file name
+
+abbrev pub IsValid : Bool → List NamedFile → Options → Type 0
+IsValid tells files options = IsValidKeytab tells files options.keytab options.name
 
 -- the log was kept under the limits of the options
 pub record HasLimits (options : Options) (log : LogOf) : Type 0 where

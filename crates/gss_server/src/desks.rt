@@ -1,6 +1,6 @@
 //! Several desks, one after the other.
 
-ghost use Rattle.std.specs.Prelude.{◌≡◌, ◌≢◌, ◌≤◌, ◌*◌, ℕ, true, IsTrue, Some, length, slice_get};
+ghost use Rattle.std.specs.Prelude.{◌≡◌, ◌≢◌, ◌<◌, ◌≤◌, ◌*◌, ℕ, true, IsTrue, Some, length, slice_get};
 ghost use Rattle.std.specs.List.{AllByRecursion};
 ghost use Rattle.gss_server.specs.Desks.{IsFresh, IsSmall, DeskServed, DeskDone, DeskFailed, joined, is_begun, Ran, AllWithin, records_of, all_connections, all_records};
 
@@ -39,6 +39,7 @@ where
     requires { AllByRecursion IsFresh desks.old }
     ensures ran { (i : ℕ) (a b : _) → slice_get desks.old i ≡ Some a → slice_get desks.new i ≡ Some b
         → Ran (DeskServed width connections P.tells P.links P.Link.tells P.Link.wire P.Link.faults) (DeskDone connections P.tells P.links) (DeskFailed P.faults) result i a b }
+    ensures named { (desk : ℕ) → result ≡ RunEnd.PortFault desk → (0 < desk) × (desk ≤ length desks.old) }
     ensures begun { result ≢ RunEnd.NoMemory → is_begun result ≡ true }
     ensures count { length desks.new ≡ length desks.old }
     ensures limits { G.limits gate.new ≡ G.limits gate.old }

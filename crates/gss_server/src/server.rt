@@ -1,6 +1,6 @@
 //! The run of the server.
 
-ghost use Rattle.std.specs.Prelude.{◌≡◌, ◌≢◌, ◌≤◌, ℕ, List, [], true, false, IsTrue, IfOk, Some, Ok, Err, unwrap_or, length, reverse, slice_get};
+ghost use Rattle.std.specs.Prelude.{◌≡◌, ◌≢◌, ◌<◌, ◌≤◌, ℕ, List, [], true, false, IsTrue, IfOk, Some, Ok, Err, unwrap_or, length, vec_len, reverse, slice_get};
 ghost use Rattle.std.specs.List.{AllByRecursion};
 ghost use Rattle.sec_base.specs.Answers.{Rose};
 ghost use Rattle.cli_base.specs.Lines.{Says};
@@ -9,7 +9,7 @@ ghost use Rattle.gss_base.specs.Principal.{text_form};
 ghost use Rattle.gss_server.specs.Desks.{IsFresh, IsSmall, DeskServed, DeskDone, DeskFailed, is_begun, Ran, all_connections, all_records};
 ghost use Rattle.gss_server.specs.Lines.{status_of, line_of};
 ghost use Rattle.gss_server.specs.Options.{options_of, IsRanged};
-ghost use Rattle.gss_server.specs.Runs.{file_of, name_of, EndsBy, Begins, HasLimits, no_log};
+ghost use Rattle.gss_server.specs.Runs.{file_of, name_of, EndsBy, Begins, HasLimits, IsValid, no_log};
 ghost use Rattle.gss_server.specs.Keytabs.{IsKeytab};
 
 use crate::desk::Desk;
@@ -98,6 +98,8 @@ where
     requires connections { connections ≤ 1000000 }
     ensures ran { (i : ℕ) (a b : _) → slice_get desks.old.items i ≡ Some a → slice_get desks.new.items i ≡ Some b
         → Ran (DeskServed width connections P.tells P.links P.Link.tells P.Link.wire P.Link.faults) (DeskDone connections P.tells P.links) (DeskFailed P.faults) result.end i a b }
+    ensures count { vec_len desks.new ≡ vec_len desks.old }
+    ensures named { (desk : ℕ) → result.end ≡ RunEnd.PortFault desk → (0 < desk) × (desk ≤ vec_len desks.old) }
     ensures begun { result.end ≢ RunEnd.NoMemory → is_begun result.end ≡ true }
     ensures small { AllByRecursion IsSmall desks.new.items }
     ensures legal { Legal result.log.width (reverse result.log.entries) }
@@ -128,6 +130,8 @@ where
     requires ranged { IsRanged options }
     ensures ran { (i : ℕ) (a b : _) → slice_get desks.old.items i ≡ Some a → slice_get desks.new.items i ≡ Some b
         → Ran (DeskServed options.window options.connections P.tells P.links P.Link.tells P.Link.wire P.Link.faults) (DeskDone options.connections P.tells P.links) (DeskFailed P.faults) result.end i a b }
+    ensures count { vec_len desks.new ≡ vec_len desks.old }
+    ensures named { (desk : ℕ) → result.end ≡ RunEnd.PortFault desk → (0 < desk) × (desk ≤ vec_len desks.old) }
     ensures begun { result.end ≢ RunEnd.NoMemory → is_begun result.end ≡ true }
     ensures small { AllByRecursion IsSmall desks.new.items }
     ensures legal { Legal result.log.width (reverse result.log.entries) }
@@ -243,6 +247,8 @@ where
     ensures said { IsTrue (O.tells err.old)
         → Says (O.written err.old) (O.written err.new) result.status
         (line_of (file_of (Ok options)) (name_of (Ok options)) (record { connections = all_connections desks.new.items; records = all_records desks.new.items; entries = length result.log.entries }) result.end) }
+    ensures count { vec_len desks.new ≡ vec_len desks.old }
+    ensures named { (desk : ℕ) → result.end ≡ RunEnd.PortFault desk → (0 < desk) × (desk ≤ vec_len desks.old) }
     ensures other { result.end ≢ RunEnd.Usage }
 {
     match keytab_given(alloc, shelf, &options.keytab, &options.name) {
@@ -286,6 +292,14 @@ where
     // Each desk served the first links of its port, in order; where it is done, all of them or as many as the words say.
     ensures ran { (options : Options) → options_of words.now ≡ Ok options → (i : ℕ) (a b : _) → slice_get desks.old.items i ≡ Some a → slice_get desks.new.items i ≡ Some b
         → Ran (DeskServed options.window options.connections P.tells P.links P.Link.tells P.Link.wire P.Link.faults) (DeskDone options.connections P.tells P.links) (DeskFailed P.faults) result.end i a b }
+    // There are as many desks as there were, and the line of a failed port names one of them.
+    ensures count { vec_len desks.new ≡ vec_len desks.old }
+    ensures named { (desk : ℕ) → result.end ≡ RunEnd.PortFault desk → (0 < desk) × (desk ≤ vec_len desks.old) }
+    // With a keytab that can be used, and no count that rose, all connections are served, want of memory aside.
+    ensures complete { (options : Options) → options_of words.now ≡ Ok options → IsValid (F.tells shelf.old) (F.files shelf.old) options
+        → (Rose (F.faults shelf.old) (F.faults shelf.new) → ⊥)
+        → ((i : ℕ) (a b : _) → slice_get desks.old.items i ≡ Some a → slice_get desks.new.items i ≡ Some b → Rose (P.faults a.port) (P.faults b.port) → ⊥)
+        → result.end ≢ RunEnd.NoMemory → result.end ≡ RunEnd.Served }
     // The log is legal, and was kept under the limits of the words.
     ensures legal { Legal result.log.width (reverse result.log.entries) }
     ensures limits { (options : Options) → options_of words.now ≡ Ok options → is_begun result.end ≡ true → HasLimits options result.log }

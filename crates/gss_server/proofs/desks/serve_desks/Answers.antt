@@ -1,4 +1,4 @@
-use Rattle.std.proofs.Common.{arith, ◌≡◌, ◌<◌, ◌+◌, length, ◌∙◌}
+use Rattle.std.proofs.Common.{arith, ◌≡◌, ◌<◌, ◌≤◌, ◌+◌, length, ◌∙◌}
 use Rattle.std.proofs.lemmas.Option.{slice_get-get_or, slice_get_within}
 use Rattle.gss_server.specs.Desks.{IsFresh}
 use Rattle.gss_server.proofs.DeskRuns.{run-step, all-more, begun-more}
@@ -24,3 +24,8 @@ returns-clause-ran g c = λ i a b before after.
     let within : i < length c.loop-desk.desks = slice_get_within _ _ _ after in
     let counted : i < c.loop-desk.desk-index = omega (arith, c.loop-desk.auto.desks, c.loop-desk-test.false) in
     c.loop-desk.invariant.run.each i a b counted before after
+
+pub returns-clause-named : goal.returns-clause-named
+returns-clause-named g c = λ desk e.
+    let both : (0 < desk) × (desk ≤ c.loop-desk.desk-index) = c.loop-desk.invariant.run.named desk e in
+    (both.0, omega (arith, both.1, c.loop-desk.auto))

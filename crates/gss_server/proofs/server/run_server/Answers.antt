@@ -1,9 +1,11 @@
-use Rattle.std.proofs.Common.{◌≡◌, [], Result, Ok, refl}
+use Rattle.std.proofs.Common.{arith, ◌≡◌, ◌<◌, ◌≤◌, [], length, Result, Ok, refl, subst}
 use Rattle.gss_server.specs.Desks.{IsFresh}
 use Rattle.gss_server.specs.declared.ending.Counts.{Counts}
 use Rattle.gss_server.specs.declared.ending.RunEnd.TheVariants.{NoMemory}
 use Rattle.gss_server.specs.declared.options.Options.{Options}
 use Rattle.gss_server.specs.declared.options.WordsRefusal.{WordsRefusal}
+use Rattle.gss_server.specs.Runs.{IsValid}
+use Rattle.gss_server.proofs.Completions.{completed}
 use Rattle.gss_server.proofs.DeskRuns.{idle-run, idle-served}
 use Rattle.gss_server.proofs.server.run_server.Goals as goal
 
@@ -31,3 +33,11 @@ returns-in-Err-NoMemory-clause-ran g c = λ options is i a b before after. rw c.
     (idle-run (IsFresh {P = g.row.P.Denot} {C = g.row.C.Denot} {D = g.row.D.Denot} {L = g.row.P-Link.Denot}) c.args.desks.now.items NoMemory c.requires.fresh
     (λ desk fresh. idle-served options.window options.connections g.P.Port.tells g.P.Port.links g.P.Link.Link.tells g.P.Link.Link.wire g.P.Link.Link.faults desk fresh)
     refl i a b before after)
+
+pub returns-in-Ok-clause-complete : goal.returns-in-Ok-clause-complete
+returns-in-Ok-clause-complete g c = λ options is valid steady ports other.
+    let same : length c.run_with.new.desks.items ≡ length c.args.desks.now.items = omega (arith, c.run_with.ensures.count, c.run_with.new.desks.ok, c.args.desks.now.ok) in
+    completed _ _ _ _ _ _ c.in-Ok.options c.run_with.result.end c.args.desks.now.items c.run_with.new.desks.items c.run_with.ensures.begins
+    (subst (λ (o : Options). IsValid (g.F.Shelf.tells c.args.shelf.now) (g.F.Shelf.files c.args.shelf.now) o) (same-options c.in-Ok.ensures.value is) valid) steady same
+    (λ desk e. let both : (0 < desk) × (desk ≤ c.args.desks.now.len) = c.run_with.ensures.named desk e in (both.0, omega (arith, both.1, c.args.desks.now.ok)))
+    c.run_with.ensures.ran ports other
