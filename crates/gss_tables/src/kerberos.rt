@@ -12,13 +12,16 @@ use sec_base::{Moment, Octets};
 use std::alloc::Global;
 use std::str::Split;
 
-/// The bindings with a cell's octets, none for `-`.
+/// The bindings with a cell's octets, at most 32,768, and no bindings for `-`.
 fn bindings(alloc: Global, said: &str) -> Option<Option<Bindings>> {
     if said == "-" {
         return Some(None);
     }
-    let octets = Octets::from_vec(octets(alloc, said)?);
-    Some(Some(Bindings::new(octets).ok()?))
+    let octets = octets(alloc, said)?;
+    if octets.len() > 32768 {
+        return None;
+    }
+    Some(Some(Bindings::new(Octets::from_vec(octets)).ok()?))
 }
 
 /// `type:key`.
