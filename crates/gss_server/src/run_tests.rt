@@ -1,5 +1,8 @@
 //! Runs of the server over devices in memory.
 
+ghost use Rattle.std.specs.Prelude.{IfOk};
+ghost use Rattle.gss_server.specs.Desks.{IsFresh};
+
 use crate::tests::CALL;
 use crate::*;
 use sec_base::{
@@ -24,7 +27,9 @@ fn words(alloc: Global, line: &str) -> Result<Vec<Text>, Fail> {
 }
 
 /// A desk over a port with one call, whose call of this number fails.
-fn desk(alloc: Global, failing: u64) -> Result<Desk<MemPort<MemLink>, MemClock, MemDraw>, Fail> {
+fn desk(alloc: Global, failing: u64) -> Result<Desk<MemPort<MemLink>, MemClock, MemDraw>, Fail>
+    ensures { IfOk result (λ desk. IsFresh desk) }
+{
     let mut links = Vec::new(alloc);
     let input = Vec::from_slice(alloc, &CALL)?;
     links.push(MemLink::new(alloc, input, Vec::new(alloc), Vec::new(alloc)))?;
