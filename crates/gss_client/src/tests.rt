@@ -56,6 +56,9 @@ fn draws() -> [u8; 66] {
 
 /// What comes of a creation over a link.
 fn create(alloc: Global, link: &mut MemLink) -> Result<Result<Session, ClientRefusal>, Fail> {
+    if link.is_closed() {
+        return Err(Fail::from("an open link"));
+    }
     let list = vec![in alloc; MechCred::Kerberos(credential(alloc)?)]?;
     let setup = InitSetup {
         list: Items::of(list),
@@ -84,6 +87,17 @@ fn sha1(octets: &[u8]) -> [u8; 20] {
     hasher.finalize()
 }
 
+/// Calls for the initiator's name.
+fn call(alloc: Global, session: Session, link: &mut MemLink) -> Result<(Session, Octets), Fail> {
+    if link.is_closed() || session.next_number() > 0x7fff_ffff {
+        return Err(Fail::from("an open link and a number"));
+    }
+    match session.call(alloc, link, 2, &[], &[0; 16]) {
+        Ok(called) => Ok(called),
+        Err(_) => Err(Fail::from("a call")),
+    }
+}
+
 #[test]
 fn session_of_two_calls(rt: HostRuntime) -> Result<(), Fail> {
     let alloc = rt.alloc();
@@ -91,17 +105,12 @@ fn session_of_two_calls(rt: HostRuntime) -> Result<(), Fail> {
     let session = create(alloc, &mut link)?.ok().ok_or("a session")?;
     assert_eq!(rt; session.outcome().initiator.text(), "alice@R");
     assert_eq!(rt; session.outcome().acceptor.text(), "rpc/host@R");
-    let (session, first) = session
-        .call(alloc, &mut link, 2, &[], &[0; 16])
-        .ok()
-        .ok_or("a first call")?;
+    let (session, first) = call(alloc, session, &mut link)?;
     assert!(rt; session.next_number() == 2);
-    let (session, second) = session
-        .call(alloc, &mut link, 2, &[], &[0; 16])
-        .ok()
-        .ok_or("a second call")?;
+    let (session, second) = call(alloc, session, &mut link)?;
     assert_eq!(rt; first.as_slice(), b"\x00\x00\x00\x07alice@R\x00".as_slice());
     assert_eq!(rt; second.as_slice(), first.as_slice());
+    assert!(rt; !link.is_closed());
     assert!(rt; session.destroy(alloc, &mut link).is_ok());
     assert_eq!(rt; sha1(link.written()), written());
     Ok(())
