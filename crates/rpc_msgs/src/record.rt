@@ -27,8 +27,11 @@ const PIECE: usize = 8192;
 /// Few octets are read through a smaller buffer, which is filled with zeros first.
 const SMALL_PIECE: usize = 256;
 
-/// A record of so few octets is written at once.
-const SMALL_RECORD: usize = 252;
+/// A record of so few octets is framed in a smaller buffer.
+const SMALL_RECORD: usize = SMALL_PIECE - 4;
+
+/// A record of at most so many octets is written at once, with its header.
+const PIECE_RECORD: usize = PIECE - 4;
 
 /// Why no record was read.
 #[derive(Clone, Copy, Debug, PartialEq, Eq)]
@@ -203,7 +206,10 @@ pub fn write_record<L: Link>(link: &mut L, bytes: &[u8]) -> Result<(), LinkFault
     ensures faults { L.faults link.old ≤ L.faults link.new }
 {
     if bytes.len() <= SMALL_RECORD {
-        return write_at_once(link, bytes);
+        return write_at_once::<L, SMALL_PIECE>(link, bytes);
+    }
+    if bytes.len() <= PIECE_RECORD {
+        return write_at_once::<L, PIECE>(link, bytes);
     }
     match send(link, &header_of(bytes.len())) {
         Ok(()) => send(link, bytes),
@@ -211,25 +217,26 @@ pub fn write_record<L: Link>(link: &mut L, bytes: &[u8]) -> Result<(), LinkFault
     }
 }
 
-/// Writes a record of few octets together with its header.
-fn write_at_once<L: Link>(link: &mut L, bytes: &[u8]) -> Result<(), LinkFault>
+/// Writes a record together with its header, which fit into a buffer of this size.
+fn write_at_once<L: Link, const SIZE: usize>(link: &mut L, bytes: &[u8]) -> Result<(), LinkFault>
     requires unclosed { L.closed link.old ≡ false }
-    requires few { length bytes.now ≤ 252 }
+    requires fits { 4 + length bytes.now ≤ SIZE }
+    requires small { SIZE ≤ 8192 }
     ensures told { IsTrue (L.tells link.old) → Sends (L.wire link.old) (L.wire link.new) result (last_fragment bytes.now) }
     ensures tells { L.tells link.new ≡ L.tells link.old }
     ensures unclosed { L.closed link.new ≡ false }
     ensures fault { OnErr result (Rose (L.faults link.old) (L.faults link.new)) }
     ensures faults { L.faults link.old ≤ L.faults link.new }
 {
-    let mut cells = [0; 256];
+    let mut cells = [0; SIZE];
     frame(&mut cells, bytes);
     send(link, &cells[..4 + bytes.len()])
 }
 
-/// Puts a record of few octets and its header to the front.
+/// Puts a record and its header to the front.
 fn frame(cells: &mut [u8], bytes: &[u8])
-    requires few { length bytes.now ≤ 252 }
-    requires room { length cells.old ≡ 256 }
+    requires room { 4 + length bytes.now ≤ length cells.old }
+    requires small { length cells.old ≤ 8192 }
     ensures { take (4 + length bytes.now) cells.new ≡ last_fragment bytes.now }
 {
     cells[..4].copy_from_slice(&header_of(bytes.len()));

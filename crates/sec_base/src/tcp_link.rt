@@ -22,9 +22,13 @@ impl TcpLink {
         TcpLink::over(TcpStream::connect(rt, address).ok())
     }
 
+    /// A link over a connection that was made. What is written goes out at once: no octets wait for more behind them.
     pub(crate) fn over(stream: Option<TcpStream>) -> TcpLink
         ensures { ⟦<TcpLink as Link>⟧.closed result ≡ false }
     {
+        if let Some(stream) = &stream {
+            let _ = stream.set_nodelay(true);
+        }
         TcpLink {
             stream,
             faults: 0,
