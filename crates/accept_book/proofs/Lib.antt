@@ -8,3 +8,5 @@ pub mod HonestRecords
 pub mod HonestMakings
 pub mod Contexts
 pub mod Changes
+pub mod Founds
+pub mod Fixings

@@ -9,6 +9,8 @@ pub mod Looking
 pub mod Examples
 pub mod Stepping
 pub mod Booking
+pub mod Found
+pub mod BookLaws
 pub mod Phases
 pub mod Naming
 pub mod Statuses

@@ -1,5 +1,6 @@
 //! Laws over all legal histories.
 ghost use Rattle.accept_book.specs.Asking.{AsksLaws};
+ghost use Rattle.accept_book.specs.BookLaws.{BookLaws};
 ghost use Rattle.accept_book.specs.Examples.{Examples};
 ghost use Rattle.accept_book.specs.Honest.{HonestLaw, HonestMade};
 ghost use Rattle.accept_book.specs.Once.{CallsOnce, MarksOnce};
@@ -7,6 +8,7 @@ ghost use Rattle.accept_book.specs.RuleExamples.{RulesByHand};
 
 use crate::book_answer::Lease;
 use krb_derive::SealKeys;
+use spnego_core::prove_accept_laws;
 
 /// No number of a context stands twice in a legal history.
 pub fn calls_once()
@@ -45,3 +47,11 @@ pub fn honest_records(lease: &Lease)
 pub fn made_calls_are_honest()
     ensures { HonestMade }
 {}
+
+/// Does nothing; its contract holds what a token's step hands out, finds verified and fixes: nothing where the token is refused; a context is fixed
+/// with one authenticator, by the request that was judged; what a lease, its entry and its context have is what was fixed; and good ends stay good.
+pub fn prove_book_laws()
+    ensures { BookLaws }
+{
+    prove_accept_laws();
+}
