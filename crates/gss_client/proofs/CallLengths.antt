@@ -1,7 +1,7 @@
 -- How long calls are.
-use Rattle.std.proofs.Common.{◌≡◌, ℕ, ◌+◌, ◌≤◌, Bool, true, List, [], ◌++◌, length, ap, ◌∙◌, refl, arith, Result, Ok, Err, IfOk}
+use Rattle.std.proofs.Common.{◌≡◌, ℕ, ◌+◌, ◌≤◌, Bool, true, List, ◌++◌, length, ap, ◌∙◌, refl, arith, Result, Ok, Err, IfOk}
 use Rattle.std.proofs.lemmas.List.{length-append}
-use Rattle.rpc_msgs.specs.Words.{word, opaque}
+use Rattle.rpc_msgs.specs.Words.{opaque}
 use Rattle.rpc_msgs.specs.Auths.{AuthValue}
 use Rattle.rpc_msgs.specs.Calls.{call_octets, secure_call}
 use Rattle.rpc_msgs.proofs.WordLengths.{length-word, length-opaque}

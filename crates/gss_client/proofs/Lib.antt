@@ -5,3 +5,7 @@ pub mod TalkSteps
 pub mod NoFaults
 pub mod Nearer
 pub mod ResultStands
+pub mod AnyCount
+pub mod InConversation
+pub mod Texts
+pub mod WholeTalk

@@ -1,5 +1,5 @@
 -- Each step of a negotiating end leads to one that takes fewer replies.
-use Rattle.std.proofs.Common.{◌≡◌, subst, ℕ, ◌<◌, Bool, true, false, not, cond, List, [], ◌∷◌, refl, sym, ◌∙◌, arith, Option, Some, None, Result, Ok, Err}
+use Rattle.std.proofs.Common.{◌≡◌, subst, ℕ, ◌<◌, Bool, true, false, not, cond, List, [], ◌∷◌, arith, Option, Some, None, Result, Ok, Err}
 use Rattle.gss_base.specs.declared.mech.MechKind.{MechKind}
 use Rattle.gss_base.specs.Mech.{mech_of}
 use Rattle.ap_exchange.specs.declared.refusal.ApRefusal.{ApRefusal}
@@ -22,13 +22,13 @@ use Rattle.spnego_core.specs.declared.refusal.NegRefusal.{NegRefusal}
 use Rattle.spnego_core.specs.declared.refusal.NegRefusal.TheVariants.{Defective, Rejected, MechNotMine, MicMissing, MicBad}
 use Rattle.krb_tokens.specs.declared.end.Side.TheVariants.{Initiator}
 use Rattle.spnego_core.specs.declared.setup.MechCred.{MechCred}
-use Rattle.spnego_core.specs.InitMech.{MechBegun, MechReplied, reply_answered, init_taken, init_begun, cred_for, kinds_of}
+use Rattle.spnego_core.specs.InitMech.{MechBegun, reply_answered, init_taken, init_begun, cred_for, kinds_of}
 use Rattle.ap_exchange.specs.Reply.{reply_taken, reply_found}
 use Rattle.spnego_core.specs.Choice.{is_first}
 use Rattle.spnego_core.specs.ListMic.{is_list_mic, mic_found}
 use Rattle.spnego_core.specs.Steps.{◌>>=◌, due, or_refuse}
 use Rattle.spnego_core.specs.Tokens.{resp_read, last_read, says_completed, rejects}
-use Rattle.spnego_core.specs.Initiating.{Initiated, step_of, behind, ended, looks, is_mic_owed, completes_now, completes_later, own_list, own_kind, is_chosen, told, ran, run, switched, begins_other, switches, talk_with, picks, opened, talk_after, talked, settles, looks_again, closed, init_step}
+use Rattle.spnego_core.specs.Initiating.{Initiated, step_of, behind, ended, looks, is_mic_owed, completes_now, completes_later, own_list, own_kind, is_chosen, ran, run, switched, begins_other, switches, talk_with, picks, opened, talk_after, talked, settles, looks_again, closed, init_step}
 use Rattle.gss_client.specs.Rank.{replies_left, IsNearer}
 
 Nears : ℕ → Result Initiated NegRefusal → Type 0

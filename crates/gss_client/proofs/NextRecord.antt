@@ -1,5 +1,5 @@
 -- The next record of a stream, however it was cut.
-use Rattle.std.proofs.Common.{◌≡◌, inl, inr, ℕ, zero, suc, ◌+◌, ◌-◌, ◌%◌, ◌<◌, ◌≤◌, ◌^◌, List, [], ◌∷◌, ◌++◌, length, take, drop, refl, ap, sym, ◌∙◌, arith, append_assoc, true, false, ltb, lit≤}
+use Rattle.std.proofs.Common.{◌≡◌, inl, inr, ℕ, zero, suc, ◌+◌, ◌-◌, ◌%◌, ◌<◌, ◌≤◌, ◌^◌, List, [], ◌∷◌, ◌++◌, length, take, drop, refl, ap, sym, ◌∙◌, arith, append_assoc, true, false, ltb}
 use Rattle.std.proofs.Math.Seq.{drop-append_seam, take-append_seam}
 use Rattle.std.proofs.lemmas.Bool.Decides.{nat_tests}
 use Rattle.std.proofs.lemmas.Nat.{from_be_bytes-to_be_bytes_4}
@@ -7,7 +7,7 @@ use Rattle.std.proofs.lemmas.List.{length-append, append-nil}
 use Rattle.rpc_msgs.specs.Words.{word}
 use Rattle.rpc_msgs.specs.Records.{more_fragment, last_fragment, frames, joined, Fragments, octets_in, frame, IsRecord, IsTooLong, IsTooMany, IsPartial, IsTorn}
 use Rattle.rpc_msgs.proofs.WordLengths.{length-word}
-use Rattle.gss_client.specs.Hearing.{Heard, whole, ended, unfit, header_at, announced, fragment_at, behind_fragment, record_from, next_of}
+use Rattle.gss_client.specs.Hearing.{whole, ended, unfit, header_at, announced, record_from, next_of}
 
 header-is : (header : ℕ) (octets : List ℕ) → header < 2 ^ 32 → header_at (word header ++ octets) ≡ header
 unfolding word

@@ -1,6 +1,6 @@
 -- No judgement of a reply is a fault of the link.
 use Rattle.std.specs.Prelude.{◌==◌, nat_le, not}
-use Rattle.std.proofs.Common.{◌≡◌, length, ◌≢◌, ℕ, Bool, true, false, List, refl, ap, sym, ◌∙◌, Result, Ok, Err, IsErrOf}
+use Rattle.std.proofs.Common.{◌≡◌, length, ◌≢◌, ℕ, Bool, true, false, List, sym, ◌∙◌, Result, Ok, Err, IsErrOf}
 use Rattle.sec_base.specs.Answers.{Gives}
 use Rattle.krb_tokens.specs.declared.end.TokenEnd.{TokenEnd}
 use Rattle.rpc_msgs.specs.Replies.{ReplyValue, accepted, mismatch, auth_error}
@@ -33,7 +33,7 @@ use Rattle.gss_client.specs.declared.refusal.Denial.TheVariants.{Rpc, Auth, Acce
 use Rattle.gss_client.specs.declared.refusal.Denial.{Denial}
 use Rattle.gss_client.specs.declared.refusal.ReplyWhy.{ReplyWhy}
 use Rattle.gss_client.specs.declared.refusal.ReplyWhy.TheVariants.{Form, Xid, Verifier, Steps, Width, Body, Number}
-use Rattle.gss_client.specs.Judging.{AnswerValue, GrantedValue, ◌>>=◌, due, xid_of, place_of, formed, granted, answer_in, is_verified, succeeded, placed, granted_in, negotiated, by_step, creation_step, verified_in, or_body, or_number, numbered, checked_result, sealed_result, body_result, call_result, destroyed_in}
+use Rattle.gss_client.specs.Judging.{AnswerValue, GrantedValue, ◌>>=◌, due, xid_of, place_of, formed, granted, answer_in, is_verified, placed, granted_in, negotiated, by_step, creation_step, verified_in, or_body, or_number, numbered, checked_result, sealed_result, body_result, call_result, destroyed_in}
 
 NoFault : {A : Type 0} → Result A ClientRefusal → Type 0
 NoFault (Ok x) = Unit {0}

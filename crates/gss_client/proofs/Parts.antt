@@ -1,11 +1,10 @@
 -- Parts of a talk, one after the other.
-use Rattle.std.proofs.Common.{◌≡◌, ◌≢◌, inl, inr, ℕ, List, [], ◌∷◌, ◌++◌, length, take, drop, refl, ap, sym, ◌∙◌, arith, append_assoc, Result, Ok, Err, Option, Some, None}
+use Rattle.std.proofs.Common.{◌≡◌, ◌≢◌, ℕ, List, [], ◌++◌, take, drop, refl, ap, sym, ◌∙◌, append_assoc, Result, Ok, Err}
 use Rattle.std.proofs.lemmas.List.{append-nil, take-append-drop}
-use Rattle.std.proofs.lemmas.Grind.{common_steps}
 use Rattle.sec_base.specs.Link.{Wire}
 use Rattle.sec_base.specs.Answers.{Gives}
-use Rattle.rpc_msgs.specs.Records.{last_fragment, TakesRecord, IsTooLong, IsTooMany, IsTorn, Fragments, octets_in, frame, IsRecord}
-use Rattle.rpc_msgs.specs.Streams.{Took, Put, Sends}
+use Rattle.rpc_msgs.specs.Records.{last_fragment, IsTooLong, IsTooMany, IsTorn, Fragments, octets_in, frame, IsRecord}
+use Rattle.rpc_msgs.specs.Streams.{Took, Put}
 use Rattle.gss_client.specs.declared.refusal.ClientRefusal.{ClientRefusal}
 use Rattle.gss_client.specs.declared.refusal.ClientRefusal.TheVariants.{LinkFault, PeerEnded, BadReply, NoMemory}
 use Rattle.gss_client.specs.declared.refusal.ReplyWhy.TheVariants.{Record}

@@ -3,8 +3,6 @@ use Rattle.std.specs.Prelude.{◌==◌, ◌&&◌, is_ok}
 use Rattle.std.proofs.Common.{◌≡◌, ℕ, Bool, true, false, List, length, refl, ap, sym, ◌∙◌, subst, eqb-true, Result, Ok, Err}
 use Rattle.krb_tokens.specs.declared.end.Side.TheVariants.{Initiator}
 use Rattle.krb_tokens.specs.declared.end.TokenEnd.{TokenEnd}
-use Rattle.krb_tokens.specs.declared.end.TokenRefusal.{TokenRefusal}
-use Rattle.krb_tokens.specs.declared.wrap.Unwrapped.{Unwrapped}
 use Rattle.krb_tokens.specs.Mic.{checked_mic}
 use Rattle.krb_tokens.specs.Wrap.{unwrapped}
 use Rattle.rpc_msgs.specs.Replies.{ReplyValue, accepted, mismatch, auth_error}

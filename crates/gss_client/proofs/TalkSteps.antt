@@ -1,12 +1,12 @@
 -- The steps of a session, each by its exchange and the judgement of its reply.
-use Rattle.std.proofs.Common.{◌≡◌, ◌≢◌, ℕ, zero, suc, ◌-◌, ◌<◌, List, [], ◌++◌, refl, ap, subst, sym, ◌∙◌, arith, Result, Ok, Err}
+use Rattle.std.proofs.Common.{◌≡◌, ◌≢◌, ℕ, zero, suc, ◌-◌, ◌<◌, List, [], refl, ap, subst, sym, ◌∙◌, arith, Result, Ok, Err}
 use Rattle.sec_base.specs.Link.{Wire}
 use Rattle.sec_base.specs.Answers.{Gives}
 use Rattle.gss_client.specs.declared.creation.Created.{Created}
 use Rattle.gss_client.specs.declared.creation.Created.TheVariants as created
 use Rattle.gss_client.specs.declared.creation.Offer.{Offer}
 use Rattle.gss_client.specs.declared.refusal.ClientRefusal.{ClientRefusal}
-use Rattle.gss_client.specs.declared.refusal.ClientRefusal.TheVariants.{LinkFault, Negotiation, NoMemory}
+use Rattle.gss_client.specs.declared.refusal.ClientRefusal.TheVariants.{Negotiation, NoMemory}
 use Rattle.gss_client.specs.declared.service.Service.{Service}
 use Rattle.gss_client.specs.declared.start.Start.{Start}
 use Rattle.gss_client.specs.Rank.{replies_left}
@@ -20,7 +20,7 @@ use Rattle.gss_client.specs.Exchanging.{Done, Stopped, Talks}
 use Rattle.gss_client.specs.Judging.{creation_step, result_taken, destroyed_in}
 use Rattle.gss_client.specs.Session.{SessionState, xid_after}
 use Rattle.gss_client.specs.Talk.{turns, begun, by_turn, creates, begins, created_from, calls, destroys}
-use Rattle.gss_client.specs.Talking.{Said, Talking, ◌>>=◌, judges, exchanges}
+use Rattle.gss_client.specs.Talking.{Talking, ◌>>=◌, judges, exchanges}
 use Rattle.gss_client.proofs.Parts.{went-nothing, stopped-first, talks-then, talks-judged}
 
 as-given : {A : Type 0} (r answer : Result A ClientRefusal) → r ≡ answer → Gives NoMemory (λ x. x) r answer

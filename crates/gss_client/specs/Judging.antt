@@ -2,8 +2,6 @@
 use Rattle.std.specs.Prelude.{ℕ, ◌-◌, Bool, not, ◌==◌, ◌&&◌, nat_le, if◌then◌else◌, is_ok, List, length, Result, Ok, Err}
 use Rattle.krb_tokens.specs.declared.end.Side.TheVariants.{Initiator}
 use Rattle.krb_tokens.specs.declared.end.TokenEnd.{TokenEnd}
-use Rattle.krb_tokens.specs.declared.end.TokenRefusal.{TokenRefusal}
-use Rattle.krb_tokens.specs.declared.wrap.Unwrapped.{Unwrapped}
 use Rattle.krb_tokens.specs.Mic.{checked_mic}
 use Rattle.krb_tokens.specs.Wrap.{unwrapped}
 use Rattle.rpc_msgs.specs.Words.{word}

@@ -1,5 +1,5 @@
--- What stands behind a result.
-use Rattle.std.specs.Prelude.{◌≡◌, ℕ, true, List, Result, Ok}
+-- What stands behind a result, and how many turns a creation takes.
+use Rattle.std.specs.Prelude.{◌≡◌, ◌≤◌, ℕ, true, List, Ok}
 use Rattle.krb_tokens.specs.declared.end.Side.TheVariants.{Initiator}
 use Rattle.krb_tokens.specs.declared.end.TokenEnd.{TokenEnd}
 use Rattle.krb_tokens.specs.Mic.{checked_mic}
@@ -10,10 +10,13 @@ use Rattle.rpc_msgs.specs.Words.{word}
 use Rattle.rpc_msgs.specs.Xdr.{Input, whole, word_at}
 use Rattle.rpcsec_msgs.specs.Bodies.{checked_at, sealed_at}
 use Rattle.spnego_core.specs.Outcome.{token_end}
+use Rattle.gss_client.specs.declared.creation.Offer.{Offer}
 use Rattle.gss_client.specs.declared.service.Service.{Service}
 use Rattle.gss_client.specs.declared.service.Service.TheVariants as services
 use Rattle.gss_client.specs.Judging.{result_taken}
+use Rattle.gss_client.specs.Rank.{replies_left}
 use Rattle.gss_client.specs.Session.{SessionState}
+use Rattle.gss_client.specs.Talk.{creates}
 
 -- a databody is this number, and the result behind it
 pub record IsNumbered (number : ℕ) (databody result : List ℕ) : Type 0 where
@@ -54,3 +57,7 @@ pub record StandsIn (s : SessionState) (octets result : List ℕ) : Type 0 where
 
 abbrev pub ResultLaw : Type 0
 ResultLaw = (s next : SessionState) (octets result : List ℕ) → result_taken s octets ≡ Ok (next, result) → StandsIn s octets result
+
+-- a creation that is begun with as many turns as its end takes replies is the same by every greater count: it never ends for want of turns
+abbrev pub CountLaw : Type 0
+CountLaw = (left : ℕ) (service : Service) (first xid proc : ℕ) (offer : Offer) (stream : List ℕ) → replies_left offer.end ≤ left → creates left service first xid proc offer stream ≡ creates (replies_left offer.end) service first xid proc offer stream

@@ -1,8 +1,11 @@
 pub mod Calling
+pub mod Conversation
+pub mod Conversing
 pub mod Exchanging
 pub mod Hearing
 pub mod Judging
 pub mod Laws
+pub mod Procedure
 pub mod Rank
 pub mod Session
 pub mod Talk

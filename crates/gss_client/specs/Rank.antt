@@ -1,5 +1,5 @@
 -- How many replies a negotiating end may still take.
-use Rattle.std.specs.Prelude.{ℕ, ◌<◌, Result, Ok, Err}
+use Rattle.std.specs.Prelude.{ℕ, ◌<◌}
 use Rattle.spnego_core.specs.declared.init_end.InitEnd.{InitEnd}
 use Rattle.spnego_core.specs.declared.init_end.InitEnd.TheVariants as ends
 use Rattle.spnego_core.specs.declared.init_end.InitStep.{InitStep}

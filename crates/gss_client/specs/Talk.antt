@@ -1,13 +1,11 @@
 -- A client's talk: from its start, its calls and the octets that it hears to what it writes, its outcome, its results and its end.
-use Rattle.std.specs.Prelude.{ℕ, zero, suc, ◌<◌, ◌≤◌, nat_lt, if◌then◌else◌, List, [], ◌∷◌, ◌++◌, Option, Some, None, Result, Ok, Err}
-use Rattle.spnego_core.specs.declared.init_end.InitEnd.{InitEnd}
+use Rattle.std.specs.Prelude.{ℕ, zero, suc, List, [], Result, Ok, Err}
 use Rattle.spnego_core.specs.declared.outcome.Outcome.{Outcome}
 use Rattle.spnego_core.specs.declared.refusal.NegRefusal.{NegRefusal}
 use Rattle.spnego_core.specs.Initiating.{Started, init_start}
 use Rattle.gss_client.specs.declared.creation.Created.{Created}
 use Rattle.gss_client.specs.declared.creation.Created.TheVariants as created
 use Rattle.gss_client.specs.declared.creation.Offer.{Offer}
-use Rattle.gss_client.specs.declared.refusal.ClientRefusal.{ClientRefusal}
 use Rattle.gss_client.specs.declared.refusal.ClientRefusal.TheVariants.{Negotiation, BadReply}
 use Rattle.gss_client.specs.declared.refusal.ReplyWhy.TheVariants.{Steps}
 use Rattle.gss_client.specs.declared.service.Service.{Service}
@@ -16,7 +14,7 @@ use Rattle.gss_client.specs.Calling.{creation_call, data_call, destroy_call}
 use Rattle.gss_client.specs.Judging.{creation_step, result_taken, destroyed_in}
 use Rattle.gss_client.specs.Rank.{replies_left}
 use Rattle.gss_client.specs.Session.{SessionState, xid_after}
-use Rattle.gss_client.specs.Talking.{Said, Talking, said, after, ◌>>=◌, judges, exchanges}
+use Rattle.gss_client.specs.Talking.{Talking, ◌>>=◌, judges, exchanges}
 
 -- ---- creation
 
@@ -34,7 +32,8 @@ abbrev pub by_turn : Service → ℕ → ℕ → (Offer → Talking SessionState
 by_turn service first xid next (created.Going offer) = next offer
 by_turn service first xid next (created.Stands outcome handle) = judges (Ok (begun service first (xid_after xid) outcome handle))
 
--- turn after turn, of which so many may still come; it is begun with as many as the end takes replies, so that there is always one left
+-- turn after turn, of which so many may still come. It is begun with as many as the end takes replies, and is the same for any greater count, so that
+-- there is always one left.
 unfoldable pub creates : ℕ → Service → ℕ → ℕ → ℕ → Offer → Talking SessionState
 creates zero service first xid proc offer = judges (Err (BadReply Steps))
 creates (suc left) service first xid proc offer = do

@@ -67,6 +67,7 @@ fn establish<L: Link>(
     requires unclosed { L.closed link.old ≡ false }
     requires fits { FitsOffer offer }
     requires enough { replies_left offer.end ≤ left }
+    requires last { first ≤ 0x7fffffff }
     ensures told { IsTrue (L.tells link.old) → Talks (creates left service first xid proc offer) (L.wire link.old) (L.wire link.new) result }
     ensures fault { IsErrOf result ClientRefusal.LinkFault → Rose (L.faults link.old) (L.faults link.new) }
     ensures tells { L.tells link.new ≡ L.tells link.old }
@@ -118,6 +119,8 @@ impl Session {
     ) -> Result<Session, ClientRefusal>
         requires unclosed { L.closed link.old ≡ false }
         requires list { is_own_list start.setup.list ≡ true }
+        requires first { 1 ≤ start.first }
+        requires last { start.first ≤ 0x7fffffff }
         ensures told { IsTrue (L.tells link.old) → Talks (created_from start) (L.wire link.old) (L.wire link.new) result }
         ensures fault { IsErrOf result ClientRefusal.LinkFault → Rose (L.faults link.old) (L.faults link.new) }
         ensures tells { L.tells link.new ≡ L.tells link.old }

@@ -3,10 +3,12 @@
 
 mod answer;
 mod calling;
+mod conversation;
 mod creation;
 mod establish;
 mod exchange;
 mod laws;
+mod procedure;
 mod refusal;
 mod results;
 mod service;
@@ -15,7 +17,9 @@ mod start;
 #[cfg(test)]
 mod tests;
 
-pub use laws::prove_result_law;
+pub use conversation::{Conversation, Parting, Talk};
+pub use laws::{prove_count_law, prove_result_law};
+pub use procedure::{Procedure, opaque_alone};
 pub use refusal::{ClientRefusal, Denial, ReplyWhy};
 pub use service::Service;
 pub use session::Session;

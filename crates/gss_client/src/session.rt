@@ -35,7 +35,7 @@ impl Model for Session {
 
     ghost view = { λ s. record { outcome = s.outcome; service = s.service; handle = s.handle; number = s.number; xid = s.xid } };
 
-    ghost invariant = { λ s. length s.handle ≤ 64 };
+    ghost invariant = { λ s. (length s.handle ≤ 64) × (s.number ≤ 0x80000000) };
 }
 
 /// The transaction number after this one.
@@ -53,9 +53,10 @@ impl Session {
         &self.outcome
     }
 
-    /// The number of the next call.
+    /// The number of the next call: after the call of number 0x7fffffff it is 0x80000000, and no call is left.
     pub fn next_number(&self) -> u32
-        ensures { result ≡ self.now.number }
+        ensures value { result ≡ self.now.number }
+        ensures last { result ≤ 0x80000000 }
     {
         self.number
     }

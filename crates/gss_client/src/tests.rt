@@ -1,10 +1,16 @@
 //! Sessions against the replies of another implementation.
 
-use crate::{ClientRefusal, Denial, ReplyWhy, Service, Session, Start};
+ghost use Rattle.std.specs.Prelude.{◌≡◌, IfOk, true};
+ghost use Rattle.spnego_core.specs.InitMech.{is_own_list};
+
+use crate::{
+    ClientRefusal, Denial, Parting, Procedure, ReplyWhy, Service, Session, Start, Talk,
+    opaque_alone,
+};
 use gss_base::Principal;
 use krb_derive::{Etype, Key};
 use krb_files::Credential;
-use sec_base::{Items, MemLink, Moment, Octets};
+use sec_base::{Items, MemDraw, MemLink, Moment, Octets};
 use sha1::Sha1;
 use spnego_core::{InitSetup, MechCred, NegRefusal};
 use std::alloc::Global;
@@ -54,11 +60,11 @@ fn draws() -> [u8; 66] {
     draws
 }
 
-/// What comes of a creation over a link.
-fn create(alloc: Global, link: &mut MemLink) -> Result<Result<Session, ClientRefusal>, Fail> {
-    if link.is_closed() {
-        return Err(Fail::from("an open link"));
-    }
+/// What a session by integrity is begun with.
+fn start(alloc: Global) -> Result<Start, Fail>
+    ensures list { IfOk result (λ start. is_own_list start.setup.list ≡ true) }
+    ensures first { IfOk result (λ start. start.first ≡ 1) }
+{
     let list = vec![in alloc; MechCred::Kerberos(credential(alloc)?)]?;
     let setup = InitSetup {
         list: Items::of(list),
@@ -66,12 +72,30 @@ fn create(alloc: Global, link: &mut MemLink) -> Result<Result<Session, ClientRef
         stamp: Moment::new(1_000_000, 0).ok_or("a moment")?,
         draws: draws(),
     };
-    let start = Start {
+    Ok(Start {
         setup,
         service: Service::Integrity,
         first: 1,
-    };
+    })
+}
+
+/// What comes of a creation over a link.
+fn create(alloc: Global, link: &mut MemLink) -> Result<Result<Session, ClientRefusal>, Fail> {
+    if link.is_closed() {
+        return Err(Fail::from("an open link"));
+    }
+    let start = start(alloc)?;
     Ok(Session::create(alloc, link, start))
+}
+
+/// What comes of a session of two calls over a link.
+fn hold(alloc: Global, link: &mut MemLink, procedure: Procedure) -> Result<Talk, Fail> {
+    if link.is_closed() {
+        return Err(Fail::from("an open link"));
+    }
+    let start = start(alloc)?;
+    let mut draw = MemDraw::new(Vec::new(alloc));
+    Ok(Session::hold(alloc, link, &mut draw, start, procedure, &[], 2))
 }
 
 /// A link with these octets to come, whose calls of these numbers fail.
@@ -113,6 +137,30 @@ fn session_of_two_calls(rt: HostRuntime) -> Result<(), Fail> {
     assert!(rt; !link.is_closed());
     assert!(rt; session.destroy(alloc, &mut link).is_ok());
     assert_eq!(rt; sha1(link.written()), written());
+    Ok(())
+}
+
+#[test]
+fn whole_session(rt: HostRuntime) -> Result<(), Fail> {
+    let alloc = rt.alloc();
+    let mut link = link(alloc, replies(), &[])?;
+    let talk = hold(alloc, &mut link, Procedure::Whoami)?;
+    assert_eq!(rt; talk.parting, Parting::Finished);
+    assert!(rt; talk.results.len() == 2);
+    let outcome = talk.outcome.ok_or("an outcome")?;
+    assert_eq!(rt; outcome.initiator.text(), "alice@R");
+    assert_eq!(rt; sha1(link.written()), written());
+    Ok(())
+}
+
+#[test]
+fn name_is_no_count(rt: HostRuntime) -> Result<(), Fail> {
+    let alloc = rt.alloc();
+    let mut link = link(alloc, replies(), &[])?;
+    let talk = hold(alloc, &mut link, Procedure::Count)?;
+    assert_eq!(rt; talk.parting, Parting::Foreign);
+    assert!(rt; talk.results.is_empty());
+    assert!(rt; opaque_alone(7, b"\x00\x00\x00\x07alice@R\x00").is_ok());
     Ok(())
 }
 

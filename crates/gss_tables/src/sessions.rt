@@ -1,6 +1,6 @@
 //! A session of a client over a stream of replies.
 
-ghost use Rattle.std.specs.Prelude.{◌≡◌, IfSome, true};
+ghost use Rattle.std.specs.Prelude.{◌≡◌, ◌≤◌, IfSome, true};
 ghost use Rattle.spnego_core.specs.InitMech.{is_own_list};
 
 use crate::cells::{add, cell, octets};
@@ -23,9 +23,14 @@ fn service(said: &str) -> Option<Service> {
 
 /// What a session is begun with, by the cells of service and first number.
 fn begin(alloc: Global, setting: &Setting, said: &str, first: &str) -> Option<Start>
-    ensures { IfSome result (λ start. is_own_list start.setup.list ≡ true) }
+    ensures list { IfSome result (λ start. is_own_list start.setup.list ≡ true) }
+    ensures first { IfSome result (λ start. 1 ≤ start.first) }
+    ensures last { IfSome result (λ start. start.first ≤ 0x7fffffff) }
 {
     let first = first.parse::<u32>().ok()?;
+    if first == 0 || first > 0x7fff_ffff {
+        return None;
+    }
     let own = setting.credential(alloc)?;
     Some(Start {
         setup: initiator(alloc, own, Moment::new(1_000_000, 0)?)?,
@@ -110,7 +115,9 @@ fn followed(
 
 /// The outcome of a session, what its calls answer and its end.
 fn talked(alloc: Global, link: &mut MemLink, start: Start, calls: &str) -> Option<String>
-    requires { is_own_list start.setup.list ≡ true }
+    requires list { is_own_list start.setup.list ≡ true }
+    requires first { 1 ≤ start.first }
+    requires last { start.first ≤ 0x7fffffff }
 {
     if link.is_closed() {
         return None;

@@ -1,7 +1,4 @@
-use Rattle.std.proofs.Common.{◌≡◌, ◌<◌, IsTrue, arith, subst, ℕ}
-use Rattle.gss_client.specs.Exchanging.{Talks, Done}
-use Rattle.gss_client.specs.Session.{xid_after}
-use Rattle.gss_client.specs.Talk.{creates, begun}
+use Rattle.std.proofs.Common.{IsTrue, arith}
 use Rattle.gss_client.proofs.TalkSteps.{established-on, established, unestablished}
 use Rattle.gss_client.proofs.establish.+establish.Goals as goal
 

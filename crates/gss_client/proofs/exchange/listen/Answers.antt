@@ -1,4 +1,3 @@
-use Rattle.std.proofs.Common.{◌≡◌, ◌∙◌}
 use Rattle.gss_client.proofs.Parts.{heard-whole, heard-end, heard-torn, heard-long, heard-many, heard-fault, heard-memory}
 use Rattle.gss_client.proofs.exchange.listen.Goals as goal
 

@@ -1,4 +1,3 @@
-use Rattle.std.proofs.Common.{◌≡◌}
 use Rattle.gss_client.proofs.TalkSteps.{started, unstarted}
 use Rattle.gss_client.proofs.session.Session.create.Goals as goal
 
