@@ -1,0 +1,5 @@
+pub mod Credentials
+pub mod Endings
+pub mod Lines
+pub mod Runs
+pub mod Words

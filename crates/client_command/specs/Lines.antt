@@ -1,0 +1,59 @@
+-- What the client prints: the context, then each result.
+use Rattle.std.specs.Prelude.{ℕ, List, [], ◌∷◌, ◌++◌, codes, Option, Some, None, Result, Ok, Err}
+use Rattle.std.specs.Fmt.{decimal}
+use Rattle.gss_base.specs.declared.mech.MechKind.{MechKind}
+use Rattle.gss_base.specs.declared.mech.MechKind.TheVariants as kinds
+use Rattle.hex.specs.Hex.{encode_lower}
+use Rattle.rpc_msgs.specs.Xdr.{Input, whole, word_at}
+use Rattle.rpc_msgs.specs.declared.xdr_reader.XdrRefusal.{XdrRefusal}
+use Rattle.spnego_core.specs.declared.outcome.Outcome.{Outcome}
+use Rattle.gss_client.specs.Procedure.{opaque_alone}
+use Rattle.gss_client.specs.declared.procedure.Procedure.{Procedure}
+use Rattle.gss_client.specs.declared.procedure.Procedure.TheVariants.{Null, Echo, Whoami, Post, Count}
+
+abbrev pub mech_word : MechKind → List ℕ
+mech_word kinds.Kerberos = codes "krb5"
+mech_word kinds.Scram = codes "scram"
+
+-- `-` for an empty name
+abbrev pub name_word : List ℕ → List ℕ
+name_word [] = codes "-"
+name_word (octet ∷ octets) = octet ∷ octets
+
+-- `MECH INITIATOR ACCEPTOR`
+abbrev pub outcome_line : Outcome → List ℕ
+outcome_line outcome =
+    mech_word outcome.mech ++ (codes " " ++ (name_word outcome.initiator ++ (codes " " ++ (name_word outcome.acceptor ++ codes "\n"))))
+
+abbrev pub context_line : Option Outcome → List ℕ
+context_line None = []
+context_line (Some outcome) = outcome_line outcome
+
+-- octets in lower-case hexadecimal
+abbrev pub hex_line : Result (List ℕ) XdrRefusal → List ℕ
+hex_line (Ok octets) = encode_lower octets ++ codes "\n"
+hex_line (Err refusal) = []
+
+abbrev pub text_line : Result (List ℕ) XdrRefusal → List ℕ
+text_line (Ok text) = text ++ codes "\n"
+text_line (Err refusal) = []
+
+abbrev pub number_line : Result (ℕ × Input) XdrRefusal → List ℕ
+number_line (Ok read) = decimal read.0 ++ codes "\n"
+number_line (Err refusal) = []
+
+-- a result of this procedure; octets that are none have no line
+abbrev pub result_line : Procedure → List ℕ → List ℕ
+result_line Null octets = codes "ok\n"
+result_line Echo octets = hex_line (opaque_alone 65536 octets)
+result_line Whoami octets = text_line (opaque_alone 1024 octets)
+result_line Post octets = number_line (word_at (whole octets))
+result_line Count octets = number_line (word_at (whole octets))
+
+abbrev pub result_lines : Procedure → List (List ℕ) → List ℕ
+result_lines procedure [] = []
+result_lines procedure (octets ∷ results) = result_line procedure octets ++ result_lines procedure results
+
+-- what is printed of a session with this outcome and these results
+abbrev pub lines : Procedure → Option Outcome → List (List ℕ) → List ℕ
+lines procedure outcome results = context_line outcome ++ result_lines procedure results

@@ -1,0 +1,109 @@
+-- The run of the client.
+use Rattle.std.specs.Prelude.{◌≡◌, ◌≢◌, ◌⊎◌, ℕ, Bool, IsTrue, List, [], ◌∷◌, ◌++◌, length, Option, Some, None, Result, Ok, Err}
+use Rattle.sec_base.specs.Link.{Wire}
+use Rattle.sec_base.specs.declared.shelf.NamedFile.{NamedFile}
+use Rattle.gss_base.specs.Principal.{text_form}
+use Rattle.krb_files.specs.Granted.{Granted}
+use Rattle.spnego_core.specs.declared.outcome.Outcome.{Outcome}
+use Rattle.spnego_core.specs.declared.setup.MechCred.TheVariants as creds
+use Rattle.gss_client.specs.Conversation.{Talk, talk}
+use Rattle.gss_client.specs.Conversing.{IsFront, IsTalkFront}
+use Rattle.gss_client.specs.Exchanging.{Went}
+use Rattle.gss_client.specs.declared.conversation.Parting.{Parting}
+use Rattle.gss_client.specs.declared.procedure.Procedure.{Procedure}
+use Rattle.gss_client.specs.declared.procedure.Procedure.TheVariants.{Null}
+use Rattle.gss_client.specs.declared.start.Start.{Start}
+use Rattle.client_command.specs.Credentials.{granted_from}
+use Rattle.client_command.specs.Endings.{end_of}
+use Rattle.client_command.specs.Words.{words_of}
+use Rattle.client_command.specs.declared.ending.RunEnd.{RunEnd}
+use Rattle.client_command.specs.declared.ending.RunEnd.TheVariants.{LinkFault, NoMemory}
+use Rattle.client_command.specs.declared.words.ClientWords.{ClientWords}
+use Rattle.client_command.specs.declared.words.Plan.{Plan}
+use Rattle.client_command.specs.declared.words.WordsRefusal.{WordsRefusal}
+
+-- ---- what the words name
+
+-- the name of the cache's file, and the text form of the server; none where the words aren't in the command
+abbrev pub file_of : Result ClientWords WordsRefusal → List ℕ
+file_of (Ok words) = words.ccache
+file_of (Err refusal) = []
+
+abbrev pub server_of : Result ClientWords WordsRefusal → List ℕ
+server_of (Ok words) = text_form words.server.realm words.server.parts
+server_of (Err refusal) = []
+
+-- the procedure whose results are printed; without one there are none
+abbrev pub procedure_of : Result ClientWords WordsRefusal → Procedure
+procedure_of (Ok words) = words.plan.procedure
+procedure_of (Err refusal) = Null
+
+-- ---- the session
+
+-- what a session is begun with: the plan of the words, the credential for their server, a moment as stamp, and 66 random octets
+abbrev pub start_of : Plan → Granted → ℕ → List ℕ → Start
+start_of plan granted stamp draws = record {
+  setup = record { list = creds.Kerberos granted ∷ []; bindings = plan.bindings; stamp = stamp; draws = draws };
+  service = plan.service;
+  first = plan.first;
+}
+
+-- the talk of the plan over a stream of octets, where its calls' confounders are the first of these octets
+abbrev pub planned : Plan → Granted → ℕ → List ℕ → List ℕ → List ℕ → Talk
+planned plan granted stamp draws confounders stream =
+    talk (start_of plan granted stamp draws) plan.times plan.procedure plan.args confounders stream
+
+-- this is what a talk wrote, agreed on and was answered, and the run ends as it did
+pub record IsWhole (wrote : List ℕ) (outcome : Option Outcome) (results : List (List ℕ)) (end : RunEnd) (t : Talk) : Type 0 where
+  pub written : t.written ≡ wrote
+  pub outcome_is : t.outcome ≡ outcome
+  pub results_are : t.results ≡ results
+  pub ends : end ≡ end_of t.parting
+
+-- what the clock and the source of random octets gave: one moment, 66 octets, and the calls' confounders
+pub record Drew (clock : Bool) (moments moments' : List ℕ) (draw : Bool) (given given' : List ℕ) (stamp : ℕ) (draws confounders : List ℕ) : Type 0 where
+  pub moment : IsTrue clock → moments' ≡ moments ++ stamp ∷ []
+  pub size : length draws ≡ 66
+  pub octets : IsTrue draw → given' ≡ given ++ (draws ++ confounders)
+
+-- the run held the session of its plan over a link that tells its octets: what it wrote, agreed on and was answered is its talk's, and it ends as the
+-- talk does; after a fault of the link or want of memory these are fronts of the talk's
+pub record Spoke (clock : Bool) (moments moments' : List ℕ) (draw : Bool) (given given' : List ℕ) (plan : Plan) (granted : Granted) (old new : Wire) (outcome : Option Outcome) (results : List (List ℕ)) (end : RunEnd) : Type 0 where
+  pub stamp : ℕ
+  pub draws : List ℕ
+  pub confounders : List ℕ
+  pub drew : Drew clock moments moments' draw given given' stamp draws confounders
+  pub took : List ℕ
+  pub wrote : List ℕ
+  pub went : Went old new took wrote
+  pub front : (later : List ℕ) → IsTalkFront wrote outcome results (planned plan granted stamp draws (confounders ++ later) (took ++ new.coming))
+  pub whole : end ≢ LinkFault → end ≢ NoMemory → (later : List ℕ) → IsWhole wrote outcome results end (planned plan granted stamp draws (confounders ++ later) (took ++ new.coming))
+
+-- the talk of the plan by what the devices gave ends so
+abbrev pub EndsSo : Bool → List ℕ → List ℕ → Bool → List ℕ → List ℕ → Plan → Granted → Wire → Wire → Parting → Type 0
+EndsSo clock moments moments' draw given given' plan granted old new parting =
+    (stamp : ℕ) (draws confounders took : List ℕ) → Drew clock moments moments' draw given given' stamp draws confounders → new.taken ≡ old.taken ++ took
+    → (planned plan granted stamp draws confounders (took ++ new.coming)).parting ≡ parting
+
+-- the file that the words name has the credential for their server, where the shelf tells it, and the session was held
+pub record HasHeld (asked : ClientWords) (shelf : Bool) (files : List NamedFile) (clock : Bool) (moments moments' : List ℕ) (draw : Bool) (given given' : List ℕ) (old new : Wire) (outcome : Option Outcome) (results : List (List ℕ)) (end : RunEnd) : Type 0 where
+  pub granted : Granted
+  pub found : IsTrue shelf → granted_from files asked.ccache asked.server ≡ Ok granted
+  pub spoke : Spoke clock moments moments' draw given given' asked.plan granted old new outcome results end
+
+-- the words are in the command, and the session was held
+pub record HasSpoken (words : List (List ℕ)) (shelf : Bool) (files : List NamedFile) (clock : Bool) (moments moments' : List ℕ) (draw : Bool) (given given' : List ℕ) (old new : Wire) (outcome : Option Outcome) (results : List (List ℕ)) (end : RunEnd) : Type 0 where
+  pub asked : ClientWords
+  pub read : words_of words ≡ Ok asked
+  pub held : HasHeld asked shelf files clock moments moments' draw given given' old new outcome results end
+
+-- nothing was written or read on the link, and there are no outcome and no results
+pub record IsSilent (old new : Wire) (outcome : Option Outcome) (results : List (List ℕ)) : Type 0 where
+  pub same : new ≡ old
+  pub none : outcome ≡ None
+  pub empty : results ≡ []
+
+-- what is returned of a session is what it came to; where there was no memory to print that, nothing is
+abbrev pub Reports : Option Outcome → List (List ℕ) → Parting → Option Outcome → List (List ℕ) → RunEnd → Type 0
+Reports outcome results parting outcome' results' end =
+    ((outcome' ≡ outcome) × (results' ≡ results) × (end ≡ end_of parting)) ⊎ ((outcome' ≡ None) × (results' ≡ []) × (end ≡ NoMemory))

@@ -1,0 +1,142 @@
+-- The words of the client, `ADDRESS COMMAND [ARG] [options]`: which are in its command, and what they ask for.
+use Rattle.std.specs.Prelude.{ℕ, ◌≤◌, Bool, true, false, ◌&&◌, ◌||◌, not, nat_eq, nat_lt, List, [], ◌∷◌, length, slice_get, codes, Option, Some, None, is_some, Result, Ok, Err, if◌then◌else◌}
+use lib.Pointwise.{pointwise}
+use Rattle.gss_base.specs.Name.{Name}
+use Rattle.gss_base.specs.Signs.{parsed}
+use Rattle.gss_base.specs.declared.principal.NameRefusal.{NameRefusal}
+use Rattle.gss_client.specs.declared.procedure.Procedure.{Procedure}
+use Rattle.gss_client.specs.declared.procedure.Procedure.TheVariants.{Null, Echo, Whoami, Post, Count}
+use Rattle.gss_client.specs.declared.service.Service.{Service}
+use Rattle.gss_client.specs.declared.service.Service.TheVariants as services
+use Rattle.cli_base.specs.Numbers.{number_in}
+use Rattle.cli_base.specs.Words.{are_words, value_of, first_word, plain_of}
+use Rattle.hex.specs.Hex.{decode_of}
+use Rattle.hex.specs.declared.error.FromHexError.{FromHexError}
+use Rattle.rpc_msgs.specs.Words.{opaque}
+use Rattle.client_command.specs.declared.words.Asked.{Asked}
+use Rattle.client_command.specs.declared.words.ClientWords.{ClientWords}
+use Rattle.client_command.specs.declared.words.Plan.{Plan}
+use Rattle.client_command.specs.declared.words.WordsRefusal.{WordsRefusal}
+use Rattle.client_command.specs.declared.words.WordsRefusal.TheVariants.{Usage}
+
+-- the rest of a reading, unless the part before was refused
+infixl 10 ◌>>=◌
+abbrev pub ◌>>=◌ : {A B : Type 0} → Result A WordsRefusal → (A → Result B WordsRefusal) → Result B WordsRefusal
+(Ok x) >>= next = next x
+(Err e) >>= next = Err e
+
+abbrev pub same : List ℕ → List ℕ → Bool
+same = pointwise nat_eq
+
+-- what isn't there is refused
+abbrev pub or_usage : {A : Type 0} → Option A → Result A WordsRefusal
+or_usage None = Err Usage
+or_usage (Some value) = Ok value
+
+abbrev pub demanded : Bool → Result (Unit {0}) WordsRefusal
+demanded holds = if holds then Ok tt else Err Usage
+
+-- ---- the command and its argument
+
+-- the octets of ARG, which has them in hexadecimal: at most 65,536
+abbrev pub within : List ℕ → Result (List ℕ) WordsRefusal
+within octets = if nat_lt 65536 (length octets) then Err Usage else Ok octets
+
+abbrev pub data_by : Result (List ℕ) FromHexError → Result (List ℕ) WordsRefusal
+data_by (Ok octets) = within octets
+data_by (Err refusal) = Err Usage
+
+-- a command without ARG
+unfoldable pub bare : List (List ℕ) → Procedure → Result Asked WordsRefusal
+bare plain procedure = do
+  alone ← demanded (nat_eq (length plain) 2)
+  Ok (record { procedure = procedure; args = [] })
+
+-- a command with ARG, which is the procedure's argument
+unfoldable pub with_data : List (List ℕ) → Procedure → Result Asked WordsRefusal
+with_data plain procedure = do
+  alone ← demanded (nat_eq (length plain) 3)
+  text ← or_usage (slice_get plain 2)
+  octets ← data_by (decode_of text)
+  Ok (record { procedure = procedure; args = opaque octets })
+
+-- what a command asks for, among the plain words
+abbrev pub asked_by : List (List ℕ) → List ℕ → Result Asked WordsRefusal
+asked_by plain word =
+    if same word (codes "null") then bare plain Null
+    else if same word (codes "echo") then with_data plain Echo
+    else if same word (codes "whoami") then bare plain Whoami
+    else if same word (codes "post") then with_data plain Post
+    else if same word (codes "count") then bare plain Count
+    else Err Usage
+
+-- the command is the second plain word, behind the address
+unfoldable pub asked_in : List (List ℕ) → Result Asked WordsRefusal
+asked_in plain = do
+  word ← or_usage (slice_get plain 1)
+  asked_by plain word
+
+-- ---- the options
+
+abbrev pub names : List (List ℕ)
+names = codes "--ccache" ∷ codes "--server" ∷ codes "--bind" ∷ codes "--service" ∷ codes "--times" ∷ codes "--first" ∷ []
+
+-- a word that is no option stands first; the options are of these names, each once, with its value
+abbrev pub is_command : List (List ℕ) → Bool
+is_command words = is_some (first_word words) && are_words names words
+
+-- an option's number, from `least` to `most`, or the usual one without it
+abbrev pub number_given : ℕ → ℕ → ℕ → Option (List ℕ) → Result ℕ WordsRefusal
+number_given least most usual None = Ok usual
+number_given least most usual (Some text) = or_usage (number_in least most text)
+
+-- the application data of the bindings: 1 to 32,768 octets
+abbrev pub data_given : Option (List ℕ) → Result (Option (List ℕ)) WordsRefusal
+data_given None = Ok None
+data_given (Some text) = if nat_eq (length text) 0 || nat_lt 32768 (length text) then Err Usage else Ok (Some text)
+
+abbrev pub name_by : Result Name NameRefusal → Result Name WordsRefusal
+name_by (Ok name) = Ok name
+name_by (Err refusal) = Err Usage
+
+abbrev pub server_given : Option (List ℕ) → Result Name WordsRefusal
+server_given None = Err Usage
+server_given (Some text) = name_by (parsed text)
+
+abbrev pub service_by : List ℕ → Result Service WordsRefusal
+service_by text =
+    if same text (codes "none") then Ok services.None
+    else if same text (codes "integrity") then Ok services.Integrity
+    else if same text (codes "privacy") then Ok services.Privacy
+    else Err Usage
+
+abbrev pub service_given : Option (List ℕ) → Result Service WordsRefusal
+service_given None = Ok services.Integrity
+service_given (Some text) = service_by text
+
+-- what is called and how, from the command and its options
+unfoldable pub plan_of : List (List ℕ) → Result Plan WordsRefusal
+plan_of words = do
+  asked ← asked_in (plain_of words)
+  bound ← data_given (value_of (codes "--bind") words)
+  service ← service_given (value_of (codes "--service") words)
+  times ← number_given 1 1000 1 (value_of (codes "--times") words)
+  first ← number_given 1 2147483647 1 (value_of (codes "--first") words)
+  Ok (record { procedure = asked.procedure; args = asked.args; bindings = bound; service = service; times = times; first = first })
+
+-- what the words ask for, refused exactly where they aren't in the command
+unfoldable pub words_of : List (List ℕ) → Result ClientWords WordsRefusal
+words_of words = do
+  formed ← demanded (is_command words)
+  ccache ← or_usage (value_of (codes "--ccache") words)
+  server ← server_given (value_of (codes "--server") words)
+  plan ← plan_of words
+  Ok (record { ccache = ccache; server = server; plan = plan })
+
+-- the limits of what words ask for
+pub record IsRanged (plan : Plan) : Type 0 where
+  pub args : length plan.args ≤ 65540
+  pub some : 1 ≤ plan.times
+  pub times : plan.times ≤ 1000
+  pub least : 1 ≤ plan.first
+  pub first : plan.first ≤ 2147483647

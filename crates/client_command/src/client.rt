@@ -1,0 +1,292 @@
+//! The run of the client.
+
+ghost use Rattle.std.specs.Prelude.{◌≡◌, ◌≢◌, ◌≤◌, ◌⊎◌, ◌∷◌, [], false, true, IsTrue, IsOk, IfOk, None, Ok, Err};
+ghost use Rattle.sec_base.specs.Answers.{Rose};
+ghost use Rattle.gss_base.specs.Principal.{text_form};
+ghost use Rattle.krb_files.specs.Granted.{Granted};
+ghost use Rattle.cli_base.specs.Lines.{SaysLine, Says};
+ghost use Rattle.client_command.specs.Credentials.{granted_from, Asks};
+ghost use Rattle.client_command.specs.Endings.{end_of, is_begun, status_of, line_of};
+ghost use Rattle.client_command.specs.Lines.{lines};
+ghost use Rattle.client_command.specs.Runs.{file_of, server_of, procedure_of, start_of, Reports, Spoke, EndsSo, HasHeld, HasSpoken, IsSilent};
+ghost use Rattle.client_command.specs.Words.{words_of, IsRanged};
+
+use crate::credential::credential_given;
+use crate::ending::{RunEnd, end_of, say_end};
+use crate::lines::lines;
+use crate::words::{ClientWords, Plan, WordsRefusal, read_words};
+use cli_base::{OUT_OF_MEMORY, say};
+use gss_base::{Bindings, Principal};
+use gss_client::{ClientRefusal, Parting, Procedure, Service, Session, Start, Talk};
+use krb_files::Credential;
+use sec_base::{Clock, Draw, Items, Link, Moment, NoMemory, Octets, Shelf, Sink, Text};
+use spnego_core::{InitSetup, MechCred, Outcome};
+use std::alloc::Global;
+
+/// What a run came to.
+#[derive(Drop)]
+pub struct ClientEnd {
+    /// The exit status: 0 all calls were answered, 2 the words aren't in the command, 3 the credential cache can't be loaded, 4 it is none,
+    /// or has no credential for the server, 5 the link failed, 6 a sink failed, 8 there was no memory, 9 the peer ended, 10 it refused,
+    /// 11 the negotiation failed, 12 a reply or a result was none that may come, 13 the numbers of the context are spent.
+    pub status: u8,
+    /// How the run ended, before its line was written.
+    pub end: RunEnd,
+    /// What both ends agree on, once the context stood.
+    pub outcome: Option<Outcome>,
+    /// The results of the calls, in XDR, in order.
+    pub results: Vec<Octets>,
+}
+
+/// What a session is begun with.
+fn start_of(
+    alloc: Global,
+    credential: Credential,
+    bindings: Option<Bindings>,
+    service: Service,
+    first: u32,
+    stamp: Moment,
+    draws: [u8; 66],
+) -> Result<Start, NoMemory>
+    ensures { IfOk result (λ s. s ≡ record { setup = record { list = MechCred.Kerberos credential ∷ []; bindings = bindings; stamp = stamp; draws = draws }; service = service; first = first }) }
+{
+    let mut list = Vec::new(alloc);
+    list.push(MechCred::Kerberos(credential))?;
+    let setup = InitSetup {
+        list: Items::of(list),
+        bindings,
+        stamp,
+        draws,
+    };
+    Ok(Start {
+        setup,
+        service,
+        first,
+    })
+}
+
+/// Holds the session of a plan: the clock's next moment is its stamp, the next 66 random octets are its own, and those behind them its
+/// calls' confounders.
+fn speak<L: Link, C: Clock, D: Draw>(
+    alloc: Global,
+    plan: Plan,
+    credential: Credential,
+    link: &mut L,
+    clock: &mut C,
+    draw: &mut D,
+) -> Talk
+    requires unclosed { L.closed link.old ≡ false }
+    requires range { IsRanged plan }
+    ensures told { IsTrue (L.tells link.old)
+        → Spoke (C.tells clock.new) (C.given clock.old) (C.given clock.new) (D.tells draw.new) (D.given draw.old) (D.given draw.new) plan credential
+        (L.wire link.old) (L.wire link.new) result.outcome result.results.items (end_of result.parting) }
+    ensures fault { result.parting ≡ Parting.Refused ClientRefusal.LinkFault → Rose (L.faults link.old) (L.faults link.new) }
+    ensures tells { L.tells link.new ≡ L.tells link.old }
+    ensures unclosed { L.closed link.new ≡ false }
+    ensures faults { L.faults link.old ≤ L.faults link.new }
+{
+    let stamp = clock.now();
+    let mut draws = [0; 66];
+    draw.fill(&mut draws);
+    let Plan {
+        procedure,
+        args,
+        bindings,
+        service,
+        times,
+        first,
+    } = plan;
+    match start_of(alloc, credential, bindings, service, first, stamp, draws) {
+        Ok(start) => Session::hold(alloc, link, draw, start, procedure, args.as_slice(), times),
+        Err(NoMemory) => Talk {
+            outcome: None,
+            results: Vec::new(alloc),
+            parting: Parting::Refused(ClientRefusal::NoMemory),
+        },
+    }
+}
+
+/// Says how a run ended that spoke to nobody.
+fn unspoken<O: Sink>(alloc: Global, file: &str, server: &str, end: RunEnd, err: &mut O) -> ClientEnd
+    ensures status { result.status ≢ 6 → result.status ≢ 8 → result.status ≡ status_of result.end }
+    ensures sink_fault { result.status ≡ 6 → Rose (O.faults err.old) (O.faults err.new) }
+    ensures said { IsTrue (O.tells err.old) → Says (O.written err.old) (O.written err.new) result.status (line_of file.now server.now end) }
+    ensures end { result.end ≡ end }
+    ensures outcome { result.outcome ≡ None }
+    ensures results { result.results.items ≡ [] }
+{
+    let status = say_end(alloc, err, file, server, end);
+    ClientEnd {
+        status,
+        end,
+        outcome: None,
+        results: Vec::new(alloc),
+    }
+}
+
+/// Prints what a session came to, and says how it ended.
+fn report<O: Sink>(
+    alloc: Global,
+    file: &str,
+    server: &str,
+    procedure: Procedure,
+    talk: Talk,
+    out: &mut O,
+    err: &mut O,
+) -> ClientEnd
+    ensures status { result.status ≢ 6 → result.status ≢ 8 → result.status ≡ status_of result.end }
+    ensures sink_fault { result.status ≡ 6 → Rose (O.faults out.old) (O.faults out.new) ⊎ Rose (O.faults err.old) (O.faults err.new) }
+    ensures printed { IsTrue (O.tells out.old) → SaysLine (O.written out.old) (O.written out.new) result.status (lines procedure result.outcome result.results.items) }
+    ensures said { IsTrue (O.tells err.old) → Says (O.written err.old) (O.written err.new) result.status (line_of file.now server.now result.end) }
+    ensures kept { Reports talk.outcome talk.results.items talk.parting result.outcome result.results.items result.end }
+{
+    let Talk {
+        outcome,
+        results,
+        parting,
+    } = talk;
+    let Ok(text) = lines(alloc, procedure, &outcome, results.as_slice()) else {
+        return unspoken(alloc, file, server, RunEnd::NoMemory, err);
+    };
+    let end = end_of(parting);
+    let status = match out.write(text.as_slice()) {
+        Ok(()) => say_end(alloc, err, file, server, end),
+        Err(_) => 6,
+    };
+    ClientEnd {
+        status,
+        end,
+        outcome,
+        results,
+    }
+}
+
+/// Runs the client with what its words ask for.
+fn run_with<F: Shelf, L: Link, C: Clock, D: Draw, O: Sink>(
+    alloc: Global,
+    words: ClientWords,
+    shelf: &mut F,
+    link: &mut L,
+    clock: &mut C,
+    draw: &mut D,
+    out: &mut O,
+    err: &mut O,
+) -> ClientEnd
+    requires unclosed { L.closed link.old ≡ false }
+    requires range { IsRanged words.plan }
+    ensures status { result.status ≢ 6 → result.status ≢ 8 → result.status ≡ status_of result.end }
+    ensures sink_fault { result.status ≡ 6 → Rose (O.faults out.old) (O.faults out.new) ⊎ Rose (O.faults err.old) (O.faults err.new) }
+    ensures printed { IsTrue (O.tells out.old) → SaysLine (O.written out.old) (O.written out.new) result.status (lines words.plan.procedure result.outcome result.results.items) }
+    ensures said { IsTrue (O.tells err.old) → Says (O.written err.old) (O.written err.new) result.status (line_of words.ccache (text_form words.server.realm words.server.parts) result.end) }
+    ensures other { result.end ≢ RunEnd.Usage }
+    ensures load_fault { result.end ≡ RunEnd.CannotLoad → Rose (F.faults shelf.old) (F.faults shelf.new) }
+    ensures asked { IsTrue (F.tells shelf.old) → Asks (F.asked shelf.old) (F.asked shelf.new) words.ccache (result.end ≡ RunEnd.NoMemory) }
+    ensures stops { IsTrue (F.tells shelf.old) → is_begun result.end ≡ false → result.end ≢ RunEnd.CannotLoad → result.end ≢ RunEnd.NoMemory
+        → granted_from (F.files shelf.old) words.ccache words.server ≡ Err result.end }
+    ensures found { IsTrue (F.tells shelf.old) → is_begun result.end ≡ true → IsOk (granted_from (F.files shelf.old) words.ccache words.server) }
+    ensures silent { is_begun result.end ≡ false → result.end ≢ RunEnd.NoMemory → IsSilent (L.wire link.old) (L.wire link.new) result.outcome result.results.items }
+    ensures spoke { is_begun result.end ≡ true → IsTrue (L.tells link.old)
+        → HasHeld words (F.tells shelf.old) (F.files shelf.old) (C.tells clock.new) (C.given clock.old) (C.given clock.new) (D.tells draw.new) (D.given draw.old) (D.given draw.new)
+        (L.wire link.old) (L.wire link.new) result.outcome result.results.items result.end }
+    ensures wanting { result.end ≡ RunEnd.NoMemory → IsTrue (L.tells link.old)
+        → IsSilent (L.wire link.old) (L.wire link.new) result.outcome result.results.items
+        ⊎ HasHeld words (F.tells shelf.old) (F.files shelf.old) (C.tells clock.new) (C.given clock.old) (C.given clock.new) (D.tells draw.new) (D.given draw.old) (D.given draw.new)
+        (L.wire link.old) (L.wire link.new) result.outcome result.results.items result.end }
+    ensures ends { (granted : Granted) (parting : Parting) → IsTrue (F.tells shelf.old) → granted_from (F.files shelf.old) words.ccache words.server ≡ Ok granted → IsTrue (L.tells link.old)
+        → EndsSo (C.tells clock.new) (C.given clock.old) (C.given clock.new) (D.tells draw.new) (D.given draw.old) (D.given draw.new) words.plan granted (L.wire link.old) (L.wire link.new) parting
+        → (Rose (F.faults shelf.old) (F.faults shelf.new) → ⊥) → (Rose (L.faults link.old) (L.faults link.new) → ⊥) → result.end ≢ RunEnd.NoMemory → result.end ≡ end_of parting }
+    ensures link_fault { result.end ≡ RunEnd.LinkFault → Rose (L.faults link.old) (L.faults link.new) }
+    ensures tells { L.tells link.new ≡ L.tells link.old }
+    ensures unclosed { L.closed link.new ≡ false }
+    ensures faults { L.faults link.old ≤ L.faults link.new }
+{
+    let ClientWords {
+        ccache,
+        server,
+        plan,
+    } = words;
+    let procedure = plan.procedure;
+    let label = server.label();
+    match credential_given(alloc, shelf, ccache.as_str(), &server) {
+        Ok(credential) => {
+            let talk = speak(alloc, plan, credential, link, clock, draw);
+            report(
+                alloc,
+                ccache.as_str(),
+                label.text(),
+                procedure,
+                talk,
+                out,
+                err,
+            )
+        }
+        Err(end) => unspoken(alloc, ccache.as_str(), label.text(), end, err),
+    }
+}
+
+/// Runs the client over a link, and says on `err` how the run ended. The words are
+/// `ADDRESS COMMAND [ARG] --ccache FILE --server PRINCIPAL [--bind TEXT] [--service none|integrity|privacy] [--times N] [--first N]`, where COMMAND is `null`,
+/// `echo`, `whoami`, `post` or `count`, and `echo` and `post` have an ARG in hexadecimal. What the session agreed on and was answered is printed on `out`.
+pub fn run_client<F: Shelf, L: Link, C: Clock, D: Draw, O: Sink>(
+    alloc: Global,
+    words: &[Text],
+    shelf: &mut F,
+    link: &mut L,
+    clock: &mut C,
+    draw: &mut D,
+    out: &mut O,
+    err: &mut O,
+) -> ClientEnd
+    requires unclosed { L.closed link.old ≡ false }
+    // The status and the line on `err`: those of the end, unless there was no memory for the line, or a sink failed.
+    ensures status { result.status ≢ 6 → result.status ≢ 8 → result.status ≡ status_of result.end }
+    ensures sink_fault { result.status ≡ 6 → Rose (O.faults out.old) (O.faults out.new) ⊎ Rose (O.faults err.old) (O.faults err.new) }
+    ensures said { IsTrue (O.tells err.old)
+        → Says (O.written err.old) (O.written err.new) result.status (line_of (file_of (words_of words.now)) (server_of (words_of words.now)) result.end) }
+    // What is printed on `out`: the lines of the outcome and the results that are returned.
+    ensures printed { IsTrue (O.tells out.old)
+        → SaysLine (O.written out.old) (O.written out.new) result.status (lines (procedure_of (words_of words.now)) result.outcome result.results.items) }
+    // The words are refused exactly where they aren't in the command, want of memory aside.
+    ensures usage { result.end ≡ RunEnd.Usage → words_of words.now ≡ Err WordsRefusal.Usage }
+    ensures always_usage { words_of words.now ≡ Err WordsRefusal.Usage → result.end ≢ RunEnd.NoMemory → result.end ≡ RunEnd.Usage }
+    ensures unloaded { words_of words.now ≡ Err WordsRefusal.Usage → F.asked shelf.new ≡ F.asked shelf.old }
+    // Words in the command: their file is loaded, once, and the run ends without a session exactly where it has no credential for their
+    // server.
+    ensures asked { (asked : ClientWords) → words_of words.now ≡ Ok asked → IsTrue (F.tells shelf.old)
+        → Asks (F.asked shelf.old) (F.asked shelf.new) asked.ccache (result.end ≡ RunEnd.NoMemory) }
+    ensures load_fault { result.end ≡ RunEnd.CannotLoad → Rose (F.faults shelf.old) (F.faults shelf.new) }
+    ensures stops { (asked : ClientWords) → words_of words.now ≡ Ok asked → IsTrue (F.tells shelf.old) → is_begun result.end ≡ false
+        → result.end ≢ RunEnd.CannotLoad → result.end ≢ RunEnd.NoMemory → granted_from (F.files shelf.old) asked.ccache asked.server ≡ Err result.end }
+    ensures always_stops { (asked : ClientWords) (end : RunEnd) → words_of words.now ≡ Ok asked → IsTrue (F.tells shelf.old)
+        → granted_from (F.files shelf.old) asked.ccache asked.server ≡ Err end
+        → (Rose (F.faults shelf.old) (F.faults shelf.new) → ⊥) → result.end ≢ RunEnd.NoMemory → result.end ≡ end }
+    // Without a session nothing is written on the link.
+    ensures silent { is_begun result.end ≡ false → result.end ≢ RunEnd.NoMemory → IsSilent (L.wire link.old) (L.wire link.new) result.outcome result.results.items }
+    // With one, what is written, the outcome, the results and the end are those of its talk.
+    ensures spoke { is_begun result.end ≡ true → IsTrue (L.tells link.old)
+        → HasSpoken words.now (F.tells shelf.old) (F.files shelf.old) (C.tells clock.new) (C.given clock.old) (C.given clock.new) (D.tells draw.new) (D.given draw.old) (D.given draw.new)
+        (L.wire link.old) (L.wire link.new) result.outcome result.results.items result.end }
+    ensures wanting { result.end ≡ RunEnd.NoMemory → IsTrue (L.tells link.old)
+        → IsSilent (L.wire link.old) (L.wire link.new) result.outcome result.results.items
+        ⊎ HasSpoken words.now (F.tells shelf.old) (F.files shelf.old) (C.tells clock.new) (C.given clock.old) (C.given clock.new) (D.tells draw.new) (D.given draw.old) (D.given draw.new)
+        (L.wire link.old) (L.wire link.new) result.outcome result.results.items result.end }
+    ensures link_fault { result.end ≡ RunEnd.LinkFault → Rose (L.faults link.old) (L.faults link.new) }
+    // With a credential, and no count that rose, a session is held, and the run ends as its talk does, want of memory aside.
+    ensures complete { (asked : ClientWords) (granted : Granted) → words_of words.now ≡ Ok asked → IsTrue (F.tells shelf.old)
+        → granted_from (F.files shelf.old) asked.ccache asked.server ≡ Ok granted
+        → (Rose (F.faults shelf.old) (F.faults shelf.new) → ⊥) → (Rose (L.faults link.old) (L.faults link.new) → ⊥)
+        → result.end ≢ RunEnd.NoMemory → (is_begun result.end ≡ true) × (result.end ≢ RunEnd.LinkFault) }
+    ensures ends { (asked : ClientWords) (granted : Granted) (parting : Parting) → words_of words.now ≡ Ok asked → IsTrue (F.tells shelf.old)
+        → granted_from (F.files shelf.old) asked.ccache asked.server ≡ Ok granted → IsTrue (L.tells link.old)
+        → EndsSo (C.tells clock.new) (C.given clock.old) (C.given clock.new) (D.tells draw.new) (D.given draw.old) (D.given draw.new) asked.plan granted (L.wire link.old) (L.wire link.new) parting
+        → (Rose (F.faults shelf.old) (F.faults shelf.new) → ⊥) → (Rose (L.faults link.old) (L.faults link.new) → ⊥) → result.end ≢ RunEnd.NoMemory → result.end ≡ end_of parting }
+    ensures tells { L.tells link.new ≡ L.tells link.old }
+    ensures unclosed { L.closed link.new ≡ false }
+    ensures faults { L.faults link.old ≤ L.faults link.new }
+{
+    match read_words(alloc, words) {
+        Ok(words) => run_with(alloc, words, shelf, link, clock, draw, out, err),
+        Err(WordsRefusal::Usage) => unspoken(alloc, "", "", RunEnd::Usage, err),
+        Err(WordsRefusal::NoMemory) => unspoken(alloc, "", "", RunEnd::NoMemory, err),
+    }
+}

@@ -1,0 +1,172 @@
+//! How a run of the client ends, and the line that says so.
+
+ghost use Rattle.std.specs.Prelude.{◌≡◌, ◌≢◌, [], IsTrue};
+ghost use Rattle.sec_base.specs.Answers.{Rose};
+ghost use Rattle.cli_base.specs.Lines.{Says};
+ghost use Rattle.client_command.specs.Endings.{end_of, end_of_refusal, status_of, ap_number, neg_number, denial_line, line_of};
+
+use ap_exchange::ApRefusal;
+use cli_base::{FileStop, OUT_OF_MEMORY, say, say_made, say_stop};
+use gss_client::{ClientRefusal, Denial, Parting, ReplyWhy};
+use sec_base::Sink;
+use spnego_core::{MechRefusal, NegRefusal};
+use std::alloc::Global;
+
+/// The line of status 2.
+const USAGE: &str = "usage: gssrpc ADDRESS COMMAND [ARG] [options]\n";
+
+/// How a run ended, before its line was written.
+#[derive(Clone, Copy, Debug, PartialEq, Eq)]
+pub enum RunEnd {
+    /// The words aren't in the command.
+    Usage,
+    /// The credential cache can't be loaded, and the shelf's count of faults rose.
+    CannotLoad,
+    /// The credential cache has too many octets, or is none from this place on.
+    Bad { at: usize },
+    /// The credential cache has no credential for the server.
+    NoCredential,
+    /// There was no memory.
+    NoMemory,
+    /// The link failed, and its count of faults rose.
+    LinkFault,
+    /// The stream ended before a reply was whole.
+    PeerEnded,
+    /// The server denied what was asked.
+    Refused(Denial),
+    /// The negotiating end refused to start, or refused the server's token.
+    Negotiation(NegRefusal),
+    /// A reply is none that may come.
+    BadReply(ReplyWhy),
+    /// A result is none of the procedure's.
+    Foreign,
+    /// A call was due, and no number was left for it.
+    Spent,
+    /// All calls were answered.
+    Finished,
+}
+
+/// How the run ends whose session was refused.
+fn end_of_refusal(refusal: ClientRefusal) -> RunEnd
+    ensures { result ≡ end_of_refusal refusal }
+{
+    match refusal {
+        ClientRefusal::LinkFault => RunEnd::LinkFault,
+        ClientRefusal::PeerEnded => RunEnd::PeerEnded,
+        ClientRefusal::Refused(denial) => RunEnd::Refused(denial),
+        ClientRefusal::Negotiation(refusal) => RunEnd::Negotiation(refusal),
+        ClientRefusal::BadReply(why) => RunEnd::BadReply(why),
+        ClientRefusal::NoMemory => RunEnd::NoMemory,
+    }
+}
+
+/// How the run ends whose session parted so.
+pub fn end_of(parting: Parting) -> RunEnd
+    ensures { result ≡ end_of parting }
+{
+    match parting {
+        Parting::Finished => RunEnd::Finished,
+        Parting::Spent => RunEnd::Spent,
+        Parting::Foreign => RunEnd::Foreign,
+        Parting::Refused(refusal) => end_of_refusal(refusal),
+    }
+}
+
+/// The number of a refusal of Kerberos's exchange.
+fn ap_number(refusal: ApRefusal) -> u32
+    ensures { result ≡ ap_number refusal }
+{
+    match refusal {
+        ApRefusal::Der {
+            part: _,
+            at: _,
+            why: _,
+        } => 101,
+        ApRefusal::Kind => 102,
+        ApRefusal::NotMutual => 103,
+        ApRefusal::TicketNames => 104,
+        ApRefusal::NoKey => 105,
+        ApRefusal::TicketClosed => 106,
+        ApRefusal::KeyType => 107,
+        ApRefusal::AuthClosed => 108,
+        ApRefusal::NameMatch => 109,
+        ApRefusal::ChecksumType => 110,
+        ApRefusal::Bindings => 111,
+        ApRefusal::Skew => 112,
+        ApRefusal::NotYet => 113,
+        ApRefusal::Expired => 114,
+        ApRefusal::ReplyClosed => 115,
+        ApRefusal::ReplyStamp => 116,
+        ApRefusal::PeerError { code: _ } => 117,
+        ApRefusal::NoMemory => 0,
+    }
+}
+
+/// The number of a negotiating end's refusal.
+fn neg_number(refusal: NegRefusal) -> u32
+    ensures { result ≡ neg_number refusal }
+{
+    match refusal {
+        NegRefusal::Defective { at: _ } => 1,
+        NegRefusal::Rejected => 2,
+        NegRefusal::MechNotMine => 3,
+        NegRefusal::NoCommonMech => 4,
+        NegRefusal::MicMissing => 5,
+        NegRefusal::MicBad => 6,
+        NegRefusal::Mech(MechRefusal::Ap(refusal)) => ap_number(refusal),
+        NegRefusal::NoMemory => 0,
+    }
+}
+
+/// Says what the server denied.
+fn say_denied<O: Sink>(alloc: Global, err: &mut O, denial: Denial) -> u8
+    ensures status { result ≢ 6 → result ≢ 8 → result ≡ 10 }
+    ensures fault { result ≡ 6 → Rose (O.faults err.old) (O.faults err.new) }
+    ensures said { IsTrue (O.tells err.old) → Says (O.written err.old) (O.written err.new) result (denial_line denial) }
+{
+    match denial {
+        Denial::Rpc { low, high } => {
+            say_made(err, 10, format!(in alloc; "refused: rpc {low} {high}\n"))
+        }
+        Denial::Auth { stat } => say_made(err, 10, format!(in alloc; "refused: auth {stat}\n")),
+        Denial::Accept { stat } => say_made(err, 10, format!(in alloc; "refused: accept {stat}\n")),
+        Denial::Gss { major, minor } => {
+            say_made(err, 10, format!(in alloc; "refused: gss {major} {minor}\n"))
+        }
+    }
+}
+
+/// Says what the negotiating end refused.
+fn say_negotiation<O: Sink>(alloc: Global, err: &mut O, refusal: NegRefusal) -> u8
+    ensures status { result ≢ 6 → result ≢ 8 → result ≡ 11 }
+    ensures fault { result ≡ 6 → Rose (O.faults err.old) (O.faults err.new) }
+    ensures said { IsTrue (O.tells err.old) → Says (O.written err.old) (O.written err.new) result (line_of [] [] (RunEnd.Negotiation refusal)) }
+{
+    let number = neg_number(refusal);
+    say_made(err, 11, format!(in alloc; "negotiation: {number}\n"))
+}
+
+/// Writes the line of an end, and answers its status; 8 also where there was no memory for the line, and 6 where it can't be written.
+pub fn say_end<O: Sink>(alloc: Global, err: &mut O, file: &str, server: &str, end: RunEnd) -> u8
+    ensures status { result ≢ 6 → result ≢ 8 → result ≡ status_of end }
+    ensures fault { result ≡ 6 → Rose (O.faults err.old) (O.faults err.new) }
+    ensures said { IsTrue (O.tells err.old) → Says (O.written err.old) (O.written err.new) result (line_of file.now server.now end) }
+{
+    match end {
+        RunEnd::Usage => say(err, 2, USAGE),
+        RunEnd::CannotLoad => say_stop(alloc, err, file, FileStop::CannotLoad),
+        RunEnd::Bad { at } => say_stop(alloc, err, file, FileStop::Bad { at }),
+        RunEnd::NoCredential => {
+            say_made(err, 4, format!(in alloc; "no credential for {server}\n"))
+        }
+        RunEnd::NoMemory => say(err, 8, OUT_OF_MEMORY),
+        RunEnd::LinkFault => say(err, 5, "link fault\n"),
+        RunEnd::PeerEnded => say(err, 9, "peer ended\n"),
+        RunEnd::Refused(denial) => say_denied(alloc, err, denial),
+        RunEnd::Negotiation(refusal) => say_negotiation(alloc, err, refusal),
+        RunEnd::BadReply(_) => say(err, 12, "bad reply\n"),
+        RunEnd::Foreign => say(err, 12, "bad reply\n"),
+        RunEnd::Spent => say(err, 13, "spent\n"),
+        RunEnd::Finished => 0,
+    }
+}

@@ -1,0 +1,347 @@
+//! The words of the client.
+
+ghost use Rattle.std.specs.Prelude.{◌≡◌, ◌≤◌, IfOk, Some, codes, length};
+ghost use Rattle.std.specs.Option.{option_map};
+ghost use Rattle.sec_base.specs.Answers.{Gives};
+ghost use Rattle.gss_base.specs.Signs.{parsed};
+ghost use Rattle.hex.specs.Hex.{decode_of};
+ghost use Rattle.rpc_msgs.specs.Words.{opaque};
+ghost use Rattle.cli_base.specs.Words.{value_of, first_word, plain_of};
+ghost use Rattle.client_command.specs.Words.{is_command, demanded, or_usage, bare, with_data, data_by, asked_by, asked_in, number_given, data_given, name_by, server_given, service_by, service_given, plan_of, words_of, IsRanged};
+
+use cli_base::{are_words, count_plain, first_word, number_in, plain, value_of};
+use gss_base::{Bindings, NameRefusal, Principal};
+use gss_client::{Procedure, Service};
+use hex::FromHexError;
+use rpc_msgs::XdrWriter;
+use sec_base::{NoMemory, Octets, Text};
+use std::alloc::Global;
+
+/// The most octets of an argument.
+const MOST_DATA: usize = 65_536;
+
+/// The most octets of application data.
+const MOST_BOUND: usize = 32_768;
+
+/// What is called, how often, and how the calls are protected.
+#[derive(Debug, Drop)]
+pub struct Plan {
+    pub procedure: Procedure,
+    /// The arguments, in XDR.
+    pub args: Octets,
+    pub bindings: Option<Bindings>,
+    pub service: Service,
+    /// How many calls are made, from 1 to 1,000.
+    pub times: u32,
+    /// The number of the first call, from 1 to 0x7fffffff.
+    pub first: u32,
+}
+
+/// What the words of the client ask for.
+#[derive(Debug, Drop)]
+pub struct ClientWords {
+    /// The file of the credential cache.
+    pub ccache: Text,
+    /// The name of the server.
+    pub server: Principal,
+    pub plan: Plan,
+}
+
+/// The address that the words name: the first word, where it is there and doesn't begin with `-`.
+pub fn address_of(words: &[Text]) -> Option<&str>
+    ensures { option_map (λ word. word.now) result ≡ first_word words.now }
+{
+    first_word(words)
+}
+
+/// Why words are refused.
+#[derive(Clone, Copy, Debug, PartialEq, Eq)]
+pub enum WordsRefusal {
+    /// They aren't in the command.
+    Usage,
+    /// There was no memory for what they ask for.
+    NoMemory,
+}
+
+impl From<NoMemory> for WordsRefusal {
+    ghost use Rattle.client_command.specs.declared.words.WordsRefusal.{WordsRefusal};
+
+    ghost from_gives = { λ _ e. e ≡ WordsRefusal.NoMemory };
+
+    fn from(_error: NoMemory) -> WordsRefusal {
+        WordsRefusal::NoMemory
+    }
+}
+
+/// What is called, and the arguments in XDR.
+#[derive(Debug, Drop)]
+struct Asked {
+    procedure: Procedure,
+    args: Octets,
+}
+
+/// Whether a word that is no option stands first, and each option has its value.
+fn is_command(words: &[Text]) -> bool
+    ensures { result ≡ is_command words.now }
+{
+    first_word(words).is_some()
+        && are_words(
+            words,
+            &[
+                "--ccache",
+                "--server",
+                "--bind",
+                "--service",
+                "--times",
+                "--first",
+            ],
+        )
+}
+
+/// Refuses words of which this doesn't hold.
+fn demand(holds: bool) -> Result<(), WordsRefusal>
+    ensures { result ≡ demanded holds }
+{
+    if holds {
+        Ok(())
+    } else {
+        Err(WordsRefusal::Usage)
+    }
+}
+
+/// The octets that a word has in hexadecimal.
+fn data_of(alloc: Global, text: &str) -> Result<Octets, WordsRefusal>
+    ensures value { Gives WordsRefusal.NoMemory (λ o. o) result (data_by (decode_of text.now)) }
+    ensures size { IfOk result (λ o. length o ≤ 65536) }
+{
+    match hex::decode(alloc, text) {
+        Ok(octets) => {
+            if octets.len() > MOST_DATA {
+                return Err(WordsRefusal::Usage);
+            }
+            Ok(Octets::from_vec(octets))
+        }
+        Err(FromHexError::OutOfMemory) => Err(WordsRefusal::NoMemory),
+        Err(_) => Err(WordsRefusal::Usage),
+    }
+}
+
+/// A procedure's argument, in XDR.
+fn argument(alloc: Global, octets: &[u8]) -> Result<Octets, NoMemory>
+    requires { length octets.now ≤ 65536 }
+    ensures value { IfOk result (λ o. o ≡ opaque octets.now) }
+    ensures size { IfOk result (λ o. length o ≤ 65540) }
+{
+    let mut out = XdrWriter::new(alloc);
+    out.opaque(octets)?;
+    Ok(out.finish())
+}
+
+/// What a command without an argument asks for.
+#[tactic(auto, unfolding(crate::specs::Words::bare))]
+fn bare(alloc: Global, words: &[Text], procedure: Procedure) -> Result<Asked, WordsRefusal>
+    ensures value { Gives WordsRefusal.NoMemory (λ a. a) result (bare (plain_of words.now) procedure) }
+    ensures size { IfOk result (λ a. length a.args ≤ 65540) }
+{
+    demand(count_plain(words) == 2)?;
+    Ok(Asked {
+        procedure,
+        args: Octets::from_vec(Vec::new(alloc)),
+    })
+}
+
+/// What a command with an argument asks for.
+#[tactic(auto, unfolding(crate::specs::Words::with_data))]
+fn with_data(alloc: Global, words: &[Text], procedure: Procedure) -> Result<Asked, WordsRefusal>
+    ensures value { Gives WordsRefusal.NoMemory (λ a. a) result (with_data (plain_of words.now) procedure) }
+    ensures size { IfOk result (λ a. length a.args ≤ 65540) }
+{
+    demand(count_plain(words) == 3)?;
+    match plain(words, 2) {
+        Some(text) => {
+            let octets = data_of(alloc, text)?;
+            let args = argument(alloc, octets.as_slice())?;
+            Ok(Asked { procedure, args })
+        }
+        None => Err(WordsRefusal::Usage),
+    }
+}
+
+/// What this command asks for.
+fn asked_by(alloc: Global, words: &[Text], command: &str) -> Result<Asked, WordsRefusal>
+    ensures value { Gives WordsRefusal.NoMemory (λ a. a) result (asked_by (plain_of words.now) command.now) }
+    ensures size { IfOk result (λ a. length a.args ≤ 65540) }
+{
+    if command == "null" {
+        return bare(alloc, words, Procedure::Null);
+    }
+    if command == "echo" {
+        return with_data(alloc, words, Procedure::Echo);
+    }
+    if command == "whoami" {
+        return bare(alloc, words, Procedure::Whoami);
+    }
+    if command == "post" {
+        return with_data(alloc, words, Procedure::Post);
+    }
+    if command == "count" {
+        return bare(alloc, words, Procedure::Count);
+    }
+    Err(WordsRefusal::Usage)
+}
+
+/// What the command of the words asks for.
+#[tactic(auto, unfolding(crate::specs::Words::asked_in))]
+fn asked_in(alloc: Global, words: &[Text]) -> Result<Asked, WordsRefusal>
+    ensures value { Gives WordsRefusal.NoMemory (λ a. a) result (asked_in (plain_of words.now)) }
+    ensures size { IfOk result (λ a. length a.args ≤ 65540) }
+{
+    match plain(words, 1) {
+        Some(command) => asked_by(alloc, words, command),
+        None => Err(WordsRefusal::Usage),
+    }
+}
+
+/// The number of the option `name`, from `least` to `most`, or the usual one without it.
+fn number_given(
+    words: &[Text],
+    name: &str,
+    least: u32,
+    most: u32,
+    usual: u32,
+) -> Result<u32, WordsRefusal>
+    requires least { least ≤ usual }
+    requires most { usual ≤ most }
+    ensures value { result ≡ number_given least most usual (value_of name.now words.now) }
+    ensures range { IfOk result (λ number. (least ≤ number) × (number ≤ most)) }
+{
+    match value_of(words, name) {
+        None => Ok(usual),
+        Some(text) => match number_in(text, least, most) {
+            Some(number) => Ok(number),
+            None => Err(WordsRefusal::Usage),
+        },
+    }
+}
+
+/// The file of the credential cache.
+fn ccache_given(alloc: Global, words: &[Text]) -> Result<Text, WordsRefusal>
+    ensures { Gives WordsRefusal.NoMemory (λ t. t) result (or_usage (value_of (codes "--ccache") words.now)) }
+{
+    match value_of(words, "--ccache") {
+        None => Err(WordsRefusal::Usage),
+        Some(file) => {
+            let file = Text::of(alloc, file)?;
+            Ok(file)
+        }
+    }
+}
+
+/// The server of this text.
+fn server_of(alloc: Global, text: &str) -> Result<Principal, WordsRefusal>
+    ensures { Gives WordsRefusal.NoMemory (λ name. name) result (name_by (parsed text.now)) }
+{
+    match Principal::parse(alloc, text) {
+        Ok(name) => Ok(name),
+        Err(NameRefusal::NoMemory) => Err(WordsRefusal::NoMemory),
+        Err(_) => Err(WordsRefusal::Usage),
+    }
+}
+
+/// The server that the words name.
+fn server_given(alloc: Global, words: &[Text]) -> Result<Principal, WordsRefusal>
+    ensures { Gives WordsRefusal.NoMemory (λ name. name) result (server_given (value_of (codes "--server") words.now)) }
+{
+    match value_of(words, "--server") {
+        None => Err(WordsRefusal::Usage),
+        Some(text) => server_of(alloc, text),
+    }
+}
+
+/// The bindings of this application data.
+fn bindings_of(alloc: Global, text: &str) -> Result<Option<Bindings>, WordsRefusal>
+    ensures { Gives WordsRefusal.NoMemory (λ b. b) result (data_given (Some text.now)) }
+{
+    if text.len() > MOST_BOUND {
+        return Err(WordsRefusal::Usage);
+    }
+    let data = Octets::of(alloc, text.as_bytes())?;
+    match Bindings::new(data) {
+        Ok(bindings) => Ok(Some(bindings)),
+        Err(_) => Err(WordsRefusal::Usage),
+    }
+}
+
+/// The bindings that the words ask for.
+fn bindings_given(alloc: Global, words: &[Text]) -> Result<Option<Bindings>, WordsRefusal>
+    ensures { Gives WordsRefusal.NoMemory (λ b. b) result (data_given (value_of (codes "--bind") words.now)) }
+{
+    match value_of(words, "--bind") {
+        None => Ok(None),
+        Some(text) => bindings_of(alloc, text),
+    }
+}
+
+/// The service of this name.
+fn service_by(text: &str) -> Result<Service, WordsRefusal>
+    ensures { result ≡ service_by text.now }
+{
+    if text == "none" {
+        return Ok(Service::None);
+    }
+    if text == "integrity" {
+        return Ok(Service::Integrity);
+    }
+    if text == "privacy" {
+        return Ok(Service::Privacy);
+    }
+    Err(WordsRefusal::Usage)
+}
+
+/// The service that the words ask for.
+fn service_given(words: &[Text]) -> Result<Service, WordsRefusal>
+    ensures { result ≡ service_given (value_of (codes "--service") words.now) }
+{
+    match value_of(words, "--service") {
+        None => Ok(Service::Integrity),
+        Some(text) => service_by(text),
+    }
+}
+
+/// What is called and how, by the command and its options.
+#[tactic(auto, unfolding(crate::specs::Words::plan_of))]
+fn plan_of(alloc: Global, words: &[Text]) -> Result<Plan, WordsRefusal>
+    ensures value { Gives WordsRefusal.NoMemory (λ p. p) result (plan_of words.now) }
+    ensures range { IfOk result IsRanged }
+{
+    let asked = asked_in(alloc, words)?;
+    let bindings = bindings_given(alloc, words)?;
+    let service = service_given(words)?;
+    let times = number_given(words, "--times", 1, 1000, 1)?;
+    let first = number_given(words, "--first", 1, 0x7fff_ffff, 1)?;
+    Ok(Plan {
+        procedure: asked.procedure,
+        args: asked.args,
+        bindings,
+        service,
+        times,
+        first,
+    })
+}
+
+/// What the words ask for.
+#[tactic(auto, unfolding(crate::specs::Words::words_of))]
+pub fn read_words(alloc: Global, words: &[Text]) -> Result<ClientWords, WordsRefusal>
+    ensures value { Gives WordsRefusal.NoMemory (λ w. w) result (words_of words.now) }
+    ensures range { IfOk result (λ w. IsRanged w.plan) }
+{
+    demand(is_command(words))?;
+    let ccache = ccache_given(alloc, words)?;
+    let server = server_given(alloc, words)?;
+    let plan = plan_of(alloc, words)?;
+    Ok(ClientWords {
+        ccache,
+        server,
+        plan,
+    })
+}
