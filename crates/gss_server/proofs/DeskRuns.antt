@@ -32,7 +32,7 @@ drop-set [] k v = refl
 drop-set (x ∷ xs) zero v = refl
 drop-set (x ∷ xs) (suc k) v = drop-set xs k v
 
-get-drop : {A : Type 0} (xs : List A) (k : ℕ) → slice_get xs k ≡ slice_get (drop k xs) 0
+pub get-drop : {A : Type 0} (xs : List A) (k : ℕ) → slice_get xs k ≡ slice_get (drop k xs) 0
 get-drop [] zero = refl
 get-drop [] (suc k) = refl
 get-drop (x ∷ xs) zero = refl

@@ -11,3 +11,6 @@ pub mod DeskRuns
 pub mod ServedLinks
 pub mod Wanting
 pub mod Completions
+pub mod InTurn
+pub mod KeytabNames
+pub mod Stepped

@@ -15,7 +15,7 @@ use Rattle.gss_server.specs.declared.answer.Kept.{Kept}
 use Rattle.gss_server.specs.declared.connection.ConnEnd.{ConnEnd}
 use Rattle.gss_server.specs.declared.connection.ConnEnd.TheVariants.{Ended, LinkFault, TooLong, TooManyFragments, Torn, Budget, NoMemory}
 use Rattle.gss_server.specs.Connections.{octets_of, HasCause, Ends, IsServedBy, StreamEnds}
-use Rattle.gss_server.specs.declared.told.Told.{Told}
+use Rattle.accept_book.specs.RecordShown.{Asked}
 
 -- how a stream begins: with nothing, a record that is cut short, too long or in too many fragments, or a whole record and more octets
 data First : Type 0 where
@@ -296,7 +296,7 @@ caused Budget rest coming count clear none h = at-budget count (rest ++ coming) 
 caused NoMemory rest coming count clear none h = absurd (none refl)
 
 -- a connection that neither failed nor wanted memory has the end of its stream
-pub comes : {gained : List Told → Type 0} (width : ℕ) {old new : Wire} {kept : List Kept} (ending expected : ConnEnd) → IsServedBy gained width old new kept ending → StreamEnds old new expected → ending ≢ LinkFault → ending ≢ NoMemory → ending ≡ expected
+pub comes : {gained : List Asked → Type 0} (width : ℕ) {old new : Wire} {kept : List Kept} (ending expected : ConnEnd) → IsServedBy gained width old new kept ending → StreamEnds old new expected → ending ≢ LinkFault → ending ≢ NoMemory → ending ≡ expected
 comes width {old} {new} ending expected s e clear none =
     let same : octets_of s.records ++ s.rest ≡ e.took = append_cancel_left old.taken (octets_of s.records ++ s.rest) e.took (sym s.went.taken ∙ e.taken) in
     let stream : octets_of s.records ++ (s.rest ++ new.coming) ≡ octets_of e.records ++ e.rest = sym (append_assoc (octets_of s.records) s.rest new.coming) ∙ (ap (λ (zs : List ℕ). zs ++ new.coming) same ∙ e.stream) in

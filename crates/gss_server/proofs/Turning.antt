@@ -1,22 +1,23 @@
 -- Turn after turn of a connection.
-use Rattle.std.proofs.Common.{◌≡◌, inl, inr, lit<, lit≤, subst, ℕ, ◌+◌, ◌*◌, ◌<◌, ◌≤◌, List, [], ◌∷◌, ◌++◌, length, take, refl, ap, sym, ◌∙◌, arith, append_assoc, Bool, Option, Some, None, Err}
+use Rattle.std.proofs.Common.{◌≡◌, inl, inr, lit<, lit≤, subst, ℕ, ◌+◌, ◌*◌, ◌<◌, ◌≤◌, List, [], ◌∷◌, ◌++◌, length, take, refl, ap, sym, ◌∙◌, arith, append_assoc, map, Bool, Option, Some, None, Err}
 use Rattle.std.specs.List.{AllByRecursion}
 use Rattle.std.proofs.Math.Seq.{take-append-add, take-length}
 use Rattle.std.proofs.lemmas.Grind.{common_steps, flat_map-append}
-use Rattle.std.proofs.lemmas.List.{length-append, append-nil, length-map}
+use Rattle.std.proofs.lemmas.List.{length-append, append-nil, length-map, map-append}
 use Rattle.sec_base.specs.Link.{Wire}
 use Rattle.rpc_msgs.specs.Records.{Fragments, octets_in, frame, IsRecord, IsFront}
 use Rattle.rpc_msgs.specs.Streams.{Took, Put}
 use Rattle.gss_server.specs.declared.answer.Kept.{Kept}
 use Rattle.gss_server.specs.declared.connection.ConnEnd.{ConnEnd}
 use Rattle.gss_server.specs.declared.connection.ConnEnd.TheVariants.{Ended, LinkFault, TooLong, TooManyFragments, Torn, Budget, NoMemory}
-use Rattle.accept_book.specs.RecordShown.{Ruling}
+use Rattle.accept_book.specs.RecordShown.{Ruling, Asked}
 use Rattle.accept_book.proofs.Asking.{record-at}
 use Rattle.gss_server.specs.Hearing.{kept_answers}
 use Rattle.gss_server.specs.Telling.{GainsWith, told_of}
+use Rattle.gss_server.specs.Asking.{Asking, IsAsked}
 use Rattle.gss_server.specs.declared.told.Told.{Told}
 use Rattle.gss_server.specs.Answers.{IsDecided}
-use Rattle.gss_server.specs.Connections.{Went, octets_of, in_order, ruling_for, written_for, written_in, told_for, told_in, HasCause, IsWritten, IsCounted, AllDecided, LastWanted, IsAnswered, IsServedBy, IsServed}
+use Rattle.gss_server.specs.Connections.{Went, octets_of, in_order, ruling_for, written_for, written_in, asked_for, asked_in, HasCause, IsWritten, IsCounted, AllDecided, LastWanted, IsAnswered, IsServedBy, IsServed}
 use Rattle.gss_server.specs.Serving.{Serving}
 use Rattle.gss_server.specs.Turns.{Receives, Replies, Turns, Serves, ServesInPart, Stops, Wanted}
 
@@ -52,7 +53,7 @@ went-same {a} {b} w e f = record {
 }
 
 -- a record was read and then answered
-pub turned : (gained : List Told → Type 0) (width : ℕ) → {a b : Wire} (c : Wire) (before after : List Kept) (cut : Fragments) (result : Option ConnEnd) → IsRecord cut → Took a b (frame cut) → Replies gained width b c (octets_in cut) before after result → Turns gained width a c before after result
+pub turned : (gained : List Asked → Type 0) (width : ℕ) → {a b : Wire} (c : Wire) (before after : List Kept) (cut : Fragments) (result : Option ConnEnd) → IsRecord cut → Took a b (frame cut) → Replies gained width b c (octets_in cut) before after result → Turns gained width a c before after result
 turned gained width c before after cut None r t p = (cut, p.0, record { is_record = r; kept = p.1.kept; went = went-put t p.1.put; answered = p.1.answered; asked = p.1.asked })
 turned gained width c before after cut (Some Ended) r t p = absurd p
 turned gained width c before after cut (Some LinkFault) r t p = inr (cut, p.0, p.1, record { is_record = r; kept = p.2.kept; went = went-put t p.2.put; answered = p.2.answered; asked = p.2.asked })
@@ -99,31 +100,39 @@ decided-past width (x ∷ records) [] cut e all = absurd (omega arith)
 decided-past width (x ∷ records) (k ∷ kept) cut e all = (all.0, decided-past width records kept cut (omega arith) all.1)
 
 -- what a gate gained before and then is what it gained since: at most two questions a record
-abbrev pub Joins : (List Told → Type 0) → (List Told → Type 0) → (List Told → Type 0) → ℕ → Type 0
-Joins earlier then since number = (m o : List Told) → length m ≤ 2 * number → earlier m → then o → since (m ++ o)
+abbrev pub Joins : (List Asked → Type 0) → (List Asked → Type 0) → (List Asked → Type 0) → ℕ → Type 0
+Joins earlier then since number = (m o : List Asked) → length m ≤ 2 * number → earlier m → then o → since (m ++ o)
 
-few-told_for : (width : ℕ) (octets : List ℕ) (one : Kept) → length (told_for width octets one) ≤ 2
-few-told_for width octets one = omega (arith, length-map (ruling_for width octets one).asked told_of, (record-at octets (kept_answers one) width).few)
+few-asked_for : (width : ℕ) (octets : List ℕ) (one : Kept) → length (asked_for width octets one) ≤ 2
+few-asked_for width octets one = (record-at octets (kept_answers one) width).few
 
-few-told : (width : ℕ) (records : List Fragments) (kept : List Kept) → length (told_in width records kept) ≤ 2 * length records
-few-told width [] kept = omega arith
-few-told width (x ∷ records) [] = omega arith
-few-told width (x ∷ records) (k ∷ kept) =
-    omega (arith, few-told width records kept, length-append (told_for width (octets_in x) k) (told_in width records kept), few-told_for width (octets_in x) k)
+few-asked : (width : ℕ) (records : List Fragments) (kept : List Kept) → length (asked_in width records kept) ≤ 2 * length records
+few-asked width [] kept = omega arith
+few-asked width (x ∷ records) [] = omega arith
+few-asked width (x ∷ records) (k ∷ kept) =
+    omega (arith, few-asked width records kept, length-append (asked_for width (octets_in x) k) (asked_in width records kept), few-asked_for width (octets_in x) k)
 
-pub gains-none : (tells : Bool) (least room : ℕ) (told : List Told) → GainsWith tells least room room told told []
-gains-none tells least room told = λ t r. record { gained = sym (append-nil told); used = omega arith }
+pub asked-none : {S : Type 0} (Answers : S → Asked → S → Type 0) (tells : S → Bool) (room : S → ℕ) (told : S → List Told) (least : ℕ) (s : S) → IsAsked Answers tells room told least s s []
+asked-none Answers tells room told least s = record { answers = refl; telling = λ t r. record { gained = sym (append-nil (told s)); used = omega arith } }
 
-pub joined : {tells tells' : Bool} {n r0 r1 r2 : ℕ} {t0 t1 t2 : List Told} → tells' ≡ tells → n < 65536 → Joins (GainsWith tells 131072 r0 r1 t0 t1) (GainsWith tells' 2 r1 r2 t1 t2) (GainsWith tells 131072 r0 r2 t0 t2) n
-joined {t0 = t0} e h = λ m o few p q t room.
-    let a = p t room in
-    let b = q (rw e t) (omega (arith, a.used, few, room, h)) in record {
-      gained = b.gained ∙ (ap (λ (zs : List Told). zs ++ o) a.gained ∙ append_assoc t0 m o);
-      used = omega (arith, a.used, b.used, length-append m o);
-    }
+-- questions and then more
+pub asking-more : {S : Type 0} (Answers : S → Asked → S → Type 0) (a b c : S) (m o : List Asked) → Asking Answers a m b → Asking Answers b o c → Asking Answers a (m ++ o) c
+asking-more Answers a b c [] o p q = subst (λ s. Asking Answers s o c) p q
+asking-more Answers a b c (one ∷ m) o p q = (p.0, p.1, asking-more Answers p.0 b c m o p.2 q)
+
+pub joined : {S : Type 0} {Answers : S → Asked → S → Type 0} {tells : S → Bool} {room : S → ℕ} {told : S → List Told} (a b c : S) {n : ℕ} → tells b ≡ tells a → n < 65536 → Joins (IsAsked Answers tells room told 131072 a b) (IsAsked Answers tells room told 2 b c) (IsAsked Answers tells room told 131072 a c) n
+joined {Answers = Answers} {tells = tells} {room = room} {told = told} a b c e h = λ m o few p q. record {
+  answers = asking-more Answers a b c m o p.answers q.answers;
+  telling = λ t r.
+      let x = p.telling t r in
+      let y = q.telling (rw e t) (omega (arith, x.used, few, length-map m told_of, r, h)) in record {
+        gained = y.gained ∙ (ap (λ (zs : List Told). zs ++ map told_of o) x.gained ∙ (append_assoc (told a) (map told_of m) (map told_of o) ∙ ap (λ (zs : List Told). told a ++ zs) (sym (map-append told_of m o))));
+        used = omega (arith, x.used, y.used, length-append (map told_of m) (map told_of o), ap (length {A = Told}) (map-append told_of m o));
+      };
+}
 
 -- no record was read
-pub unread : (gained : List Told → Type 0) (width : ℕ) (a b : Wire) (kept : List Kept) (ending : ConnEnd) → gained [] → Receives a b (Err ending) → Turns gained width a b kept kept (Some ending)
+pub unread : (gained : List Asked → Type 0) (width : ℕ) (a b : Wire) (kept : List Kept) (ending : ConnEnd) → gained [] → Receives a b (Err ending) → Turns gained width a b kept kept (Some ending)
 unread gained width a b kept Ended g r = (record { kept = refl; went = went-took r.0; asked = g }, r.1)
 unread gained width a b kept LinkFault g r = inl (r.0, r.1, record { kept = refl; went = went-took r.2; asked = g })
 unread gained width a b kept TooLong g r = (r.0, r.1, record { kept = refl; went = went-took r.2; asked = g })
@@ -133,7 +142,7 @@ unread gained width a b kept Budget g r = absurd r
 unread gained width a b kept NoMemory g r = inl (r.0, r.1, record { kept = refl; went = went-took r.2; asked = g })
 
 -- nothing was read
-pub serving-none : {gained : List Told → Type 0} (width : ℕ) → (w : Wire) → gained [] → Serving gained width w w [] 0
+pub serving-none : {gained : List Asked → Type 0} (width : ℕ) → (w : Wire) → gained [] → Serving gained width w w [] 0
 serving-none width w none = record {
   records = [];
   each = tt;
@@ -144,17 +153,17 @@ serving-none width w none = record {
   asked = none;
 }
 
-asked-more : {earlier then : List Told → Type 0} (since : List Told → Type 0) (width : ℕ) {a b : Wire} {before : List Kept} (after : List Kept) (n : ℕ) (cut : Fragments) (one : Kept) (s : Serving earlier width a b before n) → Joins earlier then since n → after ≡ before ++ one ∷ [] → then (told_for width (octets_in cut) one) → since (told_in width (s.records ++ cut ∷ []) after)
+asked-more : {earlier then : List Asked → Type 0} (since : List Asked → Type 0) (width : ℕ) {a b : Wire} {before : List Kept} (after : List Kept) (n : ℕ) (cut : Fragments) (one : Kept) (s : Serving earlier width a b before n) → Joins earlier then since n → after ≡ before ++ one ∷ [] → then (asked_for width (octets_in cut) one) → since (asked_in width (s.records ++ cut ∷ []) after)
 asked-more since width {before = before} after n cut one s joins e t =
-    subst (λ (ks : List Kept). since (told_in width (s.records ++ cut ∷ []) ks)) (sym e)
-    (subst since (sym (order-push (told_for width) s.records before cut one s.counted))
-    (joins (told_in width s.records before) (told_for width (octets_in cut) one) (omega (arith, few-told width s.records before, s.count)) s.asked t))
+    subst (λ (ks : List Kept). since (asked_in width (s.records ++ cut ∷ []) ks)) (sym e)
+    (subst since (sym (order-push (asked_for width) s.records before cut one s.counted))
+    (joins (asked_in width s.records before) (asked_for width (octets_in cut) one) (omega (arith, few-asked width s.records before, s.count)) s.asked t))
 
-decided-more : (width : ℕ) {gained : List Told → Type 0} {a b : Wire} {before : List Kept} (after : List Kept) {n : ℕ} (cut : Fragments) (one : Kept) (s : Serving gained width a b before n) → after ≡ before ++ one ∷ [] → IsDecided (ruling_for width (octets_in cut) one) → AllDecided width (s.records ++ cut ∷ []) after
+decided-more : (width : ℕ) {gained : List Asked → Type 0} {a b : Wire} {before : List Kept} (after : List Kept) {n : ℕ} (cut : Fragments) (one : Kept) (s : Serving gained width a b before n) → after ≡ before ++ one ∷ [] → IsDecided (ruling_for width (octets_in cut) one) → AllDecided width (s.records ++ cut ∷ []) after
 decided-more width {before = before} after cut one s e h =
     subst (λ (ks : List Kept). AllDecided width (s.records ++ cut ∷ []) ks) (sym e) (decided-push width s.records before cut one s.counted s.answered h)
 
-pub serving-more : {earlier then since : List Told → Type 0} (width : ℕ) → {a b c : Wire} {before : List Kept} (after : List Kept) (n : ℕ) → Joins earlier then since n → Serving earlier width a b before n → Turns then width b c before after None → Serving since width a c after (n + 1)
+pub serving-more : {earlier then since : List Asked → Type 0} (width : ℕ) → {a b c : Wire} {before : List Kept} (after : List Kept) (n : ℕ) → Joins earlier then since n → Serving earlier width a b before n → Turns then width b c before after None → Serving since width a c after (n + 1)
 serving-more {since = since} width {before = before} after n joins s t =
     let cut = t.0 in
     let one = t.1 in
@@ -174,25 +183,25 @@ serving-more {since = since} width {before = before} after n joins s t =
 front-whole : (xs : List ℕ) → (count : ℕ) × (xs ≡ take count xs)
 front-whole xs = (length xs, sym (take-length xs))
 
-stop-went : {earlier then : List Told → Type 0} (width : ℕ) → {a b c : Wire} {before : List Kept} (after : List Kept) {n : ℕ} {octets : List ℕ} (s : Serving earlier width a b before n) → Stops then b c before after octets → Went a c (octets_of s.records ++ octets) (written_in width s.records after)
+stop-went : {earlier then : List Asked → Type 0} (width : ℕ) → {a b c : Wire} {before : List Kept} (after : List Kept) {n : ℕ} {octets : List ℕ} (s : Serving earlier width a b before n) → Stops then b c before after octets → Went a c (octets_of s.records ++ octets) (written_in width s.records after)
 stop-went width after s t = went-same (went-again s.went t.went) refl (append-nil _ ∙ ap (λ (ks : List Kept). written_in width s.records ks) (sym t.kept))
 
-stop-counted : {earlier then : List Told → Type 0} (width : ℕ) → {a b c : Wire} {before : List Kept} (after : List Kept) {n : ℕ} {octets : List ℕ} (s : Serving earlier width a b before n) → Stops then b c before after octets → length s.records ≡ length after
+stop-counted : {earlier then : List Asked → Type 0} (width : ℕ) → {a b c : Wire} {before : List Kept} (after : List Kept) {n : ℕ} {octets : List ℕ} (s : Serving earlier width a b before n) → Stops then b c before after octets → length s.records ≡ length after
 stop-counted width after s t = s.counted ∙ ap (length {A = Kept}) (sym t.kept)
 
-stop-decided : {earlier then : List Told → Type 0} (width : ℕ) → {a b c : Wire} {before : List Kept} (after : List Kept) {n : ℕ} {octets : List ℕ} (s : Serving earlier width a b before n) → Stops then b c before after octets → AllDecided width s.records after
+stop-decided : {earlier then : List Asked → Type 0} (width : ℕ) → {a b c : Wire} {before : List Kept} (after : List Kept) {n : ℕ} {octets : List ℕ} (s : Serving earlier width a b before n) → Stops then b c before after octets → AllDecided width s.records after
 stop-decided width after s t = subst (λ (ks : List Kept). AllDecided width s.records ks) (sym t.kept) s.answered
 
-stop-asked : {earlier then : List Told → Type 0} (since : List Told → Type 0) (width : ℕ) → {a b c : Wire} {before : List Kept} (after : List Kept) {n : ℕ} {octets : List ℕ} (s : Serving earlier width a b before n) → Joins earlier then since n → Stops then b c before after octets → since (told_in width s.records after)
+stop-asked : {earlier then : List Asked → Type 0} (since : List Asked → Type 0) (width : ℕ) → {a b c : Wire} {before : List Kept} (after : List Kept) {n : ℕ} {octets : List ℕ} (s : Serving earlier width a b before n) → Joins earlier then since n → Stops then b c before after octets → since (asked_in width s.records after)
 stop-asked since width {before = before} after s joins t =
-    subst (λ (ks : List Kept). since (told_in width s.records ks)) (sym t.kept)
-    (subst since (append-nil _) (joins (told_in width s.records before) [] (omega (arith, few-told width s.records before, s.count)) s.asked t.asked))
+    subst (λ (ks : List Kept). since (asked_in width s.records ks)) (sym t.kept)
+    (subst since (append-nil _) (joins (asked_in width s.records before) [] (omega (arith, few-asked width s.records before, s.count)) s.asked t.asked))
 
 -- a record was answered, and a front of what is due to it was written
-part-went : {earlier then : List Told → Type 0} {Is : Ruling → Type 0} (width : ℕ) → {a b c : Wire} {before : List Kept} (after : List Kept) {n : ℕ} (count : ℕ) {cut : Fragments} {one : Kept} (s : Serving earlier width a b before n) → Serves then Is width b c before after cut one (take count (written_for width (octets_in cut) one)) → Went a c (octets_of (s.records ++ cut ∷ []) ++ []) (written_in width s.records before ++ take count (written_for width (octets_in cut) one))
+part-went : {earlier then : List Asked → Type 0} {Is : Ruling → Type 0} (width : ℕ) → {a b c : Wire} {before : List Kept} (after : List Kept) {n : ℕ} (count : ℕ) {cut : Fragments} {one : Kept} (s : Serving earlier width a b before n) → Serves then Is width b c before after cut one (take count (written_for width (octets_in cut) one)) → Went a c (octets_of (s.records ++ cut ∷ []) ++ []) (written_in width s.records before ++ take count (written_for width (octets_in cut) one))
 part-went width after count {cut = cut} s t = went-same (went-again s.went t.went) (octets_of-push s.records cut ∙ sym (append-nil _)) refl
 
-part-written : {earlier then : List Told → Type 0} {Is : Ruling → Type 0} (width : ℕ) → {a b c : Wire} {before : List Kept} (after : List Kept) {n : ℕ} (count : ℕ) {cut : Fragments} {one : Kept} (s : Serving earlier width a b before n) → Serves then Is width b c before after cut one (take count (written_for width (octets_in cut) one)) → (m : ℕ) × (written_in width s.records before ++ take count (written_for width (octets_in cut) one) ≡ take m (written_in width (s.records ++ cut ∷ []) after))
+part-written : {earlier then : List Asked → Type 0} {Is : Ruling → Type 0} (width : ℕ) → {a b c : Wire} {before : List Kept} (after : List Kept) {n : ℕ} (count : ℕ) {cut : Fragments} {one : Kept} (s : Serving earlier width a b before n) → Serves then Is width b c before after cut one (take count (written_for width (octets_in cut) one)) → (m : ℕ) × (written_in width s.records before ++ take count (written_for width (octets_in cut) one) ≡ take m (written_in width (s.records ++ cut ∷ []) after))
 part-written width {before = before} after count {cut = cut} {one = one} s t = (
   length (written_in width s.records before) + count,
   sym (take-append-add (written_in width s.records before) (written_for width (octets_in cut) one) count)
@@ -200,7 +209,7 @@ part-written width {before = before} after count {cut = cut} {one = one} s t = (
       ∙ ap (λ (ks : List Kept). take (length (written_in width s.records before) + count) (written_in width (s.records ++ cut ∷ []) ks)) (sym t.kept)),
 )
 
-part-counted : {earlier then : List Told → Type 0} {Is : Ruling → Type 0} (width : ℕ) → {a b c : Wire} {before : List Kept} (after : List Kept) {n : ℕ} {cut : Fragments} {wrote : List ℕ} {one : Kept} (s : Serving earlier width a b before n) → Serves then Is width b c before after cut one wrote → length (s.records ++ cut ∷ []) ≡ length after
+part-counted : {earlier then : List Asked → Type 0} {Is : Ruling → Type 0} (width : ℕ) → {a b c : Wire} {before : List Kept} (after : List Kept) {n : ℕ} {cut : Fragments} {wrote : List ℕ} {one : Kept} (s : Serving earlier width a b before n) → Serves then Is width b c before after cut one wrote → length (s.records ++ cut ∷ []) ≡ length after
 part-counted width {before = before} after {cut = cut} {one = one} s t =
     length-append s.records (cut ∷ []) ∙ (ap (λ (k : ℕ). k + 1) s.counted ∙ (sym (length-append before (one ∷ [])) ∙ ap (length {A = Kept}) (sym t.kept)))
 
@@ -208,7 +217,7 @@ no-front : IsFront []
 no-front = record { earlier = []; part = []; few = lit≤ tt; size = lit≤ tt; partial = inl (lit< tt); spelled = refl }
 
 -- the connection ended with these octets behind its whole records
-stopped : {earlier then since : List Told → Type 0} (width : ℕ) → {a b c : Wire} {before : List Kept} (after : List Kept) {n : ℕ} {octets : List ℕ} (s : Serving earlier width a b before n) → Joins earlier then since n → Stops then b c before after octets → (ending : ConnEnd) → HasCause ending octets c.coming (length s.records) → IsWritten ending (written_in width s.records after) (written_in width s.records after) → IsCounted ending (length s.records) (length after) → (AllDecided width s.records after → IsAnswered ending width s.records after) → IsServedBy since width a c after ending
+stopped : {earlier then since : List Asked → Type 0} (width : ℕ) → {a b c : Wire} {before : List Kept} (after : List Kept) {n : ℕ} {octets : List ℕ} (s : Serving earlier width a b before n) → Joins earlier then since n → Stops then b c before after octets → (ending : ConnEnd) → HasCause ending octets c.coming (length s.records) → IsWritten ending (written_in width s.records after) (written_in width s.records after) → IsCounted ending (length s.records) (length after) → (AllDecided width s.records after → IsAnswered ending width s.records after) → IsServedBy since width a c after ending
 stopped {since = since} width after {octets = octets} s joins t ending cause replies counted answered = record {
   records = s.records;
   rest = octets;
@@ -223,7 +232,7 @@ stopped {since = since} width after {octets = octets} s joins t ending cause rep
 }
 
 -- the connection ended while the reply to its last record was written
-broken : {earlier then since : List Told → Type 0} {Is : Ruling → Type 0} (width : ℕ) → {a b c : Wire} {before : List Kept} (after : List Kept) {n : ℕ} (s : Serving earlier width a b before n) → Joins earlier then since n → (t : ServesInPart then Is width b c before after) → (ending : ConnEnd) → ((coming : List ℕ) (count : ℕ) → HasCause ending [] coming count) → ((due wrote : List ℕ) → (m : ℕ) × (wrote ≡ take m due) → IsWritten ending due wrote) → ((k : ℕ) → IsCounted ending k k) → IsAnswered ending width (s.records ++ t.0 ∷ []) after → IsServedBy since width a c after ending
+broken : {earlier then since : List Asked → Type 0} {Is : Ruling → Type 0} (width : ℕ) → {a b c : Wire} {before : List Kept} (after : List Kept) {n : ℕ} (s : Serving earlier width a b before n) → Joins earlier then since n → (t : ServesInPart then Is width b c before after) → (ending : ConnEnd) → ((coming : List ℕ) (count : ℕ) → HasCause ending [] coming count) → ((due wrote : List ℕ) → (m : ℕ) × (wrote ≡ take m due) → IsWritten ending due wrote) → ((k : ℕ) → IsCounted ending k k) → IsAnswered ending width (s.records ++ t.0 ∷ []) after → IsServedBy since width a c after ending
 broken {since = since} width {c = c} {before = before} after {n} s joins t ending cause written counted answered = record {
   records = s.records ++ t.0 ∷ [];
   rest = [];
@@ -238,7 +247,7 @@ broken {since = since} width {c = c} {before = before} after {n} s joins t endin
 }
 
 -- a record was read for whose answer there was no memory
-unkept : {earlier then since : List Told → Type 0} (width : ℕ) → {a b c : Wire} {before : List Kept} (after : List Kept) {n : ℕ} (cut : Fragments) (octets : List ℕ) (s : Serving earlier width a b before n) → Joins earlier then since n → IsRecord cut → octets ≡ frame cut → Stops then b c before after octets → IsServedBy since width a c after NoMemory
+unkept : {earlier then since : List Asked → Type 0} (width : ℕ) → {a b c : Wire} {before : List Kept} (after : List Kept) {n : ℕ} (cut : Fragments) (octets : List ℕ) (s : Serving earlier width a b before n) → Joins earlier then since n → IsRecord cut → octets ≡ frame cut → Stops then b c before after octets → IsServedBy since width a c after NoMemory
 unkept {since = since} width {before = before} after cut octets s joins r e t = record {
   records = s.records ++ cut ∷ [];
   rest = [];
@@ -253,10 +262,10 @@ unkept {since = since} width {before = before} after cut octets s joins r e t = 
   );
   counted = inr (length-append s.records (cut ∷ []) ∙ ap (λ (k : ℕ). k + 1) (stop-counted width after s t));
   answered = inl (decided-past width s.records after cut (stop-counted width after s t) (stop-decided width after s t));
-  asked = subst since (sym (order-past (told_for width) s.records after cut (stop-counted width after s t))) (stop-asked since width after s joins t);
+  asked = subst since (sym (order-past (asked_for width) s.records after cut (stop-counted width after s t))) (stop-asked since width after s joins t);
 }
 
-last-wanted : {earlier then : List Told → Type 0} (width : ℕ) → {a b c : Wire} {before : List Kept} (after : List Kept) {n : ℕ} (s : Serving earlier width a b before n) → (t : ServesInPart then Wanted width b c before after) → LastWanted width (s.records ++ t.0 ∷ []) after
+last-wanted : {earlier then : List Asked → Type 0} (width : ℕ) → {a b c : Wire} {before : List Kept} (after : List Kept) {n : ℕ} (s : Serving earlier width a b before n) → (t : ServesInPart then Wanted width b c before after) → LastWanted width (s.records ++ t.0 ∷ []) after
 last-wanted width {before = before} after s t = record {
   earlier = s.records;
   last = t.0;
@@ -268,7 +277,7 @@ last-wanted width {before = before} after s t = record {
   wanted = t.3.answered;
 }
 
-pub serving-stop : {earlier then since : List Told → Type 0} (width : ℕ) → {a b c : Wire} {before : List Kept} (after : List Kept) {n : ℕ} → Joins earlier then since n → Serving earlier width a b before n → n < 65536 → (ending : ConnEnd) → Turns then width b c before after (Some ending) → IsServedBy since width a c after ending
+pub serving-stop : {earlier then since : List Asked → Type 0} (width : ℕ) → {a b c : Wire} {before : List Kept} (after : List Kept) {n : ℕ} → Joins earlier then since n → Serving earlier width a b before n → n < 65536 → (ending : ConnEnd) → Turns then width b c before after (Some ending) → IsServedBy since width a c after ending
 serving-stop width after joins s h Ended t = stopped width after s joins t.0 Ended (refl, t.1, omega (arith, s.count)) refl (stop-counted width after s t.0) (λ d. d)
 serving-stop width after joins s h LinkFault (inl t) = stopped width after s joins t.2 LinkFault t.1 (front-whole (written_in width s.records after)) (stop-counted width after s t.2) (λ d. d)
 serving-stop width after joins s h LinkFault (inr t) =
@@ -281,7 +290,7 @@ serving-stop width after joins s h NoMemory (inl (octets, inl front, t)) = stopp
 serving-stop width after joins s h NoMemory (inl (octets, inr w, t)) = unkept width after w.cut octets s joins w.is_record w.spelled t
 serving-stop width after joins s h NoMemory (inr t) = broken width after s joins t NoMemory (λ coming count. no-front) (λ due wrote p. p) (λ k. inl refl) (inr (last-wanted width after s t))
 
-pub serving-full : {gained : List Told → Type 0} (width : ℕ) → {a b : Wire} {kept : List Kept} → Serving gained width a b kept 65536 → IsServedBy gained width a b kept Budget
+pub serving-full : {gained : List Asked → Type 0} (width : ℕ) → {a b : Wire} {kept : List Kept} → Serving gained width a b kept 65536 → IsServedBy gained width a b kept Budget
 serving-full width {kept = kept} s = record {
   records = s.records;
   rest = [];
@@ -296,7 +305,7 @@ serving-full width {kept = kept} s = record {
 }
 
 -- whatever the gate was asked
-pub served-so : {gained : List Told → Type 0} (width : ℕ) → {a b : Wire} {kept : List Kept} {ending : ConnEnd} → IsServedBy gained width a b kept ending → IsServed width a b kept ending
+pub served-so : {gained : List Asked → Type 0} (width : ℕ) → {a b : Wire} {kept : List Kept} {ending : ConnEnd} → IsServedBy gained width a b kept ending → IsServed width a b kept ending
 served-so width s = record {
   records = s.records;
   rest = s.rest;

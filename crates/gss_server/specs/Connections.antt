@@ -1,15 +1,13 @@
 -- What a served connection did, over a link that tells its octets.
-use Rattle.std.specs.Prelude.{◌≡◌, ◌⊎◌, ℕ, ◌+◌, ◌<◌, true, List, [], ◌∷◌, ◌++◌, length, map, take, Option, Some, None}
+use Rattle.std.specs.Prelude.{◌≡◌, ◌⊎◌, ℕ, ◌+◌, ◌<◌, true, List, [], ◌∷◌, ◌++◌, length, take, Option, Some, None}
 use Rattle.std.specs.List.{AllByRecursion, flat_map}
 use Rattle.sec_base.specs.Link.{Wire}
 use Rattle.rpc_msgs.specs.Records.{Fragments, octets_in, frame, last_fragment, IsRecord, IsTooLong, IsTooMany, IsFront, IsTorn}
 use Rattle.accept_book.specs.RecordRule.{record_ruling}
-use Rattle.accept_book.specs.RecordShown.{Ruling}
+use Rattle.accept_book.specs.RecordShown.{Ruling, Asked}
 use Rattle.gss_server.specs.Answers.{IsDecided, may_want}
 use Rattle.gss_server.specs.Hearing.{kept_answers}
-use Rattle.gss_server.specs.Telling.{told_of}
 use Rattle.gss_server.specs.declared.answer.Kept.{Kept}
-use Rattle.gss_server.specs.declared.told.Told.{Told}
 use Rattle.gss_server.specs.declared.connection.ConnEnd.{ConnEnd}
 use Rattle.gss_server.specs.declared.connection.ConnEnd.TheVariants.{Ended, LinkFault, TooLong, TooManyFragments, Torn, Budget, NoMemory}
 
@@ -29,9 +27,9 @@ ruling_for width octets kept = record_ruling octets (kept_answers kept) width
 abbrev pub written_for : ℕ → List ℕ → Kept → List ℕ
 written_for width octets kept = framed (ruling_for width octets kept).reply
 
--- what the gate is asked for a record, as it is told
-abbrev pub told_for : ℕ → List ℕ → Kept → List Told
-told_for width octets kept = map told_of (ruling_for width octets kept).asked
+-- what the gate is asked for a record
+abbrev pub asked_for : ℕ → List ℕ → Kept → List Asked
+asked_for width octets kept = (ruling_for width octets kept).asked
 
 -- of records with their kept answers, in order
 abbrev pub in_order : {A : Type 0} → (List ℕ → Kept → List A) → List Fragments → List Kept → List A
@@ -42,8 +40,8 @@ in_order each (cut ∷ records) (one ∷ kept) = each (octets_in cut) one ++ in_
 abbrev pub written_in : ℕ → List Fragments → List Kept → List ℕ
 written_in width records kept = in_order (written_for width) records kept
 
-abbrev pub told_in : ℕ → List Fragments → List Kept → List Told
-told_in width records kept = in_order (told_for width) records kept
+abbrev pub asked_in : ℕ → List Fragments → List Kept → List Asked
+asked_in width records kept = in_order (asked_for width) records kept
 
 -- `took` was taken, of what was there or came meanwhile, and `wrote` was written
 pub record Went (old new : Wire) (took wrote : List ℕ) : Type 0 where
@@ -109,7 +107,7 @@ IsAnswered Budget width records kept = AllDecided width records kept
 IsAnswered NoMemory width records kept = AllDecided width records kept ⊎ LastWanted width records kept
 
 -- `gained` says what the gate was asked
-pub record IsServedBy (gained : List Told → Type 0) (width : ℕ) (old new : Wire) (kept : List Kept) (ending : ConnEnd) : Type 0 where
+pub record IsServedBy (gained : List Asked → Type 0) (width : ℕ) (old new : Wire) (kept : List Kept) (ending : ConnEnd) : Type 0 where
   pub records : List Fragments
   pub rest : List ℕ
   pub wrote : List ℕ
@@ -119,11 +117,11 @@ pub record IsServedBy (gained : List Told → Type 0) (width : ℕ) (old new : W
   pub replies : IsWritten ending (written_in width records kept) wrote
   pub counted : IsCounted ending (length records) (length kept)
   pub answered : IsAnswered ending width records kept
-  pub asked : gained (told_in width records kept)
+  pub asked : gained (asked_in width records kept)
 
 -- whatever the gate was asked
 abbrev pub IsServed : ℕ → Wire → Wire → List Kept → ConnEnd → Type 0
-IsServed width old new kept ending = IsServedBy (λ told. Unit {0}) width old new kept ending
+IsServed width old new kept ending = IsServedBy (λ asked. Unit {0}) width old new kept ending
 
 -- the end that a stream has, by what follows its whole records and how many they are
 abbrev pub Ends : ConnEnd → List ℕ → ℕ → Type 0

@@ -1,4 +1,5 @@
 pub mod Answers
+pub mod Asking
 pub mod Connections
 pub mod Desks
 pub mod Hearing
@@ -10,4 +11,5 @@ pub mod Listed
 pub mod Runs
 pub mod Serving
 pub mod Telling
+pub mod Through
 pub mod Turns

@@ -1,5 +1,5 @@
 -- The run of the server.
-use Rattle.std.specs.Prelude.{◌≡◌, ◌≢◌, ℕ, Bool, true, IsTrue, List, [], Option, Some, None, unwrap_or, Result, Ok, Err}
+use Rattle.std.specs.Prelude.{◌≡◌, ◌≢◌, ℕ, Bool, true, IsTrue, List, [], Option, Some, None, unwrap_or, option_to_list, Result, Ok, Err}
 use Rattle.sec_base.specs.declared.shelf.NamedFile.{NamedFile}
 use Rattle.gss_base.specs.Name.{Name}
 use Rattle.gss_base.specs.Principal.{text_form}
@@ -18,6 +18,11 @@ use Rattle.gss_server.specs.declared.options.WordsRefusal.{WordsRefusal}
 abbrev pub file_of : Result Options WordsRefusal → List ℕ
 file_of (Ok options) = unwrap_or options.keytab []
 file_of (Err refusal) = []
+
+-- the files that the options name
+abbrev pub files_of : Result Options WordsRefusal → List (List ℕ)
+files_of (Ok options) = option_to_list options.keytab
+files_of (Err refusal) = []
 
 -- the own name's text form
 abbrev pub name_of : Result Options WordsRefusal → List ℕ

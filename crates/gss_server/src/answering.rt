@@ -8,6 +8,7 @@ ghost use Rattle.accept_book.specs.RecordShown.{decided, is_other_version};
 ghost use Rattle.accept_book.specs.RecordRule.{is_misplaced, id_ruling, cred_ruling, call_ruling, read_ruling, record_ruling};
 ghost use Rattle.gss_server.specs.Answers.{Says, Fits};
 ghost use Rattle.gss_server.specs.Hearing.{shown, kept_answers, count_of};
+ghost use Rattle.gss_server.specs.Asking.{Asking};
 ghost use Rattle.gss_server.specs.Telling.{Gains, told_of};
 
 use crate::answer::{Answered, Kept};
@@ -69,6 +70,7 @@ fn say_by_id<G: Gate>(
     ensures tells { G.tells gate.new ≡ G.tells gate.old }
     ensures limits { G.limits gate.new ≡ G.limits gate.old }
     ensures told { IsTrue (G.tells gate.old) → 2 ≤ G.room gate.old → Gains (G.room gate.old) (G.room gate.new) (G.told gate.old) (G.told gate.new) (map told_of (id_ruling (shown heard.entry.now) (cred_value cred.now) result.looked result.admitted result.ended id).asked) }
+    ensures answers { Asking G.answers gate.old (id_ruling (shown heard.entry.now) (cred_value cred.now) result.looked result.admitted result.ended id).asked gate.new }
 {
     match id {
         None => unasked(say_denied(alloc, heard, 6, CRED_PROBLEM)),
@@ -106,6 +108,7 @@ fn say_with<G: Gate>(alloc: Global, gate: &mut G, heard: &Heard<'_>, cred: &GssC
     ensures tells { G.tells gate.new ≡ G.tells gate.old }
     ensures limits { G.limits gate.new ≡ G.limits gate.old }
     ensures told { IsTrue (G.tells gate.old) → 2 ≤ G.room gate.old → Gains (G.room gate.old) (G.room gate.new) (G.told gate.old) (G.told gate.new) (map told_of (cred_ruling (shown heard.entry.now) result.negotiated result.looked result.admitted result.ended (Ok (cred_value cred.now))).asked) }
+    ensures answers { Asking G.answers gate.old (cred_ruling (shown heard.entry.now) result.negotiated result.looked result.admitted result.ended (Ok (cred_value cred.now))).asked gate.new }
 {
     if misplaced(&heard.call, cred) {
         return unasked(say_denied(alloc, heard, 5, BAD_CRED));
@@ -142,6 +145,7 @@ fn say_secure<G: Gate>(alloc: Global, gate: &mut G, heard: &Heard<'_>) -> Asks
     ensures tells { G.tells gate.new ≡ G.tells gate.old }
     ensures limits { G.limits gate.new ≡ G.limits gate.old }
     ensures told { IsTrue (G.tells gate.old) → 2 ≤ G.room gate.old → Gains (G.room gate.old) (G.room gate.new) (G.told gate.old) (G.told gate.new) (map told_of (cred_ruling (shown heard.entry.now) result.negotiated result.looked result.admitted result.ended (cred_at heard.entry.now.call.cred.body.now)).asked) }
+    ensures answers { Asking G.answers gate.old (cred_ruling (shown heard.entry.now) result.negotiated result.looked result.admitted result.ended (cred_at heard.entry.now.call.cred.body.now)).asked gate.new }
 {
     match read_cred(heard.call.cred.body) {
         Ok(cred) => say_with(alloc, gate, heard, &cred),
@@ -166,6 +170,7 @@ fn say_call<G: Gate>(alloc: Global, gate: &mut G, heard: &Heard<'_>) -> Asks
     ensures tells { G.tells gate.new ≡ G.tells gate.old }
     ensures limits { G.limits gate.new ≡ G.limits gate.old }
     ensures told { IsTrue (G.tells gate.old) → 2 ≤ G.room gate.old → Gains (G.room gate.old) (G.room gate.new) (G.told gate.old) (G.told gate.new) (map told_of (call_ruling (shown heard.entry.now) result.negotiated result.looked result.admitted result.ended).asked) }
+    ensures answers { Asking G.answers gate.old (call_ruling (shown heard.entry.now) result.negotiated result.looked result.admitted result.ended).asked gate.new }
 {
     let flavour = heard.call.cred.flavour;
     if flavour != AUTH_NONE && flavour != GSS {
@@ -192,6 +197,7 @@ fn say_record<G: Gate>(
     ensures tells { G.tells gate.new ≡ G.tells gate.old }
     ensures limits { G.limits gate.new ≡ G.limits gate.old }
     ensures told { IsTrue (G.tells gate.old) → 2 ≤ G.room gate.old → Gains (G.room gate.old) (G.room gate.new) (G.told gate.old) (G.told gate.new) (map told_of (read_ruling bytes.now (record { now = now; draws = draws.now; negotiated = result.negotiated; looked = result.looked; admitted = result.admitted; ended = result.ended }) width (call_at bytes.now)).asked) }
+    ensures answers { Asking G.answers gate.old (read_ruling bytes.now (record { now = now; draws = draws.now; negotiated = result.negotiated; looked = result.looked; admitted = result.admitted; ended = result.ended }) width (call_at bytes.now)).asked gate.new }
 {
     match read_call(bytes) {
         Ok(call) => {
@@ -244,6 +250,7 @@ pub fn answer_record<G: Gate>(
     ensures limits { G.limits gate.new ≡ G.limits gate.old }
     // Exactly the questions that are due were asked, in order, want of memory aside, where it was a front of them.
     ensures told { IsTrue (G.tells gate.old) → 2 ≤ G.room gate.old → Gains (G.room gate.old) (G.room gate.new) (G.told gate.old) (G.told gate.new) (map told_of (record_ruling bytes.now (kept_answers result.kept) width).asked) }
+    ensures answers { Asking G.answers gate.old (record_ruling bytes.now (kept_answers result.kept) width).asked gate.new }
 {
     let Asks {
         negotiated,

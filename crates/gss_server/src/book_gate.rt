@@ -22,6 +22,7 @@ use std::alloc::Global;
 /// A book answers as its own contract says, and tells nothing of what it was asked.
 impl Gate for Book {
     ghost use Rattle.std.specs.Prelude.{false, []};
+    ghost use Rattle.gss_server.specs.Asking.{BookAnswers};
     ghost use Rattle.gss_server.specs.Telling.{limits_of};
 
     ghost tells = { λ _. false };
@@ -31,6 +32,8 @@ impl Gate for Book {
     ghost told = { λ _. [] };
 
     ghost limits = { λ book. limits_of book.core };
+
+    ghost answers = { BookAnswers };
 
     fn negotiate(
         &mut self,
@@ -51,6 +54,7 @@ impl Gate for Book {
         ensures tells { ⟦<Book as Gate>⟧.tells self.new ≡ ⟦<Book as Gate>⟧.tells self.old }
         ensures limits { ⟦<Book as Gate>⟧.limits self.new ≡ ⟦<Book as Gate>⟧.limits self.old }
         ensures told { IsTrue (⟦<Book as Gate>⟧.tells self.old) → 1 ≤ ⟦<Book as Gate>⟧.room self.old → Gains (⟦<Book as Gate>⟧.room self.old) (⟦<Book as Gate>⟧.room self.new) (⟦<Book as Gate>⟧.told self.old) (⟦<Book as Gate>⟧.told self.new) (told_of (AskedStep id token.now now draws.now result) ∷ []) }
+        ensures answers { ⟦<Book as Gate>⟧.answers self.old (AskedStep id token.now now draws.now result) self.new }
     {
         Book::negotiate(self, alloc, id, token, now, draws)
     }
@@ -62,6 +66,7 @@ impl Gate for Book {
         ensures tells { ⟦<Book as Gate>⟧.tells self.new ≡ ⟦<Book as Gate>⟧.tells self.old }
         ensures limits { ⟦<Book as Gate>⟧.limits self.new ≡ ⟦<Book as Gate>⟧.limits self.old }
         ensures told { IsTrue (⟦<Book as Gate>⟧.tells self.old) → 1 ≤ ⟦<Book as Gate>⟧.room self.old → Gains (⟦<Book as Gate>⟧.room self.old) (⟦<Book as Gate>⟧.room self.new) (⟦<Book as Gate>⟧.told self.old) (⟦<Book as Gate>⟧.told self.new) (told_of (AskedLook id now result) ∷ []) }
+        ensures answers { ⟦<Book as Gate>⟧.answers self.old (AskedLook id now result) self.new }
     {
         Book::look(self, id, now)
     }
@@ -81,6 +86,7 @@ impl Gate for Book {
         ensures tells { ⟦<Book as Gate>⟧.tells self.new ≡ ⟦<Book as Gate>⟧.tells self.old }
         ensures limits { ⟦<Book as Gate>⟧.limits self.new ≡ ⟦<Book as Gate>⟧.limits self.old }
         ensures told { IsTrue (⟦<Book as Gate>⟧.tells self.old) → 1 ≤ ⟦<Book as Gate>⟧.room self.old → Gains (⟦<Book as Gate>⟧.room self.old) (⟦<Book as Gate>⟧.room self.new) (⟦<Book as Gate>⟧.told self.old) (⟦<Book as Gate>⟧.told self.new) (told_of (AskedAdmit lease.now seq procedure args result) ∷ []) }
+        ensures answers { ⟦<Book as Gate>⟧.answers self.old (AskedAdmit lease.now seq procedure args result) self.new }
     {
         Book::admit(self, lease, seq, procedure, args)
     }
@@ -94,6 +100,7 @@ impl Gate for Book {
         ensures tells { ⟦<Book as Gate>⟧.tells self.new ≡ ⟦<Book as Gate>⟧.tells self.old }
         ensures limits { ⟦<Book as Gate>⟧.limits self.new ≡ ⟦<Book as Gate>⟧.limits self.old }
         ensures told { IsTrue (⟦<Book as Gate>⟧.tells self.old) → 1 ≤ ⟦<Book as Gate>⟧.room self.old → Gains (⟦<Book as Gate>⟧.room self.old) (⟦<Book as Gate>⟧.room self.new) (⟦<Book as Gate>⟧.told self.old) (⟦<Book as Gate>⟧.told self.new) (told_of (AskedEnd lease.now seq result) ∷ []) }
+        ensures answers { ⟦<Book as Gate>⟧.answers self.old (AskedEnd lease.now seq result) self.new }
     {
         Book::end(self, lease, seq)
     }

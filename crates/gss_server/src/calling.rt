@@ -6,6 +6,7 @@ ghost use Rattle.accept_book.specs.RecordShown.{is_verified, body_args, end_of};
 ghost use Rattle.accept_book.specs.RecordRule.{unadmitted, admitted_ruling, ask_admit, args_ruling, data_ruling};
 ghost use Rattle.gss_server.specs.Answers.{Says, Fits};
 ghost use Rattle.gss_server.specs.Hearing.{shown};
+ghost use Rattle.gss_server.specs.Asking.{Asking};
 ghost use Rattle.gss_server.specs.Telling.{Gains, told_of};
 
 use crate::gate::Gate;
@@ -95,6 +96,7 @@ fn ask_admission<G: Gate>(
     ensures tells { G.tells gate.new ≡ G.tells gate.old }
     ensures limits { G.limits gate.new ≡ G.limits gate.old }
     ensures told { IsTrue (G.tells gate.old) → 1 ≤ G.room gate.old → Gains (G.room gate.old) (G.room gate.new) (G.told gate.old) (G.told gate.new) (map told_of (ask_admit (shown heard.entry.now) (cred_value cred.now) lease.now args.now result.admitted).asked) }
+    ensures answers { Asking G.answers gate.old (ask_admit (shown heard.entry.now) (cred_value cred.now) lease.now args.now result.admitted).asked gate.new }
 {
     let digest = Sha1::digest(args);
     let answer = gate.admit(lease, cred.seq, heard.call.procedure, digest);
@@ -120,6 +122,7 @@ fn say_args<G: Gate>(
     ensures tells { G.tells gate.new ≡ G.tells gate.old }
     ensures limits { G.limits gate.new ≡ G.limits gate.old }
     ensures told { IsTrue (G.tells gate.old) → 1 ≤ G.room gate.old → Gains (G.room gate.old) (G.room gate.new) (G.told gate.old) (G.told gate.new) (map told_of (args_ruling (shown heard.entry.now) (cred_value cred.now) lease.now result.admitted args).asked) }
+    ensures answers { Asking G.answers gate.old (args_ruling (shown heard.entry.now) (cred_value cred.now) lease.now result.admitted args).asked gate.new }
 {
     let args = match args {
         Some(args) => args,
@@ -155,6 +158,7 @@ fn say_body<G: Gate>(
     ensures tells { G.tells gate.new ≡ G.tells gate.old }
     ensures limits { G.limits gate.new ≡ G.limits gate.old }
     ensures told { IsTrue (G.tells gate.old) → 1 ≤ G.room gate.old → Gains (G.room gate.old) (G.room gate.new) (G.told gate.old) (G.told gate.new) (map told_of (args_ruling (shown heard.entry.now) (cred_value cred.now) lease.now result.admitted (body_args (end_of lease.now) (cred_value cred.now) heard.entry.now.call.args.now)).asked) }
+    ensures answers { Asking G.answers gate.old (args_ruling (shown heard.entry.now) (cred_value cred.now) lease.now result.admitted (body_args (end_of lease.now) (cred_value cred.now) heard.entry.now.call.args.now)).asked gate.new }
 {
     match open_body(alloc, &end_at(lease), cred, heard.call.args) {
         Ok(args) => say_args(alloc, gate, heard, cred, lease, args),
@@ -178,6 +182,7 @@ pub(crate) fn say_data<G: Gate>(
     ensures tells { G.tells gate.new ≡ G.tells gate.old }
     ensures limits { G.limits gate.new ≡ G.limits gate.old }
     ensures told { IsTrue (G.tells gate.old) → 1 ≤ G.room gate.old → Gains (G.room gate.old) (G.room gate.new) (G.told gate.old) (G.told gate.new) (map told_of (data_ruling (shown heard.entry.now) (cred_value cred.now) lease.now result.admitted).asked) }
+    ensures answers { Asking G.answers gate.old (data_ruling (shown heard.entry.now) (cred_value cred.now) lease.now result.admitted).asked gate.new }
 {
     if !verified(heard, lease) {
         return unasked(say_denied(alloc, heard, 8, CRED_PROBLEM));

@@ -6,8 +6,8 @@ ghost use Rattle.accept_book.specs.RecordShown.{Ruling};
 ghost use Rattle.gss_server.specs.Answers.{IsReply, Fits};
 ghost use Rattle.gss_server.specs.Kept.{Keeps, moments_of, draws_of};
 ghost use Rattle.gss_server.specs.Turns.{Receives, Responds, Ruled, Replies, Turns};
-ghost use Rattle.gss_server.specs.Connections.{framed, ruling_for, told_for, IsServedBy, IsServed, StreamEnds};
-ghost use Rattle.gss_server.specs.Telling.{GainsWith};
+ghost use Rattle.gss_server.specs.Connections.{framed, ruling_for, asked_for, IsServedBy, IsServed, StreamEnds};
+ghost use Rattle.gss_server.specs.Asking.{IsAsked};
 
 use crate::answer::{Kept, Reply};
 use crate::answering::answer_record;
@@ -60,8 +60,9 @@ pub fn serve_link<L: Link, G: Gate, C: Clock, D: Draw>(
 ) -> Served<L>
     requires { L.closed link ≡ false }
     ensures told { IsTrue (L.tells link) → IsServed width (L.wire link) (L.wire result.link) result.kept.items result.end }
-    // A gate that tells, and has room for two questions a record, was asked what its records ask, in order.
-    ensures asked { IsTrue (L.tells link) → IsServedBy (GainsWith (G.tells gate.old) 131072 (G.room gate.old) (G.room gate.new) (G.told gate.old) (G.told gate.new)) width (L.wire link) (L.wire result.link) result.kept.items result.end }
+    // The gate was asked what the records ask, in order, each answer one that it may give behind those before; a gate that tells, and has
+    // room for two questions a record, told just these.
+    ensures asked { IsTrue (L.tells link) → IsServedBy (IsAsked G.answers G.tells G.room G.told 131072 gate.old gate.new) width (L.wire link) (L.wire result.link) result.kept.items result.end }
     // The end that the stream has comes, unless the link failed or there was no memory.
     ensures always { IsTrue (L.tells link) → (expected : ConnEnd) → StreamEnds (L.wire link) (L.wire result.link) expected
         → result.end ≢ ConnEnd.LinkFault → result.end ≢ ConnEnd.NoMemory → result.end ≡ expected }
@@ -96,7 +97,7 @@ fn serve<L: Link, G: Gate, C: Clock, D: Draw>(
 ) -> ConnEnd
     requires unclosed { L.closed link.old ≡ false }
     requires none { kept.old.items ≡ [] }
-    ensures told { IsTrue (L.tells link.old) → IsServedBy (GainsWith (G.tells gate.old) 131072 (G.room gate.old) (G.room gate.new) (G.told gate.old) (G.told gate.new)) width (L.wire link.old) (L.wire link.new) kept.new.items result }
+    ensures told { IsTrue (L.tells link.old) → IsServedBy (IsAsked G.answers G.tells G.room G.told 131072 gate.old gate.new) width (L.wire link.old) (L.wire link.new) kept.new.items result }
     ensures fault { result ≡ ConnEnd.LinkFault → Rose (L.faults link.old) (L.faults link.new) }
     ensures moments { IsTrue (C.tells clock.new) → Keeps (C.given clock.old) (C.given clock.new) [] kept.new.items moments_of }
     ensures draws { IsTrue (D.tells draw.new) → Keeps (D.given draw.old) (D.given draw.new) [] kept.new.items draws_of }
@@ -129,7 +130,7 @@ fn turn<L: Link, G: Gate, C: Clock, D: Draw>(
     width: u32,
 ) -> Option<ConnEnd>
     requires unclosed { L.closed link.old ≡ false }
-    ensures told { IsTrue (L.tells link.old) → Turns (GainsWith (G.tells gate.old) 2 (G.room gate.old) (G.room gate.new) (G.told gate.old) (G.told gate.new)) width (L.wire link.old) (L.wire link.new) kept.old.items kept.new.items result }
+    ensures told { IsTrue (L.tells link.old) → Turns (IsAsked G.answers G.tells G.room G.told 2 gate.old gate.new) width (L.wire link.old) (L.wire link.new) kept.old.items kept.new.items result }
     ensures fault { result ≡ Some ConnEnd.LinkFault → Rose (L.faults link.old) (L.faults link.new) }
     ensures moments { IsTrue (C.tells clock.new) → Keeps (C.given clock.old) (C.given clock.new) kept.old.items kept.new.items moments_of }
     ensures draws { IsTrue (D.tells draw.new) → Keeps (D.given draw.old) (D.given draw.new) kept.old.items kept.new.items draws_of }
@@ -189,7 +190,7 @@ fn reply_to_record<L: Link, G: Gate, C: Clock, D: Draw>(
     width: u32,
 ) -> Option<ConnEnd>
     requires unclosed { L.closed link.old ≡ false }
-    ensures told { IsTrue (L.tells link.old) → Replies (GainsWith (G.tells gate.old) 2 (G.room gate.old) (G.room gate.new) (G.told gate.old) (G.told gate.new)) width (L.wire link.old) (L.wire link.new) octets.now kept.old.items kept.new.items result }
+    ensures told { IsTrue (L.tells link.old) → Replies (IsAsked G.answers G.tells G.room G.told 2 gate.old gate.new) width (L.wire link.old) (L.wire link.new) octets.now kept.old.items kept.new.items result }
     ensures fault { result ≡ Some ConnEnd.LinkFault → Rose (L.faults link.old) (L.faults link.new) }
     ensures moments { IsTrue (C.tells clock.new) → Keeps (C.given clock.old) (C.given clock.new) kept.old.items kept.new.items moments_of }
     ensures draws { IsTrue (D.tells draw.new) → Keeps (D.given draw.old) (D.given draw.new) kept.old.items kept.new.items draws_of }
@@ -223,7 +224,7 @@ fn answer<G: Gate, C: Clock, D: Draw>(
     width: u32,
 ) -> Reply
     requires room { vec_len kept.old + 1 ≤ vec_capacity kept.old }
-    ensures reply { (one : Kept) × (kept.new.items ≡ kept.old.items ++ one ∷ []) × IsReply (ruling_for width octets.now one) result × (GainsWith (G.tells gate.old) 2 (G.room gate.old) (G.room gate.new) (G.told gate.old) (G.told gate.new)) (told_for width octets.now one) }
+    ensures reply { (one : Kept) × (kept.new.items ≡ kept.old.items ++ one ∷ []) × IsReply (ruling_for width octets.now one) result × IsAsked G.answers G.tells G.room G.told 2 gate.old gate.new (asked_for width octets.now one) }
     ensures fits { Fits result }
     ensures moments { IsTrue (C.tells clock.new) → Keeps (C.given clock.old) (C.given clock.new) kept.old.items kept.new.items moments_of }
     ensures draws { IsTrue (D.tells draw.new) → Keeps (D.given draw.old) (D.given draw.new) kept.old.items kept.new.items draws_of }

@@ -13,6 +13,7 @@ ghost use Rattle.accept_book.specs.RecordRule.{stepped, ask_step, continued, tok
 ghost use Rattle.gss_server.specs.Answers.{Says, Fits};
 ghost use Rattle.gss_server.specs.Hearing.{shown, handle_or_none};
 ghost use Rattle.accept_book.specs.Booking.{token_size};
+ghost use Rattle.gss_server.specs.Asking.{Asking};
 ghost use Rattle.gss_server.specs.Telling.{Gains, told_of};
 
 use crate::gate::Gate;
@@ -205,6 +206,7 @@ fn ask_for_step<G: Gate>(
     ensures tells { G.tells gate.new ≡ G.tells gate.old }
     ensures limits { G.limits gate.new ≡ G.limits gate.old }
     ensures told { IsTrue (G.tells gate.old) → 1 ≤ G.room gate.old → Gains (G.room gate.old) (G.room gate.new) (G.told gate.old) (G.told gate.new) (map told_of (ask_step (shown heard.entry.now) id token.now result.negotiated).asked) }
+    ensures answers { Asking G.answers gate.old (ask_step (shown heard.entry.now) id token.now result.negotiated).asked gate.new }
 {
     let draws = step_draws(&heard.draws);
     let negotiated = gate.negotiate(alloc, id, token, heard.now, &draws);
@@ -229,6 +231,7 @@ fn say_continued<G: Gate>(
     ensures tells { G.tells gate.new ≡ G.tells gate.old }
     ensures limits { G.limits gate.new ≡ G.limits gate.old }
     ensures told { IsTrue (G.tells gate.old) → 1 ≤ G.room gate.old → Gains (G.room gate.old) (G.room gate.new) (G.told gate.old) (G.told gate.new) (map told_of (continued (shown heard.entry.now) token.now result.negotiated id).asked) }
+    ensures answers { Asking G.answers gate.old (continued (shown heard.entry.now) token.now result.negotiated id).asked gate.new }
 {
     match id {
         None => unstepped(say_denied(alloc, heard, 6, CRED_PROBLEM)),
@@ -250,6 +253,7 @@ fn say_token<G: Gate>(
     ensures tells { G.tells gate.new ≡ G.tells gate.old }
     ensures limits { G.limits gate.new ≡ G.limits gate.old }
     ensures told { IsTrue (G.tells gate.old) → 1 ≤ G.room gate.old → Gains (G.room gate.old) (G.room gate.new) (G.told gate.old) (G.told gate.new) (map told_of (token_ruling (shown heard.entry.now) (cred_value cred.now) result.negotiated (Ok token.now)).asked) }
+    ensures answers { Asking G.answers gate.old (token_ruling (shown heard.entry.now) (cred_value cred.now) result.negotiated (Ok token.now)).asked gate.new }
 {
     if cred.proc == INIT {
         return ask_for_step(alloc, gate, heard, None, token);
@@ -271,6 +275,7 @@ pub(crate) fn say_creating<G: Gate>(
     ensures tells { G.tells gate.new ≡ G.tells gate.old }
     ensures limits { G.limits gate.new ≡ G.limits gate.old }
     ensures told { IsTrue (G.tells gate.old) → 1 ≤ G.room gate.old → Gains (G.room gate.old) (G.room gate.new) (G.told gate.old) (G.told gate.new) (map told_of (creation_ruling (shown heard.entry.now) (cred_value cred.now) result.negotiated).asked) }
+    ensures answers { Asking G.answers gate.old (creation_ruling (shown heard.entry.now) (cred_value cred.now) result.negotiated).asked gate.new }
 {
     let call = &heard.call;
     if call.program != PROGRAM {

@@ -3,6 +3,7 @@
 ghost use Rattle.std.specs.Prelude.{◌≡◌, ◌≢◌, ◌≤◌, ◌⊎◌, ℕ, List, [], ◌∷◌, IsTrue, vec_len};
 ghost use Rattle.sec_base.specs.Answers.{Rose};
 ghost use Rattle.gss_server.specs.Desks.{ServedInOrder, NoneWanted, AllWithin};
+ghost use Rattle.gss_server.specs.Through.{DeskAsked};
 
 use crate::connection::{ConnEnd, Served, serve_link};
 use crate::gate::Gate;
@@ -48,6 +49,8 @@ where
     ensures most { vec_len desk.new.served ≤ connections }
     ensures within { AllWithin desk.new.served.items }
     ensures limits { G.limits gate.new ≡ G.limits gate.old }
+    // The gate was asked by one connection after the other.
+    ensures asked { DeskAsked G.answers width P.tells P.links P.Link.tells P.Link.wire gate.old desk.old desk.new gate.new }
 {
     for number in 0..connections {
         match desk.served.reserve(1) {

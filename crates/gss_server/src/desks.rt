@@ -2,6 +2,7 @@
 
 ghost use Rattle.std.specs.Prelude.{◌≡◌, ◌≢◌, ◌<◌, ◌≤◌, ◌*◌, ℕ, true, IsTrue, Some, length, slice_get};
 ghost use Rattle.std.specs.List.{AllByRecursion};
+ghost use Rattle.gss_server.specs.Through.{DeskAsked, InTurn};
 ghost use Rattle.gss_server.specs.Desks.{IsFresh, IsSmall, DeskServed, DeskDone, DeskFailed, joined, is_begun, Ran, AllWithin, records_of, all_connections, all_records};
 
 use crate::connection::Served;
@@ -43,6 +44,7 @@ where
     ensures begun { result ≢ RunEnd.NoMemory → is_begun result ≡ true }
     ensures count { length desks.new ≡ length desks.old }
     ensures limits { G.limits gate.new ≡ G.limits gate.old }
+    ensures asked { InTurn (DeskAsked G.answers width P.tells P.links P.Link.tells P.Link.wire) gate.old desks.old desks.new gate.new }
 {
     let mut end = RunEnd::Served;
     let mut number = 0;

@@ -238,6 +238,7 @@ impl ListGate {
 
 impl Gate for ListGate {
     ghost use Rattle.std.specs.Prelude.{◌-◌, true, vec_len};
+    ghost use Rattle.gss_server.specs.Asking.{ListAnswers};
 
     ghost tells = { λ _. true };
 
@@ -246,6 +247,8 @@ impl Gate for ListGate {
     ghost told = { λ gate. gate.told.items };
 
     ghost limits = { λ _. record { contexts = 0; marks = 0; log = 0; width = 0 } };
+
+    ghost answers = { λ old asked new. ListAnswers old.answers.items asked new.answers.items };
 
     fn negotiate(
         &mut self,
@@ -261,6 +264,7 @@ impl Gate for ListGate {
         ensures tells { ⟦<ListGate as Gate>⟧.tells self.new ≡ ⟦<ListGate as Gate>⟧.tells self.old }
         ensures limits { ⟦<ListGate as Gate>⟧.limits self.new ≡ ⟦<ListGate as Gate>⟧.limits self.old }
         ensures told { IsTrue (⟦<ListGate as Gate>⟧.tells self.old) → 1 ≤ ⟦<ListGate as Gate>⟧.room self.old → Gains (⟦<ListGate as Gate>⟧.room self.old) (⟦<ListGate as Gate>⟧.room self.new) (⟦<ListGate as Gate>⟧.told self.old) (⟦<ListGate as Gate>⟧.told self.new) (told_of (AskedStep id token.now now draws.now result) ∷ []) }
+        ensures answers { ⟦<ListGate as Gate>⟧.answers self.old (AskedStep id token.now now draws.now result) self.new }
     {
         let negotiated = self.next_step();
         let draws = *draws;
@@ -283,6 +287,7 @@ impl Gate for ListGate {
         ensures tells { ⟦<ListGate as Gate>⟧.tells self.new ≡ ⟦<ListGate as Gate>⟧.tells self.old }
         ensures limits { ⟦<ListGate as Gate>⟧.limits self.new ≡ ⟦<ListGate as Gate>⟧.limits self.old }
         ensures told { IsTrue (⟦<ListGate as Gate>⟧.tells self.old) → 1 ≤ ⟦<ListGate as Gate>⟧.room self.old → Gains (⟦<ListGate as Gate>⟧.room self.old) (⟦<ListGate as Gate>⟧.room self.new) (⟦<ListGate as Gate>⟧.told self.old) (⟦<ListGate as Gate>⟧.told self.new) (told_of (AskedLook id now result) ∷ []) }
+        ensures answers { ⟦<ListGate as Gate>⟧.answers self.old (AskedLook id now result) self.new }
     {
         let answer = self.next_look();
         self.tell(told_look(id, now, &answer));
@@ -301,6 +306,7 @@ impl Gate for ListGate {
         ensures tells { ⟦<ListGate as Gate>⟧.tells self.new ≡ ⟦<ListGate as Gate>⟧.tells self.old }
         ensures limits { ⟦<ListGate as Gate>⟧.limits self.new ≡ ⟦<ListGate as Gate>⟧.limits self.old }
         ensures told { IsTrue (⟦<ListGate as Gate>⟧.tells self.old) → 1 ≤ ⟦<ListGate as Gate>⟧.room self.old → Gains (⟦<ListGate as Gate>⟧.room self.old) (⟦<ListGate as Gate>⟧.room self.new) (⟦<ListGate as Gate>⟧.told self.old) (⟦<ListGate as Gate>⟧.told self.new) (told_of (AskedAdmit lease.now seq procedure args result) ∷ []) }
+        ensures answers { ⟦<ListGate as Gate>⟧.answers self.old (AskedAdmit lease.now seq procedure args result) self.new }
     {
         let answer = self.next_admission();
         self.tell(told_admission(lease, seq, procedure, args, &answer));
@@ -313,6 +319,7 @@ impl Gate for ListGate {
         ensures tells { ⟦<ListGate as Gate>⟧.tells self.new ≡ ⟦<ListGate as Gate>⟧.tells self.old }
         ensures limits { ⟦<ListGate as Gate>⟧.limits self.new ≡ ⟦<ListGate as Gate>⟧.limits self.old }
         ensures told { IsTrue (⟦<ListGate as Gate>⟧.tells self.old) → 1 ≤ ⟦<ListGate as Gate>⟧.room self.old → Gains (⟦<ListGate as Gate>⟧.room self.old) (⟦<ListGate as Gate>⟧.room self.new) (⟦<ListGate as Gate>⟧.told self.old) (⟦<ListGate as Gate>⟧.told self.new) (told_of (AskedEnd lease.now seq result) ∷ []) }
+        ensures answers { ⟦<ListGate as Gate>⟧.answers self.old (AskedEnd lease.now seq result) self.new }
     {
         let answer = self.next_end();
         self.tell(told_end(lease, seq, &answer));

@@ -6,6 +6,7 @@ ghost use Rattle.accept_book.specs.RecordShown.{decided, handle_id};
 ghost use Rattle.accept_book.specs.RecordRule.{ended_ruling, ask_end, destroy_ruling, looked_ruling, ask_look, id_ruling};
 ghost use Rattle.gss_server.specs.Answers.{Says, Fits};
 ghost use Rattle.gss_server.specs.Hearing.{shown};
+ghost use Rattle.gss_server.specs.Asking.{Asking};
 ghost use Rattle.gss_server.specs.Telling.{Gains, told_of};
 
 use crate::calling::{Admits, say_data, say_unadmitted, verified};
@@ -72,6 +73,7 @@ fn ask_for_end<G: Gate>(
     ensures tells { G.tells gate.new ≡ G.tells gate.old }
     ensures limits { G.limits gate.new ≡ G.limits gate.old }
     ensures told { IsTrue (G.tells gate.old) → 1 ≤ G.room gate.old → Gains (G.room gate.old) (G.room gate.new) (G.told gate.old) (G.told gate.new) (map told_of (ask_end (shown heard.entry.now) (cred_value cred.now) lease.now result.ended).asked) }
+    ensures answers { Asking G.answers gate.old (ask_end (shown heard.entry.now) (cred_value cred.now) lease.now result.ended).asked gate.new }
 {
     let answer = gate.end(lease, cred.seq);
     let said = say_ended(alloc, heard, cred, lease, &answer);
@@ -97,6 +99,7 @@ fn say_destroy<G: Gate>(
     ensures tells { G.tells gate.new ≡ G.tells gate.old }
     ensures limits { G.limits gate.new ≡ G.limits gate.old }
     ensures told { IsTrue (G.tells gate.old) → 1 ≤ G.room gate.old → Gains (G.room gate.old) (G.room gate.new) (G.told gate.old) (G.told gate.new) (map told_of (destroy_ruling (shown heard.entry.now) (cred_value cred.now) lease.now result.ended).asked) }
+    ensures answers { Asking G.answers gate.old (destroy_ruling (shown heard.entry.now) (cred_value cred.now) lease.now result.ended).asked gate.new }
 {
     if !verified(heard, lease) {
         return unended(say_denied(alloc, heard, 8, CRED_PROBLEM));
@@ -144,6 +147,7 @@ fn say_looked<G: Gate>(
     ensures tells { G.tells gate.new ≡ G.tells gate.old }
     ensures limits { G.limits gate.new ≡ G.limits gate.old }
     ensures told { IsTrue (G.tells gate.old) → 1 ≤ G.room gate.old → Gains (G.room gate.old) (G.room gate.new) (G.told gate.old) (G.told gate.new) (map told_of (looked_ruling (shown heard.entry.now) (cred_value cred.now) result.admitted result.ended answer.now).asked) }
+    ensures answers { Asking G.answers gate.old (looked_ruling (shown heard.entry.now) (cred_value cred.now) result.admitted result.ended answer.now).asked gate.new }
 {
     match answer {
         Ok(lease) => {
@@ -196,6 +200,7 @@ pub(crate) fn ask_for_look<G: Gate>(
     ensures tells { G.tells gate.new ≡ G.tells gate.old }
     ensures limits { G.limits gate.new ≡ G.limits gate.old }
     ensures told { IsTrue (G.tells gate.old) → 2 ≤ G.room gate.old → Gains (G.room gate.old) (G.room gate.new) (G.told gate.old) (G.told gate.new) (map told_of (ask_look (shown heard.entry.now) (cred_value cred.now) id result.admitted result.ended result.looked).asked) }
+    ensures answers { Asking G.answers gate.old (ask_look (shown heard.entry.now) (cred_value cred.now) id result.admitted result.ended result.looked).asked gate.new }
 {
     let answer = gate.look(id, heard.now);
     let Leased {

@@ -1,15 +1,19 @@
 //! The run of the server.
 
-ghost use Rattle.std.specs.Prelude.{◌≡◌, ◌≢◌, ◌<◌, ◌≤◌, ℕ, List, [], true, false, IsTrue, IfOk, Some, Ok, Err, unwrap_or, length, vec_len, reverse, slice_get};
+ghost use Rattle.std.specs.Prelude.{◌≡◌, ◌≢◌, ◌⊎◌, ◌<◌, ◌≤◌, ◌++◌, ℕ, List, [], take, true, false, IsTrue, IfOk, Some, Ok, Err, unwrap_or, length, vec_len, reverse, slice_get};
 ghost use Rattle.std.specs.List.{AllByRecursion};
 ghost use Rattle.sec_base.specs.Answers.{Rose};
 ghost use Rattle.cli_base.specs.Lines.{Says};
 ghost use Rattle.accept_book.specs.Legal.{Legal};
+ghost use Rattle.accept_book.specs.Booking.{BookOf};
+ghost use Rattle.krb_files.specs.declared.keytab.Entry.{Entry};
 ghost use Rattle.gss_base.specs.Principal.{text_form};
 ghost use Rattle.gss_server.specs.Desks.{IsFresh, IsSmall, DeskServed, DeskDone, DeskFailed, is_begun, Ran, all_connections, all_records};
 ghost use Rattle.gss_server.specs.Lines.{status_of, line_of};
 ghost use Rattle.gss_server.specs.Options.{options_of, IsRanged};
-ghost use Rattle.gss_server.specs.Runs.{file_of, name_of, EndsBy, Begins, HasLimits, IsValid, no_log};
+ghost use Rattle.gss_server.specs.Asking.{BookAnswers};
+ghost use Rattle.gss_server.specs.Through.{DeskAsked, InTurn, IsOpened, IsLogOf, Booked};
+ghost use Rattle.gss_server.specs.Runs.{files_of, file_of, name_of, EndsBy, Begins, HasLimits, IsValid, no_log};
 ghost use Rattle.gss_server.specs.Keytabs.{IsKeytab};
 
 use crate::desk::Desk;
@@ -58,14 +62,7 @@ fn open_book(
     start: Moment,
 ) -> Result<Book, NoMemory>
     requires { IsRanged options }
-    ensures history { IfOk result (λ book. book.core.history ≡ []) }
-    ensures limit { IfOk result (λ book. book.core.limit ≡ options.log) }
-    ensures width { IfOk result (λ book. book.core.width ≡ options.window) }
-    ensures contexts { IfOk result (λ book. book.core.table.limit ≡ options.contexts) }
-    ensures marks { IfOk result (λ book. book.core.cache.capacity ≡ options.marks) }
-    ensures own { IfOk result (λ book. book.setup.own ≡ options.name) }
-    ensures keytab { IfOk result (λ book. book.setup.keytab ≡ keytab) }
-    ensures bindings { IfOk result (λ book. book.setup.bindings ≡ options.bindings) }
+    ensures opened { IfOk result (λ book. IsOpened options keytab start book) }
 {
     let mut offer = Vec::new(alloc);
     offer.push(MechKind::Kerberos)?;
@@ -103,6 +100,7 @@ where
     ensures begun { result.end ≢ RunEnd.NoMemory → is_begun result.end ≡ true }
     ensures small { AllByRecursion IsSmall desks.new.items }
     ensures legal { Legal result.log.width (reverse result.log.entries) }
+    ensures asked { (last : BookOf) × InTurn (DeskAsked BookAnswers width P.tells P.links P.Link.tells P.Link.wire) book desks.old.items desks.new.items last × IsLogOf last result.log }
     ensures width { result.log.width ≡ book.core.width }
     ensures limit { result.log.limit ≡ book.core.limit }
     ensures contexts { result.log.contexts ≡ book.core.table.limit }
@@ -136,6 +134,7 @@ where
     ensures small { AllByRecursion IsSmall desks.new.items }
     ensures legal { Legal result.log.width (reverse result.log.entries) }
     ensures limits { is_begun result.end ≡ true → HasLimits options result.log }
+    ensures booked { ((result.end ≡ RunEnd.NoMemory) × (desks.new.items ≡ desks.old.items)) ⊎ Booked options keytab start (λ first last. InTurn (DeskAsked BookAnswers options.window P.tells P.links P.Link.tells P.Link.wire) first desks.old.items desks.new.items last) result.log }
 {
     let connections = options.connections;
     let width = options.window;
@@ -250,6 +249,11 @@ where
     ensures count { vec_len desks.new ≡ vec_len desks.old }
     ensures named { (desk : ℕ) → result.end ≡ RunEnd.PortFault desk → (0 < desk) × (desk ≤ vec_len desks.old) }
     ensures other { result.end ≢ RunEnd.Usage }
+    ensures idle { is_begun result.end ≡ false → result.end ≢ RunEnd.NoMemory → desks.new.items ≡ desks.old.items }
+    ensures named_files { IsTrue (F.tells shelf.old) → (count : ℕ) × (F.asked shelf.new ≡ F.asked shelf.old ++ take count (files_of (Ok options))) }
+    ensures booked { ((is_begun result.end ≡ false) × (desks.new.items ≡ desks.old.items))
+        ⊎ ((keytab : List Entry) × IsKeytab (F.tells shelf.old) (F.files shelf.old) (F.asked shelf.old) (F.asked shelf.new) (F.faults shelf.old) (F.faults shelf.new) options.keytab options.name (Ok keytab)
+        × Booked options keytab start (λ first last. InTurn (DeskAsked BookAnswers options.window P.tells P.links P.Link.tells P.Link.wire) first desks.old.items desks.new.items last) result.log) }
 {
     match keytab_given(alloc, shelf, &options.keytab, &options.name) {
         Ok(keytab) => {
@@ -284,8 +288,11 @@ where
     // The words are refused exactly where they aren't in the command, want of memory aside.
     ensures usage { result.end ≡ RunEnd.Usage → options_of words.now ≡ Err WordsRefusal.Usage }
     ensures always_usage { options_of words.now ≡ Err WordsRefusal.Usage → result.end ≢ RunEnd.NoMemory → result.end ≡ RunEnd.Usage }
-    ensures unasked { result.end ≡ RunEnd.Usage → desks.new.items ≡ desks.old.items }
+    ensures unasked { (refusal : WordsRefusal) → options_of words.now ≡ Err refusal → desks.new.items ≡ desks.old.items }
+    // Where no desk was served, the desks stay as they were; and at most the files that the words name are asked for, each once.
+    ensures idle { is_begun result.end ≡ false → result.end ≢ RunEnd.NoMemory → desks.new.items ≡ desks.old.items }
     ensures unloaded { result.end ≡ RunEnd.Usage → F.asked shelf.new ≡ F.asked shelf.old }
+    ensures named_files { IsTrue (F.tells shelf.old) → (count : ℕ) × (F.asked shelf.new ≡ F.asked shelf.old ++ take count (files_of (options_of words.now))) }
     // Words in the command: the run ends by what the keytab comes to.
     ensures begins { (options : Options) → options_of words.now ≡ Ok options → result.end ≢ RunEnd.NoMemory
         → Begins (F.tells shelf.old) (F.files shelf.old) (F.asked shelf.old) (F.asked shelf.new) (F.faults shelf.old) (F.faults shelf.new) options result.end }
@@ -303,6 +310,12 @@ where
     // The log is legal, and was kept under the limits of the words.
     ensures legal { Legal result.log.width (reverse result.log.entries) }
     ensures limits { (options : Options) → options_of words.now ≡ Ok options → is_begun result.end ≡ true → HasLimits options result.log }
+    // One book, of the setup that words and keytab give, gave all answers to the desks, in their order, from its opening to the log that
+    // is returned; or no desk was served.
+    ensures booked { (options : Options) → options_of words.now ≡ Ok options
+        → ((is_begun result.end ≡ false) × (desks.new.items ≡ desks.old.items))
+        ⊎ ((keytab : List Entry) × IsKeytab (F.tells shelf.old) (F.files shelf.old) (F.asked shelf.old) (F.asked shelf.new) (F.faults shelf.old) (F.faults shelf.new) options.keytab options.name (Ok keytab)
+        × Booked options keytab start (λ first last. InTurn (DeskAsked BookAnswers options.window P.tells P.links P.Link.tells P.Link.wire) first desks.old.items desks.new.items last) result.log) }
 {
     match read_options(alloc, words) {
         Ok(options) => run_with(alloc, options, shelf, desks, start, err),

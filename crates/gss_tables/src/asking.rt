@@ -40,6 +40,8 @@ impl Gate for Asking {
 
     ghost limits = { λ _. record { contexts = 0; marks = 0; log = 0; width = 0 } };
 
+    ghost answers = { λ _ _ _. Unit {0} };
+
     fn negotiate(
         &mut self,
         alloc: Global,

@@ -1,12 +1,12 @@
 use Rattle.std.proofs.Common.{◌≡◌, ◌≤◌, false, IsTrue, [], vec_len}
 use Rattle.gss_server.specs.Kept.{Keeps, moments_of, draws_of}
 use Rattle.gss_server.specs.Serving.{Serving}
-use Rattle.gss_server.specs.Telling.{GainsWith}
+use Rattle.gss_server.specs.Asking.{IsAsked}
 use Rattle.gss_server.proofs.connection.serve.Given as goal
 
 abbrev pub invariant-loop-number : goal.invariant-loop-number
 invariant-loop-number g l = record {
-  told : IsTrue (g.L.Link.tells l.fn.link) → Serving (GainsWith (g.G.Gate.tells l.fn.gate) 131072 (g.G.Gate.room l.fn.gate) (g.G.Gate.room l.gate) (g.G.Gate.told l.fn.gate) (g.G.Gate.told l.gate)) l.width (g.L.Link.wire l.fn.link) (g.L.Link.wire l.link) l.kept.items l.number;
+  told : IsTrue (g.L.Link.tells l.fn.link) → Serving (IsAsked g.G.Gate.answers g.G.Gate.tells g.G.Gate.room g.G.Gate.told 131072 l.fn.gate l.gate) l.width (g.L.Link.wire l.fn.link) (g.L.Link.wire l.link) l.kept.items l.number;
   tells : g.L.Link.tells l.link ≡ g.L.Link.tells l.fn.link;
   unclosed : g.L.Link.closed l.link ≡ false;
   faults : g.L.Link.faults l.fn.link ≤ g.L.Link.faults l.link;

@@ -1,6 +1,6 @@
 use Rattle.std.proofs.Common.{◌≡◌, ◌∙◌, IsTrue}
 use Rattle.rpc_msgs.specs.Records.{octets_in}
-use Rattle.gss_server.proofs.Turning.{gains-none, turned, unread}
+use Rattle.gss_server.proofs.Turning.{asked-none, turned, unread}
 use Rattle.gss_server.proofs.connection.turn.Goals as goal
 
 pub returns-in-Ok-clause-told : goal.returns-in-Ok-clause-told
@@ -11,4 +11,4 @@ returns-in-Ok-clause-told g c = λ t.
     turned _ c.args.width _ _ _ read.0 c.reply_to_record.result read.1 read.3 (rw octets at c.reply_to_record.ensures.told tells)
 
 pub returns-in-Err-clause-told : goal.returns-in-Err-clause-told
-returns-in-Err-clause-told g c = λ t. unread _ c.args.width _ _ _ c.in-Err.end (gains-none _ 2 _ _) (c.in-Err.ensures.told t)
+returns-in-Err-clause-told g c = λ t. unread _ c.args.width _ _ _ c.in-Err.end (asked-none _ _ _ _ 2 _) (c.in-Err.ensures.told t)

@@ -1,6 +1,8 @@
 use Rattle.std.proofs.Common.{◌∙◌, ◌++◌, ◌∷◌, [], arith, ap, sym, subst, IsTrue}
 use Rattle.gss_server.specs.Desks.{ServedInOrder, NoneWanted, AllWithin}
 use Rattle.gss_server.proofs.ServedLinks.{served-more, none-wanted-more, within-more, pushed, pushed-count, accepted}
+use Rattle.gss_server.specs.Through.{LinksInTurn}
+use Rattle.gss_server.proofs.InTurn.{served-as, links-more}
 use Rattle.gss_server.proofs.desk.serve_desk.Goals as goal
 
 pub returns-in-NoMemory-clause-told : goal.returns-in-NoMemory-clause-told
@@ -12,6 +14,16 @@ returns-in-NoMemory-clause-told g c = λ t.
     (c.loop-number.invariant.told t)
     (accepted _ _ c.in-Ok-Some.link c.in-Ok-Some.field-0 c.in-Ok-Some.field-0-is (c.in-Ok-Some.ensures.told tells))
     (record { told = c.serve_link-served.ensures.told; always = c.serve_link-served.ensures.always; fault = c.serve_link-served.ensures.fault }))
+
+pub returns-in-NoMemory-clause-asked : goal.returns-in-NoMemory-clause-asked
+returns-in-NoMemory-clause-asked g c = λ t.
+    let tells : IsTrue (g.P.Port.tells c.loop-number.desk.port) = rw c.loop-number.invariant.tells t in
+    subst (λ xs. LinksInTurn g.G.Gate.answers c.args.width g.P.Link.Link.tells g.P.Link.Link.wire c.args.gate.now c.serve_link-served.new.gate (g.P.Port.links c.args.desk.now.port) (g.P.Port.links c.accept.new.self) xs)
+    (sym (pushed c.push.result _ _ _ _ _ c.push.ensures.items c.push.ensures.full c.in-Ok.ensures.ok ∙ ap (λ xs. xs ++ c.serve_link-served.result ∷ []) c.reserve.ensures.items))
+    (links-more c.args.width _ _ c.args.gate.now c.loop-number.gate c.serve_link-served.new.gate _ (g.P.Port.links c.loop-number.desk.port) (g.P.Port.links c.accept.new.self) c.loop-number.desk.served.items c.in-Ok-Some.link c.serve_link-served.result
+    (c.loop-number.invariant.asked t)
+    (accepted _ _ c.in-Ok-Some.link c.in-Ok-Some.field-0 c.in-Ok-Some.field-0-is (c.in-Ok-Some.ensures.told tells))
+    (λ told. served-as (λ asked p. p.answers) c.args.width _ _ _ _ (c.serve_link-served.ensures.asked told)))
 
 pub loop-number-preserved : goal.loop-number-preserved
 loop-number-preserved g c = record {
@@ -32,5 +44,13 @@ loop-number-preserved g c = record {
       (sym (pushed c.push.result _ _ _ _ _ c.push.ensures.items c.push.ensures.full c.in-Ok.ensures.ok ∙ ap (λ xs. xs ++ c.serve_link-served.result ∷ []) c.reserve.ensures.items))
       (within-more _ _ c.loop-number.invariant.within c.serve_link-served.ensures.bound);
   limits = c.serve_link-served.ensures.limits ∙ c.loop-number.invariant.limits;
+  asked = λ t.
+      let tells : IsTrue (g.P.Port.tells c.loop-number.desk.port) = rw c.loop-number.invariant.tells t in
+      subst (λ xs. LinksInTurn g.G.Gate.answers c.args.width g.P.Link.Link.tells g.P.Link.Link.wire c.args.gate.now c.serve_link-served.new.gate (g.P.Port.links c.args.desk.now.port) (g.P.Port.links c.accept.new.self) xs)
+      (sym (pushed c.push.result _ _ _ _ _ c.push.ensures.items c.push.ensures.full c.in-Ok.ensures.ok ∙ ap (λ xs. xs ++ c.serve_link-served.result ∷ []) c.reserve.ensures.items))
+      (links-more c.args.width _ _ c.args.gate.now c.loop-number.gate c.serve_link-served.new.gate _ (g.P.Port.links c.loop-number.desk.port) (g.P.Port.links c.accept.new.self) c.loop-number.desk.served.items c.in-Ok-Some.link c.serve_link-served.result
+      (c.loop-number.invariant.asked t)
+      (accepted _ _ c.in-Ok-Some.link c.in-Ok-Some.field-0 c.in-Ok-Some.field-0-is (c.in-Ok-Some.ensures.told tells))
+      (λ told. served-as (λ asked p. p.answers) c.args.width _ _ _ _ (c.serve_link-served.ensures.asked told)));
   count = omega (arith, pushed-count c.push.result _ _ _ _ c.push.ensures.len c.push.ensures.full c.in-Ok.ensures.ok, c.reserve.ensures.len);
 }

@@ -1,5 +1,6 @@
 use Rattle.std.proofs.Common.{◌≡◌, ◌≤◌, IsTrue, vec_len}
 use Rattle.gss_server.specs.Desks.{ServedInOrder, NoneWanted, AllWithin}
+use Rattle.gss_server.specs.Through.{DeskAsked}
 use Rattle.gss_server.proofs.desk.serve_desk.Given as goal
 
 abbrev pub invariant-loop-number : goal.invariant-loop-number
@@ -10,5 +11,6 @@ invariant-loop-number g l = record {
   none_wanted : NoneWanted l.desk.served.items;
   within : AllWithin l.desk.served.items;
   limits : g.G.Gate.limits l.gate ≡ g.G.Gate.limits l.fn.gate;
+  asked : DeskAsked g.G.Gate.answers l.width g.P.Port.tells g.P.Port.links g.P.Link.Link.tells g.P.Link.Link.wire l.fn.gate l.fn.desk l.desk l.gate;
   count : vec_len l.desk.served ≡ l.number;
 }

@@ -1,7 +1,8 @@
-use Rattle.std.proofs.Common.{arith, ◌≡◌, ◌<◌, ◌≤◌, ◌+◌, length, ◌∙◌}
+use Rattle.std.proofs.Common.{arith, ◌≡◌, ◌<◌, ◌≤◌, ◌+◌, length, ◌∙◌, sym}
 use Rattle.std.proofs.lemmas.Option.{slice_get-get_or, slice_get_within}
 use Rattle.gss_server.specs.Desks.{IsFresh}
 use Rattle.gss_server.proofs.DeskRuns.{run-step, all-more, begun-more}
+use Rattle.gss_server.proofs.InTurn.{turn-more, take-all}
 use Rattle.gss_server.proofs.desks.serve_desks.Goals as goal
 
 pub loop-desk-preserved : goal.loop-desk-preserved
@@ -16,6 +17,7 @@ loop-desk-preserved g c =
           (λ e. record { all = c.serve_desk-desk_end.ensures.done e; none_wanted = c.serve_desk-desk_end.ensures.none_wanted e })
           c.serve_desk-desk_end.ensures.fault));
       begun = rw (c.joined-end.ensures) (begun-more c.loop-desk.end c.serve_desk-desk_end.result (c.loop-desk.number + 1) c.loop-desk.invariant.begun);
+      asked = turn-more _ _ _ _ c.loop-desk.desk-index _ _ _ _ c.loop-desk.invariant.run.rest (slice_get-get_or c.loop-desk.desks c.loop-desk.desk-index c.desk-item.result within) c.loop-desk.invariant.asked c.serve_desk-desk_end.ensures.asked;
       limits = c.serve_desk-desk_end.ensures.limits ∙ c.loop-desk.invariant.limits;
     }
 
@@ -29,3 +31,9 @@ pub returns-clause-named : goal.returns-clause-named
 returns-clause-named g c = λ desk e.
     let both : (0 < desk) × (desk ≤ c.loop-desk.desk-index) = c.loop-desk.invariant.run.named desk e in
     (both.0, omega (arith, both.1, c.loop-desk.auto))
+
+pub returns-clause-asked : goal.returns-clause-asked
+returns-clause-asked g c =
+    let old : length c.args.desks.now ≤ c.loop-desk.desk-index = omega (arith, c.loop-desk.auto, c.loop-desk-test.false) in
+    let new : length c.loop-desk.desks ≤ c.loop-desk.desk-index = omega (arith, c.loop-desk.auto, c.loop-desk-test.false) in
+    rw (sym (take-all _ c.loop-desk.desk-index old)) (rw (sym (take-all _ c.loop-desk.desk-index new)) c.loop-desk.invariant.asked)

@@ -1,7 +1,8 @@
-use Rattle.std.proofs.Common.{◌≡◌, ◌≢◌, true, drop}
+use Rattle.std.proofs.Common.{◌≡◌, ◌≢◌, true, take, drop}
 use Rattle.std.specs.List.{AllByRecursion}
 use Rattle.gss_server.specs.Desks.{DeskServed, DeskDone, DeskFailed, IsFresh, is_begun}
 use Rattle.gss_server.specs.declared.ending.RunEnd.TheVariants.{NoMemory}
+use Rattle.gss_server.specs.Through.{DeskAsked, InTurn}
 use Rattle.gss_server.proofs.DeskRuns.{Runs}
 use Rattle.gss_server.proofs.desks.serve_desks.Given as goal
 
@@ -11,5 +12,6 @@ invariant-loop-desk g l = record {
   fresh : AllByRecursion IsFresh (drop l.desk-index l.desks);
   run : Runs (DeskServed l.width l.connections g.P.Port.tells g.P.Port.links g.P.Link.Link.tells g.P.Link.Link.wire g.P.Link.Link.faults) (DeskDone l.connections g.P.Port.tells g.P.Port.links) (DeskFailed g.P.Port.faults) l.end l.desk-index l.fn.desks l.desks;
   begun : l.end ≢ NoMemory → is_begun l.end ≡ true;
+  asked : InTurn (DeskAsked g.G.Gate.answers l.width g.P.Port.tells g.P.Port.links g.P.Link.Link.tells g.P.Link.Link.wire) l.fn.gate (take l.desk-index l.fn.desks) (take l.desk-index l.desks) l.gate;
   limits : g.G.Gate.limits l.gate ≡ g.G.Gate.limits l.fn.gate;
 }
