@@ -65,15 +65,15 @@ turned gained width c before after cut (Some NoMemory) r t (inl p) =
     inl (frame cut, inr (record { cut = cut; is_record = r; spelled = refl }), record { kept = p.kept; went = went-put t p.put; asked = p.asked })
 turned gained width c before after cut (Some NoMemory) r t (inr p) = inr (cut, p.0, p.1, record { is_record = r; kept = p.2.kept; went = went-put t p.2.put; answered = p.2.answered; asked = p.2.asked })
 
-each-push : (records : List Fragments) (cut : Fragments) → AllByRecursion IsRecord records → IsRecord cut → AllByRecursion IsRecord (records ++ cut ∷ [])
+pub each-push : (records : List Fragments) (cut : Fragments) → AllByRecursion IsRecord records → IsRecord cut → AllByRecursion IsRecord (records ++ cut ∷ [])
 each-push [] cut all r = (r, tt)
 each-push (x ∷ records) cut all r = (all.0, each-push records cut all.1 r)
 
-octets_of-push : (records : List Fragments) (cut : Fragments) → octets_of records ++ frame cut ≡ octets_of (records ++ cut ∷ [])
+pub octets_of-push : (records : List Fragments) (cut : Fragments) → octets_of records ++ frame cut ≡ octets_of (records ++ cut ∷ [])
 octets_of-push records cut =
     ap (λ (zs : List ℕ). octets_of records ++ zs) (sym (append-nil (frame cut))) ∙ sym (flat_map-append frame records (cut ∷ []))
 
-order-push : {A : Type 0} (each : List ℕ → Kept → List A) (records : List Fragments) (kept : List Kept) (cut : Fragments) (one : Kept) → length records ≡ length kept → in_order each (records ++ cut ∷ []) (kept ++ one ∷ []) ≡ in_order each records kept ++ each (octets_in cut) one
+pub order-push : {A : Type 0} (each : List ℕ → Kept → List A) (records : List Fragments) (kept : List Kept) (cut : Fragments) (one : Kept) → length records ≡ length kept → in_order each (records ++ cut ∷ []) (kept ++ one ∷ []) ≡ in_order each records kept ++ each (octets_in cut) one
 order-push each [] [] cut one e = append-nil (each (octets_in cut) one)
 order-push each [] (k ∷ kept) cut one e = absurd (omega arith)
 order-push each (x ∷ records) [] cut one e = absurd (omega arith)
@@ -87,7 +87,7 @@ order-past each [] (k ∷ kept) cut e = absurd (omega arith)
 order-past each (x ∷ records) [] cut e = absurd (omega arith)
 order-past {A} each (x ∷ records) (k ∷ kept) cut e = ap (λ (zs : List A). each (octets_in x) k ++ zs) (order-past each records kept cut (omega arith))
 
-decided-push : (width : ℕ) (records : List Fragments) (kept : List Kept) (cut : Fragments) (one : Kept) → length records ≡ length kept → AllDecided width records kept → IsDecided (ruling_for width (octets_in cut) one) → AllDecided width (records ++ cut ∷ []) (kept ++ one ∷ [])
+pub decided-push : (width : ℕ) (records : List Fragments) (kept : List Kept) (cut : Fragments) (one : Kept) → length records ≡ length kept → AllDecided width records kept → IsDecided (ruling_for width (octets_in cut) one) → AllDecided width (records ++ cut ∷ []) (kept ++ one ∷ [])
 decided-push width [] [] cut one e all h = (h, tt)
 decided-push width [] (k ∷ kept) cut one e all h = absurd (omega arith)
 decided-push width (x ∷ records) [] cut one e all h = absurd (omega arith)

@@ -8,6 +8,7 @@ pub mod Keytabs
 pub mod Lines
 pub mod Options
 pub mod Listed
+pub mod Looping
 pub mod Runs
 pub mod Serving
 pub mod Telling

@@ -214,7 +214,7 @@ fn reply_to_record<L: Link, G: Gate, C: Clock, D: Draw>(
 }
 
 /// Answers a record with the next moment and draws, and keeps the answer.
-fn answer<G: Gate, C: Clock, D: Draw>(
+pub(crate) fn answer<G: Gate, C: Clock, D: Draw>(
     alloc: Global,
     octets: &[u8],
     kept: &mut Vec<Kept>,

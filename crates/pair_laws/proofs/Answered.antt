@@ -1,0 +1,224 @@
+-- An honest call is answered, and its result taken.
+use Rattle.std.proofs.Common.{◌≡◌, inl, inr, ℕ, ◌+◌, ◌*◌, ◌≤◌, ◌<◌, ◌^◌, lit<, lit≤, true, refl, ap, sym, ◌∙◌, arith, List, ◌++◌, length, take, drop, Option, Some, Ok}
+use Rattle.std.specs.Prelude.{◌==◌}
+use Rattle.std.proofs.lemmas.Bool.{eqb-true}
+use Rattle.std.proofs.lemmas.Bool.Decides.{nat_tests}
+use Rattle.std.proofs.lemmas.List.{length-append, length-take, length-drop}
+use Rattle.std.proofs.lemmas.Nat.{from_be_bytes-to_be_bytes_8}
+use Rattle.rpc_msgs.specs.Words.{word, opaque}
+use Rattle.rpc_msgs.specs.Calls.{CallValue, secure_call, call_at}
+use Rattle.rpc_msgs.specs.declared.call.CallRefusal.{CallRefusal}
+use Rattle.rpc_msgs.proofs.CallLaws.{call-only}
+use Rattle.rpc_msgs.specs.Replies.{ReplyValue, accepted, reply_octets}
+use Rattle.rpc_msgs.specs.ReplyReading.{reply_at}
+use Rattle.rpc_msgs.specs.Records.{last_fragment}
+use Rattle.rpc_msgs.proofs.ReplyLaws.{reply-only}
+use Rattle.rpc_msgs.proofs.WordLengths.{length-word}
+use Rattle.rpc_msgs.proofs.XdrLaws.{ok_is, word_law}
+use Rattle.rpcsec_msgs.specs.Bodies.{checked_at, checked_octets, sealed_at}
+use Rattle.rpcsec_msgs.specs.Cred.{CredValue, is_service, cred_octets, cred_at}
+use Rattle.rpcsec_msgs.specs.declared.cred.CredRefusal.{CredRefusal}
+use Rattle.rpcsec_msgs.proofs.CredLaws.{cred-only}
+use Rattle.rpcsec_msgs.proofs.BodyLaws.{sealed-only, checked-only}
+use Rattle.krb_derive.specs.declared.sealing.SealKeys.{SealKeys}
+use Rattle.krb_derive.specs.Kept.{ForSealing}
+use Rattle.krb_tokens.specs.declared.end.Side.TheVariants.{Initiator}
+use Rattle.krb_tokens.specs.declared.end.TokenEnd.{TokenEnd}
+use Rattle.krb_tokens.specs.Mic.{mic_of, checked_mic}
+use Rattle.krb_tokens.specs.Wrap.{wrap_of, unwrapped}
+use Rattle.krb_tokens.proofs.Taken.{mic-taken}
+use Rattle.krb_tokens.proofs.AcceptedWraps.{wrap-all}
+use Rattle.spnego_core.specs.Outcome.{token_end}
+use Rattle.accept_book.specs.Honest.{IsOctets, Carries, Honest, data_header, made_call, caller_of, HonestLaw}
+use Rattle.accept_book.specs.Served.{result_of}
+use Rattle.accept_book.specs.RecordShown.{KeptAnswers, handle_of, handle_id, end_of, result_body}
+use Rattle.accept_book.specs.RecordRule.{record_ruling}
+use Rattle.accept_book.specs.declared.book_answer.Lease.{Lease}
+use Rattle.accept_book.proofs.HonestMakings.{mic-made, sealed-made, made-honest}
+use Rattle.gss_client.specs.declared.service.Service.{Service}
+use Rattle.gss_client.specs.declared.service.Service.TheVariants as services
+use Rattle.gss_client.specs.Calling.{number_of, own_end, header_of, verifier_of, signed_call, body_of, data_call}
+use Rattle.gss_client.specs.Judging.{answer_in, verified_in, numbered, checked_result, sealed_result, body_result, call_result, result_taken}
+use Rattle.gss_client.specs.Session.{SessionState, session_after}
+use Rattle.gss_client.specs.Talk.{calls}
+use Rattle.gss_client.proofs.CallLengths.{cred-fits, length-wrap_of}
+use Rattle.gss_server.specs.Connections.{framed}
+use Rattle.gss_server.proofs.BodyLengths.{sealed-fits, checked-fits, result-fits}
+use Rattle.gss_server.proofs.ReplyLengths.{accepted-fits}
+use Rattle.pair_laws.specs.HonestCalls.{session_on, HonestCall, IsAdmitted, IsAnswered}
+use Rattle.pair_laws.proofs.Granting.{mic-size}
+use Rattle.pair_laws.proofs.Creating.{exchanged}
+
+-- ---- the call
+
+long-databody : (n : ℕ) (args : List ℕ) → length args ≤ 65540 → length (word n ++ args) ≤ 65544
+long-databody n args few = omega (arith, length-append (word n) args, length-word n)
+
+carries : (s : SessionState) (args confounder : List ℕ) (service : Service) → s.number ≤ 0x7fffffff → length args ≤ 65540 → length confounder ≡ 16 → IsOctets (confounder ++ (word s.number ++ args)) → Carries (own_end s) (number_of service) s.number args (body_of s args confounder service)
+unfolding body_of
+carries s args confounder services.None few size block octets = inl (refl, refl)
+carries s args confounder services.Integrity few size block octets =
+    inr (inl (refl, record { tag = _; mic = mic-made (own_end s) (2 * s.number + 1) (word s.number ++ args) (omega arith); long = omega (arith, long-databody s.number args size); spelled = refl }))
+carries s args confounder services.Privacy few size block octets =
+    inr (inr (
+      refl,
+      record {
+        token = _;
+        sealed = sealed-made (own_end s) (2 * s.number + 1) confounder (word s.number ++ args) (omega arith) block octets;
+        long = omega (arith, long-databody s.number args size, length-wrap_of (own_end s) (2 * s.number + 1) confounder (word s.number ++ args) block);
+        spelled = refl;
+      },
+    ))
+
+is-made : (s : SessionState) (procedure : ℕ) (args confounder : List ℕ) → data_call s procedure args confounder ≡ made_call (own_end s) (2 * s.number) s.xid procedure (record { proc = 0; seq = s.number; service = number_of s.service; context = s.handle }) (body_of s args confounder s.service)
+unfolding data_call signed_call verifier_of header_of
+is-made s procedure args confounder = refl
+
+weak : (service : Service) (procedure : ℕ) → (service ≡ services.None → procedure ≡ 0) → number_of service ≡ 1 → procedure ≡ 0
+weak services.None procedure h e = h refl
+weak services.Integrity procedure h e = absurd (omega arith)
+weak services.Privacy procedure h e = absurd (omega arith)
+
+handle-length : (id : ℕ) → length (handle_of id) ≡ 8
+handle-length id = refl
+
+id-again : (id : ℕ) → id < 2 ^ 64 → handle_id (handle_of id) ≡ Some id
+id-again id h = ap Some (from_be_bytes-to_be_bytes_8 id h)
+
+-- ---- what is heard
+
+abbrev data_cred : Lease → Service → ℕ → CredValue
+data_cred lease service number = record { proc = 0; seq = number; service = number_of service; context = handle_of lease.id }
+
+abbrev made_value : TokenEnd → ℕ → ℕ → ℕ → CredValue → List ℕ → CallValue
+made_value end number xid procedure cred body = secure_call xid 0x20004753 1 procedure (cred_octets cred) (record { flavour = 6; body = mic_of end number (data_header xid procedure cred) }) body
+
+cred-short : (lease : Lease) (service : Service) (number : ℕ) → length (cred_octets (data_cred lease service number)) ≤ 400
+cred-short lease service number = cred-fits (data_cred lease service number) (omega (arith, handle-length lease.id))
+
+made-read : (end : TokenEnd) (number xid procedure : ℕ) (lease : Lease) (service : Service) (n : ℕ) (body : List ℕ) → xid < 2 ^ 32 → procedure ≤ 4
+    → call_at (made_call end number xid procedure (data_cred lease service n) body) ≡ Ok (made_value end number xid procedure (data_cred lease service n) body)
+made-read end number xid procedure lease service n body x low = call-only (made_value end number xid procedure (data_cred lease service n) body) (record {
+  xid = x;
+  program = lit< tt;
+  version = lit< tt;
+  procedure = omega (arith, low);
+  cred = record { flavour = lit< tt; body = cred-short lease service n };
+  verf = record { flavour = lit< tt; body = omega (arith, mic-size end number (data_header xid procedure (data_cred lease service n))) };
+  header = refl;
+})
+
+served : (service : Service) → is_service 0 (number_of service) ≡ true
+served services.None = refl
+served services.Integrity = refl
+served services.Privacy = refl
+
+few-services : (service : Service) → number_of service < 2 ^ 32
+few-services services.None = lit< tt
+few-services services.Integrity = lit< tt
+few-services services.Privacy = lit< tt
+
+cred-read : (lease : Lease) (service : Service) (n : ℕ) → n < 2 ^ 32 → cred_at (cred_octets (data_cred lease service n)) ≡ Ok (data_cred lease service n)
+cred-read lease service n h =
+    cred-only (data_cred lease service n) (record { proc = lit≤ tt; seq = h; service = few-services service; served = served service; context = omega (arith, handle-length lease.id) })
+
+-- what an honest record says is what was made
+heard-call : (octets : List ℕ) (end : TokenEnd) (n procedure : ℕ) (args : List ℕ) (call : CallValue) → (h : Honest octets end n procedure args) → call_at octets ≡ Ok call → call ≡ h.call
+heard-call octets end n procedure args call h e = ok_is {E = CallRefusal} call h.call (sym e ∙ h.reads)
+
+heard-cred : (octets : List ℕ) (end : TokenEnd) (n procedure : ℕ) (args : List ℕ) (call : CallValue) (cred : CredValue) → (h : Honest octets end n procedure args) → call ≡ h.call → cred_at call.cred.body ≡ Ok cred → cred ≡ h.cred
+heard-cred octets end n procedure args call cred h e f = ok_is {E = CredRefusal} cred h.cred (sym f ∙ (ap (λ (c : CallValue). cred_at c.cred.body) e ∙ h.header))
+
+-- ---- the reply
+
+eqb-same : (n : ℕ) → (n == n) ≡ true
+eqb-same n = grind (arith, nat_tests)
+
+-- the number and the result behind it
+number-read : (n : ℕ) (result : List ℕ) → n < 2 ^ 32 → numbered n (word n ++ result) ≡ Ok result
+unfolding numbered
+number-read n result h = rw (word_law.only n result (length (word n ++ result)) h, eqb-same n) refl
+
+body-read : (keys : SealKeys) (lease : Lease) (service : Service) (n : ℕ) (confounder result : List ℕ) → ForSealing keys lease.outcome.key 22 → n < 2 ^ 32 → length result ≤ 65540 → length confounder ≡ 16 → IsOctets (confounder ++ (word n ++ result))
+    → body_result (token_end lease.outcome Initiator) n (result_body (end_of lease) (data_cred lease service n) confounder result) service ≡ Ok result
+unfolding body_result result_body checked_result sealed_result
+body-read keys lease services.None n confounder result for h few block octets = refl
+body-read keys lease services.Integrity n confounder result for h few block octets =
+    let mic : List ℕ = mic_of (end_of lease) (2 * n + 1) (word n ++ result) in
+    let split : checked_at (checked_octets (word n ++ result) mic) ≡ Ok (word n ++ result, mic) = checked-only (word n ++ result) mic (omega (arith, long-databody n result few)) (omega (arith, mic-size (end_of lease) (2 * n + 1) (word n ++ result))) in
+    let good : checked_mic (token_end lease.outcome Initiator) mic (word n ++ result) ≡ Ok tt = mic-taken (end_of lease) (2 * n + 1) (word n ++ result) in
+    rw (split) (rw (good) (number-read n result h))
+body-read keys lease services.Privacy n confounder result for h few block octets =
+    let token : List ℕ = wrap_of (end_of lease) (2 * n + 1) true confounder (word n ++ result) in
+    let split : sealed_at (opaque token) ≡ Ok token = sealed-only token (omega (arith, long-databody n result few, length-wrap_of (end_of lease) (2 * n + 1) confounder (word n ++ result) block)) in
+    let good : unwrapped (token_end lease.outcome Initiator) token ≡ Ok (record { sealed = true; content = word n ++ result }) =
+    wrap-all keys (token_end lease.outcome Initiator) true token (word n ++ result) for (sealed-made (end_of lease) (2 * n + 1) confounder (word n ++ result) (omega (arith, h)) block octets) in
+    rw (split) (rw (good) (number-read n result h))
+
+body-fits : (lease : Lease) (service : Service) (n : ℕ) (confounder result : List ℕ) → length result ≤ 65540 → length confounder ≡ 16 → length (result_body (end_of lease) (data_cred lease service n) confounder result) ≤ 130000
+unfolding result_body
+body-fits lease services.None n confounder result few block = omega (arith, few)
+body-fits lease services.Integrity n confounder result few block =
+    checked-fits (word n ++ result) (mic_of (end_of lease) (2 * n + 1) (word n ++ result)) (mic-size (end_of lease) (2 * n + 1) (word n ++ result)) (long-databody n result few)
+body-fits lease services.Privacy n confounder result few block = sealed-fits (end_of lease) (2 * n + 1) confounder (word n ++ result) block (long-databody n result few)
+
+abbrev replying : Lease → Service → ℕ → ℕ → List ℕ → List ℕ → ReplyValue
+replying lease service n xid confounder result = accepted xid 6 (mic_of (end_of lease) (2 * n) (word n)) 0 0 0 (result_body (end_of lease) (data_cred lease service n) confounder result)
+
+replying-fits : (lease : Lease) (service : Service) (n xid : ℕ) (confounder result : List ℕ) → length result ≤ 65540 → length confounder ≡ 16 → length (reply_octets (replying lease service n xid confounder result)) ≤ 131072
+replying-fits lease service n xid confounder result few block =
+    accepted-fits xid 6 (mic_of (end_of lease) (2 * n) (word n)) 0 0 0 (result_body (end_of lease) (data_cred lease service n) confounder result) (omega (arith, mic-size (end_of lease) (2 * n) (word n))) (body-fits lease service n confounder result few block)
+
+reply-reads : (lease : Lease) (service : Service) (n xid : ℕ) (confounder result : List ℕ) → xid < 2 ^ 32 → reply_at (reply_octets (replying lease service n xid confounder result)) ≡ Ok (replying lease service n xid confounder result)
+reply-reads lease service n xid confounder result h =
+    reply-only (replying lease service n xid confounder result) (omega (arith, mic-size (end_of lease) (2 * n) (word n)), (λ other. absurd (other refl)), (λ other. refl), (λ other. refl))
+    (h, lit< tt, lit< tt, lit< tt, lit< tt)
+
+-- the session takes the result from it
+result-read : (keys : SealKeys) (lease : Lease) (service : Service) (n xid : ℕ) (confounder result : List ℕ) → ForSealing keys lease.outcome.key 22 → n < 2 ^ 32 → xid < 2 ^ 32 → length result ≤ 65540 → length confounder ≡ 16 → IsOctets (confounder ++ (word n ++ result))
+    → result_taken (session_on lease service n xid) (reply_octets (replying lease service n xid confounder result)) ≡ Ok (session_after (session_on lease service n xid), result)
+unfolding result_taken call_result verified_in answer_in
+result-read keys lease service n xid confounder result for h x few block octets =
+    let good : checked_mic (token_end lease.outcome Initiator) (mic_of (end_of lease) (2 * n) (word n)) (word n) ≡ Ok tt = mic-taken (end_of lease) (2 * n) (word n) in
+    rw (reply-reads lease service n xid confounder result x) (rw (eqb-same xid) (rw (good) (rw (body-read keys lease service n confounder result for h few block octets) refl)))
+
+taken : (s : SessionState) (procedure : ℕ) (args confounder reply rest result : List ℕ) → length reply ≤ 131072 → result_taken s reply ≡ Ok (session_after s, result) → (calls s procedure args confounder (last_fragment reply ++ rest)).answer ≡ Ok (session_after s, result)
+unfolding calls
+taken s procedure args confounder reply rest result few judged = rw (exchanged (data_call s procedure args confounder) reply rest few, judged) refl
+
+-- ---- both
+
+drawn-block : (draws : List ℕ) → length draws ≡ 82 → length (take 16 (drop 66 draws)) ≡ 16
+drawn-block draws h = omega (arith, length-take 16 (drop 66 draws), length-drop 66 draws)
+
+pub answered : (keys : SealKeys) (lease : Lease) → HonestLaw lease → ForSealing keys lease.outcome.key 22 → (service : Service) (number xid procedure : ℕ) (args confounder : List ℕ) (kept : KeptAnswers) (width : ℕ) (rest : List ℕ) → HonestCall lease service number xid procedure args confounder
+    → (a : IsAdmitted lease number procedure args kept) → IsAnswered lease service number xid procedure args confounder kept width a.admitted.posts rest
+answered keys lease law for service number xid procedure args confounder kept width rest h a =
+    let s : SessionState = session_on lease service number xid in
+    let body : List ℕ = body_of s args confounder service in
+    let made : List ℕ = made_call (own_end s) (2 * number) xid procedure (data_cred lease service number) body in
+    let result : List ℕ = result_of procedure args lease.outcome.initiator a.admitted.posts in
+    let block : List ℕ = take 16 (drop 66 kept.draws) in
+    let honest : Honest made (caller_of lease) number procedure args =
+    made-honest (own_end s) (2 * number) xid number procedure (number_of service) (handle_of lease.id) args body (omega (arith, h.number_left)) h.xid_fits (omega (arith, h.number_left)) h.served (weak service procedure h.protected) (handle-length lease.id) h.proper
+    (carries s args confounder service h.number_left h.size h.block h.octets) in
+    let call : CallValue = made_value (own_end s) (2 * number) xid procedure (data_cred lease service number) body in
+    let same_call : call ≡ honest.call = heard-call made (caller_of lease) number procedure args call honest (made-read (own_end s) (2 * number) xid procedure lease service number body h.xid_fits h.served) in
+    let same_cred : data_cred lease service number ≡ honest.cred = heard-cred made (caller_of lease) number procedure args call (data_cred lease service number) honest same_call (cred-read lease service number (omega (arith, h.number_left))) in
+    let handle : handle_id honest.cred.context ≡ Some lease.id = ap (λ (c : CredValue). handle_id c.context) (sym same_cred) ∙ id-again lease.id h.id in
+    let ruled = law made kept width number procedure args honest lease.id handle a.looked in
+    let same : data_call s procedure args confounder ≡ made = is-made s procedure args confounder in
+    let rule : (record_ruling made kept width).rule ≡ 23 = eqb-true (record_ruling made kept width).rule 23 (ruled.done (Ok a.admitted) a.is_admitted) in
+    let reply : (record_ruling made kept width).reply ≡ Some (reply_octets (replying lease service number xid block result)) =
+    ruled.reply a.admitted a.is_admitted
+    ∙ (ap (λ (x : ℕ). Some (reply_octets (accepted x 6 (mic_of (end_of lease) (2 * number) (word number)) 0 0 0 (result_body (end_of lease) honest.cred block result)))) (ap (λ (c : CallValue). c.xid) (sym same_call))
+    ∙ ap (λ (c : CredValue). Some (reply_octets (accepted xid 6 (mic_of (end_of lease) (2 * number) (word number)) 0 0 0 (result_body (end_of lease) c block result)))) (sym same_cred)) in
+    let few : length result ≤ 65540 = result-fits procedure args lease.outcome.initiator a.admitted.posts h.size h.name in
+    let size : length block ≡ 16 = drawn-block kept.draws a.drawn in
+    let octets : List ℕ = reply_octets (replying lease service number xid block result) in
+    record {
+      rule = ap (λ (zs : List ℕ). (record_ruling zs kept width).rule) same ∙ rule;
+      result = ap (λ (zs : List ℕ). (calls s procedure args confounder (framed (record_ruling zs kept width).reply ++ rest)).answer) same
+          ∙ (ap (λ (r : Option (List ℕ)). (calls s procedure args confounder (framed r ++ rest)).answer) reply
+          ∙ taken s procedure args confounder octets rest result (replying-fits lease service number xid block result few size) (result-read keys lease service number xid block result for (omega (arith, h.number_left)) h.xid_fits few size a.octets));
+    }

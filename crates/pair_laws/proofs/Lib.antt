@@ -1,0 +1,6 @@
+mod Settling
+mod Ruling
+mod Granting
+mod Creating
+mod Completing
+mod Answered

@@ -1,0 +1,4 @@
+pub mod Conversing
+pub mod Honest
+pub mod HonestCalls
+pub mod Laws
