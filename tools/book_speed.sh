@@ -26,7 +26,7 @@ use sec_base::Moment;
 use std::alloc::Global;
 use std::io;
 use std::io::Print;
-use std::time::{CpuClock, Duration};
+use std::time::CpuClock;
 
 // A value that is known by a mechanism and a digest.
 #[derive(Drop)]
@@ -90,7 +90,16 @@ fn open(core: &mut Core<u8, Plain>) -> bool {
     }
 }
 
-// Asks for the admission of these numbers of the contexts from 1 to `contexts`, number by number, and tells how many were admitted.
+// What is measured.
+#[derive(Clone, Copy)]
+enum Task {
+    // The admission of the numbers from `from` on and below `to`, each of the contexts from 1 to `contexts`.
+    Admit { contexts: u64, from: u32, to: u32 },
+    // The ends of contexts from an id on, so far apart, with an opening after each.
+    Exchange { times: u64, first: u64, step: u64 },
+}
+
+// How many numbers were admitted.
 fn admit(core: &mut Core<u8, Plain>, contexts: u64, from: u32, to: u32) -> u64 {
     let mut count = 0u64;
     for seq in from..to {
@@ -104,7 +113,7 @@ fn admit(core: &mut Core<u8, Plain>, contexts: u64, from: u32, to: u32) -> u64 {
     count
 }
 
-// Ends contexts from an id on, so far apart, and opens one for each; tells how many were.
+// How many contexts were ended, and one opened for each.
 fn exchange(core: &mut Core<u8, Plain>, times: u64, first: u64, step: u64) -> u64 {
     let mut count = 0u64;
     for k in 0..times {
@@ -119,94 +128,108 @@ fn exchange(core: &mut Core<u8, Plain>, times: u64, first: u64, step: u64) -> u6
     count
 }
 
-fn nanos_each(count: u64, spent: Duration) -> u128 {
-    spent.as_nanos() / u128::from(count.max(1))
+// How often the task asks, and how many of these questions were granted.
+fn perform(core: &mut Core<u8, Plain>, task: Task) -> (u64, u64) {
+    match task {
+        Task::Admit { contexts, from, to } => (
+            contexts.saturating_mul(u64::from(to.saturating_sub(from))),
+            admit(core, contexts, from, to),
+        ),
+        Task::Exchange { times, first, step } => (times, exchange(core, times, first, step)),
+    }
 }
 
-// How many numbers were admitted, and the nanoseconds that each question took.
-fn admissions<R: CpuClock>(
+// Performs a task, and prints how many of its questions were granted, and the nanoseconds that each took.
+fn measure<R: CpuClock + Print>(
     rt: &R,
     core: &mut Core<u8, Plain>,
-    contexts: u64,
-    from: u32,
-    to: u32,
-) -> io::Result<(u64, u128)> {
+    what: &str,
+    task: Task,
+) -> io::Result<()> {
     let start = rt.thread_cpu_time()?;
-    let count = admit(core, contexts, from, to);
+    let told = perform(core, task);
     let end = rt.thread_cpu_time()?;
-    let asked = contexts.saturating_mul(u64::from(to.saturating_sub(from)));
-    Ok((count, nanos_each(asked, end.saturating_sub(start))))
-}
-
-// How many contexts were ended and opened, and the nanoseconds that each pair took.
-fn exchanges<R: CpuClock>(
-    rt: &R,
-    core: &mut Core<u8, Plain>,
-    times: u64,
-    first: u64,
-    step: u64,
-) -> io::Result<(u64, u128)> {
-    let start = rt.thread_cpu_time()?;
-    let count = exchange(core, times, first, step);
-    let end = rt.thread_cpu_time()?;
-    Ok((count, nanos_each(times, end.saturating_sub(start))))
-}
-
-fn tell<R: Print>(rt: &R, what: &str, told: (u64, u128)) -> io::Result<()> {
-    let count = told.0;
-    let each = told.1;
+    let count = told.1;
+    let each = end.saturating_sub(start).as_nanos() / u128::from(told.0.max(1));
     println!(rt; "{what}: {count}, {each} ns each")
 }
 
-fn over_thousand<R: CpuClock + Print>(rt: &R, alloc: Global) -> io::Result<()> {
+// Performs four tasks on a core with so many contexts.
+fn measure_all<R: CpuClock + Print>(
+    rt: &R,
+    alloc: Global,
+    contexts: usize,
+    log: usize,
+    tasks: [(&str, Task); 4],
+) -> io::Result<()>
+    requires contexts { contexts ≤ 65536 }
+    requires log { log ≤ 4000000 }
+{
     let _core: Option<Core<u8, Plain>> = None;
-    match filled(alloc, 1000, 1_100_000) {
-        None => Ok(()),
+    match filled(alloc, contexts, log) {
+        None => println!(rt; "no memory for {contexts} contexts"),
         Some(mut core) => {
-            tell(
-                rt,
-                "admitted over 1,000 contexts",
-                admissions(rt, &mut core, 1000, 1, 251)?,
-            )?;
-            tell(rt, "the next", admissions(rt, &mut core, 1000, 251, 501)?)?;
-            tell(rt, "the next", admissions(rt, &mut core, 1000, 501, 751)?)?;
-            tell(rt, "the next", admissions(rt, &mut core, 1000, 751, 1001)?)
+            for (what, task) in tasks {
+                measure(rt, &mut core, what, task)?;
+            }
+            Ok(())
         }
     }
 }
 
-fn over_many<R: CpuClock + Print>(rt: &R, alloc: Global) -> io::Result<()> {
-    let _core: Option<Core<u8, Plain>> = None;
-    match filled(alloc, 65536, 1_000_000) {
-        None => Ok(()),
-        Some(mut core) => {
-            tell(
-                rt,
-                "admitted over 65,536 contexts",
-                admissions(rt, &mut core, 65536, 1, 5)?,
-            )?;
-            tell(
-                rt,
-                "look-ups with a window test, admitted",
-                admissions(rt, &mut core, 65536, 1, 5)?,
-            )?;
-            tell(
-                rt,
-                "the oldest ended and one opened",
-                exchanges(rt, &mut core, 6000, 1, 1)?,
-            )?;
-            tell(
-                rt,
-                "any ended and one opened",
-                exchanges(rt, &mut core, 6000, 6001, 9)?,
-            )
-        }
+// A quarter of a million admissions over 1,000 contexts, from this number on.
+fn admit_thousand(from: u32) -> Task {
+    Task::Admit {
+        contexts: 1000,
+        from,
+        to: from.saturating_add(250),
     }
 }
 
 fn main(rt: HostRuntime) -> io::Result<()> {
-    over_thousand(&rt, rt.alloc())?;
-    over_many(&rt, rt.alloc())
+    measure_all(
+        &rt,
+        rt.alloc(),
+        1000,
+        1_100_000,
+        [
+            ("admitted over 1,000 contexts", admit_thousand(1)),
+            ("the next", admit_thousand(251)),
+            ("the next", admit_thousand(501)),
+            ("the next", admit_thousand(751)),
+        ],
+    )?;
+    let four = Task::Admit {
+        contexts: 65536,
+        from: 1,
+        to: 5,
+    };
+    measure_all(
+        &rt,
+        rt.alloc(),
+        65536,
+        1_000_000,
+        [
+            ("admitted over 65,536 contexts", four),
+            ("look-ups with a window test, admitted", four),
+            (
+                "the oldest ended and one opened",
+                Task::Exchange {
+                    times: 6000,
+                    first: 1,
+                    step: 1,
+                },
+            ),
+            (
+                "any ended and one opened",
+                Task::Exchange {
+                    times: 6000,
+                    first: 6001,
+                    step: 9,
+                },
+            ),
+        ],
+    )
 }
 PROGRAM
 (cd "$scratch/crates/book_speed" && rt run 2> "$scratch/log" || { grep -a error "$scratch/log" | head; exit 1; })
