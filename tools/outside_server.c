@@ -1,0 +1,146 @@
+/* A server of the program over a system's own libraries: RPCSEC_GSS by libtirpc, contexts by the SPNEGO of MIT Kerberos.
+ *
+ *   outside_server PORT SERVER
+ *
+ * SERVER is its own principal, as rpc/localhost@REALM.TEST, whose key stands in the keytab that KRB5_KTNAME names. It serves on loopback until
+ * it is stopped: NULL, ECHO, WHOAMI, POST and COUNT of the program 0x20004753, version 1. */
+#include <gssapi/gssapi.h>
+#include <gssapi/gssapi_ext.h>
+#include <gssapi/gssapi_krb5.h>
+#include <rpc/rpc.h>
+#include <rpc/auth_gss.h>
+#include <rpc/svc_auth_gss.h>
+#include <rpc/svc_mt.h>
+#include <arpa/inet.h>
+#include <stdio.h>
+#include <stdlib.h>
+#include <string.h>
+#include <unistd.h>
+
+/* The library marshals a reply's whole body in the buffer that it sends from. */
+enum { BUFFER = 200000 };
+enum { PROGRAM = 0x20004753, VERSION = 1, NOTHING = 0, ECHO = 1, WHOAMI = 2, POST = 3, COUNT = 4 };
+
+static gss_OID_desc spnego = { 6, "\x2b\x06\x01\x05\x05\x02" };
+
+/* Stands in for the library's function of this name: libtirpc asks for credentials of the default mechanisms, among which SPNEGO isn't. */
+OM_uint32 gss_acquire_cred(OM_uint32 *minor, gss_name_t name, OM_uint32 seconds, gss_OID_set mechanisms, gss_cred_usage_t usage, gss_cred_id_t *credential, gss_OID_set *got, OM_uint32 *lasts)
+{
+    gss_OID_set_desc negotiated = { 1, &spnego };
+    (void)mechanisms;
+    return gss_acquire_cred_from(minor, name, seconds, &negotiated, usage, NULL, credential, got, lasts);
+}
+
+struct octets {
+    u_int count;
+    char *at;
+};
+
+static u_int posts;
+
+static bool_t xdr_octets(XDR *xdr, struct octets *octets)
+{
+    return xdr_bytes(xdr, &octets->at, &octets->count, 65536);
+}
+
+static bool_t xdr_name(XDR *xdr, char **name)
+{
+    return xdr_string(xdr, name, 1024);
+}
+
+/* ECHO and POST. */
+static void answer_octets(SVCXPRT *transport, int procedure)
+{
+    struct octets octets = { 0, NULL };
+    if (!svc_getargs(transport, (xdrproc_t)xdr_octets, (caddr_t)&octets)) {
+        svcerr_decode(transport);
+        return;
+    }
+    if (procedure == ECHO) {
+        svc_sendreply(transport, (xdrproc_t)xdr_octets, (caddr_t)&octets);
+    } else {
+        posts++;
+        svc_sendreply(transport, (xdrproc_t)xdr_u_int, (caddr_t)&posts);
+    }
+    svc_freeargs(transport, (xdrproc_t)xdr_octets, (caddr_t)&octets);
+}
+
+static void answer_name(SVCXPRT *transport)
+{
+    char *name = svcauth_gss_get_principal(&SVC_XP_AUTH(transport));
+    if (name == NULL) {
+        svcerr_systemerr(transport);
+        return;
+    }
+    svc_sendreply(transport, (xdrproc_t)xdr_name, (caddr_t)&name);
+    free(name);
+}
+
+static void answer(struct svc_req *request, SVCXPRT *transport)
+{
+    int procedure = request->rq_proc;
+    if (procedure != NOTHING && request->rq_cred.oa_flavor != RPCSEC_GSS) {
+        svcerr_weakauth(transport);
+        return;
+    }
+    if (procedure == ECHO || procedure == POST) {
+        answer_octets(transport, procedure);
+        return;
+    }
+    if (procedure > COUNT) {
+        svcerr_noproc(transport);
+        return;
+    }
+    if (!svc_getargs(transport, (xdrproc_t)xdr_void, NULL)) {
+        svcerr_decode(transport);
+        return;
+    }
+    if (procedure == WHOAMI)
+        answer_name(transport);
+    else if (procedure == COUNT)
+        svc_sendreply(transport, (xdrproc_t)xdr_u_int, (caddr_t)&posts);
+    else
+        svc_sendreply(transport, (xdrproc_t)xdr_void, NULL);
+}
+
+static int listening(int port)
+{
+    struct sockaddr_in address = { .sin_family = AF_INET, .sin_port = htons(port) };
+    int one = 1, listener = socket(AF_INET, SOCK_STREAM, 0);
+    inet_pton(AF_INET, "127.0.0.1", &address.sin_addr);
+    setsockopt(listener, SOL_SOCKET, SO_REUSEADDR, &one, sizeof one);
+    if (bind(listener, (struct sockaddr *)&address, sizeof address) != 0 || listen(listener, 16) != 0)
+        return -1;
+    return listener;
+}
+
+static bool_t has_name(char *text)
+{
+    gss_buffer_desc buffer = { strlen(text), text };
+    gss_name_t name = GSS_C_NO_NAME;
+    OM_uint32 minor;
+    if (gss_import_name(&minor, &buffer, (gss_OID)GSS_KRB5_NT_PRINCIPAL_NAME, &name) != GSS_S_COMPLETE)
+        return FALSE;
+    return svcauth_gss_set_svc_name(name);
+}
+
+int main(int count, char **words)
+{
+    SVCXPRT *transport;
+    int listener;
+    if (count != 3) {
+        fprintf(stderr, "usage: outside_server PORT SERVER\n");
+        return 2;
+    }
+    listener = listening(atoi(words[1]));
+    if (listener < 0 || (transport = svctcp_create(listener, BUFFER, BUFFER)) == NULL) {
+        fprintf(stderr, "the port can't be listened at\n");
+        return 5;
+    }
+    if (!has_name(words[2]) || !svc_register(transport, PROGRAM, VERSION, answer, 0)) {
+        fprintf(stderr, "there is no key for %s\n", words[2]);
+        return 4;
+    }
+    svc_run();
+    return 1;
+}
