@@ -28,3 +28,4 @@ pub mod FoundTexts
 pub mod OnlyTexts
 pub mod RefusedTexts
 pub mod RefusedFiles
+pub mod Lengths

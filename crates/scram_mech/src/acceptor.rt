@@ -1,6 +1,6 @@
 //! The acceptor's end.
 
-ghost use Rattle.std.specs.Prelude.{◌≡◌, ◌++◌, IfOk, option_map};
+ghost use Rattle.std.specs.Prelude.{◌≡◌, ◌≤◌, ◌++◌, length, IfOk, option_map};
 ghost use Rattle.sec_base.specs.Answers.{Gives};
 ghost use Rattle.scram_mech.specs.declared.refusal.ScramRefusal.TheVariants as refusals;
 ghost use Rattle.scram_mech.specs.Reading.{seen};
@@ -47,8 +47,21 @@ impl Model for ScramAccept {
 
 impl ScramAccept {
     /// Takes an initiator's first token, framed, with 18 octets that were drawn for the nonce: the acceptor's first text.
-    #[tactic(auto, unfolding(crate::specs::Acceptor::accept_started))]
     pub fn start(
+        alloc: Global,
+        verifiers: &Verifiers,
+        token: &[u8],
+        nonce: &[u8; 18],
+    ) -> Result<(ScramAccept, Octets), ScramRefusal>
+        ensures exact { Gives refusals.NoMemory (λ p. record { end = p.0; token = p.1 }) result (accept_started verifiers.now token.now nonce.now) }
+        ensures short { IfOk result (λ p. length p.1 ≤ 1024) }
+    {
+        verifiers.told_lines();
+        ScramAccept::started(alloc, verifiers, token, nonce)
+    }
+
+    #[tactic(auto, unfolding(crate::specs::Acceptor::accept_started))]
+    fn started(
         alloc: Global,
         verifiers: &Verifiers,
         token: &[u8],
@@ -110,8 +123,9 @@ impl ScramAccept {
         bindings: Option<&Bindings>,
         now: Moment,
     ) -> Result<(MechDone, Octets), ScramRefusal>
-        ensures { Gives refusals.NoMemory (λ p. record { done = p.0; token = p.1 }) result
+        ensures exact { Gives refusals.NoMemory (λ p. record { done = p.0; token = p.1 }) result
             (seen accepting (accept_finished self text.now (option_map (λ b. b.now) bindings.entry) now)) }
+        ensures short { IfOk result (λ p. length p.1 ≤ 1024) }
     {
         self.finished(alloc, text, bindings, now)
     }

@@ -5,6 +5,7 @@ ghost use Rattle.sec_base.specs.Answers.{Gives};
 ghost use Rattle.scram_mech.specs.declared.refusal.ScramRefusal.TheVariants as refusals;
 ghost use Rattle.scram_mech.specs.Reading.{seen};
 ghost use Rattle.gss_base.specs.Bindings.{hash_of};
+ghost use Rattle.scram_mech.specs.Judging.{data_of as data_in};
 ghost use Rattle.scram_mech.specs.FirstText.{first_text};
 ghost use Rattle.scram_mech.specs.ThirdText.{bare_text, with_proof};
 ghost use Rattle.scram_mech.specs.Secrets.{auth_message, masked, key_of_client};
@@ -82,8 +83,9 @@ impl ScramInit {
         nonce: &[u8; 18],
         bindings: Option<&Bindings>,
     ) -> Result<(ScramInit, Octets), ScramRefusal>
-        ensures { Gives refusals.NoMemory (λ p. record { end = p.0; token = p.1 }) result
+        ensures exact { Gives refusals.NoMemory (λ p. record { end = p.0; token = p.1 }) result
             (init_started user.now password.now nonce.now (option_map (λ b. b.now) bindings.entry)) }
+        ensures named { IfOk result (λ _. length user.now ≤ 255) }
     {
         judge(user.as_bytes(), Class::Printable, 255)?;
         judge(password.as_bytes(), Class::Printable, 1_024)?;
@@ -109,9 +111,24 @@ impl ScramInit {
 
 impl ScramInit {
     /// Takes the acceptor's first text: the text with the proof. The rounds are worked here, once, and only for a text that is taken.
-    #[tactic(auto, unfolding(crate::specs::Initiator::init_answered, crate::specs::Secrets::proof_of))]
     pub fn take_first(self, alloc: Global, text: &[u8]) -> Result<(ScramWait, Octets), ScramRefusal>
-        ensures { Gives refusals.NoMemory (λ p. record { end = p.0; token = p.1 }) result (seen proving (init_answered self text.now)) }
+        ensures exact { Gives refusals.NoMemory (λ p. record { end = p.0; token = p.1 }) result (seen proving (init_answered self text.now)) }
+        ensures short { IfOk result (λ p. length p.1 ≤ 44000) }
+    {
+        self.told_data();
+        self.answered(alloc, text)
+    }
+
+    /// Does nothing: its contract says how much binding data there is at most.
+    fn told_data(&self)
+        ensures { length (data_in self.now.bindings) ≤ 32768 }
+    {
+        let _data = data_of(self.bindings.as_ref());
+    }
+
+    #[tactic(auto, unfolding(crate::specs::Initiator::init_answered, crate::specs::Secrets::proof_of))]
+    fn answered(&self, alloc: Global, text: &[u8]) -> Result<(ScramWait, Octets), ScramRefusal>
+        ensures { Gives refusals.NoMemory (λ p. record { end = p.0; token = p.1 }) result (seen proving (init_answered self.now text.now)) }
     {
         let second = read_second(text)?;
         if !is_extended(self.nonce.as_slice(), second.nonce) {

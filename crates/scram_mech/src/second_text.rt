@@ -83,7 +83,7 @@ pub fn put_second(
     salt: &[u8],
     rounds: u32,
 ) -> Result<(), NoMemory>
-    ensures { OnOk result (text.new.items ≡ text.old.items ++ second_text nonce.now salt.now rounds) }
+    ensures text { OnOk result (text.new.items ≡ text.old.items ++ second_text nonce.now salt.now rounds) }
 {
     put(text, b"r=")?;
     put(text, nonce)?;

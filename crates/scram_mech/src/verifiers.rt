@@ -8,6 +8,7 @@ ghost use Rattle.scram_mech.specs.Base64.{InRange, decoded};
 ghost use Rattle.scram_mech.specs.Digits.{number_of};
 ghost use Rattle.scram_mech.specs.Reading.{Reads, Answers, MayRead};
 ghost use Rattle.scram_mech.specs.Formats.{pieces};
+ghost use Rattle.scram_mech.specs.VerifierFile.{AreLines};
 ghost use Rattle.scram_mech.specs.Verifiers.{line_format, line_at, lines_at, line_for, once, verifiers_of, line_text, made_line};
 
 use crate::cursor::Cursor;
@@ -54,7 +55,7 @@ impl Verifier {
     }
 }
 
-/// The verifiers of users, no name twice. Contracts see the list of their lines.
+/// The verifiers of users, no name twice. Contracts see the list of their lines, each of which is one that a file may have.
 #[derive(Debug, Drop)]
 pub struct Verifiers {
     lines: Vec<Verifier>,
@@ -63,10 +64,13 @@ pub struct Verifiers {
 impl Model for Verifiers {
     ghost use Rattle.std.specs.Prelude.{List};
     ghost use Rattle.scram_mech.specs.declared.verifiers.Verifier.{Verifier};
+    ghost use Rattle.scram_mech.specs.VerifierFile.{AreLines};
 
     ghost Value = { List Verifier };
 
     ghost view = { λ v. v.lines.items };
+
+    ghost invariant = { λ v. AreLines v.lines.items };
 }
 
 /// The values of a line, as they stand there.
@@ -185,6 +189,13 @@ impl Verifiers {
         ensures { option_copied result ≡ line_for self.now name.now }
     {
         line_for(self.lines.as_slice(), name)
+    }
+
+    /// Does nothing: its contract says what the lines are.
+    pub(crate) fn told_lines(&self)
+        ensures { AreLines self.now }
+    {
+        let _lines = &self.lines;
     }
 }
 
