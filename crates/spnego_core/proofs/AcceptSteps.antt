@@ -1,10 +1,7 @@
 -- What an acceptor's step shows, part by part.
-use Rattle.std.proofs.Common.{◌≡◌, ◌⊎◌, ℕ, Bool, true, false, not, ◌&&◌, if◌then◌else◌, refl, sym, ap, ◌∙◌, subst, inl, inr, List, [], ◌∷◌, ◌++◌, length, Option, Some, None, Result, Ok, Err}
+use Rattle.std.proofs.Common.{◌≡◌, ◌⊎◌, ℕ, Bool, true, false, not, ◌&&◌, if◌then◌else◌, refl, sym, ap, ◌∙◌, subst, inl, inr, List, [], ◌∷◌, ◌++◌, length, map, Option, Some, None, Result, Ok, Err}
 use Rattle.gss_base.specs.declared.mech.MechKind.{MechKind}
 use Rattle.gss_base.specs.declared.mech.MechKind.TheVariants as kinds
-use Rattle.gss_base.specs.Mech.{mech_of}
-use Rattle.krb_derive.specs.Making.{Making, Among}
-use Rattle.krb_derive.proofs.Makings.{among_both}
 use Rattle.krb_tokens.specs.declared.end.Side.TheVariants.{Acceptor}
 use Rattle.spnego_msgs.specs.declared.neg_init.NegInit.{NegInit}
 use Rattle.spnego_msgs.specs.declared.neg_resp.NegResp.{NegResp}
@@ -13,6 +10,13 @@ use Rattle.ap_exchange.specs.declared.judged.Judged.{Judged}
 use Rattle.ap_exchange.specs.Exchange.{judge_found}
 use Rattle.ap_exchange.specs.Judging.{judged, judged_mark}
 use Rattle.ap_exchange.specs.Answer.{answer_done, answer_token, answer_making, answer_makes}
+use Rattle.ap_exchange.specs.Draws.{drawn_nonce}
+use Rattle.scram_mech.specs.declared.verifiers.Verifier.{Verifier}
+use Rattle.scram_mech.specs.declared.refusal.ScramRefusal.{ScramRefusal}
+use Rattle.scram_mech.specs.MechMaking.{MechMaking, AmongMakings, typed}
+use Rattle.scram_mech.specs.Acceptor.{AcceptModel, AcceptStarted, AcceptFinished, accept_started, accept_finished}
+use Rattle.scram_mech.proofs.ExchangeLaws.{takes}
+use Rattle.spnego_core.proofs.Makings.{among_split}
 use Rattle.spnego_core.specs.declared.outcome.Outcome.{Outcome}
 use Rattle.spnego_core.specs.declared.refusal.NegRefusal.{NegRefusal}
 use Rattle.spnego_core.specs.declared.refusal.NegRefusal.TheVariants.{Defective, Rejected, NoCommonMech, MicMissing, MicBad}
@@ -21,20 +25,22 @@ use Rattle.spnego_core.specs.declared.accept_mech.AcceptMech.{AcceptMech}
 use Rattle.spnego_core.specs.declared.accept_mech.AcceptMech.TheVariants as mechs
 use Rattle.spnego_core.specs.declared.accept_end.Turn.{Turn}
 use Rattle.spnego_core.specs.declared.accept_end.Turn.TheVariants.{First, Later}
+use Rattle.spnego_core.specs.declared.accept_end.Chosen.{Chosen}
 use Rattle.spnego_core.specs.declared.accept_end.Running.{Running}
 use Rattle.spnego_core.specs.declared.accept_end.Owing.{Owing}
 use Rattle.spnego_core.specs.declared.accept_end.AcceptEnd.{AcceptEnd}
 use Rattle.spnego_core.specs.declared.accept_end.AcceptEnd.TheVariants as ends
 use Rattle.spnego_core.specs.declared.accept_end.Answered.{Answered}
+use Rattle.spnego_core.specs.declared.accept_end.Answered.TheVariants as afters
 use Rattle.spnego_core.specs.declared.accept_end.AcceptStep.TheVariants as steps
 use Rattle.spnego_core.specs.Outcome.{outcome_of}
 use Rattle.spnego_core.specs.Steps.{◌>>=◌, due, or_refuse}
 use Rattle.spnego_core.specs.Tokens.{init_read, resp_read, rejects}
 use Rattle.spnego_core.specs.ListMic.{is_list_mic, mic_making, mic_found}
-use Rattle.spnego_core.specs.Choice.{is_among, is_first_named, offered, or_next, best, is_mic_due}
-use Rattle.spnego_core.specs.AcceptMech.{Basis, ByRequest, request_answered, request_taken, accept_taken}
-use Rattle.spnego_core.specs.Accepting.{Fixed, Accepted, finished, mic_made, ran_with, run, begun, token_for, started, chose, begins, proceeds, settled, closes, accept_step}
-use Rattle.spnego_core.specs.AcceptLaws.{received_of, settled_of, kind_of_accept, GoodRunning, GoodOwing, GoodAccept, GoesOn, IsUndue, TakesMic, AfterAnswered, outcome_after, Fixes, AcceptLaw}
+use Rattle.spnego_core.specs.Choice.{is_first_named, best, is_mic_due}
+use Rattle.spnego_core.specs.AcceptMech.{accept_begun, request_answered, request_taken, text_taken, proof_answered, proof_taken, accept_taken}
+use Rattle.spnego_core.specs.Accepting.{Fixed, Accepted, finished, gone_on, mic_made, ran_with, run, begun, token_for, started, chose, begins, proceeds, settled, closes, accept_step}
+use Rattle.spnego_core.specs.AcceptLaws.{received_of, settled_of, proof_due, waits_for_proof, kind_of_accept, IsOfLine, GoodMech, GoodChosen, GoodRunning, GoodOwing, GoodAccept, GoesOn, IsUndue, TakesMic, AfterAnswered, AfterStep, outcome_after, Fixes, AcceptLaw}
 
 -- a fact of a step that was taken
 abbrev pub On : (Accepted → Type 0) → Result Accepted NegRefusal → Type 0
@@ -59,122 +65,185 @@ by_test P false x y f g = g refl
 
 -- ---- the choice
 
-next-is : (a b : Option MechKind) (kind : MechKind) → (a ≡ Some kind → kinds.Kerberos ≡ kind) → (b ≡ Some kind → kinds.Kerberos ≡ kind) → or_next a b ≡ Some kind → kinds.Kerberos ≡ kind
-next-is None b kind f g e = g e
-next-is (Some first) b kind f g e = f e
+begun-kind : (kind : MechKind) → kind_of_accept (accept_begun kind) ≡ kind
+begun-kind kinds.Kerberos = refl
+begun-kind kinds.Scram = refl
 
-test-is : (b : Bool) (kind : MechKind) → (if b then Some kinds.Kerberos else None) ≡ Some kind → kinds.Kerberos ≡ kind
-test-is true kind e = cc
-test-is false kind e = cc
+begun-good : (setup : AcceptSetup) (kind : MechKind) → GoodMech setup (accept_begun kind)
+begun-good setup kinds.Kerberos = tt
+begun-good setup kinds.Scram = tt
 
-offered-is : (offer : List MechKind) (named : Option MechKind) (kind : MechKind) → offered offer named ≡ Some kind → kinds.Kerberos ≡ kind
-offered-is offer None kind e = cc
-offered-is offer (Some kinds.Kerberos) kind e = test-is (is_among offer kinds.Kerberos) kind e
-offered-is offer (Some kinds.Scram) kind e = cc
-
-best-is : (offer : List MechKind) (list : List (List ℕ)) (kind : MechKind) → best offer list ≡ Some kind → kinds.Kerberos ≡ kind
-best-is offer [] kind e = cc
-best-is offer (oid ∷ oids) kind e =
-    next-is (offered offer (mech_of oid)) (best offer oids) kind (offered-is offer (mech_of oid) kind) (best-is offer oids kind) e
+begun-waits : (kind : MechKind) (end : AcceptModel) → proof_due (accept_begun kind) ≡ Some end → ⊥
+begun-waits kinds.Kerberos end e = let f : None ≡ Some end = e in cc
+begun-waits kinds.Scram end e = let f : None ≡ Some end = e in cc
 
 -- ---- a mechanism that is done
 
-finished-law : (setup : AcceptSetup) (old : AcceptEnd) (turn : Turn) (running : Running) (outcome : Outcome) (lasts : ℕ) (token : List ℕ) (found : List Making) → GoodRunning setup running → outcome.mech ≡ running.chosen → ((list : List (List ℕ)) → received_of old ≡ Some list → running.received ≡ list) → AfterAnswered setup old found (finished turn running outcome lasts token)
-finished-law setup old turn running outcome lasts token found good mech same =
-    by_test (AfterAnswered setup old found) running.due _ _
+finished-law : (setup : AcceptSetup) (old : AcceptEnd) (turn : Turn) (chosen : Chosen) (outcome : Outcome) (lasts : ℕ) (token : List ℕ) (found : List MechMaking) → GoodChosen setup chosen → outcome.mech ≡ chosen.kind → ((list : List (List ℕ)) → received_of old ≡ Some list → chosen.received ≡ list) → AfterAnswered setup old found (finished turn chosen outcome lasts token)
+finished-law setup old turn chosen outcome lasts token found good mech same =
+    by_test (AfterAnswered setup old found) chosen.due _ _
     (λ e. record {
       good = record { best_is = rw mech good.best_is; due_is = rw mech (sym good.due_is ∙ e) };
       same = λ list h. ap Some (same list h);
     })
     (λ e. inl (record {
-      received = running.received;
+      received = chosen.received;
       best_is = rw mech good.best_is;
       undue = rw mech (sym good.due_is ∙ e);
       same = same;
     }))
 
-finished-outcome : (turn : Turn) (running : Running) (outcome : Outcome) (lasts : ℕ) (token : List ℕ) → outcome_after (finished turn running outcome lasts token) ≡ Some outcome
-finished-outcome turn running outcome lasts token =
-    by_test (λ (a : Answered). outcome_after a ≡ Some outcome) running.due _ _ (λ e. refl) (λ e. refl)
+finished-outcome : (turn : Turn) (chosen : Chosen) (outcome : Outcome) (lasts : ℕ) (token : List ℕ) → outcome_after (finished turn chosen outcome lasts token) ≡ Some outcome
+finished-outcome turn chosen outcome lasts token =
+    by_test (λ (a : Answered). outcome_after a ≡ Some outcome) chosen.due _ _ (λ e. refl) (λ e. refl)
 
-mic-one : (b : Bool) (making first : Making) → Among (if b then first ∷ [] else []) making → making ≡ first
+gone-law : (setup : AcceptSetup) (old : AcceptEnd) (found : List MechMaking) (after : Answered) → AfterAnswered setup old found after → AfterStep setup old found (gone_on after)
+gone-law setup old found (afters.More end token) h = h
+gone-law setup old found (afters.Done outcome lasts token) h = h
+
+mic-one : (b : Bool) (making first : MechMaking) → AmongMakings (if b then first ∷ [] else []) making → making ≡ first
 mic-one true making first (inl e) = e
 mic-one true making first (inr h) = absurd h
 mic-one false making first h = absurd h
 
-made-is : (running : Running) (outcome : Outcome) (answer making : Making) → Among ((answer ∷ []) ++ mic_made running outcome) making → (making ≡ answer) ⊎ (making ≡ mic_making outcome Acceptor running.received)
-made-is running outcome answer making (inl e) = inl e
-made-is running outcome answer making (inr h) = inr (mic-one running.due making (mic_making outcome Acceptor running.received) h)
+made-is : (chosen : Chosen) (outcome : Outcome) (answer making : MechMaking) → AmongMakings ((answer ∷ []) ++ mic_made chosen outcome) making → (making ≡ answer) ⊎ (making ≡ mic_making outcome Acceptor chosen.received)
+made-is chosen outcome answer making (inl e) = inl e
+made-is chosen outcome answer making (inr h) = inr (mic-one chosen.due making (mic_making outcome Acceptor chosen.received) h)
+
+proved-is : (chosen : Chosen) (outcome : Outcome) (makes : List MechMaking) (making : MechMaking) → AmongMakings (makes ++ mic_made chosen outcome) making → AmongMakings makes making ⊎ (making ≡ mic_making outcome Acceptor chosen.received)
+proved-is chosen outcome makes making h =
+    elim (among_split makes (mic_made chosen outcome) making h) [
+      | inl a ↦ inl a
+      | inr b ↦ inr (mic-one chosen.due making (mic_making outcome Acceptor chosen.received) b)
+    ]
 
 -- ---- the mechanism takes a token
 
-abbrev Law : AcceptSetup → AcceptEnd → ℕ → List ℕ → Accepted → Type 0
-Law setup old now draws taken = AcceptLaw setup old now draws taken
+fixed-same : (a b : Fixed) → Some a ≡ Some b → a ≡ b
+fixed-same a b e = cc
 
-request-law : (setup : AcceptSetup) (old : AcceptEnd) (now : ℕ) (draws : List ℕ) (turn : Turn) (running : Running) (token : List ℕ) (result : Result Judged ApRefusal) → GoodRunning setup running → kinds.Kerberos ≡ running.chosen → settled_of old ≡ None → ((list : List (List ℕ)) → received_of old ≡ Some list → running.received ≡ list) → judged setup.keytab setup.own now setup.bindings token ≡ result → On (AcceptLaw setup old now draws) (run turn running (request_taken draws (judge_found setup.keytab setup.own token) result))
-request-law setup old now draws turn running token (Err refusal) good kind before same judges = tt
-request-law setup old now draws turn running token (Ok request) good kind before same judges =
-    record {
-      after = finished-law setup old turn running (outcome_of kinds.Kerberos (answer_done request draws)) request.ends (answer_token request draws) (judge_found setup.keytab setup.own token) good kind same;
-      fixes = λ fixed e. subst (λ (x : Fixed). Fixes setup old now draws (ran_with turn running (request_answered draws (judge_found setup.keytab setup.own token) request)) x) (fixed-is _ fixed e) (record {
-        before = before;
-        same = same;
-        best_is = rw kind good.best_is;
-        request = request;
-        token = token;
-        judges = judges;
-        basis_is = refl;
-        outcome_is = refl;
-        verified = λ making m. m;
-        pause = record { mark = judged_mark request; after = finished turn running (outcome_of kinds.Kerberos (answer_done request draws)) request.ends (answer_token request draws) };
-        asks = refl;
-        mark_is = refl;
-        after_is = finished-outcome turn running (outcome_of kinds.Kerberos (answer_done request draws)) request.ends (answer_token request draws);
-        made = λ making m. made-is running (outcome_of kinds.Kerberos (answer_done request draws)) (answer_making request draws) making m;
-      });
-      unfixed = λ e. absurd (some-none _ e);
-    }
-  where
-    fixed-is : (a b : Fixed) → Some a ≡ Some b → a ≡ b
-    fixed-is a b e = cc
-
-    some-none : (a : Fixed) → Some a ≡ None → ⊥
-    some-none a e = cc
-
-mech-law : (setup : AcceptSetup) (old : AcceptEnd) (now : ℕ) (draws : List ℕ) (turn : Turn) (running : Running) (mech : AcceptMech) (token : List ℕ) → GoodRunning setup running → kind_of_accept mech ≡ running.chosen → settled_of old ≡ None → ((list : List (List ℕ)) → received_of old ≡ Some list → running.received ≡ list) → On (AcceptLaw setup old now draws) (run turn running (accept_taken setup mech token now draws))
-unfolding accept_taken
-mech-law setup old now draws turn running mechs.Kerberos token good kind before same =
-    request-law setup old now draws turn running token (judged setup.keytab setup.own now setup.bindings token) good kind before same refl
-
--- ---- the machine
+some-none : (a : Fixed) → Some a ≡ None → ⊥
+some-none a e = cc
 
 none-some : (fixed : Fixed) → None ≡ Some fixed → ⊥
 none-some fixed e = cc
 
-started-law : (setup : AcceptSetup) (now : ℕ) (draws : List ℕ) (running : Running) (token : Option (List ℕ)) → GoodRunning setup running → On (AcceptLaw setup ends.New now draws) (started setup now draws running token)
-started-law setup now draws running None good = record {
-  after = record { good = record { best_is = good.best_is; due_is = good.due_is; mech_is = good.mech_is }; same = λ list h. absurd (let f : None ≡ Some list = h in cc) };
+request-law : (setup : AcceptSetup) (old : AcceptEnd) (now : ℕ) (draws : List ℕ) (turn : Turn) (chosen : Chosen) (token : List ℕ) (result : Result Judged ApRefusal) → GoodChosen setup chosen → kinds.Kerberos ≡ chosen.kind → settled_of old ≡ None → ((list : List (List ℕ)) → received_of old ≡ Some list → chosen.received ≡ list) → judged setup.keytab setup.own now setup.bindings token ≡ result → On (AcceptLaw setup old now draws) (run turn chosen (request_taken draws (map typed (judge_found setup.keytab setup.own token)) result))
+request-law setup old now draws turn chosen token (Err refusal) good kind before same judges = tt
+request-law setup old now draws turn chosen token (Ok request) good kind before same judges =
+    record {
+      after = finished-law setup old turn chosen (outcome_of kinds.Kerberos (answer_done request draws)) request.ends (answer_token request draws) (map typed (judge_found setup.keytab setup.own token)) good kind same;
+      fixes = λ fixed e. subst (λ (x : Fixed). Fixes setup old now draws (ran_with turn chosen (request_answered draws (map typed (judge_found setup.keytab setup.own token)) request)) x) (fixed-same _ fixed e) (record {
+        before = before;
+        same = same;
+        best_is = rw kind good.best_is;
+        by = inl (record {
+          request = request;
+          token = token;
+          judges = judges;
+          basis_is = refl;
+          outcome_is = refl;
+          lasts_is = refl;
+          verified = λ making m. m;
+          pause = record { mark = judged_mark request; after = finished turn chosen (outcome_of kinds.Kerberos (answer_done request draws)) request.ends (answer_token request draws) };
+          asks = refl;
+          mark_is = refl;
+          after_is = finished-outcome turn chosen (outcome_of kinds.Kerberos (answer_done request draws)) request.ends (answer_token request draws);
+          made = λ making m. made-is chosen (outcome_of kinds.Kerberos (answer_done request draws)) (typed (answer_making request draws)) making m;
+        });
+      });
+      unfixed = λ e. absurd (some-none _ e);
+    }
+
+line-is : (lines : List Verifier) (token draw : List ℕ) (started : AcceptStarted) → accept_started lines token draw ≡ Ok started → IsOfLine lines started.end
+line-is lines token draw started e =
+    let t = takes lines token draw started e in
+    subst (IsOfLine lines) (sym t.end) (record {
+      first = t.first;
+      read = t.read;
+      place = t.place;
+      there = t.there;
+      named = t.named;
+      client = refl;
+      draw = draw;
+      own = refl;
+    })
+
+text-law : (setup : AcceptSetup) (old : AcceptEnd) (now : ℕ) (draws : List ℕ) (turn : Turn) (chosen : Chosen) (token : List ℕ) (result : Result AcceptStarted ScramRefusal) → GoodChosen setup chosen → kinds.Scram ≡ chosen.kind → ((list : List (List ℕ)) → received_of old ≡ Some list → chosen.received ≡ list) → accept_started setup.verifiers token (drawn_nonce draws) ≡ result → On (AcceptLaw setup old now draws) (run turn chosen (text_taken result))
+text-law setup old now draws turn chosen token (Err refusal) good kind same starts = tt
+text-law setup old now draws turn chosen token (Ok started) good kind same starts = record {
+  after = record {
+    good = record { choice = good; mech_is = kind; mech = line-is setup.verifiers token (drawn_nonce draws) started starts };
+    same = λ list h. ap Some (same list h);
+  };
   fixes = λ fixed e. absurd (none-some fixed e);
   unfixed = λ e. refl;
 }
-started-law setup now draws running (Some token) good =
-    mech-law setup ends.New now draws First running running.mech token good good.mech_is refl (λ list h. absurd (let f : None ≡ Some list = h in cc))
+
+proof-law : (setup : AcceptSetup) (old : AcceptEnd) (now : ℕ) (draws : List ℕ) (turn : Turn) (chosen : Chosen) (end : AcceptModel) (token : List ℕ) (result : Result AcceptFinished ScramRefusal) → GoodChosen setup chosen → kinds.Scram ≡ chosen.kind → IsOfLine setup.verifiers end → waits_for_proof old ≡ Some end → settled_of old ≡ None → ((list : List (List ℕ)) → received_of old ≡ Some list → chosen.received ≡ list) → accept_finished end token setup.bindings now ≡ result → On (AcceptLaw setup old now draws) (run turn chosen (proof_taken end token result))
+proof-law setup old now draws turn chosen end token (Err refusal) good kind line was before same finishes = tt
+proof-law setup old now draws turn chosen end token (Ok made) good kind line was before same finishes =
+    record {
+      after = gone-law setup old made.found (finished turn chosen (outcome_of kinds.Scram made.done) made.done.ends made.token) (finished-law setup old turn chosen (outcome_of kinds.Scram made.done) made.done.ends made.token made.found good kind same);
+      fixes = λ fixed e. subst (λ (x : Fixed). Fixes setup old now draws (ran_with turn chosen (proof_answered end token made)) x) (fixed-same _ fixed e) (record {
+        before = before;
+        same = same;
+        best_is = rw kind good.best_is;
+        by = inr (record {
+          end = end;
+          was = was;
+          line = line;
+          token = token;
+          finished = made;
+          finishes = finishes;
+          basis_is = refl;
+          outcome_is = refl;
+          lasts_is = refl;
+          verified = λ making m. m;
+          after = finished turn chosen (outcome_of kinds.Scram made.done) made.done.ends made.token;
+          goes_on = refl;
+          after_is = finished-outcome turn chosen (outcome_of kinds.Scram made.done) made.done.ends made.token;
+          made = λ making m. proved-is chosen (outcome_of kinds.Scram made.done) made.makes making m;
+        });
+      });
+      unfixed = λ e. absurd (some-none _ e);
+    }
+
+mech-law : (setup : AcceptSetup) (old : AcceptEnd) (now : ℕ) (draws : List ℕ) (turn : Turn) (chosen : Chosen) (mech : AcceptMech) (token : List ℕ) → GoodChosen setup chosen → kind_of_accept mech ≡ chosen.kind → GoodMech setup mech → ((end : AcceptModel) → proof_due mech ≡ Some end → waits_for_proof old ≡ Some end) → settled_of old ≡ None → ((list : List (List ℕ)) → received_of old ≡ Some list → chosen.received ≡ list) → On (AcceptLaw setup old now draws) (run turn chosen (accept_taken setup mech token now draws))
+unfolding accept_taken
+mech-law setup old now draws turn chosen mechs.Kerberos token good kind mech was before same =
+    request-law setup old now draws turn chosen token (judged setup.keytab setup.own now setup.bindings token) good kind before same refl
+mech-law setup old now draws turn chosen mechs.Scram token good kind mech was before same =
+    text-law setup old now draws turn chosen token (accept_started setup.verifiers token (drawn_nonce draws)) good kind same refl
+mech-law setup old now draws turn chosen (mechs.Proof end) token good kind mech was before same =
+    proof-law setup old now draws turn chosen end token (accept_finished end token setup.bindings now) good kind mech (was end refl) before same refl
+
+-- ---- the machine
+
+started-law : (setup : AcceptSetup) (now : ℕ) (draws : List ℕ) (running : Running) (token : Option (List ℕ)) → GoodRunning setup running → ((end : AcceptModel) → proof_due running.mech ≡ Some end → ⊥) → On (AcceptLaw setup ends.New now draws) (started setup now draws running token)
+started-law setup now draws running None good fresh = record {
+  after = record { good = record { choice = good.choice; mech_is = good.mech_is; mech = good.mech }; same = λ list h. absurd (let f : None ≡ Some list = h in cc) };
+  fixes = λ fixed e. absurd (none-some fixed e);
+  unfixed = λ e. refl;
+}
+started-law setup now draws running (Some token) good fresh =
+    mech-law setup ends.New now draws First running.chosen running.mech token good.choice good.mech_is good.mech (λ end e. absurd (fresh end e)) refl (λ list h. absurd (let f : None ≡ Some list = h in cc))
 
 begins-law : (setup : AcceptSetup) (now : ℕ) (draws : List ℕ) (init : NegInit) → On (AcceptLaw setup ends.New now draws) (begins setup now draws init)
 unfolding begins
 begins-law setup now draws init =
     on-found {A = MechKind} (AcceptLaw setup ends.New now draws) NoCommonMech (best setup.offer init.list) (chose setup now draws init.list init.token)
     (λ kind e. started-law setup now draws (begun setup init.list kind) (token_for (is_first_named init.list kind) init.token)
-    (record { best_is = e; due_is = refl; mech_is = best-is setup.offer init.list kind e }))
+    (record { choice = record { best_is = e; due_is = refl }; mech_is = begun-kind kind; mech = begun-good setup kind }) (begun-waits kind))
 
 proceeds-law : (setup : AcceptSetup) (now : ℕ) (draws : List ℕ) (size : ℕ) (running : Running) (resp : NegResp) → GoodRunning setup running → On (AcceptLaw setup (ends.Runs running) now draws) (proceeds setup now draws size running resp)
 unfolding proceeds
 proceeds-law setup now draws size running resp good =
     on-due (AcceptLaw setup (ends.Runs running) now draws) Rejected (not (rejects resp.state))
-    (or_refuse (Defective size) resp.token >>= (λ token. run Later running (accept_taken setup running.mech token now draws)))
+    (or_refuse (Defective size) resp.token >>= (λ token. run Later running.chosen (accept_taken setup running.mech token now draws)))
     (λ goes. on-bind {A = List ℕ} (AcceptLaw setup (ends.Runs running) now draws) (or_refuse (Defective size) resp.token)
-    (λ token. run Later running (accept_taken setup running.mech token now draws))
-    (λ token. mech-law setup (ends.Runs running) now draws Later running running.mech token good good.mech_is refl (λ list h. let f : Some running.received ≡ Some list = h in cc)))
+    (λ token. run Later running.chosen (accept_taken setup running.mech token now draws))
+    (λ token. mech-law setup (ends.Runs running) now draws Later running.chosen running.mech token good.choice good.mech_is good.mech (λ end e. e) refl (λ list h. let f : Some running.chosen.received ≡ Some list = h in cc)))
 
 closes-law : (setup : AcceptSetup) (now : ℕ) (draws : List ℕ) (owing : Owing) (resp : NegResp) → On (AcceptLaw setup (ends.Owes owing) now draws) (closes owing resp)
 unfolding closes

@@ -1,10 +1,8 @@
 -- What an initiator's step shows, part by part.
-use Rattle.std.proofs.Common.{◌≡◌, ◌⊎◌, ℕ, Bool, true, false, not, ◌||◌, if◌then◌else◌, refl, sym, ap, ◌∙◌, subst, inl, inr, List, [], ◌∷◌, ◌++◌, length, Option, Some, None, Result, Ok, Err}
+use Rattle.std.proofs.Common.{◌≡◌, ◌⊎◌, ℕ, Bool, true, false, not, ◌||◌, if◌then◌else◌, refl, sym, ap, ◌∙◌, subst, inl, inr, List, [], ◌∷◌, ◌++◌, length, map, Option, Some, None, Result, Ok, Err}
 use Rattle.gss_base.specs.declared.mech.MechKind.{MechKind}
 use Rattle.gss_base.specs.declared.mech.MechKind.TheVariants as kinds
 use Rattle.gss_base.specs.Mech.{mech_of}
-use Rattle.krb_derive.specs.Making.{Making, Among}
-use Rattle.krb_derive.proofs.Makings.{among_both, among_front, among_back}
 use Rattle.krb_tokens.specs.declared.done.MechDone.{MechDone}
 use Rattle.krb_tokens.specs.declared.end.Side.TheVariants.{Initiator}
 use Rattle.krb_files.specs.Granted.{Granted}
@@ -14,6 +12,10 @@ use Rattle.ap_exchange.specs.declared.refusal.ApRefusal.{ApRefusal}
 use Rattle.ap_exchange.specs.declared.request.ApInit.{ApInit}
 use Rattle.ap_exchange.specs.Request.{waiting, request_of, request_making, request_makes}
 use Rattle.ap_exchange.specs.Reply.{reply_taken, reply_found}
+use Rattle.ap_exchange.specs.Draws.{drawn_nonce}
+use Rattle.scram_mech.specs.declared.refusal.ScramRefusal.{ScramRefusal}
+use Rattle.scram_mech.specs.MechMaking.{MechMaking, AmongMakings, typed}
+use Rattle.scram_mech.specs.Initiator.{InitModel, WaitModel, InitStarted, InitAnswered, InitFinished, init_started, init_answered, init_finished}
 use Rattle.spnego_core.specs.declared.outcome.Outcome.{Outcome}
 use Rattle.spnego_core.specs.declared.refusal.NegRefusal.{NegRefusal}
 use Rattle.spnego_core.specs.declared.refusal.NegRefusal.TheVariants.{Defective, Rejected, MechNotMine, MicMissing, MicBad, Mech}
@@ -35,12 +37,13 @@ use Rattle.spnego_core.specs.declared.init_end.InitStep.{InitStep}
 use Rattle.spnego_core.specs.declared.init_end.InitStep.TheVariants as steps
 use Rattle.spnego_core.specs.Outcome.{outcome_of}
 use Rattle.spnego_core.specs.Steps.{◌>>=◌, due, or_refuse}
-use Rattle.spnego_core.specs.Tokens.{rejects, says_completed, resp_read, last_read}
+use Rattle.spnego_core.specs.Tokens.{rejects, says_completed, resp_read, last_read, resp_octets}
 use Rattle.spnego_core.specs.ListMic.{is_list_mic, mic_making, mic_found}
 use Rattle.spnego_core.specs.Choice.{is_first, same_kind}
-use Rattle.spnego_core.specs.InitMech.{kind_of, kinds_of, cred_for, MechBegun, request_begun, init_begun, MechReplied, reply_answered, init_taken}
-use Rattle.spnego_core.specs.Initiating.{Initiated, Started, opens, starts, init_start, opened, talked, closed, init_step, behind, own_list, ended, is_mic_owed, is_chosen, completes_now, completes_later, looks, told, ran, run, begins_other, switched, switches, talk_with, talk_after, picks, own_kind, settles, looks_again}
-use Rattle.spnego_core.specs.InitLaws.{own_of, chosen_of, listed_of, finished_of, finished_in, IsWaiting, IsMechOf, kind_of_mech, Covered, GoodInit, GoesOn, After, IsRequest, IsOwnMic, ByReply, SeesMic, InitLaw, StartLaw}
+use Rattle.spnego_core.specs.InitMech.{kind_of, kinds_of, cred_for, MechBegun, request_begun, text_begun, init_begun, MechReplied, reply_answered, text_answered, final_answered, init_taken}
+use Rattle.spnego_core.specs.Initiating.{Initiated, Started, opens, starts, init_start, opened, talked, closed, init_step, behind, own_list, ended, is_mic_owed, is_chosen, completes_now, completes_later, looks, token_sent, told, ran, run, begins_other, switched, switches, talk_with, talk_after, picks, own_kind, settles, looks_again}
+use Rattle.spnego_core.specs.InitLaws.{own_of, chosen_of, listed_of, finished_of, finished_in, answering, answers_next, answers_in, IsWaiting, IsFirstText, IsProved, IsMechOf, kind_of_mech, Covered, GoodInit, GoesOn, After, IsRequest, IsProof, IsOwnMic, ByReply, BySignature, IsFinish, SeesMic, InitLaw, StartLaw}
+use Rattle.spnego_core.proofs.Makings.{among_front, among_back, among_split}
 use Rattle.spnego_core.proofs.Requests.{request-waits}
 
 -- a fact of a step that was taken
@@ -57,31 +60,39 @@ either P false x y f g = g refl
 unfinished : (outcome : Outcome) → None ≡ Some outcome → ⊥
 unfinished outcome e = cc
 
-one : (making first : Making) → Among (first ∷ []) making → making ≡ first
+unchosen : (kind : MechKind) → None ≡ Some kind → ⊥
+unchosen kind e = cc
+
+one : (making first : MechMaking) → AmongMakings (first ∷ []) making → making ≡ first
 one making first (inl e) = e
 one making first (inr h) = absurd h
 
-seen-more : (own : InitSetup) (outcome : Outcome) (front back found : List Making) → found ≡ front ++ back → SeesMic own front outcome → SeesMic own found outcome
+seen-more : (own : InitSetup) (outcome : Outcome) (front back found : List MechMaking) → found ≡ front ++ back → SeesMic own front outcome → SeesMic own found outcome
 seen-more own outcome front back found e s =
     record { mic = s.mic; right = s.right; verified = rw e (among_front front back _ s.verified) }
 
-seen-behind : (own : InitSetup) (outcome : Outcome) (front back : List Making) → SeesMic own back outcome → SeesMic own (front ++ back) outcome
+seen-behind : (own : InitSetup) (outcome : Outcome) (front back : List MechMaking) → SeesMic own back outcome → SeesMic own (front ++ back) outcome
 seen-behind own outcome front back s = record { mic = s.mic; right = s.right; verified = among_back front back _ s.verified }
+
+front-only : (front : List MechMaking) (making : MechMaking) → AmongMakings (front ++ []) making → AmongMakings front making
+front-only front making h = elim (among_split front [] making h) [ inl a ↦ a | inr b ↦ absurd b ]
 
 -- ---- the end of a mechanism that is done
 
 pub record Ended (talk : Talk) (outcome : Outcome) (taken : Initiated) : Type 0 where
   pub after : outcome.mech ≡ talk.chosen → After talk.own taken.chosen taken.listed taken.step
   pub finished : finished_in taken.step ≡ Some outcome
+  pub answers : answers_in taken.step ≡ None
   pub chosen : taken.chosen ≡ Some talk.chosen
   pub covered : Covered talk.own talk.chosen taken.listed
-  pub made : (making : Making) → Among taken.makes making → making ≡ mic_making outcome Initiator (own_list talk.own)
+  pub made : (making : MechMaking) → AmongMakings taken.makes making → making ≡ mic_making outcome Initiator (own_list talk.own)
   pub sees : taken.listed ≡ true → SeesMic talk.own taken.found outcome
 
-ended-law : (talk : Talk) (outcome : Outcome) (listed completes : Bool) (found : List Making) → Covered talk.own talk.chosen listed → (listed ≡ true → SeesMic talk.own found outcome) → On (Ended talk outcome) (behind [] found (Ok (ended talk outcome listed completes)))
+ended-law : (talk : Talk) (outcome : Outcome) (listed completes : Bool) (found : List MechMaking) → Covered talk.own talk.chosen listed → (listed ≡ true → SeesMic talk.own found outcome) → On (Ended talk outcome) (behind [] found (Ok (ended talk outcome listed completes)))
 ended-law talk outcome listed true found covered sees = record {
   after = λ e. tt;
   finished = refl;
+  answers = refl;
   chosen = refl;
   covered = covered;
   made = λ making h. absurd h;
@@ -90,6 +101,7 @@ ended-law talk outcome listed true found covered sees = record {
 ended-law talk outcome listed false found covered sees = record {
   after = λ e. record { own_is = refl; good = record { covered = covered; chosen = e }; chosen_is = refl; listed_is = refl };
   finished = refl;
+  answers = refl;
   chosen = refl;
   covered = covered;
   made = λ making h. one making _ h;
@@ -105,17 +117,18 @@ looks-law talk outcome state None =
     either (Ended talk outcome) (is_mic_owed talk) (Err MicMissing) (Ok (ended talk outcome false (completes_now state false))) (λ e. tt)
     (λ e. ended-law talk outcome false (completes_now state false) [] (inl (unowed (is_first (kinds_of talk.own.list) talk.chosen) talk.asked e)) (λ f. absurd (let g : false ≡ true = f in cc)))
 looks-law talk outcome state (Some mic) =
-    let seen : List Making = mic_found outcome Initiator (own_list talk.own) mic ∷ [] in
+    let seen : List MechMaking = mic_found outcome Initiator (own_list talk.own) mic ∷ [] in
     either (Ended talk outcome) (is_list_mic outcome Initiator (own_list talk.own) mic) (behind [] seen (Ok (ended talk outcome true (completes_now state true)))) (Err MicBad)
     (λ e. ended-law talk outcome true (completes_now state true) seen (inr refl) (λ f. record { mic = mic; right = e; verified = inl refl })) (λ e. tt)
 
 -- ---- a step of an end whose mechanism wasn't done
 
-pub record Ran (own : InitSetup) (kind : MechKind) (taken : Initiated) : Type 0 where
+pub record Ran (own : InitSetup) (before : Option MechKind) (next : Option InitModel) (kind : MechKind) (taken : Initiated) : Type 0 where
   pub after : After own taken.chosen taken.listed taken.step
   pub chosen : taken.chosen ≡ Some kind
-  pub made : (making : Making) → Among taken.makes making → IsRequest own taken.chosen making ⊎ IsOwnMic own taken.step making
-  pub finishes : (outcome : Outcome) → finished_in taken.step ≡ Some outcome → ByReply own taken.found outcome
+  pub made : (making : MechMaking) → AmongMakings taken.makes making → IsRequest own taken.chosen making ⊎ (IsProof own next taken.chosen making ⊎ IsOwnMic own taken.step making)
+  pub finishes : (outcome : Outcome) → finished_in taken.step ≡ Some outcome → IsFinish own taken.found outcome
+  pub once : (k : MechKind) → before ≡ Some k → next ≡ None → answers_in taken.step ≡ None
   pub sees : (outcome : Outcome) → finished_in taken.step ≡ Some outcome → taken.listed ≡ true → SeesMic own taken.found outcome
   pub covered : (outcome : Outcome) → finished_in taken.step ≡ Some outcome → Covered own kind taken.listed
   pub mech : (outcome : Outcome) → finished_in taken.step ≡ Some outcome → outcome.mech ≡ kind
@@ -123,43 +136,97 @@ pub record Ran (own : InitSetup) (kind : MechKind) (taken : Initiated) : Type 0 
 same-outcome : (step : InitStep) (a b : Outcome) → finished_in step ≡ Some a → finished_in step ≡ Some b → a ≡ b
 same-outcome step a b e f = let both : Some a ≡ Some b = sym e ∙ f in cc
 
-ran-ended : (talk : Talk) (outcome : Outcome) (before : List Making) → outcome.mech ≡ talk.chosen → ByReply talk.own before outcome → (r : Result Initiated NegRefusal) → On (Ended talk outcome) r → On (Ran talk.own talk.chosen) (behind [] before r)
-ran-ended talk outcome before mech by (Err refusal) h = tt
-ran-ended talk outcome before mech by (Ok taken) h =
+finish-more : (own : InitSetup) (front back : List MechMaking) (outcome : Outcome) → IsFinish own front outcome → IsFinish own (front ++ back) outcome
+finish-more own front back outcome (inl by) = inl (record {
+  end = by.end;
+  token = by.token;
+  made = by.made;
+  waits = by.waits;
+  takes = by.takes;
+  outcome_is = by.outcome_is;
+  verified = λ making m. among_front front back making (by.verified making m);
+})
+finish-more own front back outcome (inr by) = inr (record {
+  end = by.end;
+  proved = by.proved;
+  token = by.token;
+  finished = by.finished;
+  takes = by.takes;
+  outcome_is = by.outcome_is;
+  verified = λ making m. among_front front back making (by.verified making m);
+})
+
+ran-ended : (talk : Talk) (before : Option MechKind) (next : Option InitModel) (outcome : Outcome) (front : List MechMaking) → outcome.mech ≡ talk.chosen → IsFinish talk.own front outcome → (r : Result Initiated NegRefusal) → On (Ended talk outcome) r → On (Ran talk.own before next talk.chosen) (behind [] front r)
+ran-ended talk before next outcome front mech by (Err refusal) h = tt
+ran-ended talk before next outcome front mech by (Ok taken) h =
     let same : (o : Outcome) → finished_in taken.step ≡ Some o → outcome ≡ o = λ o e. same-outcome taken.step outcome o h.finished e in
     record {
       after = h.after mech;
       chosen = h.chosen;
-      made = λ making m. inr (record { outcome = outcome; finished = h.finished; made = h.made making m });
-      finishes = λ o e. subst (λ (x : Outcome). ByReply talk.own (before ++ taken.found) x) (same o e) (record {
-        end = by.end;
-        token = by.token;
-        made = by.made;
-        waits = by.waits;
-        takes = by.takes;
-        outcome_is = by.outcome_is;
-        verified = λ making m. among_front before taken.found making (by.verified making m);
-      });
-      sees = λ o e l. subst (λ (x : Outcome). SeesMic talk.own (before ++ taken.found) x) (same o e) (seen-behind talk.own outcome before taken.found (h.sees l));
+      made = λ making m. inr (inr (record { outcome = outcome; finished = h.finished; made = h.made making m }));
+      finishes = λ o e. subst (λ (x : Outcome). IsFinish talk.own (front ++ taken.found) x) (same o e) (finish-more talk.own front taken.found outcome by);
+      once = λ k e f. h.answers;
+      sees = λ o e l. subst (λ (x : Outcome). SeesMic talk.own (front ++ taken.found) x) (same o e) (seen-behind talk.own outcome front taken.found (h.sees l));
       covered = λ o e. h.covered;
       mech = λ o e. sym (ap (λ (x : Outcome). x.mech) (same o e)) ∙ mech;
     }
 
-ran-law : (talk : Talk) (state : Option NegState) (mic : Option (List ℕ)) (end : ApInit) (token : List ℕ) (result : Result MechDone ApRefusal) → IsWaiting talk.own end → kinds.Kerberos ≡ talk.chosen → reply_taken end token ≡ result → On (Ran talk.own talk.chosen) (ran talk state mic (reply_answered (reply_found end token) result))
-ran-law talk state mic end token (Err refusal) waits mech takes = tt
-ran-law talk state mic end token (Ok made) waits mech takes =
-    ran-ended talk (outcome_of kinds.Kerberos made) (reply_found end token) mech
-    (record { end = end; token = token; made = made; waits = waits; takes = takes; outcome_is = refl; verified = λ making m. m })
+ran-law : (talk : Talk) (before : Option MechKind) (next : Option InitModel) (state : Option NegState) (mic : Option (List ℕ)) (end : ApInit) (token : List ℕ) (result : Result MechDone ApRefusal) → IsWaiting talk.own end → kinds.Kerberos ≡ talk.chosen → reply_taken end token ≡ result → On (Ran talk.own before next talk.chosen) (ran talk state mic (reply_answered (map typed (reply_found end token)) result))
+ran-law talk before next state mic end token (Err refusal) waits mech takes = tt
+ran-law talk before next state mic end token (Ok made) waits mech takes =
+    ran-ended talk before next (outcome_of kinds.Kerberos made) (map typed (reply_found end token)) mech
+    (inl (record { end = end; token = token; made = made; waits = waits; takes = takes; outcome_is = refl; verified = λ making m. m }))
     (looks talk (outcome_of kinds.Kerberos made) state mic) (looks-law talk (outcome_of kinds.Kerberos made) state mic)
 
-run-law : (size : ℕ) (talk : Talk) (mech : InitMech) (state : Option NegState) (token mic : Option (List ℕ)) → IsMechOf talk.own mech → kind_of_mech mech ≡ talk.chosen → On (Ran talk.own talk.chosen) (run size talk mech state token mic)
+-- SCRAM's proof is handed out, and the signature is due
+proved-law : (talk : Talk) (before : Option MechKind) (state : Option NegState) (mic : Option (List ℕ)) (end : InitModel) (text : List ℕ) (result : Result InitAnswered ScramRefusal) → IsFirstText talk.own end → kinds.Scram ≡ talk.chosen → init_answered end text ≡ result → On (Ran talk.own before (Some end) talk.chosen) (ran talk state mic (text_answered result))
+proved-law talk before state mic end text (Err refusal) first mech answers = tt
+proved-law talk before state mic end text (Ok answered) first mech answers = by_state (says_completed state)
+  where
+    sent : Initiated
+    sent = record {
+      step = steps.More (ends.Talks (record { talk = talk; mech = mechs.Proof answered.end })) (resp_octets (token_sent answered.token));
+      chosen = Some talk.chosen;
+      listed = false;
+      makes = [];
+      found = [];
+    }
+
+    by_state : (b : Bool) → On (Ran talk.own before (Some end) talk.chosen) (behind answered.makes [] (if b then Err (Defective 0) else Ok sent))
+    by_state true = tt
+    by_state false = record {
+      after = record {
+        own_is = refl;
+        good = record { mech = record { before = end; first = first; text = text; answered = answered; answers = answers; waits = refl }; chosen = mech };
+        chosen_is = refl;
+        listed_is = refl;
+      };
+      chosen = refl;
+      made = λ making m. inr (inl (record { end = end; was = refl; first = first; text = text; answered = answered; answers = answers; made = front-only answered.makes making m; now = ap Some (sym mech) }));
+      finishes = λ o e. absurd (unfinished o e);
+      once = λ k e f. refl;
+      sees = λ o e l. absurd (unfinished o e);
+      covered = λ o e. absurd (unfinished o e);
+      mech = λ o e. absurd (unfinished o e);
+    }
+
+signed-law : (talk : Talk) (before : Option MechKind) (next : Option InitModel) (state : Option NegState) (mic : Option (List ℕ)) (end : WaitModel) (token : List ℕ) (result : Result InitFinished ScramRefusal) → IsProved talk.own end → kinds.Scram ≡ talk.chosen → init_finished end token ≡ result → On (Ran talk.own before next talk.chosen) (ran talk state mic (final_answered result))
+signed-law talk before next state mic end token (Err refusal) proved mech takes = tt
+signed-law talk before next state mic end token (Ok made) proved mech takes =
+    ran-ended talk before next (outcome_of kinds.Scram made.done) made.found mech
+    (inr (record { end = end; proved = proved; token = token; finished = made; takes = takes; outcome_is = refl; verified = λ making m. m }))
+    (looks talk (outcome_of kinds.Scram made.done) state mic) (looks-law talk (outcome_of kinds.Scram made.done) state mic)
+
+run-law : (size : ℕ) (talk : Talk) (before : Option MechKind) (mech : InitMech) (state : Option NegState) (token mic : Option (List ℕ)) → IsMechOf talk.own mech → kind_of_mech mech ≡ talk.chosen → On (Ran talk.own before (answering mech) talk.chosen) (run size talk mech state token mic)
 unfolding run init_taken
-run-law size talk mech state None mic waits kind = tt
-run-law size talk (mechs.Kerberos end) state (Some token) mic waits kind = ran-law talk state mic end token (reply_taken end token) waits kind refl
+run-law size talk before mech state None mic waits kind = tt
+run-law size talk before (mechs.Kerberos end) state (Some token) mic waits kind = ran-law talk before None state mic end token (reply_taken end token) waits kind refl
+run-law size talk before (mechs.Scram end) state (Some token) mic waits kind = proved-law talk before state mic end token (init_answered end token) waits kind refl
+run-law size talk before (mechs.Proof end) state (Some token) mic waits kind = signed-law talk before None state mic end token (init_finished end token) waits kind refl
 
 -- ---- another mechanism begins
 
-same_kind-is : (a b : MechKind) → same_kind a b ≡ true → a ≡ b
+pub same_kind-is : (a b : MechKind) → same_kind a b ≡ true → a ≡ b
 same_kind-is kinds.Kerberos kinds.Kerberos e = refl
 same_kind-is kinds.Kerberos kinds.Scram e = cc
 same_kind-is kinds.Scram kinds.Kerberos e = cc
@@ -173,14 +240,14 @@ by_test : (b : Bool) (kind : MechKind) (first cred : MechCred) (rest : Option Me
 by_test true kind first cred rest f g e = let same : first ≡ cred = cc in sym (ap kind_of same) ∙ f refl
 by_test false kind first cred rest f g e = g e
 
-cred_for-kind : (list : List MechCred) (kind : MechKind) (cred : MechCred) → cred_for list kind ≡ Some cred → kind_of cred ≡ kind
+pub cred_for-kind : (list : List MechCred) (kind : MechKind) (cred : MechCred) → cred_for list kind ≡ Some cred → kind_of cred ≡ kind
 cred_for-kind [] kind cred e = cc
 cred_for-kind (first ∷ rest) kind cred e =
     by_test (same_kind (kind_of first) kind) kind first cred (cred_for rest kind) (λ f. same_kind-is (kind_of first) kind f) (λ f. cred_for-kind rest kind cred f) e
 
-request-begun : (talk : Talk) (credential : Granted) (result : Result (ApInit × List ℕ) ApRefusal) → kinds.Kerberos ≡ talk.chosen → cred_for talk.own.list kinds.Kerberos ≡ Some (creds.Kerberos credential) → request_of credential talk.own.stamp talk.own.draws talk.own.bindings ≡ result → On (Ran talk.own talk.chosen) (switched talk (request_begun (request_makes credential talk.own.stamp talk.own.draws talk.own.bindings) result))
-request-begun talk credential (Err refusal) kind is_own sends = tt
-request-begun talk credential (Ok sent) kind is_own sends = record {
+request-begun : (talk : Talk) (next : Option InitModel) (credential : Granted) (result : Result (ApInit × List ℕ) ApRefusal) → kinds.Kerberos ≡ talk.chosen → cred_for talk.own.list kinds.Kerberos ≡ Some (creds.Kerberos credential) → request_of credential talk.own.stamp talk.own.draws talk.own.bindings ≡ result → On (Ran talk.own None next talk.chosen) (switched talk (request_begun (map typed (request_makes credential talk.own.stamp talk.own.draws talk.own.bindings)) result))
+request-begun talk next credential (Err refusal) kind is_own sends = tt
+request-begun talk next credential (Ok sent) kind is_own sends = record {
   after = record {
     own_is = refl;
     good = record {
@@ -193,49 +260,73 @@ request-begun talk credential (Ok sent) kind is_own sends = record {
   chosen = refl;
   made = λ making m. inl (record { credential = credential; is_own = is_own; made = one making _ m; now = ap Some (sym kind) });
   finishes = λ o e. absurd (unfinished o e);
+  once = λ k e f. absurd (unchosen k e);
   sees = λ o e l. absurd (unfinished o e);
   covered = λ o e. absurd (unfinished o e);
   mech = λ o e. absurd (unfinished o e);
 }
 
-switched-law : (talk : Talk) (cred : MechCred) → cred_for talk.own.list talk.chosen ≡ Some cred → On (Ran talk.own talk.chosen) (switched talk (init_begun talk.own cred))
+text-begun : (talk : Talk) (next : Option InitModel) (user password : List ℕ) (result : Result InitStarted ScramRefusal) → kinds.Scram ≡ talk.chosen → cred_for talk.own.list kinds.Scram ≡ Some (creds.Scram user password) → init_started user password (drawn_nonce talk.own.draws) talk.own.bindings ≡ result → On (Ran talk.own None next talk.chosen) (switched talk (text_begun result))
+text-begun talk next user password (Err refusal) kind is_own starts = tt
+text-begun talk next user password (Ok started) kind is_own starts = record {
+  after = record {
+    own_is = refl;
+    good = record {
+      mech = record { user = user; password = password; is_own = is_own; started = started; starts = starts; waits = refl };
+      chosen = kind;
+    };
+    chosen_is = refl;
+    listed_is = refl;
+  };
+  chosen = refl;
+  made = λ making m. absurd m;
+  finishes = λ o e. absurd (unfinished o e);
+  once = λ k e f. absurd (unchosen k e);
+  sees = λ o e l. absurd (unfinished o e);
+  covered = λ o e. absurd (unfinished o e);
+  mech = λ o e. absurd (unfinished o e);
+}
+
+switched-law : (talk : Talk) (next : Option InitModel) (cred : MechCred) → cred_for talk.own.list talk.chosen ≡ Some cred → On (Ran talk.own None next talk.chosen) (switched talk (init_begun talk.own cred))
 unfolding init_begun
-switched-law talk (creds.Kerberos credential) e =
+switched-law talk next (creds.Kerberos credential) e =
     let kind : kinds.Kerberos ≡ talk.chosen = cred_for-kind talk.own.list talk.chosen (creds.Kerberos credential) e in
-    request-begun talk credential (request_of credential talk.own.stamp talk.own.draws talk.own.bindings) kind (rw kind e) refl
+    request-begun talk next credential (request_of credential talk.own.stamp talk.own.draws talk.own.bindings) kind (rw kind e) refl
+switched-law talk next (creds.Scram user password) e =
+    let kind : kinds.Scram ≡ talk.chosen = cred_for-kind talk.own.list talk.chosen (creds.Scram user password) e in
+    text-begun talk next user password (init_started user password (drawn_nonce talk.own.draws) talk.own.bindings) kind (rw kind e) refl
 
-begins_other-law : (talk : Talk) (found : Option MechCred) → cred_for talk.own.list talk.chosen ≡ found → On (Ran talk.own talk.chosen) (begins_other talk found)
-begins_other-law talk None e = tt
-begins_other-law talk (Some cred) e = switched-law talk cred e
+begins_other-law : (talk : Talk) (next : Option InitModel) (found : Option MechCred) → cred_for talk.own.list talk.chosen ≡ found → On (Ran talk.own None next talk.chosen) (begins_other talk found)
+begins_other-law talk next None e = tt
+begins_other-law talk next (Some cred) e = switched-law talk next cred e
 
-switches-law : (talk : Talk) (state : Option NegState) (token : Option (List ℕ)) → On (Ran talk.own talk.chosen) (switches talk state token)
-switches-law talk state (Some token) = tt
-switches-law talk state None =
-    either (Ran talk.own talk.chosen) (says_completed state) (Err (Defective 0)) (begins_other talk (cred_for talk.own.list talk.chosen)) (λ e. tt)
-    (λ e. begins_other-law talk (cred_for talk.own.list talk.chosen) refl)
+switches-law : (talk : Talk) (next : Option InitModel) (state : Option NegState) (token : Option (List ℕ)) → On (Ran talk.own None next talk.chosen) (switches talk state token)
+switches-law talk next state (Some token) = tt
+switches-law talk next state None =
+    either (Ran talk.own None next talk.chosen) (says_completed state) (Err (Defective 0)) (begins_other talk (cred_for talk.own.list talk.chosen)) (λ e. tt)
+    (λ e. begins_other-law talk next (cred_for talk.own.list talk.chosen) refl)
 
 -- ---- the machine
 
-picks-law : (size : ℕ) (opening : Opening) (kind : MechKind) (state : Option NegState) (token mic : Option (List ℕ)) → GoodInit (ends.Opens opening) → On (Ran opening.own kind) (picks size opening kind state token mic)
+picks-law : (size : ℕ) (opening : Opening) (kind : MechKind) (state : Option NegState) (token mic : Option (List ℕ)) → GoodInit (ends.Opens opening) → On (Ran opening.own None (answering opening.mech) kind) (picks size opening kind state token mic)
 unfolding picks
 picks-law size opening kind state token mic good =
-    let first : Bool = is_first (kinds_of opening.own.list) kind in
-    let talk : Talk = talk_with opening.own kind state in
-    either (Ran opening.own kind) (is_first (kinds_of opening.own.list) kind) (run size (talk_with opening.own kind state) opening.mech state token mic) (switches (talk_with opening.own kind state) state token)
-    (λ e. run-law size (talk_with opening.own kind state) opening.mech state token mic good.mech (first-same (kinds_of opening.own.list) (kind_of_mech opening.mech) kind good.first e))
-    (λ e. switches-law (talk_with opening.own kind state) state token)
+    either (Ran opening.own None (answering opening.mech) kind) (is_first (kinds_of opening.own.list) kind) (run size (talk_with opening.own kind state) opening.mech state token mic) (switches (talk_with opening.own kind state) state token)
+    (λ e. run-law size (talk_with opening.own kind state) None opening.mech state token mic good.mech (first-same (kinds_of opening.own.list) (kind_of_mech opening.mech) kind good.first e))
+    (λ e. switches-law (talk_with opening.own kind state) (answering opening.mech) state token)
 
 on-bind : {A : Type 0} (P : Initiated → Type 0) (r : Result A NegRefusal) (next : A → Result Initiated NegRefusal) → ((x : A) → On P (next x)) → On P (r >>= next)
 on-bind P (Ok x) next f = f x
 on-bind P (Err refusal) next f = tt
 
 -- what a step of an unfinished end shows
-fresh : (old : InitEnd) (kind : MechKind) → finished_of old ≡ None → ((k : MechKind) → chosen_of old ≡ Some k → kind ≡ k) → (r : Result Initiated NegRefusal) → On (Ran (own_of old) kind) r → On (InitLaw old) r
+fresh : (old : InitEnd) (kind : MechKind) → finished_of old ≡ None → ((k : MechKind) → chosen_of old ≡ Some k → kind ≡ k) → (r : Result Initiated NegRefusal) → On (Ran (own_of old) (chosen_of old) (answers_next old) kind) r → On (InitLaw old) r
 fresh old kind unfinished_yet turns (Err refusal) h = tt
 fresh old kind unfinished_yet turns (Ok taken) h = record {
   after = h.after;
   made = h.made;
   finishes = λ o e. inr (h.finishes o e);
+  once = h.once;
   sees = λ o e l. inr (h.sees o e l);
   chosen = λ o e. h.chosen ∙ ap Some (sym (h.mech o e));
   covered = λ o e. subst (λ (k : MechKind). Covered (own_of old) k taken.listed) (sym (h.mech o (rw e refl))) (h.covered o (rw e refl));
@@ -268,9 +359,9 @@ talked-law size talking resp good =
     (λ same. run size (talk_after talking.talk resp.state) talking.mech resp.state resp.token resp.mic)
     (λ same. fresh (ends.Talks talking) talking.talk.chosen refl (λ k e. let f : Some talking.talk.chosen ≡ Some k = e in cc)
     (run size (talk_after talking.talk resp.state) talking.mech resp.state resp.token resp.mic)
-    (run-law size (talk_after talking.talk resp.state) talking.mech resp.state resp.token resp.mic good.mech good.chosen)))
+    (run-law size (talk_after talking.talk resp.state) (Some talking.talk.chosen) talking.mech resp.state resp.token resp.mic good.mech good.chosen)))
 
-settles-law : (signed : Signed) (listed completes : Bool) (found : List Making) → GoodInit (ends.Signed signed) → (listed ≡ true → (signed.listed ≡ true) ⊎ SeesMic signed.talk.own found signed.outcome) → (signed.listed ≡ true → listed ≡ true) → On (InitLaw (ends.Signed signed)) (behind [] found (settles signed listed completes))
+settles-law : (signed : Signed) (listed completes : Bool) (found : List MechMaking) → GoodInit (ends.Signed signed) → (listed ≡ true → (signed.listed ≡ true) ⊎ SeesMic signed.talk.own found signed.outcome) → (signed.listed ≡ true → listed ≡ true) → On (InitLaw (ends.Signed signed)) (behind [] found (settles signed listed completes))
 settles-law signed listed false found good sees grows = tt
 settles-law signed listed true found good sees grows =
     let same : (o : Outcome) → Some signed.outcome ≡ Some o → signed.outcome ≡ o = λ o e. cc in
@@ -278,6 +369,7 @@ settles-law signed listed true found good sees grows =
       after = tt;
       made = λ making m. absurd m;
       finishes = λ o e. inl e;
+      once = λ k e f. refl;
       sees = λ o e l. seen o (same o e) (sees l);
       chosen = λ o e. ap Some (sym good.chosen ∙ ap (λ (x : Outcome). x.mech) (same o e));
       covered = λ o e. subst (λ (k : MechKind). Covered signed.talk.own k listed) (sym good.chosen ∙ ap (λ (x : Outcome). x.mech) (let f : signed.outcome ≡ o = cc in f)) (covers good.covered);
@@ -300,7 +392,7 @@ looks_again-law signed state None good = unseen (completes_later state)
     unseen true = settles-law signed signed.listed true [] good (λ l. inl l) (λ l. l)
     unseen false = tt
 looks_again-law signed state (Some mic) good =
-    let found : List Making = mic_found signed.outcome Initiator (own_list signed.talk.own) mic ∷ [] in
+    let found : List MechMaking = mic_found signed.outcome Initiator (own_list signed.talk.own) mic ∷ [] in
     either (InitLaw (ends.Signed signed)) (is_list_mic signed.outcome Initiator (own_list signed.talk.own) mic) (behind [] found (settles signed true (completes_later state))) (Err MicBad)
     (λ e. settles-law signed true (completes_later state) found good (λ l. inr (record { mic = mic; right = e; verified = inl refl })) (λ l. refl)) (λ e. tt)
 
@@ -334,7 +426,7 @@ OnStarted : (Started → Type 0) → Result Started NegRefusal → Type 0
 OnStarted P (Ok started) = P started
 OnStarted P (Err refusal) = Unit {0}
 
-request-opens : (own : InitSetup) (credential : Granted) (rest : List MechCred) (result : Result (ApInit × List ℕ) ApRefusal) → own.list ≡ creds.Kerberos credential ∷ rest → request_of credential own.stamp own.draws own.bindings ≡ result → OnStarted (StartLaw own) (opens own (request_begun (request_makes credential own.stamp own.draws own.bindings) result))
+request-opens : (own : InitSetup) (credential : Granted) (rest : List MechCred) (result : Result (ApInit × List ℕ) ApRefusal) → own.list ≡ creds.Kerberos credential ∷ rest → request_of credential own.stamp own.draws own.bindings ≡ result → OnStarted (StartLaw own) (opens own (request_begun (map typed (request_makes credential own.stamp own.draws own.bindings)) result))
 unfolding OnStarted
 request-opens own credential rest (Err refusal) list sends = tt
 request-opens own credential rest (Ok sent) list sends =
@@ -349,10 +441,26 @@ request-opens own credential rest (Ok sent) list sends =
       made = λ making m. (credential, is_own, one making _ m);
     }
 
+text-opens : (own : InitSetup) (user password : List ℕ) (rest : List MechCred) (result : Result InitStarted ScramRefusal) → own.list ≡ creds.Scram user password ∷ rest → init_started user password (drawn_nonce own.draws) own.bindings ≡ result → OnStarted (StartLaw own) (opens own (text_begun result))
+unfolding OnStarted
+text-opens own user password rest (Err refusal) list starts = tt
+text-opens own user password rest (Ok started) list starts =
+    let is_own : cred_for own.list kinds.Scram ≡ Some (creds.Scram user password) = rw list refl in
+    record {
+      own_is = refl;
+      good = record {
+        mech = record { user = user; password = password; is_own = is_own; started = started; starts = starts; waits = refl };
+        first = rw list refl;
+      };
+      unchosen = refl;
+      made = λ making m. absurd m;
+    }
+
 starts-law : (own : InitSetup) (list : List MechCred) → own.list ≡ list → OnStarted (StartLaw own) (starts own list)
 unfolding OnStarted init_begun
 starts-law own [] e = tt
 starts-law own (creds.Kerberos credential ∷ rest) e = request-opens own credential rest (request_of credential own.stamp own.draws own.bindings) e refl
+starts-law own (creds.Scram user password ∷ rest) e = text-opens own user password rest (init_started user password (drawn_nonce own.draws) own.bindings) e refl
 
 pub init_starts : (own : InitSetup) (started : Started) → init_start own ≡ Ok started → StartLaw own started
 unfolding OnStarted

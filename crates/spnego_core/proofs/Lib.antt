@@ -1,7 +1,13 @@
+pub mod Makings
 pub mod Requests
 pub mod InitSteps
 pub mod AcceptSteps
 pub mod Sizes
 pub mod Short
 pub mod ShortInit
+pub mod ShortTexts
 pub mod Pairs
+pub mod Spelled
+pub mod Turns
+pub mod MechRounds
+pub mod Exchanges

@@ -36,19 +36,19 @@ use Rattle.spnego_core.specs.Accepting as accepting
 use Rattle.spnego_core.specs.Initiating as initiating
 use Rattle.spnego_core.specs.PairLaws.{setup_with, Pair, first_token, opening_end, pair_outcome, plain_reply, signed_reply, DoneAtOnce, DoneAfterMics}
 
-init_again : (init : NegInit) → neg_init.fits init ≡ true → init_read (init_octets init) ≡ Ok init
+pub init_again : (init : NegInit) → neg_init.fits init ≡ true → init_read (init_octets init) ≡ Ok init
 unfolding init_read init_octets
 init_again init fits = rw (neg_init_law.again (length (neg_init.spell init)) init fits) refl
 
-resp_again : (resp : NegResp) → neg_resp.fits resp ≡ true → resp_read (resp_octets resp) ≡ Ok resp
+pub resp_again : (resp : NegResp) → neg_resp.fits resp ≡ true → resp_read (resp_octets resp) ≡ Ok resp
 unfolding resp_read resp_octets
 resp_again resp fits = rw (neg_resp_law.again (length (neg_resp.spell resp)) resp fits) refl
 
-acceptors_mic : (outcome : Outcome) (list : List (List ℕ)) → is_list_mic outcome Initiator list (list_mic outcome Acceptor list) ≡ true
+pub acceptors_mic : (outcome : Outcome) (list : List (List ℕ)) → is_list_mic outcome Initiator list (list_mic outcome Acceptor list) ≡ true
 unfolding is_list_mic list_mic
 acceptors_mic outcome list = rw (mic-taken (token_end outcome Acceptor) 0 (list_octets list)) refl
 
-initiators_mic : (outcome : Outcome) (list : List (List ℕ)) → is_list_mic outcome Acceptor list (list_mic outcome Initiator list) ≡ true
+pub initiators_mic : (outcome : Outcome) (list : List (List ℕ)) → is_list_mic outcome Acceptor list (list_mic outcome Initiator list) ≡ true
 unfolding is_list_mic list_mic
 initiators_mic outcome list = rw (mic-taken (token_end outcome Initiator) 0 (list_octets list)) refl
 
@@ -64,7 +64,7 @@ one_outcome a b g = λ i. record { mech = Kerberos; initiator = g.initiator_name
 abbrev pause_of : AcceptSetup → Judged → List ℕ → List (List ℕ) → AcceptPause
 pause_of setup j drawn list = record {
   mark = judged_mark j;
-  after = accepting.finished First (accepting.begun setup list Kerberos) (pair_outcome j drawn) j.ends (answer_token j drawn);
+  after = accepting.finished First (accepting.begun setup list Kerberos).chosen (pair_outcome j drawn) j.ends (answer_token j drawn);
 }
 
 asks : (setup : AcceptSetup) (now : ℕ) (drawn : List ℕ) (credential : Granted) (stamp : ℕ) (draws : List ℕ) (bindings : Option (List ℕ)) → (pair : Pair setup now drawn credential stamp draws bindings)

@@ -44,6 +44,10 @@ own_within (creds.Kerberos credential) = oid_within (oid_of kinds.Kerberos) nine
   where
     nine : Within (oid_of kinds.Kerberos) 9
     nine = record { most = omega arith }
+own_within (creds.Scram user password) = oid_within (oid_of kinds.Scram) nine
+  where
+    nine : Within (oid_of kinds.Scram) 9
+    nine = record { most = omega arith }
 
 list_within : (list : List MechCred) → is_own_list list ≡ true → Within (many_spelling object_identifier (map (λ cred. oid_of (kind_of cred)) list)) 30
 list_within [] e = cc

@@ -1,17 +1,22 @@
 -- What holds of an acceptor over its steps.
-use Rattle.std.specs.Prelude.{◌≡◌, ◌⊎◌, ℕ, true, false, List, [], Option, Some, None, Result, Ok}
+use Rattle.std.specs.Prelude.{◌≡◌, ◌⊎◌, ℕ, true, false, List, [], map, slice_get, Option, Some, None, Result, Ok}
 use Rattle.gss_base.specs.declared.mech.MechKind.{MechKind}
 use Rattle.gss_base.specs.declared.mech.MechKind.TheVariants as kinds
-use Rattle.krb_derive.specs.Making.{Making, Among}
 use Rattle.krb_tokens.specs.declared.end.Side.TheVariants.{Acceptor}
 use Rattle.ap_exchange.specs.declared.judged.Judged.{Judged}
 use Rattle.ap_exchange.specs.Exchange.{judge_found}
 use Rattle.ap_exchange.specs.Judging.{judged, judged_mark}
 use Rattle.ap_exchange.specs.Answer.{answer_done, answer_making}
+use Rattle.scram_mech.specs.declared.verifiers.Verifier.{Verifier}
+use Rattle.scram_mech.specs.Base64.{encoded}
+use Rattle.scram_mech.specs.FirstText.{First, first_of}
+use Rattle.scram_mech.specs.MechMaking.{MechMaking, AmongMakings, typed}
+use Rattle.scram_mech.specs.Acceptor.{AcceptModel, AcceptFinished, accept_finished}
 use Rattle.spnego_core.specs.declared.outcome.Outcome.{Outcome}
 use Rattle.spnego_core.specs.declared.setup.AcceptSetup.{AcceptSetup}
 use Rattle.spnego_core.specs.declared.accept_mech.AcceptMech.{AcceptMech}
 use Rattle.spnego_core.specs.declared.accept_mech.AcceptMech.TheVariants as mechs
+use Rattle.spnego_core.specs.declared.accept_end.Chosen.{Chosen}
 use Rattle.spnego_core.specs.declared.accept_end.Running.{Running}
 use Rattle.spnego_core.specs.declared.accept_end.Owing.{Owing}
 use Rattle.spnego_core.specs.declared.accept_end.AcceptEnd.{AcceptEnd}
@@ -24,15 +29,15 @@ use Rattle.spnego_core.specs.declared.accept_end.AcceptStep.TheVariants as steps
 use Rattle.spnego_core.specs.Outcome.{outcome_of}
 use Rattle.spnego_core.specs.ListMic.{is_list_mic, mic_making, mic_found}
 use Rattle.spnego_core.specs.Choice.{best, is_mic_due}
-use Rattle.spnego_core.specs.AcceptMech.{Basis, ByRequest}
-use Rattle.spnego_core.specs.Accepting.{Fixed, Accepted, accept_step}
+use Rattle.spnego_core.specs.AcceptMech.{Basis, ByRequest, ByProof}
+use Rattle.spnego_core.specs.Accepting.{Fixed, Accepted, gone_on, accept_step}
 
 -- ---- what an end knows
 
 -- the list that came
 abbrev pub received_of : AcceptEnd → Option (List (List ℕ))
 received_of ends.New = None
-received_of (ends.Runs running) = Some running.received
+received_of (ends.Runs running) = Some running.chosen.received
 received_of (ends.Owes owing) = Some owing.received
 
 -- the outcome of a mechanism that is done
@@ -41,16 +46,49 @@ settled_of ends.New = None
 settled_of (ends.Runs running) = None
 settled_of (ends.Owes owing) = Some owing.outcome
 
+-- the SCRAM end that waits for the proof
+abbrev pub proof_due : AcceptMech → Option AcceptModel
+proof_due mechs.Kerberos = None
+proof_due mechs.Scram = None
+proof_due (mechs.Proof end) = Some end
+
+abbrev pub waits_for_proof : AcceptEnd → Option AcceptModel
+waits_for_proof ends.New = None
+waits_for_proof (ends.Runs running) = proof_due running.mech
+waits_for_proof (ends.Owes owing) = None
+
 -- ---- good ends: those that runs reach
 
 abbrev pub kind_of_accept : AcceptMech → MechKind
 kind_of_accept mechs.Kerberos = kinds.Kerberos
+kind_of_accept mechs.Scram = kinds.Scram
+kind_of_accept (mechs.Proof end) = kinds.Scram
+
+-- a SCRAM end that waits for the proof: the line stands in the verifiers under the name in the first text, whose nonce it has beside a drawn one
+pub record IsOfLine (lines : List Verifier) (end : AcceptModel) : Type 0 where
+  pub first : First
+  pub read : first_of end.first ≡ Ok first
+  pub place : ℕ
+  pub there : slice_get lines place ≡ Some end.line
+  pub named : end.line.name ≡ first.name
+  pub client : end.client ≡ first.nonce
+  pub draw : List ℕ
+  pub own : end.own ≡ encoded draw
+
+abbrev pub GoodMech : AcceptSetup → AcceptMech → Type 0
+GoodMech setup mechs.Kerberos = Unit {0}
+GoodMech setup mechs.Scram = Unit {0}
+GoodMech setup (mechs.Proof end) = IsOfLine setup.verifiers end
 
 -- the mechanism is the best of the list that came, and the MIC is due by the rule
+pub record GoodChosen (setup : AcceptSetup) (chosen : Chosen) : Type 0 where
+  pub best_is : best setup.offer chosen.received ≡ Some chosen.kind
+  pub due_is : chosen.due ≡ is_mic_due setup.offer chosen.received chosen.kind
+
 pub record GoodRunning (setup : AcceptSetup) (running : Running) : Type 0 where
-  pub best_is : best setup.offer running.received ≡ Some running.chosen
-  pub due_is : running.due ≡ is_mic_due setup.offer running.received running.chosen
-  pub mech_is : kind_of_accept running.mech ≡ running.chosen
+  pub choice : GoodChosen setup running.chosen
+  pub mech_is : kind_of_accept running.mech ≡ running.chosen.kind
+  pub mech : GoodMech setup running.mech
 
 pub record GoodOwing (setup : AcceptSetup) (owing : Owing) : Type 0 where
   pub best_is : best setup.offer owing.received ≡ Some owing.outcome.mech
@@ -76,23 +114,23 @@ pub record IsUndue (setup : AcceptSetup) (old : AcceptEnd) (outcome : Outcome) :
   pub same : (list : List (List ℕ)) → received_of old ≡ Some list → received ≡ list
 
 -- the initiator's MIC over the list that came was verified in this step
-pub record TakesMic (old : AcceptEnd) (found : List Making) (outcome : Outcome) : Type 0 where
+pub record TakesMic (old : AcceptEnd) (found : List MechMaking) (outcome : Outcome) : Type 0 where
   pub owing : Owing
   pub was : old ≡ ends.Owes owing
   pub outcome_is : outcome ≡ owing.outcome
   pub mic : List ℕ
   pub right : is_list_mic owing.outcome Acceptor owing.received mic ≡ true
-  pub verified : Among found (mic_found owing.outcome Acceptor owing.received mic)
+  pub verified : AmongMakings found (mic_found owing.outcome Acceptor owing.received mic)
 
 -- a context stands only where the MIC wasn't due or was verified
-abbrev pub Stands : AcceptSetup → AcceptEnd → List Making → Outcome → Type 0
+abbrev pub Stands : AcceptSetup → AcceptEnd → List MechMaking → Outcome → Type 0
 Stands setup old found outcome = IsUndue setup old outcome ⊎ TakesMic old found outcome
 
-abbrev pub AfterAnswered : AcceptSetup → AcceptEnd → List Making → Answered → Type 0
+abbrev pub AfterAnswered : AcceptSetup → AcceptEnd → List MechMaking → Answered → Type 0
 AfterAnswered setup old found (afters.More end token) = GoesOn setup old end
 AfterAnswered setup old found (afters.Done outcome lasts token) = Stands setup old found outcome
 
-abbrev pub AfterStep : AcceptSetup → AcceptEnd → List Making → AcceptStep → Type 0
+abbrev pub AfterStep : AcceptSetup → AcceptEnd → List MechMaking → AcceptStep → Type 0
 AfterStep setup old found (steps.More end token) = GoesOn setup old end
 AfterStep setup old found (steps.Done outcome lasts token) = Stands setup old found outcome
 AfterStep setup old found (steps.WantsAuth pause) = AfterAnswered setup old found pause.after
@@ -102,23 +140,48 @@ abbrev pub outcome_after : Answered → Option Outcome
 outcome_after (afters.More end token) = settled_of end
 outcome_after (afters.Done outcome lasts token) = Some outcome
 
--- a context is fixed by a request that was judged in this step, and whose mark is asked for before anything is answered
-pub record Fixes (setup : AcceptSetup) (old : AcceptEnd) (now : ℕ) (draws : List ℕ) (taken : Accepted) (fixed : Fixed) : Type 0 where
-  pub before : settled_of old ≡ None
-  pub same : (list : List (List ℕ)) → received_of old ≡ Some list → fixed.received ≡ list
-  pub best_is : best setup.offer fixed.received ≡ Some fixed.outcome.mech
+-- Kerberos: by a request that was judged in this step, and whose mark is asked for before anything is answered
+pub record ByKerberos (setup : AcceptSetup) (now : ℕ) (draws : List ℕ) (taken : Accepted) (fixed : Fixed) : Type 0 where
   pub request : Judged
   pub token : List ℕ
   pub judges : judged setup.keytab setup.own now setup.bindings token ≡ Ok request
   pub basis_is : fixed.basis ≡ ByRequest request
   pub outcome_is : fixed.outcome ≡ outcome_of kinds.Kerberos (answer_done request draws)
-  pub verified : (making : Making) → Among (judge_found setup.keytab setup.own token) making → Among taken.found making
+  pub lasts_is : fixed.lasts ≡ request.ends
+  pub verified : (making : MechMaking) → AmongMakings (map typed (judge_found setup.keytab setup.own token)) making → AmongMakings taken.found making
   pub pause : AcceptPause
   pub asks : taken.step ≡ steps.WantsAuth pause
   pub mark_is : pause.mark ≡ judged_mark request
   pub after_is : outcome_after pause.after ≡ Some fixed.outcome
   -- what is handed out: the answer, or the MIC over the list that came
-  pub made : (making : Making) → Among taken.makes making → (making ≡ answer_making request draws) ⊎ (making ≡ mic_making fixed.outcome Acceptor fixed.received)
+  pub made : (making : MechMaking) → AmongMakings taken.makes making
+      → (making ≡ typed (answer_making request draws)) ⊎ (making ≡ mic_making fixed.outcome Acceptor fixed.received)
+
+-- SCRAM: by a proof that was verified in this step, under the stored key of the user whose line the end has; no mark is asked for
+pub record ByScram (setup : AcceptSetup) (old : AcceptEnd) (now : ℕ) (taken : Accepted) (fixed : Fixed) : Type 0 where
+  pub end : AcceptModel
+  pub was : waits_for_proof old ≡ Some end
+  pub line : IsOfLine setup.verifiers end
+  pub token : List ℕ
+  pub finished : AcceptFinished
+  pub finishes : accept_finished end token setup.bindings now ≡ Ok finished
+  pub basis_is : fixed.basis ≡ ByProof end token
+  pub outcome_is : fixed.outcome ≡ outcome_of kinds.Scram finished.done
+  pub lasts_is : fixed.lasts ≡ finished.done.ends
+  pub verified : (making : MechMaking) → AmongMakings finished.found making → AmongMakings taken.found making
+  pub after : Answered
+  pub goes_on : taken.step ≡ gone_on after
+  pub after_is : outcome_after after ≡ Some fixed.outcome
+  -- what is handed out: the signature, or the MIC over the list that came
+  pub made : (making : MechMaking) → AmongMakings taken.makes making
+      → AmongMakings finished.makes making ⊎ (making ≡ mic_making fixed.outcome Acceptor fixed.received)
+
+-- a context is fixed once, by the chosen mechanism
+pub record Fixes (setup : AcceptSetup) (old : AcceptEnd) (now : ℕ) (draws : List ℕ) (taken : Accepted) (fixed : Fixed) : Type 0 where
+  pub before : settled_of old ≡ None
+  pub same : (list : List (List ℕ)) → received_of old ≡ Some list → fixed.received ≡ list
+  pub best_is : best setup.offer fixed.received ≡ Some fixed.outcome.mech
+  pub by : ByKerberos setup now draws taken fixed ⊎ ByScram setup old now taken fixed
 
 pub record AcceptLaw (setup : AcceptSetup) (old : AcceptEnd) (now : ℕ) (draws : List ℕ) (taken : Accepted) : Type 0 where
   pub after : AfterStep setup old taken.found taken.step

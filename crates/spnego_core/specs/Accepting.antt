@@ -4,12 +4,12 @@ use Rattle.std.specs.Prelude.{◌≡◌, ℕ, Bool, true, false, not, ◌&&◌, 
 use Rattle.gss_base.specs.declared.mech.MechKind.{MechKind}
 use Rattle.gss_base.specs.declared.mark.Mark.{Mark}
 use Rattle.gss_base.specs.Mech.{oid_of}
-use Rattle.krb_derive.specs.Making.{Making}
 use Rattle.krb_tokens.specs.declared.end.Side.TheVariants.{Acceptor}
 use Rattle.spnego_msgs.specs.declared.neg_state.NegState.{NegState}
 use Rattle.spnego_msgs.specs.declared.neg_state.NegState.TheVariants.{Completed, Incomplete, RequestMic}
 use Rattle.spnego_msgs.specs.declared.neg_init.NegInit.{NegInit}
 use Rattle.spnego_msgs.specs.declared.neg_resp.NegResp.{NegResp}
+use Rattle.scram_mech.specs.MechMaking.{MechMaking}
 use Rattle.spnego_core.specs.declared.outcome.Outcome.{Outcome}
 use Rattle.spnego_core.specs.declared.refusal.NegRefusal.{NegRefusal}
 use Rattle.spnego_core.specs.declared.refusal.NegRefusal.TheVariants.{Defective, Rejected, NoCommonMech, MicMissing, MicBad, Mech}
@@ -20,6 +20,7 @@ use Rattle.spnego_core.specs.declared.accept_mech.AcceptAnswer.{AcceptAnswer}
 use Rattle.spnego_core.specs.declared.accept_mech.AcceptAnswer.TheVariants as answers
 use Rattle.spnego_core.specs.declared.accept_end.Turn.{Turn}
 use Rattle.spnego_core.specs.declared.accept_end.Turn.TheVariants.{First, Later}
+use Rattle.spnego_core.specs.declared.accept_end.Chosen.{Chosen}
 use Rattle.spnego_core.specs.declared.accept_end.Running.{Running}
 use Rattle.spnego_core.specs.declared.accept_end.Owing.{Owing}
 use Rattle.spnego_core.specs.declared.accept_end.AcceptEnd.{AcceptEnd}
@@ -35,17 +36,18 @@ use Rattle.spnego_core.specs.ListMic.{list_mic, is_list_mic, mic_making, mic_fou
 use Rattle.spnego_core.specs.Choice.{is_first_named, best, is_mic_due}
 use Rattle.spnego_core.specs.AcceptMech.{Basis, Built, MechTaken, accept_begun, accept_taken}
 
--- a context that was fixed: the list that came, the outcome, and what that was built on
+-- a context that was fixed: the list that came, the outcome, when it ends, and what it was built on
 pub record Fixed : Type 0 where
   pub received : List (List ℕ)
   pub outcome : Outcome
+  pub lasts : ℕ
   pub basis : Basis
 
 -- a step that was taken. What is handed out goes with the step's token: where the step pauses, with that of the step that goes on
 pub record Accepted : Type 0 where
   pub step : AcceptStep
-  pub makes : List Making
-  pub found : List Making
+  pub makes : List MechMaking
+  pub found : List MechMaking
   pub fixes : Option Fixed
 
 -- what the code returns of it
@@ -76,12 +78,12 @@ reply turn kind owes finished token mic = resp_octets (reply_with turn kind owes
 -- ---- the mechanism
 
 -- the mechanism is done: where the MIC is due, the own one goes with its last token, and the initiator's is owed
-abbrev pub finished : Turn → Running → Outcome → ℕ → List ℕ → Answered
-finished turn running outcome lasts token =
-    if running.due
-    then afters.More (ends.Owes (record { received = running.received; outcome = outcome; lasts = lasts }))
-    (reply turn running.chosen true true (Some token) (Some (list_mic outcome Acceptor running.received)))
-    else afters.Done outcome lasts (reply turn running.chosen false true (Some token) None)
+abbrev pub finished : Turn → Chosen → Outcome → ℕ → List ℕ → Answered
+finished turn chosen outcome lasts token =
+    if chosen.due
+    then afters.More (ends.Owes (record { received = chosen.received; outcome = outcome; lasts = lasts }))
+    (reply turn chosen.kind true true (Some token) (Some (list_mic outcome Acceptor chosen.received)))
+    else afters.Done outcome lasts (reply turn chosen.kind false true (Some token) None)
 
 -- the step that follows once nothing is to be asked
 abbrev pub gone_on : Answered → AcceptStep
@@ -89,51 +91,53 @@ gone_on (afters.More end token) = steps.More end token
 gone_on (afters.Done outcome lasts token) = steps.Done outcome lasts token
 
 -- the mechanism goes on: the same state but for it
-abbrev pub going : Turn → Running → AcceptMech → Option (List ℕ) → AcceptStep
-going turn running mech token = steps.More
-    (ends.Runs (record { received = running.received; chosen = running.chosen; due = running.due; mech = mech }))
-    (reply turn running.chosen running.due false token None)
+abbrev pub going : Turn → Chosen → AcceptMech → Option (List ℕ) → AcceptStep
+going turn chosen mech token = steps.More
+    (ends.Runs (record { chosen = chosen; mech = mech }))
+    (reply turn chosen.kind chosen.due false token None)
 
 -- the step by the mechanism's answer
-abbrev pub told : Turn → Running → AcceptAnswer → AcceptStep
-told turn running (answers.More mech token) = going turn running mech (Some token)
-told turn running (answers.Done outcome lasts token) = gone_on (finished turn running outcome lasts token)
-told turn running (answers.Pauses mark outcome lasts token) =
-    steps.WantsAuth (record { mark = mark; after = finished turn running outcome lasts token })
+abbrev pub told : Turn → Chosen → AcceptAnswer → AcceptStep
+told turn chosen (answers.More mech token) = going turn chosen mech (Some token)
+told turn chosen (answers.Done outcome lasts token) = gone_on (finished turn chosen outcome lasts token)
+told turn chosen (answers.Pauses mark outcome lasts token) =
+    steps.WantsAuth (record { mark = mark; after = finished turn chosen outcome lasts token })
 
 -- the own MIC is handed out with a last token where it is due
-abbrev pub mic_made : Running → Outcome → List Making
-mic_made running outcome = if running.due then mic_making outcome Acceptor running.received ∷ [] else []
+abbrev pub mic_made : Chosen → Outcome → List MechMaking
+mic_made chosen outcome = if chosen.due then mic_making outcome Acceptor chosen.received ∷ [] else []
 
-abbrev pub told_makes : Running → AcceptAnswer → List Making
-told_makes running (answers.More mech token) = []
-told_makes running (answers.Done outcome lasts token) = mic_made running outcome
-told_makes running (answers.Pauses mark outcome lasts token) = mic_made running outcome
+abbrev pub told_makes : Chosen → AcceptAnswer → List MechMaking
+told_makes chosen (answers.More mech token) = []
+told_makes chosen (answers.Done outcome lasts token) = mic_made chosen outcome
+told_makes chosen (answers.Pauses mark outcome lasts token) = mic_made chosen outcome
 
 -- what a finished mechanism fixes of the context
 abbrev pub fixed_with : List (List ℕ) → Built → Fixed
-fixed_with received built = record { received = received; outcome = built.outcome; basis = built.basis }
+fixed_with received built = record { received = received; outcome = built.outcome; lasts = built.lasts; basis = built.basis }
 
 -- the step by what the mechanism made of its token
-abbrev pub ran_with : Turn → Running → MechTaken → Accepted
-ran_with turn running taken = record {
-  step = told turn running taken.answer;
-  makes = taken.makes ++ told_makes running taken.answer;
+abbrev pub ran_with : Turn → Chosen → MechTaken → Accepted
+ran_with turn chosen taken = record {
+  step = told turn chosen taken.answer;
+  makes = taken.makes ++ told_makes chosen taken.answer;
   found = taken.found;
-  fixes = option_map (fixed_with running.received) taken.built;
+  fixes = option_map (fixed_with chosen.received) taken.built;
 }
 
 -- the mechanism's refusal is the end's
-abbrev pub run : Turn → Running → Result MechTaken MechRefusal → Result Accepted NegRefusal
-run turn running (Err refusal) = Err (Mech refusal)
-run turn running (Ok taken) = Ok (ran_with turn running taken)
+abbrev pub run : Turn → Chosen → Result MechTaken MechRefusal → Result Accepted NegRefusal
+run turn chosen (Err refusal) = Err (Mech refusal)
+run turn chosen (Ok taken) = Ok (ran_with turn chosen taken)
 
 -- ---- the first token
 
 -- the state in which a mechanism begins
 abbrev pub begun : AcceptSetup → List (List ℕ) → MechKind → Running
-begun setup list kind =
-    record { received = list; chosen = kind; due = is_mic_due setup.offer list kind; mech = accept_begun kind }
+begun setup list kind = record {
+  chosen = record { received = list; kind = kind; due = is_mic_due setup.offer list kind };
+  mech = accept_begun kind;
+}
 
 -- the mechanism's token in the first token is for the list's first: another mechanism passes it over
 abbrev pub token_for : Bool → Option (List ℕ) → Option (List ℕ)
@@ -143,8 +147,8 @@ token_for false token = None
 -- the chosen mechanism takes its token, or waits for it
 abbrev pub started : AcceptSetup → ℕ → List ℕ → Running → Option (List ℕ) → Result Accepted NegRefusal
 started setup now draws running None =
-    Ok (record { step = going First running running.mech None; makes = []; found = []; fixes = None })
-started setup now draws running (Some token) = run First running (accept_taken setup running.mech token now draws)
+    Ok (record { step = going First running.chosen running.mech None; makes = []; found = []; fixes = None })
+started setup now draws running (Some token) = run First running.chosen (accept_taken setup running.mech token now draws)
 
 -- what follows the choice
 abbrev pub chose : AcceptSetup → ℕ → List ℕ → List (List ℕ) → Option (List ℕ) → MechKind → Result Accepted NegRefusal
@@ -164,7 +168,7 @@ unfoldable pub proceeds : AcceptSetup → ℕ → List ℕ → ℕ → Running �
 proceeds setup now draws size running resp = do
   goes ← due Rejected (not (rejects resp.state))
   token ← or_refuse (Defective size) resp.token
-  run Later running (accept_taken setup running.mech token now draws)
+  run Later running.chosen (accept_taken setup running.mech token now draws)
 
 -- the initiator's MIC over the list that came: nothing more is to be said
 abbrev pub settled : Owing → List ℕ → Accepted

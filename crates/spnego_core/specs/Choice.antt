@@ -12,11 +12,6 @@ same_kind Kerberos Scram = false
 same_kind Scram Kerberos = false
 same_kind Scram Scram = true
 
--- the mechanisms that an acceptor has an end for
-abbrev pub is_built : MechKind → Bool
-is_built Kerberos = true
-is_built Scram = false
-
 abbrev pub is_among : List MechKind → MechKind → Bool
 is_among kinds kind = list_any (λ other. same_kind other kind) kinds
 
@@ -38,7 +33,7 @@ is_first_named (first ∷ rest) kind = is_kind (mech_of first) kind
 -- the mechanism, where the acceptor offers it
 abbrev pub offered : List MechKind → Option MechKind → Option MechKind
 offered offer None = None
-offered offer (Some kind) = if is_built kind && is_among offer kind then Some kind else None
+offered offer (Some kind) = if is_among offer kind then Some kind else None
 
 abbrev pub or_next : Option MechKind → Option MechKind → Option MechKind
 or_next (Some kind) next = Some kind

@@ -1,14 +1,16 @@
 -- What holds of an initiator over its steps.
-use Rattle.std.specs.Prelude.{◌≡◌, ◌⊎◌, ℕ, Bool, true, false, List, Option, Some, None, Result, Ok}
+use Rattle.std.specs.Prelude.{◌≡◌, ◌⊎◌, ℕ, Bool, true, false, List, map, Option, Some, None, Result, Ok}
 use Rattle.gss_base.specs.declared.mech.MechKind.{MechKind}
 use Rattle.gss_base.specs.declared.mech.MechKind.TheVariants as kinds
-use Rattle.krb_derive.specs.Making.{Making, Among}
 use Rattle.krb_tokens.specs.declared.done.MechDone.{MechDone}
 use Rattle.krb_tokens.specs.declared.end.Side.TheVariants.{Initiator}
 use Rattle.krb_files.specs.Granted.{Granted}
 use Rattle.ap_exchange.specs.declared.request.ApInit.{ApInit}
+use Rattle.ap_exchange.specs.Draws.{drawn_nonce}
 use Rattle.ap_exchange.specs.Request.{waiting, request_making}
 use Rattle.ap_exchange.specs.Reply.{reply_taken, reply_found}
+use Rattle.scram_mech.specs.MechMaking.{MechMaking, AmongMakings, typed}
+use Rattle.scram_mech.specs.Initiator.{InitModel, WaitModel, InitStarted, InitAnswered, InitFinished, init_started, init_answered, init_finished}
 use Rattle.spnego_core.specs.declared.outcome.Outcome.{Outcome}
 use Rattle.spnego_core.specs.declared.refusal.NegRefusal.{NegRefusal}
 use Rattle.spnego_core.specs.declared.setup.MechCred.TheVariants as creds
@@ -58,6 +60,21 @@ abbrev pub finished_in : InitStep → Option Outcome
 finished_in (steps.More end token) = finished_of end
 finished_in (steps.Done outcome) = Some outcome
 
+-- the SCRAM end that answers the acceptor's first text next
+abbrev pub answering : InitMech → Option InitModel
+answering (mechs.Kerberos end) = None
+answering (mechs.Scram end) = Some end
+answering (mechs.Proof end) = None
+
+abbrev pub answers_next : InitEnd → Option InitModel
+answers_next (ends.Opens opening) = answering opening.mech
+answers_next (ends.Talks talking) = answering talking.mech
+answers_next (ends.Signed signed) = None
+
+abbrev pub answers_in : InitStep → Option InitModel
+answers_in (steps.More end token) = answers_next end
+answers_in (steps.Done outcome) = None
+
 -- ---- good ends: those that runs reach
 
 -- a Kerberos end that waits for the reply to a request by the own credential
@@ -66,11 +83,33 @@ pub record IsWaiting (own : InitSetup) (end : ApInit) : Type 0 where
   pub is_own : cred_for own.list kinds.Kerberos ≡ Some (creds.Kerberos credential)
   pub waits : end ≡ waiting credential own.stamp own.draws own.bindings
 
+-- a SCRAM end whose first text has the own user and nonce
+pub record IsFirstText (own : InitSetup) (end : InitModel) : Type 0 where
+  pub user : List ℕ
+  pub password : List ℕ
+  pub is_own : cred_for own.list kinds.Scram ≡ Some (creds.Scram user password)
+  pub started : InitStarted
+  pub starts : init_started user password (drawn_nonce own.draws) own.bindings ≡ Ok started
+  pub waits : end ≡ started.end
+
+-- a SCRAM end that answered a first text of the acceptor with its proof
+pub record IsProved (own : InitSetup) (end : WaitModel) : Type 0 where
+  pub before : InitModel
+  pub first : IsFirstText own before
+  pub text : List ℕ
+  pub answered : InitAnswered
+  pub answers : init_answered before text ≡ Ok answered
+  pub waits : end ≡ answered.end
+
 abbrev pub IsMechOf : InitSetup → InitMech → Type 0
 IsMechOf own (mechs.Kerberos end) = IsWaiting own end
+IsMechOf own (mechs.Scram end) = IsFirstText own end
+IsMechOf own (mechs.Proof end) = IsProved own end
 
 abbrev pub kind_of_mech : InitMech → MechKind
 kind_of_mech (mechs.Kerberos end) = kinds.Kerberos
+kind_of_mech (mechs.Scram end) = kinds.Scram
+kind_of_mech (mechs.Proof end) = kinds.Scram
 
 -- the chosen mechanism is the own first choice, or the acceptor's MIC over the own list was verified: the list arrived as it was sent
 abbrev pub Covered : InitSetup → MechKind → Bool → Type 0
@@ -107,40 +146,68 @@ After own chosen listed (steps.More end token) = GoesOn own chosen listed end
 After own chosen listed (steps.Done outcome) = Unit {0}
 
 -- a request by the own credential of a mechanism that is chosen now
-pub record IsRequest (own : InitSetup) (chosen : Option MechKind) (making : Making) : Type 0 where
+pub record IsRequest (own : InitSetup) (chosen : Option MechKind) (making : MechMaking) : Type 0 where
   pub credential : Granted
   pub is_own : cred_for own.list kinds.Kerberos ≡ Some (creds.Kerberos credential)
-  pub made : making ≡ request_making credential own.stamp own.draws own.bindings
+  pub made : making ≡ typed (request_making credential own.stamp own.draws own.bindings)
   pub now : chosen ≡ Some kinds.Kerberos
 
+-- the proof of the own password, which is handed out once: by the end that answers the acceptor's first text
+pub record IsProof (own : InitSetup) (next : Option InitModel) (chosen : Option MechKind) (making : MechMaking) : Type 0 where
+  pub end : InitModel
+  pub was : next ≡ Some end
+  pub first : IsFirstText own end
+  pub text : List ℕ
+  pub answered : InitAnswered
+  pub answers : init_answered end text ≡ Ok answered
+  pub made : AmongMakings answered.makes making
+  pub now : chosen ≡ Some kinds.Scram
+
 -- the MIC over the own list, under the key of the finished mechanism
-pub record IsOwnMic (own : InitSetup) (step : InitStep) (making : Making) : Type 0 where
+pub record IsOwnMic (own : InitSetup) (step : InitStep) (making : MechMaking) : Type 0 where
   pub outcome : Outcome
   pub finished : finished_in step ≡ Some outcome
   pub made : making ≡ mic_making outcome Initiator (own_list own)
 
 -- a reply was taken, and what was found verified in it is among what the step found
-pub record ByReply (own : InitSetup) (found : List Making) (outcome : Outcome) : Type 0 where
+pub record ByReply (own : InitSetup) (found : List MechMaking) (outcome : Outcome) : Type 0 where
   pub end : ApInit
   pub token : List ℕ
   pub made : MechDone
   pub waits : IsWaiting own end
   pub takes : reply_taken end token ≡ Ok made
   pub outcome_is : outcome ≡ outcome_of kinds.Kerberos made
-  pub verified : (making : Making) → Among (reply_found end token) making → Among found making
+  pub verified : (making : MechMaking) → AmongMakings (map typed (reply_found end token)) making → AmongMakings found making
+
+-- the signature was taken, and what was found verified in it is among what the step found
+pub record BySignature (own : InitSetup) (found : List MechMaking) (outcome : Outcome) : Type 0 where
+  pub end : WaitModel
+  pub proved : IsProved own end
+  pub token : List ℕ
+  pub finished : InitFinished
+  pub takes : init_finished end token ≡ Ok finished
+  pub outcome_is : outcome ≡ outcome_of kinds.Scram finished.done
+  pub verified : (making : MechMaking) → AmongMakings finished.found making → AmongMakings found making
 
 -- the acceptor's MIC over the own list was verified in this step
-pub record SeesMic (own : InitSetup) (found : List Making) (outcome : Outcome) : Type 0 where
+pub record SeesMic (own : InitSetup) (found : List MechMaking) (outcome : Outcome) : Type 0 where
   pub mic : List ℕ
   pub right : is_list_mic outcome Initiator (own_list own) mic ≡ true
-  pub verified : Among found (mic_found outcome Initiator (own_list own) mic)
+  pub verified : AmongMakings found (mic_found outcome Initiator (own_list own) mic)
+
+abbrev pub IsFinish : InitSetup → List MechMaking → Outcome → Type 0
+IsFinish own found outcome = ByReply own found outcome ⊎ BySignature own found outcome
 
 pub record InitLaw (old : InitEnd) (taken : Initiated) : Type 0 where
   pub after : After (own_of old) taken.chosen taken.listed taken.step
-  -- what is handed out: a request by the own credential, or the MIC over the own list
-  pub made : (making : Making) → Among taken.makes making → IsRequest (own_of old) taken.chosen making ⊎ IsOwnMic (own_of old) taken.step making
+  -- what is handed out: a request by the own credential, the proof of the own password, or the MIC over the own list
+  pub made : (making : MechMaking) → AmongMakings taken.makes making
+      → IsRequest (own_of old) taken.chosen making ⊎ (IsProof (own_of old) (answers_next old) taken.chosen making ⊎ IsOwnMic (own_of old) taken.step making)
   -- a mechanism is finished by a reply that it takes; it was then, or is now
-  pub finishes : (outcome : Outcome) → finished_in taken.step ≡ Some outcome → (finished_of old ≡ Some outcome) ⊎ ByReply (own_of old) taken.found outcome
+  pub finishes : (outcome : Outcome) → finished_in taken.step ≡ Some outcome
+      → (finished_of old ≡ Some outcome) ⊎ IsFinish (own_of old) taken.found outcome
+  -- once the acceptor chose, an end that doesn't answer a first text next never does: there is one proof
+  pub once : (kind : MechKind) → chosen_of old ≡ Some kind → answers_next old ≡ None → answers_in taken.step ≡ None
   -- the acceptor's MIC is known as verified only where it was found so, then or now
   pub sees : (outcome : Outcome) → finished_in taken.step ≡ Some outcome → taken.listed ≡ true → (listed_of old ≡ true) ⊎ SeesMic (own_of old) taken.found outcome
   -- a finished mechanism is the chosen one, and a context on another than the own first choice stands only with the acceptor's MIC
@@ -154,7 +221,7 @@ pub record StartLaw (own : InitSetup) (started : Started) : Type 0 where
   pub own_is : own_of started.end ≡ own
   pub good : GoodInit started.end
   pub unchosen : chosen_of started.end ≡ None
-  pub made : (making : Making) → Among started.makes making → (credential : Granted) × (cred_for own.list kinds.Kerberos ≡ Some (creds.Kerberos credential)) × (making ≡ request_making credential own.stamp own.draws own.bindings)
+  pub made : (making : MechMaking) → AmongMakings started.makes making → (credential : Granted) × (cred_for own.list kinds.Kerberos ≡ Some (creds.Kerberos credential)) × (making ≡ typed (request_making credential own.stamp own.draws own.bindings))
 
 pub record InitLaws : Type 0 where
   pub starts : (own : InitSetup) (started : Started) → init_start own ≡ Ok started → StartLaw own started

@@ -3,24 +3,27 @@ use Rattle.std.specs.Prelude.{ℕ, Bool, true, false, ◌&&◌, not, if◌then�
 use Rattle.std.specs.List.{list_any}
 use Rattle.gss_base.specs.declared.mech.MechKind.{MechKind}
 use Rattle.gss_base.specs.declared.mech.MechKind.TheVariants as kinds
-use Rattle.krb_derive.specs.Making.{Making}
 use Rattle.krb_tokens.specs.declared.done.MechDone.{MechDone}
 use Rattle.ap_exchange.specs.declared.refusal.ApRefusal.{ApRefusal}
 use Rattle.ap_exchange.specs.declared.request.ApInit.{ApInit}
 use Rattle.ap_exchange.specs.Request.{request_of, request_makes}
 use Rattle.ap_exchange.specs.Reply.{reply_taken, reply_found}
+use Rattle.ap_exchange.specs.Draws.{drawn_nonce}
+use Rattle.scram_mech.specs.declared.refusal.ScramRefusal.{ScramRefusal}
+use Rattle.scram_mech.specs.MechMaking.{MechMaking, typed}
+use Rattle.scram_mech.specs.Initiator.{InitStarted, InitAnswered, InitFinished, init_started, init_answered, init_finished}
 use Rattle.spnego_core.specs.declared.outcome.Outcome.{Outcome}
 use Rattle.spnego_core.specs.declared.refusal.NegRefusal.{NegRefusal}
 use Rattle.spnego_core.specs.declared.refusal.NegRefusal.TheVariants.{Mech}
 use Rattle.spnego_core.specs.declared.refusal.MechRefusal.{MechRefusal}
-use Rattle.spnego_core.specs.declared.refusal.MechRefusal.TheVariants.{Ap}
+use Rattle.spnego_core.specs.declared.refusal.MechRefusal.TheVariants.{Ap, Scram}
 use Rattle.spnego_core.specs.declared.setup.MechCred.{MechCred}
 use Rattle.spnego_core.specs.declared.setup.MechCred.TheVariants as creds
 use Rattle.spnego_core.specs.declared.setup.InitSetup.{InitSetup}
 use Rattle.spnego_core.specs.declared.init_mech.InitMech.{InitMech}
 use Rattle.spnego_core.specs.declared.init_mech.InitMech.TheVariants as mechs
 use Rattle.spnego_core.specs.declared.init_mech.InitAnswer.{InitAnswer}
-use Rattle.spnego_core.specs.declared.init_mech.InitAnswer.TheVariants.{Done}
+use Rattle.spnego_core.specs.declared.init_mech.InitAnswer.TheVariants.{More, Done}
 use Rattle.spnego_core.specs.Outcome.{outcome_of}
 use Rattle.spnego_core.specs.Choice.{same_kind}
 
@@ -28,6 +31,7 @@ use Rattle.spnego_core.specs.Choice.{same_kind}
 
 abbrev pub kind_of : MechCred → MechKind
 kind_of (creds.Kerberos credential) = kinds.Kerberos
+kind_of (creds.Scram user password) = kinds.Scram
 
 -- the mechanisms of an initiator, in its order
 abbrev pub kinds_of : List MechCred → List MechKind
@@ -55,15 +59,21 @@ cred_for (cred ∷ rest) kind = if same_kind (kind_of cred) kind then Some cred 
 pub record MechBegun : Type 0 where
   pub mech : InitMech
   pub token : List ℕ
-  pub makes : List Making
+  pub makes : List MechMaking
 
-abbrev pub request_begun : List Making → Result (ApInit × List ℕ) ApRefusal → Result MechBegun MechRefusal
+abbrev pub request_begun : List MechMaking → Result (ApInit × List ℕ) ApRefusal → Result MechBegun MechRefusal
 request_begun makes (Ok sent) = Ok (record { mech = mechs.Kerberos sent.0; token = sent.1; makes = makes })
 request_begun makes (Err refusal) = Err (Ap refusal)
 
+-- SCRAM hands out nothing that was made with a key
+abbrev pub text_begun : Result InitStarted ScramRefusal → Result MechBegun MechRefusal
+text_begun (Ok started) = Ok (record { mech = mechs.Scram started.end; token = started.token; makes = [] })
+text_begun (Err refusal) = Err (Scram refusal)
+
 unfoldable pub init_begun : InitSetup → MechCred → Result MechBegun MechRefusal
 init_begun own (creds.Kerberos credential) =
-    request_begun (request_makes credential own.stamp own.draws own.bindings) (request_of credential own.stamp own.draws own.bindings)
+    request_begun (map typed (request_makes credential own.stamp own.draws own.bindings)) (request_of credential own.stamp own.draws own.bindings)
+init_begun own (creds.Scram user password) = text_begun (init_started user password (drawn_nonce own.draws) own.bindings)
 
 -- the end and the token alone; a mechanism's refusal is the end's
 abbrev pub begun_with : Result MechBegun MechRefusal → Result (InitMech × List ℕ) NegRefusal
@@ -75,15 +85,27 @@ begun_with (Err refusal) = Err (Mech refusal)
 -- the answer; what is handed out with it, and what was found verified in the token
 pub record MechReplied : Type 0 where
   pub answer : InitAnswer
-  pub makes : List Making
-  pub found : List Making
+  pub makes : List MechMaking
+  pub found : List MechMaking
 
-abbrev pub reply_answered : List Making → Result MechDone ApRefusal → Result MechReplied MechRefusal
+abbrev pub reply_answered : List MechMaking → Result MechDone ApRefusal → Result MechReplied MechRefusal
 reply_answered found (Ok made) = Ok (record { answer = Done (outcome_of kinds.Kerberos made); makes = []; found = found })
 reply_answered found (Err refusal) = Err (Ap refusal)
 
+-- SCRAM answers the acceptor's first text with the proof
+abbrev pub text_answered : Result InitAnswered ScramRefusal → Result MechReplied MechRefusal
+text_answered (Ok answered) = Ok (record { answer = More (mechs.Proof answered.end) answered.token; makes = answered.makes; found = [] })
+text_answered (Err refusal) = Err (Scram refusal)
+
+-- it is done with the signature
+abbrev pub final_answered : Result InitFinished ScramRefusal → Result MechReplied MechRefusal
+final_answered (Ok finished) = Ok (record { answer = Done (outcome_of kinds.Scram finished.done); makes = []; found = finished.found })
+final_answered (Err refusal) = Err (Scram refusal)
+
 unfoldable pub init_taken : InitMech → List ℕ → Result MechReplied MechRefusal
-init_taken (mechs.Kerberos end) token = reply_answered (reply_found end token) (reply_taken end token)
+init_taken (mechs.Kerberos end) token = reply_answered (map typed (reply_found end token)) (reply_taken end token)
+init_taken (mechs.Scram end) token = text_answered (init_answered end token)
+init_taken (mechs.Proof end) token = final_answered (init_finished end token)
 
 -- the answer alone; a mechanism's refusal is the end's
 abbrev pub replied : Result MechReplied MechRefusal → Result InitAnswer NegRefusal

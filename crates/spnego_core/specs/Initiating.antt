@@ -3,12 +3,12 @@
 use Rattle.std.specs.Prelude.{◌≡◌, ℕ, Bool, true, false, not, ◌||◌, if◌then◌else◌, List, [], ◌∷◌, ◌++◌, length, map, Option, Some, None, Result, Ok, Err}
 use Rattle.gss_base.specs.declared.mech.MechKind.{MechKind}
 use Rattle.gss_base.specs.Mech.{oid_of, mech_of}
-use Rattle.krb_derive.specs.Making.{Making}
 use Rattle.krb_tokens.specs.declared.end.Side.TheVariants.{Initiator}
 use Rattle.spnego_msgs.specs.declared.neg_state.NegState.{NegState}
 use Rattle.spnego_msgs.specs.declared.neg_state.NegState.TheVariants.{Completed}
 use Rattle.spnego_msgs.specs.declared.neg_init.NegInit.{NegInit}
 use Rattle.spnego_msgs.specs.declared.neg_resp.NegResp.{NegResp}
+use Rattle.scram_mech.specs.MechMaking.{MechMaking}
 use Rattle.spnego_core.specs.declared.outcome.Outcome.{Outcome}
 use Rattle.spnego_core.specs.declared.refusal.NegRefusal.{NegRefusal}
 use Rattle.spnego_core.specs.declared.refusal.NegRefusal.TheVariants.{Defective, Rejected, MechNotMine, MicMissing, MicBad, Mech}
@@ -37,8 +37,8 @@ pub record Initiated : Type 0 where
   pub step : InitStep
   pub chosen : Option MechKind
   pub listed : Bool
-  pub makes : List Making
-  pub found : List Making
+  pub makes : List MechMaking
+  pub found : List MechMaking
 
 -- what the code returns of it
 abbrev pub step_of : Result Initiated NegRefusal → Result InitStep NegRefusal
@@ -46,7 +46,7 @@ step_of (Ok taken) = Ok taken.step
 step_of (Err refusal) = Err refusal
 
 -- the same step behind what was handed out and found before
-abbrev pub behind : List Making → List Making → Result Initiated NegRefusal → Result Initiated NegRefusal
+abbrev pub behind : List MechMaking → List MechMaking → Result Initiated NegRefusal → Result Initiated NegRefusal
 behind makes found (Err refusal) = Err refusal
 behind makes found (Ok taken) = Ok (record {
   step = taken.step;
@@ -72,7 +72,7 @@ first_sent own token = record { list = own_list own; flags = None; token = Some 
 pub record Started : Type 0 where
   pub end : InitEnd
   pub token : List ℕ
-  pub makes : List Making
+  pub makes : List MechMaking
 
 -- what the code returns of it
 abbrev pub sent_of : Result Started NegRefusal → Result (InitEnd × List ℕ) NegRefusal

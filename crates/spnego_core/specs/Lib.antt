@@ -11,3 +11,4 @@ pub mod InitLaws
 pub mod AcceptLaws
 pub mod Sizes
 pub mod PairLaws
+pub mod Exchange

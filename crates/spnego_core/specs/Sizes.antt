@@ -1,5 +1,7 @@
 -- Each token that is answered has at most 65,536 octets, so that it fits into a call or a reply.
 use Rattle.std.specs.Prelude.{ℕ, ◌≤◌, List, length}
+use Rattle.spnego_core.specs.declared.accept_mech.AcceptAnswer.{AcceptAnswer}
+use Rattle.spnego_core.specs.declared.accept_mech.AcceptAnswer.TheVariants as tellings
 use Rattle.spnego_core.specs.declared.accept_end.Answered.{Answered}
 use Rattle.spnego_core.specs.declared.accept_end.Answered.TheVariants as afters
 use Rattle.spnego_core.specs.declared.accept_end.AcceptStep.{AcceptStep}
@@ -30,6 +32,15 @@ ShortInit (turns.Done outcome) = Unit {0}
 abbrev pub FitsBeside : List ℕ → Type 0
 FitsBeside token = length token ≤ 61040
 
+-- a MIC token
+abbrev pub IsMicSized : List ℕ → Type 0
+IsMicSized mic = length mic ≤ 28
+
 abbrev pub ShortAnswer : InitAnswer → Type 0
 ShortAnswer (answers.More mech token) = FitsBeside token
 ShortAnswer (answers.Done outcome) = Unit {0}
+
+abbrev pub ShortTold : AcceptAnswer → Type 0
+ShortTold (tellings.More mech token) = FitsBeside token
+ShortTold (tellings.Done outcome lasts token) = FitsBeside token
+ShortTold (tellings.Pauses mark outcome lasts token) = FitsBeside token

@@ -1,6 +1,7 @@
 //! The acceptor's end and its states.
 
 ghost use Rattle.std.specs.Prelude.{◌≡◌};
+ghost use Rattle.spnego_core.specs.Sizes.{ShortAnswered, ShortAccept};
 ghost use Rattle.spnego_core.specs.Accepting.{gone_on, mark_asked, step_after, IsSettled};
 
 use crate::accept_mech::AcceptMech;
@@ -15,14 +16,20 @@ pub enum Turn {
     Later,
 }
 
-/// The mechanism was chosen and isn't done.
+/// A mechanism was chosen.
 #[derive(Debug, Drop)]
-pub struct Running {
+pub struct Chosen {
     /// The initiator's list, as it came.
     pub(crate) received: Items<Oid>,
-    pub(crate) chosen: MechKind,
+    pub(crate) kind: MechKind,
     /// The list's MIC must come.
     pub(crate) due: bool,
+}
+
+/// The chosen mechanism isn't done.
+#[derive(Debug, Drop)]
+pub struct Running {
+    pub(crate) chosen: Chosen,
     pub(crate) mech: AcceptMech,
 }
 
@@ -82,7 +89,8 @@ impl AcceptEnd {
 
 /// The step that follows once nothing is to be asked.
 pub(crate) fn gone_on(after: Answered) -> AcceptStep
-    ensures { result ≡ gone_on after }
+    ensures exact { result ≡ gone_on after }
+    ensures short { ShortAnswered after → ShortAccept result }
 {
     match after {
         Answered::More(end, token) => AcceptStep::More(end, token),

@@ -1,22 +1,30 @@
 //! The mechanisms at the acceptor.
 
-ghost use Rattle.std.specs.Prelude.{◌≡◌, ◌≢◌, [], IfOk, IfErr};
+ghost use Rattle.std.specs.Prelude.{◌≡◌, ◌≢◌, [], IfOk, IfErr, option_map};
 ghost use Rattle.sec_base.specs.Answers.{Gives};
-ghost use Rattle.spnego_core.specs.AcceptMech.{accept_begun, request_answered, accept_taken, answered};
+ghost use Rattle.ap_exchange.specs.Draws.{drawn_nonce};
+ghost use Rattle.scram_mech.specs.Acceptor.{accept_started, accept_finished};
+ghost use Rattle.spnego_core.specs.Sizes.{ShortTold};
+ghost use Rattle.spnego_core.specs.AcceptMech.{accept_begun, request_answered, text_taken, proof_taken, accept_taken, answered};
 
 use crate::outcome::{Outcome, outcome_of};
-use crate::refusal::{NegRefusal, ap_refused};
+use crate::refusal::{NegRefusal, ap_refused, scram_refused};
 use crate::setup::AcceptSetup;
-use ap_exchange::{Judged, judge_request};
-use gss_base::{Mark, MechKind};
+use ap_exchange::{Judged, judge_request, nonce_of};
+use gss_base::{Bindings, Mark, MechKind};
+use scram_mech::{ScramAccept, Verifiers};
 use sec_base::{Moment, Octets};
 use std::alloc::Global;
 
 /// A mechanism that isn't done.
-#[derive(Clone, Copy, Debug)]
+#[derive(Debug, Drop)]
 pub enum AcceptMech {
     /// Kerberos waits for a request.
     Kerberos,
+    /// SCRAM waits for the initiator's first text.
+    Scram,
+    /// SCRAM waits for the text with the proof.
+    Proof(ScramAccept),
 }
 
 /// What a mechanism says to a token.
@@ -31,14 +39,29 @@ pub enum AcceptAnswer {
 }
 
 /// A mechanism before its first token.
-pub fn accept_begun(_kind: MechKind) -> AcceptMech
-    ensures { result ≡ accept_begun _kind }
+pub fn accept_begun(kind: MechKind) -> AcceptMech
+    ensures { result ≡ accept_begun kind }
 {
-    AcceptMech::Kerberos
+    match kind {
+        MechKind::Kerberos => AcceptMech::Kerberos,
+        MechKind::Scram => AcceptMech::Scram,
+    }
 }
 
 /// The answer to a request that was judged.
 fn request_answered(
+    alloc: Global,
+    request: Judged,
+    draws: &[u8; 66],
+) -> Result<AcceptAnswer, NegRefusal>
+    ensures answer { IfOk result (λ answer. answer ≡ (request_answered draws.now [] request).answer) }
+    ensures short { IfOk result ShortTold }
+    ensures memory { IfErr result (λ refusal. refusal ≡ NegRefusal.NoMemory) }
+{
+    request_told(alloc, request, draws)
+}
+
+fn request_told(
     alloc: Global,
     request: Judged,
     draws: &[u8; 66],
@@ -53,6 +76,44 @@ fn request_answered(
     Ok(AcceptAnswer::Pauses(mark, outcome, lasts, token))
 }
 
+/// The answer to SCRAM's first text.
+fn text_taken(
+    alloc: Global,
+    verifiers: &Verifiers,
+    token: &[u8],
+    draws: &[u8; 66],
+) -> Result<AcceptAnswer, NegRefusal>
+    ensures short { IfOk result ShortTold }
+    ensures exact { Gives NegRefusal.NoMemory (λ a. a) result (answered (text_taken (accept_started verifiers.now token.now (drawn_nonce draws.now)))) }
+{
+    match ScramAccept::start(alloc, verifiers, token, &nonce_of(draws)) {
+        Ok((end, text)) => Ok(AcceptAnswer::More(AcceptMech::Proof(end), text)),
+        Err(refusal) => Err(scram_refused(refusal)),
+    }
+}
+
+/// The answer to the text with the proof.
+fn proof_taken(
+    alloc: Global,
+    end: ScramAccept,
+    token: &[u8],
+    bindings: Option<&Bindings>,
+    now: Moment,
+) -> Result<AcceptAnswer, NegRefusal>
+    ensures short { IfOk result ShortTold }
+    ensures exact { let bound = option_map (λ b. b.now) bindings.entry in
+        Gives NegRefusal.NoMemory (λ a. a) result (answered (proof_taken end token.now (accept_finished end token.now bound now))) }
+{
+    match end.finish(alloc, token, bindings, now) {
+        Ok((made, text)) => {
+            let lasts = made.ends;
+            let outcome = outcome_of(MechKind::Scram, &made);
+            Ok(AcceptAnswer::Done(outcome, lasts, text))
+        }
+        Err(refusal) => Err(scram_refused(refusal)),
+    }
+}
+
 impl AcceptMech {
     /// What the mechanism says to a token, at this moment.
     #[tactic(auto, unfolding(crate::specs::AcceptMech::accept_taken))]
@@ -64,7 +125,8 @@ impl AcceptMech {
         now: Moment,
         draws: &[u8; 66],
     ) -> Result<AcceptAnswer, NegRefusal>
-        ensures { Gives NegRefusal.NoMemory (λ a. a) result (answered (accept_taken setup.now self token.now now draws.now)) }
+        ensures short { IfOk result ShortTold }
+        ensures exact { Gives NegRefusal.NoMemory (λ a. a) result (answered (accept_taken setup.now self token.now now draws.now)) }
     {
         let bindings = setup.bindings.as_ref();
         match self {
@@ -74,6 +136,8 @@ impl AcceptMech {
                     Err(refusal) => Err(ap_refused(refusal)),
                 }
             }
+            AcceptMech::Scram => text_taken(alloc, &setup.verifiers, token, draws),
+            AcceptMech::Proof(end) => proof_taken(alloc, end, token, bindings, now),
         }
     }
 }

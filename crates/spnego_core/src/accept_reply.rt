@@ -1,12 +1,13 @@
 //! What an acceptor answers.
 
-ghost use Rattle.std.specs.Prelude.{◌≡◌, IfOk, IfErr, Some, None, Ok};
+ghost use Rattle.std.specs.Prelude.{◌≡◌, IfOk, IfErr, IfSome, Some, None, Ok};
 ghost use Rattle.sec_base.specs.Answers.{Gives};
 ghost use Rattle.spnego_core.specs.AcceptMech.{answered};
+ghost use Rattle.spnego_core.specs.Sizes.{IsShort, FitsBeside, IsMicSized, ShortTold, ShortAnswered, ShortAccept};
 ghost use Rattle.spnego_core.specs.Accepting.{state_said, mech_said, reply_with, reply, finished, going, told, run, step_of};
 
 use crate::accept_end::{
-    AcceptEnd, AcceptPause, AcceptStep, Answered, Owing, Running, Turn, gone_on,
+    AcceptEnd, AcceptPause, AcceptStep, Answered, Chosen, Owing, Running, Turn, gone_on,
 };
 use crate::accept_mech::{AcceptAnswer, AcceptMech};
 use crate::list_mic::list_mic;
@@ -64,7 +65,8 @@ fn reply(
     token: Option<Octets>,
     mic: Option<Octets>,
 ) -> Result<Octets, NoMemory>
-    ensures { IfOk result (λ o. o ≡ reply turn kind owes finished token mic) }
+    ensures exact { IfOk result (λ o. o ≡ reply turn kind owes finished token mic) }
+    ensures short { IfSome token FitsBeside → IfSome mic IsMicSized → IfOk result IsShort }
 {
     let resp = NegResp {
         state: Some(state_said(turn, owes, finished)),
@@ -79,25 +81,25 @@ fn reply(
 fn finished(
     alloc: Global,
     turn: Turn,
-    running: Running,
+    chosen: Chosen,
     outcome: Outcome,
     lasts: Moment,
     token: Octets,
 ) -> Result<Answered, NoMemory>
-    ensures { IfOk result (λ a. a ≡ finished turn running outcome lasts token) }
+    ensures exact { IfOk result (λ a. a ≡ finished turn chosen outcome lasts token) }
+    ensures short { FitsBeside token → IfOk result ShortAnswered }
 {
-    let Running {
+    let Chosen {
         received,
-        chosen,
+        kind,
         due,
-        mech: _,
-    } = running;
+    } = chosen;
     if !due {
-        let octets = reply(alloc, turn, chosen, false, true, Some(token), None)?;
+        let octets = reply(alloc, turn, kind, false, true, Some(token), None)?;
         return Ok(Answered::Done(outcome, lasts, octets));
     }
     let mic = list_mic(alloc, &outcome, Side::Acceptor, received.as_slice())?;
-    let octets = reply(alloc, turn, chosen, true, true, Some(token), Some(mic))?;
+    let octets = reply(alloc, turn, kind, true, true, Some(token), Some(mic))?;
     let owing = Owing {
         received,
         outcome,
@@ -110,25 +112,15 @@ fn finished(
 pub fn going(
     alloc: Global,
     turn: Turn,
-    running: Running,
+    chosen: Chosen,
     mech: AcceptMech,
     token: Option<Octets>,
 ) -> Result<AcceptStep, NoMemory>
-    ensures { IfOk result (λ s. s ≡ going turn running mech token) }
+    ensures exact { IfOk result (λ s. s ≡ going turn chosen mech token) }
+    ensures short { IfSome token FitsBeside → IfOk result ShortAccept }
 {
-    let Running {
-        received,
-        chosen,
-        due,
-        mech: _,
-    } = running;
-    let octets = reply(alloc, turn, chosen, due, false, token, None)?;
-    let running = Running {
-        received,
-        chosen,
-        due,
-        mech,
-    };
+    let octets = reply(alloc, turn, chosen.kind, chosen.due, false, token, None)?;
+    let running = Running { chosen, mech };
     Ok(AcceptStep::More(AcceptEnd::Runs(running), octets))
 }
 
@@ -136,19 +128,20 @@ pub fn going(
 pub fn told(
     alloc: Global,
     turn: Turn,
-    running: Running,
+    chosen: Chosen,
     answer: AcceptAnswer,
 ) -> Result<AcceptStep, NoMemory>
-    ensures { IfOk result (λ s. s ≡ told turn running answer) }
+    ensures exact { IfOk result (λ s. s ≡ told turn chosen answer) }
+    ensures short { ShortTold answer → IfOk result ShortAccept }
 {
     match answer {
-        AcceptAnswer::More(mech, token) => going(alloc, turn, running, mech, Some(token)),
+        AcceptAnswer::More(mech, token) => going(alloc, turn, chosen, mech, Some(token)),
         AcceptAnswer::Done(outcome, lasts, token) => {
-            let after = finished(alloc, turn, running, outcome, lasts, token)?;
+            let after = finished(alloc, turn, chosen, outcome, lasts, token)?;
             Ok(gone_on(after))
         }
         AcceptAnswer::Pauses(mark, outcome, lasts, token) => {
-            let after = finished(alloc, turn, running, outcome, lasts, token)?;
+            let after = finished(alloc, turn, chosen, outcome, lasts, token)?;
             Ok(AcceptStep::WantsAuth(AcceptPause { mark, after }))
         }
     }

@@ -6,7 +6,7 @@ ghost use Rattle.spnego_core.specs.AcceptMech.{accept_taken};
 ghost use Rattle.spnego_core.specs.Sizes.{ShortAccept};
 ghost use Rattle.spnego_core.specs.Accepting.{begun, token_for, started, chose, begins, proceeds, closes, run, step_of, accept_step};
 
-use crate::accept_end::{AcceptEnd, AcceptStep, Owing, Running, Turn};
+use crate::accept_end::{AcceptEnd, AcceptStep, Chosen, Owing, Running, Turn};
 use crate::accept_mech::accept_begun;
 use crate::accept_reply::{going, told};
 use crate::choice::{best, is_first_named, is_mic_due};
@@ -25,10 +25,13 @@ fn begun(setup: &AcceptSetup, list: Items<Oid>, kind: MechKind) -> Running
     ensures { result ≡ begun setup.now list kind }
 {
     let due = is_mic_due(setup.offer.as_slice(), list.as_slice(), kind);
-    Running {
+    let chosen = Chosen {
         received: list,
-        chosen: kind,
+        kind,
         due,
+    };
+    Running {
+        chosen,
         mech: accept_begun(kind),
     }
 }
@@ -50,11 +53,12 @@ fn run(
     now: Moment,
     draws: &[u8; 66],
 ) -> Result<AcceptStep, NegRefusal>
-    ensures { Gives NegRefusal.NoMemory (λ s. s) result (step_of (run turn running (accept_taken setup.now running.mech token.now now draws.now))) }
+    ensures short { IfOk result ShortAccept }
+    ensures exact { Gives NegRefusal.NoMemory (λ s. s) result (step_of (run turn running.chosen (accept_taken setup.now running.mech token.now now draws.now))) }
 {
-    let mech = running.mech;
+    let Running { chosen, mech } = running;
     let answer = mech.take(alloc, setup, token.as_slice(), now, draws)?;
-    let step = told(alloc, turn, running, answer)?;
+    let step = told(alloc, turn, chosen, answer)?;
     Ok(step)
 }
 
@@ -67,12 +71,13 @@ fn started(
     now: Moment,
     draws: &[u8; 66],
 ) -> Result<AcceptStep, NegRefusal>
-    ensures { Gives NegRefusal.NoMemory (λ s. s) result (step_of (started setup.now now draws.now running token)) }
+    ensures short { IfOk result ShortAccept }
+    ensures exact { Gives NegRefusal.NoMemory (λ s. s) result (step_of (started setup.now now draws.now running token)) }
 {
     match token {
         None => {
-            let mech = running.mech;
-            let step = going(alloc, Turn::First, running, mech, None)?;
+            let Running { chosen, mech } = running;
+            let step = going(alloc, Turn::First, chosen, mech, None)?;
             Ok(step)
         }
         Some(token) => run(alloc, setup, Turn::First, running, &token, now, draws),
@@ -88,7 +93,8 @@ fn begins(
     now: Moment,
     draws: &[u8; 66],
 ) -> Result<AcceptStep, NegRefusal>
-    ensures { Gives NegRefusal.NoMemory (λ s. s) result (step_of (begins setup.now now draws.now init)) }
+    ensures short { IfOk result ShortAccept }
+    ensures exact { Gives NegRefusal.NoMemory (λ s. s) result (step_of (begins setup.now now draws.now init)) }
 {
     let NegInit {
         list,
@@ -114,7 +120,8 @@ fn proceeds(
     now: Moment,
     draws: &[u8; 66],
 ) -> Result<AcceptStep, NegRefusal>
-    ensures { Gives NegRefusal.NoMemory (λ s. s) result (step_of (proceeds setup.now now draws.now size running resp)) }
+    ensures short { IfOk result ShortAccept }
+    ensures exact { Gives NegRefusal.NoMemory (λ s. s) result (step_of (proceeds setup.now now draws.now size running resp)) }
 {
     let NegResp {
         state,
@@ -134,7 +141,8 @@ fn proceeds(
 /// What follows a later token once the mechanism is done and the initiator's MIC is due.
 #[tactic(auto, unfolding(crate::specs::Accepting::closes))]
 fn closes(alloc: Global, owing: Owing, resp: NegResp) -> Result<AcceptStep, NegRefusal>
-    ensures { Gives NegRefusal.NoMemory (λ s. s) result (step_of (closes owing resp)) }
+    ensures short { IfOk result ShortAccept }
+    ensures exact { Gives NegRefusal.NoMemory (λ s. s) result (step_of (closes owing resp)) }
 {
     let NegResp {
         state,
@@ -165,7 +173,8 @@ fn stepped(
     now: Moment,
     draws: &[u8; 66],
 ) -> Result<AcceptStep, NegRefusal>
-    ensures { Gives NegRefusal.NoMemory (λ s. s) result (step_of (accept_step setup.now end token.now now draws.now)) }
+    ensures short { IfOk result ShortAccept }
+    ensures exact { Gives NegRefusal.NoMemory (λ s. s) result (step_of (accept_step setup.now end token.now now draws.now)) }
 {
     match end {
         AcceptEnd::New => begins(alloc, setup, init_read(alloc, token)?, now, draws),

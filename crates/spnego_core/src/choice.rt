@@ -1,7 +1,7 @@
 //! Which mechanism is chosen, and whether the list's MIC must come: RFC 4178 sections 4.2.2 and 5.
 
 ghost use Rattle.std.specs.Prelude.{◌≡◌};
-ghost use Rattle.spnego_core.specs.Choice.{same_kind, is_built, is_among, is_first, is_kind, is_first_named, offered, best, is_mic_due};
+ghost use Rattle.spnego_core.specs.Choice.{same_kind, is_among, is_first, is_kind, is_first_named, offered, best, is_mic_due};
 
 use gss_base::MechKind;
 use sec_base::Oid;
@@ -18,16 +18,6 @@ pub fn same_kind(a: MechKind, b: MechKind) -> bool
             MechKind::Kerberos => false,
             MechKind::Scram => true,
         },
-    }
-}
-
-/// Whether an acceptor has an end for the mechanism.
-fn is_built(kind: MechKind) -> bool
-    ensures { result ≡ is_built kind }
-{
-    match kind {
-        MechKind::Kerberos => true,
-        MechKind::Scram => false,
     }
 }
 
@@ -71,7 +61,7 @@ fn offered(offer: &[MechKind], named: Option<MechKind>) -> Option<MechKind>
     ensures { result ≡ offered offer.now named }
 {
     let kind = named?;
-    if is_built(kind) && is_among(offer, kind) {
+    if is_among(offer, kind) {
         Some(kind)
     } else {
         None

@@ -1,19 +1,23 @@
 //! The mechanisms at the initiator.
 
-ghost use Rattle.std.specs.Prelude.{◌≡◌, IfOk, option_copied, option_map};
+ghost use Rattle.std.specs.Prelude.{◌≡◌, IfOk, map, option_copied, option_map};
 ghost use Rattle.sec_base.specs.Answers.{Gives};
 ghost use Rattle.ap_exchange.specs.Request.{request_of, request_makes};
+ghost use Rattle.ap_exchange.specs.Draws.{drawn_nonce};
+ghost use Rattle.scram_mech.specs.MechMaking.{typed};
+ghost use Rattle.scram_mech.specs.Initiator.{init_started, init_answered, init_finished};
 ghost use Rattle.spnego_core.specs.Sizes.{FitsBeside, ShortAnswer};
-ghost use Rattle.spnego_core.specs.InitMech.{cred_for, request_begun, init_begun, begun_with, init_taken, replied};
+ghost use Rattle.spnego_core.specs.InitMech.{cred_for, request_begun, text_begun, init_begun, begun_with, text_answered, final_answered, init_taken, replied};
 
 use crate::choice::same_kind;
 use crate::outcome::{Outcome, outcome_of};
-use crate::refusal::{NegRefusal, ap_refused};
+use crate::refusal::{NegRefusal, ap_refused, scram_refused};
 use crate::setup::{InitSetup, MechCred};
-use ap_exchange::ApInit;
+use ap_exchange::{ApInit, nonce_of};
 use gss_base::{Bindings, MechKind};
 use krb_files::Credential;
-use sec_base::{Moment, Octets};
+use scram_mech::{ScramInit, ScramWait};
+use sec_base::{Moment, Octets, Text};
 use std::alloc::Global;
 
 /// A mechanism whose first token was sent.
@@ -21,6 +25,10 @@ use std::alloc::Global;
 pub enum InitMech {
     /// Kerberos waits for the reply.
     Kerberos(ApInit),
+    /// SCRAM waits for the acceptor's first text.
+    Scram(ScramInit),
+    /// SCRAM sent its proof, and waits for the signature.
+    Proof(ScramWait),
 }
 
 /// What a mechanism says to a token.
@@ -53,7 +61,7 @@ fn request_begun(
     bindings: Option<&Bindings>,
 ) -> Result<(InitMech, Octets), NegRefusal>
     ensures exact { let bound = option_map (λ b. b.now) bindings.entry in
-        Gives NegRefusal.NoMemory (λ b. b) result (begun_with (request_begun (request_makes credential.now stamp draws.now bound) (request_of credential.now stamp draws.now bound))) }
+        Gives NegRefusal.NoMemory (λ b. b) result (begun_with (request_begun (map typed (request_makes credential.now stamp draws.now bound)) (request_of credential.now stamp draws.now bound))) }
     ensures short { IfOk result (λ b. FitsBeside b.1) }
 {
     let _ticket = &credential.ticket;
@@ -61,6 +69,47 @@ fn request_begun(
     match ApInit::start(alloc, credential, stamp, draws, bindings) {
         Ok((end, token)) => Ok((InitMech::Kerberos(end), token)),
         Err(refusal) => Err(ap_refused(refusal)),
+    }
+}
+
+/// SCRAM begins with this user and password.
+fn text_begun(
+    alloc: Global,
+    user: &Text,
+    password: &Text,
+    draws: &[u8; 66],
+    bindings: Option<&Bindings>,
+) -> Result<(InitMech, Octets), NegRefusal>
+    ensures exact { let bound = option_map (λ b. b.now) bindings.entry in
+        Gives NegRefusal.NoMemory (λ b. b) result (begun_with (text_begun (init_started user.now password.now (drawn_nonce draws.now) bound))) }
+    ensures short { IfOk result (λ b. FitsBeside b.1) }
+{
+    let (user, password) = (user.as_str(), password.as_str());
+    match ScramInit::start(alloc, user, password, &nonce_of(draws), bindings) {
+        Ok((end, token)) => Ok((InitMech::Scram(end), token)),
+        Err(refusal) => Err(scram_refused(refusal)),
+    }
+}
+
+/// The answer to the acceptor's first text.
+fn text_answered(alloc: Global, end: ScramInit, text: &[u8]) -> Result<InitAnswer, NegRefusal>
+    ensures exact { Gives NegRefusal.NoMemory (λ a. a) result (replied (text_answered (init_answered end text.now))) }
+    ensures short { IfOk result ShortAnswer }
+{
+    match end.take_first(alloc, text) {
+        Ok((end, token)) => Ok(InitAnswer::More(InitMech::Proof(end), token)),
+        Err(refusal) => Err(scram_refused(refusal)),
+    }
+}
+
+/// What the signature gives.
+fn final_answered(alloc: Global, end: ScramWait, text: &[u8]) -> Result<InitAnswer, NegRefusal>
+    ensures exact { Gives NegRefusal.NoMemory (λ a. a) result (replied (final_answered (init_finished end text.now))) }
+    ensures short { IfOk result ShortAnswer }
+{
+    match end.take_final(alloc, text) {
+        Ok(made) => Ok(InitAnswer::Done(outcome_of(MechKind::Scram, &made))),
+        Err(refusal) => Err(scram_refused(refusal)),
     }
 }
 
@@ -80,6 +129,9 @@ impl InitMech {
             MechCred::Kerberos(credential) => {
                 request_begun(alloc, credential, own.stamp, &own.draws, bindings)
             }
+            MechCred::Scram { user, password } => {
+                text_begun(alloc, user, password, &own.draws, bindings)
+            }
         }
     }
 
@@ -94,6 +146,8 @@ impl InitMech {
                 Ok(made) => Ok(InitAnswer::Done(outcome_of(MechKind::Kerberos, &made))),
                 Err(refusal) => Err(ap_refused(refusal)),
             },
+            InitMech::Scram(end) => text_answered(alloc, end, token.as_slice()),
+            InitMech::Proof(end) => final_answered(alloc, end, token.as_slice()),
         }
     }
 }

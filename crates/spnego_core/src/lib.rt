@@ -6,6 +6,7 @@ mod accept_mech;
 mod accept_reply;
 mod accept_step;
 mod choice;
+mod exchange_laws;
 mod init_end;
 mod init_mech;
 mod init_reply;
@@ -20,6 +21,7 @@ mod setup;
 mod tokens;
 
 pub use accept_end::{AcceptEnd, AcceptPause, AcceptStep};
+pub use exchange_laws::prove_exchange;
 pub use init_end::{InitEnd, InitStep};
 pub use laws::{prove_accept_laws, prove_init_laws};
 pub use outcome::Outcome;

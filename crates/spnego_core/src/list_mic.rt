@@ -2,6 +2,7 @@
 
 ghost use Rattle.std.specs.Prelude.{◌≡◌, IfOk, Ok};
 ghost use Rattle.sec_base.specs.Answers.{Gives};
+ghost use Rattle.spnego_core.specs.Sizes.{IsMicSized};
 ghost use Rattle.spnego_core.specs.ListMic.{list_mic, is_list_mic};
 
 use crate::outcome::Outcome;
@@ -22,7 +23,8 @@ pub fn list_mic(
     side: Side,
     list: &[Oid],
 ) -> Result<Octets, NoMemory>
-    ensures { IfOk result (λ o. o ≡ list_mic outcome.now side list.now) }
+    ensures exact { IfOk result (λ o. o ≡ list_mic outcome.now side list.now) }
+    ensures sized { IfOk result IsMicSized }
 {
     let octets = list_bytes(alloc, list)?;
     let mic = outcome.token_end(side).make_mic(NUMBER, octets.as_slice());

@@ -3,10 +3,12 @@
 ghost use Rattle.std.specs.Prelude.{◌≡◌, ◌≢◌};
 ghost use Rattle.der_core.specs.declared.refusal.DerWhy.TheVariants as whys;
 ghost use Rattle.ap_exchange.specs.declared.refusal.ApRefusal.TheVariants as aps;
+ghost use Rattle.scram_mech.specs.declared.refusal.ScramRefusal.TheVariants as scrams;
 ghost use Rattle.spnego_core.specs.declared.refusal.NegRefusal.TheVariants as refusals;
 
 use ap_exchange::ApRefusal;
 use der_core::{DerRefusal, DerWhy};
+use scram_mech::ScramRefusal;
 use sec_base::NoMemory;
 
 /// Why a mechanism refuses.
@@ -14,6 +16,8 @@ use sec_base::NoMemory;
 pub enum MechRefusal {
     /// Kerberos's exchange. Want of memory is never in it: that is the end's own answer.
     Ap(ApRefusal),
+    /// SCRAM's exchange. Want of memory is never in it.
+    Scram(ScramRefusal),
 }
 
 /// Why an end refuses.
@@ -67,5 +71,16 @@ pub(crate) fn ap_refused(refusal: ApRefusal) -> NegRefusal
     match refusal {
         ApRefusal::NoMemory => NegRefusal::NoMemory,
         refusal => NegRefusal::Mech(MechRefusal::Ap(refusal)),
+    }
+}
+
+/// The refusal of SCRAM's exchange.
+pub(crate) fn scram_refused(refusal: ScramRefusal) -> NegRefusal
+    ensures mech { refusal ≢ scrams.NoMemory → result ≡ NegRefusal.Mech (MechRefusal.Scram refusal) }
+    ensures memory { refusal ≡ scrams.NoMemory → result ≡ NegRefusal.NoMemory }
+{
+    match refusal {
+        ScramRefusal::NoMemory => NegRefusal::NoMemory,
+        refusal => NegRefusal::Mech(MechRefusal::Scram(refusal)),
     }
 }

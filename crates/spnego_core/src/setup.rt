@@ -5,12 +5,15 @@ ghost use Rattle.spnego_core.specs.InitMech.{kind_of};
 
 use gss_base::{Bindings, MechKind, Principal};
 use krb_files::{Credential, Keytab};
-use sec_base::{Items, Moment};
+use scram_mech::Verifiers;
+use sec_base::{Items, Moment, Text};
 
 /// A credential of a mechanism.
 #[derive(Debug, Drop)]
 pub enum MechCred {
     Kerberos(Credential),
+    /// A user of SCRAM and its password.
+    Scram { user: Text, password: Text },
 }
 
 impl MechCred {
@@ -19,6 +22,7 @@ impl MechCred {
     {
         match self {
             MechCred::Kerberos(_) => MechKind::Kerberos,
+            MechCred::Scram { .. } => MechKind::Scram,
         }
     }
 }
@@ -41,7 +45,9 @@ pub struct AcceptSetup {
     /// The own name.
     pub own: Principal,
     pub keytab: Keytab,
+    /// The users of SCRAM.
+    pub verifiers: Verifiers,
     pub bindings: Option<Bindings>,
-    /// The mechanisms that are offered, the preferred first. One that has no end here is passed over.
+    /// The mechanisms that are offered, the preferred first.
     pub offer: Items<MechKind>,
 }

@@ -6,7 +6,8 @@ use crate::*;
 use gss_base::{MechKind, Principal};
 use krb_derive::{Etype, Key};
 use krb_files::{Credential, read_keytab};
-use sec_base::{Items, Moment, Octets};
+use scram_mech::read_verifiers;
+use sec_base::{Items, Moment, Octets, Text};
 use sha1::Sha1;
 use std::alloc::Global;
 use std::test::Fail;
@@ -33,6 +34,7 @@ fn acceptor(alloc: Global, offer: &[MechKind]) -> Result<AcceptSetup, Fail> {
     Ok(AcceptSetup {
         own: Principal::parse(alloc, "rpc/host@R").ok().ok_or("a name")?,
         keytab: read_keytab(alloc, KEYTAB).ok().ok_or("a keytab")?,
+        verifiers: read_verifiers(alloc, VERIFIERS).ok().ok_or("verifiers")?,
         bindings: None,
         offer: Items::of(Vec::from_slice(alloc, offer)?),
     })
@@ -48,19 +50,37 @@ fn ticket_of(alloc: Global, octets: &[u8]) -> Result<Octets, Fail>
     Ok(Octets::of(alloc, octets)?)
 }
 
-/// The initiator `alice@R` with the ticket alone, without bindings.
-fn started(alloc: Global) -> Result<(InitEnd, Octets), Fail> {
-    let credential = Credential {
+/// The credential of `alice@R`.
+fn credential(alloc: Global) -> Result<Credential, Fail> {
+    Ok(Credential {
         client: Principal::parse(alloc, "alice@R").ok().ok_or("a client")?,
         server: Principal::parse(alloc, "rpc/host@R")
             .ok()
             .ok_or("a server")?,
         session: Key::new(Etype::Aes128, SESSION).ok_or("a key")?,
         ticket: ticket_of(alloc, TICKET)?,
-    };
-    let list = vec![in alloc; MechCred::Kerberos(credential)]?;
+    })
+}
+
+/// The initiator `alice@R` with the ticket alone, without bindings.
+fn started(alloc: Global) -> Result<(InitEnd, Octets), Fail> {
     let setup = InitSetup {
-        list: Items::of(list),
+        list: Items::of(vec![in alloc; MechCred::Kerberos(credential(alloc)?)]?),
+        bindings: None,
+        stamp: Moment::new(1_000_000, 0).ok_or("a moment")?,
+        draws: OWN_DRAWS,
+    };
+    Ok(InitEnd::start(alloc, setup)?)
+}
+
+/// The initiator `alice@R` with the ticket and, behind it, the user and the password, without bindings.
+fn started_with_password(alloc: Global) -> Result<(InitEnd, Octets), Fail> {
+    let password = MechCred::Scram {
+        user: Text::of(alloc, "user")?,
+        password: Text::of(alloc, "p")?,
+    };
+    let setup = InitSetup {
+        list: Items::of(vec![in alloc; MechCred::Kerberos(credential(alloc)?), password]?),
         bindings: None,
         stamp: Moment::new(1_000_000, 0).ok_or("a moment")?,
         draws: OWN_DRAWS,
@@ -160,16 +180,23 @@ fn the_first_choice_of_both_needs_no_mic(rt: HostRuntime) -> Result<(), Fail> {
     Ok(())
 }
 
+/// Both ends behind the acceptor's answer and the initiator's MIC, and these tokens.
+fn signed_by_both(
+    alloc: Global,
+    setup: &AcceptSetup,
+) -> Result<((AcceptEnd, Octets), (InitEnd, Octets)), Fail> {
+    let (end, first) = started(alloc)?;
+    let (owing, reply) = going_on(accepted(alloc, setup, AcceptEnd::new(), first.as_slice())?)?;
+    let (signed, mic) = talking_on(end.step(alloc, reply.as_slice())?)?;
+    Ok(((owing, reply), (signed, mic)))
+}
+
 #[test]
 fn another_first_choice_of_the_offer_takes_both_mics(rt: HostRuntime) -> Result<(), Fail> {
     let alloc = rt.alloc();
-    let (end, first) = started(alloc)?;
     let setup = acceptor(alloc, &[MechKind::Scram, MechKind::Kerberos])?;
-    let step = accepted(alloc, &setup, AcceptEnd::new(), first.as_slice())?;
-    let (owing, reply) = going_on(step)?;
-    assert!(rt; is_token(&reply, &MIC_REPLY));
-    let (signed, mic) = talking_on(end.step(alloc, reply.as_slice())?)?;
-    assert!(rt; is_token(&mic, &OWN_MIC));
+    let ((owing, reply), (signed, mic)) = signed_by_both(alloc, &setup)?;
+    assert!(rt; is_token(&reply, &MIC_REPLY) && is_token(&mic, &OWN_MIC));
     let (outcome, last) = settled(accepted(alloc, &setup, owing, mic.as_slice())?)?;
     assert!(rt; last.as_slice().is_empty() && is_outcome(&outcome));
     let own = done(signed.step(alloc, &[])?)?;
@@ -256,5 +283,64 @@ fn an_initiator_refuses_a_first_reply(rt: HostRuntime) -> Result<(), Fail> {
         let answer = end.step(alloc, reply).err();
         assert!(rt; answer == Some(wanted));
     }
+    Ok(())
+}
+
+// The user `user` with the password `p`: its line in a verifier file, with the salt `salt`.
+const VERIFIERS: &[u8] =
+    b"user:4096:c2FsdA==:ETzdloepGoKbjAsqtOs5Jgw/Bx0=:AEWMKNXpY90u5dEQ9wtT6hdJr2s=\n";
+
+// An acceptor that offers SCRAM alone passes the token of Kerberos over; these are the tokens that follow, as another implementation makes
+// them: its choice, the first text, the answer, the proof, the signature with the acceptor's MIC, and the initiator's MIC.
+const SCRAM_CHOSEN: &[u8] =
+    b"\xa1\x11\x30\x0f\xa0\x03\x0a\x01\x03\xa1\x08\x06\x06\x2b\x06\x01\x05\x05\x0e";
+
+const FIRST_TEXT: &[u8] =
+    b"\xa1\x31\x30\x2f\xa2\x2d\x04\x2b\x60\x29\x06\x06\x2b\x06\x01\x05\x05\x0e\x6e\x3d\x75\x73\x65\x72\x2c\x72\x3d\x4d\x44\x45\x79\x4d\x7a\x51\x31\x4e\x6a\x63\x34\x4f\x54\x6f\x37\x50\x44\x30\x2b\x50\x30\x42\x42";
+
+const SECOND_TEXT: &[u8] =
+    b"\xa1\x4f\x30\x4d\xa0\x03\x0a\x01\x01\xa2\x46\x04\x44\x72\x3d\x4d\x44\x45\x79\x4d\x7a\x51\x31\x4e\x6a\x63\x34\x4f\x54\x6f\x37\x50\x44\x30\x2b\x50\x30\x42\x42\x73\x4c\x47\x79\x73\x37\x53\x31\x74\x72\x65\x34\x75\x62\x71\x37\x76\x4c\x32\x2b\x76\x38\x44\x42\x2c\x73\x3d\x63\x32\x46\x73\x64\x41\x3d\x3d\x2c\x69\x3d\x34\x30\x39\x36";
+
+const PROOF: &[u8] =
+    b"\xa1\x5a\x30\x58\xa2\x56\x04\x54\x63\x3d\x2c\x72\x3d\x4d\x44\x45\x79\x4d\x7a\x51\x31\x4e\x6a\x63\x34\x4f\x54\x6f\x37\x50\x44\x30\x2b\x50\x30\x42\x42\x73\x4c\x47\x79\x73\x37\x53\x31\x74\x72\x65\x34\x75\x62\x71\x37\x76\x4c\x32\x2b\x76\x38\x44\x42\x2c\x70\x3d\x48\x69\x4b\x54\x6c\x35\x73\x47\x67\x46\x48\x38\x36\x65\x33\x33\x4c\x54\x2f\x4c\x51\x71\x32\x62\x45\x70\x30\x3d";
+
+const SIGNED: &[u8] =
+    b"\xa1\x49\x30\x47\xa0\x03\x0a\x01\x01\xa2\x20\x04\x1e\x76\x3d\x37\x55\x55\x35\x35\x75\x6c\x61\x56\x6c\x67\x51\x58\x4b\x6d\x4d\x6b\x62\x36\x32\x63\x71\x70\x6e\x4a\x4a\x51\x3d\xa3\x1e\x04\x1c\x04\x04\x01\xff\xff\xff\xff\xff\x00\x00\x00\x00\x00\x00\x00\x00\x2f\x7e\x54\x24\x34\x97\x68\x68\xe7\x32\x1c\x8b";
+
+const LAST_MIC: &[u8] =
+    b"\xa1\x27\x30\x25\xa0\x03\x0a\x01\x00\xa3\x1e\x04\x1c\x04\x04\x00\xff\xff\xff\xff\xff\x00\x00\x00\x00\x00\x00\x00\x00\xa1\xc3\x8f\x0e\x2f\x32\xf6\x8a\x9c\x6a\xbe\xee";
+
+/// Whether this is the outcome of both by SCRAM.
+fn is_scram_outcome(outcome: &Outcome) -> bool {
+    outcome.mech == MechKind::Scram
+        && outcome.initiator.text().as_bytes() == b"user".as_slice()
+        && outcome.acceptor.text().as_bytes() == b"".as_slice()
+        && outcome.key.bytes()
+            == b"\x51\x24\xfe\x73\xda\x6d\x15\xff\xed\x9c\xc4\x81\x06\x26\xea\x30".as_slice()
+        && !outcome.subkey
+        && outcome.hash == [0; 16]
+}
+
+#[test]
+fn another_mechanism_than_the_own_first_takes_both_mics(rt: HostRuntime) -> Result<(), Fail> {
+    let alloc = rt.alloc();
+    let (end, first) = started_with_password(alloc)?;
+    let setup = acceptor(alloc, &[MechKind::Scram])?;
+    let (waiting, chosen) = going_on(accepted(alloc, &setup, AcceptEnd::new(), first.as_slice())?)?;
+    assert!(rt; chosen.as_slice() == SCRAM_CHOSEN);
+    let (end, text) = talking_on(end.step(alloc, SCRAM_CHOSEN)?)?;
+    assert!(rt; text.as_slice() == FIRST_TEXT);
+    let (waiting, second) = going_on(accepted(alloc, &setup, waiting, FIRST_TEXT)?)?;
+    assert!(rt; second.as_slice() == SECOND_TEXT);
+    let (end, proof) = talking_on(end.step(alloc, SECOND_TEXT)?)?;
+    assert!(rt; proof.as_slice() == PROOF);
+    let (owing, signed) = going_on(accepted(alloc, &setup, waiting, PROOF)?)?;
+    assert!(rt; signed.as_slice() == SIGNED);
+    let (end, mic) = talking_on(end.step(alloc, SIGNED)?)?;
+    assert!(rt; mic.as_slice() == LAST_MIC);
+    let (outcome, last) = settled(accepted(alloc, &setup, owing, LAST_MIC)?)?;
+    assert!(rt; last.as_slice().is_empty() && is_scram_outcome(&outcome));
+    let own = done(end.step(alloc, &[])?)?;
+    assert!(rt; is_scram_outcome(&own));
     Ok(())
 }
