@@ -1,24 +1,23 @@
 -- One entry more keeps what the table, the cache and the counts say of the history.
-use Rattle.std.proofs.Common.{◌≡◌, ◌≢◌, ℕ, zero, suc, ◌+◌, ◌-◌, ◌<◌, ◌≤◌, max, Bool, true, false, ◌==◌, if◌then◌else◌, List, [], ◌∷◌, ◌++◌, Option, None, Some, length, IsSome, IsSomeAnd, is_some, refl, sym, ◌∙◌, ap, subst, inl, inr, arith}
+use Rattle.std.proofs.Common.{◌≡◌, ◌≢◌, ℕ, ◌+◌, ◌<◌, ◌≤◌, max, true, false, ◌==◌, if◌then◌else◌, List, [], ◌∷◌, ◌++◌, Option, None, Some, length, IsSome, IsSomeAnd, refl, sym, ◌∙◌, ap, subst, inl, inr, arith}
 use Rattle.std.proofs.lemmas.Bool.{cases_eq, cases_lt, cases_Bool, eq-eqb, ne_eqb, false≢true}
 use Rattle.gss_base.specs.declared.mark.Mark.{Mark}
 use Rattle.gss_base.specs.declared.mech.MechKind.{MechKind}
 use Rattle.gss_base.specs.Mech.{is_kerberos}
-use Rattle.seq_window.specs.Marks.{Shows}
-use Rattle.replay_cache.specs.Taking.{Cached, Holds, skew}
+use Rattle.replay_cache.specs.Taking.{Cached, Holds}
 use Rattle.context_table.specs.declared.slot.Slot.{Slot}
 use Rattle.context_table.specs.declared.slot.SlotState.{SlotState}
 use Rattle.context_table.specs.declared.slot.SlotState.TheVariants.{Negotiating, Held, Complete}
-use Rattle.context_table.specs.Slots.{IsOpened, IsMarked, IsHeldState, state_held}
+use Rattle.context_table.specs.Slots.{IsOpened, IsHeldState, state_held}
 use Rattle.context_table.specs.Slots.{is_whole as is_whole_state}
 use Rattle.context_table.specs.Places.{Places, slot_at, KeepsOthers, IsHeld, Marks, with_state, settled_as, held_after, is_complete, WideAt}
 use Rattle.accept_book.specs.declared.entry.Entry.{Entry}
 use Rattle.accept_book.specs.declared.entry.Entry.TheVariants.{Opened, Auth, Went, Settled, Call, Ended}
 use Rattle.accept_book.specs.declared.entry.EndCause.{EndCause}
 use Rattle.accept_book.specs.declared.entry.EndCause.TheVariants.{Destroyed, Refused, Lapsed}
-use Rattle.accept_book.specs.History.{Standing, Unknown, Open, Whole, Over, standing, numbers, has_auth, opened, posts, latest, taken_of, IsOpen, IsLive, IsGone, is_whole}
+use Rattle.accept_book.specs.History.{Standing, Unknown, Open, Whole, Over, standing, numbers, has_auth, opened, posts, taken_of, IsOpen, IsLive, is_whole}
 use Rattle.accept_book.specs.Legal.{Legal, MayCall, MayAuth, MayEnd}
-use Rattle.accept_book.specs.Replays.{Naming, SameState, SlotOf, SameSlot, Replays, end_of_opened}
+use Rattle.accept_book.specs.Replays.{Naming, SameState, SameSlot, Replays, end_of_opened}
 
 live-open : (s : Standing) → IsOpen s → IsLive s
 live-open Unknown o = o

@@ -1,5 +1,5 @@
 -- What records ask, stage by stage.
-use Rattle.std.proofs.Common.{◌≡◌, ◌<◌, ◌≤◌, ◌+◌, ℕ, lit<, Bool, true, false, refl, arith, List, [], ◌∷◌, length, Option, Some, None, Result, Ok, Err}
+use Rattle.std.proofs.Common.{◌≡◌, ◌<◌, ◌≤◌, ◌+◌, ℕ, lit<, Bool, true, false, refl, arith, List, [], length, Option, Some, None, Result, Ok, Err}
 use Rattle.std.specs.List.{list_any}
 use Rattle.std.specs.Prelude.{◌==◌, ◌||◌, ◌&&◌, not, if◌then◌else◌, nat_lt}
 use Rattle.rpc_msgs.specs.Calls.{CallValue, call_at}
@@ -20,8 +20,8 @@ use Rattle.accept_book.specs.declared.book_answer.NegAnswer.TheVariants as steps
 use Rattle.accept_book.specs.declared.book_answer.Negotiated.{Negotiated}
 use Rattle.accept_book.specs.declared.entry.Admitted.{Admitted}
 use Rattle.accept_book.specs.declared.entry.Receipt.{Receipt}
-use Rattle.accept_book.specs.RecordShown.{KeptAnswers, Asked, AskedAdmit, AskedEnd, Question, Ruling, decided, waiting, asking, Shown, handle_id, body_args, end_of, is_verified}
-use Rattle.accept_book.specs.RecordRule.{first_of, is_other_program, is_other_version_of_it, is_misplaced, plain_ruling, stepped, ask_step, continued, token_ruling, creation_ruling, unadmitted, admitted_ruling, ask_admit, args_ruling, data_ruling, ended_ruling, ask_end, destroy_ruling, looked_ruling, ask_look, id_ruling, cred_ruling, call_ruling, read_ruling, record_ruling}
+use Rattle.accept_book.specs.RecordShown.{KeptAnswers, Asked, Ruling, asking, Shown, handle_id, body_args, end_of, is_verified}
+use Rattle.accept_book.specs.RecordRule.{is_other_program, is_other_version_of_it, is_misplaced, plain_ruling, stepped, ask_step, continued, token_ruling, creation_ruling, unadmitted, ask_admit, args_ruling, data_ruling, ask_end, destroy_ruling, looked_ruling, ask_look, id_ruling, cred_ruling, call_ruling, read_ruling, record_ruling}
 use Rattle.accept_book.specs.Asking.{takes_number}
 
 -- at most so many questions were asked, and none took a number where one of the first rules decides

@@ -1,8 +1,7 @@
 -- A step of an acceptor's end that fits the marks leaves one that fits them.
-use Rattle.std.proofs.Common.{◌≡◌, ℕ, Bool, true, false, if◌then◌else◌, refl, sym, subst, List, length, Option, None, Some}
+use Rattle.std.proofs.Common.{◌≡◌, ℕ, Bool, true, false, if◌then◌else◌, refl, sym, subst, List, map, length, Option, None, Some}
 use Rattle.std.specs.Prelude.{Result, Ok, Err, not}
 use Rattle.gss_base.specs.declared.mech.MechKind.{MechKind}
-use Rattle.krb_derive.specs.Making.{Making}
 use Rattle.krb_tokens.specs.declared.end.Side.TheVariants.{Acceptor}
 use Rattle.ap_exchange.specs.declared.refusal.ApRefusal.{ApRefusal}
 use Rattle.ap_exchange.specs.declared.judged.Judged.{Judged}
@@ -10,6 +9,10 @@ use Rattle.ap_exchange.specs.Exchange.{judge_found}
 use Rattle.ap_exchange.specs.Judging.{judged}
 use Rattle.spnego_msgs.specs.declared.neg_init.NegInit.{NegInit}
 use Rattle.spnego_msgs.specs.declared.neg_resp.NegResp.{NegResp}
+use Rattle.ap_exchange.specs.Draws.{drawn_nonce}
+use Rattle.scram_mech.specs.declared.refusal.ScramRefusal.{ScramRefusal}
+use Rattle.scram_mech.specs.MechMaking.{MechMaking, typed}
+use Rattle.scram_mech.specs.Acceptor.{AcceptModel, AcceptStarted, AcceptFinished, accept_started, accept_finished}
 use Rattle.spnego_core.specs.declared.outcome.Outcome.{Outcome}
 use Rattle.spnego_core.specs.declared.refusal.NegRefusal.{NegRefusal}
 use Rattle.spnego_core.specs.declared.refusal.NegRefusal.TheVariants.{Defective, Rejected, NoCommonMech, MicMissing, MicBad}
@@ -18,6 +21,7 @@ use Rattle.spnego_core.specs.declared.accept_mech.AcceptMech.{AcceptMech}
 use Rattle.spnego_core.specs.declared.accept_mech.AcceptMech.TheVariants as mechs
 use Rattle.spnego_core.specs.declared.accept_end.Turn.{Turn}
 use Rattle.spnego_core.specs.declared.accept_end.Turn.TheVariants.{First, Later}
+use Rattle.spnego_core.specs.declared.accept_end.Chosen.{Chosen}
 use Rattle.spnego_core.specs.declared.accept_end.Running.{Running}
 use Rattle.spnego_core.specs.declared.accept_end.Owing.{Owing}
 use Rattle.spnego_core.specs.declared.accept_end.AcceptEnd.{AcceptEnd}
@@ -27,7 +31,7 @@ use Rattle.spnego_core.specs.Steps.{◌>>=◌, due, or_refuse}
 use Rattle.spnego_core.specs.Tokens.{init_read, resp_read, rejects}
 use Rattle.spnego_core.specs.ListMic.{is_list_mic}
 use Rattle.spnego_core.specs.Choice.{best, is_first_named}
-use Rattle.spnego_core.specs.AcceptMech.{MechTaken, accept_taken, request_taken}
+use Rattle.spnego_core.specs.AcceptMech.{accept_taken, request_taken, text_taken, proof_taken}
 use Rattle.spnego_core.specs.Accepting.{Accepted, step_of, accept_step, begins, proceeds, closes, chose, started, run, gone_on, begun, token_for, settled}
 use Rattle.std.proofs.Common.{◌∙◌, ◌≢◌, inl, inr}
 use Rattle.std.proofs.lemmas.Bool.{cases_eq}
@@ -60,26 +64,45 @@ bind_ok {A} {B} (Err refusal) next b e = absurd (refused B refusal b e)
 ok_same : {A : Type 0} {x y : A} → ◌≡◌ {A = Result A NegRefusal} (Ok x) (Ok y) → x ≡ y
 ok_same e = cc
 
-either : (b : Bool) (owes done : Answered) → AnsweredFits owes true → AnsweredFits done true → AnsweredFits (if b then owes else done) true
-either true owes done o d = o
-either false owes done o d = d
+either : (b : Bool) (owes done : Answered) (auth : Bool) → AnsweredFits owes auth → AnsweredFits done auth → AnsweredFits (if b then owes else done) auth
+either true owes done auth o d = o
+either false owes done auth o d = d
 
-taken_fits : (turn : Turn) (running : Running) (draws : List ℕ) (found : List Making) (answer : Result Judged ApRefusal) (a : Accepted) (auth : Bool) → auth ≡ false
-    → run turn running (request_taken draws found answer) ≡ Ok a → StepFits a.step auth
-taken_fits turn running draws found (Err refusal) a auth none e = absurd (refused Accepted _ a e)
-taken_fits turn running draws found (Ok request) a auth none e =
-    subst (λ (x : Accepted). StepFits x.step auth) (ok_same e) (none, either running.due _ _ refl refl)
+pub fits_after : (after : Answered) (auth : Bool) → AnsweredFits after auth → StepFits (gone_on after) auth
+fits_after (afters.More end token) auth fits = fits
+fits_after (afters.Done outcome lasts token) auth fits = fits
 
-run_fits : (turn : Turn) (running : Running) (setup : AcceptSetup) (mech : AcceptMech) (token : List ℕ) (now : ℕ) (draws : List ℕ) (a : Accepted) (auth : Bool)
-    → auth ≡ false → run turn running (accept_taken setup mech token now draws) ≡ Ok a → StepFits a.step auth
+taken_fits : (turn : Turn) (chosen : Chosen) (draws : List ℕ) (found : List MechMaking) (answer : Result Judged ApRefusal) (a : Accepted) (auth : Bool) → auth ≡ false
+    → run turn chosen (request_taken draws found answer) ≡ Ok a → StepFits a.step auth
+taken_fits turn chosen draws found (Err refusal) a auth none e = absurd (refused Accepted _ a e)
+taken_fits turn chosen draws found (Ok request) a auth none e =
+    subst (λ (x : Accepted). StepFits x.step auth) (ok_same e) (none, either chosen.due _ _ true refl refl)
+
+text_fits : (turn : Turn) (chosen : Chosen) (answer : Result AcceptStarted ScramRefusal) (a : Accepted) (auth : Bool) → auth ≡ false
+    → run turn chosen (text_taken answer) ≡ Ok a → StepFits a.step auth
+text_fits turn chosen (Err refusal) a auth none e = absurd (refused Accepted _ a e)
+text_fits turn chosen (Ok started) a auth none e = subst (λ (x : Accepted). StepFits x.step auth) (ok_same e) none
+
+proof_fits : (turn : Turn) (chosen : Chosen) (end : AcceptModel) (token : List ℕ) (answer : Result AcceptFinished ScramRefusal) (a : Accepted) (auth : Bool) → auth ≡ false
+    → run turn chosen (proof_taken end token answer) ≡ Ok a → StepFits a.step auth
+proof_fits turn chosen end token (Err refusal) a auth none e = absurd (refused Accepted _ a e)
+proof_fits turn chosen end token (Ok finished) a auth none e =
+    subst (λ (x : Accepted). StepFits x.step auth) (ok_same e) (fits_after _ auth (either chosen.due _ _ auth none none))
+
+run_fits : (turn : Turn) (chosen : Chosen) (setup : AcceptSetup) (mech : AcceptMech) (token : List ℕ) (now : ℕ) (draws : List ℕ) (a : Accepted) (auth : Bool)
+    → auth ≡ false → run turn chosen (accept_taken setup mech token now draws) ≡ Ok a → StepFits a.step auth
 unfolding accept_taken
-run_fits turn running setup mechs.Kerberos token now draws a auth none e =
-    taken_fits turn running draws (judge_found setup.keytab setup.own token) (judged setup.keytab setup.own now setup.bindings token) a auth none e
+run_fits turn chosen setup mechs.Kerberos token now draws a auth none e =
+    taken_fits turn chosen draws (map typed (judge_found setup.keytab setup.own token)) (judged setup.keytab setup.own now setup.bindings token) a auth none e
+run_fits turn chosen setup mechs.Scram token now draws a auth none e =
+    text_fits turn chosen (accept_started setup.verifiers token (drawn_nonce draws)) a auth none e
+run_fits turn chosen setup (mechs.Proof end) token now draws a auth none e =
+    proof_fits turn chosen end token (accept_finished end token setup.bindings now) a auth none e
 
 started_fits : (setup : AcceptSetup) (now : ℕ) (draws : List ℕ) (running : Running) (token : Option (List ℕ)) (a : Accepted) (auth : Bool) → auth ≡ false
     → started setup now draws running token ≡ Ok a → StepFits a.step auth
 started_fits setup now draws running None a auth none e = subst (λ (x : Accepted). StepFits x.step auth) (ok_same e) none
-started_fits setup now draws running (Some token) a auth none e = run_fits First running setup running.mech token now draws a auth none e
+started_fits setup now draws running (Some token) a auth none e = run_fits First running.chosen setup running.mech token now draws a auth none e
 
 begins_fits : (setup : AcceptSetup) (now : ℕ) (draws : List ℕ) (init : NegInit) (a : Accepted) (auth : Bool) → auth ≡ false
     → begins setup now draws init ≡ Ok a → StepFits a.step auth
@@ -92,9 +115,9 @@ proceeds_fits : (setup : AcceptSetup) (now : ℕ) (draws : List ℕ) (size : ℕ
     → proceeds setup now draws size running resp ≡ Ok a → StepFits a.step auth
 unfolding proceeds
 proceeds_fits setup now draws size running resp a auth none e =
-    let p = bind_ok (due Rejected (not (rejects resp.state))) (λ (goes : Unit {0}). or_refuse (Defective size) resp.token >>= (λ (token : List ℕ). run Later running (accept_taken setup running.mech token now draws))) a e in
-    let q = bind_ok (or_refuse (Defective size) resp.token) (λ (token : List ℕ). run Later running (accept_taken setup running.mech token now draws)) a p.2 in
-    run_fits Later running setup running.mech q.0 now draws a auth none q.2
+    let p = bind_ok (due Rejected (not (rejects resp.state))) (λ (goes : Unit {0}). or_refuse (Defective size) resp.token >>= (λ (token : List ℕ). run Later running.chosen (accept_taken setup running.mech token now draws))) a e in
+    let q = bind_ok (or_refuse (Defective size) resp.token) (λ (token : List ℕ). run Later running.chosen (accept_taken setup running.mech token now draws)) a p.2 in
+    run_fits Later running.chosen setup running.mech q.0 now draws a auth none q.2
 
 abbrev taken : Owing → List ℕ → Result Accepted NegRefusal
 taken owing mic = Ok (settled owing mic)
@@ -116,10 +139,6 @@ step_fits setup (ends.Runs running) token now draws a auth fits e =
     proceeds_fits setup now draws (length token) running p.0 a auth fits p.2
 step_fits setup (ends.Owes owing) token now draws a auth fits e =
     let p = bind_ok (resp_read token) (closes owing) a e in closes_fits owing p.0 a auth fits p.2
-
-pub fits_after : (after : Answered) (auth : Bool) → AnsweredFits after auth → StepFits (gone_on after) auth
-fits_after (afters.More end token) auth fits = fits
-fits_after (afters.Done outcome lasts token) auth fits = fits
 
 -- ---- a book after a step
 

@@ -1,10 +1,10 @@
 -- What a step of a book fixes, and where that stands afterwards.
-use Rattle.std.proofs.Common.{◌≡◌, ◌≢◌, ◌⊎◌, ◌∙◌, ℕ, ◌+◌, ◌<◌, ◌≤◌, Bool, true, false, not, ◌==◌, nat_lt, if◌then◌else◌, List, [], ◌∷◌, length, Option, None, Some, refl, sym, ap, subst, inl, inr, arith}
-use Rattle.std.specs.Prelude.{Result, Ok, Err, is_none, option_map}
+use Rattle.std.proofs.Common.{◌≡◌, ◌⊎◌, ◌∙◌, ℕ, ◌≤◌, Bool, true, false, not, ◌==◌, nat_lt, if◌then◌else◌, List, [], ◌∷◌, length, map, Option, None, Some, refl, sym, ap, subst, inl, inr, arith}
+use Rattle.std.specs.Prelude.{Result, Ok, Err, is_none}
 use Rattle.std.proofs.lemmas.Bool.{cases_Bool, eq-eqb, ne_eqb}
 use Rattle.gss_base.specs.declared.mark.Mark.{Mark}
 use Rattle.gss_base.specs.declared.mech.MechKind.{MechKind}
-use Rattle.krb_derive.specs.Making.{Making}
+use Rattle.gss_base.specs.declared.mech.MechKind.TheVariants as kinds
 use Rattle.krb_tokens.specs.declared.end.Side.TheVariants.{Acceptor}
 use Rattle.ap_exchange.specs.declared.refusal.ApRefusal.{ApRefusal}
 use Rattle.ap_exchange.specs.declared.judged.Judged.{Judged}
@@ -12,7 +12,12 @@ use Rattle.ap_exchange.specs.Exchange.{judge_found}
 use Rattle.ap_exchange.specs.Judging.{judged, judged_mark}
 use Rattle.spnego_msgs.specs.declared.neg_init.NegInit.{NegInit}
 use Rattle.spnego_msgs.specs.declared.neg_resp.NegResp.{NegResp}
+use Rattle.ap_exchange.specs.Draws.{drawn_nonce}
+use Rattle.scram_mech.specs.declared.refusal.ScramRefusal.{ScramRefusal}
+use Rattle.scram_mech.specs.MechMaking.{MechMaking, typed}
+use Rattle.scram_mech.specs.Acceptor.{AcceptModel, AcceptStarted, AcceptFinished, accept_started, accept_finished}
 use Rattle.spnego_core.specs.declared.outcome.Outcome.{Outcome}
+use Rattle.spnego_core.specs.Outcome.{outcome_of}
 use Rattle.spnego_core.specs.declared.refusal.NegRefusal.{NegRefusal}
 use Rattle.spnego_core.specs.declared.refusal.NegRefusal.TheVariants.{Defective, Rejected, NoCommonMech, MicMissing, MicBad}
 use Rattle.spnego_core.specs.declared.setup.AcceptSetup.{AcceptSetup}
@@ -20,6 +25,7 @@ use Rattle.spnego_core.specs.declared.accept_mech.AcceptMech.{AcceptMech}
 use Rattle.spnego_core.specs.declared.accept_mech.AcceptMech.TheVariants as mechs
 use Rattle.spnego_core.specs.declared.accept_end.Turn.{Turn}
 use Rattle.spnego_core.specs.declared.accept_end.Turn.TheVariants.{First, Later}
+use Rattle.spnego_core.specs.declared.accept_end.Chosen.{Chosen}
 use Rattle.spnego_core.specs.declared.accept_end.Running.{Running}
 use Rattle.spnego_core.specs.declared.accept_end.Owing.{Owing}
 use Rattle.spnego_core.specs.declared.accept_end.AcceptEnd.{AcceptEnd}
@@ -32,11 +38,9 @@ use Rattle.spnego_core.specs.Steps.{◌>>=◌, due, or_refuse}
 use Rattle.spnego_core.specs.Tokens.{init_read, resp_read, rejects}
 use Rattle.spnego_core.specs.ListMic.{is_list_mic}
 use Rattle.spnego_core.specs.Choice.{is_first_named, best}
-use Rattle.spnego_core.specs.AcceptMech.{request_taken, accept_taken}
-use Rattle.spnego_core.specs.Accepting.{Fixed, Accepted, finished, run, begun as mech_begun, token_for, started as mech_started, chose, begins, proceeds, settled, closes, accept_step}
-use Rattle.spnego_core.specs.AcceptLaws.{AcceptLaws, GoodAccept, AfterStep, AfterAnswered, Stands as StandsBy, Fixes, settled_of as owed_by}
-use Rattle.context_table.specs.declared.slot.SlotState.{SlotState}
-use Rattle.context_table.specs.declared.slot.SlotState.TheVariants.{Negotiating, Held, Complete}
+use Rattle.spnego_core.specs.AcceptMech.{request_taken, text_taken, proof_taken, accept_taken}
+use Rattle.spnego_core.specs.Accepting.{Fixed, Accepted, finished, gone_on, run, begun as mech_begun, token_for, started as mech_started, chose, begins, proceeds, settled, closes, accept_step}
+use Rattle.spnego_core.specs.AcceptLaws.{AcceptLaws, ByKerberos, ByScram, AfterStep, AfterAnswered, Stands as StandsBy, settled_of as owed_by}
 use Rattle.context_table.specs.Places.{Places, slot_at, live_of}
 use Rattle.accept_book.specs.declared.entry.Entry.{Entry}
 use Rattle.accept_book.specs.declared.entry.Entry.TheVariants.{Auth, Settled}
@@ -44,15 +48,14 @@ use Rattle.accept_book.specs.declared.answer.Next.{Next}
 use Rattle.accept_book.specs.declared.answer.Next.TheVariants as nexts
 use Rattle.accept_book.specs.declared.book_answer.Lease.{Lease}
 use Rattle.accept_book.specs.declared.book_answer.BookRefusal.{BookRefusal}
-use Rattle.accept_book.specs.declared.book_answer.NegAnswer.{NegAnswer}
 use Rattle.accept_book.specs.declared.book_answer.NegAnswer.TheVariants as answers
 use Rattle.accept_book.specs.History.{taken_of, entry_at, standing, Unknown}
 use Rattle.accept_book.specs.Legal.{Legal}
 use Rattle.accept_book.specs.Entering.{id_of, lapsed, started, noted, finished as history_finished, entered}
 use Rattle.accept_book.specs.Stepping.{Context, context_of, context_after, until_of}
-use Rattle.accept_book.specs.Booking.{Stands, Change, Same, Ends, Becomes, changed, without, Changed, change_refused, Outcomes, lapsed_by, mark_of, next_of, settled_of, answer_with, names_of, by_mark, negotiated}
+use Rattle.accept_book.specs.Booking.{Stands, Change, Becomes, changed, without, Changed, change_refused, Outcomes, lapsed_by, mark_of, next_of, settled_of, answer_with, names_of, negotiated}
 use Rattle.accept_book.specs.Found.{step_taken, found_of, fixes_of, stepped_from}
-use Rattle.accept_book.specs.BookLaws.{GoodState, GoodContext, AllGood, Lasting, fixed_end, fixed_state, fixed_in, end_by, fixed_after, Takes, FixesContext, FixesNone, Completes, Refuses}
+use Rattle.accept_book.specs.BookLaws.{GoodContext, AllGood, Lasting, fixed_end, fixed_in, fixed_after, Takes, AddsAuth, AddsBy, FixesContext, FixesNone, Completes}
 use Rattle.accept_book.proofs.Appended.{silent}
 use Rattle.accept_book.proofs.Founds.{TakenIs, taken_is, refused_is, without_is, others_are, own_is, good_from}
 
@@ -90,22 +93,39 @@ if_both false x y o f g = g
 some_none : (a : Fixed) → Some a ≡ None → ⊥
 some_none a e = cc
 
-on_request : (old : AcceptEnd) (turn : Turn) (running : Running) (draws : List ℕ) (found : List Making) (r : Result Judged ApRefusal) → On old (run turn running (request_taken draws found r))
-on_request old turn running draws found (Err refusal) = tt
-on_request old turn running draws found (Ok request) = record {
-  lasting = if_both running.due _ _ _ refl refl;
+on_request : (old : AcceptEnd) (turn : Turn) (chosen : Chosen) (draws : List ℕ) (found : List MechMaking) (r : Result Judged ApRefusal) → On old (run turn chosen (request_taken draws found r))
+on_request old turn chosen draws found (Err refusal) = tt
+on_request old turn chosen draws found (Ok request) = record {
+  lasting = if_both chosen.due _ _ _ refl refl;
   unmarked = λ e. absurd (some_none _ e);
 }
 
-on_mech : (setup : AcceptSetup) (old : AcceptEnd) (now : ℕ) (draws : List ℕ) (turn : Turn) (running : Running) (mech : AcceptMech) (token : List ℕ)
-    → On old (run turn running (accept_taken setup mech token now draws))
+on_text : (old : AcceptEnd) (turn : Turn) (chosen : Chosen) (r : Result AcceptStarted ScramRefusal) → fixed_end old ≡ None → On old (run turn chosen (text_taken r))
+on_text old turn chosen (Err refusal) e = tt
+on_text old turn chosen (Ok started) e = record { lasting = sym e; unmarked = λ f. refl }
+
+lasting_gone : (after : Answered) → lasting_after (gone_on after) ≡ lasting_answered after
+lasting_gone (afters.More end token) = refl
+lasting_gone (afters.Done outcome lasts token) = refl
+
+on_proof : (old : AcceptEnd) (turn : Turn) (chosen : Chosen) (end : AcceptModel) (token : List ℕ) (r : Result AcceptFinished ScramRefusal) → On old (run turn chosen (proof_taken end token r))
+on_proof old turn chosen end token (Err refusal) = tt
+on_proof old turn chosen end token (Ok made) = record {
+  lasting = lasting_gone (finished turn chosen (outcome_of kinds.Scram made.done) made.done.ends made.token) ∙ if_both chosen.due _ _ _ refl refl;
+  unmarked = λ e. absurd (some_none _ e);
+}
+
+on_mech : (setup : AcceptSetup) (old : AcceptEnd) (now : ℕ) (draws : List ℕ) (turn : Turn) (chosen : Chosen) (mech : AcceptMech) (token : List ℕ) → fixed_end old ≡ None
+    → On old (run turn chosen (accept_taken setup mech token now draws))
 unfolding accept_taken
-on_mech setup old now draws turn running mechs.Kerberos token =
-    on_request old turn running draws (judge_found setup.keytab setup.own token) (judged setup.keytab setup.own now setup.bindings token)
+on_mech setup old now draws turn chosen mechs.Kerberos token e =
+    on_request old turn chosen draws (map typed (judge_found setup.keytab setup.own token)) (judged setup.keytab setup.own now setup.bindings token)
+on_mech setup old now draws turn chosen mechs.Scram token e = on_text old turn chosen (accept_started setup.verifiers token (drawn_nonce draws)) e
+on_mech setup old now draws turn chosen (mechs.Proof end) token e = on_proof old turn chosen end token (accept_finished end token setup.bindings now)
 
 on_started : (setup : AcceptSetup) (now : ℕ) (draws : List ℕ) (running : Running) (token : Option (List ℕ)) → On ends.New (mech_started setup now draws running token)
 on_started setup now draws running None = record { lasting = refl; unmarked = λ e. refl }
-on_started setup now draws running (Some token) = on_mech setup ends.New now draws First running running.mech token
+on_started setup now draws running (Some token) = on_mech setup ends.New now draws First running.chosen running.mech token refl
 
 on_begins : (setup : AcceptSetup) (now : ℕ) (draws : List ℕ) (init : NegInit) → On ends.New (begins setup now draws init)
 unfolding begins
@@ -116,9 +136,9 @@ on_begins setup now draws init =
 on_proceeds : (setup : AcceptSetup) (now : ℕ) (draws : List ℕ) (size : ℕ) (running : Running) (resp : NegResp) → On (ends.Runs running) (proceeds setup now draws size running resp)
 unfolding proceeds
 on_proceeds setup now draws size running resp =
-    on_due (ends.Runs running) Rejected (not (rejects resp.state)) (or_refuse (Defective size) resp.token >>= (λ token. run Later running (accept_taken setup running.mech token now draws)))
-    (on_bind {A = List ℕ} (ends.Runs running) (or_refuse (Defective size) resp.token) (λ token. run Later running (accept_taken setup running.mech token now draws))
-    (λ token. on_mech setup (ends.Runs running) now draws Later running running.mech token))
+    on_due (ends.Runs running) Rejected (not (rejects resp.state)) (or_refuse (Defective size) resp.token >>= (λ token. run Later running.chosen (accept_taken setup running.mech token now draws)))
+    (on_bind {A = List ℕ} (ends.Runs running) (or_refuse (Defective size) resp.token) (λ token. run Later running.chosen (accept_taken setup running.mech token now draws))
+    (λ token. on_mech setup (ends.Runs running) now draws Later running.chosen running.mech token refl))
 
 on_closes : (owing : Owing) (resp : NegResp) → On (ends.Owes owing) (closes owing resp)
 unfolding closes
@@ -203,6 +223,39 @@ unowed ends.New e = refl
 unowed (ends.Runs running) e = refl
 unowed (ends.Owes owing) e = absurd (let f : Some owing.outcome ≡ None = e in cc)
 
+unmarked_gone : (after : Answered) → mark_of (gone_on after) ≡ None
+unmarked_gone (afters.More end token) = refl
+unmarked_gone (afters.Done outcome lasts token) = refl
+
+-- the entries of a step that was taken
+entries_are : (setup : AcceptSetup) (book : Stands) (id past : Option ℕ) (token : List ℕ) (now : ℕ) (draws : List ℕ) (accepted : Accepted) (mark : Option Mark)
+    → TakenIs setup book id past token now draws (negotiated setup book id past token now draws) accepted → mark_of accepted.step ≡ mark
+    → (negotiated setup book id past token now draws).history ≡ entered id (nat_lt (live_of book.table) book.table.limit) past mark (next_of (settled_of accepted.step)) book.greatest book.history
+entries_are setup book id past token now draws accepted mark t e =
+    ap (λ (o : Outcomes). o.history) t.is
+    ∙ ap (λ (m : Option Mark). entered id (nat_lt (live_of book.table) book.table.limit) past m (next_of (settled_of accepted.step)) book.greatest book.history) e
+
+adds_auth : (id : Option ℕ) (place : Bool) (past : Option ℕ) (mark : Mark) (next : Next AcceptEnd Outcome) (now : ℕ) (h new : List Entry)
+    → new ≡ entered id place past (Some mark) next now h → AddsAuth h new (id_of id h) mark now
+adds_auth id place past mark next now h new e = record {
+  place = length (started id place past now h);
+  entry = ap (entry_at (length (started id place past now h))) e ∙ noted_at (is_none id) next (id_of id h) now (Auth (id_of id h) mark now) (started id place past now h);
+  added = started_longer id place past now h;
+}
+
+adds : (setup : AcceptSetup) (book : Stands) (id past : Option ℕ) (token : List ℕ) (now : ℕ) (draws : List ℕ) (accepted : Accepted) (fixed : Fixed)
+    → TakenIs setup book id past token now draws (negotiated setup book id past token now draws) accepted
+    → (by : ByKerberos setup now draws accepted fixed ⊎ ByScram setup (stepped_from book id) now accepted fixed)
+    → AddsBy setup (stepped_from book id) now draws accepted fixed book.history (negotiated setup book id past token now draws).history (id_of id book.history) book.greatest by
+adds setup book id past token now draws accepted fixed t (inl by) =
+    let mark : mark_of accepted.step ≡ Some (judged_mark by.request) = ap mark_of by.asks ∙ ap Some by.mark_is in
+    adds_auth id (nat_lt (live_of book.table) book.table.limit) past (judged_mark by.request) (next_of (settled_of accepted.step)) book.greatest book.history _
+    (entries_are setup book id past token now draws accepted (Some (judged_mark by.request)) t mark)
+adds setup book id past token now draws accepted fixed t (inr by) =
+    let mark : mark_of accepted.step ≡ None = ap mark_of by.goes_on ∙ unmarked_gone by.after in
+    ap taken_of (entries_are setup book id past token now draws accepted None t mark)
+    ∙ unmarked_same id (nat_lt (live_of book.table) book.table.limit) past (next_of (settled_of accepted.step)) book.greatest book.history
+
 pub fixes : (laws : AcceptLaws) (setup : AcceptSetup) (book : Stands) (id past : Option ℕ) (token : List ℕ) (now : ℕ) (draws : List ℕ) (fixed : Fixed)
     → AllGood setup book.table → fixes_of (step_taken setup book id past token now draws) ≡ Some fixed → FixesContext setup book id past token now draws fixed
 fixes laws setup book id past token now draws fixed good e = go (step_taken setup book id past token now draws) refl e
@@ -213,18 +266,12 @@ fixes laws setup book id past token now draws fixed good e = go (step_taken setu
         let t = taken_is setup book id past token now draws accepted is in
         let law = laws.steps setup (stepped_from book id) token now draws accepted (good_from setup book id good) t.step in
         let f = law.fixes fixed e in
-        let mark : mark_of accepted.step ≡ Some (judged_mark f.request) = ap mark_of f.asks ∙ ap Some f.mark_is in
         record {
           accepted = accepted;
           taken = is;
           fixes = f;
           unfixed = unowed (stepped_from book id) f.before;
-          place = length (started id (nat_lt (live_of book.table) book.table.limit) past book.greatest book.history);
-          entry =
-              ap (λ (o : Outcomes). entry_at (length (started id (nat_lt (live_of book.table) book.table.limit) past book.greatest book.history)) o.history) t.is
-              ∙ ap (λ (m : Option Mark). entry_at (length (started id (nat_lt (live_of book.table) book.table.limit) past book.greatest book.history)) (entered id (nat_lt (live_of book.table) book.table.limit) past m (next_of (settled_of accepted.step)) book.greatest book.history)) mark
-              ∙ noted_at (is_none id) (next_of (settled_of accepted.step)) (id_of id book.history) book.greatest (Auth (id_of id book.history) (judged_mark f.request) book.greatest) (started id (nat_lt (live_of book.table) book.table.limit) past book.greatest book.history);
-          added = started_longer id (nat_lt (live_of book.table) book.table.limit) past book.greatest book.history;
+          adds = adds setup book id past token now draws accepted fixed t f.by;
         }
 
 pub fixes_none : (laws : AcceptLaws) (setup : AcceptSetup) (book : Stands) (id past : Option ℕ) (token : List ℕ) (now : ℕ) (draws : List ℕ) (accepted : Accepted)
@@ -271,13 +318,13 @@ done_as own (steps.WantsAuth pause) lease last e = go pause.after e
 lasting_same : {a b : Lasting} → Some a ≡ Some b → a ≡ b
 lasting_same e = cc
 
-stands_answered : (setup : AcceptSetup) (old : AcceptEnd) (found : List Making) (after : Answered) (own : ℕ) (lease : Lease) (last : List ℕ)
+stands_answered : (setup : AcceptSetup) (old : AcceptEnd) (found : List MechMaking) (after : Answered) (own : ℕ) (lease : Lease) (last : List ℕ)
     → AfterAnswered setup old found after → answer_with own (settled_of (steps.WantsAuth (record { mark = record { who = []; at = 0 }; after = after }))) ≡ answers.Settled lease last → StandsBy setup old found lease.outcome
 stands_answered setup old found (afters.More end token) own lease last h e = absurd (going_settled own token lease last e)
 stands_answered setup old found (afters.Done outcome lasts token) own lease last h e =
     subst (λ (o : Outcome). StandsBy setup old found o) (ap (λ (l : Lease). l.outcome) (settled_same e)) h
 
-stands_step : (setup : AcceptSetup) (old : AcceptEnd) (found : List Making) (step : AcceptStep) (own : ℕ) (lease : Lease) (last : List ℕ)
+stands_step : (setup : AcceptSetup) (old : AcceptEnd) (found : List MechMaking) (step : AcceptStep) (own : ℕ) (lease : Lease) (last : List ℕ)
     → AfterStep setup old found step → answer_with own (settled_of step) ≡ answers.Settled lease last → StandsBy setup old found lease.outcome
 stands_step setup old found (steps.More end token) own lease last h e = absurd (going_settled own token lease last e)
 stands_step setup old found (steps.Done outcome lasts token) own lease last h e =
@@ -345,7 +392,7 @@ good_refused setup (Some gone) id before good = good_gone setup (gone == id) bef
 pub good_without : (setup : AcceptSetup) (old new : Places AcceptEnd Outcome) (id : Option ℕ) → AllGood setup old → Changed old (change_refused id) new → AllGood setup new
 good_without setup old new id good is = λ other. subst (GoodContext setup) (sym (is other)) (good_refused setup id other (context_of (slot_at old other)) (good other))
 
-good_next : (setup : AcceptSetup) (old : AcceptEnd) (found : List Making) (until : ℕ) (step : AcceptStep) → AfterStep setup old found step → GoodContext setup (Some (context_after until (next_of (settled_of step))))
+good_next : (setup : AcceptSetup) (old : AcceptEnd) (found : List MechMaking) (until : ℕ) (step : AcceptStep) → AfterStep setup old found step → GoodContext setup (Some (context_after until (next_of (settled_of step))))
 good_next setup old found until (steps.More end token) h = h.good
 good_next setup old found until (steps.Done outcome lasts token) h = tt
 good_next setup old found until (steps.WantsAuth pause) h = go pause.after h

@@ -1,5 +1,5 @@
 -- What a book's token comes to, by the step that was taken.
-use Rattle.std.proofs.Common.{◌≡◌, ◌≢◌, ◌⊎◌, ◌∙◌, ℕ, ◌+◌, Bool, true, false, ◌==◌, nat_lt, nat_le, if◌then◌else◌, List, length, Option, None, Some, refl, sym, ap, subst, inl, inr}
+use Rattle.std.proofs.Common.{◌≡◌, ◌≢◌, ◌⊎◌, ℕ, ◌+◌, Bool, true, false, ◌==◌, nat_lt, nat_le, if◌then◌else◌, List, length, Option, None, Some, refl, sym, subst, inl, inr}
 use Rattle.std.specs.Prelude.{Result, Ok, Err, is_none, ◌&&◌, IfSome}
 use Rattle.std.proofs.lemmas.Bool.{cases_Bool, eq-eqb, ne_eqb}
 use Rattle.spnego_core.specs.declared.outcome.Outcome.{Outcome}

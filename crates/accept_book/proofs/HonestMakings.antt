@@ -1,21 +1,19 @@
 -- Records that an end makes are honest.
-use Rattle.std.proofs.Common.{◌≡◌, ◌<◌, ◌≤◌, ◌+◌, ◌-◌, ◌^◌, ◌/◌, ◌%◌, inl, inr, lit<, lit≤, ℕ, Bool, true, false, refl, ap, sym, ◌∙◌, arith, List, [], ◌++◌, length, take, Ok, append_assoc}
-use Rattle.std.specs.Prelude.{◌==◌, ◌&&◌, ◌||◌, not, nat_le, if◌then◌else◌}
+use Rattle.std.proofs.Common.{◌≡◌, ◌<◌, ◌≤◌, ◌-◌, ◌^◌, ◌%◌, inl, inr, lit<, lit≤, ℕ, Bool, true, false, refl, ap, sym, arith, List, [], ◌++◌, length, take}
 use Rattle.std.proofs.Math.Nat.{zero-mod}
 use Rattle.std.proofs.Math.Seq.{take-append_seam, take-length, drop-length}
 use Rattle.std.proofs.lemmas.List.{length-append, append-nil}
 use Rattle.rpc_msgs.specs.Words.{word, opaque}
 use Rattle.rpc_msgs.specs.Auths.{auth_octets}
-use Rattle.rpc_msgs.specs.Calls.{CallValue, IsCall, header_octets, call_octets, secure_call, call_at}
+use Rattle.rpc_msgs.specs.Calls.{CallValue, IsCall, secure_call}
 use Rattle.rpc_msgs.proofs.CallLaws.{call-only}
 use Rattle.rpc_msgs.proofs.WordLengths.{length-word, length-opaque}
-use Rattle.rpcsec_msgs.specs.Cred.{CredValue, IsCred, is_service, cred_octets, cred_at}
-use Rattle.rpcsec_msgs.specs.Bodies.{IsLong, checked_octets}
+use Rattle.rpcsec_msgs.specs.Cred.{CredValue, IsCred, is_service, cred_octets}
 use Rattle.rpcsec_msgs.proofs.CredLaws.{cred-only}
 use Rattle.krb_tokens.specs.declared.end.Side.{Side}
 use Rattle.krb_tokens.specs.declared.end.Side.TheVariants.{Initiator, Acceptor}
 use Rattle.krb_tokens.specs.declared.end.TokenEnd.{TokenEnd}
-use Rattle.krb_tokens.specs.End.{is_sealed, sender_flag, flags_of, sign_usage}
+use Rattle.krb_tokens.specs.End.{is_sealed, flags_of, sign_usage}
 use Rattle.krb_tokens.specs.Mic.{mic_header, mic_of}
 use Rattle.krb_tokens.specs.Wrap.{turned_right, wrap_header, sealed_body, wrap_of}
 use Rattle.krb_tokens.specs.Tokens.{HasFlags, IsMicOf, mic_header_with, IsWrapOf, wrap_header_with}

@@ -1,38 +1,35 @@
 -- An honest record is answered by the admission of its number.
-use Rattle.std.proofs.Common.{◌≡◌, ◌<◌, ◌≤◌, ◌+◌, ◌^◌, inl, inr, ℕ, Bool, true, false, refl, ap, sym, ◌∙◌, arith, List, [], ◌∷◌, ◌++◌, length, take, drop, Option, Some, None, Result, Ok, Err, is_ok, eqb, ltb}
-use Rattle.std.specs.Prelude.{◌==◌, ◌&&◌, ◌||◌, not, nat_lt, if◌then◌else◌}
-use Rattle.std.specs.Int.{w32, from_be_bytes, to_be_bytes}
-use Rattle.std.proofs.Math.Seq.{take-append_seam, drop-append_seam}
+use Rattle.std.proofs.Common.{◌≡◌, ◌<◌, ◌≤◌, ◌+◌, ◌^◌, inl, inr, ℕ, Bool, true, false, refl, ap, ◌∙◌, arith, List, [], ◌++◌, length, take, drop, Some, Result, Ok, Err, is_ok}
+use Rattle.std.specs.Prelude.{◌==◌, ◌&&◌, not, nat_lt}
+use Rattle.std.specs.Int.{w32, from_be_bytes}
 use Rattle.std.proofs.lemmas.Bool.Decides.{nat_tests}
 use Rattle.std.proofs.lemmas.List.{length-append}
 use Rattle.std.proofs.lemmas.Nat.{from_be_bytes-to_be_bytes_4}
-use Rattle.sha1.specs.Sha1.{sha1}
-use Rattle.rpc_msgs.specs.Words.{word, opaque}
-use Rattle.rpc_msgs.specs.Calls.{CallValue, call_at}
+use Rattle.rpc_msgs.specs.Words.{word}
+use Rattle.rpc_msgs.specs.Calls.{CallValue}
 use Rattle.rpc_msgs.proofs.WordLengths.{length-word}
-use Rattle.rpcsec_msgs.specs.Cred.{CredValue, cred_at}
-use Rattle.rpcsec_msgs.specs.Bodies.{IsLong, checked_at, checked_octets, sealed_at}
+use Rattle.rpcsec_msgs.specs.Cred.{CredValue}
+use Rattle.rpcsec_msgs.specs.Bodies.{IsLong, checked_at, sealed_at}
 use Rattle.rpcsec_msgs.proofs.BodyLaws.{sealed-only, checked-only}
 use Rattle.krb_derive.specs.declared.sealing.SealKeys.{SealKeys}
 use Rattle.krb_derive.specs.Kept.{ForSealing}
 use Rattle.krb_derive.specs.Sealing.{checksum_of}
 use Rattle.krb_tokens.specs.declared.end.TokenEnd.{TokenEnd}
-use Rattle.krb_tokens.specs.End.{seal_usage, sign_usage, other_side, facing}
+use Rattle.krb_tokens.specs.End.{sign_usage}
 use Rattle.krb_tokens.specs.Mic.{checked_mic}
 use Rattle.krb_tokens.specs.Wrap.{unwrapped}
-use Rattle.krb_tokens.specs.Tokens.{IsMicOf, IsWrapOf, mic_header_with}
+use Rattle.krb_tokens.specs.Tokens.{IsMicOf, mic_header_with}
 use Rattle.krb_tokens.proofs.Accepted.{mic-all}
 use Rattle.krb_tokens.proofs.AcceptedWraps.{wrap-all}
 use Rattle.krb_tokens.proofs.Taken.{length-checksum_of}
 use Rattle.accept_book.specs.Served.{are_args}
 use Rattle.accept_book.specs.declared.answer.AdmitRefusal.{AdmitRefusal}
 use Rattle.accept_book.specs.declared.answer.AdmitRefusal.TheVariants.{Gone, AboveMax, Below, Repeat, LogFull}
-use Rattle.accept_book.specs.declared.answer.LookRefusal.{LookRefusal}
 use Rattle.accept_book.specs.declared.book_answer.Lease.{Lease}
 use Rattle.accept_book.specs.declared.entry.Admitted.{Admitted}
-use Rattle.accept_book.specs.RecordShown.{KeptAnswers, AskedLook, AskedAdmit, Ruling, decided, asking, Shown, handle_id, end_of, is_verified, numbered, checked_args, sealed_args, unsealed_args, body_args}
-use Rattle.accept_book.specs.RecordRule.{first_of, is_misplaced, is_other_program, is_other_version_of_it, unadmitted, admitted_ruling, ask_admit, args_ruling, data_ruling, looked_ruling, ask_look, id_ruling, cred_ruling, call_ruling, read_ruling, record_ruling}
-use Rattle.accept_book.specs.Honest.{caller_of, ByIntegrity, ByPrivacy, Carries, Honest, rule_of_refusal, HonestRuled, HonestLaw}
+use Rattle.accept_book.specs.RecordShown.{KeptAnswers, AskedLook, asking, Shown, handle_id, end_of, is_verified, numbered, checked_args, sealed_args, body_args}
+use Rattle.accept_book.specs.RecordRule.{unadmitted, admitted_ruling, ask_admit, data_ruling, call_ruling, record_ruling}
+use Rattle.accept_book.specs.Honest.{caller_of, ByIntegrity, ByPrivacy, Carries, Honest, rule_of_refusal, HonestRuled}
 
 -- ---- the body
 

@@ -1,5 +1,5 @@
 -- Nothing stands twice in a legal history.
-use Rattle.std.proofs.Common.{◌≡◌, ◌≢◌, ℕ, ◌+◌, ◌<◌, ◌≤◌, Bool, true, false, ◌==◌, ◌||◌, ◌&&◌, if◌then◌else◌, nat_eq, List, [], ◌∷◌, ◌++◌, Option, None, Some, is_some, length, refl, sym, ◌∙◌, ap, subst, inl, inr, arith}
+use Rattle.std.proofs.Common.{◌≡◌, ◌≢◌, ℕ, true, ◌==◌, nat_eq, List, [], ◌∷◌, ◌++◌, Some, is_some, length, refl, sym, ◌∙◌, ap, subst, inl, inr}
 use Rattle.std.specs.Cmp.Lexicographic.{pointwise}
 use Rattle.std.proofs.lemmas.Bool.{cases_eq, cases_Bool, eq-eqb, ne_eqb, or_right, and_from, true≢false}
 use Rattle.gss_base.specs.declared.mark.Mark.{Mark}
@@ -9,7 +9,7 @@ use Rattle.replay_cache.specs.Taking.{place_of, same_mark}
 use Rattle.accept_book.specs.declared.entry.Entry.{Entry}
 use Rattle.accept_book.specs.declared.entry.Entry.TheVariants.{Opened, Auth, Went, Settled, Call, Ended}
 use Rattle.accept_book.specs.History.{entry_at, numbers, taken_of}
-use Rattle.accept_book.specs.Legal.{Legal, MayFollow}
+use Rattle.accept_book.specs.Legal.{MayFollow}
 use Rattle.accept_book.specs.Once.{CallsOnce, MarksOnce}
 
 same_entry : {a b : Entry} → Some a ≡ Some b → a ≡ b

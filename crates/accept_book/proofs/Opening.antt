@@ -1,5 +1,5 @@
 -- A later token's step, once its context's state was taken.
-use Rattle.std.proofs.Common.{◌≡◌, ◌≢◌, ◌∙◌, ℕ, ◌+◌, ◌<◌, ◌≤◌, Bool, true, false, refl, sym, ap, subst, inl, inr, arith, List, length, Option, None, Some, IfSome, IsSomeAnd}
+use Rattle.std.proofs.Common.{◌≡◌, ◌∙◌, ℕ, ◌+◌, ◌<◌, ◌≤◌, false, refl, sym, ap, subst, inl, inr, List, length, Option, None, Some, IfSome, IsSomeAnd}
 use Rattle.std.specs.Prelude.{Result, Ok, Err}
 use Rattle.std.proofs.lemmas.Bool.{cases_eq, le-ltb}
 use Rattle.gss_base.specs.declared.mark.Mark.{Mark}
@@ -19,7 +19,7 @@ use Rattle.accept_book.specs.Answers.{taken_by}
 use Rattle.accept_book.specs.Entering.{mark_refused, finished, noted}
 use Rattle.accept_book.specs.Stepping.{ends_at, context_after}
 use Rattle.accept_book.proofs.Contexts.{same_ends}
-use Rattle.accept_book.specs.Booking.{Becomes, Stands, Outcomes, answer_with, next_of, mark_of, settled_of, refusal_of_mark, refuses, by_mark, taken, by_step, later_step, opened_by}
+use Rattle.accept_book.specs.Booking.{Becomes, Stands, answer_with, next_of, mark_of, settled_of, refusal_of_mark, refuses, by_mark, taken, by_step, opened_by}
 
 -- ---- the id that is past is the same
 

@@ -1,25 +1,21 @@
 -- What a step leaves of the whole state.
-use Rattle.std.proofs.Common.{◌≡◌, ◌≢◌, ℕ, ◌+◌, ◌-◌, ◌<◌, ◌≤◌, Bool, true, false, ◌==◌, nat_lt, nat_le, if◌then◌else◌, List, [], ◌∷◌, ◌++◌, Option, None, Some, length, reverse, refl, sym, ◌∙◌, ap, subst, inl, inr, arith, IsSomeAnd, is_some}
-use Rattle.std.proofs.lemmas.List.{reverse-append, length-reverse}
-use Rattle.std.proofs.lemmas.Bool.{cases_Bool, ltb-true, ltb-false, leb-true, leb-false, le-leb, lt-ltb, le-ltb, eqb-true, and_parts, or_parts}
+use Rattle.std.proofs.Common.{◌≡◌, ℕ, ◌+◌, ◌-◌, ◌<◌, ◌≤◌, true, ◌==◌, nat_lt, nat_le, List, [], ◌∷◌, ◌++◌, Option, None, Some, length, reverse, refl, sym, ◌∙◌, ap, subst, inl, inr, arith, IsSomeAnd, is_some}
+use Rattle.std.proofs.lemmas.List.{reverse-append}
+use Rattle.std.proofs.lemmas.Bool.{cases_Bool, ltb-true, ltb-false, leb-false, le-leb, lt-ltb, le-ltb, eqb-true, and_parts, or_parts}
 use Rattle.std.specs.Prelude.{nat_eq}
 use Rattle.std.specs.Cmp.Lexicographic.{pointwise}
 use Rattle.gss_base.specs.declared.mark.Mark.{Mark}
 use Rattle.replay_cache.specs.declared.cache.TakenMark.{TakenMark}
-use Rattle.replay_cache.specs.declared.cache.CacheVerdict.{CacheVerdict}
 use Rattle.replay_cache.specs.declared.cache.CacheVerdict.TheVariants as verdicts
 use Rattle.replay_cache.specs.Taking.{place_of, kept_of, is_recent, is_stale, same_mark, skew, cache_verdict, or_repeat, Cached, Holds}
-use Rattle.accept_book.specs.declared.entry.Receipt.{Receipt}
 use Rattle.accept_book.specs.Entering.{gained}
-use Rattle.seq_window.specs.Marks.{greatest, is_in, verdict_of}
+use Rattle.seq_window.specs.Marks.{greatest, is_in}
 use Rattle.context_table.specs.Places.{Places, slot_at, slot_in, WideAt}
 use Rattle.context_table.specs.declared.slot.Slot.{Slot}
 use Rattle.accept_book.specs.declared.entry.Entry.{Entry}
-use Rattle.accept_book.specs.declared.answer.AdmitRefusal.{AdmitRefusal}
 use Rattle.accept_book.specs.declared.answer.AdmitRefusal.TheVariants as admits
 use Rattle.accept_book.specs.Logs.{LogOf}
 use Rattle.accept_book.specs.History.{standing, numbers, opened, is_whole}
-use Rattle.accept_book.specs.Legal.{MayCall}
 use Rattle.accept_book.specs.Answers.{refused, Free}
 use Rattle.accept_book.specs.Replays.{Naming, Replays, IsCore}
 use Rattle.accept_book.proofs.Appended.{wide-slot}

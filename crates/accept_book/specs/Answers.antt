@@ -1,15 +1,13 @@
 -- What the calls answer, as functions of the history and of the words over the table.
-use Rattle.std.specs.Prelude.{◌≡◌, ℕ, ◌+◌, ◌<◌, ◌≤◌, Bool, true, false, ◌==◌, nat_lt, nat_le, max, if◌then◌else◌, List, [], ◌∷◌, length, Option, None, Some, Result, Ok, Err, IfOk}
+use Rattle.std.specs.Prelude.{◌≡◌, ℕ, ◌<◌, ◌≤◌, nat_lt, if◌then◌else◌, List, ◌∷◌, length, Option, None, Some, Result, Ok, Err}
 use denote.Ref.{Bor}
-use Rattle.gss_base.specs.declared.mark.Mark.{Mark}
 use Rattle.seq_window.specs.declared.window.Verdict.{Verdict}
 use Rattle.seq_window.specs.declared.window.Verdict.TheVariants.{AboveMax, Below, Repeat, Fresh}
 use Rattle.seq_window.specs.Marks.{verdict_of}
 use Rattle.replay_cache.specs.declared.cache.CacheVerdict.{CacheVerdict}
 use Rattle.replay_cache.specs.declared.cache.CacheVerdict.TheVariants as verdicts
 use Rattle.context_table.specs.declared.slot.Slot.{Slot}
-use Rattle.context_table.specs.declared.slot.SlotState.TheVariants.{Negotiating, Held, Complete}
-use Rattle.context_table.specs.Places.{slot_at, KeepsOthers, HasValue}
+use Rattle.context_table.specs.Places.{HasValue}
 use Rattle.accept_book.specs.declared.entry.Entry.{Entry}
 use Rattle.accept_book.specs.declared.entry.Receipt.{Receipt}
 use Rattle.accept_book.specs.declared.entry.Admitted.{Admitted}
@@ -23,7 +21,6 @@ use Rattle.accept_book.specs.declared.answer.MarkRefusal.{MarkRefusal}
 use Rattle.accept_book.specs.declared.answer.MarkRefusal.TheVariants as marks
 use Rattle.accept_book.specs.History.{Standing, Unknown, Open, Whole, Over, standing, numbers, posts, is_whole}
 use Rattle.accept_book.specs.Legal.{MayCall}
-use Rattle.accept_book.specs.Replays.{Accepting}
 
 -- the refusal of a number by the verdict on it; where it is fresh, that of a full log
 abbrev pub refusal_by : Verdict → Option AdmitRefusal → Option AdmitRefusal

@@ -1,13 +1,14 @@
 -- What holds of a book over its tokens: what a step finds, hands out and fixes, and where that stands afterwards.
 use Rattle.std.specs.Prelude.{◌≡◌, ◌≢◌, ◌⊎◌, ℕ, ◌≤◌, List, [], ◌∷◌, length, Option, None, Some, IfSome, Ok}
+use mathlib.Core.Logic.{inl, inr}
+use Rattle.gss_base.specs.declared.mark.Mark.{Mark}
 use Rattle.ap_exchange.specs.Judging.{judged_mark}
 use Rattle.spnego_core.specs.declared.outcome.Outcome.{Outcome}
 use Rattle.spnego_core.specs.declared.setup.AcceptSetup.{AcceptSetup}
 use Rattle.spnego_core.specs.declared.accept_end.AcceptEnd.{AcceptEnd}
 use Rattle.spnego_core.specs.declared.accept_end.AcceptEnd.TheVariants as ends
-use Rattle.spnego_core.specs.AcceptMech.{Basis, ByRequest}
 use Rattle.spnego_core.specs.Accepting.{Fixed, Accepted, accept_step}
-use Rattle.spnego_core.specs.AcceptLaws.{GoodAccept, Fixes, Stands as StandsBy}
+use Rattle.spnego_core.specs.AcceptLaws.{GoodAccept, ByKerberos, ByScram, Fixes, Stands as StandsBy}
 use Rattle.context_table.specs.declared.slot.SlotState.{SlotState}
 use Rattle.context_table.specs.declared.slot.SlotState.TheVariants.{Negotiating, Held, Complete}
 use Rattle.context_table.specs.Places.{Places, slot_at}
@@ -57,14 +58,10 @@ abbrev pub fixed_in : Option (Context AcceptEnd Outcome) → Option Lasting
 fixed_in None = None
 fixed_in (Some context) = fixed_state context.state context.ends
 
--- the end of what a request fixes is the request's
-abbrev pub end_by : Basis → ℕ
-end_by (ByRequest request) = request.ends
-
 -- what is fixed once a step was taken: what the step fixes, else what was before
 abbrev pub fixed_after : Option Fixed → Option Lasting → Option Lasting
 fixed_after None before = before
-fixed_after (Some fixed) before = Some (record { outcome = fixed.outcome; ends = end_by fixed.basis })
+fixed_after (Some fixed) before = Some (record { outcome = fixed.outcome; ends = fixed.lasts })
 
 -- ---- a step that was taken
 
@@ -79,15 +76,25 @@ pub record Takes (setup : AcceptSetup) (book : Stands) (id past : Option ℕ) (t
   pub others : (other : ℕ) (before : Option (Context AcceptEnd Outcome)) → id_of id book.history ≢ other
       → (changed (negotiated setup book id past token now draws).change other before ≡ before) ⊎ (changed (negotiated setup book id past token now draws).change other before ≡ None)
 
--- a step that fixes a context takes one authenticator: that of the request which it was fixed by. Nothing was fixed of the context before
+-- the authenticator of the request that a context is fixed by stands among the entries that are new
+pub record AddsAuth (old new : List Entry) (id : ℕ) (mark : Mark) (now : ℕ) : Type 0 where
+  pub place : ℕ
+  pub entry : entry_at place new ≡ Some (Auth id mark now)
+  pub added : length old ≤ place
+
+-- Kerberos adds one authenticator, that of the request; SCRAM adds none
+abbrev pub AddsBy : (setup : AcceptSetup) (old : AcceptEnd) (now : ℕ) (draws : List ℕ) (accepted : Accepted) (fixed : Fixed) → List Entry → List Entry → ℕ → ℕ
+    → ByKerberos setup now draws accepted fixed ⊎ ByScram setup old now accepted fixed → Type 0
+AddsBy setup old now draws accepted fixed before after id greatest (inl by) = AddsAuth before after id (judged_mark by.request) greatest
+AddsBy setup old now draws accepted fixed before after id greatest (inr by) = taken_of after ≡ taken_of before
+
+-- a step that fixes a context: nothing was fixed of it before
 pub record FixesContext (setup : AcceptSetup) (book : Stands) (id past : Option ℕ) (token : List ℕ) (now : ℕ) (draws : List ℕ) (fixed : Fixed) : Type 0 where
   pub accepted : Accepted
   pub taken : step_taken setup book id past token now draws ≡ Some accepted
   pub fixes : Fixes setup (stepped_from book id) now draws accepted fixed
   pub unfixed : fixed_end (stepped_from book id) ≡ None
-  pub place : ℕ
-  pub entry : entry_at place (negotiated setup book id past token now draws).history ≡ Some (Auth (id_of id book.history) (judged_mark fixes.request) book.greatest)
-  pub added : length book.history ≤ place
+  pub adds : AddsBy setup (stepped_from book id) now draws accepted fixed book.history (negotiated setup book id past token now draws).history (id_of id book.history) book.greatest fixes.by
 
 -- a step that fixes none hands nothing out and takes no authenticator
 pub record FixesNone (setup : AcceptSetup) (book : Stands) (id past : Option ℕ) (token : List ℕ) (now : ℕ) (draws : List ℕ) (accepted : Accepted) : Type 0 where

@@ -1,5 +1,5 @@
 -- A book: the contexts of an acceptor, each negotiating by an end of its own or complete with its outcome.
-use Rattle.std.specs.Prelude.{◌≡◌, ◌⊎◌, ◌≢◌, ℕ, ◌+◌, ◌<◌, ◌≤◌, Bool, true, false, nat_eq, nat_lt, nat_le, ◌==◌, ◌&&◌, max, is_none, is_some, if◌then◌else◌, List, [], ◌∷◌, ◌++◌, length, Option, None, Some, Result, Ok, Err, IfOk}
+use Rattle.std.specs.Prelude.{◌≡◌, ◌≢◌, ℕ, ◌+◌, ◌<◌, ◌≤◌, Bool, true, false, nat_eq, nat_lt, nat_le, ◌==◌, ◌&&◌, max, is_none, if◌then◌else◌, List, [], ◌∷◌, ◌++◌, length, Option, None, Some, Result, Ok, Err}
 use lib.Pointwise.{pointwise}
 use Rattle.sha1.specs.Sha1.{sha1}
 use Rattle.gss_base.specs.declared.mark.Mark.{Mark}
@@ -12,12 +12,11 @@ use Rattle.spnego_core.specs.declared.refusal.NegRefusal.{NegRefusal}
 use Rattle.spnego_core.specs.declared.setup.AcceptSetup.{AcceptSetup}
 use Rattle.spnego_core.specs.declared.accept_end.AcceptEnd.{AcceptEnd}
 use Rattle.spnego_core.specs.declared.accept_end.AcceptEnd.TheVariants as ends
-use Rattle.spnego_core.specs.declared.accept_end.AcceptPause.{AcceptPause}
 use Rattle.spnego_core.specs.declared.accept_end.AcceptStep.{AcceptStep}
 use Rattle.spnego_core.specs.declared.accept_end.AcceptStep.TheVariants as steps
 use Rattle.spnego_core.specs.declared.accept_end.Answered.{Answered}
 use Rattle.spnego_core.specs.declared.accept_end.Answered.TheVariants as afters
-use Rattle.spnego_core.specs.Accepting.{Accepted, accept_step, mark_asked, gone_on, step_after}
+use Rattle.spnego_core.specs.Accepting.{Accepted, accept_step, mark_asked, step_after}
 use Rattle.context_table.specs.declared.slot.Slot.{Slot}
 use Rattle.context_table.specs.declared.slot.SlotState.{SlotState}
 use Rattle.context_table.specs.declared.slot.SlotState.TheVariants.{Negotiating, Held, Complete}

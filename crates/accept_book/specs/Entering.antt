@@ -1,12 +1,11 @@
 -- What a step of a negotiation that was taken makes of the history.
-use Rattle.std.specs.Prelude.{◌≡◌, ℕ, ◌+◌, ◌<◌, ◌≤◌, Bool, true, false, nat_lt, nat_le, ◌||◌, if◌then◌else◌, is_none, is_some, List, [], ◌∷◌, ◌++◌, length, take, Option, None, Some, IfSome, Result, Ok, Err}
+use Rattle.std.specs.Prelude.{◌≡◌, ℕ, ◌+◌, Bool, true, false, nat_lt, ◌||◌, if◌then◌else◌, is_none, is_some, List, [], ◌∷◌, ◌++◌, length, take, Option, None, Some}
 use Rattle.gss_base.specs.declared.mark.Mark.{Mark}
-use Rattle.gss_base.specs.declared.mech.MechKind.{MechKind}
 use Rattle.gss_base.specs.Mech.{is_kerberos}
 use Rattle.replay_cache.specs.Taking.{cache_verdict}
 use Rattle.replay_cache.specs.declared.cache.TakenMark.{TakenMark}
 use Rattle.accept_book.specs.declared.entry.Entry.{Entry}
-use Rattle.accept_book.specs.declared.entry.Entry.TheVariants.{Opened, Auth, Went, Settled, Call, Ended}
+use Rattle.accept_book.specs.declared.entry.Entry.TheVariants.{Opened, Auth, Went, Settled, Ended}
 use Rattle.accept_book.specs.declared.entry.EndCause.TheVariants.{Lapsed}
 use Rattle.accept_book.specs.declared.entry.Receipt.{Receipt}
 use Rattle.accept_book.specs.declared.entry.Receipts.{Receipts}

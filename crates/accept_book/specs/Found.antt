@@ -1,6 +1,6 @@
 -- What the step of a book's token hands out, finds verified and fixes: what the acceptor's machine says of it, where the step was taken.
 use Rattle.std.specs.Prelude.{ℕ, ◌+◌, nat_lt, nat_le, ◌&&◌, is_none, if◌then◌else◌, List, [], length, Option, None, Some, Result, Ok, Err}
-use Rattle.krb_derive.specs.Making.{Making}
+use Rattle.scram_mech.specs.MechMaking.{MechMaking}
 use Rattle.spnego_core.specs.declared.refusal.NegRefusal.{NegRefusal}
 use Rattle.spnego_core.specs.declared.setup.AcceptSetup.{AcceptSetup}
 use Rattle.spnego_core.specs.declared.accept_end.AcceptEnd.{AcceptEnd}
@@ -48,12 +48,12 @@ step_taken setup book None past token now draws = first_took setup book past tok
 step_taken setup book (Some id) past token now draws = took_by (standing id book.history) setup book id token now draws
 
 -- what was handed out with the answer
-abbrev pub makes_of : Option Accepted → List Making
+abbrev pub makes_of : Option Accepted → List MechMaking
 makes_of None = []
 makes_of (Some accepted) = accepted.makes
 
 -- what was found verified
-abbrev pub found_of : Option Accepted → List Making
+abbrev pub found_of : Option Accepted → List MechMaking
 found_of None = []
 found_of (Some accepted) = accepted.found
 

@@ -1,5 +1,5 @@
 -- The acceptor's log as a history: a list of entries, the newest first. A place in the log is the number of entries before it.
-use Rattle.std.specs.Prelude.{◌≡◌, ℕ, ◌+◌, Bool, true, false, ◌==◌, if◌then◌else◌, List, [], ◌∷◌, ◌++◌, length, Option, None, Some}
+use Rattle.std.specs.Prelude.{ℕ, ◌+◌, Bool, true, false, ◌==◌, if◌then◌else◌, List, [], ◌∷◌, ◌++◌, length, Option, None, Some}
 use Rattle.gss_base.specs.declared.mech.MechKind.{MechKind}
 use Rattle.replay_cache.specs.declared.cache.TakenMark.{TakenMark}
 use Rattle.accept_book.specs.declared.entry.Entry.{Entry}

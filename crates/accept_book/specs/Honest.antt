@@ -1,6 +1,6 @@
 -- Records of honest callers: a data call of a context, made with the context's key by its initiator (RFC 2203 sections 5.3.1 and 5.3.2), and
 -- what it is answered.
-use Rattle.std.specs.Prelude.{◌≡◌, ◌⊎◌, ◌<◌, ◌≤◌, ◌^◌, ℕ, ◌*◌, ◌==◌, true, List, [], ◌∷◌, ◌++◌, length, slice_index, take, drop, is_ok, Option, Some, None, Result, Ok, Err}
+use Rattle.std.specs.Prelude.{◌≡◌, ◌⊎◌, ◌<◌, ◌≤◌, ◌^◌, ℕ, ◌*◌, ◌==◌, true, List, [], ◌∷◌, ◌++◌, length, slice_index, take, drop, is_ok, Some, None, Result, Ok, Err}
 use Rattle.sha1.specs.Sha1.{sha1}
 use Rattle.rpc_msgs.specs.Words.{word, opaque}
 use Rattle.rpc_msgs.specs.Calls.{CallValue, header_octets, call_octets, secure_call, call_at}

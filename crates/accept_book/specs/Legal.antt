@@ -1,5 +1,5 @@
 -- Legal histories: each entry meets its condition, seen from the entries before it. The moments never fall.
-use Rattle.std.specs.Prelude.{◌≡◌, ℕ, ◌+◌, ◌-◌, ◌<◌, ◌≤◌, true, false, List, [], ◌∷◌, Option, None}
+use Rattle.std.specs.Prelude.{◌≡◌, ℕ, ◌+◌, ◌-◌, ◌<◌, ◌≤◌, true, false, List, [], ◌∷◌, None}
 use Rattle.gss_base.specs.declared.mark.Mark.{Mark}
 use Rattle.gss_base.specs.Mech.{is_kerberos}
 use Rattle.seq_window.specs.Marks.{greatest, is_in}

@@ -1,5 +1,5 @@
 -- A log: its entries, oldest first, and the limits under which it was kept.
-use Rattle.std.specs.Prelude.{◌≡◌, ℕ, ◌≤◌, List, Vec, vec_len, vec_capacity}
+use Rattle.std.specs.Prelude.{ℕ, ◌≤◌, List, Vec, vec_len, vec_capacity}
 use Rattle.std.specs.Global.{Global}
 use Rattle.accept_book.specs.declared.entry.Entry.{Entry}
 

@@ -1,18 +1,13 @@
 -- What a call says, and the replies to it: the parts of which the rule of a record is made.
-use Rattle.std.specs.Prelude.{ℕ, ◌+◌, ◌*◌, Bool, true, false, not, ◌==◌, ◌&&◌, ◌||◌, nat_lt, List, [], ◌∷◌, ◌++◌, length, take, drop, is_ok, is_err, Option, Some, None, is_none, if◌then◌else◌, Result, Ok, Err}
+use Rattle.std.specs.Prelude.{ℕ, ◌+◌, ◌*◌, Bool, true, false, not, ◌==◌, ◌&&◌, nat_lt, List, [], ◌∷◌, ◌++◌, length, take, drop, is_ok, Option, Some, None, if◌then◌else◌, Result, Ok, Err}
 use Rattle.std.specs.Int.{w32, w64, from_be_bytes, to_be_bytes}
-use Rattle.sha1.specs.Sha1.{sha1}
 use Rattle.rpc_msgs.specs.Words.{word, opaque}
-use Rattle.rpc_msgs.specs.Auths.{AuthValue}
-use Rattle.rpc_msgs.specs.Calls.{CallValue, call_at}
-use Rattle.rpc_msgs.specs.Replies.{ReplyValue, accepted, mismatch, auth_error, reply_octets}
-use Rattle.rpc_msgs.specs.declared.call.CallRefusal.{CallRefusal}
-use Rattle.rpc_msgs.specs.declared.call.CallRefusal.TheVariants.{Unreadable, NotCall, RpcVersion}
+use Rattle.rpc_msgs.specs.Calls.{CallValue}
+use Rattle.rpc_msgs.specs.Replies.{accepted, auth_error, reply_octets}
 use Rattle.rpc_msgs.specs.declared.xdr_reader.XdrRefusal.{XdrRefusal}
-use Rattle.rpcsec_msgs.specs.Cred.{CredValue, cred_at}
+use Rattle.rpcsec_msgs.specs.Cred.{CredValue}
 use Rattle.rpcsec_msgs.specs.InitRes.{init_res_octets}
 use Rattle.rpcsec_msgs.specs.Bodies.{checked_at, checked_octets, sealed_at}
-use Rattle.rpcsec_msgs.specs.declared.cred.CredRefusal.{CredRefusal}
 use Rattle.krb_tokens.specs.Mic.{mic_of, checked_mic}
 use Rattle.krb_tokens.specs.Wrap.{wrap_of, unwrapped}
 use Rattle.krb_tokens.specs.declared.end.Side.TheVariants.{Acceptor}
@@ -20,17 +15,12 @@ use Rattle.krb_tokens.specs.declared.end.TokenEnd.{TokenEnd}
 use Rattle.krb_tokens.specs.declared.end.TokenRefusal.{TokenRefusal}
 use Rattle.krb_tokens.specs.declared.wrap.Unwrapped.{Unwrapped}
 use Rattle.spnego_core.specs.Outcome.{token_end}
-use Rattle.accept_book.specs.Statuses.{Status, book_status}
-use Rattle.accept_book.specs.Served.{one_opaque, are_args, result_of}
+use Rattle.accept_book.specs.Statuses.{book_status}
 use Rattle.accept_book.specs.declared.answer.AdmitRefusal.{AdmitRefusal}
-use Rattle.accept_book.specs.declared.answer.AdmitRefusal.TheVariants as admits
 use Rattle.accept_book.specs.declared.answer.LookRefusal.{LookRefusal}
-use Rattle.accept_book.specs.declared.answer.LookRefusal.TheVariants as looks
 use Rattle.accept_book.specs.declared.book_answer.BookRefusal.{BookRefusal}
 use Rattle.accept_book.specs.declared.book_answer.BookRefusal.TheVariants as books
 use Rattle.accept_book.specs.declared.book_answer.Lease.{Lease}
-use Rattle.accept_book.specs.declared.book_answer.NegAnswer.{NegAnswer}
-use Rattle.accept_book.specs.declared.book_answer.NegAnswer.TheVariants as steps
 use Rattle.accept_book.specs.declared.book_answer.Negotiated.{Negotiated}
 use Rattle.accept_book.specs.declared.entry.Admitted.{Admitted}
 use Rattle.accept_book.specs.declared.entry.Receipt.{Receipt}

@@ -1,5 +1,5 @@
 -- What the table, the cache and the counts say is what the history says.
-use Rattle.std.specs.Prelude.{◌≡◌, ℕ, ◌+◌, ◌<◌, ◌≤◌, min, List, length, reverse, Option, None, Some}
+use Rattle.std.specs.Prelude.{◌≡◌, ℕ, ◌+◌, ◌≤◌, min, List, length, reverse, Option, None, Some}
 use Rattle.gss_base.specs.declared.mech.MechKind.{MechKind}
 use Rattle.sec_base.specs.Moment.{greatest_moment}
 use Rattle.seq_window.specs.Marks.{Shows}

@@ -1,14 +1,12 @@
 -- Rules of records by hand: calls without authentication, and of calls with a credential of flavour 6 those whose reply isn't signed.
-use Rattle.std.specs.Prelude.{◌≡◌, ℕ, List, [], ◌∷◌, ◌++◌, Option, Some, None, Ok, Err}
+use Rattle.std.specs.Prelude.{◌≡◌, ℕ, List, [], ◌∷◌, ◌++◌, Option, Some, None, Err}
 use Rattle.rpc_msgs.specs.Words.{word}
 use Rattle.spnego_core.specs.declared.refusal.NegRefusal.TheVariants.{Defective}
 use Rattle.accept_book.specs.declared.answer.LookRefusal.TheVariants as looks
 use Rattle.accept_book.specs.declared.book_answer.BookRefusal.TheVariants as books
 use Rattle.accept_book.specs.declared.book_answer.NegAnswer.{NegAnswer}
 use Rattle.accept_book.specs.declared.book_answer.NegAnswer.TheVariants as steps
-use Rattle.accept_book.specs.declared.book_answer.Negotiated.{Negotiated}
-use Rattle.accept_book.specs.declared.entry.Receipts.{Receipts}
-use Rattle.accept_book.specs.RecordShown.{KeptAnswers, Negotiate, Look, Ruling}
+use Rattle.accept_book.specs.RecordShown.{KeptAnswers, Negotiate, Look}
 use Rattle.accept_book.specs.RecordRule.{record_ruling}
 
 -- a call with this RPC version, program, version, procedure, flavour and body of the credential in words, without verifier

@@ -1,5 +1,5 @@
 -- The served program: what its procedures take and give. 0 NULL, 1 ECHO, 2 WHOAMI, 3 POST, 4 COUNT.
-use Rattle.std.specs.Prelude.{ℕ, Bool, true, ◌==◌, ◌&&◌, if◌then◌else◌, List, [], length, is_ok, Result, Ok, Err}
+use Rattle.std.specs.Prelude.{ℕ, Bool, ◌==◌, if◌then◌else◌, List, [], length, is_ok, Result, Ok}
 use Rattle.rpc_msgs.specs.Words.{word, opaque}
 use Rattle.rpc_msgs.specs.Xdr.{whole, ◌>>=◌, opaque_at, end_at}
 use Rattle.rpc_msgs.specs.declared.xdr_reader.XdrRefusal.{XdrRefusal}

@@ -1,9 +1,11 @@
 -- The major and minor status of a refused step. The major is a routine error (RFC 2744 section 3.9.1) shifted left by 16; the minor is this
 -- project's own number.
-use Rattle.std.specs.Prelude.{ℕ, ◌+◌, ◌*◌, ◌^◌}
+use Rattle.std.specs.Prelude.{ℕ, ◌*◌, ◌^◌}
 use Rattle.ap_exchange.specs.declared.refusal.ApRefusal.{ApRefusal}
 use Rattle.ap_exchange.specs.declared.refusal.ApRefusal.TheVariants as aps
-use Rattle.spnego_core.specs.declared.refusal.MechRefusal.TheVariants.{Ap}
+use Rattle.scram_mech.specs.declared.refusal.ScramRefusal.{ScramRefusal}
+use Rattle.scram_mech.specs.declared.refusal.ScramRefusal.TheVariants as scrams
+use Rattle.spnego_core.specs.declared.refusal.MechRefusal.TheVariants.{Ap, Scram}
 use Rattle.spnego_core.specs.declared.refusal.NegRefusal.{NegRefusal}
 use Rattle.spnego_core.specs.declared.refusal.NegRefusal.TheVariants as negs
 use Rattle.accept_book.specs.declared.book_answer.BookRefusal.{BookRefusal}
@@ -37,6 +39,19 @@ ap_status aps.ReplyStamp = routine 13 116
 ap_status (aps.PeerError code) = routine 13 117
 ap_status aps.NoMemory = routine 13 0
 
+-- DEFECTIVE_TOKEN 9, BAD_BINDINGS 4, UNAUTHORIZED 15, else FAILURE 13; the minor is 200 and the refusal's number
+abbrev pub scram_status : ScramRefusal → Status
+scram_status (scrams.Text at) = routine 9 201
+scram_status scrams.Mandatory = routine 13 202
+scram_status scrams.Nonce = routine 13 203
+scram_status scrams.Rounds = routine 13 204
+scram_status scrams.NoUser = routine 15 205
+scram_status scrams.Bindings = routine 4 206
+scram_status scrams.Proof = routine 15 207
+scram_status scrams.Signature = routine 13 208
+scram_status scrams.PeerError = routine 13 209
+scram_status scrams.NoMemory = routine 13 0
+
 -- DEFECTIVE_TOKEN 9, BAD_MECH 1, BAD_MIC 6, else FAILURE 13
 abbrev pub neg_status : NegRefusal → Status
 neg_status (negs.Defective at) = routine 9 1
@@ -46,6 +61,7 @@ neg_status negs.NoCommonMech = routine 1 4
 neg_status negs.MicMissing = routine 6 5
 neg_status negs.MicBad = routine 6 6
 neg_status (negs.Mech (Ap refusal)) = ap_status refusal
+neg_status (negs.Mech (Scram refusal)) = scram_status refusal
 neg_status negs.NoMemory = routine 13 0
 
 abbrev pub book_status : BookRefusal → Status

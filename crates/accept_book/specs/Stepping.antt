@@ -1,9 +1,9 @@
 -- What a step that was taken makes of the contexts.
-use Rattle.std.specs.Prelude.{◌≡◌, ◌⊎◌, ℕ, Bool, true, false, ◌==◌, if◌then◌else◌, List, [], Option, None, Some, IfSome}
+use Rattle.std.specs.Prelude.{◌≡◌, ◌⊎◌, ℕ, Bool, true, false, ◌==◌, if◌then◌else◌, [], Option, None, Some, IfSome}
 use Rattle.seq_window.specs.Marks.{Shows}
 use Rattle.context_table.specs.declared.slot.Slot.{Slot}
 use Rattle.context_table.specs.declared.slot.SlotState.{SlotState}
-use Rattle.context_table.specs.declared.slot.SlotState.TheVariants.{Negotiating, Held, Complete}
+use Rattle.context_table.specs.declared.slot.SlotState.TheVariants.{Negotiating, Complete}
 use Rattle.context_table.specs.Places.{Places, slot_at, with_state, settled_as}
 use Rattle.accept_book.specs.declared.answer.Next.{Next}
 use Rattle.accept_book.specs.declared.answer.Next.TheVariants as next

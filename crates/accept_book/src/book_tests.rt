@@ -5,6 +5,7 @@ ghost use Rattle.std.specs.Prelude.{◌≤◌};
 use super::*;
 use gss_base::{MechKind, Principal};
 use krb_files::read_keytab;
+use scram_mech::read_verifiers;
 use sec_base::{Items, Moment};
 use spnego_core::{AcceptSetup, NegRefusal};
 use std::alloc::Global;
@@ -51,6 +52,7 @@ fn opened(alloc: Global, contexts: usize) -> Result<Book, Fail>
     let setup = AcceptSetup {
         own: Principal::parse(alloc, "rpc/host@R").ok().ok_or("a name")?,
         keytab: read_keytab(alloc, KEYTAB).ok().ok_or("a keytab")?,
+        verifiers: read_verifiers(alloc, b"").ok().ok_or("verifiers")?,
         bindings: None,
         offer: Items::of(vec![in alloc; MechKind::Kerberos]?),
     };

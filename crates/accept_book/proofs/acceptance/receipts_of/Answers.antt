@@ -1,4 +1,4 @@
-use Rattle.std.proofs.Common.{◌≡◌, sym, arith, take, reverse, ap, ◌∙◌, length, length-take-le}
+use Rattle.std.proofs.Common.{sym, arith, take, reverse, length-take-le}
 use Rattle.std.proofs.lemmas.List.{length-reverse}
 use Rattle.accept_book.proofs.Steps.{gained-none}
 use Rattle.accept_book.proofs.acceptance.receipts_of.Goals as goal

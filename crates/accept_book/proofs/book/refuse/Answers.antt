@@ -1,4 +1,4 @@
-use Rattle.std.proofs.Common.{◌≡◌, ◌∙◌, refl, sym, ap, arith, length}
+use Rattle.std.proofs.Common.{◌∙◌, refl, sym, arith, length}
 use Rattle.accept_book.proofs.Steps.{gained-none, gained-more}
 use Rattle.accept_book.proofs.Changes.{changed_same, changed_gone}
 use Rattle.accept_book.proofs.book.refuse.Goals as goal

@@ -1,6 +1,4 @@
-use Rattle.accept_book.proofs.Fitting.{step_of_fits, by_ok, by_err}
-use Rattle.std.proofs.Common.{◌≡◌, ◌∙◌, ap, sym, Some, None}
-use Rattle.accept_book.specs.Booking.{Outcomes}
+use Rattle.accept_book.proofs.Fitting.{step_of_fits}
 use Rattle.accept_book.proofs.book.take_step.Goals as goal
 
 pub enter-requires-clause-fits : goal.enter-requires-clause-fits

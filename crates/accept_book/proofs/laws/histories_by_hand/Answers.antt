@@ -1,5 +1,4 @@
-use Rattle.std.proofs.Common.{◌≡◌, ℕ, Bool, true, false, Option, None, Some, refl, arith}
-use Rattle.accept_book.specs.History.{IsOpen}
+use Rattle.std.proofs.Common.{◌≡◌, ℕ, true, false, None, Some, refl, arith}
 use Rattle.accept_book.proofs.laws.histories_by_hand.Goals as goal
 
 other_bool : true ≡ false → ⊥

@@ -1,12 +1,7 @@
-use Rattle.std.proofs.Common.{rules, ◌≡◌, ◌<◌, ◌≤◌, ℕ, ◌∙◌, ap, sym, refl, subst, arith, reverse, length, false, max, None, Some, ◌+◌, ◌∷◌, is_some, true}
-use Rattle.std.proofs.lemmas.List.{length-reverse}
-use Rattle.replay_cache.specs.declared.cache.CacheVerdict.TheVariants as verdicts
-use Rattle.accept_book.specs.History.{opened, taken_of, has_auth}
-use Rattle.accept_book.specs.declared.entry.Entry.TheVariants as entries
+use Rattle.std.proofs.Common.{◌<◌, arith, reverse}
 use Rattle.context_table.specs.Places.{slot_at}
 use Rattle.context_table.specs.declared.slot.Slot.{Slot}
-use Rattle.accept_book.specs.Replays.{Naming, Replays}
-use Rattle.accept_book.proofs.Appended.{lives-opened}
+use Rattle.accept_book.specs.Replays.{Naming}
 use Rattle.accept_book.proofs.Steps.{some-and}
 use Rattle.accept_book.proofs.Appended.{unopened}
 use Rattle.accept_book.proofs.acceptance.Core.make_place.Goals as goal

@@ -1,12 +1,5 @@
-use Rattle.std.proofs.Common.{rules, ◌≡◌, ◌<◌, ◌≤◌, ℕ, ◌∙◌, ap, sym, refl, subst, arith, reverse, length, false, max, None, Some, ◌+◌, ◌∷◌, is_some, true}
-use Rattle.std.proofs.lemmas.List.{length-reverse}
-use Rattle.replay_cache.specs.declared.cache.CacheVerdict.TheVariants as verdicts
-use Rattle.accept_book.specs.History.{opened, taken_of, has_auth}
-use Rattle.accept_book.specs.declared.entry.Entry.TheVariants as entries
-use Rattle.context_table.specs.Places.{slot_at}
-use Rattle.context_table.specs.declared.slot.Slot.{Slot}
-use Rattle.accept_book.specs.Replays.{Naming, Replays}
-use Rattle.accept_book.proofs.Appended.{open-held}
+use Rattle.std.proofs.Common.{rules}
+use Rattle.accept_book.specs.Replays.{Naming}
 use Rattle.accept_book.proofs.Steps.{core-new}
 use Rattle.accept_book.proofs.acceptance.Core.new.Goals as goal
 

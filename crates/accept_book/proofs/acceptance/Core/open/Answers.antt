@@ -1,11 +1,6 @@
-use Rattle.std.proofs.Common.{rules, ◌≡◌, ◌<◌, ◌≤◌, ℕ, ◌∙◌, ap, sym, refl, subst, arith, reverse, length, false, max, None, Some, ◌+◌, ◌∷◌, is_some, true}
-use Rattle.std.proofs.lemmas.List.{length-reverse}
-use Rattle.replay_cache.specs.declared.cache.CacheVerdict.TheVariants as verdicts
-use Rattle.accept_book.specs.History.{opened, taken_of, has_auth}
-use Rattle.accept_book.specs.declared.entry.Entry.TheVariants as entries
-use Rattle.context_table.specs.Places.{slot_at}
-use Rattle.context_table.specs.declared.slot.Slot.{Slot}
-use Rattle.accept_book.specs.Replays.{Naming, Replays}
+use Rattle.std.proofs.Common.{◌≡◌, ℕ, ap, refl, arith, reverse, ◌+◌}
+use Rattle.accept_book.specs.History.{opened}
+use Rattle.accept_book.specs.Replays.{Naming}
 use Rattle.accept_book.proofs.Appended.{replays-opened, lives-opened, opened-le, silent}
 use Rattle.accept_book.proofs.Steps.{core-added, added}
 use Rattle.accept_book.proofs.acceptance.Core.open.Goals as goal
