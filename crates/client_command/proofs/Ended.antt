@@ -1,13 +1,14 @@
 -- How the end of a session is the end of its run.
 use Rattle.std.proofs.Common.{◌≡◌, ◌≢◌, ◌⊎◌, inl, inr, ℕ, Bool, true, false, List, [], Option, None, Result, Ok, Err, refl, sym, ap, ◌∙◌}
+use Rattle.std.proofs.lemmas.Bool.{false_from_ne_true}
 use Rattle.sec_base.specs.Answers.{Rose}
-use Rattle.krb_files.specs.Granted.{Granted}
+use Rattle.spnego_core.specs.declared.setup.MechCred.{MechCred}
 use Rattle.spnego_core.specs.declared.outcome.Outcome.{Outcome}
 use Rattle.gss_client.specs.declared.conversation.Parting.{Parting}
 use Rattle.gss_client.specs.declared.conversation.Parting.TheVariants as partings
 use Rattle.gss_client.specs.declared.refusal.ClientRefusal.{ClientRefusal}
 use Rattle.gss_client.specs.declared.refusal.ClientRefusal.TheVariants as refusals
-use Rattle.client_command.specs.Credentials.{Finds}
+use Rattle.client_command.specs.Credentials.{Finds, is_unloaded}
 use Rattle.client_command.specs.Endings.{end_of, end_of_refusal, is_begun}
 use Rattle.client_command.specs.Runs.{Reports}
 use Rattle.client_command.specs.declared.ending.RunEnd.{RunEnd}
@@ -57,10 +58,10 @@ not-stopped {end} {stop} begun same stopped other =
     let bad : true ≡ false = sym yes ∙ no in cc
 
 -- a run that stops without a fault of the shelf stops as is due
-pub stops-due : {due : Result Granted RunEnd} {end stop : RunEnd} → Finds due (Err end) → due ≡ Err stop → (end ≡ CannotLoad → ⊥) → end ≢ NoMemory → end ≡ stop
+pub stops-due : {due : Result (List MechCred) RunEnd} {end stop : RunEnd} → Finds due (Err end) → due ≡ Err stop → (is_unloaded end ≡ true → ⊥) → end ≢ NoMemory → end ≡ stop
 stops-due {due} {end} {stop} finds is steady other =
-    let same : ◌≡◌ {A = Result Granted RunEnd} (Err stop) (Err end) = sym is ∙ finds steady other in cc
+    let same : ◌≡◌ {A = Result (List MechCred) RunEnd} (Err stop) (Err end) = sym is ∙ finds (false_from_ne_true (is_unloaded end) steady) other in cc
 
-pub stops-never : {due : Result Granted RunEnd} {end : RunEnd} {granted : Granted} → Finds due (Err end) → due ≡ Ok granted → (end ≡ CannotLoad → ⊥) → end ≢ NoMemory → ⊥
-stops-never {due} {end} {granted} finds is steady other =
-    let same : ◌≡◌ {A = Result Granted RunEnd} (Ok granted) (Err end) = sym is ∙ finds steady other in cc
+pub stops-never : {due : Result (List MechCred) RunEnd} {end : RunEnd} {creds : List MechCred} → Finds due (Err end) → due ≡ Ok creds → (is_unloaded end ≡ true → ⊥) → end ≢ NoMemory → ⊥
+stops-never {due} {end} {creds} finds is steady other =
+    let same : ◌≡◌ {A = Result (List MechCred) RunEnd} (Ok creds) (Err end) = sym is ∙ finds (false_from_ne_true (is_unloaded end) steady) other in cc

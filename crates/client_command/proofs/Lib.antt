@@ -1,3 +1,5 @@
+pub mod Asking
 pub mod Ended
+pub mod Password
 pub mod Saying
 pub mod Spoken

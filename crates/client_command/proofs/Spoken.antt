@@ -2,23 +2,21 @@
 use Rattle.std.proofs.Common.{◌≡◌, ◌≢◌, ◌⊎◌, inl, inr, ℕ, Bool, IsTrue, List, [], ◌∷◌, ◌++◌, append_assoc, length, Option, None, refl, sym, ap, ◌∙◌}
 use Rattle.std.proofs.lemmas.List.{append-nil}
 use Rattle.sec_base.specs.Link.{Wire}
-use Rattle.krb_files.specs.Granted.{Granted}
+use Rattle.spnego_core.specs.declared.setup.MechCred.{MechCred}
 use Rattle.spnego_core.specs.declared.outcome.Outcome.{Outcome}
-use Rattle.gss_client.specs.Conversation.{Talk}
 use Rattle.gss_client.specs.Conversing.{Talked, IsTalkFront}
 use Rattle.gss_client.specs.declared.conversation.Parting.{Parting}
-use Rattle.gss_client.proofs.Parts.{went-nothing}
 use Rattle.client_command.specs.Endings.{end_of}
 use Rattle.client_command.specs.Runs.{start_of, planned, IsWhole, Drew, Spoke, EndsSo, Reports}
 use Rattle.client_command.specs.declared.ending.RunEnd.{RunEnd}
 use Rattle.client_command.specs.declared.ending.RunEnd.TheVariants.{LinkFault, NoMemory}
 use Rattle.client_command.specs.declared.words.Plan.{Plan}
 
-pub held : {clock draw : Bool} {moments moments' given mid given' : List ℕ} (plan : Plan) (granted : Granted) (stamp : ℕ) (draws : List ℕ) {old new : Wire} {outcome : Option Outcome} {results : List (List ℕ)} {parting : Parting}
+pub held : {clock draw : Bool} {moments moments' given mid given' : List ℕ} (plan : Plan) (creds : List MechCred) (stamp : ℕ) (draws : List ℕ) {old new : Wire} {outcome : Option Outcome} {results : List (List ℕ)} {parting : Parting}
     → (IsTrue clock → moments' ≡ moments ++ stamp ∷ []) → length draws ≡ 66 → (IsTrue draw → mid ≡ given ++ draws)
-    → Talked draw mid given' (start_of plan granted stamp draws) plan.times plan.procedure plan.args old new outcome results parting
-    → Spoke clock moments moments' draw given given' plan granted old new outcome results (end_of parting)
-held {clock} {draw} {moments} {moments'} {given} {mid} {given'} plan granted stamp draws moment size octets t = record {
+    → Talked draw mid given' (start_of plan creds stamp draws) plan.times plan.procedure plan.args old new outcome results parting
+    → Spoke clock moments moments' draw given given' plan creds old new outcome results (end_of parting)
+held {clock} {draw} {moments} {moments'} {given} {mid} {given'} plan creds stamp draws moment size octets t = record {
   stamp = stamp;
   draws = draws;
   confounders = t.drawn;
@@ -36,31 +34,12 @@ held {clock} {draw} {moments} {moments'} {given} {mid} {given'} plan granted sta
       record { written = w.written; outcome_is = w.outcome_is; results_are = w.results_are; ends = ap end_of (sym w.parts) };
 }
 
-nothing-front : (t : Talk) → IsTalkFront [] None [] t
-nothing-front t = record { written = (t.written, refl); outcome_is = inl refl; results_are = (t.results, refl) }
-
--- memory was wanted before the session
-pub unheld : {clock draw : Bool} {moments moments' given given' : List ℕ} (plan : Plan) (granted : Granted) (stamp : ℕ) (draws : List ℕ) (wire : Wire)
-    → (IsTrue clock → moments' ≡ moments ++ stamp ∷ []) → length draws ≡ 66 → (IsTrue draw → given' ≡ given ++ draws)
-    → Spoke clock moments moments' draw given given' plan granted wire wire None [] NoMemory
-unheld {clock} {draw} {moments} {moments'} {given} {given'} plan granted stamp draws wire moment size octets = record {
-  stamp = stamp;
-  draws = draws;
-  confounders = [];
-  drew = record { moment = moment; size = size; octets = λ d. octets d ∙ ap (λ (xs : List ℕ). given ++ xs) (sym (append-nil draws)) };
-  took = [];
-  wrote = [];
-  went = went-nothing wire;
-  front = λ later. nothing-front _;
-  whole = λ link memory later. absurd (memory refl);
-}
-
 -- what is returned of it
-pub returned : {clock draw : Bool} {moments moments' given given' : List ℕ} {plan : Plan} {granted : Granted} {old new : Wire} {outcome outcome' : Option Outcome} {results results' : List (List ℕ)} (parting : Parting) {end : RunEnd}
-    → Spoke clock moments moments' draw given given' plan granted old new outcome results (end_of parting) → Reports outcome results parting outcome' results' end
-    → Spoke clock moments moments' draw given given' plan granted old new outcome' results' end
+pub returned : {clock draw : Bool} {moments moments' given given' : List ℕ} {plan : Plan} {creds : List MechCred} {old new : Wire} {outcome outcome' : Option Outcome} {results results' : List (List ℕ)} (parting : Parting) {end : RunEnd}
+    → Spoke clock moments moments' draw given given' plan creds old new outcome results (end_of parting) → Reports outcome results parting outcome' results' end
+    → Spoke clock moments moments' draw given given' plan creds old new outcome' results' end
 returned parting s (inl same) = rw same.0 (rw same.1 (rw same.2 s))
-returned {clock} {draw} {moments} {moments'} {given} {given'} {plan} {granted} {old} {new} parting s (inr none) = rw none.0 (rw none.1 (rw none.2 (record {
+returned {clock} {draw} {moments} {moments'} {given} {given'} {plan} {creds} {old} {new} parting s (inr none) = rw none.0 (rw none.1 (rw none.2 (record {
   stamp = s.stamp;
   draws = s.draws;
   confounders = s.confounders;
@@ -68,13 +47,13 @@ returned {clock} {draw} {moments} {moments'} {given} {given'} {plan} {granted} {
   took = s.took;
   wrote = s.wrote;
   went = s.went;
-  front = λ later. record { written = (s.front later).written; outcome_is = inl refl; results_are = ((planned plan granted s.stamp s.draws (s.confounders ++ later) (s.took ++ new.coming)).results, refl) };
+  front = λ later. record { written = (s.front later).written; outcome_is = inl refl; results_are = ((planned plan creds s.stamp s.draws (s.confounders ++ later) (s.took ++ new.coming)).results, refl) };
   whole = λ link memory later. absurd (memory refl);
 })))
 
 -- a run that held its session ends as the talk does
-pub ended-so : {clock draw : Bool} {moments moments' given given' : List ℕ} {plan : Plan} {granted : Granted} {old new : Wire} {outcome : Option Outcome} {results : List (List ℕ)} {end : RunEnd} (parting : Parting)
-    → Spoke clock moments moments' draw given given' plan granted old new outcome results end → EndsSo clock moments moments' draw given given' plan granted old new parting → end ≢ LinkFault → end ≢ NoMemory → end ≡ end_of parting
-ended-so {plan = plan} {granted = granted} {new = new} parting s so link memory =
+pub ended-so : {clock draw : Bool} {moments moments' given given' : List ℕ} {plan : Plan} {creds : List MechCred} {old new : Wire} {outcome : Option Outcome} {results : List (List ℕ)} {end : RunEnd} (parting : Parting)
+    → Spoke clock moments moments' draw given given' plan creds old new outcome results end → EndsSo clock moments moments' draw given given' plan creds old new parting → end ≢ LinkFault → end ≢ NoMemory → end ≡ end_of parting
+ended-so {plan = plan} {creds = creds} {new = new} parting s so link memory =
     (s.whole link memory []).ends
-    ∙ ap end_of (ap (λ (xs : List ℕ). (planned plan granted s.stamp s.draws xs (s.took ++ new.coming)).parting) (append-nil s.confounders) ∙ so s.stamp s.draws s.confounders s.took s.drew s.went.taken)
+    ∙ ap end_of (ap (λ (xs : List ℕ). (planned plan creds s.stamp s.draws xs (s.took ++ new.coming)).parting) (append-nil s.confounders) ∙ so s.stamp s.draws s.confounders s.took s.drew s.went.taken)

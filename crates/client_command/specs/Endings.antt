@@ -3,7 +3,9 @@ use Rattle.std.specs.Prelude.{ℕ, Bool, true, false, List, [], ◌++◌, codes}
 use Rattle.std.specs.Fmt.{decimal}
 use Rattle.ap_exchange.specs.declared.refusal.ApRefusal.{ApRefusal}
 use Rattle.ap_exchange.specs.declared.refusal.ApRefusal.TheVariants as aps
-use Rattle.spnego_core.specs.declared.refusal.MechRefusal.TheVariants.{Ap}
+use Rattle.scram_mech.specs.declared.refusal.ScramRefusal.{ScramRefusal}
+use Rattle.scram_mech.specs.declared.refusal.ScramRefusal.TheVariants as scrams
+use Rattle.spnego_core.specs.declared.refusal.MechRefusal.TheVariants.{Ap, Scram}
 use Rattle.spnego_core.specs.declared.refusal.NegRefusal.{NegRefusal}
 use Rattle.spnego_core.specs.declared.refusal.NegRefusal.TheVariants as negs
 use Rattle.gss_client.specs.declared.conversation.Parting.{Parting}
@@ -17,6 +19,8 @@ use Rattle.cli_base.specs.Lines.{memory_line}
 use Rattle.cli_base.specs.declared.files.FileStop.TheVariants as stops
 use Rattle.client_command.specs.declared.ending.RunEnd.{RunEnd}
 use Rattle.client_command.specs.declared.ending.RunEnd.TheVariants.{Usage, CannotLoad, Bad, NoCredential, NoMemory, LinkFault, PeerEnded, Refused, Negotiation, BadReply, Foreign, Spent, Finished}
+use Rattle.client_command.specs.declared.ending.WordFile.{WordFile}
+use Rattle.client_command.specs.declared.ending.WordFile.TheVariants as files
 
 -- ---- the end of a session is the end of the run
 
@@ -37,8 +41,8 @@ end_of (partings.Refused refusal) = end_of_refusal refusal
 -- the ends of a session: each but that of want of memory, which may come before one too
 abbrev pub is_begun : RunEnd → Bool
 is_begun Usage = false
-is_begun CannotLoad = false
-is_begun (Bad at) = false
+is_begun (CannotLoad file) = false
+is_begun (Bad file at) = false
 is_begun NoCredential = false
 is_begun NoMemory = false
 is_begun LinkFault = true
@@ -54,8 +58,8 @@ is_begun Finished = true
 
 abbrev pub status_of : RunEnd → ℕ
 status_of Usage = 2
-status_of CannotLoad = 3
-status_of (Bad at) = 4
+status_of (CannotLoad file) = 3
+status_of (Bad file at) = 4
 status_of NoCredential = 4
 status_of NoMemory = 8
 status_of LinkFault = 5
@@ -90,6 +94,19 @@ ap_number aps.ReplyStamp = 116
 ap_number (aps.PeerError code) = 117
 ap_number aps.NoMemory = 0
 
+-- that of a refusal of SCRAM's is 200 and its place
+abbrev pub scram_number : ScramRefusal → ℕ
+scram_number (scrams.Text at) = 201
+scram_number scrams.Mandatory = 202
+scram_number scrams.Nonce = 203
+scram_number scrams.Rounds = 204
+scram_number scrams.NoUser = 205
+scram_number scrams.Bindings = 206
+scram_number scrams.Proof = 207
+scram_number scrams.Signature = 208
+scram_number scrams.PeerError = 209
+scram_number scrams.NoMemory = 0
+
 -- the number of a negotiating end's refusal, which is the minor status that an acceptor sends of it
 abbrev pub neg_number : NegRefusal → ℕ
 neg_number (negs.Defective at) = 1
@@ -99,6 +116,7 @@ neg_number negs.NoCommonMech = 4
 neg_number negs.MicMissing = 5
 neg_number negs.MicBad = 6
 neg_number (negs.Mech (Ap refusal)) = ap_number refusal
+neg_number (negs.Mech (Scram refusal)) = scram_number refusal
 neg_number negs.NoMemory = 0
 
 abbrev pub denial_line : Denial → List ℕ
@@ -107,18 +125,28 @@ denial_line (Auth stat) = codes "refused: auth " ++ (decimal stat ++ codes "\n")
 denial_line (Accept stat) = codes "refused: accept " ++ (decimal stat ++ codes "\n")
 denial_line (Gss major minor) = codes "refused: gss " ++ (decimal major ++ (codes " " ++ (decimal minor ++ codes "\n")))
 
--- the line of an end, by the name of the cache's file and the server; a run that finished has none
-abbrev pub line_of : List ℕ → List ℕ → RunEnd → List ℕ
-line_of file server Usage = codes "usage: gssrpc ADDRESS COMMAND [ARG] [options]\n"
-line_of file server CannotLoad = stop_line file stops.CannotLoad
-line_of file server (Bad at) = stop_line file (stops.Bad at)
-line_of file server NoCredential = codes "no credential for " ++ (server ++ codes "\n")
-line_of file server NoMemory = memory_line
-line_of file server LinkFault = codes "link fault\n"
-line_of file server PeerEnded = codes "peer ended\n"
-line_of file server (Refused denial) = denial_line denial
-line_of file server (Negotiation refusal) = codes "negotiation: " ++ (decimal (neg_number refusal) ++ codes "\n")
-line_of file server (BadReply why) = codes "bad reply\n"
-line_of file server Foreign = codes "bad reply\n"
-line_of file server Spent = codes "spent\n"
-line_of file server Finished = []
+-- what a run's words name, as its line says it: the credential cache, the password's file, and the server
+pub record Named : Type 0 where
+  pub ccache : List ℕ
+  pub password : List ℕ
+  pub server : List ℕ
+
+abbrev pub name_in : Named → WordFile → List ℕ
+name_in names files.Ccache = names.ccache
+name_in names files.Password = names.password
+
+-- the line of an end; a run that finished has none
+abbrev pub line_of : Named → RunEnd → List ℕ
+line_of names Usage = codes "usage: gssrpc ADDRESS COMMAND [ARG] [options]\n"
+line_of names (CannotLoad file) = stop_line (name_in names file) stops.CannotLoad
+line_of names (Bad file at) = stop_line (name_in names file) (stops.Bad at)
+line_of names NoCredential = codes "no credential for " ++ (names.server ++ codes "\n")
+line_of names NoMemory = memory_line
+line_of names LinkFault = codes "link fault\n"
+line_of names PeerEnded = codes "peer ended\n"
+line_of names (Refused denial) = denial_line denial
+line_of names (Negotiation refusal) = codes "negotiation: " ++ (decimal (neg_number refusal) ++ codes "\n")
+line_of names (BadReply why) = codes "bad reply\n"
+line_of names Foreign = codes "bad reply\n"
+line_of names Spent = codes "spent\n"
+line_of names Finished = []

@@ -3,9 +3,9 @@ use Rattle.std.specs.Prelude.{◌≡◌, ◌≢◌, ◌⊎◌, ℕ, Bool, IsTrue
 use Rattle.sec_base.specs.Link.{Wire}
 use Rattle.sec_base.specs.declared.shelf.NamedFile.{NamedFile}
 use Rattle.gss_base.specs.Principal.{text_form}
-use Rattle.krb_files.specs.Granted.{Granted}
+use Rattle.gss_base.specs.Name.{Name}
 use Rattle.spnego_core.specs.declared.outcome.Outcome.{Outcome}
-use Rattle.spnego_core.specs.declared.setup.MechCred.TheVariants as creds
+use Rattle.spnego_core.specs.declared.setup.MechCred.{MechCred}
 use Rattle.gss_client.specs.Conversation.{Talk, talk}
 use Rattle.gss_client.specs.Conversing.{IsFront, IsTalkFront}
 use Rattle.gss_client.specs.Exchanging.{Went}
@@ -13,25 +13,35 @@ use Rattle.gss_client.specs.declared.conversation.Parting.{Parting}
 use Rattle.gss_client.specs.declared.procedure.Procedure.{Procedure}
 use Rattle.gss_client.specs.declared.procedure.Procedure.TheVariants.{Null}
 use Rattle.gss_client.specs.declared.start.Start.{Start}
-use Rattle.client_command.specs.Credentials.{granted_from}
-use Rattle.client_command.specs.Endings.{end_of}
+use Rattle.client_command.specs.Credentials.{creds_from}
+use Rattle.client_command.specs.Endings.{Named, end_of}
 use Rattle.client_command.specs.Words.{words_of}
 use Rattle.client_command.specs.declared.ending.RunEnd.{RunEnd}
 use Rattle.client_command.specs.declared.ending.RunEnd.TheVariants.{LinkFault, NoMemory}
 use Rattle.client_command.specs.declared.words.ClientWords.{ClientWords}
 use Rattle.client_command.specs.declared.words.Plan.{Plan}
+use Rattle.client_command.specs.declared.words.Sources.{Sources}
 use Rattle.client_command.specs.declared.words.WordsRefusal.{WordsRefusal}
 
 -- ---- what the words name
 
--- the name of the cache's file, and the text form of the server; none where the words aren't in the command
-abbrev pub file_of : Result ClientWords WordsRefusal → List ℕ
-file_of (Ok words) = words.ccache
-file_of (Err refusal) = []
+-- an option's text, empty without it
+abbrev pub text_or_none : Option (List ℕ) → List ℕ
+text_or_none None = []
+text_or_none (Some text) = text
 
-abbrev pub server_of : Result ClientWords WordsRefusal → List ℕ
-server_of (Ok words) = text_form words.server.realm words.server.parts
-server_of (Err refusal) = []
+-- the text form of the server, empty where none is named
+abbrev pub server_text : Option Name → List ℕ
+server_text None = []
+server_text (Some server) = text_form server.realm server.parts
+
+abbrev pub names_in : Sources → Named
+names_in sources = record { ccache = text_or_none sources.ccache; password = text_or_none sources.password; server = server_text sources.server }
+
+-- none where the words aren't in the command
+abbrev pub names_of : Result ClientWords WordsRefusal → Named
+names_of (Ok words) = names_in words.sources
+names_of (Err refusal) = record { ccache = []; password = []; server = [] }
 
 -- the procedure whose results are printed; without one there are none
 abbrev pub procedure_of : Result ClientWords WordsRefusal → Procedure
@@ -40,18 +50,18 @@ procedure_of (Err refusal) = Null
 
 -- ---- the session
 
--- what a session is begun with: the plan of the words, the credential for their server, a moment as stamp, and 66 random octets
-abbrev pub start_of : Plan → Granted → ℕ → List ℕ → Start
-start_of plan granted stamp draws = record {
-  setup = record { list = creds.Kerberos granted ∷ []; bindings = plan.bindings; stamp = stamp; draws = draws };
+-- what a session is begun with: the plan of the words, the credentials of their mechanisms, a moment as stamp, and 66 random octets
+abbrev pub start_of : Plan → List MechCred → ℕ → List ℕ → Start
+start_of plan creds stamp draws = record {
+  setup = record { list = creds; bindings = plan.bindings; stamp = stamp; draws = draws };
   service = plan.service;
   first = plan.first;
 }
 
 -- the talk of the plan over a stream of octets, where its calls' confounders are the first of these octets
-abbrev pub planned : Plan → Granted → ℕ → List ℕ → List ℕ → List ℕ → Talk
-planned plan granted stamp draws confounders stream =
-    talk (start_of plan granted stamp draws) plan.times plan.procedure plan.args confounders stream
+abbrev pub planned : Plan → List MechCred → ℕ → List ℕ → List ℕ → List ℕ → Talk
+planned plan creds stamp draws confounders stream =
+    talk (start_of plan creds stamp draws) plan.times plan.procedure plan.args confounders stream
 
 -- this is what a talk wrote, agreed on and was answered, and the run ends as it did
 pub record IsWhole (wrote : List ℕ) (outcome : Option Outcome) (results : List (List ℕ)) (end : RunEnd) (t : Talk) : Type 0 where
@@ -68,7 +78,7 @@ pub record Drew (clock : Bool) (moments moments' : List ℕ) (draw : Bool) (give
 
 -- the run held the session of its plan over a link that tells its octets: what it wrote, agreed on and was answered is its talk's, and it ends as the
 -- talk does; after a fault of the link or want of memory these are fronts of the talk's
-pub record Spoke (clock : Bool) (moments moments' : List ℕ) (draw : Bool) (given given' : List ℕ) (plan : Plan) (granted : Granted) (old new : Wire) (outcome : Option Outcome) (results : List (List ℕ)) (end : RunEnd) : Type 0 where
+pub record Spoke (clock : Bool) (moments moments' : List ℕ) (draw : Bool) (given given' : List ℕ) (plan : Plan) (creds : List MechCred) (old new : Wire) (outcome : Option Outcome) (results : List (List ℕ)) (end : RunEnd) : Type 0 where
   pub stamp : ℕ
   pub draws : List ℕ
   pub confounders : List ℕ
@@ -76,20 +86,20 @@ pub record Spoke (clock : Bool) (moments moments' : List ℕ) (draw : Bool) (giv
   pub took : List ℕ
   pub wrote : List ℕ
   pub went : Went old new took wrote
-  pub front : (later : List ℕ) → IsTalkFront wrote outcome results (planned plan granted stamp draws (confounders ++ later) (took ++ new.coming))
-  pub whole : end ≢ LinkFault → end ≢ NoMemory → (later : List ℕ) → IsWhole wrote outcome results end (planned plan granted stamp draws (confounders ++ later) (took ++ new.coming))
+  pub front : (later : List ℕ) → IsTalkFront wrote outcome results (planned plan creds stamp draws (confounders ++ later) (took ++ new.coming))
+  pub whole : end ≢ LinkFault → end ≢ NoMemory → (later : List ℕ) → IsWhole wrote outcome results end (planned plan creds stamp draws (confounders ++ later) (took ++ new.coming))
 
 -- the talk of the plan by what the devices gave ends so
-abbrev pub EndsSo : Bool → List ℕ → List ℕ → Bool → List ℕ → List ℕ → Plan → Granted → Wire → Wire → Parting → Type 0
-EndsSo clock moments moments' draw given given' plan granted old new parting =
+abbrev pub EndsSo : Bool → List ℕ → List ℕ → Bool → List ℕ → List ℕ → Plan → List MechCred → Wire → Wire → Parting → Type 0
+EndsSo clock moments moments' draw given given' plan creds old new parting =
     (stamp : ℕ) (draws confounders took : List ℕ) → Drew clock moments moments' draw given given' stamp draws confounders → new.taken ≡ old.taken ++ took
-    → (planned plan granted stamp draws confounders (took ++ new.coming)).parting ≡ parting
+    → (planned plan creds stamp draws confounders (took ++ new.coming)).parting ≡ parting
 
--- the file that the words name has the credential for their server, where the shelf tells it, and the session was held
+-- the credentials are those of the files that the words name, where the shelf tells them, and the session was held
 pub record HasHeld (asked : ClientWords) (shelf : Bool) (files : List NamedFile) (clock : Bool) (moments moments' : List ℕ) (draw : Bool) (given given' : List ℕ) (old new : Wire) (outcome : Option Outcome) (results : List (List ℕ)) (end : RunEnd) : Type 0 where
-  pub granted : Granted
-  pub found : IsTrue shelf → granted_from files asked.ccache asked.server ≡ Ok granted
-  pub spoke : Spoke clock moments moments' draw given given' asked.plan granted old new outcome results end
+  pub creds : List MechCred
+  pub found : IsTrue shelf → creds_from files asked.sources ≡ Ok creds
+  pub spoke : Spoke clock moments moments' draw given given' asked.plan creds old new outcome results end
 
 -- the words are in the command, and the session was held
 pub record HasSpoken (words : List (List ℕ)) (shelf : Bool) (files : List NamedFile) (clock : Bool) (moments moments' : List ℕ) (draw : Bool) (given given' : List ℕ) (old new : Wire) (outcome : Option Outcome) (results : List (List ℕ)) (end : RunEnd) : Type 0 where

@@ -15,7 +15,10 @@ use Rattle.hex.specs.declared.error.FromHexError.{FromHexError}
 use Rattle.rpc_msgs.specs.Words.{opaque}
 use Rattle.client_command.specs.declared.words.Asked.{Asked}
 use Rattle.client_command.specs.declared.words.ClientWords.{ClientWords}
+use Rattle.client_command.specs.declared.words.Mechs.{Mechs}
+use Rattle.client_command.specs.declared.words.Mechs.TheVariants as mechs
 use Rattle.client_command.specs.declared.words.Plan.{Plan}
+use Rattle.client_command.specs.declared.words.Sources.{Sources}
 use Rattle.client_command.specs.declared.words.WordsRefusal.{WordsRefusal}
 use Rattle.client_command.specs.declared.words.WordsRefusal.TheVariants.{Usage}
 
@@ -79,7 +82,7 @@ asked_in plain = do
 -- ---- the options
 
 abbrev pub names : List (List ℕ)
-names = codes "--ccache" ∷ codes "--server" ∷ codes "--bind" ∷ codes "--service" ∷ codes "--times" ∷ codes "--first" ∷ []
+names = codes "--ccache" ∷ codes "--server" ∷ codes "--user" ∷ codes "--password" ∷ codes "--mechs" ∷ codes "--bind" ∷ codes "--service" ∷ codes "--times" ∷ codes "--first" ∷ []
 
 -- a word that is no option stands first; the options are of these names, each once, with its value
 abbrev pub is_command : List (List ℕ) → Bool
@@ -95,12 +98,12 @@ abbrev pub data_given : Option (List ℕ) → Result (Option (List ℕ)) WordsRe
 data_given None = Ok None
 data_given (Some text) = if nat_eq (length text) 0 || nat_lt 32768 (length text) then Err Usage else Ok (Some text)
 
-abbrev pub name_by : Result Name NameRefusal → Result Name WordsRefusal
-name_by (Ok name) = Ok name
+abbrev pub name_by : Result Name NameRefusal → Result (Option Name) WordsRefusal
+name_by (Ok name) = Ok (Some name)
 name_by (Err refusal) = Err Usage
 
-abbrev pub server_given : Option (List ℕ) → Result Name WordsRefusal
-server_given None = Err Usage
+abbrev pub server_given : Option (List ℕ) → Result (Option Name) WordsRefusal
+server_given None = Ok None
 server_given (Some text) = name_by (parsed text)
 
 abbrev pub service_by : List ℕ → Result Service WordsRefusal
@@ -124,14 +127,70 @@ plan_of words = do
   first ← number_given 1 2147483647 1 (value_of (codes "--first") words)
   Ok (record { procedure = asked.procedure; args = asked.args; bindings = bound; service = service; times = times; first = first })
 
+-- ---- the mechanisms
+
+abbrev pub mechs_by : List ℕ → Result Mechs WordsRefusal
+mechs_by text =
+    if same text (codes "krb5") then Ok mechs.Kerberos
+    else if same text (codes "scram") then Ok mechs.Scram
+    else if same text (codes "krb5,scram") then Ok mechs.KerberosScram
+    else if same text (codes "scram,krb5") then Ok mechs.ScramKerberos
+    else Err Usage
+
+-- each that is listed has its two options; which mechanisms have them is said before
+abbrev pub are_equipped : Bool → Bool → Mechs → Bool
+are_equipped krb5 scram mechs.Kerberos = krb5
+are_equipped krb5 scram mechs.Scram = scram
+are_equipped krb5 scram mechs.KerberosScram = krb5 && scram
+are_equipped krb5 scram mechs.ScramKerberos = krb5 && scram
+
+abbrev pub equipped : Bool → Bool → Result Mechs WordsRefusal → Result Mechs WordsRefusal
+equipped krb5 scram (Ok list) = if are_equipped krb5 scram list then Ok list else Err Usage
+equipped krb5 scram (Err refusal) = Err refusal
+
+-- without a list, those that have their two options, Kerberos first; there is one
+abbrev pub usual : Bool → Bool → Result Mechs WordsRefusal
+usual true true = Ok mechs.KerberosScram
+usual true false = Ok mechs.Kerberos
+usual false true = Ok mechs.Scram
+usual false false = Err Usage
+
+abbrev pub mechs_given : Bool → Bool → Option (List ℕ) → Result Mechs WordsRefusal
+mechs_given krb5 scram None = usual krb5 scram
+mechs_given krb5 scram (Some text) = equipped krb5 scram (mechs_by text)
+
+-- Kerberos's two options are the credential cache and the server, SCRAM's the user and the password's file
+abbrev pub is_given : List (List ℕ) → List ℕ → Bool
+is_given words name = is_some (value_of name words)
+
+abbrev pub has_krb5 : List (List ℕ) → Bool
+has_krb5 words = is_given words (codes "--ccache") && is_given words (codes "--server")
+
+abbrev pub has_scram : List (List ℕ) → Bool
+has_scram words = is_given words (codes "--user") && is_given words (codes "--password")
+
+-- where the credentials come from. Options of a mechanism that isn't listed are taken too.
+unfoldable pub sources_of : List (List ℕ) → Result Sources WordsRefusal
+sources_of words = do
+  server ← server_given (value_of (codes "--server") words)
+  list ← mechs_given (has_krb5 words) (has_scram words) (value_of (codes "--mechs") words)
+  Ok (record {
+    ccache = value_of (codes "--ccache") words;
+    server = server;
+    user = value_of (codes "--user") words;
+    password = value_of (codes "--password") words;
+    mechs = list;
+  })
+
+-- ---- the whole
+
 -- what the words ask for, refused exactly where they aren't in the command
 unfoldable pub words_of : List (List ℕ) → Result ClientWords WordsRefusal
 words_of words = do
   formed ← demanded (is_command words)
-  ccache ← or_usage (value_of (codes "--ccache") words)
-  server ← server_given (value_of (codes "--server") words)
+  sources ← sources_of words
   plan ← plan_of words
-  Ok (record { ccache = ccache; server = server; plan = plan })
+  Ok (record { sources = sources; plan = plan })
 
 -- the limits of what words ask for
 pub record IsRanged (plan : Plan) : Type 0 where

@@ -1,33 +1,31 @@
 //! The run of the client.
 
-ghost use Rattle.std.specs.Prelude.{◌≡◌, ◌≢◌, ◌≤◌, ◌⊎◌, ◌∷◌, [], false, true, IsTrue, IsOk, IfOk, None, Ok, Err};
+ghost use Rattle.std.specs.Prelude.{◌≡◌, ◌≢◌, ◌≤◌, ◌⊎◌, [], List, false, true, IsTrue, IsOk, None, Ok, Err};
 ghost use Rattle.sec_base.specs.Answers.{Rose};
-ghost use Rattle.gss_base.specs.Principal.{text_form};
-ghost use Rattle.krb_files.specs.Granted.{Granted};
+ghost use Rattle.spnego_core.specs.InitMech.{is_own_list};
+ghost use Rattle.spnego_core.specs.declared.setup.MechCred.{MechCred};
 ghost use Rattle.cli_base.specs.Lines.{SaysLine, Says};
-ghost use Rattle.client_command.specs.Credentials.{granted_from, Asks};
+ghost use Rattle.client_command.specs.Credentials.{creds_from, is_unloaded, Asks};
 ghost use Rattle.client_command.specs.Endings.{end_of, is_begun, status_of, line_of};
 ghost use Rattle.client_command.specs.Lines.{lines};
-ghost use Rattle.client_command.specs.Runs.{file_of, server_of, procedure_of, start_of, Reports, Spoke, EndsSo, HasHeld, HasSpoken, IsSilent};
+ghost use Rattle.client_command.specs.Runs.{text_or_none, server_text, names_in, names_of, procedure_of, start_of, Reports, Spoke, EndsSo, HasHeld, HasSpoken, IsSilent};
 ghost use Rattle.client_command.specs.Words.{words_of, IsRanged};
 
-use crate::credential::credential_given;
-use crate::ending::{RunEnd, end_of, say_end};
+use crate::credential::creds_given;
+use crate::ending::{Names, RunEnd, end_of, say_end};
 use crate::lines::lines;
-use crate::words::{ClientWords, Plan, WordsRefusal, read_words};
-use cli_base::{OUT_OF_MEMORY, say};
-use gss_base::{Bindings, Principal};
+use crate::words::{ClientWords, Plan, Sources, WordsRefusal, read_words};
+use gss_base::{Bindings, Label, Principal};
 use gss_client::{ClientRefusal, Parting, Procedure, Service, Session, Start, Talk};
-use krb_files::Credential;
-use sec_base::{Clock, Draw, Items, Link, Moment, NoMemory, Octets, Shelf, Sink, Text};
+use sec_base::{Clock, Draw, Items, Link, Moment, Octets, Shelf, Sink, Text};
 use spnego_core::{InitSetup, MechCred, Outcome};
 use std::alloc::Global;
 
 /// What a run came to.
 #[derive(Drop)]
 pub struct ClientEnd {
-    /// The exit status: 0 all calls were answered, 2 the words aren't in the command, 3 the credential cache can't be loaded, 4 it is none,
-    /// or has no credential for the server, 5 the link failed, 6 a sink failed, 8 there was no memory, 9 the peer ended, 10 it refused,
+    /// The exit status: 0 all calls were answered, 2 the words aren't in the command, 3 a file can't be loaded, 4 it isn't of its format,
+    /// or the cache has no credential for the server, 5 the link failed, 6 a sink failed, 8 there was no memory, 9 the peer ended, 10 it refused,
     /// 11 the negotiation failed, 12 a reply or a result was none that may come, 13 the numbers of the context are spent.
     pub status: u8,
     /// How the run ended, before its line was written.
@@ -40,29 +38,26 @@ pub struct ClientEnd {
 
 /// What a session is begun with.
 fn start_of(
-    alloc: Global,
-    credential: Credential,
+    creds: Items<MechCred>,
     bindings: Option<Bindings>,
     service: Service,
     first: u32,
     stamp: Moment,
     draws: [u8; 66],
-) -> Result<Start, NoMemory>
-    ensures { IfOk result (λ s. s ≡ record { setup = record { list = MechCred.Kerberos credential ∷ []; bindings = bindings; stamp = stamp; draws = draws }; service = service; first = first }) }
+) -> Start
+    ensures { result ≡ record { setup = record { list = creds; bindings = bindings; stamp = stamp; draws = draws }; service = service; first = first } }
 {
-    let mut list = Vec::new(alloc);
-    list.push(MechCred::Kerberos(credential))?;
     let setup = InitSetup {
-        list: Items::of(list),
+        list: creds,
         bindings,
         stamp,
         draws,
     };
-    Ok(Start {
+    Start {
         setup,
         service,
         first,
-    })
+    }
 }
 
 /// Holds the session of a plan: the clock's next moment is its stamp, the next 66 random octets are its own, and those behind them its
@@ -70,15 +65,16 @@ fn start_of(
 fn speak<L: Link, C: Clock, D: Draw>(
     alloc: Global,
     plan: Plan,
-    credential: Credential,
+    creds: Items<MechCred>,
     link: &mut L,
     clock: &mut C,
     draw: &mut D,
 ) -> Talk
     requires unclosed { L.closed link.old ≡ false }
+    requires list { is_own_list creds ≡ true }
     requires range { IsRanged plan }
     ensures told { IsTrue (L.tells link.old)
-        → Spoke (C.tells clock.new) (C.given clock.old) (C.given clock.new) (D.tells draw.new) (D.given draw.old) (D.given draw.new) plan credential
+        → Spoke (C.tells clock.new) (C.given clock.old) (C.given clock.new) (D.tells draw.new) (D.given draw.old) (D.given draw.new) plan creds
         (L.wire link.old) (L.wire link.new) result.outcome result.results.items (end_of result.parting) }
     ensures fault { result.parting ≡ Parting.Refused ClientRefusal.LinkFault → Rose (L.faults link.old) (L.faults link.new) }
     ensures tells { L.tells link.new ≡ L.tells link.old }
@@ -96,26 +92,20 @@ fn speak<L: Link, C: Clock, D: Draw>(
         times,
         first,
     } = plan;
-    match start_of(alloc, credential, bindings, service, first, stamp, draws) {
-        Ok(start) => Session::hold(alloc, link, draw, start, procedure, args.as_slice(), times),
-        Err(NoMemory) => Talk {
-            outcome: None,
-            results: Vec::new(alloc),
-            parting: Parting::Refused(ClientRefusal::NoMemory),
-        },
-    }
+    let start = start_of(creds, bindings, service, first, stamp, draws);
+    Session::hold(alloc, link, draw, start, procedure, args.as_slice(), times)
 }
 
 /// Says how a run ended that spoke to nobody.
-fn unspoken<O: Sink>(alloc: Global, file: &str, server: &str, end: RunEnd, err: &mut O) -> ClientEnd
+fn unspoken<O: Sink>(alloc: Global, names: &Names<'_>, end: RunEnd, err: &mut O) -> ClientEnd
     ensures status { result.status ≢ 6 → result.status ≢ 8 → result.status ≡ status_of result.end }
     ensures sink_fault { result.status ≡ 6 → Rose (O.faults err.old) (O.faults err.new) }
-    ensures said { IsTrue (O.tells err.old) → Says (O.written err.old) (O.written err.new) result.status (line_of file.now server.now end) }
+    ensures said { IsTrue (O.tells err.old) → Says (O.written err.old) (O.written err.new) result.status (line_of names.now end) }
     ensures end { result.end ≡ end }
     ensures outcome { result.outcome ≡ None }
     ensures results { result.results.items ≡ [] }
 {
-    let status = say_end(alloc, err, file, server, end);
+    let status = say_end(alloc, err, names, end);
     ClientEnd {
         status,
         end,
@@ -127,8 +117,7 @@ fn unspoken<O: Sink>(alloc: Global, file: &str, server: &str, end: RunEnd, err: 
 /// Prints what a session came to, and says how it ended.
 fn report<O: Sink>(
     alloc: Global,
-    file: &str,
-    server: &str,
+    names: &Names<'_>,
     procedure: Procedure,
     talk: Talk,
     out: &mut O,
@@ -137,7 +126,7 @@ fn report<O: Sink>(
     ensures status { result.status ≢ 6 → result.status ≢ 8 → result.status ≡ status_of result.end }
     ensures sink_fault { result.status ≡ 6 → Rose (O.faults out.old) (O.faults out.new) ⊎ Rose (O.faults err.old) (O.faults err.new) }
     ensures printed { IsTrue (O.tells out.old) → SaysLine (O.written out.old) (O.written out.new) result.status (lines procedure result.outcome result.results.items) }
-    ensures said { IsTrue (O.tells err.old) → Says (O.written err.old) (O.written err.new) result.status (line_of file.now server.now result.end) }
+    ensures said { IsTrue (O.tells err.old) → Says (O.written err.old) (O.written err.new) result.status (line_of names.now result.end) }
     ensures kept { Reports talk.outcome talk.results.items talk.parting result.outcome result.results.items result.end }
 {
     let Talk {
@@ -146,11 +135,11 @@ fn report<O: Sink>(
         parting,
     } = talk;
     let Ok(text) = lines(alloc, procedure, &outcome, results.as_slice()) else {
-        return unspoken(alloc, file, server, RunEnd::NoMemory, err);
+        return unspoken(alloc, names, RunEnd::NoMemory, err);
     };
     let end = end_of(parting);
     let status = match out.write(text.as_slice()) {
-        Ok(()) => say_end(alloc, err, file, server, end),
+        Ok(()) => say_end(alloc, err, names, end),
         Err(_) => 6,
     };
     ClientEnd {
@@ -158,6 +147,47 @@ fn report<O: Sink>(
         end,
         outcome,
         results,
+    }
+}
+
+/// An option's text, empty without it.
+fn text_or_none(text: &Option<Text>) -> &str
+    ensures { result.now ≡ text_or_none text.now }
+{
+    match text {
+        Some(text) => text.as_str(),
+        None => "",
+    }
+}
+
+/// A label's text, empty without it.
+fn label_or_none(label: &Option<Label>) -> &str
+    ensures { result.now ≡ text_or_none label.now }
+{
+    match label {
+        Some(label) => label.text(),
+        None => "",
+    }
+}
+
+/// The text form of a server, where one is named.
+fn server_label(server: &Option<Principal>) -> Option<Label>
+    ensures { text_or_none result ≡ server_text server.now }
+{
+    match server {
+        Some(server) => Some(server.label()),
+        None => None,
+    }
+}
+
+/// What the words name; the label is the server's.
+fn names_in<'a>(sources: &'a Sources, label: &'a Option<Label>) -> Names<'a>
+    ensures { text_or_none label.now ≡ server_text sources.now.server → result ≡ names_in sources.now }
+{
+    Names {
+        ccache: text_or_none(&sources.ccache),
+        password: text_or_none(&sources.password),
+        server: label_or_none(label),
     }
 }
 
@@ -177,13 +207,13 @@ fn run_with<F: Shelf, L: Link, C: Clock, D: Draw, O: Sink>(
     ensures status { result.status ≢ 6 → result.status ≢ 8 → result.status ≡ status_of result.end }
     ensures sink_fault { result.status ≡ 6 → Rose (O.faults out.old) (O.faults out.new) ⊎ Rose (O.faults err.old) (O.faults err.new) }
     ensures printed { IsTrue (O.tells out.old) → SaysLine (O.written out.old) (O.written out.new) result.status (lines words.plan.procedure result.outcome result.results.items) }
-    ensures said { IsTrue (O.tells err.old) → Says (O.written err.old) (O.written err.new) result.status (line_of words.ccache (text_form words.server.realm words.server.parts) result.end) }
+    ensures said { IsTrue (O.tells err.old) → Says (O.written err.old) (O.written err.new) result.status (line_of (names_in words.sources) result.end) }
     ensures other { result.end ≢ RunEnd.Usage }
-    ensures load_fault { result.end ≡ RunEnd.CannotLoad → Rose (F.faults shelf.old) (F.faults shelf.new) }
-    ensures asked { IsTrue (F.tells shelf.old) → Asks (F.asked shelf.old) (F.asked shelf.new) words.ccache (result.end ≡ RunEnd.NoMemory) }
-    ensures stops { IsTrue (F.tells shelf.old) → is_begun result.end ≡ false → result.end ≢ RunEnd.CannotLoad → result.end ≢ RunEnd.NoMemory
-        → granted_from (F.files shelf.old) words.ccache words.server ≡ Err result.end }
-    ensures found { IsTrue (F.tells shelf.old) → is_begun result.end ≡ true → IsOk (granted_from (F.files shelf.old) words.ccache words.server) }
+    ensures load_fault { is_unloaded result.end ≡ true → Rose (F.faults shelf.old) (F.faults shelf.new) }
+    ensures asked { IsTrue (F.tells shelf.old) → Asks (F.asked shelf.old) (F.asked shelf.new) words.sources result.end }
+    ensures stops { IsTrue (F.tells shelf.old) → is_begun result.end ≡ false → is_unloaded result.end ≡ false → result.end ≢ RunEnd.NoMemory
+        → creds_from (F.files shelf.old) words.sources ≡ Err result.end }
+    ensures found { IsTrue (F.tells shelf.old) → is_begun result.end ≡ true → IsOk (creds_from (F.files shelf.old) words.sources) }
     ensures silent { is_begun result.end ≡ false → result.end ≢ RunEnd.NoMemory → IsSilent (L.wire link.old) (L.wire link.new) result.outcome result.results.items }
     ensures spoke { is_begun result.end ≡ true → IsTrue (L.tells link.old)
         → HasHeld words (F.tells shelf.old) (F.files shelf.old) (C.tells clock.new) (C.given clock.old) (C.given clock.new) (D.tells draw.new) (D.given draw.old) (D.given draw.new)
@@ -192,41 +222,38 @@ fn run_with<F: Shelf, L: Link, C: Clock, D: Draw, O: Sink>(
         → IsSilent (L.wire link.old) (L.wire link.new) result.outcome result.results.items
         ⊎ HasHeld words (F.tells shelf.old) (F.files shelf.old) (C.tells clock.new) (C.given clock.old) (C.given clock.new) (D.tells draw.new) (D.given draw.old) (D.given draw.new)
         (L.wire link.old) (L.wire link.new) result.outcome result.results.items result.end }
-    ensures ends { (granted : Granted) (parting : Parting) → IsTrue (F.tells shelf.old) → granted_from (F.files shelf.old) words.ccache words.server ≡ Ok granted → IsTrue (L.tells link.old)
-        → EndsSo (C.tells clock.new) (C.given clock.old) (C.given clock.new) (D.tells draw.new) (D.given draw.old) (D.given draw.new) words.plan granted (L.wire link.old) (L.wire link.new) parting
+    ensures ends { (creds : List MechCred) (parting : Parting) → IsTrue (F.tells shelf.old) → creds_from (F.files shelf.old) words.sources ≡ Ok creds → IsTrue (L.tells link.old)
+        → EndsSo (C.tells clock.new) (C.given clock.old) (C.given clock.new) (D.tells draw.new) (D.given draw.old) (D.given draw.new) words.plan creds (L.wire link.old) (L.wire link.new) parting
         → (Rose (F.faults shelf.old) (F.faults shelf.new) → ⊥) → (Rose (L.faults link.old) (L.faults link.new) → ⊥) → result.end ≢ RunEnd.NoMemory → result.end ≡ end_of parting }
     ensures link_fault { result.end ≡ RunEnd.LinkFault → Rose (L.faults link.old) (L.faults link.new) }
     ensures tells { L.tells link.new ≡ L.tells link.old }
     ensures unclosed { L.closed link.new ≡ false }
     ensures faults { L.faults link.old ≤ L.faults link.new }
 {
-    let ClientWords {
-        ccache,
-        server,
-        plan,
-    } = words;
+    let ClientWords { sources, plan } = words;
     let procedure = plan.procedure;
-    let label = server.label();
-    match credential_given(alloc, shelf, ccache.as_str(), &server) {
-        Ok(credential) => {
-            let talk = speak(alloc, plan, credential, link, clock, draw);
-            report(
-                alloc,
-                ccache.as_str(),
-                label.text(),
-                procedure,
-                talk,
-                out,
-                err,
-            )
+    let label = server_label(&sources.server);
+    let names = names_in(&sources, &label);
+    match creds_given(alloc, shelf, &sources) {
+        Ok(creds) => {
+            let talk = speak(alloc, plan, creds, link, clock, draw);
+            report(alloc, &names, procedure, talk, out, err)
         }
-        Err(end) => unspoken(alloc, ccache.as_str(), label.text(), end, err),
+        Err(end) => unspoken(alloc, &names, end, err),
     }
 }
 
+/// The names of words that aren't in the command.
+const UNNAMED: Names<'static> = Names {
+    ccache: "",
+    password: "",
+    server: "",
+};
+
 /// Runs the client over a link, and says on `err` how the run ended. The words are
-/// `ADDRESS COMMAND [ARG] --ccache FILE --server PRINCIPAL [--bind TEXT] [--service none|integrity|privacy] [--times N] [--first N]`, where COMMAND is `null`,
-/// `echo`, `whoami`, `post` or `count`, and `echo` and `post` have an ARG in hexadecimal. What the session agreed on and was answered is printed on `out`.
+/// `ADDRESS COMMAND [ARG] [--ccache FILE --server PRINCIPAL] [--user NAME --password FILE] [--mechs LIST] [--bind TEXT] [--service none|integrity|privacy]
+/// [--times N] [--first N]`, where COMMAND is `null`, `echo`, `whoami`, `post` or `count`, `echo` and `post` have an ARG in hexadecimal, and LIST is `krb5`, `scram`
+/// or both with a comma between them. What the session agreed on and was answered is printed on `out`.
 pub fn run_client<F: Shelf, L: Link, C: Clock, D: Draw, O: Sink>(
     alloc: Global,
     words: &[Text],
@@ -241,8 +268,7 @@ pub fn run_client<F: Shelf, L: Link, C: Clock, D: Draw, O: Sink>(
     // The status and the line on `err`: those of the end, unless there was no memory for the line, or a sink failed.
     ensures status { result.status ≢ 6 → result.status ≢ 8 → result.status ≡ status_of result.end }
     ensures sink_fault { result.status ≡ 6 → Rose (O.faults out.old) (O.faults out.new) ⊎ Rose (O.faults err.old) (O.faults err.new) }
-    ensures said { IsTrue (O.tells err.old)
-        → Says (O.written err.old) (O.written err.new) result.status (line_of (file_of (words_of words.now)) (server_of (words_of words.now)) result.end) }
+    ensures said { IsTrue (O.tells err.old) → Says (O.written err.old) (O.written err.new) result.status (line_of (names_of (words_of words.now)) result.end) }
     // What is printed on `out`: the lines of the outcome and the results that are returned.
     ensures printed { IsTrue (O.tells out.old)
         → SaysLine (O.written out.old) (O.written out.new) result.status (lines (procedure_of (words_of words.now)) result.outcome result.results.items) }
@@ -250,15 +276,15 @@ pub fn run_client<F: Shelf, L: Link, C: Clock, D: Draw, O: Sink>(
     ensures usage { result.end ≡ RunEnd.Usage → words_of words.now ≡ Err WordsRefusal.Usage }
     ensures always_usage { words_of words.now ≡ Err WordsRefusal.Usage → result.end ≢ RunEnd.NoMemory → result.end ≡ RunEnd.Usage }
     ensures unloaded { words_of words.now ≡ Err WordsRefusal.Usage → F.asked shelf.new ≡ F.asked shelf.old }
-    // Words in the command: their file is loaded, once, and the run ends without a session exactly where it has no credential for their
-    // server.
+    // Words in the command: their files are loaded, each once, and the run ends without a session exactly where a file can't be used or has no
+    // credential for their server.
     ensures asked { (asked : ClientWords) → words_of words.now ≡ Ok asked → IsTrue (F.tells shelf.old)
-        → Asks (F.asked shelf.old) (F.asked shelf.new) asked.ccache (result.end ≡ RunEnd.NoMemory) }
-    ensures load_fault { result.end ≡ RunEnd.CannotLoad → Rose (F.faults shelf.old) (F.faults shelf.new) }
+        → Asks (F.asked shelf.old) (F.asked shelf.new) asked.sources result.end }
+    ensures load_fault { is_unloaded result.end ≡ true → Rose (F.faults shelf.old) (F.faults shelf.new) }
     ensures stops { (asked : ClientWords) → words_of words.now ≡ Ok asked → IsTrue (F.tells shelf.old) → is_begun result.end ≡ false
-        → result.end ≢ RunEnd.CannotLoad → result.end ≢ RunEnd.NoMemory → granted_from (F.files shelf.old) asked.ccache asked.server ≡ Err result.end }
+        → is_unloaded result.end ≡ false → result.end ≢ RunEnd.NoMemory → creds_from (F.files shelf.old) asked.sources ≡ Err result.end }
     ensures always_stops { (asked : ClientWords) (end : RunEnd) → words_of words.now ≡ Ok asked → IsTrue (F.tells shelf.old)
-        → granted_from (F.files shelf.old) asked.ccache asked.server ≡ Err end
+        → creds_from (F.files shelf.old) asked.sources ≡ Err end
         → (Rose (F.faults shelf.old) (F.faults shelf.new) → ⊥) → result.end ≢ RunEnd.NoMemory → result.end ≡ end }
     // Without a session nothing is written on the link.
     ensures silent { is_begun result.end ≡ false → result.end ≢ RunEnd.NoMemory → IsSilent (L.wire link.old) (L.wire link.new) result.outcome result.results.items }
@@ -271,14 +297,14 @@ pub fn run_client<F: Shelf, L: Link, C: Clock, D: Draw, O: Sink>(
         ⊎ HasSpoken words.now (F.tells shelf.old) (F.files shelf.old) (C.tells clock.new) (C.given clock.old) (C.given clock.new) (D.tells draw.new) (D.given draw.old) (D.given draw.new)
         (L.wire link.old) (L.wire link.new) result.outcome result.results.items result.end }
     ensures link_fault { result.end ≡ RunEnd.LinkFault → Rose (L.faults link.old) (L.faults link.new) }
-    // With a credential, and no count that rose, a session is held, and the run ends as its talk does, want of memory aside.
-    ensures complete { (asked : ClientWords) (granted : Granted) → words_of words.now ≡ Ok asked → IsTrue (F.tells shelf.old)
-        → granted_from (F.files shelf.old) asked.ccache asked.server ≡ Ok granted
+    // With the credentials, and no count that rose, a session is held, and the run ends as its talk does, want of memory aside.
+    ensures complete { (asked : ClientWords) (creds : List MechCred) → words_of words.now ≡ Ok asked → IsTrue (F.tells shelf.old)
+        → creds_from (F.files shelf.old) asked.sources ≡ Ok creds
         → (Rose (F.faults shelf.old) (F.faults shelf.new) → ⊥) → (Rose (L.faults link.old) (L.faults link.new) → ⊥)
         → result.end ≢ RunEnd.NoMemory → (is_begun result.end ≡ true) × (result.end ≢ RunEnd.LinkFault) }
-    ensures ends { (asked : ClientWords) (granted : Granted) (parting : Parting) → words_of words.now ≡ Ok asked → IsTrue (F.tells shelf.old)
-        → granted_from (F.files shelf.old) asked.ccache asked.server ≡ Ok granted → IsTrue (L.tells link.old)
-        → EndsSo (C.tells clock.new) (C.given clock.old) (C.given clock.new) (D.tells draw.new) (D.given draw.old) (D.given draw.new) asked.plan granted (L.wire link.old) (L.wire link.new) parting
+    ensures ends { (asked : ClientWords) (creds : List MechCred) (parting : Parting) → words_of words.now ≡ Ok asked → IsTrue (F.tells shelf.old)
+        → creds_from (F.files shelf.old) asked.sources ≡ Ok creds → IsTrue (L.tells link.old)
+        → EndsSo (C.tells clock.new) (C.given clock.old) (C.given clock.new) (D.tells draw.new) (D.given draw.old) (D.given draw.new) asked.plan creds (L.wire link.old) (L.wire link.new) parting
         → (Rose (F.faults shelf.old) (F.faults shelf.new) → ⊥) → (Rose (L.faults link.old) (L.faults link.new) → ⊥) → result.end ≢ RunEnd.NoMemory → result.end ≡ end_of parting }
     ensures tells { L.tells link.new ≡ L.tells link.old }
     ensures unclosed { L.closed link.new ≡ false }
@@ -286,7 +312,7 @@ pub fn run_client<F: Shelf, L: Link, C: Clock, D: Draw, O: Sink>(
 {
     match read_words(alloc, words) {
         Ok(words) => run_with(alloc, words, shelf, link, clock, draw, out, err),
-        Err(WordsRefusal::Usage) => unspoken(alloc, "", "", RunEnd::Usage, err),
-        Err(WordsRefusal::NoMemory) => unspoken(alloc, "", "", RunEnd::NoMemory, err),
+        Err(WordsRefusal::Usage) => unspoken(alloc, &UNNAMED, RunEnd::Usage, err),
+        Err(WordsRefusal::NoMemory) => unspoken(alloc, &UNNAMED, RunEnd::NoMemory, err),
     }
 }

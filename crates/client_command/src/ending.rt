@@ -3,27 +3,38 @@
 ghost use Rattle.std.specs.Prelude.{◌≡◌, ◌≢◌, [], IsTrue};
 ghost use Rattle.sec_base.specs.Answers.{Rose};
 ghost use Rattle.cli_base.specs.Lines.{Says};
-ghost use Rattle.client_command.specs.Endings.{end_of, end_of_refusal, status_of, ap_number, neg_number, denial_line, line_of};
+ghost use Rattle.client_command.specs.Endings.{end_of, end_of_refusal, status_of, ap_number, scram_number, neg_number, denial_line, name_in, line_of};
 
 use ap_exchange::ApRefusal;
 use cli_base::{FileStop, OUT_OF_MEMORY, say, say_made, say_stop};
 use gss_client::{ClientRefusal, Denial, Parting, ReplyWhy};
+use scram_mech::ScramRefusal;
 use sec_base::Sink;
 use spnego_core::{MechRefusal, NegRefusal};
 use std::alloc::Global;
+use std::marker::Model;
 
 /// The line of status 2.
 const USAGE: &str = "usage: gssrpc ADDRESS COMMAND [ARG] [options]\n";
+
+/// A file that the words name.
+#[derive(Clone, Copy, Debug, PartialEq, Eq)]
+pub enum WordFile {
+    /// The credential cache.
+    Ccache,
+    /// The password's file.
+    Password,
+}
 
 /// How a run ended, before its line was written.
 #[derive(Clone, Copy, Debug, PartialEq, Eq)]
 pub enum RunEnd {
     /// The words aren't in the command.
     Usage,
-    /// The credential cache can't be loaded, and the shelf's count of faults rose.
-    CannotLoad,
-    /// The credential cache has too many octets, or is none from this place on.
-    Bad { at: usize },
+    /// The file can't be loaded, and the shelf's count of faults rose.
+    CannotLoad(WordFile),
+    /// The file has too many octets, or isn't of its format from this place on.
+    Bad { file: WordFile, at: usize },
     /// The credential cache has no credential for the server.
     NoCredential,
     /// There was no memory.
@@ -102,6 +113,24 @@ fn ap_number(refusal: ApRefusal) -> u32
     }
 }
 
+/// The number of a refusal of SCRAM's exchange.
+fn scram_number(refusal: ScramRefusal) -> u32
+    ensures { result ≡ scram_number refusal }
+{
+    match refusal {
+        ScramRefusal::Text { at: _ } => 201,
+        ScramRefusal::Mandatory => 202,
+        ScramRefusal::Nonce => 203,
+        ScramRefusal::Rounds => 204,
+        ScramRefusal::NoUser => 205,
+        ScramRefusal::Bindings => 206,
+        ScramRefusal::Proof => 207,
+        ScramRefusal::Signature => 208,
+        ScramRefusal::PeerError => 209,
+        ScramRefusal::NoMemory => 0,
+    }
+}
+
 /// The number of a negotiating end's refusal.
 fn neg_number(refusal: NegRefusal) -> u32
     ensures { result ≡ neg_number refusal }
@@ -114,6 +143,7 @@ fn neg_number(refusal: NegRefusal) -> u32
         NegRefusal::MicMissing => 5,
         NegRefusal::MicBad => 6,
         NegRefusal::Mech(MechRefusal::Ap(refusal)) => ap_number(refusal),
+        NegRefusal::Mech(MechRefusal::Scram(refusal)) => scram_number(refusal),
         NegRefusal::NoMemory => 0,
     }
 }
@@ -140,25 +170,60 @@ fn say_denied<O: Sink>(alloc: Global, err: &mut O, denial: Denial) -> u8
 fn say_negotiation<O: Sink>(alloc: Global, err: &mut O, refusal: NegRefusal) -> u8
     ensures status { result ≢ 6 → result ≢ 8 → result ≡ 11 }
     ensures fault { result ≡ 6 → Rose (O.faults err.old) (O.faults err.new) }
-    ensures said { IsTrue (O.tells err.old) → Says (O.written err.old) (O.written err.new) result (line_of [] [] (RunEnd.Negotiation refusal)) }
+    ensures said { IsTrue (O.tells err.old) → Says (O.written err.old) (O.written err.new) result (line_of (record { ccache = []; password = []; server = [] }) (RunEnd.Negotiation refusal)) }
 {
     let number = neg_number(refusal);
     say_made(err, 11, format!(in alloc; "negotiation: {number}\n"))
 }
 
+/// Says that there is no credential for this server.
+fn say_uncredited<O: Sink>(alloc: Global, err: &mut O, server: &str) -> u8
+    ensures status { result ≢ 6 → result ≢ 8 → result ≡ 4 }
+    ensures fault { result ≡ 6 → Rose (O.faults err.old) (O.faults err.new) }
+    ensures said { IsTrue (O.tells err.old) → Says (O.written err.old) (O.written err.new) result (line_of (record { ccache = []; password = []; server = server.now }) RunEnd.NoCredential) }
+{
+    say_made(err, 4, format!(in alloc; "no credential for {server}\n"))
+}
+
+/// What the words of a run name, as its line says it: the files, and the server's text form. A name that the words don't have is empty.
+#[derive(Debug, Drop)]
+pub struct Names<'a> {
+    pub ccache: &'a str,
+    pub password: &'a str,
+    pub server: &'a str,
+}
+
+impl<'a> Model for Names<'a> {
+    ghost use Rattle.client_command.specs.Endings.{Named};
+
+    ghost Value = { Named };
+
+    ghost view = { λ n. record { ccache = n.ccache.now; password = n.password.now; server = n.server.now } };
+}
+
+impl<'a> Names<'a> {
+    /// The name of a file.
+    fn of(&self, file: WordFile) -> &'a str
+        ensures { result.now ≡ name_in self.now file }
+    {
+        match file {
+            WordFile::Ccache => self.ccache,
+            WordFile::Password => self.password,
+        }
+    }
+}
+
 /// Writes the line of an end, and answers its status; 8 also where there was no memory for the line, and 6 where it can't be written.
-pub fn say_end<O: Sink>(alloc: Global, err: &mut O, file: &str, server: &str, end: RunEnd) -> u8
+pub fn say_end<O: Sink>(alloc: Global, err: &mut O, names: &Names<'_>, end: RunEnd) -> u8
     ensures status { result ≢ 6 → result ≢ 8 → result ≡ status_of end }
     ensures fault { result ≡ 6 → Rose (O.faults err.old) (O.faults err.new) }
-    ensures said { IsTrue (O.tells err.old) → Says (O.written err.old) (O.written err.new) result (line_of file.now server.now end) }
+    ensures said { IsTrue (O.tells err.old) → Says (O.written err.old) (O.written err.new) result (line_of names.now end) }
 {
     match end {
         RunEnd::Usage => say(err, 2, USAGE),
-        RunEnd::CannotLoad => say_stop(alloc, err, file, FileStop::CannotLoad),
-        RunEnd::Bad { at } => say_stop(alloc, err, file, FileStop::Bad { at }),
-        RunEnd::NoCredential => {
-            say_made(err, 4, format!(in alloc; "no credential for {server}\n"))
-        }
+        RunEnd::CannotLoad(file) => say_stop(alloc, err, names.of(file), FileStop::CannotLoad),
+        RunEnd::Bad { file, at } => say_stop(alloc, err, names.of(file), FileStop::Bad { at }),
+        RunEnd::NoCredential => say_uncredited(alloc, err, names.server),
         RunEnd::NoMemory => say(err, 8, OUT_OF_MEMORY),
         RunEnd::LinkFault => say(err, 5, "link fault\n"),
         RunEnd::PeerEnded => say(err, 9, "peer ended\n"),

@@ -1,7 +1,10 @@
 //! Runs of the client over devices in memory.
 
 use crate::*;
-use sec_base::{MemClock, MemDraw, MemLink, MemShelf, MemSink, Moment, NamedFile, Octets, Text};
+use sec_base::{
+    LoadRefusal, MemClock, MemDraw, MemLink, MemShelf, MemSink, Moment, NamedFile, Octets, Shelf,
+    Text,
+};
 use sha1::Sha1;
 use std::alloc::Global;
 use std::test::Fail;
@@ -41,6 +44,16 @@ fn other_call() -> &'static [u8] {
     b"\x80\x00\x00\x18\x00\x00\x00\x09\x00\x00\x00\x01\x00\x00\x00\x00\x00\x00\x00\x00\x00\x00\x00\x00\x00\x00\x00\x00"
 }
 
+/// Another implementation's replies to a session by SCRAM: to three creation calls, to two echoes, and to the destruction.
+fn scram_replies() -> &'static [u8] {
+    b"\x80\x00\x00\x90\x00\x00\x00\x01\x00\x00\x00\x01\x00\x00\x00\x00\x00\x00\x00\x00\x00\x00\x00\x00\x00\x00\x00\x00\x00\x00\x00\x08\x00\x00\x00\x00\x00\x00\x00\x01\x00\x00\x00\x01\x00\x00\x00\x00\x00\x00\x00\x00\x00\x00\x00\x5b\xa1\x59\x30\x57\xa0\x03\x0a\x01\x01\xa1\x08\x06\x06\x2b\x06\x01\x05\x05\x0e\xa2\x46\x04\x44\x72\x3d\x4d\x44\x45\x79\x4d\x7a\x51\x31\x4e\x6a\x63\x34\x4f\x54\x6f\x37\x50\x44\x30\x2b\x50\x30\x42\x42\x2b\x50\x6e\x36\x2b\x2f\x7a\x39\x2f\x76\x38\x41\x41\x51\x49\x44\x42\x41\x55\x47\x42\x77\x67\x4a\x2c\x73\x3d\x63\x32\x46\x73\x64\x41\x3d\x3d\x2c\x69\x3d\x34\x30\x39\x36\x00\x80\x00\x00\x7c\x00\x00\x00\x02\x00\x00\x00\x01\x00\x00\x00\x00\x00\x00\x00\x06\x00\x00\x00\x1c\x04\x04\x01\xff\xff\xff\xff\xff\x00\x00\x00\x00\x00\x00\x00\x01\xa4\x9a\x94\xb1\xcc\xcd\x54\xa4\x98\x32\x9f\x66\x00\x00\x00\x00\x00\x00\x00\x08\x00\x00\x00\x00\x00\x00\x00\x01\x00\x00\x00\x00\x00\x00\x00\x00\x00\x00\x00\x80\x00\x00\x00\x2b\xa1\x29\x30\x27\xa0\x03\x0a\x01\x00\xa2\x20\x04\x1e\x76\x3d\x57\x35\x53\x59\x6a\x30\x45\x61\x57\x4f\x76\x54\x45\x75\x36\x61\x31\x44\x42\x74\x56\x42\x6c\x75\x58\x74\x63\x3d\x00\x80\x00\x00\x64\x00\x00\x00\x03\x00\x00\x00\x01\x00\x00\x00\x00\x00\x00\x00\x06\x00\x00\x00\x1c\x04\x04\x01\xff\xff\xff\xff\xff\x00\x00\x00\x00\xff\xff\xff\xfc\x57\x5f\x45\xe8\x6c\xb2\xc2\x82\xb9\x8d\x15\xa4\x00\x00\x00\x00\x00\x00\x00\x0c\x7f\xff\xff\xfe\x00\x00\x00\x02\x68\x69\x00\x00\x00\x00\x00\x1c\x04\x04\x01\xff\xff\xff\xff\xff\x00\x00\x00\x00\xff\xff\xff\xfd\x90\x94\xe4\x1a\x71\x73\xe2\xb9\x7d\x3f\x34\x6c\x80\x00\x00\x64\x00\x00\x00\x04\x00\x00\x00\x01\x00\x00\x00\x00\x00\x00\x00\x06\x00\x00\x00\x1c\x04\x04\x01\xff\xff\xff\xff\xff\x00\x00\x00\x00\xff\xff\xff\xfe\xcd\x89\x3c\x3a\xca\x41\x2f\x81\x4f\x7d\xd7\x3d\x00\x00\x00\x00\x00\x00\x00\x0c\x7f\xff\xff\xff\x00\x00\x00\x02\x68\x69\x00\x00\x00\x00\x00\x1c\x04\x04\x01\xff\xff\xff\xff\xff\x00\x00\x00\x00\xff\xff\xff\xff\x93\xa6\xa4\x39\xf8\x9f\x5d\x8a\x1c\xa6\x84\xee\x80\x00\x00\x34\x00\x00\x00\x05\x00\x00\x00\x01\x00\x00\x00\x00\x00\x00\x00\x06\x00\x00\x00\x1c\x04\x04\x01\xff\xff\xff\xff\xff\x00\x00\x00\x01\x00\x00\x00\x00\x95\xa2\x4f\x7a\xb8\x96\xad\x7e\x19\xd5\xf2\x61\x00\x00\x00\x00"
+}
+
+/// The SHA-1 of what that implementation's client writes.
+fn scram_written() -> [u8; 20] {
+    *b"\xc7\x10\x55\x5a\x19\x18\x3f\x2f\xaf\x6a\x0d\x67\x2a\x35\xd7\xa2\x6c\x70\xd9\xda"
+}
+
 /// The words of a line.
 fn words(alloc: Global, line: &str) -> Result<Vec<Text>, Fail> {
     let mut words = Vec::new(alloc);
@@ -50,20 +63,27 @@ fn words(alloc: Global, line: &str) -> Result<Vec<Text>, Fail> {
     Ok(words)
 }
 
-/// A shelf with the cache as `c`, and its first octets as `cut`; the call of this number fails.
+/// A file of a shelf.
+fn file(alloc: Global, name: &str, content: &[u8]) -> Result<NamedFile, Fail> {
+    Ok(NamedFile {
+        name: Text::of(alloc, name)?,
+        content: Octets::of(alloc, content)?,
+    })
+}
+
+/// A shelf with the cache as `c`, and its first octets as `cut`; a password as `p`, with two line feeds as `fed`, and what is no text as
+/// `raw`. The call of this number fails.
 fn shelf(alloc: Global, failing: u64) -> Result<MemShelf, Fail> {
     let mut cache = Vec::from_slice(alloc, cache_head())?;
     cache.extend_from_slice(ticket())?;
     cache.extend_from_slice(&[0; 4])?;
-    let mut files = Vec::new(alloc);
-    files.push(NamedFile {
-        name: Text::of(alloc, "c")?,
-        content: Octets::from_vec(cache),
-    })?;
-    files.push(NamedFile {
-        name: Text::of(alloc, "cut")?,
-        content: Octets::of(alloc, &[5, 4, 0])?,
-    })?;
+    let files = vec![in alloc;
+        file(alloc, "c", cache.as_slice())?,
+        file(alloc, "cut", &[5, 4, 0])?,
+        file(alloc, "p", b"p\n")?,
+        file(alloc, "fed", b"p\n\n")?,
+        file(alloc, "raw", b"ab\xff")?,
+    ]?;
     Ok(MemShelf::new(alloc, files, vec![in alloc; failing]?))
 }
 
@@ -128,123 +148,157 @@ fn a_session_is_printed(rt: HostRuntime) -> Result<(), Fail> {
     Ok(())
 }
 
-/// Words, the octets to come, the numbers of the calls of link, shelf and standard output that fail, the status, and the line.
-fn endings() -> [(&'static str, &'static [u8], u64, u64, u64, u8, &'static str); 13] {
+#[test]
+fn a_session_by_scram_is_printed(rt: HostRuntime) -> Result<(), Fail> {
+    let spent = Trial {
+        line: "H:P echo 6869 --user user --password p --times 3 --first 2147483646",
+        octets: scram_replies(),
+        link: 99,
+        shelf: 9,
+        sink: 9,
+    };
+    let (status, out, err, wrote) = run(rt.alloc(), &spent)?;
+    assert_eq!(rt; status, 13);
+    assert_eq!(rt; out.as_slice(), b"scram user -\n6869\n6869\n".as_slice());
+    assert_eq!(rt; err.as_slice(), b"spent\n".as_slice());
+    assert_eq!(rt; wrote, scram_written());
+    Ok(())
+}
+
+/// A run that ends so: its words, the octets to come, its status and its line.
+fn ending(
+    line: &'static str,
+    octets: &'static [u8],
+    status: u8,
+    said: &'static str,
+) -> (Trial, u8, &'static str) {
+    let trial = Trial {
+        line,
+        octets,
+        link: 99,
+        shelf: 9,
+        sink: 9,
+    };
+    (trial, status, said)
+}
+
+/// A run in which the call of this number of a device fails: its link's, its shelf's, its standard output's.
+fn failing(
+    trial: (Trial, u8, &'static str),
+    link: u64,
+    shelf: u64,
+    sink: u64,
+) -> (Trial, u8, &'static str) {
+    let (Trial { line, octets, .. }, status, said) = trial;
+    let trial = Trial {
+        line,
+        octets,
+        link,
+        shelf,
+        sink,
+    };
+    (trial, status, said)
+}
+
+/// Runs by Kerberos, and how they end.
+fn endings() -> [(Trial, u8, &'static str); 13] {
+    let null = "H:P null --ccache c --server rpc/host@R";
+    let whoami = "H:P whoami --ccache c --server rpc/host@R";
     [
-        (
-            "H:P null --ccache c --server rpc/host@R",
-            b"",
-            99,
-            9,
-            9,
-            9,
-            "peer ended\n",
+        ending(null, b"", 9, "peer ended\n"),
+        failing(ending(null, b"", 5, "link fault\n"), 1, 9, 9),
+        failing(ending(null, b"", 3, "cannot load c\n"), 99, 1, 9),
+        failing(ending(whoami, replies(), 6, ""), 99, 9, 1),
+        ending(null, other_call(), 12, "bad reply\n"),
+        ending(null, rejected(), 11, "negotiation: 2\n"),
+        ending(null, no_key(), 10, "refused: gss 458752 105\n"),
+        ending(
+            "H:P count --ccache c --server rpc/host@R",
+            replies(),
+            12,
+            "bad reply\n",
         ),
-        (
-            "H:P null --ccache c --server rpc/host@R",
-            b"",
-            1,
-            9,
-            9,
-            5,
-            "link fault\n",
-        ),
-        (
-            "H:P null --ccache c --server rpc/host@R",
-            b"",
-            99,
-            1,
-            9,
-            3,
-            "cannot load c\n",
-        ),
-        (
+        ending(
             "H:P null --ccache c --server rpc/other@R",
             b"",
-            99,
-            9,
-            9,
             4,
             "no credential for rpc/other@R\n",
         ),
-        (
+        ending(
             "H:P null --ccache cut --server rpc/host@R",
             b"",
-            99,
-            9,
-            9,
             4,
             "bad cut at 3\n",
         ),
-        (
-            "H:P null --ccache c --server rpc/host@R",
-            other_call(),
-            99,
-            9,
-            9,
-            12,
-            "bad reply\n",
+        ending("H:P null 00 --ccache c --server rpc/host@R", b"", 2, USAGE),
+        ending("H:P echo 0 --ccache c --server rpc/host@R", b"", 2, USAGE),
+        ending("H:P null --ccache c --server R/", b"", 2, USAGE),
+    ]
+}
+
+/// Runs with the options of SCRAM, and how they end: a file is read too where its mechanism isn't listed.
+fn scram_endings() -> [(Trial, u8, &'static str); 13] {
+    [
+        ending("H:P null --user user --password p", b"", 9, "peer ended\n"),
+        ending(
+            "H:P null --user user --password p --ccache cut",
+            b"",
+            4,
+            "bad cut at 3\n",
         ),
-        (
-            "H:P null --ccache c --server rpc/host@R",
-            rejected(),
-            99,
+        ending(
+            "H:P null --user user --password p --ccache c --server rpc/other@R --mechs scram",
+            b"",
             9,
-            9,
+            "peer ended\n",
+        ),
+        ending(
+            "H:P null --user user --password p --ccache c --server rpc/other@R",
+            b"",
+            4,
+            "no credential for rpc/other@R\n",
+        ),
+        ending(
+            "H:P null --user user --password none",
+            b"",
+            3,
+            "cannot load none\n",
+        ),
+        ending(
+            "H:P null --ccache c --server rpc/host@R --password raw",
+            b"",
+            4,
+            "bad raw at 2\n",
+        ),
+        ending(
+            "H:P null --user user --password fed",
+            b"",
             11,
-            "negotiation: 2\n",
+            "negotiation: 201\n",
         ),
-        (
-            "H:P null --ccache c --server rpc/host@R",
-            no_key(),
-            99,
-            9,
-            9,
-            10,
-            "refused: gss 458752 105\n",
-        ),
-        (
-            "H:P count --ccache c --server rpc/host@R",
-            replies(),
-            99,
-            9,
-            9,
-            12,
-            "bad reply\n",
-        ),
-        (
-            "H:P whoami --ccache c --server rpc/host@R",
-            replies(),
-            99,
-            9,
-            1,
-            6,
-            "",
-        ),
-        (
-            "H:P null 00 --ccache c --server rpc/host@R",
+        ending(
+            "H:P null --user user --password p --mechs krb5",
             b"",
-            99,
-            9,
-            9,
             2,
             USAGE,
         ),
-        (
-            "H:P echo 0 --ccache c --server rpc/host@R",
+        ending(
+            "H:P null --user user --password p --mechs scram,scram",
             b"",
-            99,
-            9,
-            9,
             2,
             USAGE,
         ),
-        (
-            "H:P null --ccache c --server rpc/host@R --user u",
+        ending(
+            "H:P null --user user --password p --mechs scram,krb5",
             b"",
-            99,
-            9,
-            9,
+            2,
+            USAGE,
+        ),
+        ending("H:P null --ccache c --user user", b"", 2, USAGE),
+        ending("H:P null --user user", b"", 2, USAGE),
+        ending(
+            "H:P null --user user --user user --password p",
+            b"",
             2,
             USAGE,
         ),
@@ -254,19 +308,73 @@ fn endings() -> [(&'static str, &'static [u8], u64, u64, u64, u8, &'static str);
 /// The line of status 2.
 const USAGE: &str = "usage: gssrpc ADDRESS COMMAND [ARG] [options]\n";
 
+/// Whether a run ends as it should.
+fn ends_so(alloc: Global, due: &(Trial, u8, &'static str)) -> Result<bool, Fail> {
+    let (trial, status, said) = due;
+    let (got, _, err, _) = run(alloc, trial)?;
+    Ok(got == *status && err.as_slice() == said.as_bytes())
+}
+
 #[test]
 fn a_run_says_how_it_ended(rt: HostRuntime) -> Result<(), Fail> {
-    for (line, octets, link, shelf, sink, status, said) in endings() {
-        let due = Trial {
-            line,
-            octets,
-            link,
-            shelf,
-            sink,
-        };
-        let (got, _, err, _) = run(rt.alloc(), &due)?;
-        assert_eq!(rt; got, status, "{line}");
-        assert_eq!(rt; err.as_slice(), said.as_bytes(), "{line}");
+    for due in &endings() {
+        assert!(rt; ends_so(rt.alloc(), due)?, "{}", due.0.line);
     }
+    Ok(())
+}
+
+#[test]
+fn a_run_with_a_password_says_how_it_ended(rt: HostRuntime) -> Result<(), Fail> {
+    for due in &scram_endings() {
+        assert!(rt; ends_so(rt.alloc(), due)?, "{}", due.0.line);
+    }
+    Ok(())
+}
+
+/// A shelf that has no memory.
+#[derive(Drop)]
+struct Full;
+
+impl Shelf for Full {
+    ghost use Rattle.std.specs.Prelude.{false, []};
+
+    ghost faults = { λ _. 0 };
+
+    ghost tells = { λ _. false };
+
+    ghost files = { λ _. [] };
+
+    ghost asked = { λ _. [] };
+
+    fn load(&mut self, _alloc: Global, _name: &str, _limit: usize) -> Result<Octets, LoadRefusal> {
+        Err(LoadRefusal::NoMemory)
+    }
+}
+
+#[test]
+fn want_of_memory_ends_a_run_before_its_session(rt: HostRuntime) -> Result<(), Fail> {
+    let alloc = rt.alloc();
+    let words = words(alloc, "H:P null --user user --password p")?;
+    let mut link = MemLink::new(alloc, Vec::new(alloc), Vec::new(alloc), Vec::new(alloc));
+    let mut clock = MemClock::new(Vec::new(alloc));
+    let mut draw = MemDraw::new(Vec::new(alloc));
+    let mut out = MemSink::new(alloc, Vec::new(alloc));
+    let mut err = MemSink::new(alloc, Vec::new(alloc));
+    if link.is_closed() {
+        return Err(Fail::from("an open link"));
+    }
+    let end = run_client(
+        alloc,
+        words.as_slice(),
+        &mut Full,
+        &mut link,
+        &mut clock,
+        &mut draw,
+        &mut out,
+        &mut err,
+    );
+    assert_eq!(rt; end.status, 8);
+    assert_eq!(rt; err.written(), b"out of memory\n".as_slice());
+    assert!(rt; link.written().is_empty());
     Ok(())
 }

@@ -7,7 +7,7 @@ ghost use Rattle.gss_base.specs.Signs.{parsed};
 ghost use Rattle.hex.specs.Hex.{decode_of};
 ghost use Rattle.rpc_msgs.specs.Words.{opaque};
 ghost use Rattle.cli_base.specs.Words.{value_of, first_word, plain_of};
-ghost use Rattle.client_command.specs.Words.{is_command, demanded, or_usage, bare, with_data, data_by, asked_by, asked_in, number_given, data_given, name_by, server_given, service_by, service_given, plan_of, words_of, IsRanged};
+ghost use Rattle.client_command.specs.Words.{is_command, demanded, or_usage, bare, with_data, data_by, asked_by, asked_in, number_given, data_given, name_by, server_given, mechs_by, are_equipped, equipped, usual, mechs_given, is_given, has_krb5, has_scram, sources_of, service_by, service_given, plan_of, words_of, IsRanged};
 
 use cli_base::{are_words, count_plain, first_word, number_in, plain, value_of};
 use gss_base::{Bindings, NameRefusal, Principal};
@@ -37,13 +37,33 @@ pub struct Plan {
     pub first: u32,
 }
 
+/// The mechanisms by which a context may be created, the preferred first.
+#[derive(Clone, Copy, Debug, PartialEq, Eq)]
+pub enum Mechs {
+    Kerberos,
+    Scram,
+    KerberosScram,
+    ScramKerberos,
+}
+
+/// Where the credentials come from.
+#[derive(Debug, Drop)]
+pub struct Sources {
+    /// The file of the credential cache.
+    pub ccache: Option<Text>,
+    /// The name of the server.
+    pub server: Option<Principal>,
+    /// The user of SCRAM.
+    pub user: Option<Text>,
+    /// The file of the user's password.
+    pub password: Option<Text>,
+    pub mechs: Mechs,
+}
+
 /// What the words of the client ask for.
 #[derive(Debug, Drop)]
 pub struct ClientWords {
-    /// The file of the credential cache.
-    pub ccache: Text,
-    /// The name of the server.
-    pub server: Principal,
+    pub sources: Sources,
     pub plan: Plan,
 }
 
@@ -90,6 +110,9 @@ fn is_command(words: &[Text]) -> bool
             &[
                 "--ccache",
                 "--server",
+                "--user",
+                "--password",
+                "--mechs",
                 "--bind",
                 "--service",
                 "--times",
@@ -224,38 +247,131 @@ fn number_given(
     }
 }
 
-/// The file of the credential cache.
-fn ccache_given(alloc: Global, words: &[Text]) -> Result<Text, WordsRefusal>
-    ensures { Gives WordsRefusal.NoMemory (λ t. t) result (or_usage (value_of (codes "--ccache") words.now)) }
+/// The value of the option `name`.
+fn text_given(alloc: Global, words: &[Text], name: &str) -> Result<Option<Text>, NoMemory>
+    ensures { IfOk result (λ text. text ≡ value_of name.now words.now) }
 {
-    match value_of(words, "--ccache") {
-        None => Err(WordsRefusal::Usage),
-        Some(file) => {
-            let file = Text::of(alloc, file)?;
-            Ok(file)
+    match value_of(words, name) {
+        None => Ok(None),
+        Some(text) => {
+            let text = Text::of(alloc, text)?;
+            Ok(Some(text))
         }
     }
 }
 
 /// The server of this text.
-fn server_of(alloc: Global, text: &str) -> Result<Principal, WordsRefusal>
+fn server_of(alloc: Global, text: &str) -> Result<Option<Principal>, WordsRefusal>
     ensures { Gives WordsRefusal.NoMemory (λ name. name) result (name_by (parsed text.now)) }
 {
     match Principal::parse(alloc, text) {
-        Ok(name) => Ok(name),
+        Ok(name) => Ok(Some(name)),
         Err(NameRefusal::NoMemory) => Err(WordsRefusal::NoMemory),
         Err(_) => Err(WordsRefusal::Usage),
     }
 }
 
 /// The server that the words name.
-fn server_given(alloc: Global, words: &[Text]) -> Result<Principal, WordsRefusal>
+fn server_given(alloc: Global, words: &[Text]) -> Result<Option<Principal>, WordsRefusal>
     ensures { Gives WordsRefusal.NoMemory (λ name. name) result (server_given (value_of (codes "--server") words.now)) }
 {
     match value_of(words, "--server") {
-        None => Err(WordsRefusal::Usage),
+        None => Ok(None),
         Some(text) => server_of(alloc, text),
     }
+}
+
+/// The mechanisms of this list.
+fn mechs_by(text: &str) -> Result<Mechs, WordsRefusal>
+    ensures { result ≡ mechs_by text.now }
+{
+    if text == "krb5" {
+        return Ok(Mechs::Kerberos);
+    }
+    if text == "scram" {
+        return Ok(Mechs::Scram);
+    }
+    if text == "krb5,scram" {
+        return Ok(Mechs::KerberosScram);
+    }
+    if text == "scram,krb5" {
+        return Ok(Mechs::ScramKerberos);
+    }
+    Err(WordsRefusal::Usage)
+}
+
+/// Whether each mechanism of a list has its two options.
+fn are_equipped(krb5: bool, scram: bool, mechs: Mechs) -> bool
+    ensures { result ≡ are_equipped krb5 scram mechs }
+{
+    match mechs {
+        Mechs::Kerberos => krb5,
+        Mechs::Scram => scram,
+        Mechs::KerberosScram => krb5 && scram,
+        Mechs::ScramKerberos => krb5 && scram,
+    }
+}
+
+/// The list itself, where each of its mechanisms has its two options.
+fn equipped(krb5: bool, scram: bool, text: &str) -> Result<Mechs, WordsRefusal>
+    ensures { result ≡ equipped krb5 scram (mechs_by text.now) }
+{
+    let mechs = mechs_by(text)?;
+    if are_equipped(krb5, scram, mechs) {
+        Ok(mechs)
+    } else {
+        Err(WordsRefusal::Usage)
+    }
+}
+
+/// The mechanisms that have their two options, Kerberos first.
+fn usual(krb5: bool, scram: bool) -> Result<Mechs, WordsRefusal>
+    ensures { result ≡ usual krb5 scram }
+{
+    match (krb5, scram) {
+        (true, true) => Ok(Mechs::KerberosScram),
+        (true, false) => Ok(Mechs::Kerberos),
+        (false, true) => Ok(Mechs::Scram),
+        (false, false) => Err(WordsRefusal::Usage),
+    }
+}
+
+/// Whether the words have the option `name`.
+fn is_given(words: &[Text], name: &str) -> bool
+    ensures { result ≡ is_given words.now name.now }
+{
+    value_of(words, name).is_some()
+}
+
+/// The mechanisms that the words ask for.
+fn mechs_given(words: &[Text]) -> Result<Mechs, WordsRefusal>
+    ensures { result ≡ mechs_given (has_krb5 words.now) (has_scram words.now) (value_of (codes "--mechs") words.now) }
+{
+    let krb5 = is_given(words, "--ccache") && is_given(words, "--server");
+    let scram = is_given(words, "--user") && is_given(words, "--password");
+    match value_of(words, "--mechs") {
+        None => usual(krb5, scram),
+        Some(text) => equipped(krb5, scram, text),
+    }
+}
+
+/// Where the credentials come from.
+#[tactic(auto, unfolding(crate::specs::Words::sources_of))]
+fn sources_of(alloc: Global, words: &[Text]) -> Result<Sources, WordsRefusal>
+    ensures { Gives WordsRefusal.NoMemory (λ s. s) result (sources_of words.now) }
+{
+    let server = server_given(alloc, words)?;
+    let mechs = mechs_given(words)?;
+    let ccache = text_given(alloc, words, "--ccache")?;
+    let user = text_given(alloc, words, "--user")?;
+    let password = text_given(alloc, words, "--password")?;
+    Ok(Sources {
+        ccache,
+        server,
+        user,
+        password,
+        mechs,
+    })
 }
 
 /// The bindings of this application data.
@@ -336,12 +452,7 @@ pub fn read_words(alloc: Global, words: &[Text]) -> Result<ClientWords, WordsRef
     ensures range { IfOk result (λ w. IsRanged w.plan) }
 {
     demand(is_command(words))?;
-    let ccache = ccache_given(alloc, words)?;
-    let server = server_given(alloc, words)?;
+    let sources = sources_of(alloc, words)?;
     let plan = plan_of(alloc, words)?;
-    Ok(ClientWords {
-        ccache,
-        server,
-        plan,
-    })
+    Ok(ClientWords { sources, plan })
 }

@@ -64,6 +64,7 @@ goes-turn xid proc offer next stream e =
 
 -- ---- turn after turn
 
+-- an end takes one reply at least
 some-left : (end : InitEnd) → 0 < replies_left end
 some-left (ends.Opens opening) = omega arith
 some-left (ends.Talks talking) = omega arith

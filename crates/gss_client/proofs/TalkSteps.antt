@@ -1,5 +1,5 @@
 -- The steps of a session, each by its exchange and the judgement of its reply.
-use Rattle.std.proofs.Common.{◌≡◌, ◌≢◌, ℕ, zero, suc, ◌-◌, ◌<◌, List, [], refl, ap, subst, sym, ◌∙◌, arith, Result, Ok, Err}
+use Rattle.std.proofs.Common.{◌≡◌, ◌≢◌, ℕ, zero, suc, ◌-◌, ◌<◌, List, [], ◌∷◌, refl, ap, subst, sym, ◌∙◌, arith, Result, Ok, Err}
 use Rattle.sec_base.specs.Link.{Wire}
 use Rattle.sec_base.specs.Answers.{Gives}
 use Rattle.gss_client.specs.declared.creation.Created.{Created}
@@ -11,10 +11,16 @@ use Rattle.gss_client.specs.declared.service.Service.{Service}
 use Rattle.gss_client.specs.declared.start.Start.{Start}
 use Rattle.gss_client.specs.Rank.{replies_left}
 use Rattle.spnego_core.specs.declared.init_end.InitEnd.{InitEnd}
+use Rattle.spnego_core.specs.declared.init_end.InitEnd.TheVariants as ends
+use Rattle.spnego_core.specs.declared.refusal.MechRefusal.{MechRefusal}
+use Rattle.spnego_core.specs.declared.setup.InitSetup.{InitSetup}
+use Rattle.spnego_core.specs.declared.setup.MechCred.{MechCred}
+use Rattle.spnego_core.specs.InitMech.{MechBegun, init_begun}
+use Rattle.spnego_core.specs.Tokens.{init_octets}
 use Rattle.spnego_core.specs.declared.outcome.Outcome.{Outcome}
 use Rattle.spnego_core.specs.declared.refusal.NegRefusal.{NegRefusal}
 use Rattle.spnego_core.specs.declared.refusal.NegRefusal.TheVariants as negs
-use Rattle.spnego_core.specs.Initiating.{Started, sent_of, init_start}
+use Rattle.spnego_core.specs.Initiating.{Started, sent_of, first_sent, opens, starts, init_start}
 use Rattle.gss_client.specs.Calling.{creation_call, data_call, destroy_call}
 use Rattle.gss_client.specs.Exchanging.{Done, Stopped, Talks}
 use Rattle.gss_client.specs.Judging.{creation_step, result_taken, destroyed_in}
@@ -84,6 +90,20 @@ unestablished left service first xid proc offer a b refusal h s =
     (stopped-first (turns xid proc offer) (by_turn service first xid (creates (left - 1) service first (xid_after xid) 2)) a b refusal s)
 
 -- ---- the start
+
+-- an end that was begun may take four replies
+opened-four : (own : InitSetup) (r : Result MechBegun MechRefusal) (end : InitEnd) (token : List ℕ) → sent_of (opens own r) ≡ Ok (end, token) → replies_left end ≡ 4
+opened-four own (Ok begun) end token e =
+    let pair : (ends.Opens (record { own = own; mech = begun.mech }), init_octets (first_sent own begun.token)) ≡ (end, token) = cc in
+    sym (ap (λ (p : InitEnd × List ℕ). replies_left p.0) pair)
+opened-four own (Err refusal) end token e = cc
+
+started-four : (own : InitSetup) (list : List MechCred) (end : InitEnd) (token : List ℕ) → sent_of (starts own list) ≡ Ok (end, token) → replies_left end ≡ 4
+started-four own [] end token e = cc
+started-four own (first ∷ rest) end token e = opened-four own (init_begun own first) end token e
+
+pub begun-four : (own : InitSetup) (end : InitEnd) (token : List ℕ) → sent_of (init_start own) ≡ Ok (end, token) → replies_left end ≡ 4
+begun-four own end token e = started-four own own.list end token e
 
 begun-with : (service : Service) (first : ℕ) (r : Result Started NegRefusal) (end : InitEnd) (token : List ℕ) → sent_of r ≡ Ok (end, token) → begins service first r ≡ creates (replies_left end) service first 1 1 (record { end = end; handle = []; token = token })
 begun-with service first (Ok started) end token e =

@@ -1,16 +1,24 @@
 -- How many replies a negotiating end may still take.
-use Rattle.std.specs.Prelude.{ℕ, ◌<◌}
+use Rattle.std.specs.Prelude.{ℕ, ◌<◌, ◌+◌}
 use Rattle.spnego_core.specs.declared.init_end.InitEnd.{InitEnd}
 use Rattle.spnego_core.specs.declared.init_end.InitEnd.TheVariants as ends
+use Rattle.spnego_core.specs.declared.init_mech.InitMech.{InitMech}
+use Rattle.spnego_core.specs.declared.init_mech.InitMech.TheVariants as mechs
 use Rattle.spnego_core.specs.declared.init_end.InitStep.{InitStep}
 use Rattle.spnego_core.specs.declared.init_end.InitStep.TheVariants as steps
 use Rattle.gss_client.specs.declared.creation.Created.{Created}
 use Rattle.gss_client.specs.declared.creation.Created.TheVariants as created
 
--- one to the own MIC, one before it to a mechanism's token, and one before that to the first token
+-- how many a mechanism still takes: Kerberos one, SCRAM the acceptor's first text and its signature
+abbrev pub taken_by : InitMech → ℕ
+taken_by (mechs.Kerberos end) = 1
+taken_by (mechs.Scram end) = 2
+taken_by (mechs.Proof end) = 1
+
+-- one to the own MIC; before it those that the mechanism takes; before the first, at most those of any mechanism and the one that chooses it
 abbrev pub replies_left : InitEnd → ℕ
-replies_left (ends.Opens opening) = 3
-replies_left (ends.Talks talking) = 2
+replies_left (ends.Opens opening) = 4
+replies_left (ends.Talks talking) = taken_by talking.mech + 1
 replies_left (ends.Signed signed) = 1
 
 -- a step leads to an end that takes fewer

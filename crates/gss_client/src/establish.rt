@@ -24,6 +24,9 @@ const INIT: u32 = 1;
 /// The procedure of later ones.
 const CONTINUE_INIT: u32 = 2;
 
+/// The most replies that an end takes.
+const MOST_REPLIES: u32 = 4;
+
 /// A creation call, and what its reply leads to.
 fn turn<L: Link>(
     alloc: Global,
@@ -99,17 +102,6 @@ fn establish<L: Link>(
     }
 }
 
-/// How many replies an end may still take.
-fn replies_left(end: &InitEnd) -> u32
-    ensures { result ≡ replies_left end.now }
-{
-    match end {
-        InitEnd::Opens(_) => 3,
-        InitEnd::Talks(_) => 2,
-        InitEnd::Signed(_) => 1,
-    }
-}
-
 impl Session {
     /// Creates a context with the server: the negotiation's tokens go and come until the context stands.
     pub fn create<L: Link>(
@@ -136,9 +128,8 @@ impl Session {
             Ok(started) => started,
             Err(refusal) => return Err(not_negotiated(refusal)),
         };
-        let left = replies_left(&end);
         let handle = Octets::from_vec(Vec::new(alloc));
         let offer = Offer { end, handle, token };
-        establish(alloc, link, service, first, 1, INIT, offer, left)
+        establish(alloc, link, service, first, 1, INIT, offer, MOST_REPLIES)
     }
 }

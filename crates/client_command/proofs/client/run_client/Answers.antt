@@ -10,6 +10,6 @@ same-words : {read : Result ClientWords WordsRefusal} {one other : ClientWords} 
 same-words here there = cc
 
 pub returns-in-Ok-clause-ends : goal.returns-in-Ok-clause-ends
-returns-in-Ok-clause-ends g c = λ asked granted parting is told due t so steady calm other.
+returns-in-Ok-clause-ends g c = λ asked creds parting is told due t so steady calm other.
     let same : asked ≡ c.in-Ok.words = same-words is c.in-Ok.ensures.value in
-    c.run_with.ensures.ends granted parting told (rw same at due) t (rw same at so) steady calm other
+    c.run_with.ensures.ends creds parting told (rw same at due) t (rw same at so) steady calm other

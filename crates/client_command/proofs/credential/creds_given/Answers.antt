@@ -1,0 +1,19 @@
+use Rattle.std.proofs.Common.{IsTrue}
+use Rattle.client_command.proofs.Asking.{asked-cache, asked-password, asked-both}
+use Rattle.client_command.proofs.credential.creds_given.Goals as goal
+
+pub returns-in-Err-clause-asked : goal.returns-in-Err-clause-asked
+returns-in-Err-clause-asked g c = λ t.
+    asked-cache (g.F.Shelf.asked c.args.shelf.now) (g.F.Shelf.asked c.cache_given.new.shelf) c.args.sources.now c.in-Err.end c.in-Err.ensures.stop (c.in-Err.ensures.asked t)
+
+pub returns-in-Err-password_given-clause-asked : goal.returns-in-Err-password_given-clause-asked
+returns-in-Err-password_given-clause-asked g c = λ t.
+    let tells : IsTrue (g.F.Shelf.tells c.cache_given.new.shelf) = rw c.in-Ok.ensures.tells t in
+    asked-password (g.F.Shelf.asked c.args.shelf.now) (g.F.Shelf.asked c.cache_given.new.shelf) (g.F.Shelf.asked c.password_given.new.shelf) c.args.sources.now c.in-Err-password_given.end
+    (c.in-Ok.ensures.asked t) c.in-Err-password_given.ensures.stop (c.in-Err-password_given.ensures.asked tells)
+
+pub returns-clause-asked : goal.returns-clause-asked
+returns-clause-asked g c = λ t.
+    let tells : IsTrue (g.F.Shelf.tells c.cache_given.new.shelf) = rw c.in-Ok.ensures.tells t in
+    asked-both (g.F.Shelf.asked c.args.shelf.now) (g.F.Shelf.asked c.cache_given.new.shelf) (g.F.Shelf.asked c.password_given.new.shelf) c.args.sources.now c.creds_with.result
+    (c.in-Ok.ensures.asked t) (c.in-Ok-password_given.ensures.asked tells) c.creds_with.ensures.stop
