@@ -5,53 +5,99 @@ use Rattle.sec_base.specs.declared.shelf.NamedFile.{NamedFile}
 use Rattle.gss_base.specs.Name.{Name}
 use Rattle.krb_files.specs.Keytab.{keytab_of, is_served}
 use Rattle.krb_files.specs.declared.keytab.Entry.{Entry}
+use Rattle.scram_mech.specs.declared.verifiers.Verifier.{Verifier}
 use Rattle.cli_base.specs.Files.{LoadsFile, file_in}
 use Rattle.cli_base.specs.declared.files.FileStop.{FileStop}
 use Rattle.cli_base.specs.declared.files.FileStop.TheVariants as stops
 use Rattle.gss_server.specs.Desks.{Ran, is_begun}
-use Rattle.gss_server.specs.Keytabs.{IsKeytab, FromShelf, keytab_in, keytab_by}
-use Rattle.gss_server.specs.Runs.{EndsBy, Begins, IsValidKeytab, IsValidFile, IsValid}
+use Rattle.gss_server.specs.Keys.{AreKeys, BehindKeytab, FromShelf, keytab_in, verifiers_in, keys_with, no_keys}
+use Rattle.gss_server.specs.Runs.{EndsBy, Begins, AreValidFiles, AreValid, IsValid}
 use Rattle.gss_server.specs.declared.ending.RunEnd.{RunEnd}
 use Rattle.gss_server.specs.declared.ending.RunEnd.TheVariants.{Usage, CannotLoad, Bad, NoKey, PortFault, NoMemory, Served}
+use Rattle.gss_server.specs.declared.keys.Keys.{Keys}
+use Rattle.gss_server.specs.declared.options.Files.{Files}
 use Rattle.gss_server.specs.declared.options.Options.{Options}
 use Rattle.gss_server.proofs.DeskRuns.{some-at}
 
--- a keytab that is due is there, want of memory aside
-due-there : (keytab : Result (List Entry) RunEnd) (end : RunEnd) (entries : List Entry) → Gives NoMemory (λ k. k) keytab (Ok entries) → EndsBy keytab end → end ≢ NoMemory → is_begun end ≡ true
-due-there (Ok k) end entries given ends other = ends other
-due-there (Err stop) end entries given ends other = let bad : ◌≡◌ {A = Result (List Entry) RunEnd} (Ok entries) (Err stop) = given (λ e. other (ends ∙ e)) in cc
+-- keys that are due are there, want of memory aside
+due-there : (keys : Result Keys RunEnd) (end : RunEnd) (due : Keys) → Gives NoMemory (λ k. k) keys (Ok due) → EndsBy keys end → end ≢ NoMemory → is_begun end ≡ true
+due-there (Ok k) end due given ends other = ends other
+due-there (Err stop) end due given ends other = let bad : ◌≡◌ {A = Result Keys RunEnd} (Ok due) (Err stop) = given (λ e. other (ends ∙ e)) in cc
 
--- want of memory at the shelf
-wanted : (keytab : Result (List Entry) RunEnd) (end : RunEnd) → Gives NoMemory (λ k. k) keytab (Err NoMemory) → EndsBy keytab end → end ≢ NoMemory → is_begun end ≡ true
-wanted (Ok k) end given ends other = ends other
-wanted (Err stop) end given ends other =
-    let bad : ◌≡◌ {A = Result (List Entry) RunEnd} (Err NoMemory) (Err stop) = given (λ e. other (ends ∙ e)) in
-    let same : stop ≡ NoMemory = cc in
-    absurd (other (ends ∙ same))
+ok-err : {A : Type 0} (value : A) (stop : RunEnd) → ◌≡◌ {A = Result A RunEnd} (Ok value) (Err stop) → ⊥
+ok-err value stop e = cc
 
-by-answer : (keytab : Result (List Entry) RunEnd) (end : RunEnd) (name : Name) (due answer : Result (List ℕ) FileStop) (octets : List ℕ) (entries : List Entry) → due ≡ Ok octets → keytab_of octets ≡ Ok entries → is_served name entries ≡ true
-    → LoadsFile due answer → (answer ≡ Err stops.CannotLoad → ⊥) → Gives NoMemory (λ k. k) keytab (keytab_in name answer) → EndsBy keytab end → end ≢ NoMemory → is_begun end ≡ true
-by-answer keytab end name due (Ok got) octets entries content read served loads fault given ends other =
+-- a file that is there and of its format is read, want of memory aside
+reads-well : {A : Type 0} (read : Result A RunEnd) (due : A) (read_in : Result (List ℕ) FileStop → Result A RunEnd) (content answer : Result (List ℕ) FileStop) (octets : List ℕ) → content ≡ Ok octets → LoadsFile content answer → (answer ≡ Err stops.CannotLoad → ⊥)
+    → read_in (Ok octets) ≡ Ok due → read_in (Err stops.NoMemory) ≡ Err NoMemory → Gives NoMemory (λ a. a) read (read_in answer) → ((stop : RunEnd) → read ≡ Err stop → stop ≢ NoMemory) → read ≡ Ok due
+reads-well {A} (Ok r) due read_in content (Ok got) octets c loads fault good wanted given other =
     let same : got ≡ octets = cc in
-    let is : keytab_in name (Ok got) ≡ Ok entries = rw same (rw read (rw served refl)) in
-    due-there keytab end entries (subst (λ (r : Result (List Entry) RunEnd). Gives NoMemory (λ k. k) keytab r) is given) ends other
-by-answer keytab end name due (Err stops.CannotLoad) octets entries content read served loads fault given ends other = absurd (fault refl)
-by-answer keytab end name due (Err (stops.Bad at)) octets entries content read served loads fault given ends other = cc
-by-answer keytab end name due (Err stops.NoMemory) octets entries content read served loads fault given ends other = wanted keytab end given ends other
+    let is : read_in (Ok got) ≡ Ok due = subst (λ (o : List ℕ). read_in (Ok o) ≡ Ok due) (sym same) good in
+    sym given ∙ is
+reads-well {A} (Err stop) due read_in content (Ok got) octets c loads fault good wanted given other =
+    let same : got ≡ octets = cc in
+    let is : read_in (Ok got) ≡ Ok due = subst (λ (o : List ℕ). read_in (Ok o) ≡ Ok due) (sym same) good in
+    absurd (ok-err due stop (sym is ∙ given (other stop refl)))
+reads-well read due read_in content (Err stops.CannotLoad) octets c loads fault good wanted given other = absurd (fault refl)
+reads-well read due read_in content (Err (stops.Bad at)) octets c loads fault good wanted given other = absurd (let f : ◌≡◌ {A = Result (List ℕ) FileStop} (Ok octets) (Err (stops.Bad at)) = sym c ∙ loads in cc)
+reads-well {A} (Ok r) due read_in content (Err stops.NoMemory) octets c loads fault good wanted given other = absurd (ok-err r NoMemory (sym given ∙ wanted))
+reads-well {A} (Err stop) due read_in content (Err stops.NoMemory) octets c loads fault good wanted given other =
+    let both : ◌≡◌ {A = Result A RunEnd} (Err stop) (Err NoMemory) = sym (given (other stop refl)) ∙ wanted in
+    let same : stop ≡ NoMemory = cc in
+    absurd (other stop refl same)
 
-by-keytab : (tells : Bool) (files : List NamedFile) (before after : List (List ℕ)) (faults faults' : ℕ) (file : Option (List ℕ)) (name : Name) (keytab : Result (List Entry) RunEnd) (end : RunEnd) → IsValidKeytab tells files file name → (Rose faults faults' → ⊥)
-    → IsKeytab tells files before after faults faults' file name keytab → EndsBy keytab end → end ≢ NoMemory → is_begun end ≡ true
-by-keytab tells files before after faults faults' None name keytab end valid steady is ends other = due-there keytab end [] is.0 ends other
-by-keytab tells files before after faults faults' (Some file) name keytab end valid steady is ends other =
-    by-answer keytab end name (file_in files file) is.answer valid.octets valid.entries valid.content valid.read valid.served (is.loaded.content valid.told) (λ e. steady (is.loaded.fault e)) is.given ends other
+rose-on : {a b c : ℕ} → Rose a b → b ≤ c → Rose a c
+rose-on r le = λ small. let less = r (omega (arith, small, le)) in omega (arith, less, le)
+
+rose-back : {a b c : ℕ} → a ≤ b → Rose b c → Rose a c
+rose-back le r = λ small. let less = r small in omega (arith, less, le)
+
+-- a run that ends by the stop of a read doesn't end so for want of memory
+not-wanted : {A : Type 0} (stop end : RunEnd) → end ≡ stop → end ≢ NoMemory → (other : RunEnd) → ◌≡◌ {A = Result A RunEnd} (Err stop) (Err other) → other ≢ NoMemory
+not-wanted stop end ends unwanted other e = λ wanted. unwanted (ends ∙ (let same : stop ≡ other = cc in same ∙ wanted))
+
+none-stops : {A : Type 0} (value : A) (other : RunEnd) → ◌≡◌ {A = Result A RunEnd} (Ok value) (Err other) → other ≢ NoMemory
+none-stops value other e = absurd (ok-err value other e)
+
+ok-same : {A : Type 0} (x y : A) → ◌≡◌ {A = Result A RunEnd} (Ok x) (Ok y) → x ≡ y
+ok-same x y e = cc
+
+ends-by : (keys other : Result Keys RunEnd) (end : RunEnd) → keys ≡ other → EndsBy keys end → EndsBy other end
+ends-by keys other end e h = subst (λ (k : Result Keys RunEnd). EndsBy k end) e h
+
+with-verifiers : (tells : Bool) (files : List NamedFile) (before after : List (List ℕ)) (faults faults' : ℕ) (named : Files) (name : Name) (entries : List Entry) (verifiers : Result (List Verifier) RunEnd) (keys : Result Keys RunEnd) (end : RunEnd) → (valid : AreValidFiles tells files named name) → entries ≡ valid.entries
+    → (Rose faults faults' → ⊥) → FromShelf tells files before after faults faults' named.verifiers verifiers_in verifiers → keys ≡ keys_with name entries verifiers → EndsBy keys end → end ≢ NoMemory → is_begun end ≡ true
+with-verifiers tells files before after faults faults' named name entries (Ok users) keys end valid same steady second are ends other =
+    let served : is_served name entries ≡ true = rw same valid.served in
+    let is : keys ≡ Ok (record { keytab = entries; verifiers = users }) = are ∙ rw served refl in
+    ends-by keys (Ok (record { keytab = entries; verifiers = users })) end is ends other
+with-verifiers tells files before after faults faults' named name entries (Err stop) keys end valid same steady second are ends other =
+    absurd (ok-err valid.users stop (sym (reads-well {A = List Verifier} (Err stop) valid.users verifiers_in (file_in files named.verifiers) second.answer valid.lines valid.text (second.loaded.content valid.told) (λ e. steady (second.loaded.fault e))
+    (rw valid.known refl) refl second.given (not-wanted {A = List Verifier} stop end (ends-by keys (Err stop) end are ends) other))))
+
+by-files : (tells : Bool) (files : List NamedFile) (before between after : List (List ℕ)) (faults counted faults' : ℕ) (named : Files) (name : Name) (keytab : Result (List Entry) RunEnd) (keys : Result Keys RunEnd) (end : RunEnd) → AreValidFiles tells files named name → (Rose faults faults' → ⊥)
+    → FromShelf tells files before between faults counted named.keytab keytab_in keytab → BehindKeytab tells files between after counted faults' named.verifiers name keytab keys → counted ≤ faults' → EndsBy keys end → end ≢ NoMemory → is_begun end ≡ true
+by-files tells files before between after faults counted faults' named name (Ok entries) keys end valid steady first behind le ends other =
+    let same : entries ≡ valid.entries = ok-same entries valid.entries (reads-well {A = List Entry} (Ok entries) valid.entries keytab_in (file_in files named.keytab) first.answer valid.octets valid.content (first.loaded.content valid.told) (λ e. steady (rose-on (first.loaded.fault e) le))
+    (rw valid.read refl) refl first.given (none-stops {A = List Entry} entries)) in
+    with-verifiers tells files between after counted faults' named name entries behind.verifiers keys end valid same (λ r. steady (rose-back first.loaded.grows r)) behind.read behind.are ends other
+by-files tells files before between after faults counted faults' named name (Err stop) keys end valid steady first behind le ends other =
+    absurd (ok-err valid.entries stop (sym (reads-well {A = List Entry} (Err stop) valid.entries keytab_in (file_in files named.keytab) first.answer valid.octets valid.content (first.loaded.content valid.told) (λ e. steady (rose-on (first.loaded.fault e) le))
+    (rw valid.read refl) refl first.given (not-wanted {A = List Entry} stop end (ends-by keys (Err stop) end behind.0 ends) other))))
+
+by-keys : (tells : Bool) (files : List NamedFile) (before after : List (List ℕ)) (faults faults' : ℕ) (named : Option Files) (name : Name) (keys : Result Keys RunEnd) (end : RunEnd) → AreValid tells files named name → (Rose faults faults' → ⊥)
+    → AreKeys tells files before after faults faults' named name keys → EndsBy keys end → end ≢ NoMemory → is_begun end ≡ true
+by-keys tells files before after faults faults' None name keys end valid steady are ends other = due-there keys end no_keys are.0 ends other
+by-keys tells files before after faults faults' (Some named) name keys end valid steady are ends other =
+    by-files tells files before are.between after faults are.counted faults' named name are.keytab keys end valid steady are.read are.behind are.grows ends other
 
 -- desks were served and no port failed
 all-served : {A : Type 0} {Base Done Failed : A → A → Type 0} (end : RunEnd) (olds news : List A) → length news ≡ length olds → is_begun end ≡ true → ((desk : ℕ) → end ≡ PortFault desk → (0 < desk) × (desk ≤ length olds))
     → ((i : ℕ) (a b : A) → slice_get olds i ≡ Some a → slice_get news i ≡ Some b → Ran Base Done Failed end i a b)
     → ((i : ℕ) (a b : A) → slice_get olds i ≡ Some a → slice_get news i ≡ Some b → Failed a b → ⊥) → end ≡ Served
 all-served Usage olds news same begun named ran steady = cc
-all-served CannotLoad olds news same begun named ran steady = cc
-all-served (Bad at) olds news same begun named ran steady = cc
+all-served (CannotLoad file) olds news same begun named ran steady = cc
+all-served (Bad file at) olds news same begun named ran steady = cc
 all-served NoKey olds news same begun named ran steady = cc
 all-served NoMemory olds news same begun named ran steady = cc
 all-served Served olds news same begun named ran steady = refl
@@ -68,4 +114,4 @@ pub completed : {A : Type 0} {Base Done Failed : A → A → Type 0} (tells : Bo
     → ((i : ℕ) (a b : A) → slice_get olds i ≡ Some a → slice_get news i ≡ Some b → Ran Base Done Failed end i a b)
     → ((i : ℕ) (a b : A) → slice_get olds i ≡ Some a → slice_get news i ≡ Some b → Failed a b → ⊥) → end ≢ NoMemory → end ≡ Served
 completed tells files before after faults faults' options end olds news begins valid steady same named ran ports other =
-    all-served end olds news same (by-keytab tells files before after faults faults' options.keytab options.name begins.keytab end valid steady begins.given begins.ends other) named ran ports
+    all-served end olds news same (by-keys tells files before after faults faults' options.files options.name begins.keys end valid steady begins.given begins.ends other) named ran ports

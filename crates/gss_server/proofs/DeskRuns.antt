@@ -1,7 +1,8 @@
 -- Desks that run one after the other.
 use Rattle.std.proofs.Common.{arith, ◌≡◌, ◌≢◌, Bool, true, false, ◌<◌, ◌≤◌, ◌⊎◌, inl, inr, ℕ, zero, suc, ◌+◌, IsTrue, List, [], ◌∷◌, ◌++◌, take, drop, length, slice_get, slice_set, Option, Some, None, sym, refl, ap, ◌∙◌, subst}
+use Rattle.std.proofs.lemmas.List.{append-nil}
 use Rattle.std.specs.List.{AllByRecursion}
-use Rattle.gss_server.specs.Desks.{Ran, IsBefore, joined, is_begun, IsFresh, IsSmall, DeskServed, DeskDone, DeskFailed, AllWithin, ServedInOrder}
+use Rattle.gss_server.specs.Desks.{Ran, IsBefore, joined, is_begun, IsFresh, IsSmall, DeskServed, DeskDone, DeskFailed, AllWithin, ServedInOrder, moments_in, draws_in}
 use Rattle.gss_server.proofs.ServedLinks.{served-none}
 use Rattle.sec_base.specs.Link.{Wire}
 use Rattle.gss_server.specs.declared.desk.Desk.{Desk}
@@ -64,8 +65,8 @@ kept : {A : Type 0} {Base Done Failed : A → A → Type 0} (end : RunEnd) (ran 
 kept (PortFault first) ran count i a b h r = r
 kept NoMemory ran count i a b h r = r
 kept Usage ran count i a b h r = r
-kept CannotLoad ran count i a b h r = r
-kept (Bad at) ran count i a b h r = r
+kept (CannotLoad file) ran count i a b h r = r
+kept (Bad file at) ran count i a b h r = r
 kept NoKey ran count i a b h r = r
 kept Served ends.Done count i a b h r = r
 kept Served ends.PortFault count i a b h r = record { base = r.base; done = λ before. r.done tt; failed = λ e. absurd (let same : count + 1 ≡ i + 1 = cc in omega arith) }
@@ -76,8 +77,8 @@ newest : {A : Type 0} {Base Done Failed : A → A → Type 0} (end : RunEnd) (ra
 newest (PortFault first) ran count a b named base done failed = record { base = base; done = λ before. absurd (let most : first ≤ count = named first refl in omega arith); failed = λ e. absurd (let most : first ≤ count = named first refl in let same : first ≡ count + 1 = cc in omega arith) }
 newest NoMemory ran count a b named base done failed = record { base = base; done = λ before. absurd before; failed = λ e. cc }
 newest Usage ran count a b named base done failed = record { base = base; done = λ before. absurd before; failed = λ e. cc }
-newest CannotLoad ran count a b named base done failed = record { base = base; done = λ before. absurd before; failed = λ e. cc }
-newest (Bad at) ran count a b named base done failed = record { base = base; done = λ before. absurd before; failed = λ e. cc }
+newest (CannotLoad file) ran count a b named base done failed = record { base = base; done = λ before. absurd before; failed = λ e. cc }
+newest (Bad file at) ran count a b named base done failed = record { base = base; done = λ before. absurd before; failed = λ e. cc }
 newest NoKey ran count a b named base done failed = record { base = base; done = λ before. absurd before; failed = λ e. cc }
 newest Served ends.Done count a b named base done failed = record { base = base; done = λ before. done refl; failed = λ e. cc }
 newest Served ends.PortFault count a b named base done failed = record { base = base; done = λ before. absurd (omega arith); failed = λ e. failed refl }
@@ -87,8 +88,8 @@ named-more : (end : RunEnd) (ran : DeskEnd) (count : ℕ) → ((desk : ℕ) → 
 named-more (PortFault first) ran count named desk e = let both : (0 < desk) × (desk ≤ count) = named desk e in (both.0, omega (arith, both.1))
 named-more NoMemory ran count named desk e = (cc, cc)
 named-more Usage ran count named desk e = (cc, cc)
-named-more CannotLoad ran count named desk e = (cc, cc)
-named-more (Bad at) ran count named desk e = (cc, cc)
+named-more (CannotLoad file) ran count named desk e = (cc, cc)
+named-more (Bad file at) ran count named desk e = (cc, cc)
 named-more NoKey ran count named desk e = (cc, cc)
 named-more Served ends.Done count named desk e = (cc, cc)
 named-more Served ends.PortFault count named desk e = let same : count + 1 ≡ desk = cc in (omega arith, omega arith)
@@ -98,8 +99,8 @@ pub begun-more : (end : RunEnd) (ran : DeskEnd) (number : ℕ) → (end ≢ NoMe
 begun-more (PortFault first) ran number begun other = refl
 begun-more NoMemory ran number begun other = begun other
 begun-more Usage ran number begun other = begun other
-begun-more CannotLoad ran number begun other = begun other
-begun-more (Bad at) ran number begun other = begun other
+begun-more (CannotLoad file) ran number begun other = begun other
+begun-more (Bad file at) ran number begun other = begun other
 begun-more NoKey ran number begun other = begun other
 begun-more Served ends.Done number begun other = refl
 begun-more Served ends.PortFault number begun other = refl
@@ -150,8 +151,8 @@ unbegun-before : (end : RunEnd) (i : ℕ) → is_begun end ≡ false → IsBefor
 unbegun-before (PortFault desk) i unbegun before = cc
 unbegun-before NoMemory i unbegun before = before
 unbegun-before Usage i unbegun before = before
-unbegun-before CannotLoad i unbegun before = before
-unbegun-before (Bad at) i unbegun before = before
+unbegun-before (CannotLoad file) i unbegun before = before
+unbegun-before (Bad file at) i unbegun before = before
 unbegun-before NoKey i unbegun before = before
 unbegun-before Served i unbegun before = cc
 
@@ -162,12 +163,15 @@ all-by-place Q [] (y ∷ news) same each = absurd (omega arith)
 all-by-place Q (x ∷ olds) (y ∷ news) same each = (each 0 x y refl refl, all-by-place Q olds news (omega arith) (λ i a b before after. each (suc i) a b before after))
 
 -- a desk that served nothing
-pub idle-served : {P C D L : Type 0} (width connections : ℕ) (port_tells : P → Bool) (links : P → List L) (tells : L → Bool) (wire : L → Wire) (faults : L → ℕ) (desk : Desk P C D L) → IsFresh desk → DeskServed width connections port_tells links tells wire faults desk desk
-idle-served {P} {C} {D} {L} width connections port_tells links tells wire faults desk fresh =
+pub idle-served : {P C D L : Type 0} (width connections : ℕ) (port_tells : P → Bool) (links : P → List L) (tells : L → Bool) (wire : L → Wire) (faults : L → ℕ) (clock_tells : C → Bool) (clock_given : C → List ℕ) (draw_tells : D → Bool) (draw_given : D → List ℕ) (desk : Desk P C D L) → IsFresh desk
+    → DeskServed width connections port_tells links tells wire faults clock_tells clock_given draw_tells draw_given desk desk
+idle-served {P} {C} {D} {L} width connections port_tells links tells wire faults clock_tells clock_given draw_tells draw_given desk fresh =
     let none : length desk.served.items ≡ 0 = ap length fresh in record {
       order = λ t. subst (λ xs. ServedInOrder width tells wire faults (links desk.port) (links desk.port) xs) (sym fresh) (served-none width tells wire faults (links desk.port));
       most = omega (arith, desk.served.ok);
       within = subst (λ xs. AllWithin xs) (sym fresh) tt;
+      moments = λ t. subst (λ xs. clock_given desk.clock ≡ clock_given desk.clock ++ moments_in xs) (sym fresh) (sym (append-nil (clock_given desk.clock)));
+      draws = λ t. subst (λ xs. draw_given desk.draw ≡ draw_given desk.draw ++ draws_in xs) (sym fresh) (sym (append-nil (draw_given desk.draw)));
     }
 
 -- where no desk was asked, each is as it was
@@ -177,8 +181,8 @@ idle-run {A} {Base} {Done} {Failed} P desks end all base unbegun i a b before af
     (record { base = base a (all-at P desks i a all before); done = λ early. absurd (unbegun-before end i unbegun early); failed = λ e. absurd (unbegun-fails end (i + 1) unbegun e) })
 
 -- the desks of a run are small
-pub ran-small : {P C D L : Type 0} {width connections : ℕ} {port_tells : P → Bool} {links : P → List L} {tells : L → Bool} {wire : L → Wire} {faults : L → ℕ} (port_faults : P → ℕ) {end : RunEnd} (olds news : List (Desk P C D L)) → connections ≤ 1000000 → length news ≡ length olds
-    → ((i : ℕ) (a b : Desk P C D L) → slice_get olds i ≡ Some a → slice_get news i ≡ Some b → Ran (DeskServed width connections port_tells links tells wire faults) (DeskDone connections port_tells links) (DeskFailed port_faults) end i a b) → AllByRecursion IsSmall news
+pub ran-small : {P C D L : Type 0} {width connections : ℕ} {port_tells : P → Bool} {links : P → List L} {tells : L → Bool} {wire : L → Wire} {faults : L → ℕ} {clock_tells : C → Bool} {clock_given : C → List ℕ} {draw_tells : D → Bool} {draw_given : D → List ℕ} (port_faults : P → ℕ) {end : RunEnd} (olds news : List (Desk P C D L)) → connections ≤ 1000000 → length news ≡ length olds
+    → ((i : ℕ) (a b : Desk P C D L) → slice_get olds i ≡ Some a → slice_get news i ≡ Some b → Ran (DeskServed width connections port_tells links tells wire faults clock_tells clock_given draw_tells draw_given) (DeskDone connections port_tells links) (DeskFailed port_faults) end i a b) → AllByRecursion IsSmall news
 ran-small port_faults olds news few same each = all-by-place IsSmall olds news same (λ i a b before after. let one = each i a b before after in record { few = omega (arith, one.base.most); within = one.base.within })
 
 front : {A : Type 0} (xs zs : List A) → take (length xs) (xs ++ zs) ≡ xs

@@ -7,11 +7,11 @@ pub mod Turning
 pub mod LoopTurns
 pub mod Replying
 pub mod StatusLines
-pub mod EmptyKeytab
+pub mod NoKeys
 pub mod DeskRuns
 pub mod ServedLinks
 pub mod Wanting
 pub mod Completions
 pub mod InTurn
-pub mod KeytabNames
+pub mod KeyNames
 pub mod Stepped

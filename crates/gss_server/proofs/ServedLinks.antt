@@ -1,8 +1,13 @@
 -- One more link of a port was served.
 use Rattle.std.proofs.Common.{◌≡◌, ◌≢◌, ◌≤◌, ℕ, Bool, List, [], ◌∷◌, ◌++◌, refl, ap, sym, ◌∙◌, append_assoc, vec_len, ◌+◌, cond, is_ok, Result, Ok, Err, OnErr, arith, Option, Some, subst}
+use Rattle.std.specs.List.{flat_map}
+use Rattle.std.proofs.lemmas.List.{append-nil}
+use Rattle.std.proofs.lemmas.Grind.{flat_map-append}
 use Rattle.sec_base.specs.Link.{Wire}
 use Rattle.sec_base.specs.Port.{Accepts}
 use Rattle.sec_base.specs.declared.port.PortFault.{PortFault}
+use Rattle.gss_server.specs.Kept.{Keeps}
+use Rattle.gss_server.specs.declared.answer.Kept.{Kept}
 use Rattle.gss_server.specs.declared.connection.Served.{Served}
 use Rattle.gss_server.specs.declared.connection.ConnEnd.TheVariants.{NoMemory}
 use Rattle.gss_server.specs.Desks.{AllServed, ServedLink, ServedInOrder, NoneWanted, AllWithin}
@@ -30,6 +35,13 @@ none-wanted-more (x ∷ served) one a h = (a.0, none-wanted-more served one a.1 
 pub within-more : {L : Type 0} (served : List (Served L)) (one : Served L) → AllWithin served → vec_len one.kept ≤ 65536 → AllWithin (served ++ one ∷ [])
 within-more [] one a h = (h, tt)
 within-more (x ∷ served) one a h = (a.0, within-more served one a.1 h)
+
+-- what was given for a connection stands behind what was given for those before
+pub given-more : {L : Type 0} (held : List Kept → List ℕ) (a b c : List ℕ) (served : List (Served L)) (one : Served L) → b ≡ a ++ flat_map (λ each. held each.kept.items) served → Keeps b c [] one.kept.items held → c ≡ a ++ flat_map (λ each. held each.kept.items) (served ++ one ∷ [])
+given-more {L} held a b c served one p q =
+    let holds : Served L → List ℕ = λ each. held each.kept.items in
+    let last : flat_map holds (served ++ one ∷ []) ≡ flat_map holds served ++ holds one = flat_map-append holds served (one ∷ []) ∙ ap (λ (us : List ℕ). flat_map holds served ++ us) (append-nil (holds one)) in
+    q.given ∙ (ap (λ (us : List Kept). b ++ held us) (sym q.kept) ∙ (ap (λ (us : List ℕ). us ++ holds one) p ∙ (append_assoc a (flat_map holds served) (holds one) ∙ ap (λ (us : List ℕ). a ++ us) (sym last))))
 
 -- a value for which there is room is put at the end
 pub pushed : {X E : Type 0} (result : Result (Unit {0}) E) (xs ys : List X) (x : X) (len cap : ℕ) → ys ≡ cond (is_ok result) (xs ++ x ∷ []) xs → OnErr result (cap ≤ len) → len + 1 ≤ cap → ys ≡ xs ++ x ∷ []

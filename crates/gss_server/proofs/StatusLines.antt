@@ -1,10 +1,11 @@
 -- The line of a known status is the line that is due.
-use Rattle.std.proofs.Common.{◌≡◌, ◌≢◌, ℕ, ◌<◌, List, [], true, false, refl, arith}
+use Rattle.std.proofs.Common.{◌≡◌, ◌≢◌, ℕ, ◌<◌, List, [], Option, None, true, false, refl, arith}
 use Rattle.gss_server.specs.Desks.{is_begun}
 use Rattle.gss_server.specs.Lines.{line_of}
 use Rattle.gss_server.specs.declared.ending.Counts.{Counts}
 use Rattle.gss_server.specs.declared.ending.RunEnd.{RunEnd}
 use Rattle.gss_server.specs.declared.ending.RunEnd.TheVariants.{Usage, CannotLoad, Bad, NoKey, PortFault, NoMemory, Served}
+use Rattle.gss_server.specs.declared.options.Files.{Files}
 use Rattle.cli_base.specs.Lines.{SaysLine, Says, memory_line}
 
 pub known-said : {old new : List ℕ} {status : ℕ} {line : List ℕ} (known : ℕ) → known < 6 → (status ≢ 6 → status ≡ known) → SaysLine old new status line → Says old new status line
@@ -24,12 +25,12 @@ memory-said {old} {new} {status} {due} same said = record {
 false≢true : false ≡ true → ⊥
 false≢true e = cc
 
--- behind the keytab the line is one that speaks of no file
-pub end-line : (end : RunEnd) (file name : List ℕ) (counts : Counts) → (end ≢ NoMemory → is_begun end ≡ true) → line_of [] [] counts end ≡ line_of file name counts end
-end-line Usage file name counts begun = absurd (false≢true (begun (λ e. cc)))
-end-line CannotLoad file name counts begun = absurd (false≢true (begun (λ e. cc)))
-end-line (Bad at) file name counts begun = absurd (false≢true (begun (λ e. cc)))
-end-line NoKey file name counts begun = absurd (false≢true (begun (λ e. cc)))
-end-line (PortFault desk) file name counts begun = refl
-end-line NoMemory file name counts begun = refl
-end-line Served file name counts begun = refl
+-- behind the keys the line is one that speaks of no file
+pub end-line : (end : RunEnd) (files : Option Files) (name : List ℕ) (counts : Counts) → (end ≢ NoMemory → is_begun end ≡ true) → line_of None [] counts end ≡ line_of files name counts end
+end-line Usage files name counts begun = absurd (false≢true (begun (λ e. cc)))
+end-line (CannotLoad file) files name counts begun = absurd (false≢true (begun (λ e. cc)))
+end-line (Bad file at) files name counts begun = absurd (false≢true (begun (λ e. cc)))
+end-line NoKey files name counts begun = absurd (false≢true (begun (λ e. cc)))
+end-line (PortFault desk) files name counts begun = refl
+end-line NoMemory files name counts begun = refl
+end-line Served files name counts begun = refl

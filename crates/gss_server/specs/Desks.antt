@@ -1,9 +1,10 @@
 -- What a desk did: it served the links of its port, in order.
 use Rattle.std.specs.Prelude.{◌≡◌, ◌≢◌, ◌⊎◌, ℕ, ◌+◌, ◌<◌, ◌≤◌, Bool, true, false, List, [], ◌∷◌, ◌++◌, IsTrue, vec_len, sum_by}
-use Rattle.std.specs.List.{AllByRecursion}
+use Rattle.std.specs.List.{AllByRecursion, flat_map}
 use Rattle.sec_base.specs.Answers.{Rose}
 use Rattle.sec_base.specs.Link.{Wire}
 use Rattle.gss_server.specs.Connections.{IsServed, StreamEnds}
+use Rattle.gss_server.specs.Kept.{moments_of, draws_of}
 use Rattle.gss_server.specs.declared.connection.ConnEnd.{ConnEnd}
 use Rattle.gss_server.specs.declared.connection.ConnEnd.TheVariants.{LinkFault, NoMemory}
 use Rattle.gss_server.specs.declared.connection.Served.{Served}
@@ -43,17 +44,27 @@ records_of served = sum_by (λ one. vec_len one.kept) served
 abbrev pub AllWithin : {L : Type 0} → List (Served L) → Type 0
 AllWithin served = AllByRecursion (λ one. vec_len one.kept ≤ 65536) served
 
+-- the moments that the kept answers of connections hold, in order, and the octets that were drawn for them
+abbrev pub moments_in : {L : Type 0} → List (Served L) → List ℕ
+moments_in served = flat_map (λ one. moments_of one.kept.items) served
+
+abbrev pub draws_in : {L : Type 0} → List (Served L) → List ℕ
+draws_in served = flat_map (λ one. draws_of one.kept.items) served
+
 -- ---- one desk
 
 -- it has served no link yet
 abbrev pub IsFresh : {P C D L : Type 0} → Desk P C D L → Type 0
 IsFresh desk = desk.served.items ≡ []
 
--- it served the first links of its port, in order, and at most so many
-pub record DeskServed {P C D L : Type 0} (width connections : ℕ) (port_tells : P → Bool) (links : P → List L) (tells : L → Bool) (wire : L → Wire) (faults : L → ℕ) (old new : Desk P C D L) : Type 0 where
+-- it served the first links of its port, in order, and at most so many; what its clock and its draw gave meanwhile is what the kept
+-- answers of its connections hold
+pub record DeskServed {P C D L : Type 0} (width connections : ℕ) (port_tells : P → Bool) (links : P → List L) (tells : L → Bool) (wire : L → Wire) (faults : L → ℕ) (clock_tells : C → Bool) (clock_given : C → List ℕ) (draw_tells : D → Bool) (draw_given : D → List ℕ) (old new : Desk P C D L) : Type 0 where
   pub order : IsTrue (port_tells old.port) → ServedInOrder width tells wire faults (links old.port) (links new.port) new.served.items
   pub most : vec_len new.served ≤ connections
   pub within : AllWithin new.served.items
+  pub moments : IsTrue (clock_tells new.clock) → clock_given new.clock ≡ clock_given old.clock ++ moments_in new.served.items
+  pub draws : IsTrue (draw_tells new.draw) → draw_given new.draw ≡ draw_given old.draw ++ draws_in new.served.items
 
 -- it is done: all links of its port were served, or so many, and none ended for want of memory
 pub record DeskDone {P C D L : Type 0} (connections : ℕ) (port_tells : P → Bool) (links : P → List L) (old new : Desk P C D L) : Type 0 where
@@ -71,13 +82,13 @@ pub record IsSmall {P C D L : Type 0} (desk : Desk P C D L) : Type 0 where
 
 -- ---- several desks, one after the other
 
--- desks were served: the words were in the command, and the keytab was there
+-- desks were served: the words were in the command, and the keys were there
 abbrev pub is_begun : RunEnd → Bool
 is_begun (whole.PortFault desk) = true
 is_begun whole.NoMemory = false
 is_begun whole.Usage = false
-is_begun whole.CannotLoad = false
-is_begun (whole.Bad at) = false
+is_begun (whole.CannotLoad file) = false
+is_begun (whole.Bad file at) = false
 is_begun whole.NoKey = false
 is_begun whole.Served = true
 
@@ -86,8 +97,8 @@ abbrev pub joined : RunEnd → ℕ → DeskEnd → RunEnd
 joined (whole.PortFault first) desk end = whole.PortFault first
 joined whole.NoMemory desk end = whole.NoMemory
 joined whole.Usage desk end = whole.Usage
-joined whole.CannotLoad desk end = whole.CannotLoad
-joined (whole.Bad at) desk end = whole.Bad at
+joined (whole.CannotLoad file) desk end = whole.CannotLoad file
+joined (whole.Bad file at) desk end = whole.Bad file at
 joined whole.NoKey desk end = whole.NoKey
 joined whole.Served desk ends.Done = whole.Served
 joined whole.Served desk ends.PortFault = whole.PortFault desk
@@ -98,8 +109,8 @@ abbrev pub IsBefore : ℕ → RunEnd → Type 0
 IsBefore i (whole.PortFault desk) = i + 1 < desk
 IsBefore i whole.NoMemory = ⊥
 IsBefore i whole.Usage = ⊥
-IsBefore i whole.CannotLoad = ⊥
-IsBefore i (whole.Bad at) = ⊥
+IsBefore i (whole.CannotLoad file) = ⊥
+IsBefore i (whole.Bad file at) = ⊥
 IsBefore i whole.NoKey = ⊥
 IsBefore i whole.Served = Unit {0}
 

@@ -4,7 +4,7 @@ pub mod Connections
 pub mod Desks
 pub mod Hearing
 pub mod Kept
-pub mod Keytabs
+pub mod Keys
 pub mod Lines
 pub mod Options
 pub mod Listed

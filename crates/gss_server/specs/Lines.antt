@@ -1,12 +1,15 @@
 -- What the server prints on standard error.
-use Rattle.std.specs.Prelude.{ℕ, List, ◌++◌, codes}
+use Rattle.std.specs.Prelude.{ℕ, List, [], ◌++◌, codes, Option, Some, None}
 use Rattle.std.specs.Fmt.{decimal}
 use Rattle.cli_base.specs.Files.{stop_line}
 use Rattle.cli_base.specs.Lines.{memory_line}
 use Rattle.cli_base.specs.declared.files.FileStop.TheVariants as stops
 use Rattle.gss_server.specs.declared.ending.Counts.{Counts}
+use Rattle.gss_server.specs.declared.ending.KeyFile.{KeyFile}
+use Rattle.gss_server.specs.declared.ending.KeyFile.TheVariants.{Keytab, Verifiers}
 use Rattle.gss_server.specs.declared.ending.RunEnd.{RunEnd}
 use Rattle.gss_server.specs.declared.ending.RunEnd.TheVariants.{Usage, CannotLoad, Bad, NoKey, PortFault, NoMemory, Served}
+use Rattle.gss_server.specs.declared.options.Files.{Files}
 
 abbrev pub usage_line : List ℕ
 usage_line = codes "usage: gssrpcd ADDRESS --keytab FILE --verifiers FILE --name PRINCIPAL [options]\n"
@@ -22,19 +25,25 @@ served_line counts = codes "served " ++ (decimal counts.connections ++ (codes " 
 
 abbrev pub status_of : RunEnd → ℕ
 status_of Usage = 2
-status_of CannotLoad = 3
-status_of (Bad at) = 4
+status_of (CannotLoad file) = 3
+status_of (Bad file at) = 4
 status_of NoKey = 4
 status_of (PortFault desk) = 5
 status_of NoMemory = 8
 status_of Served = 0
 
--- the line of an end, by the name of the keytab's file, the own name and what was served
-abbrev pub line_of : List ℕ → List ℕ → Counts → RunEnd → List ℕ
-line_of file name counts Usage = usage_line
-line_of file name counts CannotLoad = stop_line file stops.CannotLoad
-line_of file name counts (Bad at) = stop_line file (stops.Bad at)
-line_of file name counts NoKey = no_key_line name
-line_of file name counts (PortFault desk) = port_line desk
-line_of file name counts NoMemory = memory_line
-line_of file name counts Served = served_line counts
+-- the name of a file, which is empty where no files are named
+abbrev pub file_of : Option Files → KeyFile → List ℕ
+file_of None file = []
+file_of (Some files) Keytab = files.keytab
+file_of (Some files) Verifiers = files.verifiers
+
+-- the line of an end, by the files of the keys, the own name and what was served
+abbrev pub line_of : Option Files → List ℕ → Counts → RunEnd → List ℕ
+line_of files name counts Usage = usage_line
+line_of files name counts (CannotLoad file) = stop_line (file_of files file) stops.CannotLoad
+line_of files name counts (Bad file at) = stop_line (file_of files file) (stops.Bad at)
+line_of files name counts NoKey = no_key_line name
+line_of files name counts (PortFault desk) = port_line desk
+line_of files name counts NoMemory = memory_line
+line_of files name counts Served = served_line counts

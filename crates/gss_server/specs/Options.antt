@@ -6,8 +6,8 @@ use Rattle.gss_base.specs.Signs.{parsed}
 use Rattle.gss_base.specs.declared.principal.NameRefusal.{NameRefusal}
 use Rattle.cli_base.specs.Numbers.{number_in}
 use Rattle.cli_base.specs.Words.{are_words, value_of, first_word, plain_of}
+use Rattle.gss_server.specs.declared.options.Files.{Files}
 use Rattle.gss_server.specs.declared.options.Options.{Options}
-use Rattle.gss_server.specs.declared.options.Own.{Own}
 use Rattle.gss_server.specs.declared.options.WordsRefusal.{WordsRefusal}
 use Rattle.gss_server.specs.declared.options.WordsRefusal.TheVariants.{Usage}
 
@@ -18,7 +18,7 @@ abbrev pub ◌>>=◌ : {A B E : Type 0} → Result A E → (A → Result B E) �
 
 -- the names of the options
 abbrev pub names : List (List ℕ)
-names = codes "--keytab" ∷ codes "--name" ∷ codes "--bind" ∷ codes "--window" ∷ codes "--connections" ∷ codes "--contexts" ∷ codes "--marks" ∷ codes "--log" ∷ []
+names = codes "--keytab" ∷ codes "--verifiers" ∷ codes "--name" ∷ codes "--bind" ∷ codes "--window" ∷ codes "--connections" ∷ codes "--contexts" ∷ codes "--marks" ∷ codes "--log" ∷ []
 
 -- an address stands first; `drill` is none
 abbrev pub is_address : Option (List ℕ) → Bool
@@ -50,30 +50,33 @@ abbrev pub name_by : Result Name NameRefusal → Result Name WordsRefusal
 name_by (Ok name) = Ok name
 name_by (Err refusal) = Err Usage
 
-abbrev pub own_by : Option (List ℕ) → List ℕ → Result Own WordsRefusal
-own_by keytab text = do
-  name ← name_by (parsed text)
-  Ok (record { keytab = keytab; name = name })
+-- the files of the keys, which are named together or not at all
+abbrev pub files_given : Option (List ℕ) → Option (List ℕ) → Result (Option Files) WordsRefusal
+files_given None None = Ok None
+files_given None (Some verifiers) = Err Usage
+files_given (Some keytab) None = Err Usage
+files_given (Some keytab) (Some verifiers) = Ok (Some (record { keytab = keytab; verifiers = verifiers }))
 
--- the keytab's file and the own name, which are given together; without them the name is `none@none`
-abbrev pub own_given : Option (List ℕ) → Option (List ℕ) → Result Own WordsRefusal
-own_given None None = own_by None (codes "none@none")
-own_given None (Some name) = Err Usage
-own_given (Some file) None = Err Usage
-own_given (Some file) (Some name) = own_by (Some file) name
+-- the own name, which is given exactly where they are; without them it is `none@none`
+abbrev pub name_given : Option Files → Option (List ℕ) → Result Name WordsRefusal
+name_given None None = name_by (parsed (codes "none@none"))
+name_given None (Some text) = Err Usage
+name_given (Some files) None = Err Usage
+name_given (Some files) (Some text) = name_by (parsed text)
 
 -- what the words ask for, refused exactly where they aren't in the command
 unfoldable pub options_of : List (List ℕ) → Result Options WordsRefusal
 options_of words = do
   formed ← formed words
-  own ← own_given (value_of (codes "--keytab") words) (value_of (codes "--name") words)
+  files ← files_given (value_of (codes "--keytab") words) (value_of (codes "--verifiers") words)
+  name ← name_given files (value_of (codes "--name") words)
   bound ← data_given (value_of (codes "--bind") words)
   window ← number_given 1 1024 128 (value_of (codes "--window") words)
   connections ← number_given 1 1000000 1000 (value_of (codes "--connections") words)
   contexts ← number_given 1 65536 1024 (value_of (codes "--contexts") words)
   marks ← number_given 1 1000000 65536 (value_of (codes "--marks") words)
   log ← number_given 16 4000000 262144 (value_of (codes "--log") words)
-  Ok (record { keytab = own.keytab; name = own.name; bindings = bound; window = window; connections = connections; contexts = contexts; marks = marks; log = log })
+  Ok (record { files = files; name = name; bindings = bound; window = window; connections = connections; contexts = contexts; marks = marks; log = log })
 
 -- the limits of the options
 pub record IsRanged (options : Options) : Type 0 where

@@ -1,8 +1,7 @@
 -- Through which states of a gate the desks of a run went, one after the other.
 use Rattle.std.specs.Prelude.{◌≡◌, ℕ, Bool, IsTrue, List, [], ◌∷◌, ◌++◌, reverse}
 use Rattle.sec_base.specs.Link.{Wire}
-use Rattle.gss_base.specs.declared.mech.MechKind.TheVariants.{Kerberos}
-use Rattle.krb_files.specs.declared.keytab.Entry.{Entry}
+use Rattle.gss_base.specs.declared.mech.MechKind.TheVariants.{Kerberos, Scram}
 use Rattle.accept_book.specs.Booking.{BookOf}
 use Rattle.accept_book.specs.Logs.{LogOf}
 use Rattle.accept_book.specs.RecordShown.{Asked}
@@ -10,6 +9,7 @@ use Rattle.gss_server.specs.Asking.{Asking}
 use Rattle.gss_server.specs.Connections.{IsServedBy}
 use Rattle.gss_server.specs.declared.connection.Served.{Served}
 use Rattle.gss_server.specs.declared.desk.Desk.{Desk}
+use Rattle.gss_server.specs.declared.keys.Keys.{Keys}
 use Rattle.gss_server.specs.declared.options.Options.{Options}
 
 -- links were served one after the other, each from the state that the one before left: a link that tells its octets had the answers
@@ -40,12 +40,13 @@ InTurn One before [] (new ∷ news) after = ⊥
 InTurn One before (old ∷ olds) [] after = ⊥
 InTurn {S} One before (old ∷ olds) (new ∷ news) after = (middle : S) × One before old new middle × InTurn One middle olds news after
 
--- a book as it is opened: for the own name, with these keys and the bindings of the options, under their limits, without contexts
-pub record IsOpened (options : Options) (keytab : List Entry) (start : ℕ) (book : BookOf) : Type 0 where
+-- a book as it is opened: for the own name, with these keys and the bindings of the options, to both mechanisms, under the options' limits, without contexts
+pub record IsOpened (options : Options) (keys : Keys) (start : ℕ) (book : BookOf) : Type 0 where
   pub own : book.setup.own ≡ options.name
-  pub keys : book.setup.keytab ≡ keytab
+  pub keytab : book.setup.keytab ≡ keys.keytab
+  pub verifiers : book.setup.verifiers ≡ keys.verifiers
   pub bindings : book.setup.bindings ≡ options.bindings
-  pub offer : book.setup.offer ≡ Kerberos ∷ []
+  pub offer : book.setup.offer ≡ Kerberos ∷ Scram ∷ []
   pub history : book.core.history ≡ []
   pub limit : book.core.limit ≡ options.log
   pub width : book.core.width ≡ options.window
@@ -63,9 +64,9 @@ pub record IsLogOf (book : BookOf) (log : LogOf) : Type 0 where
   pub marks : log.marks ≡ book.core.cache.capacity
 
 -- one book went through all of this, from its opening to the log that is returned
-pub record Booked (options : Options) (keytab : List Entry) (start : ℕ) (Through : BookOf → BookOf → Type 0) (log : LogOf) : Type 0 where
+pub record Booked (options : Options) (keys : Keys) (start : ℕ) (Through : BookOf → BookOf → Type 0) (log : LogOf) : Type 0 where
   pub first : BookOf
   pub last : BookOf
-  pub opened : IsOpened options keytab start first
+  pub opened : IsOpened options keys start first
   pub through : Through first last
   pub closed : IsLogOf last log

@@ -1,8 +1,8 @@
 //! A desk: a port, and the connections that it served.
 
-ghost use Rattle.std.specs.Prelude.{◌≡◌, ◌≢◌, ◌≤◌, ◌⊎◌, ℕ, List, [], ◌∷◌, IsTrue, vec_len};
+ghost use Rattle.std.specs.Prelude.{◌≡◌, ◌≢◌, ◌≤◌, ◌⊎◌, ◌++◌, ℕ, List, [], ◌∷◌, IsTrue, vec_len};
 ghost use Rattle.sec_base.specs.Answers.{Rose};
-ghost use Rattle.gss_server.specs.Desks.{ServedInOrder, NoneWanted, AllWithin};
+ghost use Rattle.gss_server.specs.Desks.{ServedInOrder, NoneWanted, AllWithin, moments_in, draws_in};
 ghost use Rattle.gss_server.specs.Through.{DeskAsked};
 
 use crate::connection::{ConnEnd, Served, serve_link};
@@ -49,6 +49,9 @@ where
     ensures most { vec_len desk.new.served ≤ connections }
     ensures within { AllWithin desk.new.served.items }
     ensures limits { G.limits gate.new ≡ G.limits gate.old }
+    // Its kept answers have the clock's moments and the draw's octets, one after the other, and no others were given.
+    ensures moments { IsTrue (C.tells desk.new.clock) → C.given desk.new.clock ≡ C.given desk.old.clock ++ moments_in desk.new.served.items }
+    ensures draws { IsTrue (D.tells desk.new.draw) → D.given desk.new.draw ≡ D.given desk.old.draw ++ draws_in desk.new.served.items }
     // The gate was asked by one connection after the other.
     ensures asked { DeskAsked G.answers width P.tells P.links P.Link.tells P.Link.wire gate.old desk.old desk.new gate.new }
 {

@@ -39,7 +39,7 @@ where
     P::Link: Drop,
     requires { AllByRecursion IsFresh desks.old }
     ensures ran { (i : ℕ) (a b : _) → slice_get desks.old i ≡ Some a → slice_get desks.new i ≡ Some b
-        → Ran (DeskServed width connections P.tells P.links P.Link.tells P.Link.wire P.Link.faults) (DeskDone connections P.tells P.links) (DeskFailed P.faults) result i a b }
+        → Ran (DeskServed width connections P.tells P.links P.Link.tells P.Link.wire P.Link.faults C.tells C.given D.tells D.given) (DeskDone connections P.tells P.links) (DeskFailed P.faults) result i a b }
     ensures named { (desk : ℕ) → result ≡ RunEnd.PortFault desk → (0 < desk) × (desk ≤ length desks.old) }
     ensures begun { result ≢ RunEnd.NoMemory → is_begun result ≡ true }
     ensures count { length desks.new ≡ length desks.old }

@@ -4,7 +4,7 @@ ghost use Rattle.std.specs.Prelude.{◌≡◌, ◌≤◌, IfOk, Some, codes};
 ghost use Rattle.sec_base.specs.Answers.{Gives};
 ghost use Rattle.std.specs.Option.{option_map};
 ghost use Rattle.cli_base.specs.Words.{value_of, first_word};
-ghost use Rattle.gss_server.specs.Options.{is_command, formed, number_given, data_given, name_by, own_given, options_of, IsRanged};
+ghost use Rattle.gss_server.specs.Options.{is_command, formed, number_given, data_given, name_by, files_given, name_given, options_of, IsRanged};
 ghost use Rattle.gss_base.specs.Signs.{parsed};
 
 use cli_base::{are_words, count_plain, first_word, number_in, value_of};
@@ -12,14 +12,22 @@ use gss_base::{Bindings, NameRefusal, Principal};
 use sec_base::{NoMemory, Octets, Text};
 use std::alloc::Global;
 
-/// The name of a server without a keytab.
+/// The name of a server without keys.
 const NO_NAME: &str = "none@none";
+
+/// The files of the server's keys.
+#[derive(Debug, Drop)]
+pub struct Files {
+    pub keytab: Text,
+    /// The users of SCRAM.
+    pub verifiers: Text,
+}
 
 /// What the words of the server ask for.
 #[derive(Debug, Drop)]
 pub struct Options {
-    /// The file of the keytab; without one no ticket is opened.
-    pub keytab: Option<Text>,
+    /// The files of the keys; without them no ticket is opened and no user is known.
+    pub files: Option<Files>,
     /// The own name.
     pub name: Principal,
     pub bindings: Option<Bindings>,
@@ -61,13 +69,6 @@ impl From<NoMemory> for WordsRefusal {
     }
 }
 
-/// The keytab's file and the own name.
-#[derive(Debug, Drop)]
-struct Own {
-    keytab: Option<Text>,
-    name: Principal,
-}
-
 /// Whether the words are an address and options with their values.
 fn is_command(words: &[Text]) -> bool
     ensures { result ≡ is_command words.now }
@@ -82,6 +83,7 @@ fn is_command(words: &[Text]) -> bool
             words,
             &[
                 "--keytab",
+                "--verifiers",
                 "--name",
                 "--bind",
                 "--window",
@@ -161,28 +163,42 @@ fn name_of(alloc: Global, text: &str) -> Result<Principal, WordsRefusal>
     }
 }
 
-/// The keytab's file and the own name that the words ask for.
-fn own_given(alloc: Global, words: &[Text]) -> Result<Own, WordsRefusal>
-    ensures { Gives WordsRefusal.NoMemory (λ own. own) result (own_given (value_of (codes "--keytab") words.now) (value_of (codes "--name") words.now)) }
+/// The files of the keys, which the words name together or not at all.
+fn files_given(alloc: Global, words: &[Text]) -> Result<Option<Files>, WordsRefusal>
+    ensures { Gives WordsRefusal.NoMemory (λ files. files) result (files_given (value_of (codes "--keytab") words.now) (value_of (codes "--verifiers") words.now)) }
 {
     match value_of(words, "--keytab") {
-        None => match value_of(words, "--name") {
-            None => {
-                let name = name_of(alloc, NO_NAME)?;
-                Ok(Own { keytab: None, name })
-            }
+        None => match value_of(words, "--verifiers") {
+            None => Ok(None),
             Some(_) => Err(WordsRefusal::Usage),
         },
-        Some(file) => match value_of(words, "--name") {
+        Some(keytab) => match value_of(words, "--verifiers") {
             None => Err(WordsRefusal::Usage),
-            Some(name) => {
-                let name = name_of(alloc, name)?;
-                let keytab = Text::of(alloc, file)?;
-                Ok(Own {
-                    keytab: Some(keytab),
-                    name,
-                })
+            Some(verifiers) => {
+                let keytab = Text::of(alloc, keytab)?;
+                let verifiers = Text::of(alloc, verifiers)?;
+                Ok(Some(Files { keytab, verifiers }))
             }
+        },
+    }
+}
+
+/// The own name, which the words give together with these files or not at all.
+fn name_given(
+    alloc: Global,
+    files: &Option<Files>,
+    words: &[Text],
+) -> Result<Principal, WordsRefusal>
+    ensures { Gives WordsRefusal.NoMemory (λ name. name) result (name_given files.now (value_of (codes "--name") words.now)) }
+{
+    match files {
+        None => match value_of(words, "--name") {
+            None => name_of(alloc, NO_NAME),
+            Some(_) => Err(WordsRefusal::Usage),
+        },
+        Some(_) => match value_of(words, "--name") {
+            None => Err(WordsRefusal::Usage),
+            Some(name) => name_of(alloc, name),
         },
     }
 }
@@ -194,7 +210,8 @@ pub fn read_options(alloc: Global, words: &[Text]) -> Result<Options, WordsRefus
     ensures range { IfOk result IsRanged }
 {
     demand_form(words)?;
-    let own = own_given(alloc, words)?;
+    let files = files_given(alloc, words)?;
+    let name = name_given(alloc, &files, words)?;
     let bindings = bindings_given(alloc, words)?;
     let window = number_given(words, "--window", 1, 1024, 128)?;
     let connections = number_given(words, "--connections", 1, 1_000_000, 1000)?;
@@ -202,8 +219,8 @@ pub fn read_options(alloc: Global, words: &[Text]) -> Result<Options, WordsRefus
     let marks = number_given(words, "--marks", 1, 1_000_000, 65536)?;
     let log = number_given(words, "--log", 16, 4_000_000, 262_144)?;
     Ok(Options {
-        keytab: own.keytab,
-        name: own.name,
+        files,
+        name,
         bindings,
         window,
         connections,

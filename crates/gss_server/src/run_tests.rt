@@ -17,6 +17,10 @@ const KEYTAB: [u8; 51] = [
     0, 0, 1, 0, 0, 0, 0, 3, 0, 0x11, 0, 0x10, 0, 1, 2, 3, 4, 5, 6, 7, 8, 9, 10, 11, 12, 13, 14, 15,
 ];
 
+// The line of `user` with the password `p` and the salt `salt`, as another implementation makes it.
+const LINE: &[u8] =
+    b"user:4096:c2FsdA==:ETzdloepGoKbjAsqtOs5Jgw/Bx0=:AEWMKNXpY90u5dEQ9wtT6hdJr2s=\n";
+
 /// The words of a line.
 fn words(alloc: Global, line: &str) -> Result<Vec<Text>, Fail> {
     let mut words = Vec::new(alloc);
@@ -41,13 +45,23 @@ fn desk(alloc: Global, failing: u64) -> Result<Desk<MemPort<MemLink>, MemClock, 
     })
 }
 
-/// A shelf with the keytab as `k`, and without its last octet as `cut`.
+/// A shelf with the keytab as `k`, without its last octet as `cut`, the line of a user as `v`, the same without its line feed as `open`,
+/// twice as `twice`, and nothing as `empty`.
 fn shelf(alloc: Global) -> Result<MemShelf, Fail> {
+    let mut twice = Vec::from_slice(alloc, LINE)?;
+    twice.extend_from_slice(LINE)?;
     let mut files = Vec::new(alloc);
-    for (name, count) in [("k", 51), ("cut", 50)] {
+    for (name, content) in [
+        ("k", KEYTAB.as_slice()),
+        ("cut", &KEYTAB[..50]),
+        ("v", LINE),
+        ("open", &LINE[..LINE.len() - 1]),
+        ("twice", twice.as_slice()),
+        ("empty", b"".as_slice()),
+    ] {
         files.push(NamedFile {
             name: Text::of(alloc, name)?,
-            content: Octets::of(alloc, &KEYTAB[..count])?,
+            content: Octets::of(alloc, content)?,
         })?;
     }
     Ok(MemShelf::new(alloc, files, Vec::new(alloc)))
@@ -91,28 +105,56 @@ fn a_run_says_how_it_ended(rt: HostRuntime) -> Result<(), Fail> {
     for (line, port, sink, status, said) in [
         ("stdio --log 16 --marks 1 --contexts 1", 9, 9, 0, served),
         (
-            "stdio --log 16 --marks 1 --keytab k --name rpc/host@R",
+            "stdio --log 16 --marks 1 --keytab k --verifiers v --name rpc/host@R",
             9,
             9,
             0,
             served,
         ),
         (
-            "stdio --keytab none --name rpc/host@R",
+            "stdio --log 16 --marks 1 --name rpc/host@R --verifiers empty --keytab k",
+            9,
+            9,
+            0,
+            served,
+        ),
+        (
+            "stdio --keytab none --verifiers twice --name rpc/host@R",
             9,
             9,
             3,
             "cannot load none\n",
         ),
         (
-            "stdio --keytab cut --name rpc/host@R",
+            "stdio --keytab k --verifiers none --name rpc/host@R",
+            9,
+            9,
+            3,
+            "cannot load none\n",
+        ),
+        (
+            "stdio --keytab cut --verifiers none --name rpc/host@R",
             9,
             9,
             4,
             "bad cut at 50\n",
         ),
         (
-            "stdio --keytab k --name rpc/other@R",
+            "stdio --keytab k --verifiers open --name rpc/other@R",
+            9,
+            9,
+            4,
+            "bad open at 1\n",
+        ),
+        (
+            "stdio --keytab k --verifiers twice --name rpc/other@R",
+            9,
+            9,
+            4,
+            "bad twice at 2\n",
+        ),
+        (
+            "stdio --keytab k --verifiers v --name rpc/other@R",
             9,
             9,
             4,
@@ -143,7 +185,10 @@ fn words_outside_the_command(rt: HostRuntime) -> Result<(), Fail> {
         "stdio --log 16 --log 17",
         "stdio --window 1025",
         "stdio --keytab k",
-        "stdio --keytab k --name rpc",
+        "stdio --keytab k --verifiers v",
+        "stdio --keytab k --name rpc/host@R",
+        "stdio --verifiers v --name rpc/host@R",
+        "stdio --keytab k --verifiers v --name rpc",
         "stdio --verifiers v",
     ] {
         assert!(rt; ends(rt.alloc(), line, 9, 9, 2, usage())?, "{line}");

@@ -1,29 +1,27 @@
 //! The run of the server.
 
-ghost use Rattle.std.specs.Prelude.{◌≡◌, ◌≢◌, ◌⊎◌, ◌<◌, ◌≤◌, ◌++◌, ℕ, List, [], take, true, false, IsTrue, IfOk, Some, Ok, Err, unwrap_or, length, vec_len, reverse, slice_get};
+ghost use Rattle.std.specs.Prelude.{◌≡◌, ◌≢◌, ◌⊎◌, ◌<◌, ◌≤◌, ◌++◌, ℕ, List, [], take, true, false, IsTrue, IfOk, Some, Ok, Err, Option, length, vec_len, reverse, slice_get};
 ghost use Rattle.std.specs.List.{AllByRecursion};
 ghost use Rattle.sec_base.specs.Answers.{Rose};
 ghost use Rattle.cli_base.specs.Lines.{Says};
 ghost use Rattle.accept_book.specs.Legal.{Legal};
 ghost use Rattle.accept_book.specs.Booking.{BookOf};
-ghost use Rattle.krb_files.specs.declared.keytab.Entry.{Entry};
 ghost use Rattle.gss_base.specs.Principal.{text_form};
 ghost use Rattle.gss_server.specs.Desks.{IsFresh, IsSmall, DeskServed, DeskDone, DeskFailed, is_begun, Ran, all_connections, all_records};
 ghost use Rattle.gss_server.specs.Lines.{status_of, line_of};
 ghost use Rattle.gss_server.specs.Options.{options_of, IsRanged};
 ghost use Rattle.gss_server.specs.Asking.{BookAnswers};
 ghost use Rattle.gss_server.specs.Through.{DeskAsked, InTurn, IsOpened, IsLogOf, Booked};
-ghost use Rattle.gss_server.specs.Runs.{files_of, file_of, name_of, EndsBy, Begins, HasLimits, IsValid, no_log};
-ghost use Rattle.gss_server.specs.Keytabs.{IsKeytab};
+ghost use Rattle.gss_server.specs.Runs.{files_of, names_of, name_of, EndsBy, Begins, HasLimits, IsValid, no_log};
+ghost use Rattle.gss_server.specs.Keys.{AreKeys};
 
 use crate::desk::Desk;
 use crate::desks::{count_connections, count_records, serve_desks};
 use crate::ending::{Counts, RunEnd, say_end};
-use crate::keytab::keytab_given;
-use crate::options::{Options, WordsRefusal, read_options};
+use crate::keys::{Keys, keys_given};
+use crate::options::{Files, Options, WordsRefusal, read_options};
 use accept_book::{Book, Limits, Log};
 use gss_base::{MechKind, Principal};
-use krb_files::Keytab;
 use sec_base::{Clock, Draw, Items, Moment, NoMemory, Port, Shelf, Sink, Text};
 use spnego_core::AcceptSetup;
 use std::alloc::Global;
@@ -31,8 +29,8 @@ use std::alloc::Global;
 /// How the run ended.
 #[derive(Drop)]
 pub struct ServerEnd {
-    /// The exit status: 0 all connections were served, 2 the words aren't in the command, 3 the keytab can't be loaded, 4 it is none,
-    /// or has no key for the own name, 5 a port failed, 6 a sink failed, 8 there was no memory.
+    /// The exit status: 0 all connections were served, 2 the words aren't in the command, 3 keytab or verifiers can't be loaded, 4 one of
+    /// them isn't of its format, or the keytab has no key for the own name, 5 a port failed, 6 a sink failed, 8 there was no memory.
     pub status: u8,
     /// How the run ended, before its line was written.
     pub end: RunEnd,
@@ -55,17 +53,13 @@ struct Course {
 }
 
 /// The book of a run.
-fn open_book(
-    alloc: Global,
-    options: Options,
-    keytab: Keytab,
-    start: Moment,
-) -> Result<Book, NoMemory>
+fn open_book(alloc: Global, options: Options, keys: Keys, start: Moment) -> Result<Book, NoMemory>
     requires { IsRanged options }
-    ensures opened { IfOk result (λ book. IsOpened options keytab start book) }
+    ensures opened { IfOk result (λ book. IsOpened options keys start book) }
 {
     let mut offer = Vec::new(alloc);
     offer.push(MechKind::Kerberos)?;
+    offer.push(MechKind::Scram)?;
     let limits = Limits {
         contexts: options.contexts as usize,
         marks: options.marks as usize,
@@ -74,7 +68,8 @@ fn open_book(
     };
     let setup = AcceptSetup {
         own: options.name,
-        keytab,
+        keytab: keys.keytab,
+        verifiers: keys.verifiers,
         bindings: options.bindings,
         offer: Items::of(offer),
     };
@@ -94,7 +89,7 @@ where
     requires fresh { AllByRecursion IsFresh desks.old.items }
     requires connections { connections ≤ 1000000 }
     ensures ran { (i : ℕ) (a b : _) → slice_get desks.old.items i ≡ Some a → slice_get desks.new.items i ≡ Some b
-        → Ran (DeskServed width connections P.tells P.links P.Link.tells P.Link.wire P.Link.faults) (DeskDone connections P.tells P.links) (DeskFailed P.faults) result.end i a b }
+        → Ran (DeskServed width connections P.tells P.links P.Link.tells P.Link.wire P.Link.faults C.tells C.given D.tells D.given) (DeskDone connections P.tells P.links) (DeskFailed P.faults) result.end i a b }
     ensures count { vec_len desks.new ≡ vec_len desks.old }
     ensures named { (desk : ℕ) → result.end ≡ RunEnd.PortFault desk → (0 < desk) × (desk ≤ vec_len desks.old) }
     ensures begun { result.end ≢ RunEnd.NoMemory → is_begun result.end ≡ true }
@@ -118,7 +113,7 @@ where
 fn run_desks<P: Port, C: Clock, D: Draw>(
     alloc: Global,
     options: Options,
-    keytab: Keytab,
+    keys: Keys,
     desks: &mut Vec<Desk<P, C, D>>,
     start: Moment,
 ) -> Course
@@ -127,18 +122,18 @@ where
     requires fresh { AllByRecursion IsFresh desks.old.items }
     requires ranged { IsRanged options }
     ensures ran { (i : ℕ) (a b : _) → slice_get desks.old.items i ≡ Some a → slice_get desks.new.items i ≡ Some b
-        → Ran (DeskServed options.window options.connections P.tells P.links P.Link.tells P.Link.wire P.Link.faults) (DeskDone options.connections P.tells P.links) (DeskFailed P.faults) result.end i a b }
+        → Ran (DeskServed options.window options.connections P.tells P.links P.Link.tells P.Link.wire P.Link.faults C.tells C.given D.tells D.given) (DeskDone options.connections P.tells P.links) (DeskFailed P.faults) result.end i a b }
     ensures count { vec_len desks.new ≡ vec_len desks.old }
     ensures named { (desk : ℕ) → result.end ≡ RunEnd.PortFault desk → (0 < desk) × (desk ≤ vec_len desks.old) }
     ensures begun { result.end ≢ RunEnd.NoMemory → is_begun result.end ≡ true }
     ensures small { AllByRecursion IsSmall desks.new.items }
     ensures legal { Legal result.log.width (reverse result.log.entries) }
     ensures limits { is_begun result.end ≡ true → HasLimits options result.log }
-    ensures booked { ((result.end ≡ RunEnd.NoMemory) × (desks.new.items ≡ desks.old.items)) ⊎ Booked options keytab start (λ first last. InTurn (DeskAsked BookAnswers options.window P.tells P.links P.Link.tells P.Link.wire) first desks.old.items desks.new.items last) result.log }
+    ensures booked { ((result.end ≡ RunEnd.NoMemory) × (desks.new.items ≡ desks.old.items)) ⊎ Booked options keys start (λ first last. InTurn (DeskAsked BookAnswers options.window P.tells P.links P.Link.tells P.Link.wire) first desks.old.items desks.new.items last) result.log }
 {
     let connections = options.connections;
     let width = options.window;
-    match open_book(alloc, options, keytab, start) {
+    match open_book(alloc, options, keys, start) {
         Ok(book) => run_book(alloc, book, desks, connections, width),
         Err(_) => Course {
             end: RunEnd::NoMemory,
@@ -147,7 +142,7 @@ where
     }
 }
 
-/// Says how a run ended that had its keytab.
+/// Says how a run ended that had its keys.
 fn finish<P: Port, C, D, O: Sink>(
     alloc: Global,
     desks: &[Desk<P, C, D>],
@@ -158,9 +153,9 @@ fn finish<P: Port, C, D, O: Sink>(
     requires begun { course.end ≢ RunEnd.NoMemory → is_begun course.end ≡ true }
     ensures status { result.status ≢ 6 → result.status ≢ 8 → result.status ≡ status_of result.end }
     ensures sink_fault { result.status ≡ 6 → Rose (O.faults err.old) (O.faults err.new) }
-    ensures said { IsTrue (O.tells err.old) → (file name : List ℕ)
+    ensures said { IsTrue (O.tells err.old) → (files : Option Files) (name : List ℕ)
         → Says (O.written err.old) (O.written err.new) result.status
-        (line_of file name (record { connections = all_connections desks.now; records = all_records desks.now; entries = length result.log.entries }) result.end) }
+        (line_of files name (record { connections = all_connections desks.now; records = all_records desks.now; entries = length result.log.entries }) result.end) }
     ensures end { result.end ≡ course.end }
     ensures log { result.log ≡ course.log }
 {
@@ -169,7 +164,7 @@ fn finish<P: Port, C, D, O: Sink>(
         records: count_records(desks),
         entries: course.log.len(),
     };
-    let status = say_end(alloc, err, "", "", &counts, course.end);
+    let status = say_end(alloc, err, &None, "", &counts, course.end);
     ServerEnd {
         status,
         end: course.end,
@@ -177,10 +172,10 @@ fn finish<P: Port, C, D, O: Sink>(
     }
 }
 
-/// Says why a run has no keytab.
+/// Says why a run has no keys.
 fn unready<O: Sink>(
     alloc: Global,
-    file: &Option<Text>,
+    files: &Option<Files>,
     own: &Principal,
     end: RunEnd,
     err: &mut O,
@@ -189,15 +184,11 @@ fn unready<O: Sink>(
     ensures status { result.status ≢ 6 → result.status ≢ 8 → result.status ≡ status_of result.end }
     ensures sink_fault { result.status ≡ 6 → Rose (O.faults err.old) (O.faults err.new) }
     ensures said { IsTrue (O.tells err.old) → (counts : Counts)
-        → Says (O.written err.old) (O.written err.new) result.status (line_of (unwrap_or file.now []) (text_form own.now.realm own.now.parts) counts end) }
+        → Says (O.written err.old) (O.written err.new) result.status (line_of files.now (text_form own.now.realm own.now.parts) counts end) }
     ensures end { result.end ≡ end }
     ensures log { result.log ≡ no_log }
 {
-    let file = match file {
-        Some(file) => file.as_str(),
-        None => "",
-    };
-    let status = say_end(alloc, err, file, own.label().text(), &NOTHING, end);
+    let status = say_end(alloc, err, files, own.label().text(), &NOTHING, end);
     ServerEnd {
         status,
         end,
@@ -210,12 +201,12 @@ fn refused<O: Sink>(alloc: Global, end: RunEnd, err: &mut O) -> ServerEnd
     requires { (end ≢ RunEnd.Usage) → (end ≡ RunEnd.NoMemory) }
     ensures status { result.status ≢ 6 → result.status ≢ 8 → result.status ≡ status_of result.end }
     ensures sink_fault { result.status ≡ 6 → Rose (O.faults err.old) (O.faults err.new) }
-    ensures said { IsTrue (O.tells err.old) → (file name : List ℕ) (counts : Counts)
-        → Says (O.written err.old) (O.written err.new) result.status (line_of file name counts end) }
+    ensures said { IsTrue (O.tells err.old) → (files : Option Files) (name : List ℕ) (counts : Counts)
+        → Says (O.written err.old) (O.written err.new) result.status (line_of files name counts end) }
     ensures end { result.end ≡ end }
     ensures log { result.log ≡ no_log }
 {
-    let status = say_end(alloc, err, "", "", &NOTHING, end);
+    let status = say_end(alloc, err, &None, "", &NOTHING, end);
     ServerEnd {
         status,
         end,
@@ -238,34 +229,34 @@ where
     requires ranged { IsRanged options }
     ensures begins { Begins (F.tells shelf.old) (F.files shelf.old) (F.asked shelf.old) (F.asked shelf.new) (F.faults shelf.old) (F.faults shelf.new) options result.end }
     ensures ran { (i : ℕ) (a b : _) → slice_get desks.old.items i ≡ Some a → slice_get desks.new.items i ≡ Some b
-        → Ran (DeskServed options.window options.connections P.tells P.links P.Link.tells P.Link.wire P.Link.faults) (DeskDone options.connections P.tells P.links) (DeskFailed P.faults) result.end i a b }
+        → Ran (DeskServed options.window options.connections P.tells P.links P.Link.tells P.Link.wire P.Link.faults C.tells C.given D.tells D.given) (DeskDone options.connections P.tells P.links) (DeskFailed P.faults) result.end i a b }
     ensures legal { Legal result.log.width (reverse result.log.entries) }
     ensures limits { is_begun result.end ≡ true → HasLimits options result.log }
     ensures status { result.status ≢ 6 → result.status ≢ 8 → result.status ≡ status_of result.end }
     ensures sink_fault { result.status ≡ 6 → Rose (O.faults err.old) (O.faults err.new) }
     ensures said { IsTrue (O.tells err.old)
         → Says (O.written err.old) (O.written err.new) result.status
-        (line_of (file_of (Ok options)) (name_of (Ok options)) (record { connections = all_connections desks.new.items; records = all_records desks.new.items; entries = length result.log.entries }) result.end) }
+        (line_of options.files (name_of (Ok options)) (record { connections = all_connections desks.new.items; records = all_records desks.new.items; entries = length result.log.entries }) result.end) }
     ensures count { vec_len desks.new ≡ vec_len desks.old }
     ensures named { (desk : ℕ) → result.end ≡ RunEnd.PortFault desk → (0 < desk) × (desk ≤ vec_len desks.old) }
     ensures other { result.end ≢ RunEnd.Usage }
     ensures idle { is_begun result.end ≡ false → result.end ≢ RunEnd.NoMemory → desks.new.items ≡ desks.old.items }
-    ensures named_files { IsTrue (F.tells shelf.old) → (count : ℕ) × (F.asked shelf.new ≡ F.asked shelf.old ++ take count (files_of (Ok options))) }
+    ensures named_files { IsTrue (F.tells shelf.old) → (count : ℕ) × (F.asked shelf.new ≡ F.asked shelf.old ++ take count (names_of options.files)) }
     ensures booked { ((is_begun result.end ≡ false) × (desks.new.items ≡ desks.old.items))
-        ⊎ ((keytab : List Entry) × IsKeytab (F.tells shelf.old) (F.files shelf.old) (F.asked shelf.old) (F.asked shelf.new) (F.faults shelf.old) (F.faults shelf.new) options.keytab options.name (Ok keytab)
-        × Booked options keytab start (λ first last. InTurn (DeskAsked BookAnswers options.window P.tells P.links P.Link.tells P.Link.wire) first desks.old.items desks.new.items last) result.log) }
+        ⊎ ((keys : Keys) × AreKeys (F.tells shelf.old) (F.files shelf.old) (F.asked shelf.old) (F.asked shelf.new) (F.faults shelf.old) (F.faults shelf.new) options.files options.name (Ok keys)
+        × Booked options keys start (λ first last. InTurn (DeskAsked BookAnswers options.window P.tells P.links P.Link.tells P.Link.wire) first desks.old.items desks.new.items last) result.log) }
 {
-    match keytab_given(alloc, shelf, &options.keytab, &options.name) {
-        Ok(keytab) => {
-            let course = run_desks(alloc, options, keytab, desks, start);
+    match keys_given(alloc, shelf, &options.files, &options.name) {
+        Ok(keys) => {
+            let course = run_desks(alloc, options, keys, desks, start);
             finish(alloc, desks.as_slice(), course, err)
         }
-        Err(end) => unready(alloc, &options.keytab, &options.name, end, err),
+        Err(end) => unready(alloc, &options.files, &options.name, end, err),
     }
 }
 
 /// Runs the server over its desks, one after the other, and says on `err` how it ended. The words are
-/// `ADDRESS [--keytab FILE --name PRINCIPAL] [--bind TEXT] [--window N] [--connections N] [--contexts N] [--marks N] [--log N]`.
+/// `ADDRESS [--keytab FILE --verifiers FILE --name PRINCIPAL] [--bind TEXT] [--window N] [--connections N] [--contexts N] [--marks N] [--log N]`.
 pub fn run_server<F: Shelf, P: Port, C: Clock, D: Draw, O: Sink>(
     alloc: Global,
     words: &[Text],
@@ -283,7 +274,7 @@ where
     ensures sink_fault { result.status ≡ 6 → Rose (O.faults err.old) (O.faults err.new) }
     ensures said { IsTrue (O.tells err.old)
         → Says (O.written err.old) (O.written err.new) result.status
-        (line_of (file_of (options_of words.now)) (name_of (options_of words.now)) (record { connections = all_connections desks.new.items; records = all_records desks.new.items; entries = length result.log.entries }) result.end) }
+        (line_of (files_of (options_of words.now)) (name_of (options_of words.now)) (record { connections = all_connections desks.new.items; records = all_records desks.new.items; entries = length result.log.entries }) result.end) }
     ensures out { O.written out.new ≡ O.written out.old }
     // The words are refused exactly where they aren't in the command, want of memory aside.
     ensures usage { result.end ≡ RunEnd.Usage → options_of words.now ≡ Err WordsRefusal.Usage }
@@ -292,17 +283,17 @@ where
     // Where no desk was served, the desks stay as they were; and at most the files that the words name are asked for, each once.
     ensures idle { is_begun result.end ≡ false → result.end ≢ RunEnd.NoMemory → desks.new.items ≡ desks.old.items }
     ensures unloaded { result.end ≡ RunEnd.Usage → F.asked shelf.new ≡ F.asked shelf.old }
-    ensures named_files { IsTrue (F.tells shelf.old) → (count : ℕ) × (F.asked shelf.new ≡ F.asked shelf.old ++ take count (files_of (options_of words.now))) }
-    // Words in the command: the run ends by what the keytab comes to.
+    ensures named_files { IsTrue (F.tells shelf.old) → (count : ℕ) × (F.asked shelf.new ≡ F.asked shelf.old ++ take count (names_of (files_of (options_of words.now)))) }
+    // Words in the command: the run ends by what keytab and verifiers come to.
     ensures begins { (options : Options) → options_of words.now ≡ Ok options → result.end ≢ RunEnd.NoMemory
         → Begins (F.tells shelf.old) (F.files shelf.old) (F.asked shelf.old) (F.asked shelf.new) (F.faults shelf.old) (F.faults shelf.new) options result.end }
     // Each desk served the first links of its port, in order; where it is done, all of them or as many as the words say.
     ensures ran { (options : Options) → options_of words.now ≡ Ok options → (i : ℕ) (a b : _) → slice_get desks.old.items i ≡ Some a → slice_get desks.new.items i ≡ Some b
-        → Ran (DeskServed options.window options.connections P.tells P.links P.Link.tells P.Link.wire P.Link.faults) (DeskDone options.connections P.tells P.links) (DeskFailed P.faults) result.end i a b }
+        → Ran (DeskServed options.window options.connections P.tells P.links P.Link.tells P.Link.wire P.Link.faults C.tells C.given D.tells D.given) (DeskDone options.connections P.tells P.links) (DeskFailed P.faults) result.end i a b }
     // There are as many desks as there were, and the line of a failed port names one of them.
     ensures count { vec_len desks.new ≡ vec_len desks.old }
     ensures named { (desk : ℕ) → result.end ≡ RunEnd.PortFault desk → (0 < desk) × (desk ≤ vec_len desks.old) }
-    // With a keytab that can be used, and no count that rose, all connections are served, want of memory aside.
+    // With files that can be used, and no count that rose, all connections are served, want of memory aside.
     ensures complete { (options : Options) → options_of words.now ≡ Ok options → IsValid (F.tells shelf.old) (F.files shelf.old) options
         → (Rose (F.faults shelf.old) (F.faults shelf.new) → ⊥)
         → ((i : ℕ) (a b : _) → slice_get desks.old.items i ≡ Some a → slice_get desks.new.items i ≡ Some b → Rose (P.faults a.port) (P.faults b.port) → ⊥)
@@ -310,12 +301,12 @@ where
     // The log is legal, and was kept under the limits of the words.
     ensures legal { Legal result.log.width (reverse result.log.entries) }
     ensures limits { (options : Options) → options_of words.now ≡ Ok options → is_begun result.end ≡ true → HasLimits options result.log }
-    // One book, of the setup that words and keytab give, gave all answers to the desks, in their order, from its opening to the log that
+    // One book, of the setup that words, keytab and verifiers give, gave all answers to the desks, in their order, from its opening to the log that
     // is returned; or no desk was served.
     ensures booked { (options : Options) → options_of words.now ≡ Ok options
         → ((is_begun result.end ≡ false) × (desks.new.items ≡ desks.old.items))
-        ⊎ ((keytab : List Entry) × IsKeytab (F.tells shelf.old) (F.files shelf.old) (F.asked shelf.old) (F.asked shelf.new) (F.faults shelf.old) (F.faults shelf.new) options.keytab options.name (Ok keytab)
-        × Booked options keytab start (λ first last. InTurn (DeskAsked BookAnswers options.window P.tells P.links P.Link.tells P.Link.wire) first desks.old.items desks.new.items last) result.log) }
+        ⊎ ((keys : Keys) × AreKeys (F.tells shelf.old) (F.files shelf.old) (F.asked shelf.old) (F.asked shelf.new) (F.faults shelf.old) (F.faults shelf.new) options.files options.name (Ok keys)
+        × Booked options keys start (λ first last. InTurn (DeskAsked BookAnswers options.window P.tells P.links P.Link.tells P.Link.wire) first desks.old.items desks.new.items last) result.log) }
 {
     match read_options(alloc, words) {
         Ok(options) => run_with(alloc, options, shelf, desks, start, err),

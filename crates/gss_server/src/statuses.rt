@@ -1,13 +1,15 @@
 //! The major and minor status of a refused step.
 
 ghost use Rattle.std.specs.Prelude.{◌≡◌};
-ghost use Rattle.accept_book.specs.Statuses.{book_status, neg_status, ap_status};
+ghost use Rattle.accept_book.specs.Statuses.{book_status, neg_status, ap_status, scram_status};
 
 use accept_book::BookRefusal;
 use ap_exchange::ApRefusal;
 use gss_base::status::{
-    BAD_BINDINGS, BAD_MECH, BAD_MIC, CREDENTIALS_EXPIRED, DEFECTIVE_TOKEN, FAILURE, NO_CRED, major,
+    BAD_BINDINGS, BAD_MECH, BAD_MIC, CREDENTIALS_EXPIRED, DEFECTIVE_TOKEN, FAILURE, NO_CRED,
+    UNAUTHORIZED, major,
 };
+use scram_mech::ScramRefusal;
 use spnego_core::{MechRefusal, NegRefusal};
 
 /// The major and the minor status of a refusal.
@@ -40,6 +42,7 @@ fn negotiating(refusal: NegRefusal) -> (u32, u32)
         NegRefusal::MicMissing => (major(BAD_MIC), 5),
         NegRefusal::MicBad => (major(BAD_MIC), 6),
         NegRefusal::Mech(MechRefusal::Ap(refusal)) => exchanging(refusal),
+        NegRefusal::Mech(MechRefusal::Scram(refusal)) => proving(refusal),
         NegRefusal::NoMemory => (major(FAILURE), 0),
     }
 }
@@ -72,5 +75,24 @@ fn exchanging(refusal: ApRefusal) -> (u32, u32)
         ApRefusal::ReplyStamp => (major(FAILURE), 116),
         ApRefusal::PeerError { code: _ } => (major(FAILURE), 117),
         ApRefusal::NoMemory => (major(FAILURE), 0),
+    }
+}
+
+/// Those of SCRAM's exchange.
+fn proving(refusal: ScramRefusal) -> (u32, u32)
+    ensures major { result.0 ≡ (scram_status refusal).major }
+    ensures minor { result.1 ≡ (scram_status refusal).minor }
+{
+    match refusal {
+        ScramRefusal::Text { at: _ } => (major(DEFECTIVE_TOKEN), 201),
+        ScramRefusal::Mandatory => (major(FAILURE), 202),
+        ScramRefusal::Nonce => (major(FAILURE), 203),
+        ScramRefusal::Rounds => (major(FAILURE), 204),
+        ScramRefusal::NoUser => (major(UNAUTHORIZED), 205),
+        ScramRefusal::Bindings => (major(BAD_BINDINGS), 206),
+        ScramRefusal::Proof => (major(UNAUTHORIZED), 207),
+        ScramRefusal::Signature => (major(FAILURE), 208),
+        ScramRefusal::PeerError => (major(FAILURE), 209),
+        ScramRefusal::NoMemory => (major(FAILURE), 0),
     }
 }

@@ -1,6 +1,7 @@
-use Rattle.std.proofs.Common.{◌∙◌, ◌++◌, ◌∷◌, [], arith, ap, sym, subst, IsTrue}
-use Rattle.gss_server.specs.Desks.{ServedInOrder, NoneWanted, AllWithin}
-use Rattle.gss_server.proofs.ServedLinks.{served-more, none-wanted-more, within-more, pushed, pushed-count, accepted}
+use Rattle.std.proofs.Common.{◌≡◌, ◌∙◌, ◌++◌, ◌∷◌, [], arith, ap, sym, subst, IsTrue}
+use Rattle.gss_server.specs.Desks.{ServedInOrder, NoneWanted, AllWithin, moments_in, draws_in}
+use Rattle.gss_server.proofs.ServedLinks.{served-more, none-wanted-more, within-more, given-more, pushed, pushed-count, accepted}
+use Rattle.gss_server.specs.Kept.{moments_of, draws_of}
 use Rattle.gss_server.specs.Through.{LinksInTurn}
 use Rattle.gss_server.proofs.InTurn.{served-as, links-more}
 use Rattle.gss_server.proofs.desk.serve_desk.Goals as goal
@@ -24,6 +25,20 @@ returns-in-NoMemory-clause-asked g c = λ t.
     (c.loop-number.invariant.asked t)
     (accepted _ _ c.in-Ok-Some.link c.in-Ok-Some.field-0 c.in-Ok-Some.field-0-is (c.in-Ok-Some.ensures.told tells))
     (λ told. served-as (λ asked p. p.answers) c.args.width _ _ _ _ (c.serve_link-served.ensures.asked told)))
+
+pub returns-in-NoMemory-clause-moments : goal.returns-in-NoMemory-clause-moments
+returns-in-NoMemory-clause-moments g c = λ t.
+    subst (λ xs. g.C.Clock.given c.serve_link-served.new.clock ≡ g.C.Clock.given c.args.desk.now.clock ++ moments_in xs)
+    (sym (pushed c.push.result _ _ _ _ _ c.push.ensures.items c.push.ensures.full c.in-Ok.ensures.ok ∙ ap (λ xs. xs ++ c.serve_link-served.result ∷ []) c.reserve.ensures.items))
+    (given-more moments_of (g.C.Clock.given c.args.desk.now.clock) (g.C.Clock.given c.loop-number.desk.clock) (g.C.Clock.given c.serve_link-served.new.clock) c.loop-number.desk.served.items c.serve_link-served.result
+    (c.loop-number.invariant.moments (c.serve_link-served.ensures.clock_tells t)) (c.serve_link-served.ensures.moments t))
+
+pub returns-in-NoMemory-clause-draws : goal.returns-in-NoMemory-clause-draws
+returns-in-NoMemory-clause-draws g c = λ t.
+    subst (λ xs. g.D.Draw.given c.serve_link-served.new.draw ≡ g.D.Draw.given c.args.desk.now.draw ++ draws_in xs)
+    (sym (pushed c.push.result _ _ _ _ _ c.push.ensures.items c.push.ensures.full c.in-Ok.ensures.ok ∙ ap (λ xs. xs ++ c.serve_link-served.result ∷ []) c.reserve.ensures.items))
+    (given-more draws_of (g.D.Draw.given c.args.desk.now.draw) (g.D.Draw.given c.loop-number.desk.draw) (g.D.Draw.given c.serve_link-served.new.draw) c.loop-number.desk.served.items c.serve_link-served.result
+    (c.loop-number.invariant.draws (c.serve_link-served.ensures.draw_tells t)) (c.serve_link-served.ensures.draws t))
 
 pub loop-number-preserved : goal.loop-number-preserved
 loop-number-preserved g c = record {
@@ -52,5 +67,15 @@ loop-number-preserved g c = record {
       (c.loop-number.invariant.asked t)
       (accepted _ _ c.in-Ok-Some.link c.in-Ok-Some.field-0 c.in-Ok-Some.field-0-is (c.in-Ok-Some.ensures.told tells))
       (λ told. served-as (λ asked p. p.answers) c.args.width _ _ _ _ (c.serve_link-served.ensures.asked told)));
+  moments = λ t.
+      subst (λ xs. g.C.Clock.given c.serve_link-served.new.clock ≡ g.C.Clock.given c.args.desk.now.clock ++ moments_in xs)
+      (sym (pushed c.push.result _ _ _ _ _ c.push.ensures.items c.push.ensures.full c.in-Ok.ensures.ok ∙ ap (λ xs. xs ++ c.serve_link-served.result ∷ []) c.reserve.ensures.items))
+      (given-more moments_of (g.C.Clock.given c.args.desk.now.clock) (g.C.Clock.given c.loop-number.desk.clock) (g.C.Clock.given c.serve_link-served.new.clock) c.loop-number.desk.served.items c.serve_link-served.result
+      (c.loop-number.invariant.moments (c.serve_link-served.ensures.clock_tells t)) (c.serve_link-served.ensures.moments t));
+  draws = λ t.
+      subst (λ xs. g.D.Draw.given c.serve_link-served.new.draw ≡ g.D.Draw.given c.args.desk.now.draw ++ draws_in xs)
+      (sym (pushed c.push.result _ _ _ _ _ c.push.ensures.items c.push.ensures.full c.in-Ok.ensures.ok ∙ ap (λ xs. xs ++ c.serve_link-served.result ∷ []) c.reserve.ensures.items))
+      (given-more draws_of (g.D.Draw.given c.args.desk.now.draw) (g.D.Draw.given c.loop-number.desk.draw) (g.D.Draw.given c.serve_link-served.new.draw) c.loop-number.desk.served.items c.serve_link-served.result
+      (c.loop-number.invariant.draws (c.serve_link-served.ensures.draw_tells t)) (c.serve_link-served.ensures.draws t));
   count = omega (arith, pushed-count c.push.result _ _ _ _ c.push.ensures.len c.push.ensures.full c.in-Ok.ensures.ok, c.reserve.ensures.len);
 }

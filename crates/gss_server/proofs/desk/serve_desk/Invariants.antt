@@ -1,5 +1,5 @@
-use Rattle.std.proofs.Common.{◌≡◌, ◌≤◌, IsTrue, vec_len}
-use Rattle.gss_server.specs.Desks.{ServedInOrder, NoneWanted, AllWithin}
+use Rattle.std.proofs.Common.{◌≡◌, ◌≤◌, ◌++◌, IsTrue, vec_len}
+use Rattle.gss_server.specs.Desks.{ServedInOrder, NoneWanted, AllWithin, moments_in, draws_in}
 use Rattle.gss_server.specs.Through.{DeskAsked}
 use Rattle.gss_server.proofs.desk.serve_desk.Given as goal
 
@@ -12,5 +12,7 @@ invariant-loop-number g l = record {
   within : AllWithin l.desk.served.items;
   limits : g.G.Gate.limits l.gate ≡ g.G.Gate.limits l.fn.gate;
   asked : DeskAsked g.G.Gate.answers l.width g.P.Port.tells g.P.Port.links g.P.Link.Link.tells g.P.Link.Link.wire l.fn.gate l.fn.desk l.desk l.gate;
+  moments : IsTrue (g.C.Clock.tells l.desk.clock) → g.C.Clock.given l.desk.clock ≡ g.C.Clock.given l.fn.desk.clock ++ moments_in l.desk.served.items;
+  draws : IsTrue (g.D.Draw.tells l.desk.draw) → g.D.Draw.given l.desk.draw ≡ g.D.Draw.given l.fn.desk.draw ++ draws_in l.desk.served.items;
   count : vec_len l.desk.served ≡ l.number;
 }

@@ -13,7 +13,7 @@ loop-desk-preserved g c =
       fresh = all-more (IsFresh {P = g.row.P.Denot} {C = g.row.C.Denot} {D = g.row.D.Denot} {L = g.row.P-Link.Denot}) c.loop-desk.desks c.loop-desk.desk-index c.serve_desk-desk_end.new.desk c.loop-desk.invariant.fresh;
       run = rw (c.joined-end.ensures) (rw (c.loop-desk.invariant.number)
           (run-step _ _ _ _ _ _ _ c.loop-desk.invariant.run (slice_get-get_or c.loop-desk.desks c.loop-desk.desk-index c.desk-item.result within)
-          (record { order = c.serve_desk-desk_end.ensures.told; most = c.serve_desk-desk_end.ensures.most; within = c.serve_desk-desk_end.ensures.within })
+          (record { order = c.serve_desk-desk_end.ensures.told; most = c.serve_desk-desk_end.ensures.most; within = c.serve_desk-desk_end.ensures.within; moments = c.serve_desk-desk_end.ensures.moments; draws = c.serve_desk-desk_end.ensures.draws })
           (λ e. record { all = c.serve_desk-desk_end.ensures.done e; none_wanted = c.serve_desk-desk_end.ensures.none_wanted e })
           c.serve_desk-desk_end.ensures.fault));
       begun = rw (c.joined-end.ensures) (begun-more c.loop-desk.end c.serve_desk-desk_end.result (c.loop-desk.number + 1) c.loop-desk.invariant.begun);

@@ -1,4 +1,4 @@
-use Rattle.std.proofs.Common.{arith, ◌≡◌, ◌<◌, ◌≤◌, [], length, Result, Ok, refl, subst}
+use Rattle.std.proofs.Common.{arith, ◌≡◌, ◌<◌, ◌≤◌, [], length, None, Result, Ok, refl, subst}
 use Rattle.gss_server.specs.Desks.{IsFresh}
 use Rattle.gss_server.specs.declared.ending.Counts.{Counts}
 use Rattle.gss_server.specs.declared.ending.RunEnd.TheVariants.{NoMemory}
@@ -23,15 +23,15 @@ returns-in-Ok-clause-ran g c = λ options is i a b before after.
     rw (same-options c.in-Ok.ensures.value is) (c.run_with.ensures.ran i a b before after)
 
 pub returns-in-Err-Usage-clause-said : goal.returns-in-Err-Usage-clause-said
-returns-in-Err-Usage-clause-said g c = λ t. rw c.refused.ensures.end (c.refused.ensures.said t [] [] nothing)
+returns-in-Err-Usage-clause-said g c = λ t. rw c.refused.ensures.end (c.refused.ensures.said t None [] nothing)
 
 pub returns-in-Err-NoMemory-clause-said : goal.returns-in-Err-NoMemory-clause-said
-returns-in-Err-NoMemory-clause-said g c = λ t. rw c.refused-in-Err-NoMemory.ensures.end (c.refused-in-Err-NoMemory.ensures.said t [] [] nothing)
+returns-in-Err-NoMemory-clause-said g c = λ t. rw c.refused-in-Err-NoMemory.ensures.end (c.refused-in-Err-NoMemory.ensures.said t None [] nothing)
 
 pub returns-in-Err-NoMemory-clause-ran : goal.returns-in-Err-NoMemory-clause-ran
 returns-in-Err-NoMemory-clause-ran g c = λ options is i a b before after. rw c.refused-in-Err-NoMemory.ensures.end
     (idle-run (IsFresh {P = g.row.P.Denot} {C = g.row.C.Denot} {D = g.row.D.Denot} {L = g.row.P-Link.Denot}) c.args.desks.now.items NoMemory c.requires.fresh
-    (λ desk fresh. idle-served options.window options.connections g.P.Port.tells g.P.Port.links g.P.Link.Link.tells g.P.Link.Link.wire g.P.Link.Link.faults desk fresh)
+    (λ desk fresh. idle-served options.window options.connections g.P.Port.tells g.P.Port.links g.P.Link.Link.tells g.P.Link.Link.wire g.P.Link.Link.faults g.C.Clock.tells g.C.Clock.given g.D.Draw.tells g.D.Draw.given desk fresh)
     refl i a b before after)
 
 pub returns-in-Ok-clause-complete : goal.returns-in-Ok-clause-complete

@@ -1,7 +1,7 @@
 use Rattle.std.proofs.Common.{sym}
 use Rattle.gss_server.specs.Desks.{IsFresh}
 use Rattle.gss_server.proofs.DeskRuns.{idle-run, idle-served}
-use Rattle.gss_server.proofs.KeytabNames.{keytab-names}
+use Rattle.gss_server.proofs.KeyNames.{key-names}
 use Rattle.gss_server.proofs.server.run_with.Goals as goal
 
 pub returns-in-Ok-clause-ran : goal.returns-in-Ok-clause-ran
@@ -13,11 +13,11 @@ returns-in-Ok-clause-said g c = λ t. rw (sym c.as_slice.ensures.value) (c.finis
 pub returns-in-Err-clause-ran : goal.returns-in-Err-clause-ran
 returns-in-Err-clause-ran g c = λ i a b before after. rw c.unready.ensures.end
     (idle-run (IsFresh {P = g.row.P.Denot} {C = g.row.C.Denot} {D = g.row.D.Denot} {L = g.row.P-Link.Denot}) c.args.desks.now.items c.in-Err.end c.requires.fresh
-    (λ desk fresh. idle-served c.args.options.window c.args.options.connections g.P.Port.tells g.P.Port.links g.P.Link.Link.tells g.P.Link.Link.wire g.P.Link.Link.faults desk fresh)
+    (λ desk fresh. idle-served c.args.options.window c.args.options.connections g.P.Port.tells g.P.Port.links g.P.Link.Link.tells g.P.Link.Link.wire g.P.Link.Link.faults g.C.Clock.tells g.C.Clock.given g.D.Draw.tells g.D.Draw.given desk fresh)
     c.in-Err.ensures.unbegun i a b before after)
 
 pub returns-in-Ok-clause-named_files : goal.returns-in-Ok-clause-named_files
-returns-in-Ok-clause-named_files g c = keytab-names _ _ _ _ _ _ c.args.options.keytab c.args.options.name _ c.keytab_given.ensures.value
+returns-in-Ok-clause-named_files g c = key-names _ _ _ _ _ _ c.args.options.files c.args.options.name _ c.keys_given.ensures.value
 
 pub returns-in-Err-clause-named_files : goal.returns-in-Err-clause-named_files
-returns-in-Err-clause-named_files g c = keytab-names _ _ _ _ _ _ c.args.options.keytab c.args.options.name _ c.keytab_given.ensures.value
+returns-in-Err-clause-named_files g c = key-names _ _ _ _ _ _ c.args.options.files c.args.options.name _ c.keys_given.ensures.value
