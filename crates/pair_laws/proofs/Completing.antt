@@ -1,46 +1,63 @@
 -- An honest exchange completes.
-use Rattle.std.proofs.Common.{◌≡◌, ◌≢◌, inl, inr, ℕ, ◌+◌, ◌≤◌, ◌^◌, refl, ap, sym, subst, ◌∙◌, arith, List, [], ◌∷◌, ◌++◌, length, take, drop, Option, Some, None, Result, Ok, Err, append_assoc}
+use Rattle.std.proofs.Common.{◌≡◌, ◌≢◌, ◌⊎◌, inl, inr, ℕ, zero, suc, ◌+◌, ◌<◌, ◌≤◌, ◌^◌, true, refl, ap, sym, subst, ◌∙◌, arith, List, [], ◌∷◌, ◌++◌, length, map, take, drop, Option, Some, None, Result, Ok, Err, append_assoc}
+use Rattle.std.specs.Prelude.{Bool, false, if◌then◌else◌, max, is_some}
 use Rattle.std.specs.List.{AllByRecursion, flat_map}
 use Rattle.std.proofs.Math.Seq.{drop-append_seam}
 use Rattle.std.proofs.lemmas.List.{length-append}
 use Rattle.sec_base.specs.Link.{Wire}
+use Rattle.gss_base.specs.declared.mech.MechKind.{MechKind}
+use Rattle.gss_base.specs.declared.mech.MechKind.TheVariants as kinds
 use Rattle.rpc_msgs.specs.Words.{word}
 use Rattle.rpc_msgs.specs.Records.{last_fragment}
 use Rattle.rpc_msgs.specs.Replies.{reply_octets}
 use Rattle.rpc_msgs.proofs.WordLengths.{length-word}
-use Rattle.ap_exchange.specs.Laws.{honest_judged}
 use Rattle.spnego_core.specs.declared.setup.AcceptSetup.{AcceptSetup}
-use Rattle.spnego_core.specs.declared.setup.InitSetup.{InitSetup}
 use Rattle.spnego_core.specs.declared.accept_end.AcceptEnd.{AcceptEnd}
+use Rattle.spnego_core.specs.declared.accept_end.AcceptEnd.TheVariants as ends
+use Rattle.spnego_core.specs.declared.accept_end.AcceptPause.{AcceptPause}
+use Rattle.spnego_core.specs.declared.accept_end.AcceptStep.{AcceptStep}
+use Rattle.spnego_core.specs.declared.accept_end.AcceptStep.TheVariants as steps
 use Rattle.spnego_core.specs.declared.init_end.InitEnd.{InitEnd}
 use Rattle.spnego_core.specs.declared.outcome.Outcome.{Outcome}
-use Rattle.spnego_core.specs.Initiating.{sent_of, init_start}
-use Rattle.spnego_core.specs.PairLaws.{first_token, opening_end, pair_outcome}
-use Rattle.spnego_core.proofs.Pairs.{begins, at_once}
-use Rattle.accept_book.specs.History.{opened}
-use Rattle.accept_book.specs.Replays.{Accepting}
-use Rattle.accept_book.specs.Booking.{token_size}
+use Rattle.spnego_core.specs.Accepting.{step_of, mark_asked}
+use Rattle.spnego_core.specs.declared.setup.InitSetup.{InitSetup}
+use Rattle.spnego_core.specs.Choice.{is_first, is_mic_due}
+use Rattle.spnego_core.specs.InitMech.{kinds_of}
+use Rattle.spnego_core.specs.Initiating.{Started, own_list, init_start}
+use Rattle.spnego_core.specs.Exchange.{answered_on, IsDone, rounds_of, tokens_of}
+use Rattle.spnego_core.proofs.Exchanges.{exchanges, opened_from}
+use Rattle.spnego_core.specs.Exchange as exchange
+use Rattle.replay_cache.specs.Taking.{cache_verdict}
+use Rattle.replay_cache.specs.declared.cache.CacheVerdict.TheVariants.{Taken}
+use Rattle.context_table.specs.Places.{live_of}
+use Rattle.accept_book.specs.History.{taken_of}
+use Rattle.accept_book.specs.Entering.{id_of}
+use Rattle.accept_book.specs.Booking.{Changed, Outcomes, negotiated, raised, answer_with, token_size, later_step}
 use Rattle.accept_book.specs.RecordShown.{KeptAnswers, Ruling, AskedStep, asking, handle_of}
 use Rattle.accept_book.specs.RecordRule.{stepped, record_ruling}
 use Rattle.accept_book.specs.declared.book_answer.NegAnswer.{NegAnswer}
-use Rattle.accept_book.specs.declared.book_answer.NegAnswer.TheVariants.{Settled}
+use Rattle.accept_book.specs.declared.book_answer.Negotiated.{Negotiated}
+use Rattle.gss_client.specs.declared.creation.Offer.{Offer}
+use Rattle.gss_client.specs.declared.service.Service.{Service}
 use Rattle.gss_client.specs.declared.start.Start.{Start}
 use Rattle.gss_client.specs.declared.refusal.ClientRefusal.{ClientRefusal}
 use Rattle.gss_client.specs.declared.refusal.ClientRefusal.TheVariants.{LinkFault, PeerEnded, Refused, Negotiation, BadReply, NoMemory}
 use Rattle.gss_client.specs.Calling.{creation_call}
 use Rattle.gss_client.specs.Exchanging.{Talks, Stopped}
 use Rattle.gss_client.specs.Hearing.{Heard, whole, next_of}
-use Rattle.gss_client.specs.Session.{SessionState}
-use Rattle.gss_client.specs.Talk.{begun, created_from}
-use Rattle.gss_client.specs.Talking.{Said, Talking, said}
+use Rattle.gss_client.specs.Rank.{replies_left}
+use Rattle.gss_client.specs.Session.{SessionState, xid_after}
+use Rattle.gss_client.specs.Talk.{begun, creates, created_from}
+use Rattle.gss_client.specs.Talking.{Said, Talking, said, after}
 use Rattle.gss_server.specs.Connections.{framed}
 use Rattle.pair_laws.specs.Conversing.{replied, IsWithin, IsStream}
-use Rattle.pair_laws.specs.Honest.{HonestExchange}
-use Rattle.pair_laws.specs.Laws.{Completes, CameTo}
-use Rattle.pair_laws.proofs.Settling.{book-settles}
-use Rattle.pair_laws.proofs.Ruling.{opening_shown, opening-ruled, opening-fits}
-use Rattle.pair_laws.proofs.Granting.{granting, creation-stands, granting-fits}
-use Rattle.pair_laws.proofs.Creating.{next-first, session-front, session-created}
+use Rattle.pair_laws.specs.Booked.{Around, end_in, IsBooked, Booked, IsLeftAlone}
+use Rattle.pair_laws.specs.Honest.{occasion_of, HonestExchange}
+use Rattle.pair_laws.specs.Laws.{IsSettled, Settles, Completes, CameTo}
+use Rattle.pair_laws.proofs.Settling.{Came, Negotiates, ComesTo, book-came, goes-after, own_id, Awaits, next-awaits}
+use Rattle.pair_laws.proofs.Ruling.{proc_for, handle_for, IsId, creation_shown, asked-step, creation-fits}
+use Rattle.pair_laws.proofs.Granting.{granting, creation-stands, granting-fits, going, creation-goes, going-fits}
+use Rattle.pair_laws.proofs.Creating.{next-first, creates-front, created-is, established, continued}
 
 -- ---- the records that are written
 
@@ -56,17 +73,6 @@ abbrev octets_heard : Heard → List ℕ
 octets_heard (whole octets rest) = octets
 octets_heard other = []
 
--- the first record, and those behind it
-record Begins (call : List ℕ) (records : List (List ℕ)) : Type 0 where
-  later : List (List ℕ)
-  is : records ≡ call ∷ later
-
-first-record : (records : List (List ℕ)) (call more : List ℕ) → AllByRecursion IsWithin records → length call ≤ 131072 → flat_map last_fragment records ≡ last_fragment call ++ more → Begins call records
-first-record [] call more all few e = absurd (framed-some call more (sym e))
-first-record (octets ∷ records) call more all few e =
-    let same : octets ≡ call = ap octets_heard (same-record octets call (flat_map last_fragment records) more all.0 few e) in
-    record { later = records; is = ap (λ (o : List ℕ). o ∷ records) same }
-
 none-behind : (call : List ℕ) (records : List (List ℕ)) → last_fragment call ≡ last_fragment call ++ flat_map last_fragment records → records ≡ []
 none-behind call [] e = refl
 none-behind call (octets ∷ records) e =
@@ -75,49 +81,211 @@ none-behind call (octets ∷ records) e =
     let some : length all ≡ 4 + length octets + length (flat_map last_fragment records) = length-append (last_fragment octets) (flat_map last_fragment records) ∙ (ap (λ (n : ℕ). n + length (flat_map last_fragment records)) (length-append (word (2 ^ 31 + length octets)) octets ∙ ap (λ (n : ℕ). n + length octets) (length-word (2 ^ 31 + length octets)))) in
     absurd (omega (arith, ap length e))
 
--- ---- the exchange
+-- ---- what the book answered
 
-pub completes : (setup : AcceptSetup) (core : Accepting AcceptEnd Outcome) (width : ℕ) (start : Start) (stream : List ℕ) → (x : HonestExchange setup core width start stream) → Completes setup core width start stream x
-completes setup core width start stream x =
-    let token : List ℕ = first_token x.credential x.stamp x.draws x.bindings in
-    let call : List ℕ = creation_call 1 1 [] token in
-    let end : InitEnd = opening_end x.credential x.stamp x.draws x.bindings in
-    let drawn : List ℕ = take 66 x.first.draws in
-    let outcome : Outcome = pair_outcome (honest_judged x.credential x.stamp x.bindings x.pair.fit.part) drawn in
-    let d = at_once setup x.first.now drawn x.credential x.stamp x.draws x.bindings x.pair x.choice x.request x.reply in
-    let id : ℕ = opened core.history + 1 in
-    let sent : sent_of (init_start start.setup) ≡ Ok (end, token) =
-    ap (λ (s : InitSetup). sent_of (init_start s)) x.starts ∙ begins setup x.first.now drawn x.credential x.stamp x.draws x.bindings x.pair in
-    let settled : x.booked.answer.answer ≡ Settled (record { id = id; outcome = outcome; ends = d.lasts }) d.reply =
-    x.booked.answered ∙ book-settles setup core x.booked.past token x.first.now drawn d.pause outcome d.lasts d.reply d.asks d.goes_on x.places.log x.places.table (x.places.mark d.pause d.asks) in
-    let few : length d.reply ≤ 65536 = subst (λ (a : NegAnswer). token_size a ≤ 65536) settled x.booked.size in
-    let ruled : record_ruling call x.first width ≡ asking (AskedStep None token x.first.now drawn x.booked.answer) (stepped (opening_shown token x.first width) (Settled (record { id = id; outcome = outcome; ends = d.lasts }) d.reply)) =
-    opening-ruled token x.first width x.booked.answer x.size x.booked.asked
-    ∙ ap (λ (a : NegAnswer). asking (AskedStep None token x.first.now drawn x.booked.answer) (stepped (opening_shown token x.first width) a)) settled in
-    let octets : List ℕ = reply_octets (granting outcome id width d.reply) in
-    let reply : (record_ruling call x.first width).reply ≡ Some octets = ap (λ (r : Ruling). r.reply) ruled in
-    let front = session-front start end token stream sent refl in
-    let b = first-record x.converses.records call front.0 x.converses.within (opening-fits token x.size) (sym x.converses.written ∙ front.1) in
-    let rest : List ℕ = replied width b.later x.later ++ x.converses.rest in
-    let heard : stream ≡ last_fragment octets ++ rest =
-    x.converses.heard
-    ∙ (ap (λ (rs : List (List ℕ)). replied width rs x.converses.kept ++ x.converses.rest) b.is
-    ∙ (ap (λ (ks : List KeptAnswers). replied width (call ∷ b.later) ks ++ x.converses.rest) x.kept
-    ∙ (ap (λ (r : Option (List ℕ)). (framed r ++ replied width b.later x.later) ++ x.converses.rest) reply
-    ∙ append_assoc (last_fragment octets) (replied width b.later x.later) x.converses.rest))) in
-    let all : created_from start stream ≡ said (last_fragment call) (Ok (begun start.service start.first 2 outcome (handle_of id))) rest =
-    ap (λ (zs : List ℕ). created_from start zs) heard
-    ∙ session-created start end token octets rest outcome (handle_of id) sent refl (granting-fits outcome id width d.reply few) (creation-stands end outcome id width d.reply x.some_width x.width_fits few d.takes) in
-    let written : last_fragment call ≡ last_fragment call ++ flat_map last_fragment b.later =
-    sym (ap (λ (s : Said SessionState). s.written) all) ∙ (x.converses.written ∙ ap (λ (rs : List (List ℕ)). flat_map last_fragment rs) b.is) in
+-- the book's answer to a token of the exchange
+record Answers (setup : AcceptSetup) (id : Option ℕ) (token : List ℕ) (kept : KeptAnswers) (book : Around) (answer : Negotiated) : Type 0 where
+  past : Option ℕ
+  answered : answer.answer ≡ (negotiated setup (raised book.before kept.now) id past token kept.now (take 66 kept.draws)).answer
+  history : book.after.history ≡ (negotiated setup (raised book.before kept.now) id past token kept.now (take 66 kept.draws)).history
+  contexts : Changed book.before.table (negotiated setup (raised book.before kept.now) id past token kept.now (take 66 kept.draws)).change book.after.table
+  table : id ≡ None → (live_of book.before.table < book.before.table.limit) ⊎ (is_some past ≡ true)
+  mark : (pause : AcceptPause) → step_of (later_step setup (end_in book.before.table id) token kept.now (take 66 kept.draws)) ≡ Ok (steps.WantsAuth pause)
+      → cache_verdict book.before.cache.capacity (max book.before.cache.greatest kept.now) (taken_of book.before.history) (mark_asked pause) ≡ Taken
+
+answers-to : (setup : AcceptSetup) (width : ℕ) (octets : List ℕ) (kept : KeptAnswers) (book : Around) (id : Option ℕ) (token : List ℕ) → (b : IsBooked setup width octets kept book) → b.id ≡ id → b.token ≡ token → Answers setup id token kept book b.answer
+answers-to setup width octets kept book id token b id_is token_is =
+    subst (λ (i : Option ℕ). Answers setup i token kept book b.answer) id_is
+    (subst (λ (t : List ℕ). Answers setup b.id t kept book b.answer) token_is
+    (record { past = b.past; answered = b.answered; history = b.history; contexts = b.contexts; table = b.table; mark = b.mark }))
+
+-- a turn of the exchange: what the record was answered, and the step that the book took
+record Turned (setup : AcceptSetup) (width xid : ℕ) (id : Option ℕ) (token : List ℕ) (kept : KeptAnswers) (book : Around) (step : AcceptStep) : Type 0 where
+  answer : Negotiated
+  is_kept : kept.negotiated ≡ Some answer
+  is : answer.answer ≡ answer_with (id_of id book.before.history) step
+  ruled : record_ruling (creation_call xid (proc_for id) (handle_for id) token) kept width
+      ≡ asking (AskedStep id token kept.now (take 66 kept.draws) answer) (stepped (creation_shown xid id token kept width) (answer_with (id_of id book.before.history) step))
+  size : token_size (answer_with (id_of id book.before.history) step) ≤ 65536
+  goes_on : (end : AcceptEnd) (reply : List ℕ) → step ≡ steps.More end reply → Negotiates (id_of id book.before.history) book.after end
+
+turned-by : (setup : AcceptSetup) (width xid : ℕ) (id : Option ℕ) (end : AcceptEnd) (token : List ℕ) (kept : KeptAnswers) (book : Around) (step : AcceptStep) → xid < 2 ^ 32 → IsId id → length token ≤ 65536 → ComesTo id book.before end
+    → answered_on setup (occasion_of kept) end token ≡ Ok step → IsBooked setup width (creation_call xid (proc_for id) (handle_for id) token) kept book → Turned setup width xid id token kept book step
+turned-by setup width xid id end token kept book step fits is_id few comes takes b =
+    let drawn : List ℕ = take 66 kept.draws in
+    let w = asked-step xid id b.id token b.token kept width b.answer fits is_id few b.asked in
+    let a = answers-to setup width (creation_call xid (proc_for id) (handle_for id) token) kept book id token b w.id_is w.token_is in
+    let came = book-came setup book.before id a.past end token kept.now drawn step comes b.log a.table a.mark takes in
+    let own : ℕ = id_of id book.before.history in
+    let is : b.answer.answer ≡ answer_with own step = a.answered ∙ ap (λ (o : Outcomes). o.answer) came.is in
     record {
-      outcome = outcome;
-      lasts = d.lasts;
-      token = d.reply;
-      settled = settled;
-      rule = ap (λ (r : Ruling). r.rule) ruled;
-      records = b.is ∙ ap (λ (rs : List (List ℕ)). call ∷ rs) (none-behind call b.later written);
-      session = ap (λ (s : Said SessionState). s.answer) all;
+      answer = b.answer;
+      is_kept = w.is_kept;
+      is = is;
+      ruled = w.ruled ∙ ap (λ (n : NegAnswer). asking (AskedStep id token kept.now drawn b.answer) (stepped (creation_shown xid id token kept width) n)) is;
+      size = subst (λ (n : NegAnswer). token_size n ≤ 65536) is b.size;
+      goes_on = λ next reply e.
+          goes-after setup book.before book.after id a.past end next reply kept.now (negotiated setup (raised book.before kept.now) id a.past token kept.now drawn) comes
+          (subst (λ (s : AcceptStep). Came (raised book.before kept.now) id a.past s (negotiated setup (raised book.before kept.now) id a.past token kept.now drawn)) e came) a.history a.contexts;
+    }
+
+-- ---- the exchange, turn by turn
+
+next-xid : (xid : ℕ) → xid + 1 < 2 ^ 32 → xid_after xid ≡ xid + 1
+next-xid xid h = omega (arith)
+
+-- what comes of a creation from some turn on
+record Stood (service : Service) (first xid : ℕ) (width id : ℕ) (outcome : Outcome) (part : Said SessionState) (records : List (List ℕ)) (answers : List KeptAnswers) : Type 0 where
+  settles : Settles width id outcome records answers
+  session : part.answer ≡ Ok (begun service first (xid + length answers) outcome (handle_of id))
+
+settles-last : (width id : ℕ) (outcome : Outcome) (octets : List ℕ) (records : List (List ℕ)) (one : KeptAnswers) → records ≡ [] → IsSettled width id outcome octets one → Settles width id outcome (octets ∷ records) (one ∷ [])
+settles-last width id outcome octets records one none s = subst (λ (rs : List (List ℕ)). Settles width id outcome (octets ∷ rs) (one ∷ [])) (sym none) s
+
+settles-more : (width id : ℕ) (outcome : Outcome) (octets : List ℕ) (records : List (List ℕ)) (one two : KeptAnswers) (more : List KeptAnswers) → (record_ruling octets one width).rule ≡ 21 → Settles width id outcome records (two ∷ more) → Settles width id outcome (octets ∷ records) (one ∷ two ∷ more)
+settles-more width id outcome octets [] one two more rule s = absurd s
+settles-more width id outcome octets (next ∷ records) one two more rule s = (rule, s)
+
+same-behind : (a xs ys : List ℕ) → a ++ xs ≡ a ++ ys → xs ≡ ys
+same-behind a xs ys e = sym (drop-append_seam a xs) ∙ (ap (λ (us : List ℕ). drop (length a) us) e ∙ drop-append_seam a ys)
+
+own-id : (id : Option ℕ) (book : Around) (books : List Around) → own_id id (book ∷ books) ≡ id_of id book.before.history
+own-id None book books = refl
+own-id (Some id) book books = refl
+
+-- the first record is the call
+front-record : (left : ℕ) (service : Service) (first xid proc : ℕ) (offer : Offer) (stream : List ℕ) (octets : List ℕ) (records : List (List ℕ)) → length octets ≤ 131072 → length (creation_call xid proc offer.handle offer.token) ≤ 131072
+    → (creates (suc left) service first xid proc offer stream).written ≡ flat_map last_fragment (octets ∷ records) → octets ≡ creation_call xid proc offer.handle offer.token
+front-record left service first xid proc offer stream octets records few small written =
+    let call : List ℕ = creation_call xid proc offer.handle offer.token in
+    let f = creates-front left service first xid proc offer stream in
+    ap octets_heard (same-record octets call (flat_map last_fragment records) f.more few small (sym written ∙ f.same))
+
+last-turn : (setup : AcceptSetup) (width left : ℕ) (service : Service) (first xid : ℕ) (id : Option ℕ) (acceptor : AcceptEnd) (initiator : InitEnd) (token : List ℕ) (one : KeptAnswers) (book : Around) (octets : List ℕ) (records : List (List ℕ)) (others : List KeptAnswers) (rest stream : List ℕ) (outcome : Outcome)
+    → 0 < width → width < 2 ^ 32 → xid + 1 < 2 ^ 32 → IsId id → length token ≤ 65536 → length octets ≤ 131072 → ComesTo id book.before acceptor → IsDone setup (occasion_of one) acceptor initiator token outcome → IsBooked setup width octets one book
+    → (creates (suc left) service first xid (proc_for id) (record { end = initiator; handle = handle_for id; token = token }) stream).written ≡ flat_map last_fragment (octets ∷ records)
+    → stream ≡ replied width (octets ∷ records) (one ∷ others) ++ rest
+    → Stood service first xid width (id_of id book.before.history) outcome (creates (suc left) service first xid (proc_for id) (record { end = initiator; handle = handle_for id; token = token }) stream) (octets ∷ records) (one ∷ [])
+last-turn setup width left service first xid id acceptor initiator token one book octets records others rest stream outcome some wide xids is_id few within comes done b written heard =
+    let offer : Offer = record { end = initiator; handle = handle_for id; token = token } in
+    let call : List ℕ = creation_call xid (proc_for id) (handle_for id) token in
+    let own : ℕ = id_of id book.before.history in
+    let fits : xid < 2 ^ 32 = omega (arith, xids) in
+    let is_call : octets ≡ call = front-record left service first xid (proc_for id) offer stream octets records within (creation-fits xid id token few) written in
+    let t = turned-by setup width xid id acceptor token one book (steps.Done outcome done.lasts done.reply) fits is_id few comes done.accepts (subst (λ (o : List ℕ). IsBooked setup width o one book) is_call b) in
+    let reply : List ℕ = reply_octets (granting xid outcome own width done.reply) in
+    let is_reply : (record_ruling call one width).reply ≡ Some reply = ap (λ (r : Ruling). r.reply) t.ruled in
+    let behind : List ℕ = replied width records others ++ rest in
+    let stream_is : stream ≡ last_fragment reply ++ behind =
+    heard ∙ (ap (λ (o : List ℕ). (framed (record_ruling o one width).reply ++ replied width records others) ++ rest) is_call
+    ∙ (ap (λ (r : Option (List ℕ)). (framed r ++ replied width records others) ++ rest) is_reply ∙ append_assoc (last_fragment reply) (replied width records others) rest)) in
+    let all : creates (suc left) service first xid (proc_for id) offer stream ≡ said (last_fragment call) (Ok (begun service first (xid_after xid) outcome (handle_of own))) behind =
+    ap (λ (zs : List ℕ). creates (suc left) service first xid (proc_for id) offer zs) stream_is
+    ∙ established left service first xid (proc_for id) offer reply behind outcome (handle_of own) (granting-fits xid outcome own width done.reply t.size)
+    (creation-stands xid initiator outcome own width done.reply fits some wide t.size done.initiates) in
+    let whole : last_fragment call ≡ last_fragment call ++ flat_map last_fragment records =
+    sym (ap (λ (s : Said SessionState). s.written) all) ∙ (written ∙ ap (λ (o : List ℕ). last_fragment o ++ flat_map last_fragment records) is_call) in
+    record {
+      settles = settles-last width own outcome octets records one (none-behind call records whole) (record {
+        answer = t.answer;
+        is_kept = t.is_kept;
+        lasts = done.lasts;
+        token = done.reply;
+        settled = t.is;
+        rule = ap (λ (o : List ℕ). (record_ruling o one width).rule) is_call ∙ ap (λ (r : Ruling). r.rule) t.ruled;
+      });
+      session = ap (λ (s : Said SessionState). s.answer) all ∙ ap (λ (n : ℕ). Ok (begun service first n outcome (handle_of own))) (next-xid xid xids);
+    }
+
+turns-on : (setup : AcceptSetup) (width left : ℕ) (service : Service) (first xid : ℕ) (id : Option ℕ) (acceptor : AcceptEnd) (initiator : InitEnd) (token : List ℕ) (answers : List KeptAnswers) (books : List Around) (records : List (List ℕ)) (later : List KeptAnswers) (rest stream : List ℕ) (outcome : Outcome)
+    → 0 < width → width < 2 ^ 32 → xid + length answers < 2 ^ 32 → length answers ≤ left → own_id id books < 2 ^ 64 → IsId id → length token ≤ 65536 → AllByRecursion IsWithin records → Awaits id acceptor books → IsLeftAlone (own_id id books) books
+    → exchange.Completes setup (map occasion_of answers) acceptor initiator token outcome → Booked setup width records answers books
+    → (creates left service first xid (proc_for id) (record { end = initiator; handle = handle_for id; token = token }) stream).written ≡ flat_map last_fragment records
+    → stream ≡ replied width records (answers ++ later) ++ rest
+    → Stood service first xid width (own_id id books) outcome (creates left service first xid (proc_for id) (record { end = initiator; handle = handle_for id; token = token }) stream) records answers
+turns-on setup width left service first xid id acceptor initiator token [] books records later rest stream outcome some wide xids turns ids is_id few within awaits alone c b written heard = absurd c
+turns-on setup width zero service first xid id acceptor initiator token (one ∷ more) books records later rest stream outcome some wide xids turns ids is_id few within awaits alone c b written heard = absurd (omega (arith, turns))
+turns-on setup width (suc left) service first xid id acceptor initiator token (one ∷ more) books [] later rest stream outcome some wide xids turns ids is_id few within awaits alone c b written heard = absurd b
+turns-on setup width (suc left) service first xid id acceptor initiator token (one ∷ more) [] (octets ∷ records) later rest stream outcome some wide xids turns ids is_id few within awaits alone c b written heard = absurd b
+turns-on setup width (suc left) service first xid id acceptor initiator token (one ∷ []) (book ∷ books) (octets ∷ records) later rest stream outcome some wide xids turns ids is_id few within awaits alone c b written heard =
+    subst (λ (n : ℕ). Stood service first xid width n outcome (creates (suc left) service first xid (proc_for id) (record { end = initiator; handle = handle_for id; token = token }) stream) (octets ∷ records) (one ∷ [])) (sym (own-id id book books))
+    (last-turn setup width left service first xid id acceptor initiator token one book octets records later rest stream outcome some wide (omega (arith, xids)) is_id few within.0 awaits c b.0 written heard)
+turns-on setup width (suc left) service first xid id acceptor initiator token (one ∷ two ∷ more) (book ∷ books) (octets ∷ records) later rest stream outcome some wide xids turns ids is_id few within awaits alone c b written heard =
+    let offer : Offer = record { end = initiator; handle = handle_for id; token = token } in
+    let call : List ℕ = creation_call xid (proc_for id) (handle_for id) token in
+    let own : ℕ = id_of id book.before.history in
+    let fits : xid < 2 ^ 32 = omega (arith, xids) in
+    let is_call : octets ≡ call = front-record left service first xid (proc_for id) offer stream octets records within.0 (creation-fits xid id token few) written in
+    let g = c.0 in
+    let t = turned-by setup width xid id acceptor token one book (steps.More g.acceptor_after g.reply) fits is_id few awaits g.accepts (subst (λ (o : List ℕ). IsBooked setup width o one book) is_call b.0) in
+    let reply : List ℕ = reply_octets (going xid own g.reply) in
+    let is_reply : (record_ruling call one width).reply ≡ Some reply = ap (λ (r : Ruling). r.reply) t.ruled in
+    let behind : List ℕ = replied width records ((two ∷ more) ++ later) ++ rest in
+    let stream_is : stream ≡ last_fragment reply ++ behind =
+    heard ∙ (ap (λ (o : List ℕ). (framed (record_ruling o one width).reply ++ replied width records ((two ∷ more) ++ later)) ++ rest) is_call
+    ∙ (ap (λ (r : Option (List ℕ)). (framed r ++ replied width records ((two ∷ more) ++ later)) ++ rest) is_reply ∙ append_assoc (last_fragment reply) (replied width records ((two ∷ more) ++ later)) rest)) in
+    let next : Offer = record { end = g.initiator_after; handle = handle_of own; token = g.further } in
+    let all : creates (suc left) service first xid (proc_for id) offer stream ≡ after (last_fragment call) (creates left service first (xid_after xid) 2 next behind) =
+    ap (λ (zs : List ℕ). creates (suc left) service first xid (proc_for id) offer zs) stream_is
+    ∙ continued left service first xid (proc_for id) offer next reply behind (going-fits xid own g.reply t.size) (creation-goes xid initiator g.initiator_after own g.reply g.further fits t.size g.initiates) in
+    let xid_is : xid_after xid ≡ xid + 1 = next-xid xid (omega (arith, xids)) in
+    let all_next : creates (suc left) service first xid (proc_for id) offer stream ≡ after (last_fragment call) (creates left service first (xid + 1) 2 next behind) =
+    all ∙ ap (λ (n : ℕ). after (last_fragment call) (creates left service first n 2 next behind)) xid_is in
+    let whole : last_fragment call ++ (creates left service first (xid + 1) 2 next behind).written ≡ last_fragment call ++ flat_map last_fragment records =
+    sym (ap (λ (s : Said SessionState). s.written) all_next) ∙ (written ∙ ap (λ (o : List ℕ). last_fragment o ++ flat_map last_fragment records) is_call) in
+    let own_is : own_id id (book ∷ books) ≡ own = own-id id book books in
+    let n = next-awaits own g.acceptor_after book books (t.goes_on g.acceptor_after g.reply refl) (subst (λ (i : ℕ). IsLeftAlone i (book ∷ books)) own_is alone) in
+    let s = turns-on setup width left service first (xid + 1) (Some own) g.acceptor_after g.initiator_after g.further (two ∷ more) books records later rest behind outcome some wide (omega (arith, xids)) (omega (arith, turns))
+    (subst (λ (i : ℕ). i < 2 ^ 64) own_is ids) (subst (λ (i : ℕ). i < 2 ^ 64) own_is ids) g.short within.1 n.0 n.1 c.1 b.1 (same-behind (last_fragment call) _ _ whole) refl in
+    subst (λ (i : ℕ). Stood service first xid width i outcome (creates (suc left) service first xid (proc_for id) offer stream) (octets ∷ records) (one ∷ two ∷ more)) (sym own_is) (record {
+      settles = settles-more width own outcome octets records one two more (ap (λ (o : List ℕ). (record_ruling o one width).rule) is_call ∙ ap (λ (r : Ruling). r.rule) t.ruled) s.settles;
+      session = ap (λ (s : Said SessionState). s.answer) all_next ∙ (s.session ∙ ap (λ (n : ℕ). Ok (begun service first n outcome (handle_of own))) (omega arith));
+    })
+
+-- an initiator sends four tokens at most
+counts : (first due : Bool) (kind : MechKind) → (if first then 0 else 1) + rounds_of kind + (if due then 1 else 0) ≤ 4
+counts true true kinds.Kerberos = omega arith
+counts true false kinds.Kerberos = omega arith
+counts false true kinds.Kerberos = omega arith
+counts false false kinds.Kerberos = omega arith
+counts true true kinds.Scram = omega arith
+counts true false kinds.Scram = omega arith
+counts false true kinds.Scram = omega arith
+counts false false kinds.Scram = omega arith
+
+tokens-few : (setup : AcceptSetup) (own : InitSetup) (kind : MechKind) → tokens_of setup own kind ≤ 4
+tokens-few setup own kind = counts (is_first (kinds_of own.list) kind) (is_mic_due setup.offer (own_list own) kind) kind
+
+-- and takes that many replies
+opens-four : (own : InitSetup) (started : Started) → init_start own ≡ Ok started → replies_left started.end ≡ 4
+opens-four own started starts = ap replies_left (opened_from own own.list started refl starts).end
+
+first-awaits : (books : List Around) → Awaits None ends.New books
+first-awaits [] = tt
+first-awaits (book ∷ books) = refl
+
+length-map : (answers : List KeptAnswers) → length (map occasion_of answers) ≡ length answers
+length-map [] = refl
+length-map (one ∷ more) = omega (arith, length-map more)
+
+pub completes : (setup : AcceptSetup) (width : ℕ) (start : Start) (stream : List ℕ) → (x : HonestExchange setup width start stream) → Completes setup width start stream x
+completes setup width start stream x =
+    let a = exchanges setup start.setup x.kind (map occasion_of x.answers) x.pair in
+    let started = x.pair.started in
+    let offer : Offer = record { end = started.end; handle = []; token = started.token } in
+    let left : ℕ = replies_left started.end in
+    let is : created_from start stream ≡ creates left start.service start.first 1 1 offer stream = created-is start started stream x.pair.starts in
+    let four : left ≡ 4 = opens-four start.setup started x.pair.starts in
+    let few : length x.answers ≤ 4 = omega (arith, length-map x.answers, x.pair.counted, tokens-few setup start.setup x.kind) in
+    let turns : length x.answers ≤ left = omega (arith, few, four) in
+    let heard : stream ≡ replied width x.converses.records (x.answers ++ x.later) ++ x.converses.rest = x.converses.heard ∙ ap (λ (ks : List KeptAnswers). replied width x.converses.records ks ++ x.converses.rest) x.kept in
+    let s = turns-on setup width left start.service start.first 1 None ends.New started.end started.token x.answers x.books x.converses.records x.later x.converses.rest stream a.outcome x.some_width x.width_fits (omega (arith, few)) turns x.number tt x.pair.short x.converses.within (first-awaits x.books) x.left_alone a.completes x.booked
+    (sym (ap (λ (s : Said SessionState). s.written) is) ∙ x.converses.written) heard in
+    record {
+      outcome = a.outcome;
+      mech = a.mech;
+      settles = s.settles;
+      session = ap (λ (s : Said SessionState). s.answer) is ∙ s.session;
     }
 
 -- ---- over a link

@@ -1,11 +1,8 @@
 -- A session is created where the one reply to its opening call is heard and its judgement stands.
 use Rattle.std.proofs.Common.{◌≡◌, ℕ, suc, ◌≤◌, lit<, refl, ap, ◌∙◌, List, [], ◌++◌, length, Result, Ok, Err, append-nil, append_assoc}
 use Rattle.rpc_msgs.specs.Records.{Fragments, last_fragment}
-use Rattle.rpc_msgs.proofs.XdrLaws.{ok_is}
-use Rattle.spnego_core.specs.declared.init_end.InitEnd.{InitEnd}
 use Rattle.spnego_core.specs.declared.outcome.Outcome.{Outcome}
-use Rattle.spnego_core.specs.declared.refusal.NegRefusal.{NegRefusal}
-use Rattle.spnego_core.specs.Initiating.{Started, sent_of, init_start}
+use Rattle.spnego_core.specs.Initiating.{Started, init_start}
 use Rattle.gss_client.specs.declared.creation.Created.{Created}
 use Rattle.gss_client.specs.declared.creation.Created.TheVariants as created
 use Rattle.gss_client.specs.declared.creation.Offer.{Offer}
@@ -16,9 +13,9 @@ use Rattle.gss_client.specs.Calling.{creation_call}
 use Rattle.gss_client.specs.Hearing.{whole, next_of}
 use Rattle.gss_client.specs.Judging.{creation_step}
 use Rattle.gss_client.specs.Rank.{replies_left}
-use Rattle.gss_client.specs.Session.{SessionState, xid_after}
-use Rattle.gss_client.specs.Talk.{turns, begun, by_turn, creates, begins, created_from}
-use Rattle.gss_client.specs.Talking.{Said, Talking, said, goes_on, judges, by_heard, listens, exchanges}
+use Rattle.gss_client.specs.Session.{xid_after}
+use Rattle.gss_client.specs.Talk.{turns, begun, by_turn, creates, created_from}
+use Rattle.gss_client.specs.Talking.{Said, Talking, said, after, goes_on, judges, by_heard, listens, exchanges}
 use Rattle.gss_client.proofs.NextRecord.{of-frame}
 
 -- a record at the front of a stream is the next one
@@ -31,9 +28,9 @@ listens-first octets rest few = ap by_heard (next-first octets rest few)
 
 -- ---- what is written first
 
-record Fronts {A : Type 0} (front : List ℕ) (s : Said A) : Type 0 where
-  more : List ℕ
-  same : s.written ≡ front ++ more
+pub record Fronts {A : Type 0} (front : List ℕ) (s : Said A) : Type 0 where
+  pub more : List ℕ
+  pub same : s.written ≡ front ++ more
 
 goes-front : {A B : Type 0} (front written rest : List ℕ) (next : A → Talking B) (answer : Result A ClientRefusal) (more : List ℕ) → written ≡ front ++ more → Fronts front (goes_on written rest next answer)
 goes-front front written rest next (Ok x) more e = record { more = more ++ (next x rest).written; same = ap (λ (zs : List ℕ). zs ++ (next x rest).written) e ∙ append_assoc front more (next x rest).written }
@@ -50,27 +47,15 @@ turn-front xid proc offer stream =
     let f = exchange-front call stream in
     goes-front (last_fragment call) (exchanges call stream).written (exchanges call stream).rest (λ octets. judges (creation_step offer.end xid octets)) (exchanges call stream).answer f.more f.same
 
-creates-front : (left : ℕ) (service : Service) (first xid proc : ℕ) (offer : Offer) (stream : List ℕ) → Fronts (last_fragment (creation_call xid proc offer.handle offer.token)) (creates (suc left) service first xid proc offer stream)
+pub creates-front : (left : ℕ) (service : Service) (first xid proc : ℕ) (offer : Offer) (stream : List ℕ) → Fronts (last_fragment (creation_call xid proc offer.handle offer.token)) (creates (suc left) service first xid proc offer stream)
 unfolding creates
 creates-front left service first xid proc offer stream =
     let f = turn-front xid proc offer stream in
     goes-front (last_fragment (creation_call xid proc offer.handle offer.token)) (turns xid proc offer stream).written (turns xid proc offer stream).rest (by_turn service first xid (creates left service first (xid_after xid) 2)) (turns xid proc offer stream).answer f.more f.same
 
-begins-with : (service : Service) (first : ℕ) (r : Result Started NegRefusal) (end : InitEnd) (token : List ℕ) → sent_of r ≡ Ok (end, token) → begins service first r ≡ creates (replies_left end) service first 1 1 (record { end = end; handle = []; token = token })
-begins-with service first (Ok started) end token e =
-    let both = ok_is {E = NegRefusal} (started.end, started.token) (end, token) e in
-    let same : started.end ≡ end = ap (λ p. p.0) both in
-    let said_is : started.token ≡ token = ap (λ p. p.1) both in
-    rw (same, said_is) refl
-begins-with service first (Err refusal) end token e = absurd cc
-
-pub session-front : (start : Start) (end : InitEnd) (token stream : List ℕ) → sent_of (init_start start.setup) ≡ Ok (end, token) → replies_left end ≡ 3 → (more : List ℕ) × ((created_from start stream).written ≡ last_fragment (creation_call 1 1 [] token) ++ more)
+pub created-is : (start : Start) (started : Started) (stream : List ℕ) → init_start start.setup ≡ Ok started → created_from start stream ≡ creates (replies_left started.end) start.service start.first 1 1 (record { end = started.end; handle = []; token = started.token }) stream
 unfolding created_from
-session-front start end token stream sent three =
-    let f = creates-front 2 start.service start.first 1 1 (record { end = end; handle = []; token = token }) stream in
-    let same : created_from start stream ≡ creates 3 start.service start.first 1 1 (record { end = end; handle = []; token = token }) stream =
-    ap (λ (part : Talking SessionState). part stream) (begins-with start.service start.first (init_start start.setup) end token sent) ∙ ap (λ (n : ℕ). creates n start.service start.first 1 1 (record { end = end; handle = []; token = token }) stream) three in
-    (f.more, ap (λ (s : Said SessionState). s.written) same ∙ f.same)
+created-is start started stream starts = rw starts refl
 
 -- ---- what comes of it
 
@@ -83,17 +68,14 @@ unfolding turns
 turned xid proc offer reply rest what few judged =
     rw (exchanged (creation_call xid proc offer.handle offer.token) reply rest few, judged, append-nil (last_fragment (creation_call xid proc offer.handle offer.token))) refl
 
-established : (left : ℕ) (service : Service) (first : ℕ) (offer : Offer) (reply rest : List ℕ) (outcome : Outcome) (handle : List ℕ) → length reply ≤ 131072 → creation_step offer.end 1 reply ≡ Ok (created.Stands outcome handle)
-    → creates (suc left) service first 1 1 offer (last_fragment reply ++ rest) ≡ said (last_fragment (creation_call 1 1 offer.handle offer.token)) (Ok (begun service first 2 outcome handle)) rest
+pub established : (left : ℕ) (service : Service) (first xid proc : ℕ) (offer : Offer) (reply rest : List ℕ) (outcome : Outcome) (handle : List ℕ) → length reply ≤ 131072 → creation_step offer.end xid reply ≡ Ok (created.Stands outcome handle)
+    → creates (suc left) service first xid proc offer (last_fragment reply ++ rest) ≡ said (last_fragment (creation_call xid proc offer.handle offer.token)) (Ok (begun service first (xid_after xid) outcome handle)) rest
 unfolding creates
-established left service first offer reply rest outcome handle few judged =
-    rw (turned 1 1 offer reply rest (created.Stands outcome handle) few judged, append-nil (last_fragment (creation_call 1 1 offer.handle offer.token))) refl
+established left service first xid proc offer reply rest outcome handle few judged =
+    rw (turned xid proc offer reply rest (created.Stands outcome handle) few judged, append-nil (last_fragment (creation_call xid proc offer.handle offer.token))) refl
 
-pub session-created : (start : Start) (end : InitEnd) (token reply rest : List ℕ) (outcome : Outcome) (handle : List ℕ) → sent_of (init_start start.setup) ≡ Ok (end, token) → replies_left end ≡ 3 → length reply ≤ 131072 → creation_step end 1 reply ≡ Ok (created.Stands outcome handle)
-    → created_from start (last_fragment reply ++ rest) ≡ said (last_fragment (creation_call 1 1 [] token)) (Ok (begun start.service start.first 2 outcome handle)) rest
-unfolding created_from
-session-created start end token reply rest outcome handle sent three few judged =
-    let stream : List ℕ = last_fragment reply ++ rest in
-    let offer : Offer = record { end = end; handle = []; token = token } in
-    ap (λ (part : Talking SessionState). part stream) (begins-with start.service start.first (init_start start.setup) end token sent)
-    ∙ (ap (λ (n : ℕ). creates n start.service start.first 1 1 offer stream) three ∙ established 2 start.service start.first offer reply rest outcome handle few judged)
+-- a turn before the others
+pub continued : (left : ℕ) (service : Service) (first xid proc : ℕ) (offer next : Offer) (reply rest : List ℕ) → length reply ≤ 131072 → creation_step offer.end xid reply ≡ Ok (created.Going next)
+    → creates (suc left) service first xid proc offer (last_fragment reply ++ rest) ≡ after (last_fragment (creation_call xid proc offer.handle offer.token)) (creates left service first (xid_after xid) 2 next rest)
+unfolding creates
+continued left service first xid proc offer next reply rest few judged = rw (turned xid proc offer reply rest (created.Going next) few judged) refl

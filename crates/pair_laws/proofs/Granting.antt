@@ -1,12 +1,12 @@
--- The reply that a settled context has is granted, and the session stands.
-use Rattle.std.proofs.Common.{◌≡◌, ℕ, ◌≤◌, ◌<◌, ◌^◌, lit<, false, refl, arith, List, ◌++◌, length, Ok}
+-- The replies that a creation has are granted: a context that goes on, and one that is settled, on which the session stands.
+use Rattle.std.proofs.Common.{◌≡◌, ℕ, ◌≤◌, ◌<◌, ◌^◌, lit<, lit≤, nat_le, true, false, refl, arith, List, [], ◌++◌, length, Ok}
 use Rattle.std.specs.Prelude.{◌==◌}
 use Rattle.std.proofs.lemmas.Bool.Decides.{nat_tests}
 use Rattle.rpc_msgs.specs.Words.{word}
 use Rattle.rpc_msgs.specs.Replies.{ReplyValue, accepted, reply_octets}
 use Rattle.rpc_msgs.specs.ReplyReading.{reply_at}
 use Rattle.rpc_msgs.proofs.ReplyLaws.{reply-only}
-use Rattle.rpcsec_msgs.specs.InitRes.{init_res_octets, init_res_at}
+use Rattle.rpcsec_msgs.specs.InitRes.{init_res_octets, IsInitRes}
 use Rattle.rpcsec_msgs.specs.declared.init_res.InitRes.{InitRes}
 use Rattle.rpcsec_msgs.proofs.InitResLaws.{init_res-only}
 use Rattle.krb_tokens.specs.declared.end.Side.TheVariants.{Initiator, Acceptor}
@@ -25,6 +25,37 @@ use Rattle.gss_client.specs.Judging.{answer_in, granted_in, GrantedValue, by_ste
 use Rattle.gss_server.proofs.BodyLengths.{init-fits}
 use Rattle.gss_server.proofs.ReplyLengths.{accepted-fits}
 
+same-xid : (xid : ℕ) → (xid == xid) ≡ true
+same-xid xid = grind (arith, nat_tests)
+
+handle-length : (id : ℕ) → length (handle_of id) ≡ 8
+handle-length id = refl
+
+-- ---- any result of a creation
+
+-- a reply with this result: the verifier has its kind, and is of at most 400 octets
+abbrev reply_with : ℕ → ℕ → List ℕ → InitRes → ReplyValue
+reply_with xid flavour verf result = accepted xid flavour verf 0 0 0 (init_res_octets result)
+
+abbrev granted_with : ℕ → ℕ → List ℕ → InitRes → GrantedValue
+granted_with xid flavour verf result = record {
+  answer = record { flavour = flavour; verf = verf; stat = 0; result = init_res_octets result; size = length (reply_octets (reply_with xid flavour verf result)) };
+  result = result;
+}
+
+reply-reads : (xid flavour : ℕ) (verf : List ℕ) (result : InitRes) → xid < 2 ^ 32 → flavour < 2 ^ 32 → length verf ≤ 400 → reply_at (reply_octets (reply_with xid flavour verf result)) ≡ Ok (reply_with xid flavour verf result)
+reply-reads xid flavour verf result fits kind few =
+    reply-only (reply_with xid flavour verf result) (few, (λ other. absurd (other refl)), (λ other. refl), (λ other. refl)) (fits, kind, lit< tt, lit< tt, lit< tt)
+
+grants : (xid flavour : ℕ) (verf : List ℕ) (result : InitRes) → xid < 2 ^ 32 → flavour < 2 ^ 32 → length verf ≤ 400 → IsInitRes result → result.major ≤ 1
+    → granted_in xid (reply_octets (reply_with xid flavour verf result)) ≡ Ok (granted_with xid flavour verf result)
+unfolding granted_in answer_in
+grants xid flavour verf result fits kind few is low =
+    let due : nat_le result.major 1 ≡ true = grind (arith, nat_tests) in
+    rw (reply-reads xid flavour verf result fits kind few) (rw (same-xid xid) (rw (init_res-only result is) (rw due refl)))
+
+-- ---- a context that is settled
+
 -- the result of a creation that is complete
 abbrev pub result_with : ℕ → ℕ → List ℕ → InitRes
 result_with id width token = record { context = handle_of id; major = 0; minor = 0; window = width; token = token }
@@ -33,47 +64,46 @@ result_with id width token = record { context = handle_of id; major = 0; minor =
 abbrev pub window_mic : Outcome → ℕ → List ℕ
 window_mic outcome width = mic_of (token_end outcome Acceptor) 1 (word width)
 
-abbrev pub granting : Outcome → ℕ → ℕ → List ℕ → ReplyValue
-granting outcome id width token = accepted 1 6 (window_mic outcome width) 0 0 0 (init_res_octets (result_with id width token))
-
-handle-length : (id : ℕ) → length (handle_of id) ≡ 8
-handle-length id = refl
+abbrev pub granting : ℕ → Outcome → ℕ → ℕ → List ℕ → ReplyValue
+granting xid outcome id width token = reply_with xid 6 (window_mic outcome width) (result_with id width token)
 
 pub mic-size : (end : TokenEnd) (number : ℕ) (octets : List ℕ) → length (mic_of end number octets) ≡ 28
 unfolding mic_of mic_header
 mic-size end number octets = omega (arith, length-checksum_of end.key (sign_usage end.side) (octets ++ mic_header end number))
 
-reply-reads : (outcome : Outcome) (id width : ℕ) (token : List ℕ) → reply_at (reply_octets (granting outcome id width token)) ≡ Ok (granting outcome id width token)
-reply-reads outcome id width token =
-    reply-only (granting outcome id width token) (omega (arith, mic-size (token_end outcome Acceptor) 1 (word width)), (λ other. absurd (other refl)), (λ other. refl), (λ other. refl))
-    (lit< tt, lit< tt, lit< tt, lit< tt, lit< tt)
-
-result-reads : (id width : ℕ) (token : List ℕ) → width < 2 ^ 32 → length token ≤ 65536 → init_res_at (init_res_octets (result_with id width token)) ≡ Ok (result_with id width token)
-result-reads id width token fits few = init_res-only (result_with id width token) (record { context = omega (arith, handle-length id); major = lit< tt; minor = lit< tt; window = fits; token = few })
-
-abbrev granted : Outcome → ℕ → ℕ → List ℕ → GrantedValue
-granted outcome id width token = record {
-  answer = record { flavour = 6; verf = window_mic outcome width; stat = 0; result = init_res_octets (result_with id width token); size = length (reply_octets (granting outcome id width token)) };
-  result = result_with id width token;
-}
-
-grants : (outcome : Outcome) (id width : ℕ) (token : List ℕ) → width < 2 ^ 32 → length token ≤ 65536 → granted_in 1 (reply_octets (granting outcome id width token)) ≡ Ok (granted outcome id width token)
-unfolding granted_in answer_in
-grants outcome id width token fits few = rw (reply-reads outcome id width token) (rw (result-reads id width token fits few) refl)
-
-stands : (outcome : Outcome) (id width : ℕ) (token : List ℕ) → 0 < width → by_step (granted outcome id width token) (steps.Done outcome) ≡ Ok (created.Stands outcome (handle_of id))
+stands : (xid : ℕ) (outcome : Outcome) (id width : ℕ) (token : List ℕ) → 0 < width → by_step (granted_with xid 6 (window_mic outcome width) (result_with id width token)) (steps.Done outcome) ≡ Ok (created.Stands outcome (handle_of id))
 unfolding by_step
-stands outcome id width token some =
+stands xid outcome id width token some =
     let wide : (width == 0) ≡ false = grind (arith, nat_tests) in
     let good : checked_mic (token_end outcome Initiator) (window_mic outcome width) (word width) ≡ Ok tt = mic-taken (token_end outcome Acceptor) 1 (word width) in
     rw (wide, good) refl
 
-pub creation-stands : (end : InitEnd) (outcome : Outcome) (id width : ℕ) (token : List ℕ) → 0 < width → width < 2 ^ 32 → length token ≤ 65536 → step_of (init_step end token) ≡ Ok (steps.Done outcome)
-    → creation_step end 1 (reply_octets (granting outcome id width token)) ≡ Ok (created.Stands outcome (handle_of id))
+pub creation-stands : (xid : ℕ) (end : InitEnd) (outcome : Outcome) (id width : ℕ) (token : List ℕ) → xid < 2 ^ 32 → 0 < width → width < 2 ^ 32 → length token ≤ 65536 → step_of (init_step end token) ≡ Ok (steps.Done outcome)
+    → creation_step end xid (reply_octets (granting xid outcome id width token)) ≡ Ok (created.Stands outcome (handle_of id))
 unfolding creation_step
-creation-stands end outcome id width token some fits few takes = rw (grants outcome id width token fits few) (rw takes (stands outcome id width token some))
+creation-stands xid end outcome id width token fits some wide few takes =
+    let is : IsInitRes (result_with id width token) = record { context = omega (arith, handle-length id); major = lit< tt; minor = lit< tt; window = wide; token = few } in
+    rw (grants xid 6 (window_mic outcome width) (result_with id width token) fits (lit< tt) (omega (arith, mic-size (token_end outcome Acceptor) 1 (word width))) is (lit≤ tt)) (rw takes (stands xid outcome id width token some))
 
 -- the reply fits into a record
-pub granting-fits : (outcome : Outcome) (id width : ℕ) (token : List ℕ) → length token ≤ 65536 → length (reply_octets (granting outcome id width token)) ≤ 131072
-granting-fits outcome id width token few =
-    accepted-fits 1 6 (window_mic outcome width) 0 0 0 (init_res_octets (result_with id width token)) (omega (arith, mic-size (token_end outcome Acceptor) 1 (word width))) (init-fits (result_with id width token) (omega (arith, handle-length id)) few)
+pub granting-fits : (xid : ℕ) (outcome : Outcome) (id width : ℕ) (token : List ℕ) → length token ≤ 65536 → length (reply_octets (granting xid outcome id width token)) ≤ 131072
+granting-fits xid outcome id width token few =
+    accepted-fits xid 6 (window_mic outcome width) 0 0 0 (init_res_octets (result_with id width token)) (omega (arith, mic-size (token_end outcome Acceptor) 1 (word width))) (init-fits (result_with id width token) (omega (arith, handle-length id)) few)
+
+-- ---- a context that goes on
+
+abbrev pub result_on : ℕ → List ℕ → InitRes
+result_on id token = record { context = handle_of id; major = 1; minor = 0; window = 0; token = token }
+
+abbrev pub going : ℕ → ℕ → List ℕ → ReplyValue
+going xid id token = reply_with xid 0 [] (result_on id token)
+
+pub creation-goes : (xid : ℕ) (end after : InitEnd) (id : ℕ) (token further : List ℕ) → xid < 2 ^ 32 → length token ≤ 65536 → step_of (init_step end token) ≡ Ok (steps.More after further)
+    → creation_step end xid (reply_octets (going xid id token)) ≡ Ok (created.Going (record { end = after; handle = handle_of id; token = further }))
+unfolding creation_step by_step
+creation-goes xid end after id token further fits few takes =
+    let is : IsInitRes (result_on id token) = record { context = omega (arith, handle-length id); major = lit< tt; minor = lit< tt; window = lit< tt; token = few } in
+    rw (grants xid 0 [] (result_on id token) fits (lit< tt) (lit≤ tt) is (lit≤ tt)) (rw takes refl)
+
+pub going-fits : (xid id : ℕ) (token : List ℕ) → length token ≤ 65536 → length (reply_octets (going xid id token)) ≤ 131072
+going-fits xid id token few = accepted-fits xid 0 [] 0 0 0 (init_res_octets (result_on id token)) (lit≤ tt) (init-fits (result_on id token) (omega (arith, handle-length id)) few)

@@ -1,7 +1,8 @@
--- A book with places settles the context of a first token whose step asks for a mark and is then done.
-use Rattle.std.proofs.Common.{◌≡◌, ◌⊎◌, inl, inr, ℕ, ◌+◌, ◌<◌, ◌≤◌, Bool, true, false, refl, arith, List, length, Option, None, Some, Result, Ok, Err}
-use Rattle.std.specs.Prelude.{nat_lt, nat_le, ◌&&◌, is_none, is_some, max}
+-- What a book with places makes of a token of an exchange.
+use Rattle.std.proofs.Common.{◌≡◌, ◌⊎◌, inl, inr, ℕ, ◌+◌, ◌<◌, ◌≤◌, Bool, true, false, refl, sym, ap, ◌∙◌, subst, arith, List, [], ◌∷◌, length, Option, None, Some, Result, Ok, Err}
+use Rattle.std.specs.Prelude.{nat_lt, nat_le, ◌&&◌, ◌==◌, is_none, is_some, max}
 use Rattle.std.proofs.lemmas.Bool.Decides.{nat_tests}
+use Rattle.gss_base.specs.declared.mark.Mark.{Mark}
 use Rattle.spnego_core.specs.declared.setup.AcceptSetup.{AcceptSetup}
 use Rattle.spnego_core.specs.declared.accept_end.AcceptEnd.{AcceptEnd}
 use Rattle.spnego_core.specs.declared.accept_end.AcceptEnd.TheVariants as ends
@@ -11,21 +12,74 @@ use Rattle.spnego_core.specs.declared.accept_end.AcceptStep.TheVariants as steps
 use Rattle.spnego_core.specs.declared.outcome.Outcome.{Outcome}
 use Rattle.spnego_core.specs.declared.refusal.NegRefusal.{NegRefusal}
 use Rattle.spnego_core.specs.Accepting.{Accepted, accept_step, step_of, mark_asked, step_after}
+use Rattle.spnego_core.specs.Exchange.{passed, passed_of}
 use Rattle.replay_cache.specs.Taking.{cache_verdict}
 use Rattle.replay_cache.specs.declared.cache.CacheVerdict.TheVariants.{Taken}
-use Rattle.context_table.specs.Places.{live_of}
-use Rattle.accept_book.specs.History.{opened, taken_of}
+use Rattle.context_table.specs.declared.slot.Slot.{Slot}
+use Rattle.context_table.specs.declared.slot.SlotState.TheVariants.{Negotiating}
+use Rattle.context_table.specs.Places.{slot_at, live_of, state_of}
+use Rattle.accept_book.specs.declared.entry.Entry.{Entry}
+use Rattle.accept_book.specs.declared.answer.Next.TheVariants as nexts
+use Rattle.accept_book.specs.History.{Open, opened, taken_of, standing}
+use Rattle.accept_book.specs.Entering.{id_of, entered}
 use Rattle.accept_book.specs.Replays.{Accepting}
-use Rattle.accept_book.specs.Booking.{Stands, raised, taken, by_step, negotiated}
-use Rattle.accept_book.specs.declared.book_answer.NegAnswer.TheVariants.{Settled}
+use Rattle.accept_book.specs.Stepping.{Context, context_of, context_after, until_of}
+use Rattle.accept_book.specs.Booking.{Stands, Change, Becomes, Changed, Outcomes, raised, lapsed_by, next_of, answer_with, mark_of, settled_of, taken, by_step, later_step, negotiated}
+use Rattle.pair_laws.specs.Booked.{Around, end_in, IsLeftAlone, id_in}
 
-by-step : (book : Stands) (past : Option ℕ) (r : Result Accepted NegRefusal) (pause : AcceptPause) → step_of r ≡ Ok (steps.WantsAuth pause) → by_step book None past r ≡ taken book None past (Some (mark_asked pause)) (step_after pause)
-by-step book past (Ok accepted) pause e = let s : accepted.step ≡ steps.WantsAuth pause = cc in rw s refl
-by-step book past (Err refusal) pause e = absurd cc
+-- ---- a step whose mark is new
 
-marked : (book : Stands) (past : Option ℕ) (pause : AcceptPause) (step : AcceptStep) (outcome : Outcome) (lasts : ℕ) (reply : List ℕ) → step ≡ steps.Done outcome lasts reply → cache_verdict book.capacity book.greatest (taken_of book.history) (mark_asked pause) ≡ Taken
-    → (taken book None past (Some (mark_asked pause)) step).answer ≡ Settled (record { id = opened book.history + 1; outcome = outcome; ends = lasts }) reply
-marked book past pause step outcome lasts reply done new = rw (done, new) refl
+-- what a step comes to that was taken, with its mark or without one
+pub record Came (book : Stands) (id past : Option ℕ) (step : AcceptStep) (o : Outcomes) : Type 0 where
+  pub mark : Option Mark
+  pub is : o ≡ record {
+    answer = answer_with (id_of id book.history) step;
+    history = entered id (nat_lt (live_of book.table) book.table.limit) past mark (next_of step) book.greatest book.history;
+    change = Becomes (lapsed_by id (nat_lt (live_of book.table) book.table.limit) past) (id_of id book.history) (context_after (until_of id book.greatest book.table) (next_of step));
+  }
+
+IsNew : Stands → AcceptStep → Type 0
+IsNew book step = (pause : AcceptPause) → step ≡ steps.WantsAuth pause → cache_verdict book.capacity book.greatest (taken_of book.history) (mark_asked pause) ≡ Taken
+
+taken-came : (book : Stands) (id past : Option ℕ) (asked step : AcceptStep) → passed asked ≡ step → IsNew book asked → Came book id past step (taken book id past (mark_of asked) (settled_of asked))
+unfolding IsNew
+taken-came book id past (steps.More end token) step e new = subst (λ (s : AcceptStep). Came book id past s (taken book id past None (steps.More end token))) e (record { mark = None; is = refl })
+taken-came book id past (steps.Done outcome lasts token) step e new = subst (λ (s : AcceptStep). Came book id past s (taken book id past None (steps.Done outcome lasts token))) e (record { mark = None; is = refl })
+taken-came book id past (steps.WantsAuth pause) step e new =
+    subst (λ (s : AcceptStep). Came book id past s (taken book id past (Some (mark_asked pause)) (step_after pause))) e (record { mark = Some (mark_asked pause); is = rw (new pause refl) refl })
+
+by-step-came : (book : Stands) (id past : Option ℕ) (r : Result Accepted NegRefusal) (step : AcceptStep) → passed_of (step_of r) ≡ Ok step
+    → ((pause : AcceptPause) → step_of r ≡ Ok (steps.WantsAuth pause) → cache_verdict book.capacity book.greatest (taken_of book.history) (mark_asked pause) ≡ Taken)
+    → Came book id past step (by_step book id past r)
+unfolding IsNew
+by-step-came book id past (Ok accepted) step e new =
+    let is : passed accepted.step ≡ step = cc in
+    taken-came book id past accepted.step step is (λ pause f. new pause (ap Ok f))
+by-step-came book id past (Err refusal) step e new = absurd cc
+
+-- ---- where the exchange's context stands
+
+-- the context of an id negotiates by this end
+pub record Negotiates (id : ℕ) (core : Accepting AcceptEnd Outcome) (end : AcceptEnd) : Type 0 where
+  pub at : ℕ
+  pub stands : standing id core.history ≡ Open at
+  pub ends : ℕ
+  pub context : context_of (slot_at core.table id) ≡ Some (record { state = Negotiating end; ends = ends })
+
+-- a token comes to this end: of a new context, or of one that negotiates
+abbrev pub ComesTo : Option ℕ → Accepting AcceptEnd Outcome → AcceptEnd → Type 0
+ComesTo None core end = end ≡ ends.New
+ComesTo (Some id) core end = Negotiates id core end
+
+some-context : (a b : Context AcceptEnd Outcome) → Some a ≡ Some b → a ≡ b
+some-context a b e = cc
+
+slot-state : (slot : Option (Slot AcceptEnd Outcome)) (end : AcceptEnd) (lasts : ℕ) → context_of slot ≡ Some (record { state = Negotiating end; ends = lasts }) → state_of slot ≡ Some end
+slot-state None end lasts e = cc
+slot-state (Some slot) end lasts e =
+    let same = some-context (record { state = slot.state; ends = slot.ends }) (record { state = Negotiating end; ends = lasts }) e in
+    let is : slot.state ≡ Negotiating end = ap (λ (c : Context AcceptEnd Outcome). c.state) same in
+    rw is refl
 
 not-full : (limit live : ℕ) (past : Option ℕ) → (live < limit) ⊎ (is_some past ≡ true) → (nat_le limit live && is_none past) ≡ false
 not-full limit live None (inl few) = let f : nat_le limit live ≡ false = grind (arith, nat_tests) in rw f refl
@@ -36,12 +90,78 @@ not-full limit live (Some id) either = by-cases (nat_le limit live)
     by-cases true = refl
     by-cases false = refl
 
-pub book-settles : (setup : AcceptSetup) (core : Accepting AcceptEnd Outcome) (past : Option ℕ) (token : List ℕ) (now : ℕ) (drawn : List ℕ) (pause : AcceptPause) (outcome : Outcome) (lasts : ℕ) (reply : List ℕ)
-    → step_of (accept_step setup ends.New token now drawn) ≡ Ok (steps.WantsAuth pause) → step_after pause ≡ steps.Done outcome lasts reply
-    → length core.history + 4 ≤ core.limit → (live_of core.table < core.table.limit) ⊎ (is_some past ≡ true)
-    → cache_verdict core.cache.capacity (max core.cache.greatest now) (taken_of core.history) (mark_asked pause) ≡ Taken
-    → (negotiated setup (raised core now) None past token now drawn).answer ≡ Settled (record { id = opened core.history + 1; outcome = outcome; ends = lasts }) reply
-book-settles setup core past token now drawn pause outcome lasts reply asks done log table new =
+-- what the book steps
+pub steps-end : (setup : AcceptSetup) (core : Accepting AcceptEnd Outcome) (id past : Option ℕ) (end : AcceptEnd) (token : List ℕ) (now : ℕ) (drawn : List ℕ) → ComesTo id core end
+    → length core.history + 4 ≤ core.limit → (id ≡ None → (live_of core.table < core.table.limit) ⊎ (is_some past ≡ true))
+    → negotiated setup (raised core now) id past token now drawn ≡ by_step (raised core now) id past (accept_step setup end token now drawn)
+steps-end setup core None past end token now drawn comes log table =
     let room : nat_lt core.limit (length core.history + 4) ≡ false = grind (arith, nat_tests) in
-    rw (room, not-full core.table.limit (live_of core.table) past table, by-step (raised core now) past (accept_step setup ends.New token now drawn) pause asks)
-    (marked (raised core now) past pause (step_after pause) outcome lasts reply done new)
+    rw (room, not-full core.table.limit (live_of core.table) past (table refl), comes) refl
+steps-end setup core (Some id) past end token now drawn comes log table =
+    let room : nat_lt core.limit (length core.history + 4) ≡ false = grind (arith, nat_tests) in
+    rw (comes.stands, room, slot-state (slot_at core.table id) end comes.ends comes.context) refl
+
+-- the step that the book takes is the end's
+pub later-end : (setup : AcceptSetup) (core : Accepting AcceptEnd Outcome) (id : Option ℕ) (end : AcceptEnd) (token : List ℕ) (now : ℕ) (drawn : List ℕ) → ComesTo id core end
+    → later_step setup (end_in core.table id) token now drawn ≡ accept_step setup end token now drawn
+later-end setup core None end token now drawn comes = rw comes refl
+later-end setup core (Some id) end token now drawn comes = rw (slot-state (slot_at core.table id) end comes.ends comes.context) refl
+
+pub book-came : (setup : AcceptSetup) (core : Accepting AcceptEnd Outcome) (id past : Option ℕ) (end : AcceptEnd) (token : List ℕ) (now : ℕ) (drawn : List ℕ) (step : AcceptStep) → ComesTo id core end
+    → length core.history + 4 ≤ core.limit → (id ≡ None → (live_of core.table < core.table.limit) ⊎ (is_some past ≡ true))
+    → ((pause : AcceptPause) → step_of (later_step setup (end_in core.table id) token now drawn) ≡ Ok (steps.WantsAuth pause) → cache_verdict core.cache.capacity (max core.cache.greatest now) (taken_of core.history) (mark_asked pause) ≡ Taken)
+    → passed_of (step_of (accept_step setup end token now drawn)) ≡ Ok step
+    → Came (raised core now) id past step (negotiated setup (raised core now) id past token now drawn)
+book-came setup core id past end token now drawn step comes log table new e =
+    subst (λ (o : Outcomes). Came (raised core now) id past step o) (sym (steps-end setup core id past end token now drawn comes log table))
+    (by-step-came (raised core now) id past (accept_step setup end token now drawn) step e
+    (λ pause f. new pause (ap step_of (later-end setup core id end token now drawn comes) ∙ f)))
+
+-- ---- the context behind a step that goes on
+
+same-id : (id : ℕ) → (id == id) ≡ true
+same-id id = grind (arith, nat_tests)
+
+opens : (id now : ℕ) (mark : Option Mark) (place : Bool) (past : Option ℕ) (end : AcceptEnd) (h : List Entry) → id ≡ opened h + 1 → standing id (entered {N = AcceptEnd} {S = Outcome} None place past mark (nexts.Going end) now h) ≡ Open now
+opens id now None place past end h e = rw (sym e, same-id id) refl
+opens id now (Some mark) place past end h e = rw (sym e, same-id id) refl
+
+goes : (id now : ℕ) (mark : Option Mark) (place : Bool) (past : Option ℕ) (end : AcceptEnd) (h : List Entry) → standing id (entered {N = AcceptEnd} {S = Outcome} (Some id) place past mark (nexts.Going end) now h) ≡ standing id h
+goes id now None place past end h = refl
+goes id now (Some mark) place past end h = refl
+
+stands-after : (core : Accepting AcceptEnd Outcome) (id past : Option ℕ) (mark : Option Mark) (place : Bool) (now : ℕ) (end old : AcceptEnd) → ComesTo id core old
+    → (at : ℕ) × (standing (id_of id core.history) (entered {N = AcceptEnd} {S = Outcome} id place past mark (nexts.Going end) now core.history) ≡ Open at)
+stands-after core None past mark place now end old comes = (now, opens (opened core.history + 1) now mark place past end core.history refl)
+stands-after core (Some id) past mark place now end old comes = (comes.at, goes id now mark place past end core.history ∙ comes.stands)
+
+-- the context that the step left, in a book that stands as its call left it
+pub goes-after : (setup : AcceptSetup) (before after : Accepting AcceptEnd Outcome) (id past : Option ℕ) (old end : AcceptEnd) (reply : List ℕ) (now : ℕ) (o : Outcomes) → ComesTo id before old
+    → Came (raised before now) id past (steps.More end reply) o → after.history ≡ o.history → Changed before.table o.change after.table → Negotiates (id_of id before.history) after end
+goes-after setup before after id past old end reply now o comes came history contexts =
+    let own : ℕ = id_of id before.history in
+    let s = stands-after before id past came.mark (nat_lt (live_of before.table) before.table.limit) (max before.cache.greatest now) end old comes in
+    let until : ℕ = until_of id (max before.cache.greatest now) before.table in
+    let change : o.change ≡ Becomes (lapsed_by id (nat_lt (live_of before.table) before.table.limit) past) own (record { state = Negotiating end; ends = until }) = ap (λ (x : Outcomes). x.change) came.is in
+    let changes : Changed before.table (Becomes (lapsed_by id (nat_lt (live_of before.table) before.table.limit) past) own (record { state = Negotiating end; ends = until })) after.table = subst (λ (c : Change). Changed before.table c after.table) change contexts in
+    record {
+      at = s.0;
+      stands = ap (λ (h : List Entry). standing own h) (history ∙ ap (λ (x : Outcomes). x.history) came.is) ∙ s.1;
+      ends = until;
+      context = changes own ∙ rw (same-id own) refl;
+    }
+
+-- the id of an exchange's context
+abbrev pub own_id : Option ℕ → List Around → ℕ
+own_id None books = id_in books
+own_id (Some id) books = id
+
+-- the first book of these has the context so
+abbrev pub Awaits : Option ℕ → AcceptEnd → List Around → Type 0
+Awaits id end [] = Unit {0}
+Awaits id end (book ∷ books) = ComesTo id book.before end
+
+-- left alone, it negotiates by the same end in the next
+pub next-awaits : (id : ℕ) (end : AcceptEnd) (book : Around) (books : List Around) → Negotiates id book.after end → IsLeftAlone id (book ∷ books) → Awaits (Some id) end books × IsLeftAlone id books
+next-awaits id end book [] n alone = (tt, tt)
+next-awaits id end book (next ∷ later) n alone = (record { at = n.at; stands = alone.0.stands ∙ n.stands; ends = n.ends; context = alone.0.context ∙ n.context }, alone.1)

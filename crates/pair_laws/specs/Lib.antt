@@ -1,4 +1,5 @@
 pub mod Conversing
+pub mod Booked
 pub mod Honest
 pub mod HonestCalls
 pub mod Laws
