@@ -1,11 +1,12 @@
 //! An initiator's end and the replies to it.
 
+ghost use Rattle.std.specs.Prelude.{◌≡◌, true};
+ghost use Rattle.spnego_core.specs.InitMech.{is_own_list};
+
 use crate::cells::{add, cell, octets};
 use crate::saying;
-use crate::setting::{Setting, initiator};
-use krb_files::Credential;
-use sec_base::Moment;
-use spnego_core::{InitEnd, InitStep};
+use crate::setting::Setting;
+use spnego_core::{InitEnd, InitSetup, InitStep};
 use std::alloc::Global;
 
 /// What an end says to a reply, and the end behind it.
@@ -24,8 +25,9 @@ fn replied(alloc: Global, end: InitEnd, reply: &[u8]) -> Option<(Option<InitEnd>
 }
 
 /// An end and its first token.
-fn begun(alloc: Global, own: Credential, stamp: Moment) -> Option<(InitEnd, String)> {
-    let setup = initiator(alloc, own, stamp)?;
+fn begun(alloc: Global, setup: InitSetup) -> Option<(InitEnd, String)>
+    requires { is_own_list setup.list ≡ true }
+{
     let (end, first) = InitEnd::start(alloc, setup).ok()?;
     Some((end, cell(alloc, first.as_slice())?))
 }
@@ -52,24 +54,27 @@ fn followed(alloc: Global, end: InitEnd, first: String, replies: &str) -> Option
 }
 
 /// The first token, and `reply=verdict` for each of these replies.
-pub fn talk(alloc: Global, own: Credential, stamp: Moment, replies: &str) -> Option<String> {
-    let (end, first) = begun(alloc, own, stamp)?;
+pub fn talk(alloc: Global, setup: InitSetup, replies: &str) -> Option<String>
+    requires { is_own_list setup.list ≡ true }
+{
+    let (end, first) = begun(alloc, setup)?;
     followed(alloc, end, first, replies)
 }
 
 /// The first token alone.
-fn opened(alloc: Global, own: Credential, stamp: Moment) -> Option<String> {
-    let (_end, first) = begun(alloc, own, stamp)?;
+fn opened(alloc: Global, setup: InitSetup) -> Option<String>
+    requires { is_own_list setup.list ≡ true }
+{
+    let (_end, first) = begun(alloc, setup)?;
     Some(first)
 }
 
-/// The first token, and `reply=verdict` for each reply of a line, which begins with `k`.
+/// The first token, and `reply=verdict` for each reply of a line, which begins with the letters of the list.
 pub fn answered(alloc: Global, setting: &Setting, line: &str) -> Option<String> {
-    let (_letter, rest) = line.split_once(' ')?;
-    let own = setting.credential(alloc)?;
-    let stamp = Moment::new(1_000_000, 0)?;
+    let (letters, rest) = line.split_once(' ')?;
+    let setup = setting.initiator(alloc, letters)?;
     match rest.split_once(' ') {
-        None => opened(alloc, own, stamp),
-        Some((_first, replies)) => talk(alloc, own, stamp, replies),
+        None => opened(alloc, setup),
+        Some((_first, replies)) => talk(alloc, setup, replies),
     }
 }

@@ -11,6 +11,7 @@ mod kerberos;
 mod peers;
 mod records;
 mod rules;
+mod runs;
 mod saying;
 mod sessions;
 mod setting;
@@ -20,7 +21,7 @@ use setting::Setting;
 use std::{fs, io};
 use table::{Table, compared};
 
-const TABLES: [Table; 10] = [
+const TABLES: [Table; 11] = [
     Table::Records,
     Table::Requests,
     Table::Replies,
@@ -31,6 +32,7 @@ const TABLES: [Table; 10] = [
     Table::Rules,
     Table::Connections,
     Table::Sessions,
+    Table::Runs,
 ];
 
 fn main(rt: HostRuntime) -> io::Result<()> {

@@ -2,7 +2,7 @@
 
 use crate::cells::{moment, octets, text};
 use crate::kerberos::credential_in;
-use crate::setting::acceptor;
+use crate::setting::{acceptor, initiator};
 use crate::{accepting, initiating};
 use std::alloc::Global;
 
@@ -12,7 +12,7 @@ pub fn accepted(alloc: Global, line: &str) -> Option<String> {
     let keytab = octets(alloc, cells.next()?)?;
     let own = text(alloc, cells.next()?)?;
     let now = moment(cells.next()?)?;
-    let setup = acceptor(alloc, own.as_str(), keytab.as_slice(), "k")?;
+    let setup = acceptor(alloc, own.as_str(), keytab.as_slice(), &[], "k")?;
     accepting::talk(alloc, &setup, now, cells.next()?)
 }
 
@@ -22,5 +22,7 @@ pub fn begun(alloc: Global, line: &str) -> Option<String> {
     let own = credential_in(alloc, &mut cells)?;
     let stamp = moment(cells.next()?)?;
     let _first = cells.next()?;
-    initiating::talk(alloc, own, stamp, cells.next()?)
+    let replies = cells.next()?;
+    let setup = initiator(alloc, own, stamp)?;
+    initiating::talk(alloc, setup, replies)
 }

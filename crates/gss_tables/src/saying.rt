@@ -4,6 +4,7 @@ use crate::cells::cell;
 use ap_exchange::ApRefusal;
 use gss_base::MechKind;
 use gss_client::{ClientRefusal, Denial, ReplyWhy};
+use scram_mech::ScramRefusal;
 use sec_base::Moment;
 use spnego_core::{MechRefusal, NegRefusal, Outcome};
 use std::alloc::Global;
@@ -31,6 +32,18 @@ pub fn refusal(alloc: Global, refusal: NegRefusal) -> Option<String> {
             let said = kerberos(alloc, refusal)?;
             format!(in alloc; "Mech:{said}").ok()
         }
+        NegRefusal::Mech(MechRefusal::Scram(refusal)) => {
+            let said = scram(alloc, refusal)?;
+            format!(in alloc; "Mech:{said}").ok()
+        }
+        refusal => format!(in alloc; "{refusal:?}").ok(),
+    }
+}
+
+/// A refusal of SCRAM's exchange.
+fn scram(alloc: Global, refusal: ScramRefusal) -> Option<String> {
+    match refusal {
+        ScramRefusal::Text { at } => format!(in alloc; "Text:{at}").ok(),
         refusal => format!(in alloc; "{refusal:?}").ok(),
     }
 }

@@ -6,9 +6,9 @@ ghost use Rattle.spnego_core.specs.InitMech.{is_own_list};
 use crate::cells::{add, cell, octets};
 use crate::records::link;
 use crate::saying;
-use crate::setting::{Setting, initiator};
+use crate::setting::Setting;
 use gss_client::{Service, Session, Start};
-use sec_base::{MemLink, Moment};
+use sec_base::MemLink;
 use std::alloc::Global;
 
 /// The service of a number.
@@ -21,8 +21,8 @@ fn service(said: &str) -> Option<Service> {
     }
 }
 
-/// What a session is begun with, by the cells of service and first number.
-fn begin(alloc: Global, setting: &Setting, said: &str, first: &str) -> Option<Start>
+/// What a session is begun with, by the cells of list, service and first number.
+fn begin(alloc: Global, setting: &Setting, letters: &str, said: &str, first: &str) -> Option<Start>
     ensures list { IfSome result (λ start. is_own_list start.setup.list ≡ true) }
     ensures first { IfSome result (λ start. 1 ≤ start.first) }
     ensures last { IfSome result (λ start. start.first ≤ 0x7fffffff) }
@@ -31,9 +31,8 @@ fn begin(alloc: Global, setting: &Setting, said: &str, first: &str) -> Option<St
     if first == 0 || first > 0x7fff_ffff {
         return None;
     }
-    let own = setting.credential(alloc)?;
     Some(Start {
-        setup: initiator(alloc, own, Moment::new(1_000_000, 0)?)?,
+        setup: setting.initiator(alloc, letters)?,
         service: service(said)?,
         first,
     })
@@ -131,11 +130,11 @@ fn talked(alloc: Global, link: &mut MemLink, start: Start, calls: &str) -> Optio
     }
 }
 
-/// What a session writes, by the cells service, first number, calls and stream; then its outcome, results and end.
+/// What a session writes, by the cells list, service, first number, calls and stream; then its outcome, results and end.
 pub fn answered(alloc: Global, setting: &Setting, line: &str) -> Option<String> {
     let mut cells = line.split(' ');
-    let (said, first) = (cells.next()?, cells.next()?);
-    let start = begin(alloc, setting, said, first)?;
+    let (letters, said, first) = (cells.next()?, cells.next()?, cells.next()?);
+    let start = begin(alloc, setting, letters, said, first)?;
     let calls = cells.next()?;
     let mut link = link(alloc, cells.next()?)?;
     let said = talked(alloc, &mut link, start, calls)?;

@@ -1,7 +1,7 @@
 //! The tables, and the comparison of one with what the calls answer.
 
 use crate::setting::Setting;
-use crate::{accepting, connections, initiating, kerberos, peers, records, rules, sessions};
+use crate::{accepting, connections, initiating, kerberos, peers, records, rules, runs, sessions};
 use std::alloc::Global;
 
 /// A table of outside values.
@@ -17,6 +17,7 @@ pub enum Table {
     Rules,
     Connections,
     Sessions,
+    Runs,
 }
 
 impl Table {
@@ -33,6 +34,7 @@ impl Table {
             Table::Rules => "rules.txt",
             Table::Connections => "connections.txt",
             Table::Sessions => "sessions.txt",
+            Table::Runs => "runs.txt",
         }
     }
 
@@ -40,9 +42,9 @@ impl Table {
     fn given(self) -> u32 {
         match self {
             Table::Records | Table::Initiating | Table::Accepting => 1,
+            Table::Runs => 2,
             Table::Connections | Table::PeerRequests => 3,
-            Table::Sessions => 4,
-            Table::Rules => 5,
+            Table::Rules | Table::Sessions => 5,
             Table::Requests | Table::PeerReplies => 6,
             Table::Replies => 9,
         }
@@ -61,6 +63,7 @@ impl Table {
             Table::Rules => rules::answered(alloc, line),
             Table::Connections => connections::answered(alloc, setting, line),
             Table::Sessions => sessions::answered(alloc, setting, line),
+            Table::Runs => runs::answered(alloc, setting, line),
         }
     }
 }
