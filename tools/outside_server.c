@@ -4,6 +4,7 @@
  *
  * SERVER is its own principal, as rpc/localhost@REALM.TEST, whose key stands in the keytab that KRB5_KTNAME names. It serves on loopback until
  * it is stopped: NULL, ECHO, WHOAMI, POST and COUNT of the program 0x20004753, version 1. */
+#define _GNU_SOURCE
 #include <gssapi/gssapi.h>
 #include <gssapi/gssapi_ext.h>
 #include <gssapi/gssapi_krb5.h>
@@ -12,6 +13,7 @@
 #include <rpc/svc_auth_gss.h>
 #include <rpc/svc_mt.h>
 #include <arpa/inet.h>
+#include <dlfcn.h>
 #include <stdio.h>
 #include <stdlib.h>
 #include <string.h>
@@ -29,6 +31,21 @@ OM_uint32 gss_acquire_cred(OM_uint32 *minor, gss_name_t name, OM_uint32 seconds,
     gss_OID_set_desc negotiated = { 1, &spnego };
     (void)mechanisms;
     return gss_acquire_cred_from(minor, name, seconds, &negotiated, usage, NULL, credential, got, lasts);
+}
+
+typedef OM_uint32 get_mic(OM_uint32 *minor, gss_ctx_id_t context, gss_qop_t protection, gss_buffer_t message, gss_buffer_t mic);
+
+/* Stands in for the library's function of this name: libtirpc signs the window in each reply to a creation, also while the context isn't complete,
+ * where nothing can be signed yet, and RFC 2203 section 5.2.3.1 wants no verifier. That MIC is empty. */
+OM_uint32 gss_get_mic(OM_uint32 *minor, gss_ctx_id_t context, gss_qop_t protection, gss_buffer_t message, gss_buffer_t mic)
+{
+    get_mic *real = (get_mic *)dlsym(RTLD_NEXT, "gss_get_mic");
+    OM_uint32 status = real(minor, context, protection, message, mic);
+    if (status != GSS_S_NO_CONTEXT)
+        return status;
+    mic->length = 0;
+    mic->value = NULL;
+    return GSS_S_COMPLETE;
 }
 
 struct octets {
