@@ -2,6 +2,7 @@
 //! as lists; links, ports, sinks, shelves, clocks and sources of octets, each in memory and as a thin adapter of the system's.
 #![tactic(auto)]
 
+mod ahead;
 mod clock;
 mod draw;
 mod failing;

@@ -1,7 +1,8 @@
 //! A TCP connection.
 
-ghost use Rattle.std.specs.Prelude.{◌≡◌, false};
+ghost use Rattle.std.specs.Prelude.{◌≡◌, ◌≤◌, false, length, IfSome};
 
+use crate::ahead::{Ahead, ROOM};
 use crate::link::{Link, LinkFault};
 use std::io::{Read, Write};
 use std::net::{Net, Shutdown, TcpStream};
@@ -10,6 +11,7 @@ use std::net::{Net, Shutdown, TcpStream};
 #[derive(Drop)]
 pub struct TcpLink {
     stream: Option<TcpStream>,
+    ahead: Ahead,
     faults: u64,
     closed: bool,
 }
@@ -31,9 +33,32 @@ impl TcpLink {
         }
         TcpLink {
             stream,
+            ahead: Ahead::none(),
             faults: 0,
             closed: false,
         }
+    }
+
+    /// The next octets of the stream; None where the read failed. Many are read to where they are wanted, few by way of those that are
+    /// read ahead.
+    fn next(&mut self, buf: &mut [u8]) -> Option<usize>
+        ensures count { IfSome result (λ count. count ≤ length buf.old) }
+        ensures faults { self.new.faults ≡ self.old.faults }
+        ensures closed { self.new.closed ≡ self.old.closed }
+    {
+        let stream = match &mut self.stream {
+            Some(stream) => stream,
+            None => return None,
+        };
+        if self.ahead.is_empty() && !buf.is_empty() {
+            if buf.len() >= ROOM {
+                return stream.read(buf).ok().filter(|count| *count <= buf.len());
+            }
+            if !self.ahead.fill(stream) {
+                return None;
+            }
+        }
+        Some(self.ahead.move_to(buf))
     }
 }
 
@@ -49,13 +74,9 @@ impl Link for TcpLink {
     ghost closed = { λ l. l.closed };
 
     fn read(&mut self, buf: &mut [u8]) -> Result<usize, LinkFault> {
-        let read = match &mut self.stream {
-            Some(stream) => stream.read(buf).ok(),
-            None => None,
-        };
-        match read {
-            Some(count) if count <= buf.len() => Ok(count),
-            _ => {
+        match self.next(buf) {
+            Some(count) => Ok(count),
+            None => {
                 self.faults = self.faults.saturating_add(1);
                 Err(LinkFault)
             }
