@@ -1,5 +1,5 @@
 -- A MIC token is taken exactly where the facing end could have made it.
-use Rattle.std.proofs.Common.{◌≡◌, ℕ, ◌+◌, ◌/◌, ◌%◌, ◌∙◌, ◌&&◌, Bool, true, false, if◌then◌else◌, refl, sym, ap, subst, arith, List, ◌++◌, length, take, drop}
+use Rattle.std.proofs.Common.{◌≡◌, ℕ, ◌/◌, ◌%◌, ◌∙◌, Bool, true, false, if◌then◌else◌, refl, sym, ap, subst, arith, List, ◌++◌, length, take, drop}
 use Rattle.std.specs.Prelude.{Result, Ok, Err, nat_eq, nat_le, ◌==◌, not, slice_index}
 use Rattle.std.proofs.lemmas.Bool.{eqb-true, eq-eqb}
 use Rattle.std.proofs.lemmas.List.{length-append, take_at, drop_at, take-append-drop}

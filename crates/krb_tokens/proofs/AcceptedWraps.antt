@@ -1,5 +1,5 @@
 -- A Wrap token is taken, with a content, exactly where the facing end could have made it of that content.
-use Rattle.std.proofs.Common.{◌≡◌, ℕ, ◌+◌, ◌-◌, ◌/◌, ◌%◌, ◌^◌, ◌<◌, ◌≤◌, ◌∙◌, ◌⊎◌, inl, inr, Bool, true, false, if◌then◌else◌, refl, sym, ap, subst, arith, List, ◌∷◌, ◌++◌, length, take, drop}
+use Rattle.std.proofs.Common.{◌≡◌, ℕ, ◌+◌, ◌-◌, ◌/◌, ◌%◌, ◌^◌, ◌<◌, ◌≤◌, ◌∙◌, ◌⊎◌, inl, inr, Bool, true, false, if◌then◌else◌, refl, sym, ap, subst, arith, List, ◌++◌, length, take, drop}
 use Rattle.std.specs.Prelude.{Result, Ok, Err, nat_eq, nat_le, nat_lt, ◌==◌, not, slice_index}
 use Rattle.std.proofs.lemmas.Bool.{eqb-true, eq-eqb, le-ltb, ltb-false}
 use Rattle.std.proofs.lemmas.Nat.{mod_below}
@@ -8,10 +8,9 @@ use Rattle.std.proofs.lemmas.List.{length-append, length-take-le, length-drop, t
 use lib.Pointwise.{pointwise, bytes_decides}
 use Rattle.aes_cts.specs.Cipher.{IsOctets}
 use Rattle.aes_cts.proofs.Restored.{append-IsOctets, take-IsOctets, drop-IsOctets}
-use Rattle.krb_derive.specs.declared.key.Key.{Key}
 use Rattle.krb_derive.specs.declared.sealing.OpenRefusal.{OpenRefusal}
 use Rattle.krb_derive.specs.declared.sealing.SealKeys.{SealKeys}
-use Rattle.krb_derive.specs.Sealing.{checksum_of, seal_of, opened}
+use Rattle.krb_derive.specs.Sealing.{checksum_of, opened}
 use Rattle.krb_derive.specs.Kept.{ForSealing}
 use Rattle.krb_derive.proofs.Opened.{kept_opens}
 use Rattle.krb_tokens.specs.declared.end.TokenEnd.{TokenEnd}
@@ -19,7 +18,7 @@ use Rattle.krb_tokens.specs.declared.end.TokenRefusal.{TokenRefusal}
 use Rattle.krb_tokens.specs.declared.end.TokenRefusal.TheVariants.{Length, Kind, Direction, Subkey, Filler, BadChecksum, ExtraCount, InnerHeader}
 use Rattle.krb_tokens.specs.declared.wrap.Unwrapped.{Unwrapped}
 use Rattle.krb_tokens.specs.End.{other_side, seal_usage, sender_flag, is_from_other, is_sealed, has_subkey, is_other_kind, facing}
-use Rattle.krb_tokens.specs.Wrap.{word_of, extra_count, body_of, turned_right, turned_back, unturned_header, bare_header, unwrapped, unwrapped_signed, unwrapped_plain, unwrapped_opened, unwrapped_sealed}
+use Rattle.krb_tokens.specs.Wrap.{word_of, extra_count, body_of, turned_right, unturned_header, bare_header, unwrapped, unwrapped_signed, unwrapped_plain, unwrapped_opened, unwrapped_sealed}
 use Rattle.krb_tokens.specs.Tokens.{HasFlags, IsWrapOf, IsBody, IsSealedBody, IsSignedBody, wrap_header_with}
 use Rattle.krb_tokens.proofs.Parts.{length-turned, signed-good, sealed-opened, plain-good}
 use Rattle.krb_tokens.proofs.Taken.{and_false, length-checksum_of}

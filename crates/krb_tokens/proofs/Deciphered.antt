@@ -1,12 +1,12 @@
 -- What opens was sealed: sealing it again, with the confounder that it had, gives the same octets.
-use Rattle.std.proofs.Common.{◌≡◌, ℕ, zero, suc, ◌+◌, ◌-◌, ◌*◌, ◌<◌, ◌≤◌, ◌∙◌, Bool, true, false, refl, sym, ap, arith, List, [], ◌++◌, length, take, drop, inl, inr}
-use Rattle.std.specs.Prelude.{Result, Ok, Err, nat_eq, nat_lt, nat_le, if◌then◌else◌}
+use Rattle.std.proofs.Common.{◌≡◌, ℕ, zero, suc, ◌-◌, ◌*◌, ◌≤◌, ◌∙◌, Bool, true, false, refl, sym, ap, arith, List, ◌++◌, length, take, drop, inl, inr}
+use Rattle.std.specs.Prelude.{Result, Ok, Err, nat_eq, nat_lt, if◌then◌else◌}
 use Rattle.std.proofs.lemmas.Bool.{cases_lt, ltb-false}
 use Rattle.std.proofs.lemmas.List.{length-take-le, take-append-drop}
 use lib.Pointwise.{pointwise, bytes_decides}
 use Rattle.aes_cts.specs.Cipher.{IsOctets, inverse_cipher}
 use Rattle.aes_cts.specs.Schedule.{key_schedule, rounds_of}
-use Rattle.aes_cts.specs.Stealing.{add_octets, block_at, before, zero_block, unchained, given_back, blocks_before_last, cts_encrypted, cts_decrypted}
+use Rattle.aes_cts.specs.Stealing.{add_octets, block_at, before, unchained, given_back, blocks_before_last, cts_encrypted, cts_decrypted}
 use Rattle.aes_cts.proofs.Undoing.{AreKeys}
 use Rattle.aes_cts.proofs.Blocks.{cipher_key-AreKeys}
 use Rattle.aes_cts.proofs.Restored.{add_octets-IsOctets, take-IsOctets, drop-IsOctets, append-IsOctets, replicate-IsOctets, cts_decrypted-more, cts_decrypted-single}

@@ -1,6 +1,5 @@
 -- Octets of tokens are below 256.
-use Rattle.std.proofs.Common.{ℕ, zero, suc, ◌+◌, ◌*◌, ◌^◌, ◌/◌, ◌<◌, Bool, true, false, arith, List, [], ◌∷◌, ◌++◌}
-use Rattle.std.specs.Prelude.{slice_index}
+use Rattle.std.proofs.Common.{ℕ, zero, suc, ◌^◌, ◌/◌, ◌<◌, Bool, true, false, arith, List, [], ◌∷◌, ◌++◌}
 use Rattle.std.specs.Int.{w16, w64, byte_at, bytes_high_first, to_be_bytes}
 use Rattle.std.proofs.lemmas.Nat.{mod_below}
 use Rattle.aes_cts.specs.Cipher.{IsOctets}

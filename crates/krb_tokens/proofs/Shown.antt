@@ -1,15 +1,15 @@
 -- What a token that was taken shows.
-use Rattle.std.proofs.Common.{◌≡◌, ℕ, ◌+◌, ◌-◌, ◌≤◌, ◌∙◌, Bool, true, false, refl, sym, ap, arith, List, [], ◌∷◌, ◌++◌, length, take, drop, inl, inr}
+use Rattle.std.proofs.Common.{◌≡◌, ℕ, ◌≤◌, ◌∙◌, Bool, true, false, refl, sym, ap, arith, List, [], ◌∷◌, ◌++◌, length, take, drop, inl, inr}
 use Rattle.std.specs.Prelude.{Ok}
 use Rattle.std.proofs.lemmas.List.{length-append, length-take-le, length-drop, take-append-drop}
 use Rattle.krb_derive.specs.Making.{found_in}
 use Rattle.krb_derive.specs.Sealing.{checksum_of}
 use Rattle.krb_tokens.specs.declared.end.TokenEnd.{TokenEnd}
 use Rattle.krb_tokens.specs.declared.wrap.Unwrapped.{Unwrapped}
-use Rattle.krb_tokens.specs.End.{other_side, sign_usage, seal_usage}
+use Rattle.krb_tokens.specs.End.{other_side, seal_usage}
 use Rattle.krb_tokens.specs.Mic.{mic_header, checked_mic}
 use Rattle.krb_tokens.specs.Wrap.{wrap_header, word_of, extra_count, unturned_header, bare_header, unwrapped}
-use Rattle.krb_tokens.specs.Makings.{found_of_mic, found_of_wrap, content_of}
+use Rattle.krb_tokens.specs.Makings.{found_of_mic, found_of_wrap}
 use Rattle.krb_tokens.specs.Laws.{ShownByMic, ShownBySigned, ShownBySealed}
 use Rattle.krb_tokens.proofs.Accepted.{mic-compared}
 use Rattle.krb_tokens.proofs.AcceptedWraps.{differ, enough, taken_as}

@@ -1,4 +1,5 @@
 pub mod End
+pub mod Cache
 pub mod Mic
 pub mod Wrap
 pub mod Tokens

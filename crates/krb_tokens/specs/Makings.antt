@@ -1,5 +1,5 @@
 -- The calls of an end with what they hand out, and what they find verified where the token is taken.
-use Rattle.std.specs.Prelude.{◌≡◌, ℕ, ◌-◌, Bool, true, false, List, [], ◌∷◌, ◌++◌, length, take, drop, Result, Ok, Err}
+use Rattle.std.specs.Prelude.{ℕ, ◌-◌, Bool, true, false, List, [], ◌∷◌, ◌++◌, length, take, drop, Result, Ok, Err}
 use Rattle.krb_derive.specs.Making.{Making, Made, check_making, sealed_making, found_in}
 use Rattle.krb_derive.specs.Sealing.{opened}
 use Rattle.krb_tokens.specs.declared.end.TokenEnd.{TokenEnd}

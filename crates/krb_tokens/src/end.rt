@@ -51,7 +51,7 @@ impl Side {
 }
 
 /// An end of a context: its key, its side, and whether the key is the acceptor's subkey.
-#[derive(Clone, Copy, Debug)]
+#[derive(Clone, Copy, Debug, PartialEq, Eq)]
 pub struct TokenEnd {
     pub key: Key,
     pub side: Side,

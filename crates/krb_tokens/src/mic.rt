@@ -12,8 +12,8 @@ ghost use Rattle.std.specs.Prelude.{◌≡◌, ◌++◌, Ok};
 ghost use Rattle.krb_tokens.specs.End.{facing};
 ghost use Rattle.krb_tokens.specs.Mic.{mic_header, mic_of, checked_mic};
 
+use crate::cache::MicCache;
 use crate::end::{TokenEnd, TokenRefusal, all_filler, is_other_kind};
-use krb_derive::{checksum, verify};
 
 fn joined(header: &[u8; 16], tag: &[u8; 12]) -> [u8; 28]
     ensures { result ≡ header.now ++ tag.now }
@@ -54,16 +54,33 @@ impl TokenEnd {
         ensures value { result ≡ mic_of self.now number bytes.now }
         ensures taken { checked_mic (facing self.now) result bytes.now ≡ Ok tt }
     {
+        self.make_mic_by(&MicCache::empty(), number, bytes)
+    }
+
+    /// The same, by the keys of this cache where they are this end's.
+    pub fn make_mic_by(&self, cache: &MicCache, number: u64, bytes: &[u8]) -> [u8; 28]
+        ensures value { result ≡ mic_of self.now number bytes.now }
+        ensures taken { checked_mic (facing self.now) result bytes.now ≡ Ok tt }
+    {
         let header = self.mic_header(number);
-        joined(
-            &header,
-            &checksum(&self.key, self.side.sign_usage(), bytes, &header),
-        )
+        joined(&header, &self.own_checksum(cache, bytes, &header))
     }
 
     /// Whether a token is the other side's over these octets, whatever its number. A token of two octets or more that begins as
     /// another kind is refused by Kind before its length is judged.
     pub fn check_mic(&self, token: &[u8], bytes: &[u8]) -> Result<(), TokenRefusal>
+        ensures { result ≡ checked_mic self.now token.now bytes.now }
+    {
+        self.check_mic_by(&MicCache::empty(), token, bytes)
+    }
+
+    /// The same, by the keys of this cache where they are this end's.
+    pub fn check_mic_by(
+        &self,
+        cache: &MicCache,
+        token: &[u8],
+        bytes: &[u8],
+    ) -> Result<(), TokenRefusal>
         ensures { result ≡ checked_mic self.now token.now bytes.now }
     {
         if is_other_kind(4, token) {
@@ -81,8 +98,7 @@ impl TokenEnd {
         if !all_filler(&token[3..8]) {
             return Err(TokenRefusal::Filler);
         }
-        let usage = self.side.other().sign_usage();
-        if verify(&self.key, usage, bytes, &token[..16], &token[16..]) {
+        if self.is_others_checksum(cache, bytes, &token[..16], &token[16..]) {
             Ok(())
         } else {
             Err(TokenRefusal::BadChecksum)

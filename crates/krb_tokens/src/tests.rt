@@ -32,6 +32,30 @@ fn mic_of_the_acceptor(rt: HostRuntime) {
     assert!(rt; reflected == Err(TokenRefusal::Direction));
 }
 
+// Keys that are kept change no token, be they the end's or another's.
+#[test]
+fn tokens_by_kept_keys(rt: HostRuntime) {
+    let maker = TokenEnd {
+        key: Key::Aes128([7; 16]),
+        side: Side::Initiator,
+        subkey: true,
+    };
+    let reader = TokenEnd {
+        side: Side::Acceptor,
+        ..maker
+    };
+    let token = maker.make_mic(9, b"message");
+    let mut cache = MicCache::empty();
+    cache.keep(&maker);
+    assert_eq!(rt; maker.make_mic_by(&cache, 9, b"message"), token);
+    assert!(rt; reader.check_mic_by(&cache, &token, b"message").is_ok());
+    cache.keep(&reader);
+    assert_eq!(rt; maker.make_mic_by(&cache, 9, b"message"), token);
+    assert!(rt; reader.check_mic_by(&cache, &token, b"message").is_ok());
+    let refused = reader.check_mic_by(&cache, &token, b"messagf");
+    assert!(rt; refused == Err(TokenRefusal::BadChecksum));
+}
+
 #[test]
 fn refusals_of_a_mic(rt: HostRuntime) {
     let key = Key::Aes128([7; 16]);

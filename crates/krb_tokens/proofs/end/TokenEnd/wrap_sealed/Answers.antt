@@ -1,8 +1,8 @@
-use Rattle.std.proofs.Common.{◌≡◌, ℕ, ◌<◌, true, List, ap, ◌∙◌, ◌++◌, refl, length, get_or}
+use Rattle.std.proofs.Common.{ℕ, true, List, ap, ◌∙◌, ◌++◌, refl}
 use Rattle.aes_cts.specs.Cipher.{IsOctets}
 use Rattle.aes_cts.proofs.Restored.{append-IsOctets}
 use Rattle.krb_tokens.specs.Wrap.{unwrapped, rotated, wrap_header, wrap_of, sealed_body}
-use Rattle.krb_tokens.specs.End.{facing, seal_usage}
+use Rattle.krb_tokens.specs.End.{facing}
 use Rattle.krb_tokens.proofs.Octets.{wrap_header-IsOctets}
 use Rattle.krb_tokens.proofs.Unwrapping.{sealed-taken}
 use Rattle.krb_tokens.proofs.end.TokenEnd.wrap_sealed.Goals as goal

@@ -2,11 +2,11 @@ use Rattle.std.proofs.Common.{◌≡◌, ◌∙◌, ℕ, List, refl, ap}
 use Rattle.krb_tokens.specs.End.{facing}
 use Rattle.krb_tokens.specs.Mic.{mic_of, checked_mic}
 use Rattle.krb_tokens.proofs.Taken.{mic-taken}
-use Rattle.krb_tokens.proofs.end.TokenEnd.make_mic.Goals as goal
+use Rattle.krb_tokens.proofs.end.TokenEnd.make_mic_by.Goals as goal
 
 pub returns-clause-value : goal.returns-clause-value
 unfolding mic_of
-returns-clause-value c = c.joined.ensures ∙ rw (c.checksum.ensures, c.sign_usage.ensures, c.mic_header-header.ensures) refl
+returns-clause-value c = c.joined.ensures ∙ rw (c.own_checksum.ensures, c.mic_header-header.ensures) refl
 
 pub returns-clause-taken : goal.returns-clause-taken
 returns-clause-taken c =

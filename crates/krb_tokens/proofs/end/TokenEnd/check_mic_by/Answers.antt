@@ -2,7 +2,7 @@ use Rattle.std.proofs.Common.{◌∙◌, sym, refl, length}
 use Rattle.std.proofs.lemmas.Bool.{eq-eqb, ne_eqb}
 use Rattle.std.proofs.lemmas.List.{take_rest}
 use Rattle.krb_tokens.specs.Mic.{checked_mic}
-use Rattle.krb_tokens.proofs.end.TokenEnd.check_mic.Goals as goal
+use Rattle.krb_tokens.proofs.end.TokenEnd.check_mic_by.Goals as goal
 
 pub returns-then-is_other_kind : goal.returns-then-is_other_kind
 unfolding checked_mic
@@ -43,28 +43,28 @@ returns-then-not-all_filler c =
       sym c.all_filler.ensures ∙ c.if-not-all_filler.true,
     ) refl
 
-pub returns-then-verify : goal.returns-then-verify
+pub returns-then-is_others_checksum : goal.returns-then-is_others_checksum
 unfolding checked_mic
-returns-then-verify c =
-    let same = rw (take_rest c.args.token.now 16, c.sign_usage-usage.ensures, c.other.ensures) at c.verify.ensures in
+returns-then-is_others_checksum c =
+    let same = rw (take_rest c.args.token.now 16) at c.is_others_checksum.ensures in
     rw (
       sym c.is_other_kind.ensures ∙ c.if-is_other_kind.false,
       eq-eqb (length c.args.token.now) 28 c.if-token-ne28.false,
       sym c.is_from_other.ensures ∙ c.if-not-is_from_other.false,
       sym c.has_subkey.ensures ∙ c.if-not-has_subkey.false,
       sym c.all_filler.ensures ∙ c.if-not-all_filler.false,
-      sym same ∙ c.if-verify.true,
+      sym same ∙ c.if-is_others_checksum.true,
     ) refl
 
-pub returns-else-verify : goal.returns-else-verify
+pub returns-else-is_others_checksum : goal.returns-else-is_others_checksum
 unfolding checked_mic
-returns-else-verify c =
-    let same = rw (take_rest c.args.token.now 16, c.sign_usage-usage.ensures, c.other.ensures) at c.verify.ensures in
+returns-else-is_others_checksum c =
+    let same = rw (take_rest c.args.token.now 16) at c.is_others_checksum.ensures in
     rw (
       sym c.is_other_kind.ensures ∙ c.if-is_other_kind.false,
       eq-eqb (length c.args.token.now) 28 c.if-token-ne28.false,
       sym c.is_from_other.ensures ∙ c.if-not-is_from_other.false,
       sym c.has_subkey.ensures ∙ c.if-not-has_subkey.false,
       sym c.all_filler.ensures ∙ c.if-not-all_filler.false,
-      sym same ∙ c.if-verify.false,
+      sym same ∙ c.if-is_others_checksum.false,
     ) refl
