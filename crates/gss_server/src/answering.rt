@@ -20,6 +20,7 @@ use crate::opening::id_in;
 use crate::rules::*;
 use crate::saying::{AUTH_NONE, GSS, Said, say_denied, say_nothing, say_reply};
 use accept_book::{AdmitRefusal, Admitted, Lease, LookRefusal, Negotiated, Receipt};
+use krb_tokens::MicCache;
 use rpc_msgs::{Call, CallRefusal, Reply as RpcReply, read_call};
 use rpcsec_msgs::{GssCred, read_cred};
 use sec_base::Moment;
@@ -190,6 +191,7 @@ fn say_record<G: Gate>(
     now: Moment,
     draws: &[u8; 82],
     width: u32,
+    keys: &MicCache,
 ) -> Asks
     ensures says { Says result.said.reply result.said.rule (read_ruling bytes.now (record { now = now; draws = draws.now; negotiated = result.negotiated; looked = result.looked; admitted = result.admitted; ended = result.ended }) width (call_at bytes.now)) }
     ensures fits { Fits result.said.reply }
@@ -208,6 +210,7 @@ fn say_record<G: Gate>(
                 now,
                 draws,
                 width,
+                keys,
             };
             say_call(alloc, gate, &heard)
         }
@@ -231,7 +234,6 @@ fn say_other_version(alloc: Global, xid: u32) -> Said
 }
 
 /// Answers a record by the first rule that applies, and asks the gate what is due.
-#[tactic(auto, unfolding(accept_book::specs::RecordRule::record_ruling))]
 pub fn answer_record<G: Gate>(
     alloc: Global,
     gate: &mut G,
@@ -252,13 +254,39 @@ pub fn answer_record<G: Gate>(
     ensures told { IsTrue (G.tells gate.old) → 2 ≤ G.room gate.old → Gains (G.room gate.old) (G.room gate.new) (G.told gate.old) (G.told gate.new) (map told_of (record_ruling bytes.now (kept_answers result.kept) width).asked) }
     ensures answers { Asking G.answers gate.old (record_ruling bytes.now (kept_answers result.kept) width).asked gate.new }
 {
+    answer_record_by(alloc, gate, bytes, now, draws, width, &MicCache::empty())
+}
+
+/// The same, by the keys of this cache where they are those of the call's context.
+#[tactic(auto, unfolding(accept_book::specs::RecordRule::record_ruling))]
+pub(crate) fn answer_record_by<G: Gate>(
+    alloc: Global,
+    gate: &mut G,
+    bytes: &[u8],
+    now: Moment,
+    draws: &[u8; 82],
+    width: u32,
+    keys: &MicCache,
+) -> Answered
+    ensures says { Says result.reply result.rule (record_ruling bytes.now (kept_answers result.kept) width) }
+    ensures fits { Fits result.reply }
+    ensures now { result.kept.now ≡ now }
+    ensures draws { result.kept.draws ≡ draws.now }
+    // Each kept answer was asked for.
+    ensures exact { length (record_ruling bytes.now (kept_answers result.kept) width).asked ≡ count_of result.kept.negotiated result.kept.looked result.kept.admitted result.kept.ended }
+    ensures tells { G.tells gate.new ≡ G.tells gate.old }
+    ensures limits { G.limits gate.new ≡ G.limits gate.old }
+    // Exactly the questions that are due were asked, in order, want of memory aside, where it was a front of them.
+    ensures told { IsTrue (G.tells gate.old) → 2 ≤ G.room gate.old → Gains (G.room gate.old) (G.room gate.new) (G.told gate.old) (G.told gate.new) (map told_of (record_ruling bytes.now (kept_answers result.kept) width).asked) }
+    ensures answers { Asking G.answers gate.old (record_ruling bytes.now (kept_answers result.kept) width).asked gate.new }
+{
     let Asks {
         negotiated,
         looked,
         admitted,
         ended,
         said,
-    } = say_record(alloc, gate, bytes, now, draws, width);
+    } = say_record(alloc, gate, bytes, now, draws, width, keys);
     let Said { rule, reply } = said;
     let draws = *draws;
     Answered {

@@ -58,7 +58,9 @@ pub(crate) fn verified(heard: &Heard<'_>, lease: &Lease) -> bool
         return false;
     }
     let header = &heard.bytes[..call.header];
-    end_at(lease).check_mic(call.verf.body, header).is_ok()
+    end_at(lease)
+        .check_mic_by(heard.keys, call.verf.body, header)
+        .is_ok()
 }
 
 /// A call was admitted, or why it wasn't.
@@ -160,7 +162,7 @@ fn say_body<G: Gate>(
     ensures told { IsTrue (G.tells gate.old) → 1 ≤ G.room gate.old → Gains (G.room gate.old) (G.room gate.new) (G.told gate.old) (G.told gate.new) (map told_of (args_ruling (shown heard.entry.now) (cred_value cred.now) lease.now result.admitted (body_args (end_of lease.now) (cred_value cred.now) heard.entry.now.call.args.now)).asked) }
     ensures answers { Asking G.answers gate.old (args_ruling (shown heard.entry.now) (cred_value cred.now) lease.now result.admitted (body_args (end_of lease.now) (cred_value cred.now) heard.entry.now.call.args.now)).asked gate.new }
 {
-    match open_body(alloc, &end_at(lease), cred, heard.call.args) {
+    match open_body(alloc, &end_at(lease), heard.keys, cred, heard.call.args) {
         Ok(args) => say_args(alloc, gate, heard, cred, lease, args),
         Err(_) => unasked(say_no_memory()),
     }

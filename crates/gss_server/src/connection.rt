@@ -10,8 +10,10 @@ ghost use Rattle.gss_server.specs.Connections.{framed, ruling_for, asked_for, Is
 ghost use Rattle.gss_server.specs.Asking.{IsAsked};
 
 use crate::answer::{Kept, Reply};
-use crate::answering::answer_record;
+use crate::answering::answer_record_by;
 use crate::gate::Gate;
+use crate::saying::end_at;
+use krb_tokens::MicCache;
 use rpc_msgs::{RecordRefusal, next_record, write_record};
 use sec_base::{Clock, Draw, Link, Octets};
 use std::alloc::Global;
@@ -110,8 +112,9 @@ fn serve<L: Link, G: Gate, C: Clock, D: Draw>(
     ensures unclosed { L.closed link.new ≡ false }
     ensures faults { L.faults link.old ≤ L.faults link.new }
 {
+    let mut keys = MicCache::empty();
     for number in 0..RECORDS {
-        match turn(alloc, link, kept, gate, clock, draw, width) {
+        match turn(alloc, link, kept, gate, clock, draw, width, &mut keys) {
             None => {}
             Some(end) => return end,
         }
@@ -128,6 +131,7 @@ fn turn<L: Link, G: Gate, C: Clock, D: Draw>(
     clock: &mut C,
     draw: &mut D,
     width: u32,
+    keys: &mut MicCache,
 ) -> Option<ConnEnd>
     requires unclosed { L.closed link.old ≡ false }
     ensures told { IsTrue (L.tells link.old) → Turns (IsAsked G.answers G.tells G.room G.told 2 gate.old gate.new) width (L.wire link.old) (L.wire link.new) kept.old.items kept.new.items result }
@@ -153,6 +157,7 @@ fn turn<L: Link, G: Gate, C: Clock, D: Draw>(
             clock,
             draw,
             width,
+            keys,
         ),
         Err(end) => Some(end),
     }
@@ -188,6 +193,7 @@ fn reply_to_record<L: Link, G: Gate, C: Clock, D: Draw>(
     clock: &mut C,
     draw: &mut D,
     width: u32,
+    keys: &mut MicCache,
 ) -> Option<ConnEnd>
     requires unclosed { L.closed link.old ≡ false }
     ensures told { IsTrue (L.tells link.old) → Replies (IsAsked G.answers G.tells G.room G.told 2 gate.old gate.new) width (L.wire link.old) (L.wire link.new) octets.now kept.old.items kept.new.items result }
@@ -206,7 +212,8 @@ fn reply_to_record<L: Link, G: Gate, C: Clock, D: Draw>(
     if kept.reserve(1).is_err() {
         return Some(ConnEnd::NoMemory);
     }
-    let reply = answer(alloc, octets, kept, gate, clock, draw, width);
+    let reply = answer(alloc, octets, kept, gate, clock, draw, width, keys);
+    keep_keys(keys, kept);
     match respond(link, &reply) {
         Ok(()) => None,
         Err(end) => Some(end),
@@ -222,6 +229,7 @@ pub(crate) fn answer<G: Gate, C: Clock, D: Draw>(
     clock: &mut C,
     draw: &mut D,
     width: u32,
+    keys: &MicCache,
 ) -> Reply
     requires room { vec_len kept.old + 1 ≤ vec_capacity kept.old }
     ensures reply { (one : Kept) × (kept.new.items ≡ kept.old.items ++ one ∷ []) × IsReply (ruling_for width octets.now one) result × IsAsked G.answers G.tells G.room G.told 2 gate.old gate.new (asked_for width octets.now one) }
@@ -236,9 +244,22 @@ pub(crate) fn answer<G: Gate, C: Clock, D: Draw>(
     let now = clock.now();
     let mut draws = [0; 82];
     draw.fill(&mut draws);
-    let answered = answer_record(alloc, gate, octets, now, &draws, width);
+    let answered = answer_record_by(alloc, gate, octets, now, &draws, width, keys);
     let _ = kept.push(answered.kept);
     answered.reply
+}
+
+/// Keeps the keys of the context of the last call, which is likely to be that of the next.
+fn keep_keys(keys: &mut MicCache, kept: &[Kept]) {
+    if let Some(
+        Kept {
+            looked: Some(Ok(lease)),
+            ..
+        },
+    ) = kept.last()
+    {
+        keys.keep(&end_at(lease));
+    }
 }
 
 /// Writes a reply, where there is one.

@@ -1,5 +1,6 @@
 //! A call that was heard.
 
+use krb_tokens::MicCache;
 use rpc_msgs::Call;
 use sec_base::Moment;
 
@@ -11,4 +12,6 @@ pub(crate) struct Heard<'a> {
     pub now: Moment,
     pub draws: [u8; 82],
     pub width: u32,
+    /// The keys of the context of the call before, in which those of this one may be found.
+    pub keys: &'a MicCache,
 }

@@ -9,6 +9,7 @@ ghost use Rattle.gss_server.specs.Looping.{size_of, IsNext, IsSaid, IsAnsweredBy
 use crate::answer::{Kept, Reply};
 use crate::connection::answer;
 use crate::gate::Gate;
+use krb_tokens::MicCache;
 use rpc_msgs::{RecordRefusal, next_record, write_record};
 use sec_base::{Draw, MemClock, MemLink, NoMemory, Octets};
 use std::alloc::Global;
@@ -123,6 +124,7 @@ impl<G: Gate, Q: Draw> Looping<G, Q> {
             &mut self.moments,
             &mut self.draws,
             self.width,
+            &MicCache::empty(),
         );
         match say(alloc, &mut self.said, &reply) {
             Turned::Answered => {

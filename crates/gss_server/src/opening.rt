@@ -8,7 +8,7 @@ ghost use Rattle.krb_tokens.specs.Wrap.{unwrapped};
 ghost use Rattle.accept_book.specs.RecordShown.{numbered, checked_args, sealed_args, unsealed_args, body_args, handle_id};
 ghost use Rattle.accept_book.specs.Served.{are_args, is_one_opaque, one_opaque};
 
-use krb_tokens::{TokenEnd, TokenRefusal};
+use krb_tokens::{MicCache, TokenEnd, TokenRefusal};
 use rpc_msgs::{XdrReader, XdrRefusal};
 use rpcsec_msgs::{GssCred, split_checked, split_sealed};
 use sec_base::{NoMemory, Octets};
@@ -22,6 +22,7 @@ const ARGUMENT: u32 = 65_536;
 pub(crate) fn open_body(
     alloc: Global,
     end: &TokenEnd,
+    keys: &MicCache,
     cred: &GssCred<'_>,
     body: &[u8],
 ) -> Result<Option<Octets>, NoMemory>
@@ -31,7 +32,7 @@ pub(crate) fn open_body(
         return some_of(alloc, body);
     }
     if cred.service == 2 {
-        return open_checked(alloc, end, cred.seq, body);
+        return open_checked(alloc, end, keys, cred.seq, body);
     }
     open_sealed(alloc, end, cred.seq, body)
 }
@@ -47,6 +48,7 @@ fn some_of(alloc: Global, octets: &[u8]) -> Result<Option<Octets>, NoMemory>
 fn open_checked(
     alloc: Global,
     end: &TokenEnd,
+    keys: &MicCache,
     seq: u32,
     body: &[u8],
 ) -> Result<Option<Octets>, NoMemory>
@@ -54,7 +56,7 @@ fn open_checked(
 {
     match split_checked(body) {
         Ok((databody, tag)) => {
-            if end.check_mic(tag, databody).is_err() {
+            if end.check_mic_by(keys, tag, databody).is_err() {
                 return Ok(None);
             }
             behind_number(alloc, seq, databody)

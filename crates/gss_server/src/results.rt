@@ -16,7 +16,7 @@ use crate::heard::Heard;
 use crate::rules::SUCCESS;
 use crate::saying::{Said, end_at, say_no_memory, say_signed};
 use accept_book::Lease;
-use krb_tokens::TokenEnd;
+use krb_tokens::{MicCache, TokenEnd};
 use rpc_msgs::XdrWriter;
 use rpcsec_msgs::{GssCred, join_checked, join_sealed};
 use sec_base::{NoMemory, Octets};
@@ -73,7 +73,7 @@ fn make_body(
     let end = end_at(lease);
     let number = 2 * cred.seq as u64 + 1;
     if cred.service == 2 {
-        return sign_body(alloc, &end, number, databody.as_slice());
+        return sign_body(alloc, &end, heard.keys, number, databody.as_slice());
     }
     seal_body(alloc, &end, number, &heard.draws, databody.as_slice())
 }
@@ -99,6 +99,7 @@ fn seal_body(
 fn sign_body(
     alloc: Global,
     end: &TokenEnd,
+    keys: &MicCache,
     number: u64,
     databody: &[u8],
 ) -> Result<Octets, NoMemory>
@@ -106,7 +107,7 @@ fn sign_body(
     ensures value { IfOk result (λ body. body ≡ checked_octets databody.now (mic_of end.now number databody.now)) }
     ensures size { IfOk result (λ body. length body ≤ 130000) }
 {
-    let tag = end.make_mic(number, databody);
+    let tag = end.make_mic_by(keys, number, databody);
     join_checked(alloc, databody, &tag)
 }
 

@@ -12,7 +12,7 @@ ghost use Rattle.gss_server.specs.Hearing.{shown};
 use crate::answer::Reply;
 use crate::heard::Heard;
 use accept_book::Lease;
-use krb_tokens::{Side, TokenEnd};
+use krb_tokens::{MicCache, Side, TokenEnd};
 use rpc_msgs::{Reply as RpcReply, write_reply};
 use rpcsec_msgs::GssCred;
 use std::alloc::Global;
@@ -119,10 +119,10 @@ pub(crate) fn end_at(lease: &Lease) -> TokenEnd
 
 /// The verifier of a reply: a MIC over the number of the call.
 #[tactic(auto, unfolding(rpc_msgs::specs::Words::word))]
-fn verifier(seq: u32, lease: &Lease) -> [u8; 28]
+fn verifier(seq: u32, keys: &MicCache, lease: &Lease) -> [u8; 28]
     ensures { result ≡ mic_of (end_of lease.now) (2 * seq) (word seq) }
 {
-    end_at(lease).make_mic(2 * seq as u64, &seq.to_be_bytes())
+    end_at(lease).make_mic_by(keys, 2 * seq as u64, &seq.to_be_bytes())
 }
 
 /// An accepted reply with the verifier of a reply to a call.
@@ -145,7 +145,7 @@ pub(crate) fn say_signed(
     ensures says { Says result.reply result.rule (decided rule (signed (shown heard.entry.now) (cred_value cred.now) lease.now stat low high body.now)) }
     ensures fits { Fits result.reply }
 {
-    let mic = verifier(cred.seq, lease);
+    let mic = verifier(cred.seq, heard.keys, lease);
     let reply = RpcReply::Accepted {
         xid: heard.call.xid,
         flavour: GSS,
