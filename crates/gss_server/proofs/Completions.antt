@@ -1,9 +1,9 @@
 -- A run whose words and files are valid, and where no count rose, serves all connections.
-use Rattle.std.proofs.Common.{arith, ◌≡◌, ◌≢◌, ◌<◌, ◌≤◌, ◌⊎◌, inl, inr, ℕ, ◌+◌, ◌-◌, Bool, true, false, IsTrue, List, [], length, slice_get, Option, Some, None, Result, Ok, Err, refl, sym, ap, ◌∙◌, subst}
+use Rattle.std.proofs.Common.{arith, ◌≡◌, ◌≢◌, ◌<◌, ◌≤◌, ℕ, ◌+◌, ◌-◌, Bool, true, List, length, slice_get, Option, Some, None, Result, Ok, Err, refl, sym, ap, ◌∙◌, subst}
 use Rattle.sec_base.specs.Answers.{Gives, Rose}
 use Rattle.sec_base.specs.declared.shelf.NamedFile.{NamedFile}
 use Rattle.gss_base.specs.Name.{Name}
-use Rattle.krb_files.specs.Keytab.{keytab_of, is_served}
+use Rattle.krb_files.specs.Keytab.{is_served}
 use Rattle.krb_files.specs.declared.keytab.Entry.{Entry}
 use Rattle.scram_mech.specs.declared.verifiers.Verifier.{Verifier}
 use Rattle.cli_base.specs.Files.{LoadsFile, file_in}

@@ -1,5 +1,5 @@
 -- Desks that run one after the other.
-use Rattle.std.proofs.Common.{arith, ◌≡◌, ◌≢◌, Bool, true, false, ◌<◌, ◌≤◌, ◌⊎◌, inl, inr, ℕ, zero, suc, ◌+◌, IsTrue, List, [], ◌∷◌, ◌++◌, take, drop, length, slice_get, slice_set, Option, Some, None, sym, refl, ap, ◌∙◌, subst}
+use Rattle.std.proofs.Common.{arith, ◌≡◌, ◌≢◌, Bool, true, false, ◌<◌, ◌≤◌, ◌⊎◌, inl, inr, ℕ, zero, suc, ◌+◌, List, [], ◌∷◌, ◌++◌, take, drop, length, slice_get, slice_set, Some, sym, refl, ap, ◌∙◌, subst}
 use Rattle.std.proofs.lemmas.List.{append-nil}
 use Rattle.std.specs.List.{AllByRecursion}
 use Rattle.gss_server.specs.Desks.{Ran, IsBefore, joined, is_begun, IsFresh, IsSmall, DeskServed, DeskDone, DeskFailed, AllWithin, ServedInOrder, moments_in, draws_in}

@@ -1,5 +1,5 @@
 -- One more link, and one more desk.
-use Rattle.std.proofs.Common.{arith, ◌≡◌, ◌≤◌, ℕ, zero, suc, ◌+◌, Bool, IsTrue, List, [], ◌∷◌, ◌++◌, take, drop, length, slice_get, slice_set, Option, Some, refl, ap, sym, ◌∙◌, subst, append_assoc}
+use Rattle.std.proofs.Common.{arith, ◌≡◌, ◌≤◌, ℕ, zero, suc, ◌+◌, Bool, IsTrue, List, [], ◌∷◌, ◌++◌, take, drop, length, slice_get, slice_set, Some, refl, ap, sym, ◌∙◌, subst, append_assoc}
 use Rattle.sec_base.specs.Link.{Wire}
 use Rattle.accept_book.specs.RecordShown.{Asked}
 use Rattle.gss_server.specs.Asking.{Asking}

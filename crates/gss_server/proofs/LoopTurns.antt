@@ -1,18 +1,18 @@
 -- What a link that answers in one thread heard and said, after each part of a write.
-use Rattle.std.proofs.Common.{◌≡◌, ◌⊎◌, inl, inr, ℕ, ◌+◌, ◌-◌, ◌^◌, ◌<◌, ◌≤◌, Bool, true, false, not, List, [], ◌∷◌, ◌++◌, length, take, drop, refl, ap, sym, subst, ◌∙◌, arith, append_assoc}
+use Rattle.std.proofs.Common.{◌≡◌, ◌⊎◌, inl, inr, ℕ, ◌+◌, ◌-◌, ◌^◌, ◌<◌, ◌≤◌, Bool, true, false, List, [], ◌∷◌, ◌++◌, length, take, drop, refl, ap, sym, subst, ◌∙◌, arith, append_assoc}
 use Rattle.std.specs.Prelude.{nat_lt}
 use Rattle.std.proofs.lemmas.Bool.Decides.{nat_tests}
 use Rattle.std.proofs.Math.Seq.{drop-append_seam}
 use Rattle.std.proofs.lemmas.List.{length-append, length-drop, append-nil, drop_all, take_all, take-append-drop}
 use Rattle.rpc_msgs.specs.Words.{word}
 use Rattle.rpc_msgs.proofs.WordLengths.{length-word}
-use Rattle.rpc_msgs.specs.Records.{Fragments, octets_in, frames, frame, IsRecord, IsFront, IsPartial}
+use Rattle.rpc_msgs.specs.Records.{Fragments, octets_in, frames, frame, IsFront}
 use Rattle.gss_server.specs.declared.answer.Kept.{Kept}
 use Rattle.gss_server.specs.declared.looping.Turned.{Turned}
 use Rattle.gss_server.specs.declared.looping.Turned.TheVariants.{Answered, Rests, Starved}
 use Rattle.gss_server.specs.Answers.{IsDecided, may_want}
-use Rattle.gss_server.specs.Connections.{octets_of, ruling_for, written_for, written_in, AllDecided}
-use Rattle.gss_server.specs.Looping.{IsUnfit, IsWanted, Rest, LoopedTo, Looped, IsWholeAt, Answering, KeptOnly, IsAnsweredBy, Unjudged, IsTurned, HeardMore, Loops}
+use Rattle.gss_server.specs.Connections.{octets_of, ruling_for, written_for, written_in}
+use Rattle.gss_server.specs.Looping.{IsUnfit, Rest, LoopedTo, Looped, IsWholeAt, Answering, KeptOnly, IsAnsweredBy, Unjudged, IsTurned, HeardMore, Loops}
 use Rattle.gss_server.proofs.Turning.{each-push, octets_of-push, order-push, decided-push}
 
 -- what stands behind the records is the rest

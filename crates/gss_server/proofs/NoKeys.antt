@@ -1,12 +1,10 @@
 -- Two octets are a keytab without records, and none are verifiers without a user.
 use Rattle.std.proofs.Common.{◌≡◌, List, [], ◌∷◌, Result, Ok, refl, ap, sym, ◌∙◌}
 use Rattle.krb_files.specs.declared.keytab.Entry.{Entry}
-use Rattle.krb_files.specs.declared.refusal.FileRefusal.{FileRefusal}
 use Rattle.krb_files.specs.Keytab.{keytab_of, piece_at}
 use Rattle.krb_files.specs.Fields.{magic_at}
 use Rattle.krb_files.specs.Pieces.{many_of}
 use Rattle.scram_mech.specs.declared.verifiers.Verifier.{Verifier}
-use Rattle.scram_mech.specs.declared.refusal.VerifierRefusal.{VerifierRefusal}
 use Rattle.scram_mech.specs.Verifiers.{lines_at, once, verifiers_of}
 use Rattle.gss_server.specs.declared.ending.RunEnd.{RunEnd}
 

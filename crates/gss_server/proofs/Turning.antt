@@ -13,7 +13,7 @@ use Rattle.gss_server.specs.declared.connection.ConnEnd.TheVariants.{Ended, Link
 use Rattle.accept_book.specs.RecordShown.{Ruling, Asked}
 use Rattle.accept_book.proofs.Asking.{record-at}
 use Rattle.gss_server.specs.Hearing.{kept_answers}
-use Rattle.gss_server.specs.Telling.{GainsWith, told_of}
+use Rattle.gss_server.specs.Telling.{told_of}
 use Rattle.gss_server.specs.Asking.{Asking, IsAsked}
 use Rattle.gss_server.specs.declared.told.Told.{Told}
 use Rattle.gss_server.specs.Answers.{IsDecided}

@@ -1,4 +1,4 @@
-use Rattle.std.proofs.Common.{arith, ◌≡◌, ◌<◌, ◌≤◌, ◌+◌, length, ◌∙◌, sym}
+use Rattle.std.proofs.Common.{arith, ◌<◌, ◌≤◌, ◌+◌, length, ◌∙◌, sym}
 use Rattle.std.proofs.lemmas.Option.{slice_get-get_or, slice_get_within}
 use Rattle.gss_server.specs.Desks.{IsFresh}
 use Rattle.gss_server.proofs.DeskRuns.{run-step, all-more, begun-more}

@@ -1,4 +1,4 @@
-use Rattle.std.proofs.Common.{arith, List, ℕ, sym, subst}
+use Rattle.std.proofs.Common.{arith, sym, subst}
 use Rattle.cli_base.specs.Lines.{Says}
 use Rattle.gss_server.specs.Lines.{line_of}
 use Rattle.gss_server.specs.declared.ending.RunEnd.{RunEnd}

@@ -1,4 +1,4 @@
-use Rattle.std.proofs.Common.{arith, ◌≡◌, List, take, drop, length, ◌++◌, slice_get, Some, subst, sym}
+use Rattle.std.proofs.Common.{arith, ◌≡◌, take, drop, length, ◌++◌, slice_get, Some, subst, sym}
 use Rattle.gss_server.proofs.DeskRuns.{take-back, ran-small}
 use Rattle.gss_server.proofs.server.run_book.Goals as goal
 

@@ -1,4 +1,4 @@
-use Rattle.gss_server.proofs.LoopTurns.{heard-more, heard-so, starved-unheard}
+use Rattle.gss_server.proofs.LoopTurns.{heard-so}
 use Rattle.gss_server.proofs.looping.Looping.take.Goals as goal
 
 pub returns-in-Ok-clause-heard : goal.returns-in-Ok-clause-heard
