@@ -6,7 +6,7 @@ ghost use Rattle.rpc_msgs.specs.Xdr.{Answers};
 ghost use Rattle.gss_client.specs.Judging.{answer_value, answer_in, granted, place_of, xid_of, is_verified, succeeded, verified_in};
 
 use crate::refusal::{ClientRefusal, Denial, ReplyWhy};
-use krb_tokens::Side;
+use krb_tokens::{MicCache, Side};
 use rpc_msgs::{Reply, read_reply};
 use spnego_core::Outcome;
 
@@ -88,11 +88,19 @@ pub(crate) fn answer_in(xid: u32, bytes: &[u8]) -> Result<Answer<'_>, ClientRefu
 
 /// Whether the verifier is the acceptor's MIC over this number.
 #[tactic(auto, unfolding(rpc_msgs::specs::Words::word))]
-pub(crate) fn is_verified(outcome: &Outcome, answer: &Answer<'_>, number: u32) -> bool
+pub(crate) fn is_verified(
+    keys: &MicCache,
+    outcome: &Outcome,
+    answer: &Answer<'_>,
+    number: u32,
+) -> bool
     ensures { result ≡ is_verified outcome.now (answer_value answer.now) number }
 {
     let end = outcome.token_end(Side::Initiator);
-    answer.flavour == GSS && end.check_mic(answer.verf, &number.to_be_bytes()).is_ok()
+    answer.flavour == GSS
+        && end
+            .check_mic_by(keys, answer.verf, &number.to_be_bytes())
+            .is_ok()
 }
 
 /// Refuses another accept stat than SUCCESS.
@@ -108,6 +116,7 @@ pub(crate) fn succeeded(answer: &Answer<'_>) -> Result<(), ClientRefusal>
 /// The accepted reply to the call of this number and transaction number, verified and with SUCCESS.
 #[tactic(auto, unfolding(crate::specs::Judging::verified_in))]
 pub(crate) fn verified_in<'a>(
+    keys: &MicCache,
     outcome: &Outcome,
     number: u32,
     xid: u32,
@@ -116,7 +125,7 @@ pub(crate) fn verified_in<'a>(
     ensures { Answers answer_value result (verified_in outcome.now number xid bytes.now) }
 {
     let answer = answer_in(xid, bytes)?;
-    if !is_verified(outcome, &answer, number) {
+    if !is_verified(keys, outcome, &answer, number) {
         return Err(ClientRefusal::BadReply(ReplyWhy::Verifier));
     }
     succeeded(&answer)?;

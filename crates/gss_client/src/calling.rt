@@ -12,7 +12,7 @@ ghost use Rattle.gss_client.specs.Exchanging.{IsHandle};
 
 use crate::service::Service;
 use crate::session::Session;
-use krb_tokens::{Side, TokenEnd};
+use krb_tokens::{MicCache, Side, TokenEnd};
 use rpc_msgs::{XdrWriter, write_call};
 use rpcsec_msgs::{GssCred, join_checked, join_sealed, write_cred};
 use sec_base::{NoMemory, Octets};
@@ -157,7 +157,7 @@ fn signed_call(
     let cred = credential(alloc, proc, session.number, service, handle)?;
     let header = header(alloc, session.xid, procedure, cred.as_slice())?;
     let end = session.outcome.token_end(Side::Initiator);
-    let mic = end.make_mic(2 * session.number as u64, header.as_slice());
+    let mic = end.make_mic_by(&session.keys, 2 * session.number as u64, header.as_slice());
     call(
         alloc,
         session.xid,
@@ -198,7 +198,7 @@ fn body_of(
         Service::None => Octets::of(alloc, args),
         Service::Integrity => {
             let body = databody(alloc, session.number, args)?;
-            sign_body(alloc, &end, number, body.as_slice())
+            sign_body(alloc, &end, &session.keys, number, body.as_slice())
         }
         Service::Privacy => {
             let body = databody(alloc, session.number, args)?;
@@ -211,6 +211,7 @@ fn body_of(
 fn sign_body(
     alloc: Global,
     end: &TokenEnd,
+    keys: &MicCache,
     number: u64,
     databody: &[u8],
 ) -> Result<Octets, NoMemory>
@@ -218,7 +219,7 @@ fn sign_body(
     ensures value { IfOk result (λ body. body ≡ checked_octets databody.now (mic_of end.now number databody.now)) }
     ensures size { IfOk result (λ body. length body ≤ 130000) }
 {
-    let tag = end.make_mic(number, databody);
+    let tag = end.make_mic_by(keys, number, databody);
     join_checked(alloc, databody, &tag)
 }
 

@@ -10,6 +10,7 @@ ghost use Rattle.spnego_core.specs.Sizes.{ShortInit};
 
 use crate::answer::{Answer, answer_in, is_verified, place_of, succeeded};
 use crate::refusal::{ClientRefusal, Denial, ReplyWhy, not_negotiated};
+use krb_tokens::MicCache;
 use rpc_msgs::{XdrRefusal, XdrWhy};
 use rpcsec_msgs::{InitRes, read_init_res};
 use sec_base::Octets;
@@ -104,7 +105,7 @@ fn by_step(answer: &Answer<'_>, granted: InitRes, step: InitStep) -> Result<Crea
             if granted.window == 0 {
                 return Err(ClientRefusal::BadReply(ReplyWhy::Width));
             }
-            if !is_verified(&outcome, answer, granted.window) {
+            if !is_verified(&MicCache::empty(), &outcome, answer, granted.window) {
                 return Err(ClientRefusal::BadReply(ReplyWhy::Verifier));
             }
             Ok(Created::Stands(outcome, granted.context))

@@ -14,8 +14,9 @@ use crate::refusal::{ClientRefusal, not_negotiated};
 use crate::service::Service;
 use crate::session::{Session, xid_after};
 use crate::start::Start;
+use krb_tokens::{MicCache, Side};
 use sec_base::{Link, NoMemory, Octets};
-use spnego_core::InitEnd;
+use spnego_core::{InitEnd, Outcome};
 use std::alloc::Global;
 
 /// The procedure of a first creation call.
@@ -91,15 +92,26 @@ fn establish<L: Link>(
             next,
             left - 1,
         ),
-        Ok(Created::Stands(outcome, handle)) => Ok(Session {
-            outcome,
-            service,
-            handle,
-            number: first,
-            xid: xid_after(xid),
-        }),
+        Ok(Created::Stands(outcome, handle)) => {
+            let keys = keys_of(&outcome);
+            Ok(Session {
+                outcome,
+                service,
+                handle,
+                number: first,
+                xid: xid_after(xid),
+                keys,
+            })
+        }
         Err(refusal) => Err(refusal),
     }
+}
+
+/// The keys of the initiator's MIC tokens.
+fn keys_of(outcome: &Outcome) -> MicCache {
+    let mut keys = MicCache::empty();
+    keys.keep(&outcome.token_end(Side::Initiator));
+    keys
 }
 
 impl Session {

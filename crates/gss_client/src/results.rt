@@ -7,7 +7,7 @@ ghost use Rattle.gss_client.specs.Judging.{numbered, checked_result, sealed_resu
 use crate::answer::{place_of, verified_in};
 use crate::refusal::{ClientRefusal, ReplyWhy};
 use crate::service::Service;
-use krb_tokens::{Side, TokenEnd, TokenRefusal};
+use krb_tokens::{MicCache, Side, TokenEnd, TokenRefusal};
 use rpc_msgs::XdrReader;
 use rpcsec_msgs::{split_checked, split_sealed};
 use sec_base::Octets;
@@ -34,6 +34,7 @@ fn numbered(alloc: Global, number: u32, databody: &[u8]) -> Result<Octets, Clien
 #[tactic(auto, unfolding(crate::specs::Judging::checked_result))]
 fn checked_result(
     alloc: Global,
+    keys: &MicCache,
     end: &TokenEnd,
     number: u32,
     body: &[u8],
@@ -43,7 +44,7 @@ fn checked_result(
     let Ok((databody, mic)) = split_checked(body) else {
         return Err(ClientRefusal::BadReply(ReplyWhy::Body));
     };
-    match end.check_mic(mic, databody) {
+    match end.check_mic_by(keys, mic, databody) {
         Ok(()) => numbered(alloc, number, databody),
         Err(_) => Err(ClientRefusal::BadReply(ReplyWhy::Body)),
     }
@@ -77,6 +78,7 @@ fn sealed_result(
 #[tactic(auto, unfolding(crate::specs::Judging::body_result))]
 fn body_result(
     alloc: Global,
+    keys: &MicCache,
     end: &TokenEnd,
     number: u32,
     body: &[u8],
@@ -89,7 +91,7 @@ fn body_result(
             let result = Octets::of(alloc, body)?;
             Ok(result)
         }
-        Service::Integrity => checked_result(alloc, end, number, body),
+        Service::Integrity => checked_result(alloc, keys, end, number, body),
         Service::Privacy => sealed_result(alloc, end, number, body),
     }
 }
@@ -98,6 +100,7 @@ fn body_result(
 #[tactic(auto, unfolding(crate::specs::Judging::call_result))]
 pub(crate) fn call_result(
     alloc: Global,
+    keys: &MicCache,
     outcome: &Outcome,
     service: Service,
     number: u32,
@@ -106,14 +109,15 @@ pub(crate) fn call_result(
 ) -> Result<Octets, ClientRefusal>
     ensures { Gives ClientRefusal.NoMemory (λ o. o) result (call_result outcome.now service number xid bytes.now) }
 {
-    let answer = verified_in(outcome, number, xid, bytes)?;
+    let answer = verified_in(keys, outcome, number, xid, bytes)?;
     let end = outcome.token_end(Side::Initiator);
-    body_result(alloc, &end, number, answer.result, service)
+    body_result(alloc, keys, &end, number, answer.result, service)
 }
 
 /// Judges the reply to a destruction: nothing follows its stat.
 #[tactic(auto, unfolding(crate::specs::Judging::destroyed_in))]
 pub(crate) fn destroyed_in(
+    keys: &MicCache,
     outcome: &Outcome,
     number: u32,
     xid: u32,
@@ -121,7 +125,7 @@ pub(crate) fn destroyed_in(
 ) -> Result<(), ClientRefusal>
     ensures { result ≡ destroyed_in outcome.now number xid bytes.now }
 {
-    let answer = verified_in(outcome, number, xid, bytes)?;
+    let answer = verified_in(keys, outcome, number, xid, bytes)?;
     if !answer.result.is_empty() {
         let at = place_of(&answer, 0);
         return Err(ClientRefusal::BadReply(ReplyWhy::Form { at }));

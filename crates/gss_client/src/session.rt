@@ -12,6 +12,7 @@ use crate::exchange::exchange;
 use crate::refusal::ClientRefusal;
 use crate::results::{call_result, destroyed_in};
 use crate::service::Service;
+use krb_tokens::MicCache;
 use sec_base::{Link, NoMemory, Octets};
 use spnego_core::Outcome;
 use std::alloc::Global;
@@ -25,6 +26,8 @@ pub struct Session {
     pub(crate) handle: Octets,
     pub(crate) number: u32,
     pub(crate) xid: u32,
+    /// The keys of the context's MIC tokens.
+    pub(crate) keys: MicCache,
 }
 
 impl Model for Session {
@@ -72,6 +75,7 @@ impl Session {
             handle: self.handle,
             number: self.number + 1,
             xid: xid_after(self.xid),
+            keys: self.keys,
         }
     }
 
@@ -112,6 +116,7 @@ impl Session {
     {
         match call_result(
             alloc,
+            &self.keys,
             &self.outcome,
             self.service,
             self.number,
@@ -137,7 +142,13 @@ impl Session {
             Err(NoMemory) => return Err(ClientRefusal::NoMemory),
         };
         match exchange(alloc, link, call.as_slice()) {
-            Ok(reply) => destroyed_in(&self.outcome, self.number, self.xid, reply.as_slice()),
+            Ok(reply) => destroyed_in(
+                &self.keys,
+                &self.outcome,
+                self.number,
+                self.xid,
+                reply.as_slice(),
+            ),
             Err(refusal) => Err(refusal),
         }
     }
