@@ -1,6 +1,8 @@
 //! Both ends against the tokens of another implementation, and against each other.
 
-ghost use Rattle.std.specs.Prelude.{◌≤◌, length, IfOk};
+ghost use Rattle.std.specs.Prelude.{◌≡◌, ◌≤◌, true, length, IfOk};
+ghost use Rattle.gss_base.specs.declared.mech.MechKind.TheVariants as kinds;
+ghost use Rattle.spnego_core.specs.InitMech.{kind_of, is_own_list};
 
 use crate::*;
 use gss_base::{MechKind, Principal};
@@ -62,30 +64,59 @@ fn credential(alloc: Global) -> Result<Credential, Fail> {
     })
 }
 
-/// The initiator `alice@R` with the ticket alone, without bindings.
-fn started(alloc: Global) -> Result<(InitEnd, Octets), Fail> {
+/// The user and the password.
+fn password(alloc: Global) -> Result<MechCred, Fail>
+    ensures { IfOk result (λ cred. kind_of cred ≡ kinds.Scram) }
+{
+    Ok(MechCred::Scram {
+        user: Text::of(alloc, "user")?,
+        password: Text::of(alloc, "p")?,
+    })
+}
+
+/// An initiator with these credentials, without bindings.
+fn started_by(
+    alloc: Global,
+    list: Items<MechCred>,
+    draws: [u8; 66],
+) -> Result<(InitEnd, Octets), Fail>
+    requires { is_own_list list ≡ true }
+{
     let setup = InitSetup {
-        list: Items::of(vec![in alloc; MechCred::Kerberos(credential(alloc)?)]?),
+        list,
         bindings: None,
         stamp: Moment::new(1_000_000, 0).ok_or("a moment")?,
-        draws: OWN_DRAWS,
+        draws,
     };
     Ok(InitEnd::start(alloc, setup)?)
 }
 
-/// The initiator `alice@R` with the ticket and, behind it, the user and the password, without bindings.
+/// The initiator `alice@R` with the ticket alone.
+fn started(alloc: Global) -> Result<(InitEnd, Octets), Fail> {
+    let ticket = MechCred::Kerberos(credential(alloc)?);
+    started_by(alloc, Items::of(vec![in alloc; ticket]?), OWN_DRAWS)
+}
+
+/// The initiator `alice@R` with the ticket and, behind it, the user and the password.
 fn started_with_password(alloc: Global) -> Result<(InitEnd, Octets), Fail> {
-    let password = MechCred::Scram {
-        user: Text::of(alloc, "user")?,
-        password: Text::of(alloc, "p")?,
-    };
-    let setup = InitSetup {
-        list: Items::of(vec![in alloc; MechCred::Kerberos(credential(alloc)?), password]?),
-        bindings: None,
-        stamp: Moment::new(1_000_000, 0).ok_or("a moment")?,
-        draws: OWN_DRAWS,
-    };
-    Ok(InitEnd::start(alloc, setup)?)
+    let ticket = MechCred::Kerberos(credential(alloc)?);
+    let password = password(alloc)?;
+    started_by(
+        alloc,
+        Items::of(vec![in alloc; ticket, password]?),
+        OWN_DRAWS,
+    )
+}
+
+/// The same with the user and the password first.
+fn started_with_password_first(alloc: Global) -> Result<(InitEnd, Octets), Fail> {
+    let ticket = MechCred::Kerberos(credential(alloc)?);
+    let password = password(alloc)?;
+    started_by(
+        alloc,
+        Items::of(vec![in alloc; password, ticket]?),
+        OWN_DRAWS,
+    )
 }
 
 /// Whether this is the outcome of both, on the acceptor's drawn subkey.
@@ -342,5 +373,67 @@ fn another_mechanism_than_the_own_first_takes_both_mics(rt: HostRuntime) -> Resu
     assert!(rt; last.as_slice().is_empty() && is_scram_outcome(&outcome));
     let own = done(end.step(alloc, &[])?)?;
     assert!(rt; is_scram_outcome(&own));
+    Ok(())
+}
+
+// Random octets whose last 18 give the initiator's nonce in the example of RFC 5802 section 5.
+const PUBLISHED_DRAWS: [u8; 66] =
+    *b"\x00\x01\x02\x03\x04\x05\x06\x07\x08\x09\x0a\x0b\x0c\x0d\x0e\x0f\x10\x11\x12\x13\x14\x15\x16\x17\x18\x19\x1a\x1b\x1c\x1d\x1e\x1f\x20\x21\x22\x23\x24\x25\x26\x27\x28\x29\x2a\x2b\x2c\x2d\x2e\x2f\x7f\x29\x28\xf9\xdd\xa5\x6d\xb1\x60\x38\xd4\x6f\xf6\xa9\x31\x75\xac\x0b";
+
+// The first token of SCRAM alone with that nonce, and the same without its mechToken.
+const PUBLISHED_FIRST: &[u8] =
+    b"\x60\x47\x06\x06\x2b\x06\x01\x05\x05\x02\xa0\x3d\x30\x3b\xa0\x0a\x30\x08\x06\x06\x2b\x06\x01\x05\x05\x0e\xa2\x2d\x04\x2b\x60\x29\x06\x06\x2b\x06\x01\x05\x05\x0e\x6e\x3d\x75\x73\x65\x72\x2c\x72\x3d\x66\x79\x6b\x6f\x2b\x64\x32\x6c\x62\x62\x46\x67\x4f\x4e\x52\x76\x39\x71\x6b\x78\x64\x61\x77\x4c";
+
+const LIST_ALONE: &[u8] =
+    b"\x60\x18\x06\x06\x2b\x06\x01\x05\x05\x02\xa0\x0e\x30\x0c\xa0\x0a\x30\x08\x06\x06\x2b\x06\x01\x05\x05\x0e";
+
+#[test]
+fn a_first_token_of_scram_alone(rt: HostRuntime) -> Result<(), Fail> {
+    let alloc = rt.alloc();
+    let password = password(alloc)?;
+    let list = Items::of(vec![in alloc; password]?);
+    let (_end, first) = started_by(alloc, list, PUBLISHED_DRAWS)?;
+    assert_eq!(rt; first.as_slice(), PUBLISHED_FIRST);
+    Ok(())
+}
+
+// SCRAM is the list's first and the offer's second: the MIC is asked for, and its token comes later.
+#[test]
+fn a_list_of_scram_alone_without_a_token(rt: HostRuntime) -> Result<(), Fail> {
+    let alloc = rt.alloc();
+    let setup = acceptor(alloc, &[MechKind::Kerberos, MechKind::Scram])?;
+    let (_waiting, chosen) = going_on(accepted(alloc, &setup, AcceptEnd::new(), LIST_ALONE)?)?;
+    assert_eq!(rt; chosen.as_slice(), SCRAM_CHOSEN);
+    Ok(())
+}
+
+// The list of Kerberos and SCRAM without a token, the choice of its first, and how the answer begins that completes it.
+const OTHER_ORDER: &[u8] =
+    b"\x60\x23\x06\x06\x2b\x06\x01\x05\x05\x02\xa0\x19\x30\x17\xa0\x15\x30\x13\x06\x09\x2a\x86\x48\x86\xf7\x12\x01\x02\x02\x06\x06\x2b\x06\x01\x05\x05\x0e";
+
+const FIRST_CHOSEN: &[u8] =
+    b"\xa1\x14\x30\x12\xa0\x03\x0a\x01\x01\xa1\x0b\x06\x09\x2a\x86\x48\x86\xf7\x12\x01\x02\x02";
+
+const COMPLETED: &[u8] = b"\xa1\x81\x93\x30\x81\x90\xa0\x03\x0a\x01\x00\xa2\x81\x88";
+
+/// Why an initiator whose first is SCRAM refuses the last answer to its list, which somebody turned round on the way and whose token was taken
+/// off.
+fn refused_after_another_order(alloc: Global) -> Result<Option<NegRefusal>, Fail> {
+    let setup = acceptor(alloc, &[MechKind::Kerberos, MechKind::Scram])?;
+    let (waiting, chosen) = going_on(accepted(alloc, &setup, AcceptEnd::new(), OTHER_ORDER)?)?;
+    let (end, _first) = started_with_password_first(alloc)?;
+    let (end, request) = talking_on(end.step(alloc, chosen.as_slice())?)?;
+    let (_outcome, reply) = settled(accepted(alloc, &setup, waiting, request.as_slice())?)?;
+    if chosen.as_slice() != FIRST_CHOSEN || !reply.as_slice().starts_with(COMPLETED) {
+        return Ok(None);
+    }
+    Ok(end.step(alloc, reply.as_slice()).err())
+}
+
+// Both ends take Kerberos for what was chosen, and the acceptor is done; but no MIC came for a mechanism that isn't the initiator's first.
+#[test]
+fn a_list_that_was_turned_round(rt: HostRuntime) -> Result<(), Fail> {
+    let refused = refused_after_another_order(rt.alloc())?;
+    assert!(rt; refused == Some(NegRefusal::MicMissing));
     Ok(())
 }
