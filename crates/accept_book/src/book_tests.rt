@@ -5,9 +5,9 @@ ghost use Rattle.std.specs.Prelude.{◌≤◌};
 use super::*;
 use gss_base::{MechKind, Principal};
 use krb_files::read_keytab;
-use scram_mech::read_verifiers;
+use scram_mech::{ScramRefusal, read_verifiers};
 use sec_base::{Items, Moment};
-use spnego_core::{AcceptSetup, NegRefusal};
+use spnego_core::{AcceptSetup, MechRefusal, NegRefusal};
 use std::alloc::Global;
 use std::test::Fail;
 
@@ -23,7 +23,15 @@ const REQUEST: &[u8] =
 const EMPTY: &[u8] =
     b"\x60\x52\x06\x06\x2b\x06\x01\x05\x05\x02\xa0\x48\x30\x46\xa0\x15\x30\x13\x06\x06\x2b\x06\x01\x05\x05\x0e\x06\x09\x2a\x86\x48\x86\xf7\x12\x01\x02\x02\xa2\x2d\x04\x2b\x60\x29\x06\x06\x2b\x06\x01\x05\x05\x0e\x6e\x3d\x75\x73\x65\x72\x2c\x72\x3d\x4d\x44\x45\x79\x4d\x7a\x51\x31\x4e\x6a\x63\x34\x4f\x54\x6f\x37\x50\x44\x30\x2b\x50\x30\x42\x42";
 
-fn request() -> &'static [u8] {
+// The line of `user` in a verifier file, in 4,096 rounds and with the salt `salt`.
+const VERIFIERS: &[u8] =
+    b"user:4096:c2FsdA==:ETzdloepGoKbjAsqtOs5Jgw/Bx0=:AEWMKNXpY90u5dEQ9wtT6hdJr2s=\n";
+
+// The acceptor's random octets, 80 to c1.
+const DRAWS: [u8; 66] =
+    *b"\x80\x81\x82\x83\x84\x85\x86\x87\x88\x89\x8a\x8b\x8c\x8d\x8e\x8f\x90\x91\x92\x93\x94\x95\x96\x97\x98\x99\x9a\x9b\x9c\x9d\x9e\x9f\xa0\xa1\xa2\xa3\xa4\xa5\xa6\xa7\xa8\xa9\xaa\xab\xac\xad\xae\xaf\xb0\xb1\xb2\xb3\xb4\xb5\xb6\xb7\xb8\xb9\xba\xbb\xbc\xbd\xbe\xbf\xc0\xc1";
+
+pub(crate) fn request() -> &'static [u8] {
     REQUEST
 }
 
@@ -42,19 +50,27 @@ fn later(alloc: Global) -> Result<Vec<u8>, Fail> {
     Ok(token)
 }
 
-fn moment(secs: u64) -> Result<Moment, Fail> {
+pub(crate) fn moment(secs: u64) -> Result<Moment, Fail> {
     Ok(Moment::new(secs, 0).ok_or("a moment")?)
 }
 
+// A book that offers Kerberos alone.
 fn opened(alloc: Global, contexts: usize) -> Result<Book, Fail>
+    requires { contexts ≤ 65536 }
+{
+    opened_with(alloc, contexts, &[MechKind::Kerberos])
+}
+
+// A book with this offer, which knows the user `user` by the password `p`.
+pub(crate) fn opened_with(alloc: Global, contexts: usize, offer: &[MechKind]) -> Result<Book, Fail>
     requires { contexts ≤ 65536 }
 {
     let setup = AcceptSetup {
         own: Principal::parse(alloc, "rpc/host@R").ok().ok_or("a name")?,
         keytab: read_keytab(alloc, KEYTAB).ok().ok_or("a keytab")?,
-        verifiers: read_verifiers(alloc, b"").ok().ok_or("verifiers")?,
+        verifiers: read_verifiers(alloc, VERIFIERS).ok().ok_or("verifiers")?,
         bindings: None,
-        offer: Items::of(vec![in alloc; MechKind::Kerberos]?),
+        offer: Items::of(Vec::from_slice(alloc, offer)?),
     };
     let limits = Limits {
         contexts,
@@ -83,25 +99,30 @@ fn word_of_refusal(refusal: &BookRefusal) -> &'static str {
         BookRefusal::TableFull => "table full",
         BookRefusal::Repeat { place: 1 } => "repeat of 1",
         BookRefusal::Neg(NegRefusal::Defective { .. }) => "defective",
+        BookRefusal::Neg(NegRefusal::Mech(MechRefusal::Scram(ScramRefusal::Proof))) => "proof",
         _ => "refused",
     }
 }
 
 // A token that is handed in for a context at a second, what must come of it, and how many receipts.
 #[derive(Clone, Copy)]
-struct Row<'a> {
-    id: Option<u64>,
-    token: &'a [u8],
-    secs: u64,
-    word: &'static str,
-    count: u8,
+pub(crate) struct Row<'a> {
+    pub id: Option<u64>,
+    pub token: &'a [u8],
+    pub secs: u64,
+    pub word: &'static str,
+    pub count: u8,
 }
 
 // The place of the first row that comes to something else.
-fn first_wrong(book: &mut Book, alloc: Global, rows: &[Row<'_>]) -> Result<Option<usize>, Fail> {
+pub(crate) fn first_wrong(
+    book: &mut Book,
+    alloc: Global,
+    rows: &[Row<'_>],
+) -> Result<Option<usize>, Fail> {
     for place in 0..rows.len() {
         let row = &rows[place];
-        let negotiated = book.negotiate(alloc, row.id, row.token, moment(row.secs)?, &[7; 66]);
+        let negotiated = book.negotiate(alloc, row.id, row.token, moment(row.secs)?, &DRAWS);
         if word_of(&negotiated.answer) != row.word || negotiated.receipts.count != row.count {
             return Ok(Some(place));
         }
@@ -133,7 +154,7 @@ fn letter(entry: &Entry) -> u8 {
 }
 
 // Whether the log has entries of these kinds, and no other.
-fn has_kinds(book: &Book, letters: &[u8]) -> bool {
+pub(crate) fn has_kinds(book: &Book, letters: &[u8]) -> bool {
     let entries = book.log().entries();
     if entries.len() != letters.len() {
         return false;
@@ -147,7 +168,7 @@ fn has_kinds(book: &Book, letters: &[u8]) -> bool {
 }
 
 // How many calls of the context with id 1 are admitted, of numbers from 1 on.
-fn admitted(book: &mut Book, calls: u32) -> Result<u32, Fail> {
+pub(crate) fn admitted(book: &mut Book, calls: u32) -> Result<u32, Fail> {
     let lease = book.look(1, moment(1_000_000)?).ok().ok_or("a lease")?;
     let mut count = 0u32;
     for seq in 0..calls {

@@ -23,4 +23,6 @@ pub use named::Named;
 #[cfg(test)]
 mod book_tests;
 #[cfg(test)]
+mod scram_tests;
+#[cfg(test)]
 mod tests;
