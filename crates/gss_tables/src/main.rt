@@ -16,6 +16,8 @@ mod saying;
 mod sessions;
 mod setting;
 mod table;
+#[cfg(test)]
+mod tests;
 
 use setting::Setting;
 use std::{fs, io};
