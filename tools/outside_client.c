@@ -1,9 +1,10 @@
 /* A client of the server over a system's own libraries: contexts by libtirpc and by the SPNEGO of MIT Kerberos, calls over them.
  *
- *   outside_client PORT SERVER SERVICE CALLS [CONTEXTS]
+ *   outside_client PORT SERVER SERVICE CALLS [CONTEXTS [NULLS]]
  *
  * SERVER is a principal, as rpc/localhost@REALM.TEST; SERVICE is integrity or privacy. Each context makes CALLS calls of each procedure
- * from ECHO to COUNT, whose results are compared with what they are to be, and is destroyed. The status is 0 where all were. */
+ * from ECHO to COUNT, whose results are compared with what they are to be, and NULLS calls of NULL, and is destroyed. The status is 0
+ * where all were. */
 #include <gssapi/gssapi.h>
 #include <gssapi/gssapi_krb5.h>
 #include <rpc/rpc.h>
@@ -110,8 +111,19 @@ static int all_calls(CLIENT *client, int calls, int first, u_int *posts)
     return !first || (echoes(client, 0) && echoes(client, 4095) && echoes(client, 65536));
 }
 
-/* A context, and calls over it; -1 where it isn't made. */
-static int context(int port, gss_name_t server, int service, int calls, int first, u_int *posts, double *making)
+/* NULL calls, each after the reply to the one before. The time that they take is added to `spent`. */
+static int nulls(CLIENT *client, int calls, double *spent)
+{
+    double start = seconds();
+    for (int i = 0; i < calls; i++)
+        if (!call(client, NOTHING, (xdrproc_t)xdr_void, NULL, (xdrproc_t)xdr_void, NULL))
+            return 0;
+    *spent += seconds() - start;
+    return 1;
+}
+
+/* A context, and calls over it; whether all was right. */
+static int context(int port, gss_name_t server, int service, int calls, int null_calls, int first, u_int *posts, double *making, double *spent)
 {
     struct rpc_gss_sec wanted = { &spnego, GSS_C_QOP_DEFAULT, service, GSS_C_NO_CREDENTIAL, GSS_C_MUTUAL_FLAG };
     CLIENT *client = connected(port);
@@ -126,7 +138,7 @@ static int context(int port, gss_name_t server, int service, int calls, int firs
         clnt_pcreateerror("no context");
         return 0;
     }
-    int right = all_calls(client, calls, first, posts);
+    int right = all_calls(client, calls, first, posts) && nulls(client, null_calls, spent);
     auth_destroy(client->cl_auth);
     clnt_destroy(client);
     return right;
@@ -137,17 +149,19 @@ int main(int argc, char **argv)
     if (argc < 5)
         return 2;
     int service = strcmp(argv[3], "privacy") == 0 ? RPCSEC_GSS_SVC_PRIVACY : RPCSEC_GSS_SVC_INTEGRITY;
-    int calls = atoi(argv[4]), contexts = argc > 5 ? atoi(argv[5]) : 1;
+    int calls = atoi(argv[4]), contexts = argc > 5 ? atoi(argv[5]) : 1, null_calls = argc > 6 ? atoi(argv[6]) : 0;
     gss_name_t server = name_of(argv[2]);
     u_int posts = 0;
-    double making = 0, start = seconds();
+    double making = 0, spent = 0, start = seconds();
     if (getenv("POSTS") != NULL)
         posts = atoi(getenv("POSTS"));
     for (int i = 0; i < contexts; i++)
-        if (!context(atoi(argv[1]), server, service, calls, i == 0, &posts, &making))
+        if (!context(atoi(argv[1]), server, service, calls, null_calls, i == 0, &posts, &making, &spent))
             return 1;
     double whole = seconds() - start;
     printf("%d contexts, each in %.0f microseconds; %d calls by %s in %.3f seconds\n", contexts, making / contexts * 1e6,
-        contexts * calls * 4, argv[3], whole - making);
+        contexts * calls * 4, argv[3], whole - making - spent);
+    if (null_calls > 0)
+        printf("%d NULL calls by %s, %.0f a second\n", contexts * null_calls, argv[3], contexts * null_calls / spent);
     return 0;
 }
