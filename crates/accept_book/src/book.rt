@@ -514,6 +514,13 @@ impl Book {
         }
     }
 
+    /// What its ends are begun with.
+    pub fn setup(&self) -> &AcceptSetup
+        ensures { result.now ≡ self.now.setup }
+    {
+        &self.setup
+    }
+
     /// Takes a token: the first of a context where no id is given, a later one of the context of that id else. A first token that is
     /// refused, or meets want of memory, leaves all but the greatest moment as it was; a later one ends its own context.
     pub fn negotiate(

@@ -10,7 +10,7 @@ ghost use Rattle.krb_msgs.specs.ApReq.{ap_req};
 ghost use Rattle.krb_msgs.specs.Ticket.{ticket_element};
 ghost use Rattle.ap_exchange.specs.Keys.{authenticator_usage, SealedOpens};
 ghost use Rattle.ap_exchange.specs.Draws.{drawn_confounder};
-ghost use Rattle.ap_exchange.specs.Request.{checksum_for, authenticator_with, ap_req_with, WritesRequest, request_of, RequestFits};
+ghost use Rattle.ap_exchange.specs.Request.{checksum_for, authenticator_with, authenticator_of, ap_req_with, WritesRequest, request_of, RequestFits};
 
 use crate::draws::{confounder_of, subkey_of};
 use crate::keys::{AUTHENTICATOR_USAGE, key_value, sealed_data};
@@ -175,5 +175,21 @@ impl ApInit {
             hash,
         };
         Ok((end, token))
+    }
+
+    /// Does nothing that stays: its contract says, where there was memory, that what a request with this credential seals has a spelling.
+    pub fn told_spelling(
+        alloc: Global,
+        credential: &Credential,
+        stamp: Moment,
+        draws: &[u8; 66],
+        bindings: Option<&Bindings>,
+    ) -> Result<(), NoMemory>
+        ensures { IfOk result (λ _. authenticator.fits (authenticator_of credential.now stamp draws.now (option_map (λ b. b.now) bindings.entry)) ≡ true) }
+    {
+        let hash = binding_hash(bindings);
+        let subkey = subkey_of(credential.session.etype(), draws);
+        let _octets = authenticator_octets(alloc, &credential.client, stamp, &subkey, &hash)?;
+        Ok(())
     }
 }
