@@ -1,6 +1,6 @@
 -- What the shared state is asked, one question after another, and what a book and a list answer.
-use Rattle.std.specs.Prelude.{◌≡◌, ◌≢◌, ℕ, Bool, List, [], ◌∷◌, drop, length, map, max, Option, Result, OnErr}
-use Rattle.context_table.specs.Places.{IsPast}
+use Rattle.std.specs.Prelude.{◌≡◌, ◌≢◌, ℕ, Bool, List, [], ◌∷◌, drop, length, map, max, Option, None, Result, OnErr, IfOk, IsOk}
+use Rattle.context_table.specs.Places.{IsPast, slot_at, HasValue, Marks, KeepsOthers}
 use Rattle.accept_book.specs.History.{standing}
 use Rattle.accept_book.specs.Answers.{or_refused, after, admitted, receipt_of}
 use Rattle.accept_book.specs.Entering.{given, gained}
@@ -47,12 +47,15 @@ pub record BookStepped (old new : BookOf) (id : Option ℕ) (token : List ℕ) (
 
 pub record BookLooked (old new : BookOf) (id now : ℕ) (result : Result Lease LookRefusal) : Type 0 where
   pub answer : LeasedBy (standing id old.core.history) id now result
+  pub value : IfOk result (λ lease. HasValue (slot_at old.core.table id) lease.outcome lease.ends)
   pub looked : IsLooked old.core now new.core
   pub setup : new.setup ≡ old.setup
 
 pub record BookAdmitted (old new : BookOf) (lease : Lease) (seq procedure : ℕ) (args : List ℕ) (result : Result Admitted AdmitRefusal) : Type 0 where
   pub answer : result ≡ or_refused (lease_refused old.core lease seq) (admitted old.core.history (Call lease.id seq procedure args))
   pub history : new.core.history ≡ after (lease_refused old.core lease seq) (Call lease.id seq procedure args) old.core.history
+  pub slot : IsOk result → Marks (slot_at old.core.table lease.id) (slot_at new.core.table lease.id) seq
+  pub others : KeepsOthers old.core.table new.core.table lease.id
   pub unchanged : OnErr result (new ≡ old)
   pub keeps : Keeps old.core new.core
   pub setup : new.setup ≡ old.setup
@@ -60,6 +63,8 @@ pub record BookAdmitted (old new : BookOf) (lease : Lease) (seq procedure : ℕ)
 pub record BookEnded (old new : BookOf) (lease : Lease) (seq : ℕ) (result : Result Receipt AdmitRefusal) : Type 0 where
   pub answer : result ≡ or_refused (lease_refused old.core lease seq) (receipt_of old.core.history (Ended lease.id (Destroyed seq)))
   pub history : new.core.history ≡ after (lease_refused old.core lease seq) (Ended lease.id (Destroyed seq)) old.core.history
+  pub gone : IsOk result → slot_at new.core.table lease.id ≡ None
+  pub others : KeepsOthers old.core.table new.core.table lease.id
   pub unchanged : OnErr result (new ≡ old)
   pub keeps : Keeps old.core new.core
   pub setup : new.setup ≡ old.setup
