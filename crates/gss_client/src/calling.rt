@@ -95,9 +95,10 @@ fn call(
     )
 }
 
-/// A creation call with this token.
+/// The record of a creation call, RFC 2203 section 5.2.2: `proc` is 1 in a first call, whose handle has no octets, and 2 afterwards. The token has at
+/// most 65,536 octets and the handle 64, so that the record has at most 131,072.
 #[tactic(auto, unfolding(crate::specs::Calling::creation_call))]
-pub(crate) fn creation_call(
+pub fn creation_call(
     alloc: Global,
     xid: u32,
     proc: u32,

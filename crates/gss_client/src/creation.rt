@@ -17,7 +17,7 @@ use sec_base::Octets;
 use spnego_core::{InitEnd, InitStep, Outcome};
 use std::alloc::Global;
 
-/// What the next creation call is made of.
+/// What the next creation call is made of: as `creation_step` gives it, a handle of at most 64 octets and a token of at most 65,536.
 #[derive(Debug, Drop)]
 pub struct Offer {
     /// The end that takes the reply's token.
@@ -34,12 +34,12 @@ pub struct Granted<'a> {
     pub result: InitRes,
 }
 
-/// What a reply to a creation call leads to.
+/// What a reply to a creation call leads to (RFC 2203 section 5.2.3).
 #[derive(Debug, Drop)]
 pub enum Created {
     /// A further call is due.
     Going(Offer),
-    /// The context stands.
+    /// The context stands, by this handle of the server's, of at most 64 octets.
     Stands(Outcome, Octets),
 }
 
@@ -113,9 +113,10 @@ fn by_step(answer: &Answer<'_>, granted: InitRes, step: InitStep) -> Result<Crea
     }
 }
 
-/// What the reply of this transaction number leads to.
+/// What a record leads to as the reply to the creation call of this transaction number, RFC 2203 section 5.2.3: its result's token is the end's next
+/// one, and the reply that finishes has the acceptor's MIC over the window as its verifier. The end is spent, whatever the answer.
 #[tactic(auto, unfolding(crate::specs::Judging::creation_step))]
-pub(crate) fn creation_step(
+pub fn creation_step(
     alloc: Global,
     end: InitEnd,
     xid: u32,

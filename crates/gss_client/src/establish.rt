@@ -14,9 +14,8 @@ use crate::refusal::{ClientRefusal, not_negotiated};
 use crate::service::Service;
 use crate::session::{Session, xid_after};
 use crate::start::Start;
-use krb_tokens::{MicCache, Side};
 use sec_base::{Link, NoMemory, Octets};
-use spnego_core::{InitEnd, Outcome};
+use spnego_core::InitEnd;
 use std::alloc::Global;
 
 /// The procedure of a first creation call.
@@ -92,26 +91,15 @@ fn establish<L: Link>(
             next,
             left - 1,
         ),
-        Ok(Created::Stands(outcome, handle)) => {
-            let keys = keys_of(&outcome);
-            Ok(Session {
-                outcome,
-                service,
-                handle,
-                number: first,
-                xid: xid_after(xid),
-                keys,
-            })
-        }
+        Ok(Created::Stands(outcome, handle)) => Ok(Session::begun(
+            service,
+            first,
+            xid_after(xid),
+            outcome,
+            handle,
+        )),
         Err(refusal) => Err(refusal),
     }
-}
-
-/// The keys of the initiator's MIC tokens.
-fn keys_of(outcome: &Outcome) -> MicCache {
-    let mut keys = MicCache::empty();
-    keys.keep(&outcome.token_end(Side::Initiator));
-    keys
 }
 
 impl Session {

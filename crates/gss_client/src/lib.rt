@@ -17,10 +17,12 @@ mod start;
 #[cfg(test)]
 mod tests;
 
+pub use calling::creation_call;
 pub use conversation::{Conversation, Parting, Talk};
+pub use creation::{Created, Offer, creation_step};
 pub use laws::{prove_count_law, prove_result_law};
 pub use procedure::{Procedure, opaque_alone};
 pub use refusal::{ClientRefusal, Denial, ReplyWhy};
 pub use service::Service;
-pub use session::Session;
+pub use session::{Session, xid_after};
 pub use start::Start;

@@ -1,18 +1,19 @@
 //! A session: a context of RPCSEC_GSS with a server, RFC 2203 section 5.
 
-ghost use Rattle.std.specs.Prelude.{◌≡◌, ◌≤◌, false, true, IsTrue, IsErrOf, length};
+ghost use Rattle.std.specs.Prelude.{◌≡◌, ◌≤◌, false, true, IsTrue, IsErrOf, IfOk, length};
 ghost use Rattle.sec_base.specs.Answers.{Rose, Gives};
 ghost use Rattle.gss_client.specs.Judging.{result_taken};
-ghost use Rattle.gss_client.specs.Exchanging.{Talks};
+ghost use Rattle.gss_client.specs.Calling.{data_call};
+ghost use Rattle.gss_client.specs.Exchanging.{Talks, IsHandle};
 ghost use Rattle.gss_client.specs.Session.{xid_after, session_after};
-ghost use Rattle.gss_client.specs.Talk.{calls, destroys};
+ghost use Rattle.gss_client.specs.Talk.{begun, calls, destroys};
 
 use crate::calling::{data_call, destroy_call};
 use crate::exchange::exchange;
 use crate::refusal::ClientRefusal;
 use crate::results::{call_result, destroyed_in};
 use crate::service::Service;
-use krb_tokens::MicCache;
+use krb_tokens::{MicCache, Side};
 use sec_base::{Link, NoMemory, Octets};
 use spnego_core::Outcome;
 use std::alloc::Global;
@@ -41,14 +42,45 @@ impl Model for Session {
     ghost invariant = { λ s. (length s.handle ≤ 64) × (s.number ≤ 0x80000000) };
 }
 
-/// The transaction number after this one.
-pub(crate) fn xid_after(xid: u32) -> u32
+/// The transaction number after this one: it counts by one, and 0 follows the greatest word.
+pub fn xid_after(xid: u32) -> u32
     ensures { result ≡ xid_after xid }
 {
     xid.wrapping_add(1)
 }
 
+/// The keys of the initiator's MIC tokens.
+fn keys_of(outcome: &Outcome) -> MicCache {
+    let mut keys = MicCache::empty();
+    keys.keep(&outcome.token_end(Side::Initiator));
+    keys
+}
+
 impl Session {
+    /// The session of a context that stands, by the server's handle of at most 64 octets: its next call has the number `first`, at most 0x80000000, and
+    /// the transaction number `xid`. Where calls go by a `Link`, `create` begins it.
+    pub fn begun(
+        service: Service,
+        first: u32,
+        xid: u32,
+        outcome: Outcome,
+        handle: Octets,
+    ) -> Session
+        requires number { first ≤ 0x80000000 }
+        requires handle { IsHandle handle }
+        ensures { result ≡ begun service first xid outcome handle }
+    {
+        let keys = keys_of(&outcome);
+        Session {
+            outcome,
+            service,
+            handle,
+            number: first,
+            xid,
+            keys,
+        }
+    }
+
     /// What both ends agree on.
     pub fn outcome(&self) -> &Outcome
         ensures { result.now ≡ self.now.outcome }
@@ -64,8 +96,24 @@ impl Session {
         self.number
     }
 
-    /// The session behind a call.
-    fn next(self) -> Session
+    /// The record of the next call, of a procedure with these arguments, RFC 2203 section 5.3.1: at most 131,072 octets. The session stays where it is,
+    /// and `next` leads behind the call. `confounder` are random octets, used once; only calls by `Service::Privacy` use them.
+    pub fn write_call(
+        &self,
+        alloc: Global,
+        procedure: u32,
+        args: &[u8],
+        confounder: &[u8; 16],
+    ) -> Result<Octets, NoMemory>
+        requires { length args.now ≤ 65540 }
+        ensures value { IfOk result (λ o. o ≡ data_call self.now procedure args.now confounder.now) }
+        ensures size { IfOk result (λ o. length o ≤ 131072) }
+    {
+        data_call(alloc, self, procedure, args, confounder)
+    }
+
+    /// The session behind a call: the next number and transaction number. Behind the call of number 0x7fffffff no call is left.
+    pub fn next(self) -> Session
         requires { self.number ≤ 0x7fffffff }
         ensures { result ≡ session_after self }
     {

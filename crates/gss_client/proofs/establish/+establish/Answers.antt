@@ -10,7 +10,7 @@ returns-in-Ok-Going-clause-told g t c = λ told.
 
 pub returns-in-Ok-Stands-clause-told : goal.returns-in-Ok-Stands-clause-told
 returns-in-Ok-Stands-clause-told g t c = λ told.
-    rw c.xid_after-in-Ok-Stands.ensures (established c.args.left c.args.service c.args.first c.args.xid c.args.proc c.args.offer c.in-Ok-Stands.outcome c.in-Ok-Stands.handle _ _ (omega (arith, c.if-left-eq0.false))
+    rw (c.begun.ensures, c.xid_after-in-Ok-Stands.ensures) (established c.args.left c.args.service c.args.first c.args.xid c.args.proc c.args.offer c.in-Ok-Stands.outcome c.in-Ok-Stands.handle _ _ (omega (arith, c.if-left-eq0.false))
     (rw c.in-Ok-Stands.field-0-is at (c.in-Ok-Stands.ensures.told told)))
 
 pub returns-in-Err-clause-told : goal.returns-in-Err-clause-told
