@@ -1,0 +1,4 @@
+use Rattle.world_laws.proofs.initiators.ask.Goals as goal
+
+pub returns-in-Err : goal.returns-in-Err
+returns-in-Err c = c.lost.ensures _ _

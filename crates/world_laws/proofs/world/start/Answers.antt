@@ -1,0 +1,12 @@
+use Rattle.std.proofs.Common.{rules, ap, sym, ◌∙◌, Some}
+use Rattle.std.proofs.lemmas.Option.{slice_get-get_or}
+use Rattle.world_laws.specs.Passing.{started_from}
+use Rattle.world_laws.specs.Turning.{happened_of}
+use Rattle.world_laws.proofs.Turns.{turned}
+use Rattle.world_laws.proofs.world.start.Goals as goal
+
+pub returns : goal.returns
+returns c =
+    turned started_from (happened_of c.start_from-moves.result.happened) c.args.stages.now.items c.args.i c.replace-stage.result c.start_from-moves.result.stage c.replace-stage.new.dest
+    (slice_get-get_or c.args.stages.now.items c.args.i _ (search rules) ∙ ap (λ s. Some s) (sym (c.replace-stage.ensures.value ∙ c.index_mut.ensures.value)))
+    c.start_from-moves.ensures

@@ -1,0 +1,138 @@
+-- Agreement: who completed on a guarded key has one partner, and both have one outcome.
+use Rattle.std.specs.Prelude.{◌≡◌, ℕ, List, [], slice_get, Some}
+use Rattle.gss_base.specs.Bindings.{hash_of}
+use Rattle.gss_base.specs.declared.mech.MechKind.{MechKind}
+use Rattle.gss_base.specs.declared.mech.MechKind.TheVariants as kinds
+use Rattle.krb_files.specs.Granted.{Granted}
+use Rattle.ap_exchange.specs.declared.judged.Judged.{Judged}
+use Rattle.ap_exchange.specs.Request.{label_of}
+use Rattle.scram_mech.specs.Acceptor.{AcceptModel}
+use Rattle.spnego_core.specs.declared.outcome.Outcome.{Outcome}
+use Rattle.spnego_core.specs.declared.setup.InitSetup.{InitSetup}
+use Rattle.spnego_core.specs.declared.setup.MechCred.TheVariants as creds
+use Rattle.spnego_core.specs.AcceptMech.{Basis, ByRequest, ByProof}
+use Rattle.spnego_core.specs.Choice.{best}
+use Rattle.spnego_core.specs.InitMech.{cred_for}
+use Rattle.spnego_core.specs.Initiating.{own_list}
+use Rattle.context_table.specs.declared.slot.SlotState.TheVariants.{Complete}
+use Rattle.context_table.specs.Places.{slot_at}
+use Rattle.accept_book.specs.declared.entry.Entry.TheVariants.{Settled}
+use Rattle.accept_book.specs.Booking.{names_of}
+use Rattle.accept_book.specs.History.{entry_at}
+use Rattle.accept_book.specs.Stepping.{context_of}
+use Rattle.world_laws.specs.declared.event.WorldEvent.{WorldEvent}
+use Rattle.world_laws.specs.State.{Context, World}
+use Rattle.world_laws.specs.Events.{Run, Begins}
+use Rattle.world_laws.specs.Premises.{Marking, GuardedBasis, OnGuarded, NoForgery, Fresh, Completed, Proved, HasAuth}
+
+-- ---- partners
+
+-- the context took the initiator's authenticator: the session key and the stamp are its own
+pub record TookRequest (own : InitSetup) (request : Judged) : Type 0 where
+  pub credential : Granted
+  pub is_own : cred_for own.list kinds.Kerberos ≡ Some (creds.Kerberos credential)
+  pub session : request.session ≡ credential.session
+  pub stamp : request.stamp ≡ own.stamp
+
+-- the context took the initiator's proof: both have one AuthMessage
+pub record TookProof (w : World) (own : InitSetup) (end : AcceptModel) (text : List ℕ) : Type 0 where
+  pub auth : List ℕ
+  pub taken : HasAuth end text auth
+  pub proved : Proved w own auth
+
+abbrev pub Partner : World → InitSetup → Basis → Type 0
+Partner w own (ByRequest request) = TookRequest own request
+Partner w own (ByProof end text) = TookProof w own end text
+
+-- a context at this place of what was fixed is the initiator's partner, and they agree: on the mechanism, both names, the key and whose it is, and the
+-- hash of the bindings
+pub record HasPartner (w : World) (own : InitSetup) (outcome : Outcome) : Type 0 where
+  pub place : ℕ
+  pub context : Context
+  pub there : slice_get w.fixed place ≡ Some context
+  pub partner : Partner w own context.fixed.basis
+  pub agree : outcome ≡ context.fixed.outcome
+
+-- ---- by one mechanism
+
+-- who completed by this mechanism on a guarded key has a partner of this mechanism, and no second one
+pub record HasOneBy (marking : Marking) (w : World) (own : InitSetup) (outcome : Outcome) : Type 0 where
+  pub has : HasPartner w own outcome
+  pub only : (other : ℕ) (x : Context) → slice_get w.fixed other ≡ Some x → x.fixed.outcome.mech ≡ outcome.mech → Partner w own x.fixed.basis → other ≡ has.place
+
+-- a context has an initiator whose authenticator or proof it took; its facts give the context's names and hash
+pub record NamesByTicket (own : InitSetup) (outcome : Outcome) : Type 0 where
+  pub credential : Granted
+  pub is_own : cred_for own.list kinds.Kerberos ≡ Some (creds.Kerberos credential)
+  pub initiator : outcome.initiator ≡ label_of credential.client
+  pub acceptor : outcome.acceptor ≡ label_of credential.server
+
+pub record NamesByAccount (own : InitSetup) (outcome : Outcome) : Type 0 where
+  pub user : List ℕ
+  pub password : List ℕ
+  pub is_own : cred_for own.list kinds.Scram ≡ Some (creds.Scram user password)
+  pub initiator : outcome.initiator ≡ user
+  pub acceptor : outcome.acceptor ≡ []
+
+abbrev pub NamesBy : MechKind → InitSetup → Outcome → Type 0
+NamesBy kinds.Kerberos own outcome = NamesByTicket own outcome
+NamesBy kinds.Scram own outcome = NamesByAccount own outcome
+
+pub record HasInitiator (w : World) (context : Context) : Type 0 where
+  pub initiator : ℕ
+  pub own : InitSetup
+  pub there : slice_get w.facts initiator ≡ Some own
+  pub partner : Partner w own context.fixed.basis
+  pub names : NamesBy context.fixed.outcome.mech own context.fixed.outcome
+  pub hash : context.fixed.outcome.hash ≡ hash_of own.bindings
+  -- nobody else's
+  pub only : (other : ℕ) (next : InitSetup) → slice_get w.facts other ≡ Some next → Partner w next context.fixed.basis → other ≡ initiator
+
+-- agreement by one mechanism alone
+pub record AgreementBy (kind : MechKind) (marking : Marking) (w : World) : Type 0 where
+  pub initiators : (i : ℕ) (own : InitSetup) (outcome : Outcome) → Completed w i own outcome → outcome.mech ≡ kind → OnGuarded marking own kind → HasOneBy marking w own outcome
+  pub contexts : (place : ℕ) (x : Context) → slice_get w.fixed place ≡ Some x → x.fixed.outcome.mech ≡ kind → GuardedBasis marking x.fixed.basis → HasInitiator w x
+
+-- after every run, for every marking
+abbrev pub AgreementLawBy : MechKind → Type 0
+AgreementLawBy kind = (marking : Marking) (old : World) (events : List WorldEvent) (new : World) (run : Run old events new)
+    → Begins old → NoForgery marking old events new run → Fresh marking new → AgreementBy kind marking new
+
+-- ---- with the negotiation
+
+-- it has a partner on a guarded key, and each partner on a guarded key, of whatever mechanism, is this one; the mechanism is the first of the own list
+-- that the acceptor offers
+pub record HasOne (marking : Marking) (w : World) (own : InitSetup) (outcome : Outcome) : Type 0 where
+  pub has : HasPartner w own outcome
+  pub guarded : GuardedBasis marking has.context.fixed.basis
+  pub best_is : best w.book.setup.offer (own_list own) ≡ Some outcome.mech
+  pub only : (other : ℕ) (x : Context) → slice_get w.fixed other ≡ Some x → Partner w own x.fixed.basis → GuardedBasis marking x.fixed.basis → other ≡ has.place
+
+-- where the context's initiator completed on a guarded key, both outcomes agree
+pub record Meets (marking : Marking) (w : World) (context : Context) : Type 0 where
+  pub has : HasInitiator w context
+  pub agree : (outcome : Outcome) → Completed w has.initiator has.own outcome → OnGuarded marking has.own outcome.mech → outcome ≡ context.fixed.outcome
+
+-- a context was fixed with this id, outcome and end
+pub record FixedAs (w : World) (id : ℕ) (outcome : Outcome) (ends : ℕ) : Type 0 where
+  pub place : ℕ
+  pub context : Context
+  pub there : slice_get w.fixed place ≡ Some context
+  pub id_is : context.id ≡ id
+  pub outcome_is : context.fixed.outcome ≡ outcome
+  pub ends_is : context.fixed.lasts ≡ ends
+
+pub record Agreement (marking : Marking) (w : World) : Type 0 where
+  pub initiators : (i : ℕ) (own : InitSetup) (outcome : Outcome) → Completed w i own outcome → OnGuarded marking own outcome.mech → HasOne marking w own outcome
+  -- no two share one
+  pub apart : (i j : ℕ) (own other : InitSetup) (outcome last : Outcome) (one : Completed w i own outcome) (on : OnGuarded marking own outcome.mech) (two : Completed w j other last) (also : OnGuarded marking other last.mech)
+      → (initiators i own outcome one on).has.place ≡ (initiators j other last two also).has.place → i ≡ j
+  pub contexts : (place : ℕ) (x : Context) → slice_get w.fixed place ≡ Some x → GuardedBasis marking x.fixed.basis → Meets marking w x
+  -- what the log says was settled was fixed, with the mechanism, the names and the end in the log; and what a complete context has was fixed
+  pub settled : (place id : ℕ) (mech : MechKind) (names : List ℕ) (ends at : ℕ) → entry_at place w.book.core.history ≡ Some (Settled id mech names ends at)
+      → (outcome : Outcome) × FixedAs w id outcome ends × (outcome.mech ≡ mech) × (names_of outcome ≡ names)
+  pub complete : (id : ℕ) (outcome : Outcome) (ends : ℕ) → context_of (slot_at w.book.core.table id) ≡ Some (record { state = Complete outcome; ends = ends }) → FixedAs w id outcome ends
+
+abbrev pub AgreementLaw : Type 0
+AgreementLaw = (marking : Marking) (old : World) (events : List WorldEvent) (new : World) (run : Run old events new)
+    → Begins old → NoForgery marking old events new run → Fresh marking new → Agreement marking new

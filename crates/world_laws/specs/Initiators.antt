@@ -1,0 +1,127 @@
+-- What initiators do: they start, take replies to their creation calls, and call.
+use Rattle.std.specs.Prelude.{ℕ, ◌+◌, ◌*◌, ◌==◌, true, if◌then◌else◌, List, [], ◌∷◌, ◌++◌, map, replicate, take, Option, Some, None, Result, Ok, Err}
+use Rattle.krb_derive.specs.Making.{Making, check_making}
+use Rattle.krb_tokens.specs.declared.end.Side.TheVariants.{Acceptor}
+use Rattle.krb_tokens.specs.End.{sign_usage}
+use Rattle.krb_tokens.specs.Makings.{mic_making, wrap_making}
+use Rattle.rpc_msgs.specs.Words.{word}
+use Rattle.scram_mech.specs.MechMaking.{MechMaking, typed}
+use Rattle.spnego_core.specs.declared.init_end.InitEnd.{InitEnd}
+use Rattle.spnego_core.specs.declared.outcome.Outcome.{Outcome}
+use Rattle.spnego_core.specs.declared.refusal.NegRefusal.{NegRefusal}
+use Rattle.spnego_core.specs.declared.setup.InitSetup.{InitSetup}
+use Rattle.spnego_core.specs.Initiating.{Started, Initiated, init_start, init_step}
+use Rattle.gss_client.specs.declared.creation.Created.{Created}
+use Rattle.gss_client.specs.declared.creation.Created.TheVariants as created
+use Rattle.gss_client.specs.declared.refusal.ClientRefusal.{ClientRefusal}
+use Rattle.gss_client.specs.declared.service.Service.TheVariants.{Integrity}
+use Rattle.gss_client.specs.Calling.{creation_call, header_of, data_call, own_end}
+use Rattle.gss_client.specs.Judging.{GrantedValue, granted_in, creation_step}
+use Rattle.gss_client.specs.Session.{SessionState, session_after, xid_after}
+use Rattle.gss_client.specs.Talk.{begun}
+use Rattle.world_laws.specs.declared.stage.Stage.{Stage}
+use Rattle.world_laws.specs.declared.stage.Stage.TheVariants as stages
+use Rattle.world_laws.specs.declared.event.Happened.{Happened}
+use Rattle.world_laws.specs.declared.event.Happened.TheVariants.{Sent, Completed, Refused}
+use Rattle.world_laws.specs.Deeds.{Deed}
+
+-- where the initiator is then, and where it is if memory is wanted, in which case nothing else is done; the answer; what is handed out and what was
+-- found verified
+pub record Moved : Type 0 where
+  pub stage : Stage
+  pub lost : Stage
+  pub answer : Happened
+  pub makes : List MechMaking
+  pub found : List MechMaking
+
+abbrev pub did : Moved → Deed
+did moved = record { answer = Some moved.answer; makes = moved.makes; found = moved.found; opened = None; fixes = None }
+
+abbrev pub refused : Moved
+refused = record { stage = stages.Over; lost = stages.Over; answer = Refused; makes = []; found = [] }
+
+-- ---- it starts: the first creation call has its first token
+
+abbrev pub started_by : Result Started NegRefusal → Moved
+started_by (Err refusal) = refused
+started_by (Ok started) = record {
+  stage = stages.Asks 1 started.end;
+  lost = stages.Over;
+  answer = Sent (creation_call 1 1 [] started.token);
+  makes = started.makes;
+  found = [];
+}
+
+abbrev pub starts : InitSetup → Moved
+starts own = started_by (init_start own)
+
+-- ---- it takes a reply to its creation call
+
+-- the step of its end, where the reply came to one
+abbrev pub initiated_by : Result Initiated NegRefusal → Option Initiated
+initiated_by (Err refusal) = None
+initiated_by (Ok taken) = Some taken
+
+abbrev pub initiated_with : InitEnd → Result GrantedValue ClientRefusal → Option Initiated
+initiated_with end (Err refusal) = None
+initiated_with end (Ok granted) = initiated_by (init_step end granted.result.token)
+
+abbrev pub initiated : ℕ → InitEnd → List ℕ → Option Initiated
+initiated xid end octets = initiated_with end (granted_in xid octets)
+
+abbrev pub handed_out : Option Initiated → List MechMaking
+handed_out None = []
+handed_out (Some taken) = taken.makes
+
+abbrev pub verified : Option Initiated → List MechMaking
+verified None = []
+verified (Some taken) = taken.found
+
+-- the MIC over the window in the last reply
+abbrev pub window_found : Outcome → Result GrantedValue ClientRefusal → List MechMaking
+window_found outcome (Err refusal) = []
+window_found outcome (Ok granted) =
+    typed (check_making outcome.key (sign_usage Acceptor) (word granted.result.window ++ take 16 granted.answer.verf)) ∷ []
+
+abbrev pub created_by : ℕ → InitEnd → List ℕ → Result Created ClientRefusal → Moved
+created_by xid end octets (Err refusal) = refused
+created_by xid end octets (Ok (created.Going offer)) = record {
+  stage = stages.Asks (xid_after xid) offer.end;
+  lost = stages.Over;
+  answer = Sent (creation_call (xid_after xid) 2 offer.handle offer.token);
+  makes = handed_out (initiated xid end octets);
+  found = verified (initiated xid end octets);
+}
+created_by xid end octets (Ok (created.Stands outcome handle)) = record {
+  stage = stages.Stands (begun Integrity 1 (xid_after xid) outcome handle);
+  lost = stages.Over;
+  answer = Completed outcome;
+  makes = handed_out (initiated xid end octets);
+  found = verified (initiated xid end octets) ++ window_found outcome (granted_in xid octets);
+}
+
+abbrev pub takes : ℕ → InitEnd → List ℕ → Moved
+takes xid end octets = created_by xid end octets (creation_step end xid octets)
+
+-- ---- it calls, by integrity
+
+-- the MIC over a header: of this procedure of RPCSEC_GSS, service, and procedure
+abbrev pub header_making : SessionState → ℕ → ℕ → ℕ → Making
+header_making s proc service procedure = mic_making (own_end s) (2 * s.number) (header_of s proc service procedure)
+
+-- what a caller may hand out with a number: the headers of its call by each service that protects it, which for procedure 0 may be none; the header of
+-- the destruction; the MIC over the number and the arguments, and both sealed
+abbrev pub call_makings : SessionState → ℕ → List ℕ → List Making
+call_makings s procedure args =
+    (if procedure == 0 then header_making s 0 1 procedure ∷ [] else [])
+    ++ header_making s 0 2 procedure ∷ header_making s 0 3 procedure ∷ header_making s 3 1 0
+    ∷ mic_making (own_end s) (2 * s.number + 1) (word s.number ++ args) ∷ wrap_making (own_end s) (2 * s.number + 1) true (word s.number ++ args) ∷ []
+
+abbrev pub calls : SessionState → ℕ → List ℕ → Moved
+calls s procedure args = record {
+  stage = stages.Stands (session_after s);
+  lost = stages.Left s;
+  answer = Sent (data_call s procedure args (replicate 16 0));
+  makes = map typed (call_makings s procedure args);
+  found = [];
+}

@@ -1,0 +1,16 @@
+pub mod State
+pub mod Deeds
+pub mod Initiators
+pub mod Lanes
+pub mod Setups
+pub mod Events
+pub mod Premises
+pub mod Agreement
+pub mod Origin
+pub mod Moving
+pub mod Turning
+pub mod Passing
+pub mod Showing
+pub mod Parting
+pub mod Below
+pub mod Promised

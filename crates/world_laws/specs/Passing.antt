@@ -1,0 +1,84 @@
+-- What an event makes of the parts of a world that a program holds.
+use Rattle.std.specs.Prelude.{◌≡◌, ◌⊎◌, ℕ, Bool, true, false, nat_le, List, slice_set, Option, Some, None}
+use Rattle.accept_book.specs.Booking.{BookOf}
+use Rattle.gss_client.specs.Session.{SessionState}
+use Rattle.world_laws.specs.declared.event.Happened.{Happened}
+use Rattle.world_laws.specs.declared.event.Happened.TheVariants.{Nothing}
+use Rattle.world_laws.specs.declared.stage.Stage.{Stage}
+use Rattle.world_laws.specs.declared.stage.Stage.TheVariants as stages
+use Rattle.world_laws.specs.State.{InHand}
+use Rattle.world_laws.specs.Events.{IsBook}
+use Rattle.world_laws.specs.Initiators.{Moved, starts, takes, calls}
+use Rattle.world_laws.specs.Turning.{Turned}
+
+-- ---- the move of an initiator by its stage, where the event is for it
+
+abbrev pub started_from : Stage → Option Moved
+started_from (stages.Ready own) = Some (starts own)
+started_from (stages.Asks xid end) = None
+started_from (stages.Stands s) = None
+started_from (stages.Left s) = None
+started_from stages.Over = None
+
+abbrev pub taken_from : List ℕ → Stage → Option Moved
+taken_from octets (stages.Ready own) = None
+taken_from octets (stages.Asks xid end) = Some (takes xid end octets)
+taken_from octets (stages.Stands s) = None
+taken_from octets (stages.Left s) = None
+taken_from octets stages.Over = None
+
+-- no number is left after 0x7fffffff
+abbrev pub called_with : Bool → SessionState → ℕ → List ℕ → Option Moved
+called_with true s procedure args = Some (calls s procedure args)
+called_with false s procedure args = None
+
+abbrev pub called_from : ℕ → List ℕ → Stage → Option Moved
+called_from procedure args (stages.Ready own) = None
+called_from procedure args (stages.Asks xid end) = None
+called_from procedure args (stages.Stands s) = called_with (nat_le s.number 0x7fffffff) s procedure args
+called_from procedure args (stages.Left s) = None
+called_from procedure args stages.Over = None
+
+-- it moves so, or memory was wanted; without a move nothing happens
+abbrev pub TurnsTo : Option Moved → Option Happened → Stage → Stage → Type 0
+TurnsTo None answer old new = (answer ≡ Some Nothing) × (new ≡ old)
+TurnsTo (Some moved) answer old new = ((answer ≡ Some moved.answer) × (new ≡ moved.stage)) ⊎ ((answer ≡ None) × (new ≡ moved.lost))
+
+abbrev pub CallsTo : Bool → SessionState → ℕ → List ℕ → Stage → Option Happened → Type 0
+CallsTo left s procedure args new answer = TurnsTo (called_with left s procedure args) answer (stages.Stands s) new
+
+-- the initiator of a place, where there is one
+abbrev pub of_stage : (Stage → Option Moved) → Option Stage → Option Moved
+of_stage move None = None
+of_stage move (Some stage) = move stage
+
+abbrev pub Turns : Option Moved → ℕ → Option Happened → List Stage → List Stage → Type 0
+Turns None i answer old new = (answer ≡ Some Nothing) × (new ≡ old)
+Turns (Some moved) i answer old new =
+    ((answer ≡ Some moved.answer) × (new ≡ slice_set old i moved.stage)) ⊎ ((answer ≡ None) × (new ≡ slice_set old i moved.lost))
+
+-- ---- lanes
+
+-- the book, and the records in hand
+pub record Desk : Type 0 where
+  pub book : Option BookOf
+  pub lanes : List (Option InHand)
+
+-- a lane goes on with the record that it has in hand, or with the one that was taken
+abbrev pub hand_or : Option InHand → InHand → InHand
+hand_or None taken = taken
+hand_or (Some hand) taken = hand
+
+pub record LaneGoes (before : Option InHand) (lane : ℕ) (taken : InHand) (answer : Option Happened) (old new : Desk) : Type 0 where
+  pub book : BookOf
+  pub next : BookOf
+  pub was : old.book ≡ Some book
+  pub is : new.book ≡ Some next
+  pub left : Option InHand
+  pub turned : Turned book (hand_or before taken) next left answer
+  pub legal : IsBook next
+  pub lanes : new.lanes ≡ slice_set old.lanes lane left
+
+abbrev pub LaneTurns : Option (Option InHand) → ℕ → InHand → Option Happened → Desk → Desk → Type 0
+LaneTurns None lane taken answer old new = (answer ≡ Some Nothing) × (new ≡ old)
+LaneTurns (Some before) lane taken answer old new = LaneGoes before lane taken answer old new

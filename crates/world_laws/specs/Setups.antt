@@ -1,0 +1,30 @@
+-- What the setups that a world is begun with are: what the types of their parts say of them.
+use Rattle.std.specs.Prelude.{◌≡◌, ℕ, true, List, slice_get, Option, Some}
+use Rattle.gss_base.specs.declared.mech.MechKind.TheVariants as kinds
+use Rattle.krb_files.specs.Granted.{Granted}
+use Rattle.krb_msgs.specs.Authenticator.{authenticator}
+use Rattle.ap_exchange.specs.Request.{authenticator_of}
+use Rattle.scram_mech.specs.declared.verifiers.Verifier.{Verifier}
+use Rattle.scram_mech.specs.Grammar.{AreOctets}
+use Rattle.scram_mech.specs.VerifierFile.{IsLine}
+use Rattle.spnego_core.specs.declared.setup.InitSetup.{InitSetup}
+use Rattle.spnego_core.specs.declared.setup.MechCred.{MechCred}
+use Rattle.spnego_core.specs.declared.setup.MechCred.TheVariants as creds
+use Rattle.spnego_core.specs.InitMech.{cred_for}
+use Rattle.world_laws.specs.State.{World}
+
+-- the moment, the names, the hash and the subkey of a request have a spelling
+abbrev pub IsSpelled : MechCred → ℕ → List ℕ → Option (List ℕ) → Type 0
+IsSpelled (creds.Kerberos credential) stamp draws bindings = authenticator.fits (authenticator_of credential stamp draws bindings) ≡ true
+IsSpelled (creds.Scram user password) stamp draws bindings = Unit {0}
+
+pub record IsSetup (own : InitSetup) : Type 0 where
+  pub draws : AreOctets 66 66 own.draws
+  pub bound : (application : List ℕ) → own.bindings ≡ Some application → AreOctets 1 32768 application
+  -- the moment, the names, the hash and the subkey of a request have a spelling
+  pub spelled : (credential : Granted) → cred_for own.list kinds.Kerberos ≡ Some (creds.Kerberos credential)
+      → authenticator.fits (authenticator_of credential own.stamp own.draws own.bindings) ≡ true
+
+pub record Proper (w : World) : Type 0 where
+  pub setups : (i : ℕ) (own : InitSetup) → slice_get w.facts i ≡ Some own → IsSetup own
+  pub lines : (place : ℕ) (line : Verifier) → slice_get w.book.setup.verifiers place ≡ Some line → IsLine line

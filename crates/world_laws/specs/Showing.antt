@@ -1,0 +1,49 @@
+-- What a world shows of itself, and that it came of a run.
+use Rattle.std.specs.Prelude.{◌≡◌, List, [], ◌∷◌, ◌++◌, Option, Some}
+use Rattle.spnego_core.specs.declared.setup.InitSetup.{InitSetup}
+use Rattle.accept_book.specs.Booking.{BookOf}
+use Rattle.world_laws.specs.declared.event.Happened.{Happened}
+use Rattle.world_laws.specs.declared.event.WorldEvent.{WorldEvent}
+use Rattle.world_laws.specs.declared.facts.InitFacts.{InitFacts}
+use Rattle.world_laws.specs.declared.stage.Stage.{Stage}
+use Rattle.world_laws.specs.Deeds.{Deed}
+use Rattle.world_laws.specs.Events.{Happens, Run, Begins}
+use Rattle.world_laws.specs.State.{InHand, World}
+
+-- what an initiator with these facts is begun with
+abbrev pub setup_of : InitFacts → InitSetup
+setup_of facts = record { list = facts.list; bindings = facts.bindings; stamp = facts.stamp; draws = facts.draws }
+
+-- all but what was fixed and what was handed out, which no program knows; and the events so far, the first one first
+pub record Shown : Type 0 where
+  pub facts : List InitSetup
+  pub stages : List Stage
+  pub book : Option BookOf
+  pub lanes : List (Option InHand)
+  pub events : List WorldEvent
+
+pub record Shows (w : World) (shown : Shown) : Type 0 where
+  pub facts : shown.facts ≡ w.facts
+  pub stages : shown.stages ≡ w.stages
+  pub book : shown.book ≡ Some w.book
+  pub lanes : shown.lanes ≡ w.lanes
+
+-- the events made, of a world before its first event, one that shows this
+pub record Ran (shown : Shown) : Type 0 where
+  pub start : World
+  pub begins : Begins start
+  pub now : World
+  pub run : Run start shown.events now
+  pub shows : Shows now shown
+
+-- the event happened, with this answer: from every world that shows the old, to one that shows the new
+pub record Follows (event : WorldEvent) (answer : Option Happened) (old : World) (shown : Shown) : Type 0 where
+  pub deed : Deed
+  pub new : World
+  pub happens : Happens old event deed new
+  pub answered : deed.answer ≡ answer
+  pub shows : Shows new shown
+
+pub record Steps (event : WorldEvent) (answer : Option Happened) (old new : Shown) : Type 0 where
+  pub events : new.events ≡ old.events ++ event ∷ []
+  pub follows : (w : World) → Shows w old → Follows event answer w new

@@ -1,0 +1,129 @@
+//! What initiators do: they start, take replies to their creation calls, and call. Each is judged as `gss_client` judges in a session over a link.
+
+ghost use Rattle.std.specs.Prelude.{◌≡◌, ◌≤◌, true, length};
+ghost use Rattle.spnego_core.specs.InitMech.{is_own_list};
+ghost use Rattle.gss_client.specs.Calling.{creation_call};
+ghost use Rattle.gss_client.specs.Exchanging.{FitsOffer};
+ghost use Rattle.world_laws.specs.Initiators.{starts, takes, calls};
+ghost use Rattle.world_laws.specs.Moving.{Goes, IsLost, IsMove};
+
+use crate::event::Happened;
+use crate::stage::Stage;
+use gss_client::{
+    ClientRefusal, Created, Offer, Service, Session, creation_call, creation_step, xid_after,
+};
+use sec_base::{NoMemory, Octets};
+use spnego_core::{InitEnd, InitSetup, NegRefusal};
+use std::alloc::Global;
+
+/// The procedure of a first creation call.
+const INIT: u32 = 1;
+
+/// The procedure of later ones.
+const CONTINUE_INIT: u32 = 2;
+
+/// The number of a session's first call.
+const FIRST: u32 = 1;
+
+/// What an initiator did.
+#[derive(Debug, Drop)]
+pub(crate) struct Moves {
+    /// Where it is then.
+    pub stage: Stage,
+    /// What came of it, unless memory was wanted.
+    pub happened: Result<Happened, NoMemory>,
+}
+
+/// It refused, and has ended.
+fn refused() -> Moves
+    ensures { Goes Stage.Over Happened.Refused Stage.Over result }
+{
+    Moves {
+        stage: Stage::Over,
+        happened: Ok(Happened::Refused),
+    }
+}
+
+/// Memory was wanted, and it has ended before its context stood.
+fn lost() -> Moves
+    ensures { IsLost result }
+{
+    Moves {
+        stage: Stage::Over,
+        happened: Err(NoMemory),
+    }
+}
+
+/// It hands out the creation call of this transaction number, whose reply is due.
+fn ask(alloc: Global, xid: u32, proc: u32, offer: Offer) -> Moves
+    requires { FitsOffer offer }
+    ensures { Goes (Stage.Asks xid offer.end) (Happened.Sent (creation_call xid proc offer.handle offer.token)) Stage.Over result }
+{
+    let Offer { end, handle, token } = offer;
+    match creation_call(alloc, xid, proc, handle.as_slice(), token.as_slice()) {
+        Ok(record) => Moves {
+            stage: Stage::Asks { xid, end },
+            happened: Ok(Happened::Sent(record)),
+        },
+        Err(NoMemory) => lost(),
+    }
+}
+
+/// Its context stands.
+fn stand(session: Session) -> Moves
+    ensures { Goes (Stage.Stands session) (Happened.Completed session.outcome) Stage.Over result }
+{
+    let outcome = *session.outcome();
+    Moves {
+        stage: Stage::Stands(session),
+        happened: Ok(Happened::Completed(outcome)),
+    }
+}
+
+/// An initiator that wasn't started hands out its first creation call.
+pub(crate) fn start(alloc: Global, own: InitSetup) -> Moves
+    requires { is_own_list own.list ≡ true }
+    ensures { IsMove (starts own) result }
+{
+    match InitEnd::start(alloc, own) {
+        Ok((end, token)) => {
+            let handle = Octets::from_vec(Vec::new(alloc));
+            ask(alloc, 1, INIT, Offer { end, handle, token })
+        }
+        Err(NegRefusal::NoMemory) => lost(),
+        Err(_) => refused(),
+    }
+}
+
+/// An initiator takes a record as the reply to its creation call of this transaction number. Its end is spent.
+pub(crate) fn take(alloc: Global, xid: u32, end: InitEnd, bytes: &[u8]) -> Moves
+    ensures { IsMove (takes xid end bytes.now) result }
+{
+    match creation_step(alloc, end, xid, bytes) {
+        Ok(Created::Going(offer)) => ask(alloc, xid_after(xid), CONTINUE_INIT, offer),
+        Ok(Created::Stands(outcome, handle)) => {
+            let xid = xid_after(xid);
+            stand(Session::begun(Service::Integrity, FIRST, xid, outcome, handle))
+        }
+        Err(ClientRefusal::NoMemory) => lost(),
+        Err(_) => refused(),
+    }
+}
+
+/// An initiator whose context stands hands out its next call. The arguments go in the clear with a MIC, so that no confounder is used.
+pub(crate) fn call(alloc: Global, session: Session, procedure: u32, args: &[u8]) -> Moves
+    requires number { session.number ≤ 0x7fffffff }
+    requires args { length args.now ≤ 65540 }
+    ensures { IsMove (calls session procedure args.now) result }
+{
+    match session.write_call(alloc, procedure, args, &[0; 16]) {
+        Ok(record) => Moves {
+            stage: Stage::Stands(session.next()),
+            happened: Ok(Happened::Sent(record)),
+        },
+        Err(NoMemory) => Moves {
+            stage: Stage::Left(session),
+            happened: Err(NoMemory),
+        },
+    }
+}

@@ -1,0 +1,21 @@
+//! The world: initiators, an acceptor's book, and a network that delivers any octets at any time; and what holds of it after every run.
+#![tactic(auto)]
+
+mod event;
+mod facts;
+mod initiators;
+#[cfg(test)]
+mod lane_tests;
+mod lanes;
+mod laws;
+mod setups;
+mod stage;
+#[cfg(test)]
+mod tests;
+mod turn;
+mod world;
+
+pub use event::{Happened, WorldEvent};
+pub use facts::InitFacts;
+pub use laws::{prove_agreement, prove_origin};
+pub use world::{World, WorldSetup};
