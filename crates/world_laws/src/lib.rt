@@ -8,6 +8,10 @@ mod initiators;
 mod lane_tests;
 mod lanes;
 mod laws;
+#[cfg(test)]
+mod run_helpers;
+#[cfg(test)]
+mod run_tests;
 mod setups;
 mod stage;
 #[cfg(test)]

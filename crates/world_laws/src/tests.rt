@@ -26,7 +26,7 @@ fn created() -> &'static [u8] {
 }
 
 /// A credential, within its limit.
-fn credential(alloc: Global) -> Result<Credential, Fail> {
+pub(crate) fn credential(alloc: Global) -> Result<Credential, Fail> {
     let ticket = ticket();
     if ticket.len() > 60_000 {
         return Err(Fail::from("a ticket"));
