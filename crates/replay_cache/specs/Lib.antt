@@ -1,2 +1,5 @@
 pub mod Taking
 pub mod Held
+pub mod Tally
+pub mod Heap
+pub mod Cells

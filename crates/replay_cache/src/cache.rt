@@ -1,8 +1,11 @@
-//! A cache as a list of the marks that are still held, oldest first.
-ghost use Rattle.std.specs.Prelude.{◌≡◌, ℕ, ◌<◌, ◌≤◌, List, [], ◌∷◌, ◌++◌, IfOk, length, max, nat_eq, vec_len, vec_capacity};
-ghost use Rattle.replay_cache.specs.Taking.{Holds, cache_verdict, with_taken, kept_of, place_of, is_recent, skew};
+//! A cache as cells in which marks are found by their names, with a heap of their times.
+ghost use Rattle.std.specs.Prelude.{◌≡◌, ℕ, ◌+◌, ◌^◌, ◌<◌, ◌≤◌, List, [], ◌∷◌, ◌++◌, IfOk, IfSome, length, max, Some, None, false, vec_len, slice_index_or};
+ghost use Rattle.replay_cache.specs.Taking.{Holds, cache_verdict, with_taken, kept_of, place_of, is_stale};
+ghost use Rattle.replay_cache.specs.Cells.{cell_at};
 ghost use Rattle.replay_cache.specs.declared.cache.TakenMark.{TakenMark};
 
+use crate::cells::{Cell, find_mark, free_step, home_place, needed_reach, place_at};
+use crate::times::Times;
 use gss_base::Mark;
 use sec_base::{Moment, NoMemory};
 use std::alloc::Global;
@@ -38,18 +41,24 @@ pub struct TakenMark {
 pub struct Cache {
     capacity: usize,
     greatest: Moment,
-    held: Vec<TakenMark>,
+    // how many marks were taken since the greatest moment rose
+    taken: u32,
+    cells: Vec<Cell>,
+    // for each home, how many steps after it at most its held marks lie
+    reaches: Vec<u32>,
+    times: Times,
 }
 
 impl Model for Cache {
     ghost use Rattle.replay_cache.specs.Taking.{Cached};
+    ghost use Rattle.replay_cache.specs.Cells.{before, next_turn};
     ghost use Rattle.replay_cache.specs.Held.{IsCache};
 
     ghost Value = { Cached };
 
-    ghost view = { λ c. record { capacity = c.capacity; greatest = c.greatest; held = c.held.items } };
+    ghost view = { λ c. record { capacity = c.capacity; greatest = c.greatest; held = before c.greatest c.cells.items (next_turn c.greatest c.taken) } };
 
-    ghost invariant = { λ c. IsCache c.capacity c.held };
+    ghost invariant = { λ c. IsCache c.capacity c.greatest c.taken c.cells.items c.reaches.items c.times };
 }
 
 impl Cache {
@@ -61,11 +70,17 @@ impl Cache {
         ensures greatest { IfOk result (λ cache. cache.greatest ≡ start) }
         ensures holds { IfOk result (λ cache. Holds cache []) }
     {
-        let held = Vec::with_capacity(alloc, capacity)?;
+        let count = capacity + capacity / 16 + 1;
+        let cells = empty_cells(alloc, count)?;
+        let reaches = no_reaches(alloc, count)?;
+        let times = Times::new(alloc, capacity)?;
         Ok(Cache {
             capacity,
             greatest: start,
-            held,
+            taken: 0,
+            cells,
+            reaches,
+            times,
         })
     }
 
@@ -76,8 +91,11 @@ impl Cache {
         ensures greatest { self.new.greatest ≡ max self.old.greatest now }
         ensures holds { (taken : List TakenMark) → Holds self.old taken → Holds self.new taken }
     {
-        self.greatest = later_of(self.greatest, now);
-        forget(&mut self.held, self.greatest);
+        if self.greatest.total() < now.total() {
+            self.times.forget(now.total().saturating_sub(SKEW));
+            self.greatest = now;
+            self.taken = 0;
+        }
     }
 
     /// What `admit` would say of a mark at the greatest moment. Nothing is taken by it.
@@ -85,23 +103,7 @@ impl Cache {
         ensures verdict { (taken : List TakenMark) → Holds self.now taken → result ≡ cache_verdict self.now.capacity self.now.greatest taken mark.now }
         ensures room { result ≡ CacheVerdict.Taken → length self.now.held < self.now.capacity }
     {
-        let greatest = self.greatest.total();
-        let at = mark.at.total();
-        if greatest.saturating_sub(at) > SKEW || at.saturating_sub(greatest) > SKEW {
-            return CacheVerdict::Stale {
-                greatest: self.greatest,
-            };
-        }
-        match find_mark(self.held.as_slice(), mark) {
-            Some(place) => CacheVerdict::Repeat { place },
-            None => {
-                if self.held.len() < self.capacity {
-                    CacheVerdict::Taken
-                } else {
-                    CacheVerdict::Full
-                }
-            }
-        }
+        self.verdict_on(mark)
     }
 
     /// Takes note of `now`, judges the mark, and takes it with this place where the verdict is `Taken`.
@@ -112,10 +114,10 @@ impl Cache {
         ensures holds { (taken : List TakenMark) → Holds self.old taken → Holds self.new (with_taken result taken (record { mark = mark; place = place })) }
     {
         self.raise(now);
-        let verdict = self.judge(&mark);
+        let verdict = self.verdict_on(&mark);
         match verdict {
             CacheVerdict::Taken => {
-                self.held.push_reserved(TakenMark { mark, place });
+                self.keep(mark, place);
                 CacheVerdict::Taken
             }
             _ => verdict,
@@ -133,37 +135,101 @@ impl Cache {
     pub fn held(&self) -> usize
         ensures { result ≡ length self.now.held }
     {
-        self.held.len()
+        self.times.len()
     }
-}
 
-fn later_of(a: Moment, b: Moment) -> Moment
-    ensures { result ≡ max a b }
-{
-    if a.total() < b.total() { b } else { a }
-}
-
-fn recent(taken: &TakenMark, greatest: Moment) -> bool
-    ensures { result ≡ is_recent greatest taken.now }
-{
-    greatest.total().saturating_sub(taken.mark.at.total()) <= SKEW
-}
-
-fn forget(held: &mut Vec<TakenMark>, greatest: Moment)
-    ensures kept { held.new.items ≡ kept_of greatest held.old.items }
-    ensures few { vec_len held.new ≤ vec_len held.old }
-    ensures room { vec_capacity held.new ≡ vec_capacity held.old }
-{
-    held.retain(|taken| recent(taken, greatest));
-}
-
-fn find_mark(held: &[TakenMark], mark: &Mark) -> Option<u64>
-    ensures { result ≡ place_of mark.now held.now }
-{
-    for taken in held {
-        if taken.mark == *mark {
-            return Some(taken.place);
+    fn verdict_on(&self, mark: &Mark) -> CacheVerdict
+        ensures verdict { (taken : List TakenMark) → Holds self.now taken → result ≡ cache_verdict self.now.capacity self.now.greatest taken mark.now }
+        ensures room { result ≡ CacheVerdict.Taken → length self.now.held < self.now.capacity }
+        ensures new { result ≡ CacheVerdict.Taken → place_of mark.now self.now.held ≡ None }
+        ensures near { result ≡ CacheVerdict.Taken → is_stale self.now.greatest mark.now ≡ false }
+    {
+        let greatest = self.greatest.total();
+        let at = mark.at.total();
+        if greatest.saturating_sub(at) > SKEW || at.saturating_sub(greatest) > SKEW {
+            return CacheVerdict::Stale {
+                greatest: self.greatest,
+            };
+        }
+        match self.find(mark) {
+            Some(place) => CacheVerdict::Repeat { place },
+            None => {
+                if self.times.len() < self.capacity {
+                    CacheVerdict::Taken
+                } else {
+                    CacheVerdict::Full
+                }
+            }
         }
     }
-    None
+
+    fn find(&self, mark: &Mark) -> Option<u64>
+        ensures { result ≡ place_of mark.now self.now.held }
+    {
+        let home = home_place(mark, self.cells.len());
+        let reach = self.reaches[home] as usize;
+        match find_mark(&self.cells, self.greatest, mark, home, reach) {
+            Some(place) => Some(self.cells[place].place),
+            None => None,
+        }
+    }
+
+    // Keeps a mark that isn't held, in the first cell after its home that holds none.
+    fn keep(&mut self, mark: Mark, place: u64)
+        requires room { length self.old.held < self.old.capacity }
+        requires new { place_of mark self.old.held ≡ None }
+        requires near { is_stale self.old.greatest mark ≡ false }
+        ensures capacity { self.new.capacity ≡ self.old.capacity }
+        ensures greatest { self.new.greatest ≡ self.old.greatest }
+        ensures held { self.new.held ≡ self.old.held ++ record { mark = mark; place = place } ∷ [] }
+    {
+        let count = self.cells.len();
+        let home = home_place(&mark, count);
+        let reach = self.reaches[home] as usize;
+        let needed = needed_reach(&self.cells, self.greatest, home, reach);
+        let step = free_step(&self.cells, self.greatest, home);
+        self.taken += 1;
+        let cell = Cell {
+            who: mark.who,
+            nth: self.taken,
+            at: mark.at,
+            place,
+            when: self.greatest,
+        };
+        self.cells[place_at(count, home, step)] = cell;
+        self.reaches[home] = needed.max(step) as u32;
+        self.times.put(mark.at.total());
+    }
+}
+
+fn empty_cells(alloc: Global, count: usize) -> Result<Vec<Cell>, NoMemory>
+    requires { count < 2 ^ 32 }
+    ensures count { IfOk result (λ cells. vec_len cells ≡ count) }
+    ensures empty { IfOk result (λ cells. (p : ℕ) → (cell_at cells.items p).nth ≡ 0) }
+    ensures early { IfOk result (λ cells. (p : ℕ) → (cell_at cells.items p).when ≡ 0) }
+{
+    let mut cells = Vec::with_capacity(alloc, count)?;
+    for _ in 0..count {
+        let who = [0; 20];
+        cells.push(Cell {
+            who,
+            nth: 0,
+            at: Moment::start(),
+            place: 0,
+            when: Moment::start(),
+        })?;
+    }
+    Ok(cells)
+}
+
+fn no_reaches(alloc: Global, count: usize) -> Result<Vec<u32>, NoMemory>
+    requires { count < 2 ^ 32 }
+    ensures count { IfOk result (λ reaches. vec_len reaches ≡ count) }
+    ensures none { IfOk result (λ reaches. (h : ℕ) → slice_index_or reaches.items h 0 ≡ 0) }
+{
+    let mut reaches = Vec::with_capacity(alloc, count)?;
+    for _ in 0..count {
+        reaches.push(0)?;
+    }
+    Ok(reaches)
 }

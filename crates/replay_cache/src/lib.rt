@@ -5,8 +5,7 @@
 #![tactic(auto)]
 
 mod cache;
+mod cells;
+mod times;
 
 pub use cache::{Cache, CacheVerdict, SKEW};
-
-#[cfg(test)]
-mod tests;

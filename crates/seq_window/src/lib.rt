@@ -7,6 +7,3 @@
 mod window;
 
 pub use window::{GREATEST_NUMBER, Verdict, Window};
-
-#[cfg(test)]
-mod tests;
