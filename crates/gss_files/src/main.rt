@@ -2,45 +2,23 @@
 //! substitute for a realm.
 #![tactic(auto)]
 
-mod ccache_file;
-mod fields;
-mod keytab_file;
-mod making;
-mod refusal;
-mod running;
-#[cfg(test)]
-mod tests;
-mod words;
-
-use running::run_files;
-use sec_base::{RandDraw, StdSink, SystemClock, Text};
-use std::alloc::Global;
-use std::env;
+use files_command::run_files;
 use std::process::ExitCode;
-use std::rt::Env;
+use system_devices::{HeldStreams, RandDraw, StdSink, SystemClock, WordsRefusal, command_line};
 
-/// The status where the words can't be read or the random source isn't there.
+/// The status where the words can't be read, or the random source or the empty file isn't there.
 const NOT_STARTED: u8 = 1;
 
 /// The status at want of memory.
 const OUT_OF_MEMORY: u8 = 8;
 
-/// The words of the command line, without the program's name.
-fn command_line<R: Env + Alloc<A = Global>>(rt: &R) -> Result<Vec<Text>, u8> {
-    let mut words = Vec::new(rt.alloc());
-    let Ok(args) = env::args(rt) else {
-        return Err(NOT_STARTED);
-    };
-    for word in args.skip(1) {
-        if words.push(Text::from_string(word)).is_err() {
-            return Err(OUT_OF_MEMORY);
-        }
-    }
-    Ok(words)
-}
-
 fn main(rt: HostRuntime) -> ExitCode {
-    ExitCode::from(status(rt))
+    let Some(held) = HeldStreams::hold(&rt) else {
+        return ExitCode::from(NOT_STARTED);
+    };
+    let status = status(rt);
+    drop(held);
+    ExitCode::from(status)
 }
 
 /// Makes the file over the real devices.
@@ -48,7 +26,8 @@ fn status(rt: HostRuntime) -> u8 {
     let alloc = rt.alloc();
     let words = match command_line(&rt) {
         Ok(words) => words,
-        Err(status) => return status,
+        Err(WordsRefusal::NotText) => return NOT_STARTED,
+        Err(WordsRefusal::NoMemory) => return OUT_OF_MEMORY,
     };
     let Ok(mut draw) = RandDraw::new(&rt) else {
         return NOT_STARTED;

@@ -1,46 +1,37 @@
 //! The client's program: makes the real devices and runs the client over them.
 #![tactic(auto)]
 
-ghost use Rattle.std.specs.Prelude.{◌≡◌, false};
-
-use client_command::{address_of, read_words, run_client};
-use sec_base::{FileShelf, Link, MemLink, RandDraw, StdSink, SystemClock, TcpLink, Text};
-use std::alloc::Global;
-use std::env;
+use client_command::{address_of, run_client};
+use sec_base::Text;
 use std::process::ExitCode;
-use std::rt::Env;
+use system_devices::{
+    Buffered, DialedLink, FileShelf, HeldStreams, RandDraw, StdSink, SystemClock, WordsRefusal,
+    command_line,
+};
 
-/// The status where the words can't be read or the random source isn't there.
+/// The status where the words can't be read, or the random source or the empty file isn't there.
 const NOT_STARTED: u8 = 1;
 
 /// The status at want of memory.
 const OUT_OF_MEMORY: u8 = 8;
 
-/// The words of the command line, without the program's name.
-fn command_line<R: Env + Alloc<A = Global>>(rt: &R) -> Result<Vec<Text>, u8> {
-    let mut words = Vec::new(rt.alloc());
-    let Ok(args) = env::args(rt) else {
-        return Err(NOT_STARTED);
-    };
-    for word in args.skip(1) {
-        if words.push(Text::from_string(word)).is_err() {
-            return Err(OUT_OF_MEMORY);
-        }
-    }
-    Ok(words)
-}
-
 fn main(rt: HostRuntime) -> ExitCode {
-    ExitCode::from(status(rt))
+    let Some(held) = HeldStreams::hold(&rt) else {
+        return ExitCode::from(NOT_STARTED);
+    };
+    let status = status(rt);
+    drop(held);
+    ExitCode::from(status)
 }
 
-/// Runs the client over a link.
-fn run<L: Link>(rt: HostRuntime, words: &[Text], link: &mut L) -> u8
-    requires { L.closed link.old ≡ false }
-{
+/// Runs the client with these words, over a connection to the address that they name.
+fn run(rt: HostRuntime, words: &[Text]) -> u8 {
     let Ok(mut draw) = RandDraw::new(&rt) else {
         return NOT_STARTED;
     };
+    // a command has an address, and what isn't one needs no connection
+    let address = address_of(words).unwrap_or("");
+    let mut link = Buffered::over(rt.alloc(), DialedLink::new(rt, address));
     let mut shelf = FileShelf::new(rt);
     let mut clock = SystemClock::new(rt);
     let mut out = StdSink::output(rt.stdout());
@@ -49,7 +40,7 @@ fn run<L: Link>(rt: HostRuntime, words: &[Text], link: &mut L) -> u8
         rt.alloc(),
         words,
         &mut shelf,
-        link,
+        &mut link,
         &mut clock,
         &mut draw,
         &mut out,
@@ -58,28 +49,11 @@ fn run<L: Link>(rt: HostRuntime, words: &[Text], link: &mut L) -> u8
     .status
 }
 
-/// Runs the client with words that name no server: nothing is written on its link.
-fn run_alone(rt: HostRuntime, words: &[Text]) -> u8 {
-    let alloc = rt.alloc();
-    let mut link = MemLink::new(alloc, Vec::new(alloc), Vec::new(alloc), Vec::new(alloc));
-    run(rt, words, &mut link)
-}
-
-/// Runs the client over a connection to the address of its words, which is made only for words that are in the command.
+/// Runs the client with the words of the command line.
 fn status(rt: HostRuntime) -> u8 {
-    let words = match command_line(&rt) {
-        Ok(words) => words,
-        Err(status) => return status,
-    };
-    let words = words.as_slice();
-    if read_words(rt.alloc(), words).is_err() {
-        return run_alone(rt, words);
-    }
-    match address_of(words) {
-        Some(address) => {
-            let mut link = TcpLink::connect(&rt, address);
-            run(rt, words, &mut link)
-        }
-        None => run_alone(rt, words),
+    match command_line(&rt) {
+        Ok(words) => run(rt, words.as_slice()),
+        Err(WordsRefusal::NotText) => NOT_STARTED,
+        Err(WordsRefusal::NoMemory) => OUT_OF_MEMORY,
     }
 }

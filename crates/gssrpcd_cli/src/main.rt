@@ -1,42 +1,31 @@
 //! The server's program: makes the real devices and runs the server over them.
 #![tactic(auto)]
 
-ghost use Rattle.std.specs.Prelude.{IfSome};
+ghost use Rattle.std.specs.Prelude.{IfOk, IfSome};
 ghost use Rattle.std.specs.List.{AllByRecursion};
 ghost use Rattle.gss_server.specs.Desks.{IsFresh};
 
-mod buffered;
-
-use buffered::BufferedPort;
 use gss_server::{Desk, address_of, run_server};
-use sec_base::{Clock, FileShelf, Port, RandDraw, StdSink, StdioPort, SystemClock, TcpPort, Text};
-use std::alloc::Global;
-use std::env;
+use sec_base::{Clock, Port, Text};
 use std::process::ExitCode;
-use std::rt::Env;
+use system_devices::{
+    BufferedPort, FileShelf, HeldStreams, RandDraw, StdSink, StdioPort, SystemClock, TcpDoor,
+    TcpPort, WordsRefusal, command_line,
+};
 
-/// The status where the words can't be read or the random source isn't there.
+/// The status where the words can't be read, or the random source or the empty file isn't there.
 const NOT_STARTED: u8 = 1;
 
 /// The status at want of memory.
 const OUT_OF_MEMORY: u8 = 8;
 
-/// The words of the command line, without the program's name.
-fn words<R: Env + Alloc<A = Global>>(rt: &R) -> Result<Vec<Text>, u8> {
-    let mut words = Vec::new(rt.alloc());
-    let Ok(args) = env::args(rt) else {
-        return Err(NOT_STARTED);
-    };
-    for word in args.skip(1) {
-        if words.push(Text::from_string(word)).is_err() {
-            return Err(OUT_OF_MEMORY);
-        }
-    }
-    Ok(words)
-}
-
 fn main(rt: HostRuntime) -> ExitCode {
-    ExitCode::from(status(rt))
+    let Some(held) = HeldStreams::hold(&rt) else {
+        return ExitCode::from(NOT_STARTED);
+    };
+    let status = status(rt);
+    drop(held);
+    ExitCode::from(status)
 }
 
 /// A desk over a port, with the system's clock and random octets of its own; None where the system gives no seed.
@@ -56,6 +45,16 @@ fn desk<P: Port + Drop>(
         draw,
         served: Vec::new(rt.alloc()),
     })
+}
+
+/// A desk at a TCP listener.
+fn desk_at<'a>(
+    rt: HostRuntime,
+    door: &'a TcpDoor<'a, HostRuntime>,
+) -> Option<Desk<BufferedPort<TcpPort<'a, HostRuntime>>, SystemClock<HostRuntime>, RandDraw>>
+    ensures { IfSome result IsFresh }
+{
+    desk(rt, BufferedPort::new(rt.alloc(), TcpPort::at(door)))
 }
 
 /// Runs the server over desks.
@@ -87,7 +86,7 @@ where
 
 /// Runs the server over standard input and output.
 fn over_standard_streams(rt: HostRuntime, words: &[Text]) -> u8 {
-    let port = BufferedPort::new(StdioPort::new(rt.stdin(), rt.stdout()));
+    let port = BufferedPort::new(rt.alloc(), StdioPort::new(rt.stdin(), rt.stdout()));
     let Some(desk) = desk(rt, port) else {
         return NOT_STARTED;
     };
@@ -97,32 +96,49 @@ fn over_standard_streams(rt: HostRuntime, words: &[Text]) -> u8 {
     }
 }
 
-/// Runs the server over four desks at a TCP listener.
-fn over_listener(rt: HostRuntime, words: &[Text], address: &str) -> u8 {
-    let port = TcpPort::bind(&rt, address);
-    let Some(second) = desk(rt, BufferedPort::new(port.share())) else {
-        return NOT_STARTED;
+/// Four desks at a TCP listener; or the status where there are none.
+fn desks_at<'a>(
+    rt: HostRuntime,
+    door: &'a TcpDoor<'a, HostRuntime>,
+) -> Result<
+    Vec<Desk<BufferedPort<TcpPort<'a, HostRuntime>>, SystemClock<HostRuntime>, RandDraw>>,
+    u8,
+>
+    ensures { IfOk result (λ desks. AllByRecursion IsFresh desks.items) }
+{
+    let Some(first) = desk_at(rt, door) else {
+        return Err(NOT_STARTED);
     };
-    let Some(third) = desk(rt, BufferedPort::new(port.share())) else {
-        return NOT_STARTED;
+    let Some(second) = desk_at(rt, door) else {
+        return Err(NOT_STARTED);
     };
-    let Some(fourth) = desk(rt, BufferedPort::new(port.share())) else {
-        return NOT_STARTED;
+    let Some(third) = desk_at(rt, door) else {
+        return Err(NOT_STARTED);
     };
-    let Some(first) = desk(rt, BufferedPort::new(port)) else {
-        return NOT_STARTED;
+    let Some(fourth) = desk_at(rt, door) else {
+        return Err(NOT_STARTED);
     };
     match Vec::from_array(rt.alloc(), [first, second, third, fourth]) {
+        Ok(desks) => Ok(desks),
+        Err(_) => Err(OUT_OF_MEMORY),
+    }
+}
+
+/// Runs the server over four desks at a TCP listener, which listens once the files were read.
+fn over_listener(rt: HostRuntime, words: &[Text], address: &str) -> u8 {
+    let door = TcpDoor::at(rt, address);
+    match desks_at(rt, &door) {
         Ok(desks) => run(rt, words, desks),
-        Err(_) => OUT_OF_MEMORY,
+        Err(status) => status,
     }
 }
 
 /// Runs the server over the devices that the words ask for.
 fn status(rt: HostRuntime) -> u8 {
-    let words = match words(&rt) {
+    let words = match command_line(&rt) {
         Ok(words) => words,
-        Err(status) => return status,
+        Err(WordsRefusal::NotText) => return NOT_STARTED,
+        Err(WordsRefusal::NoMemory) => return OUT_OF_MEMORY,
     };
     match address_of(words.as_slice()) {
         None | Some("stdio") => over_standard_streams(rt, words.as_slice()),

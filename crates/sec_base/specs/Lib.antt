@@ -1,4 +1,3 @@
-pub mod Ahead
 pub mod Answers
 pub mod Link
 pub mod MemClock

@@ -94,38 +94,3 @@ impl Moment {
         }
     }
 }
-
-#[cfg(test)]
-mod tests {
-    use super::*;
-
-    // Seconds, microseconds and the total: the first and last moments of the range, and the first outside it.
-    const ROWS: [(u64, u32, Option<u64>); 6] = [
-        (0, 0, Some(0)),
-        (5, 1, Some(5_000_001)),
-        (0, 999_999, Some(999_999)),
-        (0, 1_000_000, None),
-        (253_402_300_799, 999_999, Some(253_402_300_799_999_999)),
-        (253_402_300_800, 0, None),
-    ];
-
-    #[test]
-    fn moments_end_with_the_year_9999(rt: HostRuntime) {
-        for (secs, micros, total) in ROWS {
-            assert_eq!(rt;
-                Moment::new(secs, micros).map(|m| m.total()),
-                total,
-                "{secs} {micros}"
-            );
-        }
-    }
-
-    #[test]
-    fn moments_come_apart_and_stop_at_the_greatest(rt: HostRuntime) {
-        let five = Moment::new(5, 7).expect(&rt, "in range");
-        assert_eq!(rt; (five.secs(), five.micros()), (5, 7));
-        assert_eq!(rt; five.later(300_000_000).secs(), 305);
-        assert!(rt; five < Moment::greatest());
-        assert_eq!(rt; five.later(u64::MAX), Moment::greatest());
-    }
-}

@@ -1,7 +1,0 @@
--- Octets of a stream that were read before they were asked for.
-use Rattle.std.specs.Prelude.{ℕ, ◌-◌, List, take, drop}
-use Rattle.sec_base.specs.declared.ahead.Ahead.{Ahead}
-
--- those that were not given out yet, in order
-abbrev pub waiting : Ahead → List ℕ
-waiting ahead = take (ahead.end - ahead.at) (drop ahead.at ahead.octets)

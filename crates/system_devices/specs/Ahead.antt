@@ -1,0 +1,7 @@
+-- Octets of a link that were read before they were asked for.
+use Rattle.std.specs.Prelude.{ℕ, ◌-◌, List, take, drop}
+use Rattle.system_devices.specs.declared.ahead.Ahead.{Ahead}
+
+-- those that were not given out yet, in order
+abbrev pub waiting : Ahead → List ℕ
+waiting ahead = take (ahead.end - ahead.at) (drop ahead.at ahead.octets.items)

@@ -1,0 +1,85 @@
+//! A TCP connection that is made when it is first used.
+
+ghost use Rattle.std.specs.Prelude.{◌≡◌, ◌≤◌, false, length};
+
+use crate::tcp_link::TcpLink;
+use sec_base::{Link, LinkFault};
+use std::net::{Net, TcpStream, ToSocketAddrs};
+use std::time::Duration;
+
+/// How many milliseconds the tries to connect may take, all together.
+const PATIENCE: usize = 10_000;
+
+/// A TCP connection to an address, a host and a port with a colon between them, which is made at the first read or write. Where it can't
+/// be made within 10 seconds, each call answers a fault. It tells nothing of its octets.
+#[derive(Drop)]
+pub struct DialedLink<'a, R: Drop> {
+    rt: R,
+    address: &'a str,
+    dialed: bool,
+    link: TcpLink,
+}
+
+/// A connection to the first of the host's addresses that takes one; each of them has the same share of the time.
+fn connected<R: Net<Stream = TcpStream>>(rt: &R, address: &str) -> Option<TcpStream> {
+    let addresses = address.to_socket_addrs(rt).ok()?;
+    let share = (PATIENCE / addresses.len().max(1)) as u64;
+    for address in addresses {
+        match TcpStream::connect_timeout(rt, &address, Duration::from_millis(share)) {
+            Ok(stream) => return Some(stream),
+            Err(_) => {}
+        }
+    }
+    None
+}
+
+impl<'a, R: Net<Stream = TcpStream> + Drop> DialedLink<'a, R> {
+    /// The link to `address`, which isn't looked for yet.
+    pub fn new(rt: R, address: &'a str) -> DialedLink<'a, R>
+        ensures { ⟦<DialedLink<'a, R> as Link>⟧.closed result ≡ false }
+    {
+        DialedLink {
+            rt,
+            address,
+            dialed: false,
+            link: TcpLink::none(),
+        }
+    }
+
+    /// Connects, unless that was tried before.
+    fn dial(&mut self)
+        ensures faults { self.new.link.faults ≡ self.old.link.faults }
+        ensures closed { self.new.link.closed ≡ self.old.link.closed }
+    {
+        if !self.dialed {
+            self.dialed = true;
+            self.link.take(connected(&self.rt, self.address));
+        }
+    }
+}
+
+impl<'a, R: Net<Stream = TcpStream> + Drop> Link for DialedLink<'a, R> {
+    ghost use Rattle.std.specs.Prelude.{false, []};
+
+    ghost faults = { λ l. l.link.faults };
+
+    ghost tells = { λ _. false };
+
+    ghost wire = { λ _. record { taken = []; coming = []; written = [] } };
+
+    ghost closed = { λ l. l.link.closed };
+
+    fn read(&mut self, buf: &mut [u8]) -> Result<usize, LinkFault> {
+        self.dial();
+        self.link.read(buf)
+    }
+
+    fn write(&mut self, buf: &[u8]) -> Result<usize, LinkFault> {
+        self.dial();
+        self.link.write(buf)
+    }
+
+    fn close(&mut self) {
+        self.link.close();
+    }
+}

@@ -1,0 +1,43 @@
+//! Standard streams that were closed before the program began.
+
+ghost use Rattle.std.specs.Prelude.{pos, ◌<ℤ◌, IfSome};
+ghost use Rattle.std.specs.Fd.{file_raw_fd};
+
+use std::fs::File;
+use std::os::fd::AsRawFd;
+use std::rt::Files;
+
+/// The number of standard error, the last of the standard streams.
+const LAST: i32 = 2;
+
+/// The empty file.
+const EMPTY: &str = "/dev/null";
+
+/// The empty file in the place of each standard stream that was closed, and once more behind them. As long as it is held no file and no
+/// connection takes such a place, so that nothing that is written to a stream goes there. The empty file is open for reading alone: a
+/// write to it fails.
+#[derive(Drop)]
+pub struct HeldStreams {
+    below: [Option<File>; 3],
+    above: File,
+}
+
+impl HeldStreams {
+    /// Opens the empty file until it has a number past those of the standard streams: the system gives each file the lowest number that
+    /// is free. None where it can't be opened.
+    pub fn hold<R: Files<File = File>>(rt: &R) -> Option<HeldStreams>
+        ensures { IfSome result (λ held. pos 2 <ℤ file_raw_fd held.above) }
+    {
+        let mut below = [None, None, None];
+        for at in 0..4 {
+            let file = std::fs::open(rt, EMPTY).ok()?;
+            if file.as_raw_fd() > LAST {
+                return Some(HeldStreams { below, above: file });
+            }
+            if at < below.len() {
+                below[at] = Some(file);
+            }
+        }
+        None
+    }
+}

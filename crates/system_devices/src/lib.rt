@@ -1,0 +1,30 @@
+//! The devices of the real system: files, the clock, random octets, standard streams, TCP, and the words of the command line. Each is
+//! thin, and tells nothing.
+#![tactic(auto)]
+
+mod ahead;
+mod buffered;
+mod dialed_link;
+mod file_shelf;
+mod held_streams;
+mod rand_draw;
+mod std_sink;
+mod stdio_port;
+mod system_clock;
+mod tcp_link;
+mod tcp_port;
+#[cfg(test)]
+mod tests;
+mod words;
+
+pub use buffered::{Buffered, BufferedPort};
+pub use dialed_link::DialedLink;
+pub use file_shelf::FileShelf;
+pub use held_streams::HeldStreams;
+pub use rand_draw::RandDraw;
+pub use std_sink::StdSink;
+pub use stdio_port::{StdioLink, StdioPort};
+pub use system_clock::SystemClock;
+pub use tcp_link::TcpLink;
+pub use tcp_port::{TcpDoor, TcpPort};
+pub use words::{WordsRefusal, command_line};

@@ -1,0 +1,86 @@
+//! Where TCP connections come in.
+
+ghost use Rattle.std.specs.Prelude.{◌≡◌};
+
+use crate::tcp_link::TcpLink;
+use sec_base::{Link, Port, PortFault};
+use std::cell::OnceCell;
+use std::net::{Net, TcpListener, TcpStream};
+
+/// A TCP listener for several ports, which listens from the first accept of one of them on.
+#[derive(Drop)]
+pub struct TcpDoor<'a, R: Drop> {
+    rt: R,
+    address: &'a str,
+    listener: OnceCell<Option<TcpListener>>,
+}
+
+impl<'a, R: Net<Stream = TcpStream, Listener = TcpListener> + Drop> TcpDoor<'a, R> {
+    /// The listener at `address`, a host and a port with a colon between them, which doesn't listen yet.
+    pub fn at(rt: R, address: &'a str) -> TcpDoor<'a, R>
+        ensures { result.address.now ≡ address.now }
+    {
+        TcpDoor {
+            rt,
+            address,
+            listener: OnceCell::new(),
+        }
+    }
+
+    /// The listener, which is bound where that wasn't tried before; None where it can't be.
+    fn listener(&self) -> Option<&TcpListener> {
+        match self
+            .listener
+            .try_get_or_init(|| TcpListener::bind(&self.rt, self.address).ok())
+        {
+            Some(listener) => listener.as_ref(),
+            None => None,
+        }
+    }
+}
+
+/// A port at a listener. Where that can't be bound, each call answers a fault. It tells nothing of its links.
+#[derive(Drop)]
+pub struct TcpPort<'a, R: Drop> {
+    door: &'a TcpDoor<'a, R>,
+    faults: u64,
+}
+
+impl<'a, R: Net<Stream = TcpStream, Listener = TcpListener> + Drop> TcpPort<'a, R> {
+    /// A port at this listener.
+    pub fn at(door: &'a TcpDoor<'a, R>) -> TcpPort<'a, R>
+        ensures { ⟦<TcpPort<'a, R> as Port>⟧.faults result ≡ 0 }
+    {
+        TcpPort { door, faults: 0 }
+    }
+}
+
+impl<'a, R: Net<Stream = TcpStream, Listener = TcpListener> + Drop> Port for TcpPort<'a, R> {
+    ghost use Rattle.std.specs.Prelude.{false, []};
+
+    type Link = TcpLink;
+
+    ghost faults = { λ p. p.faults };
+
+    ghost tells = { λ _. false };
+
+    ghost links = { λ _. [] };
+
+    fn accept(&mut self) -> Result<Option<TcpLink>, PortFault> {
+        let accepted = match self.door.listener() {
+            Some(listener) => listener.accept().ok(),
+            None => None,
+        };
+        match accepted {
+            Some((stream, _)) => {
+                let mut link = TcpLink::none();
+                link.take(Some(stream));
+                Ok(Some(link))
+            }
+            None => {
+                self.faults = self.faults.saturating_add(1);
+                Err(PortFault)
+            }
+        }
+    }
+}
