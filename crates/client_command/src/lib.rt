@@ -6,8 +6,6 @@ mod credential;
 mod ending;
 mod files;
 mod lines;
-#[cfg(test)]
-mod tests;
 mod words;
 
 pub use client::{ClientEnd, run_client};

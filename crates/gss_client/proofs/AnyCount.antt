@@ -56,10 +56,10 @@ goes-heard : (end : InitEnd) (xid : ℕ) (written rest : List ℕ) (heard : Resu
 goes-heard end xid written rest (Ok reply) next e = goes-reply end xid reply next e
 goes-heard end xid written rest (Err refusal) next e = cc
 
-goes-turn : (xid proc : ℕ) (offer next : Offer) (stream : List ℕ) → (turns xid proc offer stream).answer ≡ Ok (created.Going next) → replies_left next.end < replies_left offer.end
+goes-turn : (service : Service) (xid proc : ℕ) (offer next : Offer) (stream : List ℕ) → (turns service xid proc offer stream).answer ≡ Ok (created.Going next) → replies_left next.end < replies_left offer.end
 unfolding turns
-goes-turn xid proc offer next stream e =
-    let one : Said (List ℕ) = exchanges (creation_call xid proc offer.handle offer.token) stream in
+goes-turn service xid proc offer next stream e =
+    let one : Said (List ℕ) = exchanges (creation_call service xid proc offer.handle offer.token) stream in
     goes-heard offer.end xid one.written one.rest one.answer next e
 
 -- ---- turn after turn
@@ -79,7 +79,7 @@ same-after : (service : Service) (first xid : ℕ) (one two : Offer → Talking 
 same-after service first xid one two written rest (Ok what) same = ap (λ (s : Said SessionState). after written s) (same-next service first xid one two what rest (λ next e. same next (ap (λ (c : Created). Ok c) e)))
 same-after service first xid one two written rest (Err refusal) same = refl
 
-one-turn : (left : ℕ) (service : Service) (first xid proc : ℕ) (offer : Offer) (stream : List ℕ) → creates (suc left) service first xid proc offer stream ≡ goes_on (turns xid proc offer stream).written (turns xid proc offer stream).rest (by_turn service first xid (creates left service first (xid_after xid) 2)) (turns xid proc offer stream).answer
+one-turn : (left : ℕ) (service : Service) (first xid proc : ℕ) (offer : Offer) (stream : List ℕ) → creates (suc left) service first xid proc offer stream ≡ goes_on (turns service xid proc offer stream).written (turns service xid proc offer stream).rest (by_turn service first xid (creates left service first (xid_after xid) 2)) (turns service xid proc offer stream).answer
 unfolding creates
 one-turn left service first xid proc offer stream = refl
 
@@ -88,10 +88,10 @@ any-two zero other service first xid proc offer stream enough many = absurd (ome
 any-two (suc left) zero service first xid proc offer stream enough many = absurd (omega (arith, some-left offer.end))
 any-two (suc left) (suc other) service first xid proc offer stream enough many =
     one-turn left service first xid proc offer stream
-    ∙ (same-after service first xid (creates left service first (xid_after xid) 2) (creates other service first (xid_after xid) 2) (turns xid proc offer stream).written (turns xid proc offer stream).rest (turns xid proc offer stream).answer
+    ∙ (same-after service first xid (creates left service first (xid_after xid) 2) (creates other service first (xid_after xid) 2) (turns service xid proc offer stream).written (turns service xid proc offer stream).rest (turns service xid proc offer stream).answer
     (λ next e.
-    let less : replies_left next.end < replies_left offer.end = goes-turn xid proc offer next stream e in
-    any-two left other service first (xid_after xid) 2 next (turns xid proc offer stream).rest (omega (arith, less, enough)) (omega (arith, less, many)))
+    let less : replies_left next.end < replies_left offer.end = goes-turn service xid proc offer next stream e in
+    any-two left other service first (xid_after xid) 2 next (turns service xid proc offer stream).rest (omega (arith, less, enough)) (omega (arith, less, many)))
     ∙ sym (one-turn other service first xid proc offer stream))
 
 pub count-law : CountLaw

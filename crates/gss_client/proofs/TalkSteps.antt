@@ -58,36 +58,36 @@ pub undestroyed : (s : SessionState) (call : List ℕ) (a b : Wire) (refusal : C
 unfolding destroys
 undestroyed s call a b refusal e d = no-reply call (destroy_call s) (destroyed_in s.outcome s.number s.xid) a b refusal e d
 
-pub turned : (xid proc : ℕ) (offer : Offer) (call : List ℕ) (a b : Wire) (reply : List ℕ) (r : Result Created ClientRefusal) → call ≡ creation_call xid proc offer.handle offer.token → Done (exchanges call) a b reply → Gives NoMemory (λ x. x) r (creation_step offer.end xid reply) → Talks (turns xid proc offer) a b r
+pub turned : (service : Service) (xid proc : ℕ) (offer : Offer) (call : List ℕ) (a b : Wire) (reply : List ℕ) (r : Result Created ClientRefusal) → call ≡ creation_call service xid proc offer.handle offer.token → Done (exchanges call) a b reply → Gives NoMemory (λ x. x) r (creation_step offer.end xid reply) → Talks (turns service xid proc offer) a b r
 unfolding turns
-turned xid proc offer call a b reply r e d g = judged-reply call (creation_call xid proc offer.handle offer.token) (creation_step offer.end xid) a b reply r e d g
+turned service xid proc offer call a b reply r e d g = judged-reply call (creation_call service xid proc offer.handle offer.token) (creation_step offer.end xid) a b reply r e d g
 
-pub unturned : (xid proc : ℕ) (offer : Offer) (call : List ℕ) (a b : Wire) (refusal : ClientRefusal) → call ≡ creation_call xid proc offer.handle offer.token → Stopped (exchanges call) a b refusal → Stopped (turns xid proc offer) a b refusal
+pub unturned : (service : Service) (xid proc : ℕ) (offer : Offer) (call : List ℕ) (a b : Wire) (refusal : ClientRefusal) → call ≡ creation_call service xid proc offer.handle offer.token → Stopped (exchanges call) a b refusal → Stopped (turns service xid proc offer) a b refusal
 unfolding turns
-unturned xid proc offer call a b refusal e d = no-reply call (creation_call xid proc offer.handle offer.token) (creation_step offer.end xid) a b refusal e d
+unturned service xid proc offer call a b refusal e d = no-reply call (creation_call service xid proc offer.handle offer.token) (creation_step offer.end xid) a b refusal e d
 
 -- ---- turn after turn
 
-one-turn : (left : ℕ) (service : Service) (first xid proc : ℕ) (offer : Offer) → 0 < left → creates left service first xid proc offer ≡ (turns xid proc offer >>= by_turn service first xid (creates (left - 1) service first (xid_after xid) 2))
+one-turn : (left : ℕ) (service : Service) (first xid proc : ℕ) (offer : Offer) → 0 < left → creates left service first xid proc offer ≡ (turns service xid proc offer >>= by_turn service first xid (creates (left - 1) service first (xid_after xid) 2))
 unfolding creates
 one-turn zero service first xid proc offer h = absurd (omega arith)
 one-turn (suc left) service first xid proc offer h = let e : suc left - 1 ≡ left = omega arith in rw e refl
 
-pub established-on : (left : ℕ) (service : Service) (first xid proc : ℕ) (offer next : Offer) (a b c : Wire) (r : Result SessionState ClientRefusal) → 0 < left → Done (turns xid proc offer) a b (created.Going next) → Talks (creates (left - 1) service first (xid_after xid) 2 next) b c r → Talks (creates left service first xid proc offer) a c r
+pub established-on : (left : ℕ) (service : Service) (first xid proc : ℕ) (offer next : Offer) (a b c : Wire) (r : Result SessionState ClientRefusal) → 0 < left → Done (turns service xid proc offer) a b (created.Going next) → Talks (creates (left - 1) service first (xid_after xid) 2 next) b c r → Talks (creates left service first xid proc offer) a c r
 established-on left service first xid proc offer next a b c r h d t =
     subst (λ (part : Talking SessionState). Talks part a c r) (sym (one-turn left service first xid proc offer h))
-    (talks-then (turns xid proc offer) (by_turn service first xid (creates (left - 1) service first (xid_after xid) 2)) a b c (created.Going next) r d t)
+    (talks-then (turns service xid proc offer) (by_turn service first xid (creates (left - 1) service first (xid_after xid) 2)) a b c (created.Going next) r d t)
 
-pub established : (left : ℕ) (service : Service) (first xid proc : ℕ) (offer : Offer) (outcome : Outcome) (handle : List ℕ) (a b : Wire) → 0 < left → Done (turns xid proc offer) a b (created.Stands outcome handle) → Done (creates left service first xid proc offer) a b (begun service first (xid_after xid) outcome handle)
+pub established : (left : ℕ) (service : Service) (first xid proc : ℕ) (offer : Offer) (outcome : Outcome) (handle : List ℕ) (a b : Wire) → 0 < left → Done (turns service xid proc offer) a b (created.Stands outcome handle) → Done (creates left service first xid proc offer) a b (begun service first (xid_after xid) outcome handle)
 established left service first xid proc offer outcome handle a b h d =
     subst (λ (part : Talking SessionState). Done part a b (begun service first (xid_after xid) outcome handle)) (sym (one-turn left service first xid proc offer h))
-    (talks-then (turns xid proc offer) (by_turn service first xid (creates (left - 1) service first (xid_after xid) 2)) a b b (created.Stands outcome handle) (Ok (begun service first (xid_after xid) outcome handle)) d
+    (talks-then (turns service xid proc offer) (by_turn service first xid (creates (left - 1) service first (xid_after xid) 2)) a b b (created.Stands outcome handle) (Ok (begun service first (xid_after xid) outcome handle)) d
     (talks-judged (Ok (begun service first (xid_after xid) outcome handle)) (Ok (begun service first (xid_after xid) outcome handle)) b refl))
 
-pub unestablished : (left : ℕ) (service : Service) (first xid proc : ℕ) (offer : Offer) (a b : Wire) (refusal : ClientRefusal) → 0 < left → Stopped (turns xid proc offer) a b refusal → Stopped (creates left service first xid proc offer) a b refusal
+pub unestablished : (left : ℕ) (service : Service) (first xid proc : ℕ) (offer : Offer) (a b : Wire) (refusal : ClientRefusal) → 0 < left → Stopped (turns service xid proc offer) a b refusal → Stopped (creates left service first xid proc offer) a b refusal
 unestablished left service first xid proc offer a b refusal h s =
     subst (λ (part : Talking SessionState). Stopped part a b refusal) (sym (one-turn left service first xid proc offer h))
-    (stopped-first (turns xid proc offer) (by_turn service first xid (creates (left - 1) service first (xid_after xid) 2)) a b refusal s)
+    (stopped-first (turns service xid proc offer) (by_turn service first xid (creates (left - 1) service first (xid_after xid) 2)) a b refusal s)
 
 -- ---- the start
 

@@ -23,13 +23,14 @@ number_of services.None = 1
 number_of services.Integrity = 2
 number_of services.Privacy = 3
 
--- creation is procedure 1 at first and 2 afterwards (section 5.2.2); such a call has number 0, the service none, and no verifier
-abbrev pub creation_cred : ℕ → List ℕ → CredValue
-creation_cred proc handle = record { proc = proc; seq = 0; service = 1; context = handle }
+-- creation is procedure 1 at first and 2 afterwards (section 5.2.2); such a call has number 0, the session's service, and no
+-- verifier
+abbrev pub creation_cred : Service → ℕ → List ℕ → CredValue
+creation_cred service proc handle = record { proc = proc; seq = 0; service = number_of service; context = handle }
 
-unfoldable pub creation_call : ℕ → ℕ → List ℕ → List ℕ → List ℕ
-creation_call xid proc handle token =
-    call_octets (secure_call xid served_program 1 0 (cred_octets (creation_cred proc handle)) (record { flavour = 0; body = [] }) (opaque token))
+unfoldable pub creation_call : Service → ℕ → ℕ → List ℕ → List ℕ → List ℕ
+creation_call service xid proc handle token =
+    call_octets (secure_call xid served_program 1 0 (cred_octets (creation_cred service proc handle)) (record { flavour = 0; body = [] }) (opaque token))
 
 -- the initiator's end of a context
 abbrev pub own_end : SessionState → TokenEnd

@@ -19,9 +19,9 @@ use Rattle.gss_client.specs.Talking.{Talking, ◌>>=◌, judges, exchanges}
 -- ---- creation
 
 -- one turn: a creation call with the offer's token and handle, and what its reply leads to
-unfoldable pub turns : ℕ → ℕ → Offer → Talking Created
-turns xid proc offer = do
-  reply ← exchanges (creation_call xid proc offer.handle offer.token)
+unfoldable pub turns : Service → ℕ → ℕ → Offer → Talking Created
+turns service xid proc offer = do
+  reply ← exchanges (creation_call service xid proc offer.handle offer.token)
   judges (creation_step offer.end xid reply)
 
 -- the session that begins with this number
@@ -37,7 +37,7 @@ by_turn service first xid next (created.Stands outcome handle) = judges (Ok (beg
 unfoldable pub creates : ℕ → Service → ℕ → ℕ → ℕ → Offer → Talking SessionState
 creates zero service first xid proc offer = judges (Err (BadReply Steps))
 creates (suc left) service first xid proc offer = do
-  what ← turns xid proc offer
+  what ← turns service xid proc offer
   by_turn service first xid (creates left service first (xid_after xid) 2) what
 
 abbrev pub begins : Service → ℕ → Result Started NegRefusal → Talking SessionState

@@ -39,7 +39,7 @@ const DATA: u32 = 0;
 /// The procedure of a context's destruction.
 const DESTROY: u32 = 3;
 
-/// The service of calls that aren't data.
+/// The service of the call that destroys a context.
 const PLAIN: u32 = 1;
 
 /// The body of a credential.
@@ -95,11 +95,12 @@ fn call(
     )
 }
 
-/// The record of a creation call, RFC 2203 section 5.2.2: `proc` is 1 in a first call, whose handle has no octets, and 2 afterwards. The token has at
-/// most 65,536 octets and the handle 64, so that the record has at most 131,072.
+/// The record of a creation call, RFC 2203 section 5.2.2: `proc` is 1 in a first call, whose handle has no octets, and 2 afterwards. `service` is the
+/// session's. The token has at most 65,536 octets and the handle 64, so that the record has at most 131,072.
 #[tactic(auto, unfolding(crate::specs::Calling::creation_call))]
 pub fn creation_call(
     alloc: Global,
+    service: Service,
     xid: u32,
     proc: u32,
     handle: &[u8],
@@ -107,10 +108,10 @@ pub fn creation_call(
 ) -> Result<Octets, NoMemory>
     requires handle { IsHandle handle.now }
     requires token { length token.now ≤ 65536 }
-    ensures value { IfOk result (λ o. o ≡ creation_call xid proc handle.now token.now) }
+    ensures value { IfOk result (λ o. o ≡ creation_call service xid proc handle.now token.now) }
     ensures size { IfOk result (λ o. length o ≤ 131072) }
 {
-    let cred = credential(alloc, proc, 0, PLAIN, handle)?;
+    let cred = credential(alloc, proc, 0, service.number(), handle)?;
     let args = argument(alloc, token)?;
     call(
         alloc,

@@ -31,13 +31,14 @@ const MOST_REPLIES: u32 = 4;
 fn turn<L: Link>(
     alloc: Global,
     link: &mut L,
+    service: Service,
     xid: u32,
     proc: u32,
     offer: Offer,
 ) -> Result<Created, ClientRefusal>
     requires unclosed { L.closed link.old ≡ false }
     requires fits { FitsOffer offer }
-    ensures told { IsTrue (L.tells link.old) → Talks (turns xid proc offer) (L.wire link.old) (L.wire link.new) result }
+    ensures told { IsTrue (L.tells link.old) → Talks (turns service xid proc offer) (L.wire link.old) (L.wire link.new) result }
     ensures closer { IfOk result (IsCloser (replies_left offer.end)) }
     ensures fits { IfOk result FitsCreated }
     ensures fault { IsErrOf result ClientRefusal.LinkFault → Rose (L.faults link.old) (L.faults link.new) }
@@ -46,7 +47,14 @@ fn turn<L: Link>(
     ensures faults { L.faults link.old ≤ L.faults link.new }
 {
     let Offer { end, handle, token } = offer;
-    let call = match creation_call(alloc, xid, proc, handle.as_slice(), token.as_slice()) {
+    let call = match creation_call(
+        alloc,
+        service,
+        xid,
+        proc,
+        handle.as_slice(),
+        token.as_slice(),
+    ) {
         Ok(call) => call,
         Err(NoMemory) => return Err(ClientRefusal::NoMemory),
     };
@@ -80,7 +88,7 @@ fn establish<L: Link>(
     if left == 0 {
         unreachable!();
     }
-    match turn(alloc, link, xid, proc, offer) {
+    match turn(alloc, link, service, xid, proc, offer) {
         Ok(Created::Going(next)) => establish(
             alloc,
             link,

@@ -14,8 +14,6 @@ mod results;
 mod service;
 mod session;
 mod start;
-#[cfg(test)]
-mod tests;
 
 pub use calling::creation_call;
 pub use conversation::{Conversation, Parting, Talk};

@@ -48,6 +48,7 @@ use Rattle.gss_server.proofs.ReplyLengths.{accepted-fits}
 use Rattle.pair_laws.specs.HonestCalls.{session_on, HonestCall, IsAdmitted, IsAnswered}
 use Rattle.pair_laws.proofs.Granting.{mic-size}
 use Rattle.pair_laws.proofs.Creating.{exchanged}
+use Rattle.pair_laws.proofs.Ruling.{few-services}
 
 -- ---- the call
 
@@ -112,11 +113,6 @@ served : (service : Service) → is_service 0 (number_of service) ≡ true
 served services.None = refl
 served services.Integrity = refl
 served services.Privacy = refl
-
-few-services : (service : Service) → number_of service < 2 ^ 32
-few-services services.None = lit< tt
-few-services services.Integrity = lit< tt
-few-services services.Privacy = lit< tt
 
 cred-read : (lease : Lease) (service : Service) (n : ℕ) → n < 2 ^ 32 → cred_at (cred_octets (data_cred lease service n)) ≡ Ok (data_cred lease service n)
 cred-read lease service n h =

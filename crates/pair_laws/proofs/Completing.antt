@@ -100,21 +100,21 @@ answers-to setup width octets kept book id token b id_is token_is =
     (record { past = b.past; answered = b.answered; history = b.history; contexts = b.contexts; table = b.table; mark = b.mark }))
 
 -- a turn of the exchange: what the record was answered, and the step that the book took
-record Turned (setup : AcceptSetup) (width xid : ℕ) (id : Option ℕ) (token : List ℕ) (kept : KeptAnswers) (book : Around) (step : AcceptStep) : Type 0 where
+record Turned (setup : AcceptSetup) (service : Service) (width xid : ℕ) (id : Option ℕ) (token : List ℕ) (kept : KeptAnswers) (book : Around) (step : AcceptStep) : Type 0 where
   answer : Negotiated
   is_kept : kept.negotiated ≡ Some answer
   is : answer.answer ≡ answer_with (id_of id book.before.history) step
-  ruled : record_ruling (creation_call xid (proc_for id) (handle_for id) token) kept width
-      ≡ asking (AskedStep id token kept.now (take 66 kept.draws) answer) (stepped (creation_shown xid id token kept width) (answer_with (id_of id book.before.history) step))
+  ruled : record_ruling (creation_call service xid (proc_for id) (handle_for id) token) kept width
+      ≡ asking (AskedStep id token kept.now (take 66 kept.draws) answer) (stepped (creation_shown service xid id token kept width) (answer_with (id_of id book.before.history) step))
   size : token_size (answer_with (id_of id book.before.history) step) ≤ 65536
   goes_on : (end : AcceptEnd) (reply : List ℕ) → step ≡ steps.More end reply → Negotiates (id_of id book.before.history) book.after end
 
-turned-by : (setup : AcceptSetup) (width xid : ℕ) (id : Option ℕ) (end : AcceptEnd) (token : List ℕ) (kept : KeptAnswers) (book : Around) (step : AcceptStep) → xid < 2 ^ 32 → IsId id → length token ≤ 65536 → ComesTo id book.before end
-    → answered_on setup (occasion_of kept) end token ≡ Ok step → IsBooked setup width (creation_call xid (proc_for id) (handle_for id) token) kept book → Turned setup width xid id token kept book step
-turned-by setup width xid id end token kept book step fits is_id few comes takes b =
+turned-by : (setup : AcceptSetup) (service : Service) (width xid : ℕ) (id : Option ℕ) (end : AcceptEnd) (token : List ℕ) (kept : KeptAnswers) (book : Around) (step : AcceptStep) → xid < 2 ^ 32 → IsId id → length token ≤ 65536 → ComesTo id book.before end
+    → answered_on setup (occasion_of kept) end token ≡ Ok step → IsBooked setup width (creation_call service xid (proc_for id) (handle_for id) token) kept book → Turned setup service width xid id token kept book step
+turned-by setup service width xid id end token kept book step fits is_id few comes takes b =
     let drawn : List ℕ = take 66 kept.draws in
-    let w = asked-step xid id b.id token b.token kept width b.answer fits is_id few b.asked in
-    let a = answers-to setup width (creation_call xid (proc_for id) (handle_for id) token) kept book id token b w.id_is w.token_is in
+    let w = asked-step service xid id b.id token b.token kept width b.answer fits is_id few b.asked in
+    let a = answers-to setup width (creation_call service xid (proc_for id) (handle_for id) token) kept book id token b w.id_is w.token_is in
     let came = book-came setup book.before id a.past end token kept.now drawn step comes b.log a.table a.mark takes in
     let own : ℕ = id_of id book.before.history in
     let is : b.answer.answer ≡ answer_with own step = a.answered ∙ ap (λ (o : Outcomes). o.answer) came.is in
@@ -122,7 +122,7 @@ turned-by setup width xid id end token kept book step fits is_id few comes takes
       answer = b.answer;
       is_kept = w.is_kept;
       is = is;
-      ruled = w.ruled ∙ ap (λ (n : NegAnswer). asking (AskedStep id token kept.now drawn b.answer) (stepped (creation_shown xid id token kept width) n)) is;
+      ruled = w.ruled ∙ ap (λ (n : NegAnswer). asking (AskedStep id token kept.now drawn b.answer) (stepped (creation_shown service xid id token kept width) n)) is;
       size = subst (λ (n : NegAnswer). token_size n ≤ 65536) is b.size;
       goes_on = λ next reply e.
           goes-after setup book.before book.after id a.past end next reply kept.now (negotiated setup (raised book.before kept.now) id a.past token kept.now drawn) comes
@@ -154,10 +154,10 @@ own-id None book books = refl
 own-id (Some id) book books = refl
 
 -- the first record is the call
-front-record : (left : ℕ) (service : Service) (first xid proc : ℕ) (offer : Offer) (stream : List ℕ) (octets : List ℕ) (records : List (List ℕ)) → length octets ≤ 131072 → length (creation_call xid proc offer.handle offer.token) ≤ 131072
-    → (creates (suc left) service first xid proc offer stream).written ≡ flat_map last_fragment (octets ∷ records) → octets ≡ creation_call xid proc offer.handle offer.token
+front-record : (left : ℕ) (service : Service) (first xid proc : ℕ) (offer : Offer) (stream : List ℕ) (octets : List ℕ) (records : List (List ℕ)) → length octets ≤ 131072 → length (creation_call service xid proc offer.handle offer.token) ≤ 131072
+    → (creates (suc left) service first xid proc offer stream).written ≡ flat_map last_fragment (octets ∷ records) → octets ≡ creation_call service xid proc offer.handle offer.token
 front-record left service first xid proc offer stream octets records few small written =
-    let call : List ℕ = creation_call xid proc offer.handle offer.token in
+    let call : List ℕ = creation_call service xid proc offer.handle offer.token in
     let f = creates-front left service first xid proc offer stream in
     ap octets_heard (same-record octets call (flat_map last_fragment records) f.more few small (sym written ∙ f.same))
 
@@ -168,11 +168,11 @@ last-turn : (setup : AcceptSetup) (width left : ℕ) (service : Service) (first 
     → Stood service first xid width (id_of id book.before.history) outcome (creates (suc left) service first xid (proc_for id) (record { end = initiator; handle = handle_for id; token = token }) stream) (octets ∷ records) (one ∷ [])
 last-turn setup width left service first xid id acceptor initiator token one book octets records others rest stream outcome some wide xids is_id few within comes done b written heard =
     let offer : Offer = record { end = initiator; handle = handle_for id; token = token } in
-    let call : List ℕ = creation_call xid (proc_for id) (handle_for id) token in
+    let call : List ℕ = creation_call service xid (proc_for id) (handle_for id) token in
     let own : ℕ = id_of id book.before.history in
     let fits : xid < 2 ^ 32 = omega (arith, xids) in
-    let is_call : octets ≡ call = front-record left service first xid (proc_for id) offer stream octets records within (creation-fits xid id token few) written in
-    let t = turned-by setup width xid id acceptor token one book (steps.Done outcome done.lasts done.reply) fits is_id few comes done.accepts (subst (λ (o : List ℕ). IsBooked setup width o one book) is_call b) in
+    let is_call : octets ≡ call = front-record left service first xid (proc_for id) offer stream octets records within (creation-fits service xid id token few) written in
+    let t = turned-by setup service width xid id acceptor token one book (steps.Done outcome done.lasts done.reply) fits is_id few comes done.accepts (subst (λ (o : List ℕ). IsBooked setup width o one book) is_call b) in
     let reply : List ℕ = reply_octets (granting xid outcome own width done.reply) in
     let is_reply : (record_ruling call one width).reply ≡ Some reply = ap (λ (r : Ruling). r.reply) t.ruled in
     let behind : List ℕ = replied width records others ++ rest in
@@ -212,12 +212,12 @@ turns-on setup width (suc left) service first xid id acceptor initiator token (o
     (last-turn setup width left service first xid id acceptor initiator token one book octets records later rest stream outcome some wide (omega (arith, xids)) is_id few within.0 awaits c b.0 written heard)
 turns-on setup width (suc left) service first xid id acceptor initiator token (one ∷ two ∷ more) (book ∷ books) (octets ∷ records) later rest stream outcome some wide xids turns ids is_id few within awaits alone c b written heard =
     let offer : Offer = record { end = initiator; handle = handle_for id; token = token } in
-    let call : List ℕ = creation_call xid (proc_for id) (handle_for id) token in
+    let call : List ℕ = creation_call service xid (proc_for id) (handle_for id) token in
     let own : ℕ = id_of id book.before.history in
     let fits : xid < 2 ^ 32 = omega (arith, xids) in
-    let is_call : octets ≡ call = front-record left service first xid (proc_for id) offer stream octets records within.0 (creation-fits xid id token few) written in
+    let is_call : octets ≡ call = front-record left service first xid (proc_for id) offer stream octets records within.0 (creation-fits service xid id token few) written in
     let g = c.0 in
-    let t = turned-by setup width xid id acceptor token one book (steps.More g.acceptor_after g.reply) fits is_id few awaits g.accepts (subst (λ (o : List ℕ). IsBooked setup width o one book) is_call b.0) in
+    let t = turned-by setup service width xid id acceptor token one book (steps.More g.acceptor_after g.reply) fits is_id few awaits g.accepts (subst (λ (o : List ℕ). IsBooked setup width o one book) is_call b.0) in
     let reply : List ℕ = reply_octets (going xid own g.reply) in
     let is_reply : (record_ruling call one width).reply ≡ Some reply = ap (λ (r : Ruling). r.reply) t.ruled in
     let behind : List ℕ = replied width records ((two ∷ more) ++ later) ++ rest in

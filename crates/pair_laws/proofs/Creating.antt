@@ -40,18 +40,18 @@ exchange-front : (call stream : List ℕ) → Fronts (last_fragment call) (excha
 unfolding exchanges
 exchange-front call stream = record { more = (listens stream).written; same = refl }
 
-turn-front : (xid proc : ℕ) (offer : Offer) (stream : List ℕ) → Fronts (last_fragment (creation_call xid proc offer.handle offer.token)) (turns xid proc offer stream)
+turn-front : (service : Service) (xid proc : ℕ) (offer : Offer) (stream : List ℕ) → Fronts (last_fragment (creation_call service xid proc offer.handle offer.token)) (turns service xid proc offer stream)
 unfolding turns
-turn-front xid proc offer stream =
-    let call : List ℕ = creation_call xid proc offer.handle offer.token in
+turn-front service xid proc offer stream =
+    let call : List ℕ = creation_call service xid proc offer.handle offer.token in
     let f = exchange-front call stream in
     goes-front (last_fragment call) (exchanges call stream).written (exchanges call stream).rest (λ octets. judges (creation_step offer.end xid octets)) (exchanges call stream).answer f.more f.same
 
-pub creates-front : (left : ℕ) (service : Service) (first xid proc : ℕ) (offer : Offer) (stream : List ℕ) → Fronts (last_fragment (creation_call xid proc offer.handle offer.token)) (creates (suc left) service first xid proc offer stream)
+pub creates-front : (left : ℕ) (service : Service) (first xid proc : ℕ) (offer : Offer) (stream : List ℕ) → Fronts (last_fragment (creation_call service xid proc offer.handle offer.token)) (creates (suc left) service first xid proc offer stream)
 unfolding creates
 creates-front left service first xid proc offer stream =
-    let f = turn-front xid proc offer stream in
-    goes-front (last_fragment (creation_call xid proc offer.handle offer.token)) (turns xid proc offer stream).written (turns xid proc offer stream).rest (by_turn service first xid (creates left service first (xid_after xid) 2)) (turns xid proc offer stream).answer f.more f.same
+    let f = turn-front service xid proc offer stream in
+    goes-front (last_fragment (creation_call service xid proc offer.handle offer.token)) (turns service xid proc offer stream).written (turns service xid proc offer stream).rest (by_turn service first xid (creates left service first (xid_after xid) 2)) (turns service xid proc offer stream).answer f.more f.same
 
 pub created-is : (start : Start) (started : Started) (stream : List ℕ) → init_start start.setup ≡ Ok started → created_from start stream ≡ creates (replies_left started.end) start.service start.first 1 1 (record { end = started.end; handle = []; token = started.token }) stream
 unfolding created_from
@@ -63,19 +63,19 @@ pub exchanged : (call reply rest : List ℕ) → length reply ≤ 131072 → exc
 unfolding exchanges
 exchanged call reply rest few = rw (listens-first reply rest few, append-nil (last_fragment call)) refl
 
-turned : (xid proc : ℕ) (offer : Offer) (reply rest : List ℕ) (what : Created) → length reply ≤ 131072 → creation_step offer.end xid reply ≡ Ok what → turns xid proc offer (last_fragment reply ++ rest) ≡ said (last_fragment (creation_call xid proc offer.handle offer.token)) (Ok what) rest
+turned : (service : Service) (xid proc : ℕ) (offer : Offer) (reply rest : List ℕ) (what : Created) → length reply ≤ 131072 → creation_step offer.end xid reply ≡ Ok what → turns service xid proc offer (last_fragment reply ++ rest) ≡ said (last_fragment (creation_call service xid proc offer.handle offer.token)) (Ok what) rest
 unfolding turns
-turned xid proc offer reply rest what few judged =
-    rw (exchanged (creation_call xid proc offer.handle offer.token) reply rest few, judged, append-nil (last_fragment (creation_call xid proc offer.handle offer.token))) refl
+turned service xid proc offer reply rest what few judged =
+    rw (exchanged (creation_call service xid proc offer.handle offer.token) reply rest few, judged, append-nil (last_fragment (creation_call service xid proc offer.handle offer.token))) refl
 
 pub established : (left : ℕ) (service : Service) (first xid proc : ℕ) (offer : Offer) (reply rest : List ℕ) (outcome : Outcome) (handle : List ℕ) → length reply ≤ 131072 → creation_step offer.end xid reply ≡ Ok (created.Stands outcome handle)
-    → creates (suc left) service first xid proc offer (last_fragment reply ++ rest) ≡ said (last_fragment (creation_call xid proc offer.handle offer.token)) (Ok (begun service first (xid_after xid) outcome handle)) rest
+    → creates (suc left) service first xid proc offer (last_fragment reply ++ rest) ≡ said (last_fragment (creation_call service xid proc offer.handle offer.token)) (Ok (begun service first (xid_after xid) outcome handle)) rest
 unfolding creates
 established left service first xid proc offer reply rest outcome handle few judged =
-    rw (turned xid proc offer reply rest (created.Stands outcome handle) few judged, append-nil (last_fragment (creation_call xid proc offer.handle offer.token))) refl
+    rw (turned service xid proc offer reply rest (created.Stands outcome handle) few judged, append-nil (last_fragment (creation_call service xid proc offer.handle offer.token))) refl
 
 -- a turn before the others
 pub continued : (left : ℕ) (service : Service) (first xid proc : ℕ) (offer next : Offer) (reply rest : List ℕ) → length reply ≤ 131072 → creation_step offer.end xid reply ≡ Ok (created.Going next)
-    → creates (suc left) service first xid proc offer (last_fragment reply ++ rest) ≡ after (last_fragment (creation_call xid proc offer.handle offer.token)) (creates left service first (xid_after xid) 2 next rest)
+    → creates (suc left) service first xid proc offer (last_fragment reply ++ rest) ≡ after (last_fragment (creation_call service xid proc offer.handle offer.token)) (creates left service first (xid_after xid) 2 next rest)
 unfolding creates
-continued left service first xid proc offer next reply rest few judged = rw (turned xid proc offer reply rest (created.Going next) few judged) refl
+continued left service first xid proc offer next reply rest few judged = rw (turned service xid proc offer reply rest (created.Going next) few judged) refl

@@ -14,7 +14,9 @@ use Rattle.accept_book.specs.Served.{one_opaque}
 use Rattle.accept_book.specs.RecordShown.{KeptAnswers, AskedStep, asking, Shown, Ruling, handle_of, handle_id}
 use Rattle.accept_book.specs.RecordRule.{stepped, ask_step, record_ruling, call_ruling, creation_ruling}
 use Rattle.accept_book.specs.declared.book_answer.Negotiated.{Negotiated}
-use Rattle.gss_client.specs.Calling.{served_program, creation_cred, creation_call}
+use Rattle.gss_client.specs.declared.service.Service.{Service}
+use Rattle.gss_client.specs.declared.service.Service.TheVariants as services
+use Rattle.gss_client.specs.Calling.{served_program, number_of, creation_cred, creation_call}
 use Rattle.gss_client.proofs.CallLengths.{cred-fits, call-fits}
 
 one-token : (token : List ℕ) → length token ≤ 65536 → one_opaque (opaque token) ≡ Ok token
@@ -23,6 +25,11 @@ one-token token few =
     let read : opaque_at 65536 (record { octets = opaque token; end = end }) ≡ Ok (token, record { octets = []; end = end }) =
     ap (λ (zs : List ℕ). opaque_at 65536 (record { octets = zs; end = end })) (sym (append-nil (opaque token))) ∙ (opaque_law 65536 (lit< tt)).only token [] end few in
     rw (read, end-only end) refl
+
+pub few-services : (service : Service) → number_of service < 2 ^ 32
+few-services services.None = lit< tt
+few-services services.Integrity = lit< tt
+few-services services.Privacy = lit< tt
 
 -- the procedure and the handle of a call of a new context, and of one that was opened
 abbrev pub proc_for : Option ℕ → ℕ
@@ -38,12 +45,12 @@ abbrev pub IsId : Option ℕ → Type 0
 IsId None = Unit {0}
 IsId (Some id) = id < 2 ^ 64
 
-abbrev cred_of : Option ℕ → CredValue
-cred_of id = creation_cred (proc_for id) (handle_for id)
+abbrev cred_of : Service → Option ℕ → CredValue
+cred_of service id = creation_cred service (proc_for id) (handle_for id)
 
 -- the call that is heard
-abbrev pub creation_value : ℕ → Option ℕ → List ℕ → CallValue
-creation_value xid id token = secure_call xid served_program 1 0 (cred_octets (cred_of id)) (record { flavour = 0; body = [] }) (opaque token)
+abbrev pub creation_value : Service → ℕ → Option ℕ → List ℕ → CallValue
+creation_value service xid id token = secure_call xid served_program 1 0 (cred_octets (cred_of service id)) (record { flavour = 0; body = [] }) (opaque token)
 
 handle-length : (id : ℕ) → length (handle_of id) ≡ 8
 handle-length id = refl
@@ -52,37 +59,37 @@ handle-few : (id : Option ℕ) → length (handle_for id) ≤ 64
 handle-few None = lit≤ tt
 handle-few (Some id) = omega (arith, handle-length id)
 
-short-cred : (id : Option ℕ) → length (cred_octets (cred_of id)) ≤ 400
-short-cred id = cred-fits (cred_of id) (handle-few id)
+short-cred : (service : Service) (id : Option ℕ) → length (cred_octets (cred_of service id)) ≤ 400
+short-cred service id = cred-fits (cred_of service id) (handle-few id)
 
-reads : (xid : ℕ) (id : Option ℕ) (token : List ℕ) → xid < 2 ^ 32 → call_at (creation_call xid (proc_for id) (handle_for id) token) ≡ Ok (creation_value xid id token)
+reads : (service : Service) (xid : ℕ) (id : Option ℕ) (token : List ℕ) → xid < 2 ^ 32 → call_at (creation_call service xid (proc_for id) (handle_for id) token) ≡ Ok (creation_value service xid id token)
 unfolding creation_call
-reads xid id token fits = call-only (creation_value xid id token) (record {
+reads service xid id token fits = call-only (creation_value service xid id token) (record {
   xid = fits;
   program = lit< tt;
   version = lit< tt;
   procedure = lit< tt;
-  cred = record { flavour = lit< tt; body = short-cred id };
+  cred = record { flavour = lit< tt; body = short-cred service id };
   verf = record { flavour = lit< tt; body = lit≤ tt };
   header = refl;
 })
 
-cred-is : (id : Option ℕ) → cred_at (cred_octets (cred_of id)) ≡ Ok (cred_of id)
-cred-is None = cred-only (creation_cred 1 []) (record { proc = lit≤ tt; seq = lit< tt; service = lit< tt; served = refl; context = lit≤ tt })
-cred-is (Some id) = cred-only (creation_cred 2 (handle_of id)) (record { proc = lit≤ tt; seq = lit< tt; service = lit< tt; served = refl; context = omega (arith, handle-length id) })
+cred-is : (service : Service) (id : Option ℕ) → cred_at (cred_octets (cred_of service id)) ≡ Ok (cred_of service id)
+cred-is service None = cred-only (creation_cred service 1 []) (record { proc = lit≤ tt; seq = lit< tt; service = few-services service; served = refl; context = lit≤ tt })
+cred-is service (Some id) = cred-only (creation_cred service 2 (handle_of id)) (record { proc = lit≤ tt; seq = lit< tt; service = few-services service; served = refl; context = omega (arith, handle-length id) })
 
-abbrev pub creation_shown : ℕ → Option ℕ → List ℕ → KeptAnswers → ℕ → Shown
-creation_shown xid id token kept width = record { record_octets = creation_call xid (proc_for id) (handle_for id) token; call = creation_value xid id token; now = kept.now; draws = kept.draws; width = width }
+abbrev pub creation_shown : Service → ℕ → Option ℕ → List ℕ → KeptAnswers → ℕ → Shown
+creation_shown service xid id token kept width = record { record_octets = creation_call service xid (proc_for id) (handle_for id) token; call = creation_value service xid id token; now = kept.now; draws = kept.draws; width = width }
 
 id-again : (id : ℕ) → id < 2 ^ 64 → handle_id (handle_of id) ≡ Some id
 id-again id h = ap Some (from_be_bytes-to_be_bytes_8 id h)
 
 -- the record asks for the step
-pub asks : (xid : ℕ) (id : Option ℕ) (token : List ℕ) (kept : KeptAnswers) (width : ℕ) → xid < 2 ^ 32 → IsId id → length token ≤ 65536
-    → record_ruling (creation_call xid (proc_for id) (handle_for id) token) kept width ≡ ask_step (creation_shown xid id token kept width) id token kept.negotiated
+pub asks : (service : Service) (xid : ℕ) (id : Option ℕ) (token : List ℕ) (kept : KeptAnswers) (width : ℕ) → xid < 2 ^ 32 → IsId id → length token ≤ 65536
+    → record_ruling (creation_call service xid (proc_for id) (handle_for id) token) kept width ≡ ask_step (creation_shown service xid id token kept width) id token kept.negotiated
 unfolding record_ruling call_ruling creation_ruling
-asks xid None token kept width fits is few = rw (reads xid None token fits) (rw (cred-is None) (rw (one-token token few) refl))
-asks xid (Some id) token kept width fits is few = rw (reads xid (Some id) token fits) (rw (cred-is (Some id)) (rw (one-token token few, id-again id is) refl))
+asks service xid None token kept width fits is few = rw (reads service xid None token fits) (rw (cred-is service None) (rw (one-token token few) refl))
+asks service xid (Some id) token kept width fits is few = rw (reads service xid (Some id) token fits) (rw (cred-is service (Some id)) (rw (one-token token few, id-again id is) refl))
 
 -- the one question of a record, and its answer
 pub record IsAsked (id : Option ℕ) (token : List ℕ) (kept : KeptAnswers) (other : Option ℕ) (others : List ℕ) (answer : Negotiated) (ruling : Ruling) (s : Shown) : Type 0 where
@@ -104,18 +111,18 @@ was-asked s id other token others kept (Some found) answer e asked =
       ruled = ap (λ (n : Negotiated). asking (AskedStep id token s.now (take 66 s.draws) n) (stepped s n.answer)) same;
     }
 
-pub asked-step : (xid : ℕ) (id other : Option ℕ) (token others : List ℕ) (kept : KeptAnswers) (width : ℕ) (answer : Negotiated) → xid < 2 ^ 32 → IsId id → length token ≤ 65536
-    → (record_ruling (creation_call xid (proc_for id) (handle_for id) token) kept width).asked ≡ AskedStep other others kept.now (take 66 kept.draws) answer ∷ []
-    → IsAsked id token kept other others answer (record_ruling (creation_call xid (proc_for id) (handle_for id) token) kept width) (creation_shown xid id token kept width)
-asked-step xid id other token others kept width answer fits is few asked =
-    let a = asks xid id token kept width fits is few in
-    let w = was-asked (creation_shown xid id token kept width) id other token others kept kept.negotiated answer refl (sym (ap (λ (r : Ruling). r.asked) a) ∙ asked) in
+pub asked-step : (service : Service) (xid : ℕ) (id other : Option ℕ) (token others : List ℕ) (kept : KeptAnswers) (width : ℕ) (answer : Negotiated) → xid < 2 ^ 32 → IsId id → length token ≤ 65536
+    → (record_ruling (creation_call service xid (proc_for id) (handle_for id) token) kept width).asked ≡ AskedStep other others kept.now (take 66 kept.draws) answer ∷ []
+    → IsAsked id token kept other others answer (record_ruling (creation_call service xid (proc_for id) (handle_for id) token) kept width) (creation_shown service xid id token kept width)
+asked-step service xid id other token others kept width answer fits is few asked =
+    let a = asks service xid id token kept width fits is few in
+    let w = was-asked (creation_shown service xid id token kept width) id other token others kept kept.negotiated answer refl (sym (ap (λ (r : Ruling). r.asked) a) ∙ asked) in
     record { id_is = w.id_is; token_is = w.token_is; is_kept = w.is_kept; ruled = a ∙ w.ruled }
 
 opaque-fits : (token : List ℕ) → length token ≤ 65536 → length (opaque token) ≤ 130000
 opaque-fits token few = omega (arith, length-opaque token)
 
 -- it fits into a record
-pub creation-fits : (xid : ℕ) (id : Option ℕ) (token : List ℕ) → length token ≤ 65536 → length (creation_call xid (proc_for id) (handle_for id) token) ≤ 131072
+pub creation-fits : (service : Service) (xid : ℕ) (id : Option ℕ) (token : List ℕ) → length token ≤ 65536 → length (creation_call service xid (proc_for id) (handle_for id) token) ≤ 131072
 unfolding creation_call
-creation-fits xid id token few = call-fits xid served_program 1 0 (cred_octets (cred_of id)) (record { flavour = 0; body = [] }) (opaque token) (short-cred id) (lit≤ tt) (opaque-fits token few)
+creation-fits service xid id token few = call-fits xid served_program 1 0 (cred_octets (cred_of service id)) (record { flavour = 0; body = [] }) (opaque token) (short-cred service id) (lit≤ tt) (opaque-fits token few)
