@@ -42,18 +42,18 @@ impl Model for Keytab {
 
 /// What a record holds.
 #[tactic(auto, unfolding(crate::specs::Keytab::entry_at))]
-fn read_entry(alloc: Global, record: &mut Fields) -> Result<Entry, FileRefusal>
-    ensures { Answers (λ e. e) result (entry_at record.old) }
+fn read_entry(alloc: Global, fields: &mut Fields) -> Result<Entry, FileRefusal>
+    ensures { Answers (λ e. e) result (entry_at fields.old) }
 {
-    let at = record.place();
-    let name = read_principal(alloc, record, 2, at)?;
-    let _kind = record.number(4)?;
-    let _time = record.number(4)?;
-    let low = record.number(1)?;
-    let key = read_key(record, 2)?;
+    let at = fields.place();
+    let name = read_principal(alloc, fields, 2, at)?;
+    let _kind = fields.number(4)?;
+    let _time = fields.number(4)?;
+    let low = fields.number(1)?;
+    let key = read_key(fields, 2)?;
     Ok(Entry {
         name,
-        number: record.version(low),
+        number: fields.version(low),
         key,
     })
 }

@@ -12,8 +12,3 @@ mod refusal;
 pub use ccache::{Ccache, Credential, read_ccache};
 pub use keytab::{Keytab, read_keytab};
 pub use refusal::{FileRefusal, FileWhy};
-
-#[cfg(test)]
-mod real_files;
-#[cfg(test)]
-mod tests;

@@ -17,18 +17,22 @@ use Rattle.krb_msgs.specs.AuthorizationDatum.{authorization_datum}
 use Rattle.krb_msgs.specs.declared.authorization_datum.AuthorizationDatum.{AuthorizationDatum}
 use Rattle.krb_msgs.specs.declared.authenticator.Authenticator.{Authenticator}
 
-abbrev pub authenticator_fields : Content (Unit {0} × ((List ℕ) × (PrincipalName × ((Option Checksum) × (ℕ × (ℕ × ((Option EncryptionKey) × ((Option ℕ) × ((Option (List AuthorizationDatum)) × Unit {0})))))))))
-authenticator_fields =
-    with_field (explicit 0xa0 (constant 5))
-    (with_known (explicit 0xa1 text)
-    (λ crealm. with_field (explicit 0xa2 (name_in crealm))
-    (with_optional 0xa3 (explicit 0xa3 checksum)
+-- the fields behind the name
+abbrev pub authenticator_behind_name : Content ((Option Checksum) × (ℕ × (ℕ × ((Option EncryptionKey) × ((Option ℕ) × ((Option (List AuthorizationDatum)) × Unit {0}))))))
+authenticator_behind_name =
+    with_optional 0xa3 (explicit 0xa3 checksum)
     (with_field (explicit 0xa4 (natural 0 999999))
     (with_field (explicit 0xa5 time)
     (with_optional 0xa6 (explicit 0xa6 encryption_key)
     (with_optional 0xa7 (explicit 0xa7 uint32)
     (with_optional 0xa8 (explicit 0xa8 (list_of authorization_datum))
-    (done)))))))))
+    (done))))))
+
+abbrev pub authenticator_fields : Content (Unit {0} × ((List ℕ) × (PrincipalName × ((Option Checksum) × (ℕ × (ℕ × ((Option EncryptionKey) × ((Option ℕ) × ((Option (List AuthorizationDatum)) × Unit {0})))))))))
+authenticator_fields =
+    with_field (explicit 0xa0 (constant 5))
+    (with_known (explicit 0xa1 text)
+    (λ crealm. with_field (explicit 0xa2 (name_in crealm)) authenticator_behind_name))
 
 unfoldable pub authenticator_element : Format Authenticator
 authenticator_element = explicit 0x62 (element 0x30 (seen

@@ -17,20 +17,24 @@ use Rattle.krb_msgs.specs.AuthorizationDatum.{authorization_datum}
 use Rattle.krb_msgs.specs.declared.authorization_datum.AuthorizationDatum.{AuthorizationDatum}
 use Rattle.krb_msgs.specs.declared.enc_ticket_part.EncTicketPart.{EncTicketPart}
 
-abbrev pub enc_ticket_part_fields : Content (ℕ × (EncryptionKey × ((List ℕ) × (PrincipalName × (TransitedEncoding × (ℕ × ((Option ℕ) × (ℕ × ((Option ℕ) × ((Option (List HostAddress)) × ((Option (List AuthorizationDatum)) × Unit {0})))))))))))
-enc_ticket_part_fields =
-    with_field (explicit 0xa0 flags)
-    (with_field (explicit 0xa1 encryption_key)
-    (with_known (explicit 0xa2 text)
-    (λ crealm. with_field (explicit 0xa3 (name_in crealm))
-    (with_field (explicit 0xa4 transited_encoding)
+-- the fields behind the name
+abbrev pub enc_ticket_part_behind_name : Content (TransitedEncoding × (ℕ × ((Option ℕ) × (ℕ × ((Option ℕ) × ((Option (List HostAddress)) × ((Option (List AuthorizationDatum)) × Unit {0})))))))
+enc_ticket_part_behind_name =
+    with_field (explicit 0xa4 transited_encoding)
     (with_field (explicit 0xa5 time)
     (with_optional 0xa6 (explicit 0xa6 time)
     (with_field (explicit 0xa7 time)
     (with_optional 0xa8 (explicit 0xa8 time)
     (with_optional 0xa9 (explicit 0xa9 (list_of host_address))
     (with_optional 0xaa (explicit 0xaa (list_of authorization_datum))
-    (done)))))))))))
+    (done)))))))
+
+abbrev pub enc_ticket_part_fields : Content (ℕ × (EncryptionKey × ((List ℕ) × (PrincipalName × (TransitedEncoding × (ℕ × ((Option ℕ) × (ℕ × ((Option ℕ) × ((Option (List HostAddress)) × ((Option (List AuthorizationDatum)) × Unit {0})))))))))))
+enc_ticket_part_fields =
+    with_field (explicit 0xa0 flags)
+    (with_field (explicit 0xa1 encryption_key)
+    (with_known (explicit 0xa2 text)
+    (λ crealm. with_field (explicit 0xa3 (name_in crealm)) enc_ticket_part_behind_name)))
 
 unfoldable pub enc_ticket_part_element : Format EncTicketPart
 enc_ticket_part_element = explicit 0x63 (element 0x30 (seen

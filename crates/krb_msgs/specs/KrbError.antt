@@ -11,6 +11,21 @@ use Rattle.krb_msgs.specs.declared.principal_name.PrincipalName.{PrincipalName}
 use Rattle.krb_msgs.specs.Constant.{constant}
 use Rattle.krb_msgs.specs.declared.krb_error.KrbError.{KrbError}
 
+-- the fields behind the names
+abbrev pub krb_error_behind_names : Content ((Option (List ℕ)) × ((Option (List ℕ)) × Unit {0}))
+krb_error_behind_names =
+    with_optional 0xab (explicit 0xab text)
+    (with_optional 0xac (explicit 0xac octet_string)
+    (done))
+
+-- the fields behind the code
+abbrev pub krb_error_behind_code : Content ((Option (List ℕ)) × ((Option PrincipalName) × ((List ℕ) × (PrincipalName × ((Option (List ℕ)) × ((Option (List ℕ)) × Unit {0}))))))
+krb_error_behind_code =
+    with_optional_known 0xa7 (explicit 0xa7 text)
+    (λ crealm. with_optional 0xa8 (explicit 0xa8 (name_in (unwrap_or crealm [])))
+    (with_known (explicit 0xa9 text)
+    (λ realm. with_field (explicit 0xaa (name_in realm)) krb_error_behind_names)))
+
 abbrev pub krb_error_fields : Content (Unit {0} × (Unit {0} × ((Option ℕ) × ((Option ℕ) × (ℕ × (ℕ × (ℤ × ((Option (List ℕ)) × ((Option PrincipalName) × ((List ℕ) × (PrincipalName × ((Option (List ℕ)) × ((Option (List ℕ)) × Unit {0})))))))))))))
 krb_error_fields =
     with_field (explicit 0xa0 (constant 5))
@@ -19,14 +34,7 @@ krb_error_fields =
     (with_optional 0xa3 (explicit 0xa3 (natural 0 999999))
     (with_field (explicit 0xa4 time)
     (with_field (explicit 0xa5 (natural 0 999999))
-    (with_field (explicit 0xa6 int32)
-    (with_optional_known 0xa7 (explicit 0xa7 text)
-    (λ crealm. with_optional 0xa8 (explicit 0xa8 (name_in (unwrap_or crealm [])))
-    (with_known (explicit 0xa9 text)
-    (λ realm. with_field (explicit 0xaa (name_in realm))
-    (with_optional 0xab (explicit 0xab text)
-    (with_optional 0xac (explicit 0xac octet_string)
-    (done)))))))))))))
+    (with_field (explicit 0xa6 int32) krb_error_behind_code))))))
 
 unfoldable pub krb_error_element : Format KrbError
 krb_error_element = explicit 0x7e (element 0x30 (seen

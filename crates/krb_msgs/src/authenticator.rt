@@ -4,7 +4,7 @@ ghost use Rattle.std.specs.Prelude.{◌≡◌, ◌%◌, ◌≤◌, Ok, OnOk, IfO
 ghost use Rattle.der_core.specs.Format.{all_of, MayRead, MayAnswer, PutsAll, WritesWhole};
 ghost use Rattle.der_core.specs.Values.{has_zero};
 ghost use Rattle.krb_msgs.specs.PrincipalName.{IsName};
-ghost use Rattle.krb_msgs.specs.Authenticator.{authenticator_fields, authenticator_element, authenticator};
+ghost use Rattle.krb_msgs.specs.Authenticator.{authenticator_behind_name, authenticator_fields, authenticator_element, authenticator};
 
 use crate::common::{constant_field, micros_field, put_constant_field, put_micros_field};
 use crate::principal_name::{PrincipalName, name_field, put_name_field};
@@ -38,6 +38,17 @@ pub struct Authenticator {
     pub authorization_data: Option<Items<AuthorizationDatum>>,
 }
 
+/// The fields behind the name.
+#[derive(Drop)]
+struct BehindName {
+    cksum: Option<Checksum>,
+    cusec: u32,
+    ctime: Moment,
+    subkey: Option<EncryptionKey>,
+    seq_number: Option<u32>,
+    authorization_data: Option<Items<AuthorizationDatum>>,
+}
+
 /// Reads the message that all the octets are.
 pub fn read_authenticator(alloc: Global, bytes: &[u8]) -> Result<Authenticator, DerRefusal>
     ensures exact { MayAnswer (λ v. v) result (authenticator.read (all_of bytes.now)) }
@@ -65,17 +76,32 @@ fn authenticator_element_of(alloc: Global, reader: &mut Reader) -> Result<Authen
     constant_field(&mut fields, 0xa0, 5)?;
     let crealm: Text = field(alloc, &mut fields, 0xa1)?;
     let cname = name_field(alloc, &mut fields, 0xa2, crealm.as_str())?;
-    let cksum = optional(alloc, &mut fields, 0xa3)?;
-    let cusec = micros_field(&mut fields, 0xa4)?;
-    let ctime: Moment = field(alloc, &mut fields, 0xa5)?;
-    let subkey = optional(alloc, &mut fields, 0xa6)?;
-    let seq_number = optional(alloc, &mut fields, 0xa7)?;
-    let authorization_data = optional(alloc, &mut fields, 0xa8)?;
-    fields.end()?;
+    let rest = behind_name(alloc, &mut fields)?;
     body.end()?;
     Ok(Authenticator {
         crealm,
         cname,
+        cksum: rest.cksum,
+        cusec: rest.cusec,
+        ctime: rest.ctime,
+        subkey: rest.subkey,
+        seq_number: rest.seq_number,
+        authorization_data: rest.authorization_data,
+    })
+}
+
+/// Reads the fields behind the name.
+fn behind_name(alloc: Global, fields: &mut Reader) -> Result<BehindName, DerRefusal>
+    ensures { MayAnswer (λ b. (b.cksum, (b.cusec, (b.ctime, (b.subkey, (b.seq_number, (b.authorization_data, tt))))))) result (authenticator_behind_name.read fields.old) }
+{
+    let cksum = optional(alloc, fields, 0xa3)?;
+    let cusec = micros_field(fields, 0xa4)?;
+    let ctime: Moment = field(alloc, fields, 0xa5)?;
+    let subkey = optional(alloc, fields, 0xa6)?;
+    let seq_number = optional(alloc, fields, 0xa7)?;
+    let authorization_data = optional(alloc, fields, 0xa8)?;
+    fields.end()?;
+    Ok(BehindName {
         cksum,
         cusec,
         ctime,

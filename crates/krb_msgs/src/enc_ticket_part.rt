@@ -4,7 +4,7 @@ ghost use Rattle.std.specs.Prelude.{◌≡◌, ◌%◌, Ok, OnOk, IfOk, IfSome, 
 ghost use Rattle.der_core.specs.Format.{all_of, MayRead, MayAnswer, PutsAll, WritesWhole};
 ghost use Rattle.der_core.specs.Values.{has_zero};
 ghost use Rattle.krb_msgs.specs.PrincipalName.{IsName};
-ghost use Rattle.krb_msgs.specs.EncTicketPart.{enc_ticket_part_fields, enc_ticket_part_element, enc_ticket_part};
+ghost use Rattle.krb_msgs.specs.EncTicketPart.{enc_ticket_part_behind_name, enc_ticket_part_fields, enc_ticket_part_element, enc_ticket_part};
 
 use crate::common::{flags_field, put_flags_field};
 use crate::principal_name::{PrincipalName, name_field, put_name_field};
@@ -43,6 +43,18 @@ pub struct EncTicketPart {
     pub authorization_data: Option<Items<AuthorizationDatum>>,
 }
 
+/// The fields behind the name.
+#[derive(Drop)]
+struct BehindName {
+    transited: TransitedEncoding,
+    authtime: Moment,
+    starttime: Option<Moment>,
+    endtime: Moment,
+    renew_till: Option<Moment>,
+    caddr: Option<Items<HostAddress>>,
+    authorization_data: Option<Items<AuthorizationDatum>>,
+}
+
 /// Reads the message that all the octets are.
 pub fn read_enc_ticket_part(alloc: Global, bytes: &[u8]) -> Result<EncTicketPart, DerRefusal>
     ensures exact { MayAnswer (λ v. v) result (enc_ticket_part.read (all_of bytes.now)) }
@@ -74,20 +86,36 @@ fn enc_ticket_part_element_of(
     let key: EncryptionKey = field(alloc, &mut fields, 0xa1)?;
     let crealm: Text = field(alloc, &mut fields, 0xa2)?;
     let cname = name_field(alloc, &mut fields, 0xa3, crealm.as_str())?;
-    let transited: TransitedEncoding = field(alloc, &mut fields, 0xa4)?;
-    let authtime: Moment = field(alloc, &mut fields, 0xa5)?;
-    let starttime = optional(alloc, &mut fields, 0xa6)?;
-    let endtime: Moment = field(alloc, &mut fields, 0xa7)?;
-    let renew_till = optional(alloc, &mut fields, 0xa8)?;
-    let caddr = optional(alloc, &mut fields, 0xa9)?;
-    let authorization_data = optional(alloc, &mut fields, 0xaa)?;
-    fields.end()?;
+    let behind = behind_name(alloc, &mut fields)?;
     body.end()?;
     Ok(EncTicketPart {
         flags,
         key,
         crealm,
         cname,
+        transited: behind.transited,
+        authtime: behind.authtime,
+        starttime: behind.starttime,
+        endtime: behind.endtime,
+        renew_till: behind.renew_till,
+        caddr: behind.caddr,
+        authorization_data: behind.authorization_data,
+    })
+}
+
+/// Reads the fields behind the name.
+fn behind_name(alloc: Global, fields: &mut Reader) -> Result<BehindName, DerRefusal>
+    ensures { MayAnswer (λ b. (b.transited, (b.authtime, (b.starttime, (b.endtime, (b.renew_till, (b.caddr, (b.authorization_data, tt)))))))) result (enc_ticket_part_behind_name.read fields.old) }
+{
+    let transited: TransitedEncoding = field(alloc, fields, 0xa4)?;
+    let authtime: Moment = field(alloc, fields, 0xa5)?;
+    let starttime = optional(alloc, fields, 0xa6)?;
+    let endtime: Moment = field(alloc, fields, 0xa7)?;
+    let renew_till = optional(alloc, fields, 0xa8)?;
+    let caddr = optional(alloc, fields, 0xa9)?;
+    let authorization_data = optional(alloc, fields, 0xaa)?;
+    fields.end()?;
+    Ok(BehindName {
         transited,
         authtime,
         starttime,

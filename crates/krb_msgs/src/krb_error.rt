@@ -4,7 +4,7 @@ ghost use Rattle.std.specs.Prelude.{◌≡◌, ◌%◌, ◌≤◌, Ok, OnOk, IfO
 ghost use Rattle.der_core.specs.Format.{all_of, MayRead, MayAnswer, PutsAll, WritesWhole};
 ghost use Rattle.der_core.specs.Values.{has_zero};
 ghost use Rattle.krb_msgs.specs.PrincipalName.{IsName};
-ghost use Rattle.krb_msgs.specs.KrbError.{krb_error_fields, krb_error_element, krb_error};
+ghost use Rattle.krb_msgs.specs.KrbError.{krb_error_behind_names, krb_error_behind_code, krb_error_fields, krb_error_element, krb_error};
 
 use crate::common::{
     constant_field, micros_field, optional_micros, put_constant_field, put_micros_field,
@@ -49,6 +49,23 @@ pub struct KrbError {
     pub e_data: Option<Octets>,
 }
 
+/// The fields behind the code.
+#[derive(Drop)]
+struct BehindCode {
+    crealm: Option<Text>,
+    cname: Option<PrincipalName>,
+    realm: Text,
+    sname: PrincipalName,
+    others: BehindNames,
+}
+
+/// The fields behind the names.
+#[derive(Drop)]
+struct BehindNames {
+    e_text: Option<Text>,
+    e_data: Option<Octets>,
+}
+
 /// Reads the message that all the octets are.
 pub fn read_krb_error(alloc: Global, bytes: &[u8]) -> Result<KrbError, DerRefusal>
     ensures exact { MayAnswer (λ v. v) result (krb_error.read (all_of bytes.now)) }
@@ -80,13 +97,7 @@ fn krb_error_element_of(alloc: Global, reader: &mut Reader) -> Result<KrbError, 
     let stime: Moment = field(alloc, &mut fields, 0xa4)?;
     let susec = micros_field(&mut fields, 0xa5)?;
     let error_code: i32 = field(alloc, &mut fields, 0xa6)?;
-    let crealm = optional(alloc, &mut fields, 0xa7)?;
-    let cname = optional_name(alloc, &mut fields, 0xa8, &crealm)?;
-    let realm: Text = field(alloc, &mut fields, 0xa9)?;
-    let sname = name_field(alloc, &mut fields, 0xaa, realm.as_str())?;
-    let e_text = optional(alloc, &mut fields, 0xab)?;
-    let e_data = optional(alloc, &mut fields, 0xac)?;
-    fields.end()?;
+    let behind = behind_code(alloc, &mut fields)?;
     body.end()?;
     Ok(KrbError {
         ctime,
@@ -94,13 +105,41 @@ fn krb_error_element_of(alloc: Global, reader: &mut Reader) -> Result<KrbError, 
         stime,
         susec,
         error_code,
+        crealm: behind.crealm,
+        cname: behind.cname,
+        realm: behind.realm,
+        sname: behind.sname,
+        e_text: behind.others.e_text,
+        e_data: behind.others.e_data,
+    })
+}
+
+/// Reads the fields behind the code.
+fn behind_code(alloc: Global, fields: &mut Reader) -> Result<BehindCode, DerRefusal>
+    ensures { MayAnswer (λ b. (b.crealm, (b.cname, (b.realm, (b.sname, (b.others.e_text, (b.others.e_data, tt))))))) result (krb_error_behind_code.read fields.old) }
+{
+    let crealm = optional(alloc, fields, 0xa7)?;
+    let cname = optional_name(alloc, fields, 0xa8, &crealm)?;
+    let realm: Text = field(alloc, fields, 0xa9)?;
+    let sname = name_field(alloc, fields, 0xaa, realm.as_str())?;
+    let others = behind_names(alloc, fields)?;
+    Ok(BehindCode {
         crealm,
         cname,
         realm,
         sname,
-        e_text,
-        e_data,
+        others,
     })
+}
+
+/// Reads the fields behind the names.
+fn behind_names(alloc: Global, fields: &mut Reader) -> Result<BehindNames, DerRefusal>
+    ensures { MayAnswer (λ b. (b.e_text, (b.e_data, tt))) result (krb_error_behind_names.read fields.old) }
+{
+    let e_text = optional(alloc, fields, 0xab)?;
+    let e_data = optional(alloc, fields, 0xac)?;
+    fields.end()?;
+    Ok(BehindNames { e_text, e_data })
 }
 
 /// The message's octets.

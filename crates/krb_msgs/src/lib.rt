@@ -31,8 +31,3 @@ pub use krb_error::{KrbError, read_krb_error, write_krb_error};
 pub use principal_name::PrincipalName;
 pub use ticket::{Ticket, read_ticket, write_ticket};
 pub use transited_encoding::TransitedEncoding;
-
-#[cfg(test)]
-mod tests;
-#[cfg(test)]
-mod writing_tests;

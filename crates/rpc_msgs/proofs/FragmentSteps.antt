@@ -1,14 +1,14 @@
 -- Fragment after fragment of a record.
-use Rattle.std.proofs.Common.{◌≡◌, ◌⊎◌, inl, inr, ℕ, ◌+◌, ◌%◌, ◌<◌, ◌≤◌, ◌^◌, lit<, List, [], ◌∷◌, ◌++◌, length, refl, ap, sym, ◌∙◌, subst, arith, Some, Ok, Err}
+use Rattle.std.proofs.Common.{◌≡◌, ◌⊎◌, inl, inr, ℕ, ◌+◌, ◌%◌, ◌<◌, ◌≤◌, ◌^◌, lit<, List, [], ◌∷◌, ◌++◌, length, refl, ap, sym, ◌∙◌, subst, arith, Some, Result, Ok, Err}
 use Rattle.std.proofs.lemmas.Bool.{cases_lt}
 use Rattle.std.proofs.lemmas.Grind.{flat_map-append}
 use Rattle.std.proofs.lemmas.List.{length-append, append-nil}
 use Rattle.sec_base.specs.Link.{Wire}
 use Rattle.rpc_msgs.specs.Words.{word}
 use Rattle.rpc_msgs.specs.Records.{more_fragment, last_fragment, frames, joined, IsFront, IsWhole, IsPartial, TakesRecord}
-use Rattle.rpc_msgs.specs.Fragments.{Adds, Begins, TakesFragment}
+use Rattle.rpc_msgs.specs.Fragments.{Adds, Begins, Heads, TakesAnnounced, TakesFragment}
 use Rattle.rpc_msgs.specs.declared.record.Fragment.{Fragment}
-use Rattle.rpc_msgs.specs.declared.record.Fragment.TheVariants.{More, Last}
+use Rattle.rpc_msgs.specs.declared.record.Fragment.TheVariants.{More, Last, End}
 use Rattle.rpc_msgs.specs.declared.record.RecordRefusal.{RecordRefusal}
 use Rattle.rpc_msgs.specs.declared.record.RecordRefusal.TheVariants.{LinkFault, TooLong, TooManyFragments, Torn, NoMemory}
 use Rattle.rpc_msgs.proofs.InARow.{took-again, took-same}
@@ -118,3 +118,19 @@ is-more b c xs ys n f e t = subst (λ (g : Fragment). TakesFragment b c xs ys n 
 
 pub is-last : (b c : Wire) (xs ys : List ℕ) (n : ℕ) (f : Fragment) → f ≡ Last → TakesFragment b c xs ys n (Ok f) → TakesFragment b c xs ys n (Ok Last)
 is-last b c xs ys n f e t = subst (λ (g : Fragment). TakesFragment b c xs ys n (Ok g)) e t
+
+-- a header was read, and then what it announces, or why that was not
+pub after-header : {a b : Wire} (c : Wire) (n header : ℕ) (xs ys : List ℕ) (r : Result Fragment RecordRefusal) → Heads a b header → TakesAnnounced b c xs ys n header r → TakesFragment a c xs ys n r
+after-header c n header xs ys (Ok More) h t = (t.0, record { grown = t.2.grown; took = took-same (took-again h.took t.2.took) (ap (λ (k : ℕ). word k ++ t.0) t.1) })
+after-header c n header xs ys (Ok Last) h t = (t.0, record { grown = t.2.grown; took = took-same (took-again h.took t.2.took) (ap (λ (k : ℕ). word k ++ t.0) t.1) })
+after-header c n header xs ys (Ok End) h t = elim t [ ]
+after-header c n header xs ys (Err LinkFault) h t = (word header ++ t.0, inr (header, t.0, h.bound, t.1, t.2, refl, t.3), took-again h.took t.4)
+after-header c n header xs ys (Err TooLong) h t = (header, t.0, record { bound = h.bound; took = took-same (took-again h.took t.1) (append-nil (word header)) })
+after-header c n header xs ys (Err TooManyFragments) h t = (header, t.0, t.1, record { bound = h.bound; took = took-same (took-again h.took t.2) (append-nil (word header)) })
+after-header {a} {b} c n header xs ys (Err Torn) h t =
+    let coming : a.coming ≡ word header ++ b.coming = h.took.coming in (
+      inr (header, b.coming, h.bound, t.0, t.1, coming, t.2),
+      omega (arith, ap length coming, length-append (word header) b.coming, length-word header),
+      took-same (took-again h.took t.3) (sym coming),
+    )
+after-header c n header xs ys (Err NoMemory) h t = (header, t.0, t.1, h.bound, t.2, t.3, took-again h.took t.4)

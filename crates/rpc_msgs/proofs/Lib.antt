@@ -1,3 +1,4 @@
+pub mod ContentSteps
 pub mod FragmentSteps
 pub mod InARow
 pub mod WordLengths

@@ -1,5 +1,5 @@
 -- What reading one fragment took of the stream.
-use Rattle.std.specs.Prelude.{◌≡◌, ℕ, ◌+◌, ◌%◌, ◌<◌, ◌≤◌, ◌^◌, Bool, true, false, List, [], ◌++◌, length, Result, Ok, Err}
+use Rattle.std.specs.Prelude.{◌≡◌, ℕ, ◌+◌, ◌%◌, ◌<◌, ◌≤◌, ◌^◌, Bool, true, false, List, [], ◌++◌, length, Option, Some, None, Result, Ok, Err}
 use Rattle.sec_base.specs.Link.{Wire}
 use Rattle.rpc_msgs.specs.Streams.{Took}
 use Rattle.rpc_msgs.specs.Words.{word}
@@ -42,6 +42,27 @@ pub record Adds (old new : Wire) (before after part framed : List ℕ) : Type 0 
 pub record Heads (old new : Wire) (header : ℕ) : Type 0 where
   pub bound : header < 2 ^ 32
   pub took : Took old new (word header)
+
+-- the header of the fragment of this number was read, or why it was not
+abbrev pub TakesHeader : Wire → Wire → ℕ → Result (Option ℕ) RecordRefusal → Type 0
+TakesHeader old new number (Ok (Some header)) = Heads old new header
+TakesHeader old new number (Ok None) = (number ≡ 0) × (old.coming ≡ []) × Took old new []
+TakesHeader old new number (Err LinkFault) = (part : List ℕ) × (length part < 4) × Took old new part
+TakesHeader old new number (Err TooLong) = ⊥
+TakesHeader old new number (Err TooManyFragments) = ⊥
+TakesHeader old new number (Err Torn) = (length old.coming < 4) × (0 < number + length old.coming) × Took old new old.coming
+TakesHeader old new number (Err NoMemory) = ⊥
+
+-- the octets that a header announces were read, or why they were not; so many fragments and octets came before
+abbrev pub TakesAnnounced : Wire → Wire → List ℕ → List ℕ → ℕ → ℕ → Result Fragment RecordRefusal → Type 0
+TakesAnnounced old new before after number header (Ok More) = (part : List ℕ) × (header ≡ length part) × Grows old new before after part
+TakesAnnounced old new before after number header (Ok Last) = (part : List ℕ) × (header ≡ 2 ^ 31 + length part) × Grows old new before after part
+TakesAnnounced old new before after number header (Ok End) = ⊥
+TakesAnnounced old new before after number header (Err LinkFault) = (part : List ℕ) × (number < 64) × (length before + header % 2 ^ 31 ≤ 131072) × (length part < header % 2 ^ 31) × Took old new part
+TakesAnnounced old new before after number header (Err TooLong) = (131072 < length before + header % 2 ^ 31) × Took old new []
+TakesAnnounced old new before after number header (Err TooManyFragments) = (number ≡ 64) × (length before + header % 2 ^ 31 ≤ 131072) × Took old new []
+TakesAnnounced old new before after number header (Err Torn) = (number < 64) × (length before + header % 2 ^ 31 ≤ 131072) × (length old.coming < header % 2 ^ 31) × Took old new old.coming
+TakesAnnounced old new before after number header (Err NoMemory) = (part : List ℕ) × (number < 64) × (length before + header % 2 ^ 31 ≤ 131072) × (length part ≤ header % 2 ^ 31) × Took old new part
 
 -- the fragment of this number was read, or why it was not
 abbrev pub TakesFragment : Wire → Wire → List ℕ → List ℕ → ℕ → Result Fragment RecordRefusal → Type 0

@@ -6,8 +6,6 @@ mod call;
 mod record;
 mod reply;
 mod reply_reading;
-#[cfg(test)]
-mod tests;
 mod transfer;
 mod xdr_reader;
 mod xdr_writer;

@@ -2,7 +2,7 @@
 
 ghost use Rattle.std.specs.Prelude.{◌≡◌, ◌+◌, ◌^◌, ◌<◌, ◌≤◌, true, false, length, take, vec_len, IsTrue, Ok, OnOk, IfOk, OnErr, IsErrOf};
 ghost use Rattle.sec_base.specs.Answers.{Rose};
-ghost use Rattle.rpc_msgs.specs.Fragments.{TakesFragment, TakesContent, TakesPiece};
+ghost use Rattle.rpc_msgs.specs.Fragments.{TakesFragment, TakesHeader, TakesAnnounced, TakesContent, TakesPiece};
 ghost use Rattle.rpc_msgs.specs.Records.{TakesRecord, last_fragment};
 ghost use Rattle.rpc_msgs.specs.Streams.{Sends};
 ghost use Rattle.rpc_msgs.specs.Words.{word};
@@ -98,14 +98,50 @@ fn read_fragment<L: Link>(
     ensures fault { IsErrOf result RecordRefusal.LinkFault → Rose (L.faults link.old) (L.faults link.new) }
     ensures faults { L.faults link.old ≤ L.faults link.new }
 {
+    match read_header(link, number) {
+        Ok(Some(header)) => read_announced(link, octets, number, header),
+        Ok(None) => Ok(Fragment::End),
+        Err(refusal) => Err(refusal),
+    }
+}
+
+/// Reads the header of the fragment of this number; None where the stream ends before the first one.
+fn read_header<L: Link>(link: &mut L, number: u32) -> Result<Option<u32>, RecordRefusal>
+    requires { L.closed link.old ≡ false }
+    ensures told { IsTrue (L.tells link.old) → TakesHeader (L.wire link.old) (L.wire link.new) number result }
+    ensures tells { L.tells link.new ≡ L.tells link.old }
+    ensures unclosed { L.closed link.new ≡ false }
+    ensures fault { IsErrOf result RecordRefusal.LinkFault → Rose (L.faults link.old) (L.faults link.new) }
+    ensures faults { L.faults link.old ≤ L.faults link.new }
+{
     let mut cells = [0; 4];
     match fill(link, &mut cells) {
-        Ok(4) => {}
-        Ok(0) if number == 0 => return Ok(Fragment::End),
-        Ok(_) => return Err(RecordRefusal::Torn),
-        Err(LinkFault) => return Err(RecordRefusal::LinkFault),
+        Ok(4) => Ok(Some(word_of(&cells))),
+        Ok(0) if number == 0 => Ok(None),
+        Ok(_) => Err(RecordRefusal::Torn),
+        Err(LinkFault) => Err(RecordRefusal::LinkFault),
     }
-    let header = word_of(&cells);
+}
+
+/// Reads the octets that a header announces, if the record may have them.
+fn read_announced<L: Link>(
+    link: &mut L,
+    octets: &mut Vec<u8>,
+    number: u32,
+    header: u32,
+) -> Result<Fragment, RecordRefusal>
+    requires unclosed { L.closed link.old ≡ false }
+    requires size { vec_len octets.old ≤ 131072 }
+    requires most { number ≤ 64 }
+    ensures told { IsTrue (L.tells link.old) → TakesAnnounced (L.wire link.old) (L.wire link.new) octets.old.items octets.new.items number header result }
+    ensures size { OnOk result (vec_len octets.new ≤ 131072) }
+    ensures more { result ≡ Ok Fragment.More → number < 64 }
+    ensures last { result ≡ Ok Fragment.Last → number < 64 }
+    ensures tells { L.tells link.new ≡ L.tells link.old }
+    ensures unclosed { L.closed link.new ≡ false }
+    ensures fault { IsErrOf result RecordRefusal.LinkFault → Rose (L.faults link.old) (L.faults link.new) }
+    ensures faults { L.faults link.old ≤ L.faults link.new }
+{
     let size = (header % LAST) as usize;
     if LIMIT < octets.len() + size {
         return Err(RecordRefusal::TooLong);
