@@ -2,11 +2,11 @@
 
 ghost use Rattle.std.specs.Prelude.{◌≡◌};
 
-use crate::cells::cell;
 use accept_book::{AdmitRefusal, Admitted, Lease, LookRefusal, Negotiated, Receipt};
 use gss_server::{Gate, ListGate};
 use sec_base::Moment;
 use std::alloc::Global;
+use table_rows::cell;
 
 /// A list of answers, and the questions that were asked of it: `look:id`, `admit:id:seq:procedure:sha1`, `end:id:seq`, `token:id`.
 #[derive(Drop)]

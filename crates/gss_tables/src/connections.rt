@@ -1,36 +1,51 @@
 //! A whole connection over one book.
 
-use crate::cells::{add, cell, moment};
+ghost use Rattle.std.specs.Prelude.{◌≤◌, ◌<◌, IfSome};
+
 use crate::entries;
 use crate::records::{link, records_of};
-use crate::setting::Setting;
 use accept_book::{Book, Limits};
 use gss_server::{ConnEnd, answer_record, serve_link};
 use sec_base::{Clock, Draw, MemClock, MemDraw, Moment};
 use std::alloc::Global;
+use table_rows::{add, cell, moment};
+use table_setting::Setting;
 
-/// The limits of a cell `contexts:marks:log:width`.
-fn limits(said: &str) -> Option<Limits> {
+/// The limits of a cell `contexts:marks:log:width`; None where one is past what a book takes.
+pub fn limits_of(said: &str) -> Option<Limits>
+    ensures contexts { IfSome result (λ limits. limits.contexts ≤ 65536) }
+    ensures some_mark { IfSome result (λ limits. 0 < limits.marks) }
+    ensures marks { IfSome result (λ limits. limits.marks ≤ 1000000) }
+    ensures entries { IfSome result (λ limits. limits.log ≤ 4000000) }
+    ensures some_width { IfSome result (λ limits. 0 < limits.width) }
+    ensures width { IfSome result (λ limits. limits.width ≤ 1024) }
+{
     let mut parts = said.split(':');
-    Some(Limits {
+    let limits = Limits {
         contexts: parts.next()?.parse::<usize>().ok()?,
         marks: parts.next()?.parse::<usize>().ok()?,
         log: parts.next()?.parse::<usize>().ok()?,
         width: parts.next()?.parse::<u32>().ok()?,
-    })
-}
-
-/// A book under these limits, which offers Kerberos and SCRAM; None where a limit is past what a book takes.
-fn book(alloc: Global, setting: &Setting, said: &str) -> Option<Book> {
-    let limits = limits(said)?;
-    let start = Moment::new(1_000_000, 0)?;
+    };
     if limits.contexts > 65_536 || limits.marks == 0 || limits.marks > 1_000_000 {
         return None;
     }
     if limits.log > 4_000_000 || limits.width == 0 || limits.width > 1024 {
         return None;
     }
-    let setup = setting.acceptor(alloc, "ks")?;
+    Some(limits)
+}
+
+/// A book of this offer's letters, under these limits and from this moment on.
+pub fn book_of(
+    alloc: Global,
+    setting: &Setting,
+    letters: &str,
+    limits: &str,
+    start: Moment,
+) -> Option<Book> {
+    let limits = limits_of(limits)?;
+    let setup = setting.acceptor(alloc, letters)?;
     Book::open(alloc, setup, limits, start).ok()
 }
 
@@ -55,10 +70,10 @@ struct Desk {
 /// A desk before its first connection, by the cells of limits and moments.
 fn new_desk(alloc: Global, setting: &Setting, said: &str, nows: &str) -> Option<Desk> {
     Some(Desk {
-        gate: book(alloc, setting, said)?,
+        gate: book_of(alloc, setting, "ks", said, Moment::new(1_000_000, 0)?)?,
         clock: clock(alloc, nows)?,
         draw: MemDraw::new(Vec::new(alloc)),
-        width: limits(said)?.width,
+        width: limits_of(said)?.width,
     })
 }
 
@@ -122,21 +137,13 @@ fn all_served(alloc: Global, desk: &mut Desk, inputs: &str) -> Option<String> {
     format!(in alloc; "{outputs} {ends}").ok()
 }
 
-/// The digest and the kinds of a book's log.
-fn logged(alloc: Global, book: &Book) -> Option<String> {
-    let entries = book.log().entries();
-    let digest = entries::digest(alloc, entries)?;
-    let kinds = entries::kinds(alloc, entries)?;
-    format!(in alloc; "{digest} {kinds}").ok()
-}
-
 /// What is written on the connections of a line, by the cells limits, moments and streams: then their ends, the rules, and the log.
 pub fn answered(alloc: Global, setting: &Setting, line: &str) -> Option<String> {
     let mut cells = line.split(' ');
     let (said, nows, inputs) = (cells.next()?, cells.next()?, cells.next()?);
     let mut desk = new_desk(alloc, setting, said, nows)?;
     let output = all_served(alloc, &mut desk, inputs)?;
-    let log = logged(alloc, &desk.gate)?;
+    let log = entries::logged(alloc, desk.gate.log().entries(), " ")?;
     let rules = all_rules(alloc, new_desk(alloc, setting, said, nows)?, inputs)?;
     format!(in alloc; "{output} {rules} {log}").ok()
 }

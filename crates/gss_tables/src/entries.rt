@@ -1,11 +1,11 @@
 //! The entries of a log, as the tables say them.
 
-use crate::cells::{add, cell};
 use accept_book::{EndCause, Entry};
 use gss_base::MechKind;
 use sec_base::Moment;
 use sha1::Sha1;
 use std::alloc::Global;
+use table_rows::{add, cell};
 
 /// The kind of an entry.
 fn kind(entry: &Entry) -> &'static str {
@@ -84,13 +84,18 @@ fn settled(
     format!(in alloc; "{id}:{mech}:{names}:{}:{}", ends.total(), at.total()).ok()
 }
 
+/// An entry as `kind:fields`.
+pub fn said(alloc: Global, entry: &Entry) -> Option<String> {
+    let (kind, fields) = (kind(entry), fields(alloc, entry)?);
+    format!(in alloc; "{kind}:{fields}").ok()
+}
+
 /// SHA-1 of the lines `kind:fields` of the entries, each ended by a line feed.
-pub fn digest(alloc: Global, entries: &[Entry]) -> Option<String> {
+fn digest(alloc: Global, entries: &[Entry]) -> Option<String> {
     let mut hasher = Sha1::new();
     for entry in entries {
-        let (kind, fields) = (kind(entry), fields(alloc, entry)?);
-        let line = format!(in alloc; "{kind}:{fields}\n").ok()?;
-        hasher.update(line.as_bytes());
+        hasher.update(said(alloc, entry)?.as_bytes());
+        hasher.update(b"\n");
     }
     cell(alloc, &hasher.finalize())
 }
@@ -105,4 +110,11 @@ pub fn kinds(alloc: Global, entries: &[Entry]) -> Option<String> {
         said.push_str("-").ok()?;
     }
     Some(said)
+}
+
+/// The digest and the kinds of the entries, with this mark between them.
+pub fn logged(alloc: Global, entries: &[Entry], mark: &str) -> Option<String> {
+    let digest = digest(alloc, entries)?;
+    let kinds = kinds(alloc, entries)?;
+    format!(in alloc; "{digest}{mark}{kinds}").ok()
 }

@@ -1,9 +1,9 @@
 //! The records of a stream.
 
-use crate::cells::{add, cell, octets, or_none};
 use rpc_msgs::{RecordRefusal, next_record};
 use sec_base::{MemLink, Octets};
 use std::alloc::Global;
+use table_rows::{add, cell, octets, or_none};
 
 /// More records than a line of a table has.
 const MOST: u32 = 1000;

@@ -1,7 +1,6 @@
 //! The answer to one record, over a gate whose answers the line says.
 
 use crate::asking::Asking;
-use crate::cells::{cell, exactly, moment, octets, or_none, text};
 use accept_book::{AdmitRefusal, Admitted, EndCause, Entry, Lease, LookRefusal, Receipt};
 use gss_base::{Label, MechKind};
 use gss_server::{Answered, GateAnswer, ListGate, Reply, answer_record};
@@ -9,6 +8,7 @@ use krb_derive::Key;
 use sec_base::Moment;
 use spnego_core::Outcome;
 use std::alloc::Global;
+use table_rows::{cell, exactly, moment, octets, or_none, text};
 
 /// The lease of a context: `id:key:subkey:initiator`, with a key of type 17.
 fn lease(alloc: Global, said: &str) -> Option<Lease> {

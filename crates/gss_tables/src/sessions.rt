@@ -3,13 +3,13 @@
 ghost use Rattle.std.specs.Prelude.{◌≡◌, ◌≤◌, IfSome, true};
 ghost use Rattle.spnego_core.specs.InitMech.{is_own_list};
 
-use crate::cells::{add, cell, octets};
+use crate::endings::ended;
 use crate::records::link;
-use crate::saying;
-use crate::setting::Setting;
 use gss_client::{Service, Session, Start};
 use sec_base::MemLink;
 use std::alloc::Global;
+use table_rows::{add, cell, octets};
+use table_setting::{Setting, saying};
 
 /// The service of a number.
 fn service(said: &str) -> Option<Service> {
@@ -22,7 +22,13 @@ fn service(said: &str) -> Option<Service> {
 }
 
 /// What a session is begun with, by the cells of list, service and first number.
-fn begin(alloc: Global, setting: &Setting, letters: &str, said: &str, first: &str) -> Option<Start>
+pub fn begin(
+    alloc: Global,
+    setting: &Setting,
+    letters: &str,
+    said: &str,
+    first: &str,
+) -> Option<Start>
     ensures list { IfSome result (λ start. is_own_list start.setup.list ≡ true) }
     ensures first { IfSome result (λ start. 1 ≤ start.first) }
     ensures last { IfSome result (λ start. start.first ≤ 0x7fffffff) }
@@ -57,7 +63,7 @@ fn destroyed(alloc: Global, link: &mut MemLink, session: Session) -> Option<Stri
     }
     match session.destroy(alloc, link) {
         Ok(()) => String::from_str(alloc, "Destroyed").ok(),
-        Err(refusal) => saying::ended(alloc, refusal),
+        Err(refusal) => ended(alloc, refusal),
     }
 }
 
@@ -77,7 +83,7 @@ fn called(
     }
     match session.call(alloc, link, procedure, args.as_slice(), &confounder(before)) {
         Ok((session, result)) => Some((Some(session), cell(alloc, result.as_slice())?)),
-        Err(refusal) => Some((None, saying::ended(alloc, refusal)?)),
+        Err(refusal) => Some((None, ended(alloc, refusal)?)),
     }
 }
 
@@ -113,7 +119,7 @@ fn followed(
 }
 
 /// The outcome of a session, what its calls answer and its end.
-fn talked(alloc: Global, link: &mut MemLink, start: Start, calls: &str) -> Option<String>
+pub fn talked(alloc: Global, link: &mut MemLink, start: Start, calls: &str) -> Option<String>
     requires list { is_own_list start.setup.list ≡ true }
     requires first { 1 ≤ start.first }
     requires last { start.first ≤ 0x7fffffff }
@@ -122,7 +128,7 @@ fn talked(alloc: Global, link: &mut MemLink, start: Start, calls: &str) -> Optio
         return None;
     }
     match Session::create(alloc, link, start) {
-        Err(refusal) => saying::ended(alloc, refusal),
+        Err(refusal) => ended(alloc, refusal),
         Ok(session) => {
             let outcome = saying::outcome(alloc, session.outcome())?;
             followed(alloc, link, session, calls, outcome)
