@@ -19,10 +19,3 @@ pub use book_answer::{BookRefusal, Lease, NegAnswer, Negotiated};
 pub use entry::{Admitted, EndCause, Entry, Limits, Receipt, Receipts};
 pub use log::Log;
 pub use named::Named;
-
-#[cfg(test)]
-mod book_tests;
-#[cfg(test)]
-mod scram_tests;
-#[cfg(test)]
-mod tests;

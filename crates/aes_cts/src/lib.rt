@@ -6,7 +6,5 @@ mod key;
 mod schedule;
 mod stealing;
 mod tables;
-#[cfg(test)]
-mod tests;
 
 pub use key::AesKey;

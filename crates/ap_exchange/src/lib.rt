@@ -21,10 +21,8 @@ pub use draws::nonce_of;
 pub use judge::judge_request;
 pub use judged::Judged;
 pub use laws::prove_laws;
+pub use names::names_of;
 pub use refusal::{ApRefusal, Part};
 pub use request::ApInit;
 pub use stamps::Stamps;
 pub use ticket::seal_ticket;
-
-#[cfg(test)]
-mod tests;

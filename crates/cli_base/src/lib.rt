@@ -10,6 +10,3 @@ pub use files::{FileStop, load, say_stop, stop_of};
 pub use lines::{OUT_OF_MEMORY, say, say_made};
 pub use numbers::number_in;
 pub use words::{are_words, count_plain, first_word, plain, value_of};
-
-#[cfg(test)]
-mod tests;

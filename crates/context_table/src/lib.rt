@@ -7,6 +7,3 @@ mod table;
 
 pub use slot::{Phase, Slot, SlotState};
 pub use table::Table;
-
-#[cfg(test)]
-mod tests;

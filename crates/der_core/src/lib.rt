@@ -16,6 +16,3 @@ pub use reader::Reader;
 pub use refusal::{DerRefusal, DerWhy};
 pub use token_frame::{frame, unframe};
 pub use writer::Writer;
-
-#[cfg(test)]
-mod tests;

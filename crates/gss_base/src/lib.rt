@@ -13,6 +13,3 @@ pub use label::Label;
 pub use mark::{Mark, mark_of};
 pub use mech::MechKind;
 pub use principal::{NameRefusal, Principal};
-
-#[cfg(test)]
-mod tests;

@@ -6,8 +6,6 @@ mod answering;
 mod book_gate;
 mod calling;
 mod connection;
-#[cfg(test)]
-mod context_tests;
 mod creating;
 mod desk;
 mod desks;
@@ -24,13 +22,9 @@ mod opening;
 mod options;
 mod results;
 mod rules;
-#[cfg(test)]
-mod run_tests;
 mod saying;
 mod server;
 mod statuses;
-#[cfg(test)]
-mod tests;
 mod told;
 
 pub use answer::{Answered, Kept, Reply};

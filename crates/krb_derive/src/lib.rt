@@ -7,8 +7,6 @@ mod fold;
 mod key;
 mod laws;
 mod sealing;
-#[cfg(test)]
-mod tests;
 
 pub use checks::{CheckKey, checksum, verify};
 pub use derivation::{Part, derive};

@@ -7,8 +7,6 @@ mod end;
 mod laws;
 mod mic;
 mod mic_keys;
-#[cfg(test)]
-mod tests;
 mod wrap;
 
 pub use cache::MicCache;

@@ -3,8 +3,6 @@
 
 mod mac;
 mod stretch;
-#[cfg(test)]
-mod tests;
 
 pub use mac::Hmac;
 pub use stretch::hi;

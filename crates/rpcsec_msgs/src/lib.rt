@@ -4,8 +4,6 @@
 mod bodies;
 mod cred;
 mod init_res;
-#[cfg(test)]
-mod tests;
 
 pub use bodies::{join_checked, join_sealed, split_checked, split_sealed};
 pub use cred::{CredRefusal, GssCred, read_cred, write_cred};

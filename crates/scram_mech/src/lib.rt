@@ -19,8 +19,6 @@ mod secrets;
 mod signs;
 mod state;
 mod symbols;
-#[cfg(test)]
-mod tests;
 mod texts;
 mod third_text;
 mod verifiers;

@@ -28,6 +28,3 @@ pub use outcome::Outcome;
 pub use pair_laws::prove_pair_laws;
 pub use refusal::{MechRefusal, NegRefusal};
 pub use setup::{AcceptSetup, InitSetup, MechCred};
-
-#[cfg(test)]
-mod tests;

@@ -11,6 +11,3 @@ pub use lists::{list_bytes, prove_one_list};
 pub use neg_init::{NegInit, read_init, write_init};
 pub use neg_resp::{NegResp, read_resp, write_resp};
 pub use neg_state::NegState;
-
-#[cfg(test)]
-mod tests;

@@ -47,7 +47,7 @@ started_by (Err refusal) = refused
 started_by (Ok started) = record {
   stage = stages.Asks 1 started.end;
   lost = stages.Over;
-  answer = Sent (creation_call 1 1 [] started.token);
+  answer = Sent (creation_call Integrity 1 1 [] started.token);
   makes = started.makes;
   found = [];
 }
@@ -88,7 +88,7 @@ created_by xid end octets (Err refusal) = refused
 created_by xid end octets (Ok (created.Going offer)) = record {
   stage = stages.Asks (xid_after xid) offer.end;
   lost = stages.Over;
-  answer = Sent (creation_call (xid_after xid) 2 offer.handle offer.token);
+  answer = Sent (creation_call Integrity (xid_after xid) 2 offer.handle offer.token);
   makes = handed_out (initiated xid end octets);
   found = verified (initiated xid end octets);
 }

@@ -57,10 +57,17 @@ fn lost() -> Moves
 /// It hands out the creation call of this transaction number, whose reply is due.
 fn ask(alloc: Global, xid: u32, proc: u32, offer: Offer) -> Moves
     requires { FitsOffer offer }
-    ensures { Goes (Stage.Asks xid offer.end) (Happened.Sent (creation_call xid proc offer.handle offer.token)) Stage.Over result }
+    ensures { Goes (Stage.Asks xid offer.end) (Happened.Sent (creation_call Service.Integrity xid proc offer.handle offer.token)) Stage.Over result }
 {
     let Offer { end, handle, token } = offer;
-    match creation_call(alloc, xid, proc, handle.as_slice(), token.as_slice()) {
+    match creation_call(
+        alloc,
+        Service::Integrity,
+        xid,
+        proc,
+        handle.as_slice(),
+        token.as_slice(),
+    ) {
         Ok(record) => Moves {
             stage: Stage::Asks { xid, end },
             happened: Ok(Happened::Sent(record)),

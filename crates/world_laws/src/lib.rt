@@ -4,18 +4,10 @@
 mod event;
 mod facts;
 mod initiators;
-#[cfg(test)]
-mod lane_tests;
 mod lanes;
 mod laws;
-#[cfg(test)]
-mod run_helpers;
-#[cfg(test)]
-mod run_tests;
 mod setups;
 mod stage;
-#[cfg(test)]
-mod tests;
 mod turn;
 mod world;
 
