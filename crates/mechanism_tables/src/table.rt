@@ -2,7 +2,7 @@
 
 use crate::{
     accepting, initiating, kerberos, peers, scram_exchanges, scram_initiator, scram_texts, stamps,
-    tickets, verifiers,
+    verifiers,
 };
 use std::alloc::Global;
 use table_rows::Rows;
@@ -14,7 +14,6 @@ pub enum Table {
     Requests,
     Replies,
     Faults,
-    Tickets,
     Stamps,
     ScramExchanges,
     ScramInitiator,
@@ -35,7 +34,6 @@ impl Table {
             Table::Requests => "requests.txt",
             Table::Replies => "replies.txt",
             Table::Faults => "faults.txt",
-            Table::Tickets => "tickets.txt",
             Table::Stamps => "stamps.txt",
             Table::ScramExchanges => "scram_exchanges.txt",
             Table::ScramInitiator => "scram_initiator.txt",
@@ -60,7 +58,6 @@ impl Table {
             Table::Requests | Table::Faults | Table::ScramInitiator | Table::PeerReplies => 6,
             Table::ScramExchanges => 8,
             Table::Replies => 9,
-            Table::Tickets => 13,
         }
     }
 
@@ -68,11 +65,7 @@ impl Table {
     fn are_named(self) -> bool {
         matches!(
             self,
-            Table::Faults
-                | Table::Tickets
-                | Table::Stamps
-                | Table::ScramInitiator
-                | Table::FirstTokens
+            Table::Faults | Table::Stamps | Table::ScramInitiator | Table::FirstTokens
         )
     }
 
@@ -82,7 +75,6 @@ impl Table {
             Table::Requests => kerberos::judged(alloc, line),
             Table::Replies => kerberos::replied(alloc, line),
             Table::Faults => kerberos::judged(alloc, line),
-            Table::Tickets => tickets::sealed(alloc, line),
             Table::Stamps => stamps::given(alloc, line),
             Table::ScramExchanges => scram_exchanges::exchanged(alloc, line),
             Table::ScramInitiator => scram_initiator::talked(alloc, line),
