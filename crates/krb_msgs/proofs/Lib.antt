@@ -1,4 +1,6 @@
 pub mod MessageLaws
 pub mod Named
 pub mod PartLaws
+pub mod ReadFields
+pub mod WriteFields
 pub mod WrittenMessages

@@ -1,7 +1,7 @@
 -- The laws of the messages: what is read is spelled so, and what is spelled so is read.
 use Rattle.std.proofs.Common.{refl, arith, [], unwrap_or}
 use Rattle.der_core.specs.Law.{IsFormat, IsContent}
-use Rattle.der_core.proofs.Laws.{element_law, whole_law, explicit_law, explicit_tag, done_law, done_from, field_law, field_from, known_law, known_from, optional_law, optional_from, optional_known_law, optional_known_from, seen_law, kept_law}
+use Rattle.der_core.proofs.Laws.{element_law, whole_law, explicit_law, explicit_tag, done_law, done_from, field_law, field_from, known_law, known_from, optional_law, optional_from, optional_known_law, seen_law, kept_law}
 use Rattle.der_core.proofs.SingleValues.{octet_string_law, int32_law, uint32_law, natural_law, text_law, flags_law, time_law}
 use Rattle.krb_msgs.proofs.PartLaws.{constant_law, name_in_law, encrypted_data_law, encryption_key_law, checksum_law, transited_encoding_law, host_address_list_law, authorization_datum_list_law}
 use Rattle.krb_msgs.specs.Ticket.{ticket_fields, ticket_element, ticket}

@@ -1,15 +1,13 @@
 -- The laws of the parts: what is read is spelled so, and what is spelled so is read.
-use Rattle.std.proofs.Common.{◌≡◌, ℕ, ◌<◌, ◌^◌, true, ◌&&◌, leb, ltb, length, refl, sym, ap, subst, arith}
+use Rattle.std.proofs.Common.{◌≡◌, ℕ, ◌<◌, true, ◌&&◌, leb, refl, subst, arith}
 use Rattle.std.proofs.lemmas.Bool.{leb-true, le-leb, lt-ltb, and_from}
 use Rattle.gss_base.specs.Principal.{is_count, is_named}
-use Rattle.der_core.specs.Format.{Input, Format}
-use Rattle.der_core.specs.Element.{guarded}
 use Rattle.der_core.specs.Fields.{list_of}
-use Rattle.der_core.specs.Integer.{least, natural}
+use Rattle.der_core.specs.Integer.{natural}
 use Rattle.der_core.specs.Values.{text}
-use Rattle.der_core.specs.Law.{Takes, IsFormat, IsContent, HasTag}
+use Rattle.der_core.specs.Law.{Takes, IsFormat, HasTag}
 use Rattle.der_core.proofs.Steps.{bind_ok, ok_is, both}
-use Rattle.der_core.proofs.Laws.{element_law, element_tag, explicit_law, explicit_tag, done_law, done_from, field_law, optional_law, optional_from, field_from, seen_law, guarded_law, list_law}
+use Rattle.der_core.proofs.Laws.{element_law, element_tag, explicit_law, explicit_tag, done_law, field_law, optional_law, field_from, seen_law, guarded_law, list_law}
 use Rattle.der_core.proofs.SingleValues.{octet_string_law, int32_law, uint32_law, natural_law, text_law}
 use Rattle.der_core.proofs.TwosComplement.{least_again}
 use Rattle.krb_msgs.specs.Constant.{constant}

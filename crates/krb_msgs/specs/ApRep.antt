@@ -7,6 +7,7 @@ use Rattle.krb_msgs.specs.EncryptedData.{encrypted_data}
 use Rattle.krb_msgs.specs.declared.encrypted_data.EncryptedData.{EncryptedData}
 use Rattle.krb_msgs.specs.declared.ap_rep.ApRep.{ApRep}
 
+-- pvno [0], msg-type [1], enc-part [2]
 abbrev pub ap_rep_fields : Content (Unit {0} × (Unit {0} × (EncryptedData × Unit {0})))
 ap_rep_fields =
     with_field (explicit 0xa0 (constant 5))
@@ -14,11 +15,17 @@ ap_rep_fields =
     (with_field (explicit 0xa2 encrypted_data)
     (done)))
 
-unfoldable pub ap_rep_element : Format ApRep
-ap_rep_element = explicit 0x6f (element 0x30 (seen
+-- the fields by their names
+abbrev pub ap_rep_content : Content ApRep
+ap_rep_content = seen
     (λ v. record { enc_part = v.1.1.0 })
     (λ p. (tt, (tt, (p.enc_part, tt))))
-    ap_rep_fields))
+    ap_rep_fields
 
+-- AP-REP ::= [APPLICATION 15] SEQUENCE of these fields
+unfoldable pub ap_rep_element : Format ApRep
+ap_rep_element = explicit 0x6f (element 0x30 ap_rep_content)
+
+-- one AP-REP, and nothing behind it
 abbrev pub ap_rep : Content ApRep
 ap_rep = whole ap_rep_element

@@ -10,7 +10,10 @@ use Rattle.krb_msgs.specs.declared.encrypted_data.EncryptedData.{EncryptedData}
 use Rattle.krb_msgs.specs.Ticket.{ticket_element}
 use Rattle.krb_msgs.specs.declared.ap_req.ApReq.{ApReq}
 
-abbrev pub ap_req_fields : Content (Unit {0} × (Unit {0} × (ℕ × ((List ℕ) × (EncryptedData × Unit {0})))))
+-- pvno [0], msg-type [1], ap-options [2], ticket [3], authenticator [4]; the ticket is kept as the
+-- octets that spell it
+abbrev pub ap_req_fields : Content
+    (Unit {0} × (Unit {0} × (ℕ × ((List ℕ) × (EncryptedData × Unit {0})))))
 ap_req_fields =
     with_field (explicit 0xa0 (constant 5))
     (with_field (explicit 0xa1 (constant 14))
@@ -19,11 +22,17 @@ ap_req_fields =
     (with_field (explicit 0xa4 encrypted_data)
     (done)))))
 
-unfoldable pub ap_req_element : Format ApReq
-ap_req_element = explicit 0x6e (element 0x30 (seen
+-- the fields by their names
+abbrev pub ap_req_content : Content ApReq
+ap_req_content = seen
     (λ v. record { ap_options = v.1.1.0; ticket = v.1.1.1.0; authenticator = v.1.1.1.1.0 })
     (λ p. (tt, (tt, (p.ap_options, (p.ticket, (p.authenticator, tt))))))
-    ap_req_fields))
+    ap_req_fields
 
+-- AP-REQ ::= [APPLICATION 14] SEQUENCE of these fields
+unfoldable pub ap_req_element : Format ApReq
+ap_req_element = explicit 0x6e (element 0x30 ap_req_content)
+
+-- one AP-REQ, and nothing behind it
 abbrev pub ap_req : Content ApReq
 ap_req = whole ap_req_element

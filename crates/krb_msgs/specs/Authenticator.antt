@@ -18,7 +18,8 @@ use Rattle.krb_msgs.specs.declared.authorization_datum.AuthorizationDatum.{Autho
 use Rattle.krb_msgs.specs.declared.authenticator.Authenticator.{Authenticator}
 
 -- the fields behind the name
-abbrev pub authenticator_behind_name : Content ((Option Checksum) × (ℕ × (ℕ × ((Option EncryptionKey) × ((Option ℕ) × ((Option (List AuthorizationDatum)) × Unit {0}))))))
+abbrev pub authenticator_behind_name : Content ((Option Checksum) × (ℕ × (ℕ
+    × ((Option EncryptionKey) × ((Option ℕ) × ((Option (List AuthorizationDatum)) × Unit {0}))))))
 authenticator_behind_name =
     with_optional 0xa3 (explicit 0xa3 checksum)
     (with_field (explicit 0xa4 (natural 0 999999))
@@ -28,17 +29,47 @@ authenticator_behind_name =
     (with_optional 0xa8 (explicit 0xa8 (list_of authorization_datum))
     (done))))))
 
-abbrev pub authenticator_fields : Content (Unit {0} × ((List ℕ) × (PrincipalName × ((Option Checksum) × (ℕ × (ℕ × ((Option EncryptionKey) × ((Option ℕ) × ((Option (List AuthorizationDatum)) × Unit {0})))))))))
+-- authenticator-vno [0], crealm [1], cname [2], and the fields behind the name; the name is that of
+-- a principal in crealm
+abbrev pub authenticator_fields : Content
+    (Unit {0} × ((List ℕ) × (PrincipalName × ((Option Checksum) × (ℕ × (ℕ × ((Option EncryptionKey)
+    × ((Option ℕ) × ((Option (List AuthorizationDatum)) × Unit {0})))))))))
 authenticator_fields =
     with_field (explicit 0xa0 (constant 5))
     (with_known (explicit 0xa1 text)
     (λ crealm. with_field (explicit 0xa2 (name_in crealm)) authenticator_behind_name))
 
-unfoldable pub authenticator_element : Format Authenticator
-authenticator_element = explicit 0x62 (element 0x30 (seen
-    (λ v. record { crealm = v.1.0; cname = v.1.1.0; cksum = v.1.1.1.0; cusec = v.1.1.1.1.0; ctime = v.1.1.1.1.1.0; subkey = v.1.1.1.1.1.1.0; seq_number = v.1.1.1.1.1.1.1.0; authorization_data = v.1.1.1.1.1.1.1.1.0 })
-    (λ p. (tt, (p.crealm, (p.cname, (p.cksum, (p.cusec, (p.ctime, (p.subkey, (p.seq_number, (p.authorization_data, tt))))))))))
-    authenticator_fields))
+-- the fields by their names
+abbrev pub authenticator_content : Content Authenticator
+authenticator_content = seen
+    (λ v. record {
+      crealm = v.1.0;
+      cname = v.1.1.0;
+      cksum = v.1.1.1.0;
+      cusec = v.1.1.1.1.0;
+      ctime =
+          v.1.1.1.1.1.0;
+      subkey = v.1.1.1.1.1.1.0;
+      seq_number = v.1.1.1.1.1.1.1.0;
+      authorization_data =
+          v.1.1.1.1.1.1.1.1.0;
+    })
+    (λ p. (
+      tt,
+      (
+        p.crealm,
+        (
+          p.cname,
+          (p.cksum, (p.cusec, (p.ctime, (p.subkey, (p.seq_number, (p.authorization_data, tt)))))),
+        ),
+      ),
+    ))
+    authenticator_fields
 
+-- Authenticator ::= [APPLICATION 2] SEQUENCE of these fields
+unfoldable pub authenticator_element : Format Authenticator
+authenticator_element = explicit 0x62 (element 0x30 authenticator_content)
+
+-- one Authenticator, and nothing behind it
 abbrev pub authenticator : Content Authenticator
 authenticator = whole authenticator_element

@@ -6,6 +6,7 @@ use Rattle.der_core.specs.Fields.{done, with_field, with_optional, seen}
 use Rattle.der_core.specs.Integer.{int32, uint32}
 use Rattle.krb_msgs.specs.declared.encrypted_data.EncryptedData.{EncryptedData}
 
+-- etype [0], kvno [1] OPTIONAL, cipher [2]
 abbrev pub encrypted_data_fields : Content (ℤ × ((Option ℕ) × ((List ℕ) × Unit {0})))
 encrypted_data_fields =
     with_field (explicit 0xa0 int32)
@@ -13,8 +14,13 @@ encrypted_data_fields =
     (with_field (explicit 0xa2 octet_string)
     (done)))
 
-unfoldable pub encrypted_data : Format EncryptedData
-encrypted_data = element 0x30 (seen
+-- the fields by their names
+abbrev pub encrypted_data_content : Content EncryptedData
+encrypted_data_content = seen
     (λ v. record { etype = v.0; kvno = v.1.0; cipher = v.1.1.0 })
     (λ p. (p.etype, (p.kvno, (p.cipher, tt))))
-    encrypted_data_fields)
+    encrypted_data_fields
+
+-- EncryptedData ::= SEQUENCE of these fields
+unfoldable pub encrypted_data : Format EncryptedData
+encrypted_data = element 0x30 encrypted_data_content

@@ -8,9 +8,13 @@ pub mod EncApRepPart
 pub mod EncTicketPart
 pub mod EncryptedData
 pub mod EncryptionKey
+pub mod FieldReading
+pub mod FieldWriting
 pub mod HostAddress
 pub mod KrbError
+pub mod Message
 pub mod PrincipalName
 pub mod SameParts
 pub mod Ticket
 pub mod TransitedEncoding
+pub mod TypedOctets

@@ -12,17 +12,23 @@ use Rattle.krb_msgs.specs.declared.principal_name.PrincipalName.{PrincipalName}
 unfoldable pub name_parts : Format (List (List ℕ))
 name_parts = guarded is_count (list_of text)
 
+-- name-type [0], name-string [1]
 abbrev pub principal_name_fields : Content (ℤ × (List (List ℕ) × Unit {0}))
 principal_name_fields =
     with_field (explicit 0xa0 int32)
     (with_field (explicit 0xa1 name_parts)
     done)
 
-unfoldable pub principal_name : Format PrincipalName
-principal_name = element 0x30 (seen
+-- the fields by their names
+abbrev pub principal_name_content : Content PrincipalName
+principal_name_content = seen
     (λ v. record { name_type = v.0; name_string = v.1.0 })
     (λ p. (p.name_type, (p.name_string, tt)))
-    principal_name_fields)
+    principal_name_fields
+
+-- PrincipalName ::= SEQUENCE of these fields
+unfoldable pub principal_name : Format PrincipalName
+principal_name = element 0x30 principal_name_content
 
 -- a name that is a principal in this realm
 abbrev pub name_in : List ℕ → Format PrincipalName

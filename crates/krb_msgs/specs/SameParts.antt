@@ -14,6 +14,7 @@ texts_per = lists_per (partial_equiv_from_equiv nat_eq_equiv)
 rows_per : IsPartialEquivalence (pointwise (pointwise nat_eq))
 rows_per = lists_per texts_per
 
+-- having the same parts is symmetric and transitive
 pub same_parts_per : IsPartialEquivalence same_parts
 same_parts_per = record {
   symm = λ a b. rows_per.symm a.name_string b.name_string;

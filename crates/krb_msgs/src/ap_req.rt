@@ -1,15 +1,20 @@
 //! ApReq, RFC 4120 section 5.5.1.
 
 ghost use Rattle.std.specs.Prelude.{◌≡◌, Ok, OnOk, IfOk, true};
-ghost use Rattle.der_core.specs.Format.{all_of, MayRead, MayAnswer, Puts, PutsAll, WritesWhole};
+ghost use Rattle.der_core.specs.Format.{all_of, MayRead, MayAnswer, Puts, WritesWhole};
 ghost use Rattle.der_core.specs.Element.{explicit, kept};
+ghost use Rattle.krb_msgs.specs.FieldReading.{ReadsOn};
+ghost use Rattle.krb_msgs.specs.FieldWriting.{PutsOn};
 ghost use Rattle.krb_msgs.specs.Ticket.{ticket_element};
-ghost use Rattle.krb_msgs.specs.ApReq.{ap_req_fields, ap_req_element, ap_req};
+ghost use Rattle.krb_msgs.specs.ApReq.{ap_req_element, ap_req};
 
 use crate::EncryptedData;
-use crate::common::{constant_field, flags_field, put_constant_field, put_flags_field};
-use crate::ticket::ticket_element_of;
-use der_core::{DerRefusal, Reader, Writer, field, put_field};
+use crate::blank::Blank;
+use crate::field_reader::FieldReader;
+use crate::field_writer::FieldWriter;
+use crate::sequence::{Sequence, read_whole};
+use crate::ticket::ticket_from;
+use der_core::{DerRefusal, Reader, Writer};
 use sec_base::{NoMemory, Octets};
 use std::alloc::Global;
 
@@ -22,7 +27,7 @@ use std::alloc::Global;
 /// | 2 | ap-options |
 /// | 3 | ticket |
 /// | 4 | authenticator |
-#[derive(Debug, Drop, PartialEq)]
+#[derive(Drop)]
 pub struct ApReq {
     pub ap_options: u32,
     pub ticket: Octets,
@@ -30,41 +35,33 @@ pub struct ApReq {
 }
 
 /// Reads the message that all the octets are.
+#[tactic(auto, unfolding(crate::specs::ApReq::ap_req_element))]
 pub fn read_ap_req(alloc: Global, bytes: &[u8]) -> Result<ApReq, DerRefusal>
     ensures exact { MayAnswer (λ v. v) result (ap_req.read (all_of bytes.now)) }
     ensures found { IfOk result (λ v. WritesWhole ap_req v bytes.now) }
     ensures only { (v : _) → WritesWhole ap_req v bytes.now → MayAnswer (λ x. x) result (Ok v) }
 {
-    ap_req_of(alloc, bytes)
+    read_whole(alloc, bytes, 0x6e)
 }
 
-fn ap_req_of(alloc: Global, bytes: &[u8]) -> Result<ApReq, DerRefusal>
-    ensures { MayAnswer (λ v. v) result (ap_req.read (all_of bytes.now)) }
-{
-    let mut reader = Reader::new(bytes);
-    let message = ap_req_element_of(alloc, &mut reader)?;
-    reader.end()?;
-    Ok(message)
-}
+impl Sequence for ApReq {
+    ghost use Rattle.krb_msgs.specs.ApReq.{ap_req_content};
 
-#[tactic(auto, unfolding(crate::specs::ApReq::ap_req_element))]
-fn ap_req_element_of(alloc: Global, reader: &mut Reader) -> Result<ApReq, DerRefusal>
-    ensures { MayRead (λ v. v) reader.new result (ap_req_element.read reader.old) }
-{
-    let mut body = reader.tlv(0x6e)?;
-    let mut fields = body.tlv(0x30)?;
-    constant_field(&mut fields, 0xa0, 5)?;
-    constant_field(&mut fields, 0xa1, 14)?;
-    let ap_options = flags_field(&mut fields, 0xa2)?;
-    let ticket = ticket_field(alloc, &mut fields)?;
-    let authenticator: EncryptedData = field(alloc, &mut fields, 0xa4)?;
-    fields.end()?;
-    body.end()?;
-    Ok(ApReq {
-        ap_options,
-        ticket,
-        authenticator,
-    })
+    ghost content = { ap_req_content };
+
+    fn read_fields(alloc: Global, fields: &mut FieldReader) -> ApReq {
+        fields.constant(0xa0, 5);
+        fields.constant(0xa1, 14);
+        let ap_options = fields.flags(0xa2);
+        let ticket = ticket_field(alloc, fields);
+        let authenticator: EncryptedData = fields.field(alloc, 0xa4);
+        fields.end();
+        ApReq {
+            ap_options,
+            ticket,
+            authenticator,
+        }
+    }
 }
 
 /// The message's octets.
@@ -73,30 +70,26 @@ pub fn write_ap_req(alloc: Global, v: &ApReq) -> Result<Octets, NoMemory>
     requires ticket { (kept ticket_element).fits v.now.ticket ≡ true }
     ensures { IfOk result (λ o. WritesWhole ap_req v.now o) }
 {
-    let mut fields = Writer::new(alloc)?;
-    put_ap_req_fields(alloc, &mut fields, v)?;
-    let mut body = Writer::new(alloc)?;
-    body.put_tlv(0x30, fields.as_slice())?;
-    let mut out = Writer::new(alloc)?;
-    out.put_tlv(0x6e, body.as_slice())?;
-    out.finish()
-}
-
-fn put_ap_req_fields(alloc: Global, fields: &mut Writer, v: &ApReq) -> Result<(), NoMemory>
-    requires ticket { (kept ticket_element).fits v.now.ticket ≡ true }
-    ensures { OnOk result (PutsAll ap_req_fields (tt, (tt, (v.now.ap_options, (v.now.ticket, (v.now.authenticator, tt))))) fields.old fields.new) }
-{
-    put_constant_field(alloc, fields, 0xa0, 5)?;
-    put_constant_field(alloc, fields, 0xa1, 14)?;
-    put_flags_field(alloc, fields, 0xa2, v.ap_options)?;
-    put_ticket_field(fields, &v.ticket)?;
-    put_field(alloc, fields, 0xa4, &v.authenticator)?;
-    Ok(())
+    let mut fields = FieldWriter::new(alloc)?;
+    fields.constant(alloc, 0xa0, 5);
+    fields.constant(alloc, 0xa1, 14);
+    fields.flags(alloc, 0xa2, v.ap_options);
+    put_ticket(&mut fields, &v.ticket);
+    fields.field(alloc, 0xa4, &v.authenticator);
+    fields.into_message(alloc, 0x6e)
 }
 
 /// Reads the field of the ticket, and keeps its octets.
-fn ticket_field(alloc: Global, fields: &mut Reader) -> Result<Octets, DerRefusal>
-    ensures { MayRead (λ v. v) fields.new result ((explicit 0xa3 (kept ticket_element)).read fields.old) }
+fn ticket_field(alloc: Global, fields: &mut FieldReader) -> Octets
+    ensures { ReadsOn (explicit 0xa3 (kept ticket_element)) fields.old result fields.new }
+{
+    let read = kept_field(alloc, &mut fields.left);
+    fields.value(read, Octets::blank(alloc))
+}
+
+fn kept_field(alloc: Global, fields: &mut Reader) -> Result<Octets, DerRefusal>
+    ensures { MayRead (λ v. v) fields.new result
+        ((explicit 0xa3 (kept ticket_element)).read fields.old) }
 {
     let mut inner = fields.tlv(0xa3)?;
     let ticket = kept_ticket(alloc, &mut inner)?;
@@ -108,7 +101,9 @@ fn kept_ticket(alloc: Global, reader: &mut Reader) -> Result<Octets, DerRefusal>
     ensures { MayRead (λ v. v) reader.new result ((kept ticket_element).read reader.old) }
 {
     let octets = reader.rest();
-    let _ticket = ticket_element_of(alloc, reader)?;
+    {
+        let _ticket = ticket_from(alloc, reader)?;
+    }
     let size = octets.len().saturating_sub(reader.left());
     let (ticket, _rest) = octets.split_at(size);
     let kept = Octets::of(alloc, ticket)?;
@@ -116,6 +111,14 @@ fn kept_ticket(alloc: Global, reader: &mut Reader) -> Result<Octets, DerRefusal>
 }
 
 /// Adds the field of the ticket.
+fn put_ticket(fields: &mut FieldWriter, ticket: &Octets)
+    requires { (kept ticket_element).fits ticket.now ≡ true }
+    ensures { PutsOn (explicit 0xa3 (kept ticket_element)) ticket.now fields.old fields.new }
+{
+    let put = put_ticket_field(&mut fields.out, ticket);
+    fields.note(put);
+}
+
 fn put_ticket_field(out: &mut Writer, ticket: &Octets) -> Result<(), NoMemory>
     requires { (kept ticket_element).fits ticket.now ≡ true }
     ensures { OnOk result (Puts (explicit 0xa3 (kept ticket_element)) ticket.now out.old out.new) }

@@ -1,10 +1,9 @@
 //! Checksum, RFC 4120 section 5.2.9.
 
-ghost use Rattle.std.specs.Prelude.{◌≡◌, Ok, OnOk};
-ghost use Rattle.der_core.specs.Format.{MayRead, Puts, PutsAll};
-ghost use Rattle.krb_msgs.specs.Checksum.{checksum_fields, checksum};
-
-use der_core::{DerRefusal, Element, Reader, Writer, field, put_field};
+use crate::field_reader::FieldReader;
+use crate::sequence::{Sequence, read_sequence};
+use crate::typed_octets::put_typed_octets;
+use der_core::{DerRefusal, Element, Reader, Writer};
 use sec_base::{NoMemory, Octets};
 use std::alloc::Global;
 
@@ -14,7 +13,7 @@ use std::alloc::Global;
 /// |---|---|
 /// | 0 | cksumtype |
 /// | 1 | checksum |
-#[derive(Debug, Drop, PartialEq)]
+#[derive(Drop)]
 pub struct Checksum {
     pub cksumtype: i32,
     pub checksum: Octets,
@@ -26,41 +25,26 @@ impl Element for Checksum {
     ghost format = { checksum };
 
     fn read(alloc: Global, reader: &mut Reader) -> Result<Checksum, DerRefusal> {
-        checksum_of(alloc, reader)
+        read_sequence(alloc, reader)
     }
 
     fn put(&self, alloc: Global, out: &mut Writer) -> Result<(), NoMemory> {
-        put_checksum(alloc, out, self)
+        put_typed_octets(alloc, out, &self.cksumtype, &self.checksum)
     }
 }
 
-#[tactic(auto, unfolding(crate::specs::Checksum::checksum))]
-fn checksum_of(alloc: Global, reader: &mut Reader) -> Result<Checksum, DerRefusal>
-    ensures { MayRead (λ v. v) reader.new result (checksum.read reader.old) }
-{
-    let mut fields = reader.tlv(0x30)?;
-    let cksumtype: i32 = field(alloc, &mut fields, 0xa0)?;
-    let checksum: Octets = field(alloc, &mut fields, 0xa1)?;
-    fields.end()?;
-    Ok(Checksum {
-        cksumtype,
-        checksum,
-    })
-}
+impl Sequence for Checksum {
+    ghost use Rattle.krb_msgs.specs.Checksum.{checksum_content};
 
-#[tactic(auto, unfolding(crate::specs::Checksum::checksum))]
-fn put_checksum(alloc: Global, out: &mut Writer, v: &Checksum) -> Result<(), NoMemory>
-    ensures { OnOk result (Puts checksum v.now out.old out.new) }
-{
-    let mut fields = Writer::new(alloc)?;
-    put_checksum_fields(alloc, &mut fields, v)?;
-    out.put_tlv(0x30, fields.as_slice())
-}
+    ghost content = { checksum_content };
 
-fn put_checksum_fields(alloc: Global, fields: &mut Writer, v: &Checksum) -> Result<(), NoMemory>
-    ensures { OnOk result (PutsAll checksum_fields (v.now.cksumtype, (v.now.checksum, tt)) fields.old fields.new) }
-{
-    put_field(alloc, fields, 0xa0, &v.cksumtype)?;
-    put_field(alloc, fields, 0xa1, &v.checksum)?;
-    Ok(())
+    fn read_fields(alloc: Global, fields: &mut FieldReader) -> Checksum {
+        let cksumtype: i32 = fields.field(alloc, 0xa0);
+        let checksum: Octets = fields.field(alloc, 0xa1);
+        fields.end();
+        Checksum {
+            cksumtype,
+            checksum,
+        }
+    }
 }

@@ -1,7 +1,7 @@
 //! Fields that have no type of their own.
 
 ghost use Rattle.std.specs.Prelude.{◌≡◌, ◌≤◌, OnOk, IfSome};
-ghost use Rattle.der_core.specs.Format.{Reads, Puts};
+ghost use Rattle.der_core.specs.Format.{MayRead, Puts};
 ghost use Rattle.der_core.specs.Element.{explicit};
 ghost use Rattle.der_core.specs.Fields.{optional_at, PutsMaybe};
 ghost use Rattle.der_core.specs.Integer.{natural};
@@ -17,7 +17,8 @@ const MOST_MICROS: u32 = 999_999;
 
 /// Reads the field of a fixed number.
 pub fn constant_field(fields: &mut Reader, tag: u8, number: u32) -> Result<(), DerRefusal>
-    ensures { Reads (λ v. v) fields.new result ((explicit tag (constant number)).read fields.old) }
+    ensures { MayRead (λ v. v) fields.new result
+        ((explicit tag (constant number)).read fields.old) }
 {
     let mut inner = fields.tlv(tag)?;
     let _number = inner.natural(number, number)?;
@@ -27,7 +28,7 @@ pub fn constant_field(fields: &mut Reader, tag: u8, number: u32) -> Result<(), D
 
 /// Reads a field of flags.
 pub fn flags_field(fields: &mut Reader, tag: u8) -> Result<u32, DerRefusal>
-    ensures { Reads (λ v. v) fields.new result ((explicit tag flags).read fields.old) }
+    ensures { MayRead (λ v. v) fields.new result ((explicit tag flags).read fields.old) }
 {
     let mut inner = fields.tlv(tag)?;
     let value = inner.flags()?;
@@ -37,7 +38,8 @@ pub fn flags_field(fields: &mut Reader, tag: u8) -> Result<u32, DerRefusal>
 
 /// Reads a field of microseconds.
 pub fn micros_field(fields: &mut Reader, tag: u8) -> Result<u32, DerRefusal>
-    ensures { Reads (λ v. v) fields.new result ((explicit tag (natural 0 999999)).read fields.old) }
+    ensures { MayRead (λ v. v) fields.new result
+        ((explicit tag (natural 0 999999)).read fields.old) }
 {
     let mut inner = fields.tlv(tag)?;
     let value = inner.natural(0, MOST_MICROS)?;
@@ -47,7 +49,8 @@ pub fn micros_field(fields: &mut Reader, tag: u8) -> Result<u32, DerRefusal>
 
 /// Reads a field of microseconds, where it is there.
 pub fn optional_micros(fields: &mut Reader, tag: u8) -> Result<Option<u32>, DerRefusal>
-    ensures { Reads (λ v. v) fields.new result (optional_at tag (explicit tag (natural 0 999999)) fields.old) }
+    ensures { MayRead (λ v. v) fields.new result
+        (optional_at tag (explicit tag (natural 0 999999)) fields.old) }
 {
     if !fields.begins(tag) {
         return Ok(None);

@@ -1,10 +1,9 @@
 //! EncryptedData, RFC 4120 section 5.2.9.
 
-ghost use Rattle.std.specs.Prelude.{◌≡◌, Ok, OnOk};
-ghost use Rattle.der_core.specs.Format.{MayRead, Puts, PutsAll};
-ghost use Rattle.krb_msgs.specs.EncryptedData.{encrypted_data_fields, encrypted_data};
-
-use der_core::{DerRefusal, Element, Reader, Writer, field, optional, put_field, put_optional};
+use crate::field_reader::FieldReader;
+use crate::field_writer::FieldWriter;
+use crate::sequence::{Sequence, read_sequence};
+use der_core::{DerRefusal, Element, Reader, Writer};
 use sec_base::{NoMemory, Octets};
 use std::alloc::Global;
 
@@ -15,7 +14,7 @@ use std::alloc::Global;
 /// | 0 | etype |
 /// | 1 | kvno, OPTIONAL |
 /// | 2 | cipher |
-#[derive(Debug, Drop, PartialEq)]
+#[derive(Drop)]
 pub struct EncryptedData {
     pub etype: i32,
     pub kvno: Option<u32>,
@@ -28,48 +27,32 @@ impl Element for EncryptedData {
     ghost format = { encrypted_data };
 
     fn read(alloc: Global, reader: &mut Reader) -> Result<EncryptedData, DerRefusal> {
-        encrypted_data_of(alloc, reader)
+        read_sequence(alloc, reader)
     }
 
     fn put(&self, alloc: Global, out: &mut Writer) -> Result<(), NoMemory> {
-        put_encrypted_data(alloc, out, self)
+        let mut fields = FieldWriter::new(alloc)?;
+        fields.field(alloc, 0xa0, &self.etype);
+        fields.optional(alloc, 0xa1, &self.kvno);
+        fields.field(alloc, 0xa2, &self.cipher);
+        fields.put_into(out)
     }
 }
 
-#[tactic(auto, unfolding(crate::specs::EncryptedData::encrypted_data))]
-fn encrypted_data_of(alloc: Global, reader: &mut Reader) -> Result<EncryptedData, DerRefusal>
-    ensures { MayRead (λ v. v) reader.new result (encrypted_data.read reader.old) }
-{
-    let mut fields = reader.tlv(0x30)?;
-    let etype: i32 = field(alloc, &mut fields, 0xa0)?;
-    let kvno = optional(alloc, &mut fields, 0xa1)?;
-    let cipher: Octets = field(alloc, &mut fields, 0xa2)?;
-    fields.end()?;
-    Ok(EncryptedData {
-        etype,
-        kvno,
-        cipher,
-    })
-}
+impl Sequence for EncryptedData {
+    ghost use Rattle.krb_msgs.specs.EncryptedData.{encrypted_data_content};
 
-#[tactic(auto, unfolding(crate::specs::EncryptedData::encrypted_data))]
-fn put_encrypted_data(alloc: Global, out: &mut Writer, v: &EncryptedData) -> Result<(), NoMemory>
-    ensures { OnOk result (Puts encrypted_data v.now out.old out.new) }
-{
-    let mut fields = Writer::new(alloc)?;
-    put_encrypted_data_fields(alloc, &mut fields, v)?;
-    out.put_tlv(0x30, fields.as_slice())
-}
+    ghost content = { encrypted_data_content };
 
-fn put_encrypted_data_fields(
-    alloc: Global,
-    fields: &mut Writer,
-    v: &EncryptedData,
-) -> Result<(), NoMemory>
-    ensures { OnOk result (PutsAll encrypted_data_fields (v.now.etype, (v.now.kvno, (v.now.cipher, tt))) fields.old fields.new) }
-{
-    put_field(alloc, fields, 0xa0, &v.etype)?;
-    put_optional(alloc, fields, 0xa1, &v.kvno)?;
-    put_field(alloc, fields, 0xa2, &v.cipher)?;
-    Ok(())
+    fn read_fields(alloc: Global, fields: &mut FieldReader) -> EncryptedData {
+        let etype: i32 = fields.field(alloc, 0xa0);
+        let kvno = fields.optional(alloc, 0xa1);
+        let cipher: Octets = fields.field(alloc, 0xa2);
+        fields.end();
+        EncryptedData {
+            etype,
+            kvno,
+            cipher,
+        }
+    }
 }

@@ -1,10 +1,9 @@
 //! EncryptionKey, RFC 4120 section 5.2.9.
 
-ghost use Rattle.std.specs.Prelude.{◌≡◌, Ok, OnOk};
-ghost use Rattle.der_core.specs.Format.{MayRead, Puts, PutsAll};
-ghost use Rattle.krb_msgs.specs.EncryptionKey.{encryption_key_fields, encryption_key};
-
-use der_core::{DerRefusal, Element, Reader, Writer, field, put_field};
+use crate::field_reader::FieldReader;
+use crate::sequence::{Sequence, read_sequence};
+use crate::typed_octets::put_typed_octets;
+use der_core::{DerRefusal, Element, Reader, Writer};
 use sec_base::{NoMemory, Octets};
 use std::alloc::Global;
 
@@ -14,7 +13,7 @@ use std::alloc::Global;
 /// |---|---|
 /// | 0 | keytype |
 /// | 1 | keyvalue |
-#[derive(Debug, Drop, PartialEq)]
+#[derive(Drop)]
 pub struct EncryptionKey {
     pub keytype: i32,
     pub keyvalue: Octets,
@@ -26,42 +25,23 @@ impl Element for EncryptionKey {
     ghost format = { encryption_key };
 
     fn read(alloc: Global, reader: &mut Reader) -> Result<EncryptionKey, DerRefusal> {
-        encryption_key_of(alloc, reader)
+        read_sequence(alloc, reader)
     }
 
     fn put(&self, alloc: Global, out: &mut Writer) -> Result<(), NoMemory> {
-        put_encryption_key(alloc, out, self)
+        put_typed_octets(alloc, out, &self.keytype, &self.keyvalue)
     }
 }
 
-#[tactic(auto, unfolding(crate::specs::EncryptionKey::encryption_key))]
-fn encryption_key_of(alloc: Global, reader: &mut Reader) -> Result<EncryptionKey, DerRefusal>
-    ensures { MayRead (λ v. v) reader.new result (encryption_key.read reader.old) }
-{
-    let mut fields = reader.tlv(0x30)?;
-    let keytype: i32 = field(alloc, &mut fields, 0xa0)?;
-    let keyvalue: Octets = field(alloc, &mut fields, 0xa1)?;
-    fields.end()?;
-    Ok(EncryptionKey { keytype, keyvalue })
-}
+impl Sequence for EncryptionKey {
+    ghost use Rattle.krb_msgs.specs.EncryptionKey.{encryption_key_content};
 
-#[tactic(auto, unfolding(crate::specs::EncryptionKey::encryption_key))]
-fn put_encryption_key(alloc: Global, out: &mut Writer, v: &EncryptionKey) -> Result<(), NoMemory>
-    ensures { OnOk result (Puts encryption_key v.now out.old out.new) }
-{
-    let mut fields = Writer::new(alloc)?;
-    put_encryption_key_fields(alloc, &mut fields, v)?;
-    out.put_tlv(0x30, fields.as_slice())
-}
+    ghost content = { encryption_key_content };
 
-fn put_encryption_key_fields(
-    alloc: Global,
-    fields: &mut Writer,
-    v: &EncryptionKey,
-) -> Result<(), NoMemory>
-    ensures { OnOk result (PutsAll encryption_key_fields (v.now.keytype, (v.now.keyvalue, tt)) fields.old fields.new) }
-{
-    put_field(alloc, fields, 0xa0, &v.keytype)?;
-    put_field(alloc, fields, 0xa1, &v.keyvalue)?;
-    Ok(())
+    fn read_fields(alloc: Global, fields: &mut FieldReader) -> EncryptionKey {
+        let keytype: i32 = fields.field(alloc, 0xa0);
+        let keyvalue: Octets = fields.field(alloc, 0xa1);
+        fields.end();
+        EncryptionKey { keytype, keyvalue }
+    }
 }

@@ -1,14 +1,20 @@
 //! PrincipalName, RFC 4120 section 5.2.2.
 
-ghost use Rattle.std.specs.Prelude.{◌≡◌, false, true, All, OnOk, IfSome, [], unwrap_or};
-ghost use Rattle.gss_base.specs.Principal.{is_count};
+ghost use Rattle.std.specs.Prelude.{◌≡◌, ◌≢◌, false, true, All, OnOk, IfOk, IfErr, IfSome, []};
+ghost use Rattle.std.specs.Prelude.{unwrap_or};
+ghost use Rattle.gss_base.specs.Principal.{is_count, is_named};
 ghost use Rattle.der_core.specs.Format.{MayRead, Puts};
 ghost use Rattle.der_core.specs.Element.{explicit};
 ghost use Rattle.der_core.specs.Fields.{optional_at, PutsMaybe};
 ghost use Rattle.der_core.specs.Values.{has_zero};
+ghost use Rattle.krb_msgs.specs.FieldReading.{ReadsOn};
+ghost use Rattle.krb_msgs.specs.FieldWriting.{PutsOn};
 ghost use Rattle.krb_msgs.specs.PrincipalName.{name_parts, principal_name, name_in, IsName};
 
-use der_core::{DerRefusal, DerWhy, Element, Reader, Writer, field, put_field};
+use crate::field_reader::FieldReader;
+use crate::field_writer::FieldWriter;
+use crate::sequence::{Sequence, read_sequence};
+use der_core::{DerRefusal, DerWhy, Element, Reader, Writer};
 use gss_base::{NameRefusal, Principal};
 use sec_base::{Items, NoMemory, Text};
 use std::alloc::Global;
@@ -19,7 +25,7 @@ use std::alloc::Global;
 /// |---|---|
 /// | 0 | name-type |
 /// | 1 | name-string, 1 to 8 texts |
-#[derive(Debug, Drop)]
+#[derive(Drop)]
 pub struct PrincipalName {
     pub name_type: i32,
     pub name_string: Items<Text>,
@@ -47,7 +53,8 @@ pub fn name_field(
     tag: u8,
     realm: &str,
 ) -> Result<PrincipalName, DerRefusal>
-    ensures { MayRead (λ v. v) fields.new result ((explicit tag (name_in realm.now)).read fields.old) }
+    ensures { MayRead (λ v. v) fields.new result
+        ((explicit tag (name_in realm.now)).read fields.old) }
 {
     let mut inner = fields.tlv(tag)?;
     let name = name_of_realm(alloc, &mut inner, realm)?;
@@ -62,7 +69,8 @@ pub fn optional_name(
     tag: u8,
     realm: &Option<Text>,
 ) -> Result<Option<PrincipalName>, DerRefusal>
-    ensures { MayRead (λ v. v) fields.new result (optional_at tag (explicit tag (name_in (unwrap_or realm.now []))) fields.old) }
+    ensures { MayRead (λ v. v) fields.new result
+        (optional_at tag (explicit tag (name_in (unwrap_or realm.now []))) fields.old) }
 {
     if !fields.begins(tag) {
         return Ok(None);
@@ -79,6 +87,7 @@ pub fn optional_name(
     }
 }
 
+#[tactic(auto, unfolding(crate::specs::PrincipalName::principal_name))]
 fn name_of_realm(
     alloc: Global,
     reader: &mut Reader,
@@ -87,9 +96,21 @@ fn name_of_realm(
     ensures { MayRead (λ v. v) reader.new result ((name_in realm.now).read reader.old) }
 {
     let at = reader.place();
-    let name = principal_name_of(alloc, reader)?;
+    let name: PrincipalName = read_sequence(alloc, reader)?;
+    judge_name(alloc, realm, &name, at)?;
+    Ok(name)
+}
+
+/// Refuses a name at this place that is no principal in this realm.
+fn judge_name(alloc: Global, realm: &str, name: &PrincipalName, at: usize) -> Result<(), DerRefusal>
+    ensures named { IfOk result (λ _. is_named realm.now name.now.name_string ≡ true) }
+    ensures unnamed { IfErr result
+        (λ e. e.why ≢ DerWhy.NoMemory → is_named realm.now name.now.name_string ≡ false) }
+    ensures placed { IfErr result
+        (λ e. e.why ≢ DerWhy.NoMemory → e ≡ record { at = at; why = DerWhy.Value }) }
+{
     match Principal::new(alloc, realm, name.name_string.as_slice()) {
-        Ok(_) => Ok(name),
+        Ok(_) => Ok(()),
         Err(NameRefusal::NoMemory) => Err(DerRefusal::from(NoMemory)),
         Err(_) => Err(DerRefusal {
             at,
@@ -98,18 +119,28 @@ fn name_of_realm(
     }
 }
 
-#[tactic(auto, unfolding(crate::specs::PrincipalName::principal_name))]
-fn principal_name_of(alloc: Global, reader: &mut Reader) -> Result<PrincipalName, DerRefusal>
-    ensures { MayRead (λ v. v) reader.new result (principal_name.read reader.old) }
+impl Sequence for PrincipalName {
+    ghost use Rattle.krb_msgs.specs.PrincipalName.{principal_name_content};
+
+    ghost content = { principal_name_content };
+
+    fn read_fields(alloc: Global, fields: &mut FieldReader) -> PrincipalName {
+        let name_type: i32 = fields.field(alloc, 0xa0);
+        let name_string = read_parts(alloc, fields);
+        fields.end();
+        PrincipalName {
+            name_type,
+            name_string,
+        }
+    }
+}
+
+/// Reads the field of the parts.
+fn read_parts(alloc: Global, fields: &mut FieldReader) -> Items<Text>
+    ensures { ReadsOn (explicit 0xa1 name_parts) fields.old result fields.new }
 {
-    let mut fields = reader.tlv(0x30)?;
-    let name_type: i32 = field(alloc, &mut fields, 0xa0)?;
-    let name_string = parts_field(alloc, &mut fields)?;
-    fields.end()?;
-    Ok(PrincipalName {
-        name_type,
-        name_string,
-    })
+    let read = parts_field(alloc, &mut fields.left);
+    fields.value(read, Items::of(Vec::new(alloc)))
 }
 
 fn parts_field(alloc: Global, fields: &mut Reader) -> Result<Items<Text>, DerRefusal>
@@ -162,7 +193,8 @@ pub fn put_optional_name(
     name: &Option<PrincipalName>,
 ) -> Result<(), NoMemory>
     requires { IfSome name.now (IsName (unwrap_or realm.now [])) }
-    ensures { OnOk result (PutsMaybe (explicit tag (name_in (unwrap_or realm.now []))) name.now out.old out.new) }
+    ensures { OnOk result
+        (PutsMaybe (explicit tag (name_in (unwrap_or realm.now []))) name.now out.old out.new) }
 {
     match name {
         None => Ok(()),
@@ -174,16 +206,25 @@ pub fn put_optional_name(
     }
 }
 
-#[tactic(auto, unfolding(crate::specs::PrincipalName::principal_name))]
 fn put_principal_name(alloc: Global, out: &mut Writer, name: &PrincipalName) -> Result<(), NoMemory>
     requires count { is_count name.now.name_string ≡ true }
     requires texts { All (λ t. has_zero t ≡ false) name.now.name_string }
     ensures { OnOk result (Puts principal_name name.now out.old out.new) }
 {
-    let mut fields = Writer::new(alloc)?;
-    put_field(alloc, &mut fields, 0xa0, &name.name_type)?;
-    put_parts_field(alloc, &mut fields, &name.name_string)?;
-    out.put_tlv(0x30, fields.as_slice())
+    let mut fields = FieldWriter::new(alloc)?;
+    fields.field(alloc, 0xa0, &name.name_type);
+    put_parts(alloc, &mut fields, &name.name_string);
+    fields.put_into(out)
+}
+
+/// Adds the field of the parts.
+fn put_parts(alloc: Global, fields: &mut FieldWriter, parts: &Items<Text>)
+    requires count { is_count parts.now ≡ true }
+    requires texts { All (λ t. has_zero t ≡ false) parts.now }
+    ensures { PutsOn (explicit 0xa1 name_parts) parts.now fields.old fields.new }
+{
+    let put = put_parts_field(alloc, &mut fields.out, parts);
+    fields.note(put);
 }
 
 #[tactic(auto, unfolding(crate::specs::PrincipalName::name_parts))]

@@ -1,9 +1,12 @@
 use Rattle.der_core.proofs.PutFields.{is_found, is_read_again}
+use Rattle.krb_msgs.specs.KrbError.{krb_error_element}
 use Rattle.krb_msgs.proofs.MessageLaws.{krb_error_law}
 use Rattle.krb_msgs.proofs.krb_error.read_krb_error.Goals as goal
 
 pub returns-clause-found : goal.returns-clause-found
-returns-clause-found c = is_found _ _ krb_error_law c.args.bytes.now c.krb_error_of.result (record { each = λ k. (c.type_inv.bytes k).fits }) c.krb_error_of.ensures
+unfolding krb_error_element
+returns-clause-found c = is_found _ _ krb_error_law c.args.bytes.now c.read_whole.result (record { each = λ k. (c.type_inv.bytes k).fits }) c.read_whole.ensures
 
 pub returns-clause-only : goal.returns-clause-only
-returns-clause-only c = λ v whole. is_read_again _ _ krb_error_law c.args.bytes.now c.krb_error_of.result v whole c.krb_error_of.ensures
+unfolding krb_error_element
+returns-clause-only c = λ v whole. is_read_again _ _ krb_error_law c.args.bytes.now c.read_whole.result v whole c.read_whole.ensures

@@ -1,0 +1,10 @@
+use Rattle.std.proofs.lemmas.Result.{on_ok_weaker}
+use Rattle.der_core.specs.Format.{Puts}
+use Rattle.der_core.specs.Element.{element}
+use Rattle.krb_msgs.specs.TypedOctets.{typed_octets}
+use Rattle.krb_msgs.specs.Checksum.{checksum}
+use Rattle.krb_msgs.proofs.checksum.ChecksumElement.put.Goals as goal
+
+pub returns : goal.returns
+unfolding checksum
+returns c = on_ok_weaker c.put_typed_octets.result (λ (p : Puts (element 0x30 typed_octets) (c.args.self.now.cksumtype, (c.args.self.now.checksum, tt)) _ _). record { spells = p.spells; fits = p.fits }) c.put_typed_octets.ensures

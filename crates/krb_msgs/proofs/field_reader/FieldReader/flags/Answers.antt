@@ -1,0 +1,6 @@
+use Rattle.std.proofs.Common.{refl}
+use Rattle.krb_msgs.proofs.ReadFields.{reads_on}
+use Rattle.krb_msgs.proofs.field_reader.FieldReader.flags.Goals as goal
+
+pub returns : goal.returns
+returns c = reads_on _ _ _ _ _ _ c.value.ensures c.flags_field-read.ensures refl

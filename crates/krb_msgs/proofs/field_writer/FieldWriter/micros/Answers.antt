@@ -1,0 +1,6 @@
+use Rattle.std.proofs.Common.{refl}
+use Rattle.krb_msgs.proofs.WriteFields.{puts_on}
+use Rattle.krb_msgs.proofs.field_writer.FieldWriter.micros.Goals as goal
+
+pub returns : goal.returns
+returns c = puts_on _ _ _ _ _ _ c.note.ensures c.put_micros_field-put.ensures refl
