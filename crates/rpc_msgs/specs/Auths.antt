@@ -10,9 +10,11 @@ pub record AuthValue : Type 0 where
   pub flavour : ℕ
   pub body : List ℕ
 
+-- what a credential or verifier that was read holds
 abbrev pub auth_value : Auth → AuthValue
 auth_value a = record { flavour = a.flavour; body = a.body.now }
 
+-- the one spelling: the flavour, then the body with its length
 abbrev pub auth_octets : AuthValue → List ℕ
 auth_octets a = word a.flavour ++ opaque a.body
 
@@ -21,6 +23,7 @@ pub record IsAuth (a : AuthValue) : Type 0 where
   pub flavour : a.flavour < 2 ^ 32
   pub body : length a.body ≤ 400
 
+-- the credential or verifier at the front, whose body has at most 400 octets
 unfoldable pub auth_at : Input → Result (AuthValue × Input) XdrRefusal
 auth_at i = do
   flavour ← word_at i

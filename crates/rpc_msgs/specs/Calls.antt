@@ -1,10 +1,12 @@
 -- Calls of ONC RPC, RFC 5531 section 9.
-use Rattle.std.specs.Prelude.{◌≡◌, ℕ, ◌==◌, ◌<◌, ◌^◌, if◌then◌else◌, List, ◌++◌, length, Result, Ok, Err}
+use Rattle.std.specs.Prelude.{◌≡◌, ℕ, ◌==◌, ◌<◌, ◌^◌, if◌then◌else◌, List, ◌++◌, length, Result, Ok}
+use Rattle.std.specs.Prelude.{Err}
 use Rattle.rpc_msgs.specs.Words.{word}
 use Rattle.rpc_msgs.specs.Xdr.{Input, whole, place, ◌>>=◌, word_at}
 use Rattle.rpc_msgs.specs.declared.call.Call.{Call}
 use Rattle.rpc_msgs.specs.declared.call.CallRefusal.{CallRefusal}
 use Rattle.rpc_msgs.specs.declared.call.CallRefusal.TheVariants.{Unreadable, NotCall, RpcVersion}
+use Rattle.rpc_msgs.specs.declared.numbers.TheConstants.{CALL, RPC_VERSION, RPCSEC_GSS}
 use Rattle.rpc_msgs.specs.declared.xdr_reader.XdrRefusal.{XdrRefusal}
 use Rattle.rpc_msgs.specs.Auths.{AuthValue, auth_value, auth_octets, IsAuth, auth_at}
 
@@ -19,6 +21,7 @@ pub record CallValue : Type 0 where
   pub header : ℕ
   pub args : List ℕ
 
+-- what a call that was read holds
 abbrev pub call_value : Call → CallValue
 call_value c = record {
   xid = c.xid;
@@ -31,14 +34,17 @@ call_value c = record {
   args = c.args.now;
 }
 
--- the octets up to the end of the credential: the xid, the kind of a call 0, RPC version 2, whose procedure is called, the credential
+-- the octets up to the end of the credential: the xid, the kind, the RPC version, whose procedure
+-- is called, the credential
 abbrev pub header_octets : ℕ → ℕ → ℕ → ℕ → AuthValue → List ℕ
 header_octets xid program version procedure cred =
-    word xid ++ (word 0 ++ (word 2 ++ (word program ++ (word version ++ (word procedure ++ auth_octets cred)))))
+    word xid ++ (word CALL ++ (word RPC_VERSION
+    ++ (word program ++ (word version ++ (word procedure ++ auth_octets cred)))))
 
 -- a call's one spelling: behind its header stand the verifier and the arguments
 abbrev pub call_octets : CallValue → List ℕ
-call_octets c = header_octets c.xid c.program c.version c.procedure c.cred ++ (auth_octets c.verf ++ c.args)
+call_octets c =
+    header_octets c.xid c.program c.version c.procedure c.cred ++ (auth_octets c.verf ++ c.args)
 
 -- what has a spelling
 pub record IsCall (c : CallValue) : Type 0 where
@@ -50,16 +56,17 @@ pub record IsCall (c : CallValue) : Type 0 where
   pub verf : IsAuth c.verf
   pub header : c.header ≡ length (header_octets c.xid c.program c.version c.procedure c.cred)
 
--- a call whose credential has flavour 6 (RFC 2203)
+-- a call whose credential is one of RPCSEC_GSS (RFC 2203 section 5)
 abbrev pub secure_call : ℕ → ℕ → ℕ → ℕ → List ℕ → AuthValue → List ℕ → CallValue
 secure_call xid program version procedure body verf args = record {
   xid = xid;
   program = program;
   version = version;
   procedure = procedure;
-  cred = record { flavour = 6; body = body };
+  cred = record { flavour = RPCSEC_GSS; body = body };
   verf = verf;
-  header = length (header_octets xid program version procedure (record { flavour = 6; body = body }));
+  header = length
+      (header_octets xid program version procedure (record { flavour = RPCSEC_GSS; body = body }));
   args = args;
 }
 
@@ -76,14 +83,14 @@ call_word_at i = readable (word_at i)
 unfoldable pub version_at : ℕ → Input → Result (ℕ × Input) CallRefusal
 version_at xid i = do
   version ← call_word_at i
-  if version.0 == 2 then Ok (xid, version.1) else Err (RpcVersion xid)
+  if version.0 == RPC_VERSION then Ok (xid, version.1) else Err (RpcVersion xid)
 
 -- the xid, behind which the kind is judged before the RPC version is read
 unfoldable pub xid_at : Input → Result (ℕ × Input) CallRefusal
 xid_at i = do
   xid ← call_word_at i
   kind ← call_word_at xid.1
-  if kind.0 == 0 then version_at xid.0 kind.1 else Err NotCall
+  if kind.0 == CALL then version_at xid.0 kind.1 else Err NotCall
 
 -- what stands behind the RPC version
 unfoldable pub rest_at : ℕ → Input → Result CallValue XdrRefusal

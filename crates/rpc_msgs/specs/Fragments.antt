@@ -1,5 +1,6 @@
 -- What reading one fragment took of the stream.
-use Rattle.std.specs.Prelude.{◌≡◌, ℕ, ◌+◌, ◌%◌, ◌<◌, ◌≤◌, ◌^◌, Bool, true, false, List, [], ◌++◌, length, Option, Some, None, Result, Ok, Err}
+use Rattle.std.specs.Prelude.{◌≡◌, ℕ, ◌+◌, ◌%◌, ◌<◌, ◌≤◌, ◌^◌, Bool, true, false, List, [], ◌++◌}
+use Rattle.std.specs.Prelude.{length, Option, Some, None, Result, Ok, Err}
 use Rattle.sec_base.specs.Link.{Wire}
 use Rattle.rpc_msgs.specs.Streams.{Took}
 use Rattle.rpc_msgs.specs.Words.{word}
@@ -7,7 +8,9 @@ use Rattle.rpc_msgs.specs.Records.{more_fragment, last_fragment, frames, joined,
 use Rattle.rpc_msgs.specs.declared.record.Fragment.{Fragment}
 use Rattle.rpc_msgs.specs.declared.record.Fragment.TheVariants.{More, Last, End}
 use Rattle.rpc_msgs.specs.declared.record.RecordRefusal.{RecordRefusal}
-use Rattle.rpc_msgs.specs.declared.record.RecordRefusal.TheVariants.{LinkFault, TooLong, TooManyFragments, Torn, NoMemory}
+use Rattle.rpc_msgs.specs.declared.record.RecordRefusal.TheVariants.{LinkFault, TooLong}
+use Rattle.rpc_msgs.specs.declared.record.RecordRefusal.TheVariants.{TooManyFragments, Torn}
+use Rattle.rpc_msgs.specs.declared.record.RecordRefusal.TheVariants.{NoMemory}
 
 -- these octets were read behind those that were there
 pub record Grows (old new : Wire) (before after part : List ℕ) : Type 0 where
@@ -16,22 +19,29 @@ pub record Grows (old new : Wire) (before after part : List ℕ) : Type 0 where
 
 -- at most so many octets were read, fewer only where the input ended
 abbrev pub TakesPiece : Wire → Wire → List ℕ → List ℕ → ℕ → Result ℕ RecordRefusal → Type 0
-TakesPiece old new before after most (Ok count) = (part : List ℕ) × (length part ≡ count) × (count < most → new.coming ≡ []) × Grows old new before after part
-TakesPiece old new before after most (Err LinkFault) = (part : List ℕ) × (length part < most) × Took old new part
+TakesPiece old new before after most (Ok count) = (part : List ℕ) × (length part ≡ count)
+    × (count < most → new.coming ≡ []) × Grows old new before after part
+TakesPiece old new before after most (Err LinkFault) =
+    (part : List ℕ) × (length part < most) × Took old new part
 TakesPiece old new before after most (Err TooLong) = ⊥
 TakesPiece old new before after most (Err TooManyFragments) = ⊥
 TakesPiece old new before after most (Err Torn) = ⊥
-TakesPiece old new before after most (Err NoMemory) = (part : List ℕ) × (length part ≤ most) × Took old new part
+TakesPiece old new before after most (Err NoMemory) =
+    (part : List ℕ) × (length part ≤ most) × Took old new part
 
 -- so many octets were read, or those up to the end of input where fewer came
 abbrev pub TakesContent : Wire → Wire → List ℕ → List ℕ → ℕ → Result Bool RecordRefusal → Type 0
-TakesContent old new before after count (Ok true) = (part : List ℕ) × (length part ≡ count) × Grows old new before after part
-TakesContent old new before after count (Ok false) = (part : List ℕ) × (length part < count) × (new.coming ≡ []) × Grows old new before after part
-TakesContent old new before after count (Err LinkFault) = (part : List ℕ) × (length part < count) × Took old new part
+TakesContent old new before after count (Ok true) =
+    (part : List ℕ) × (length part ≡ count) × Grows old new before after part
+TakesContent old new before after count (Ok false) =
+    (part : List ℕ) × (length part < count) × (new.coming ≡ []) × Grows old new before after part
+TakesContent old new before after count (Err LinkFault) =
+    (part : List ℕ) × (length part < count) × Took old new part
 TakesContent old new before after count (Err TooLong) = ⊥
 TakesContent old new before after count (Err TooManyFragments) = ⊥
 TakesContent old new before after count (Err Torn) = ⊥
-TakesContent old new before after count (Err NoMemory) = (part : List ℕ) × (length part ≤ count) × Took old new part
+TakesContent old new before after count (Err NoMemory) =
+    (part : List ℕ) × (length part ≤ count) × Took old new part
 
 -- a fragment was read whole behind those that were there
 pub record Adds (old new : Wire) (before after part framed : List ℕ) : Type 0 where
@@ -50,30 +60,53 @@ TakesHeader old new number (Ok None) = (number ≡ 0) × (old.coming ≡ []) × 
 TakesHeader old new number (Err LinkFault) = (part : List ℕ) × (length part < 4) × Took old new part
 TakesHeader old new number (Err TooLong) = ⊥
 TakesHeader old new number (Err TooManyFragments) = ⊥
-TakesHeader old new number (Err Torn) = (length old.coming < 4) × (0 < number + length old.coming) × Took old new old.coming
+TakesHeader old new number (Err Torn) = (length old.coming < 4) × (0 < number + length old.coming)
+    × Took old new old.coming
 TakesHeader old new number (Err NoMemory) = ⊥
 
--- the octets that a header announces were read, or why they were not; so many fragments and octets came before
-abbrev pub TakesAnnounced : Wire → Wire → List ℕ → List ℕ → ℕ → ℕ → Result Fragment RecordRefusal → Type 0
-TakesAnnounced old new before after number header (Ok More) = (part : List ℕ) × (header ≡ length part) × Grows old new before after part
-TakesAnnounced old new before after number header (Ok Last) = (part : List ℕ) × (header ≡ 2 ^ 31 + length part) × Grows old new before after part
+-- the octets that a header announces were read, or why they were not; so many fragments and octets
+-- came before
+abbrev pub TakesAnnounced : Wire → Wire → List ℕ → List ℕ → ℕ → ℕ → Result Fragment RecordRefusal
+    → Type 0
+TakesAnnounced old new before after number header (Ok More) =
+    (part : List ℕ) × (header ≡ length part) × Grows old new before after part
+TakesAnnounced old new before after number header (Ok Last) =
+    (part : List ℕ) × (header ≡ 2 ^ 31 + length part) × Grows old new before after part
 TakesAnnounced old new before after number header (Ok End) = ⊥
-TakesAnnounced old new before after number header (Err LinkFault) = (part : List ℕ) × (number < 64) × (length before + header % 2 ^ 31 ≤ 131072) × (length part < header % 2 ^ 31) × Took old new part
-TakesAnnounced old new before after number header (Err TooLong) = (131072 < length before + header % 2 ^ 31) × Took old new []
-TakesAnnounced old new before after number header (Err TooManyFragments) = (number ≡ 64) × (length before + header % 2 ^ 31 ≤ 131072) × Took old new []
-TakesAnnounced old new before after number header (Err Torn) = (number < 64) × (length before + header % 2 ^ 31 ≤ 131072) × (length old.coming < header % 2 ^ 31) × Took old new old.coming
-TakesAnnounced old new before after number header (Err NoMemory) = (part : List ℕ) × (number < 64) × (length before + header % 2 ^ 31 ≤ 131072) × (length part ≤ header % 2 ^ 31) × Took old new part
+TakesAnnounced old new before after number header (Err LinkFault) =
+    (part : List ℕ) × (number < 64) × (length before + header % 2 ^ 31 ≤ 131072)
+    × (length part < header % 2 ^ 31) × Took old new part
+TakesAnnounced old new before after number header (Err TooLong) =
+    (131072 < length before + header % 2 ^ 31) × Took old new []
+TakesAnnounced old new before after number header (Err TooManyFragments) =
+    (number ≡ 64) × (length before + header % 2 ^ 31 ≤ 131072) × Took old new []
+TakesAnnounced old new before after number header (Err Torn) =
+    (number < 64) × (length before + header % 2 ^ 31 ≤ 131072)
+    × (length old.coming < header % 2 ^ 31) × Took old new old.coming
+TakesAnnounced old new before after number header (Err NoMemory) =
+    (part : List ℕ) × (number < 64) × (length before + header % 2 ^ 31 ≤ 131072)
+    × (length part ≤ header % 2 ^ 31) × Took old new part
 
 -- the fragment of this number was read, or why it was not
-abbrev pub TakesFragment : Wire → Wire → List ℕ → List ℕ → ℕ → Result Fragment RecordRefusal → Type 0
-TakesFragment old new before after number (Ok More) = (part : List ℕ) × Adds old new before after part (more_fragment part)
-TakesFragment old new before after number (Ok Last) = (part : List ℕ) × Adds old new before after part (last_fragment part)
-TakesFragment old new before after number (Ok End) = (number ≡ 0) × (old.coming ≡ []) × Took old new []
-TakesFragment old new before after number (Err LinkFault) = (part : List ℕ) × IsPartial number (length before) part × Took old new part
-TakesFragment old new before after number (Err TooLong) = (header : ℕ) × (131072 < length before + header % 2 ^ 31) × Heads old new header
-TakesFragment old new before after number (Err TooManyFragments) = (header : ℕ) × (number ≡ 64) × (length before + header % 2 ^ 31 ≤ 131072) × Heads old new header
-TakesFragment old new before after number (Err Torn) = IsPartial number (length before) old.coming × (0 < number + length old.coming) × Took old new old.coming
-TakesFragment old new before after number (Err NoMemory) = (header : ℕ) × (part : List ℕ) × (number < 64) × (header < 2 ^ 32) × (length before + header % 2 ^ 31 ≤ 131072) × (length part ≤ header % 2 ^ 31) × Took old new (word header ++ part)
+abbrev pub TakesFragment : Wire → Wire → List ℕ → List ℕ → ℕ → Result Fragment RecordRefusal
+    → Type 0
+TakesFragment old new before after number (Ok More) =
+    (part : List ℕ) × Adds old new before after part (more_fragment part)
+TakesFragment old new before after number (Ok Last) =
+    (part : List ℕ) × Adds old new before after part (last_fragment part)
+TakesFragment old new before after number (Ok End) =
+    (number ≡ 0) × (old.coming ≡ []) × Took old new []
+TakesFragment old new before after number (Err LinkFault) =
+    (part : List ℕ) × IsPartial number (length before) part × Took old new part
+TakesFragment old new before after number (Err TooLong) =
+    (header : ℕ) × (131072 < length before + header % 2 ^ 31) × Heads old new header
+TakesFragment old new before after number (Err TooManyFragments) =
+    (header : ℕ) × (number ≡ 64) × (length before + header % 2 ^ 31 ≤ 131072) × Heads old new header
+TakesFragment old new before after number (Err Torn) = IsPartial number (length before) old.coming
+    × (0 < number + length old.coming) × Took old new old.coming
+TakesFragment old new before after number (Err NoMemory) = (header : ℕ) × (part : List ℕ)
+    × (number < 64) × (header < 2 ^ 32) × (length before + header % 2 ^ 31 ≤ 131072)
+    × (length part ≤ header % 2 ^ 31) × Took old new (word header ++ part)
 
 -- so many fragments were read
 pub record Begins (old new : Wire) (number : ℕ) (octets : List ℕ) : Type 0 where

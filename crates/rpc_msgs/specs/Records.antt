@@ -1,22 +1,29 @@
 -- Records of a stream, RFC 5531 section 11.
-use Rattle.std.specs.Prelude.{◌≡◌, ◌⊎◌, ℕ, ◌+◌, ◌%◌, ◌<◌, ◌≤◌, ◌^◌, List, [], ◌++◌, length, Option, Some, None, Result, Ok, Err}
+use Rattle.std.specs.Prelude.{◌≡◌, ◌⊎◌, ℕ, ◌+◌, ◌%◌, ◌<◌, ◌≤◌, ◌^◌, List, [], ◌++◌, length, Option}
+use Rattle.std.specs.Prelude.{Some, None, Result, Ok, Err}
 use Rattle.std.specs.List.{flat_map}
 use Rattle.sec_base.specs.Link.{Wire}
 use Rattle.rpc_msgs.specs.Streams.{Took}
 use Rattle.rpc_msgs.specs.Words.{word}
 use Rattle.rpc_msgs.specs.declared.record.RecordRefusal.{RecordRefusal}
-use Rattle.rpc_msgs.specs.declared.record.RecordRefusal.TheVariants.{LinkFault, TooLong, TooManyFragments, Torn, NoMemory}
+use Rattle.rpc_msgs.specs.declared.record.RecordRefusal.TheVariants.{LinkFault, TooLong}
+use Rattle.rpc_msgs.specs.declared.record.RecordRefusal.TheVariants.{TooManyFragments, Torn}
+use Rattle.rpc_msgs.specs.declared.record.RecordRefusal.TheVariants.{NoMemory}
 
--- a fragment: a word whose top bit marks the last of its record and whose other bits are the length, then the octets
+-- a fragment: a word whose top bit marks the last of its record and whose other bits are the
+-- length, then the octets
 abbrev pub more_fragment : List ℕ → List ℕ
 more_fragment octets = word (length octets) ++ octets
 
+-- the last fragment of its record: the top bit is set
 abbrev pub last_fragment : List ℕ → List ℕ
 last_fragment octets = word (2 ^ 31 + length octets) ++ octets
 
+-- fragments before the last as they stand in a stream
 abbrev pub frames : List (List ℕ) → List ℕ
 frames fragments = flat_map more_fragment fragments
 
+-- the octets that fragments hold, in order
 abbrev pub joined : List (List ℕ) → List ℕ
 joined fragments = flat_map (λ octets. octets) fragments
 
@@ -57,10 +64,13 @@ pub record IsTooMany (octets : List ℕ) : Type 0 where
   pub announced : length (joined earlier) + header % 2 ^ 31 ≤ 131072
   pub spelled : octets ≡ frames earlier ++ word header
 
--- a fragment that ends inside its header or inside its octets, where so many fragments and octets of the record came before
+-- a fragment that ends inside its header or inside its octets, where so many fragments and octets
+-- of the record came before
 abbrev pub IsPartial : ℕ → ℕ → List ℕ → Type 0
 IsPartial number size octets =
-    (length octets < 4) ⊎ ((header : ℕ) × (rest : List ℕ) × (header < 2 ^ 32) × (number < 64) × (size + header % 2 ^ 31 ≤ 131072) × (octets ≡ word header ++ rest) × (length rest < header % 2 ^ 31))
+    (length octets < 4) ⊎ ((header : ℕ) × (rest : List ℕ) × (header < 2 ^ 32)
+    × (number < 64) × (size + header % 2 ^ 31 ≤ 131072) × (octets ≡ word header ++ rest)
+    × (length rest < header % 2 ^ 31))
 
 -- a front of a record, which may be empty, that ends before the record's last octet
 pub record IsFront (octets : List ℕ) : Type 0 where
@@ -84,10 +94,13 @@ pub record IsWhole (octets : List ℕ) : Type 0 where
 
 -- what the call that reads the next record took of the stream
 abbrev pub TakesRecord : Wire → Wire → Result (Option (List ℕ)) RecordRefusal → Type 0
-TakesRecord old new (Ok (Some octets)) = (cut : Fragments) × IsRecord cut × (octets ≡ octets_in cut) × Took old new (frame cut)
+TakesRecord old new (Ok (Some octets)) = (cut : Fragments) × IsRecord cut × (octets ≡ octets_in cut)
+    × Took old new (frame cut)
 TakesRecord old new (Ok None) = (old.coming ≡ []) × Took old new []
 TakesRecord old new (Err LinkFault) = (octets : List ℕ) × IsFront octets × Took old new octets
 TakesRecord old new (Err TooLong) = (octets : List ℕ) × IsTooLong octets × Took old new octets
-TakesRecord old new (Err TooManyFragments) = (octets : List ℕ) × IsTooMany octets × Took old new octets
+TakesRecord old new (Err TooManyFragments) =
+    (octets : List ℕ) × IsTooMany octets × Took old new octets
 TakesRecord old new (Err Torn) = IsTorn old.coming × Took old new old.coming
-TakesRecord old new (Err NoMemory) = (octets : List ℕ) × (IsFront octets ⊎ IsWhole octets) × Took old new octets
+TakesRecord old new (Err NoMemory) = (octets : List ℕ) × (IsFront octets ⊎ IsWhole octets)
+    × Took old new octets

@@ -10,6 +10,7 @@ word number = to_be_bytes w32 number
 abbrev pub padding_length : ℕ → ℕ
 padding_length count = (4 - count % 4) % 4
 
--- octets of variable length: how many, the octets, and zeros up to a multiple of four (RFC 4506 section 4.10)
+-- octets of variable length: how many, the octets, and zeros up to a multiple of four (RFC 4506
+-- section 4.10)
 unfoldable pub opaque : List ℕ → List ℕ
 opaque octets = word (length octets) ++ (octets ++ replicate (padding_length (length octets)) 0)

@@ -1,5 +1,6 @@
 -- Reading XDR values from the front of octets, RFC 4506, with the first fault that is met.
-use Rattle.std.specs.Prelude.{◌≡◌, ◌≢◌, ℕ, zero, suc, ◌-◌, ◌==◌, nat_lt, if◌then◌else◌, List, [], ◌∷◌, length, take, drop, Result, Ok, Err}
+use Rattle.std.specs.Prelude.{◌≡◌, ◌≢◌, ℕ, zero, suc, ◌-◌, ◌==◌, nat_lt, if◌then◌else◌, List, []}
+use Rattle.std.specs.Prelude.{◌∷◌, length, take, drop, Result, Ok, Err}
 use Rattle.std.specs.Int.{w32, from_be_bytes}
 use Rattle.rpc_msgs.specs.Words.{padding_length}
 use Rattle.rpc_msgs.specs.declared.xdr_reader.XdrRefusal.{XdrRefusal}
@@ -29,13 +30,15 @@ refusal why at = record { at = at; why = why }
 
 -- the rest of a reading, unless the part before was refused
 infixl 10 ◌>>=◌
+-- the first part that is refused decides
 abbrev pub ◌>>=◌ : {A B E : Type 0} → Result A E → (A → Result B E) → Result B E
 (Ok x) >>= next = next x
 (Err e) >>= next = Err e
 
 -- so many octets as they are
 unfoldable pub octets_at : ℕ → Input → Result (List ℕ × Input) XdrRefusal
-octets_at size i = if nat_lt (length i.octets) size then Err (refusal Short i.end) else Ok (take size i.octets, behind size i)
+octets_at size i = if nat_lt (length i.octets) size then Err (refusal Short i.end)
+    else Ok (take size i.octets, behind size i)
 
 -- an unsigned number of 32 bits (RFC 4506 section 4.2)
 unfoldable pub word_at : Input → Result (ℕ × Input) XdrRefusal
@@ -47,10 +50,11 @@ word_at i = do
 unfoldable pub zeros_in : ℕ → List ℕ → ℕ → Result Input XdrRefusal
 zeros_in zero octets end = Ok (record { octets = octets; end = end })
 zeros_in (suc count) [] end = Err (refusal Short end)
-zeros_in (suc count) (octet ∷ octets) end = if octet == 0 then zeros_in count octets end else Err (refusal Padding (end - length (octet ∷ octets)))
+zeros_in (suc count) (octet ∷ octets) end = if octet == 0 then zeros_in count octets end
+    else Err (refusal Padding (end - length (octet ∷ octets)))
 
--- octets of variable length within a limit (RFC 4506 section 4.10): the length is judged against the limit first, then against the octets
--- that are there, and then the padding is judged
+-- octets of variable length within a limit (RFC 4506 section 4.10): the length is judged against
+-- the limit first, then against the octets that are there, and then the padding is judged
 unfoldable pub opaque_at : ℕ → Input → Result (List ℕ × Input) XdrRefusal
 opaque_at limit i = do
   size ← word_at i

@@ -31,7 +31,8 @@ pub(crate) fn read_auth<'a>(reader: &mut XdrReader<'a>) -> Result<Auth<'a>, XdrR
 /// Appends a flavour and its body.
 pub(crate) fn put_auth(out: &mut XdrWriter, flavour: u32, body: &[u8]) -> Result<(), NoMemory>
     requires { length body.now ≤ 400 }
-    ensures { OnOk result (out.new ≡ out.old ++ auth_octets (record { flavour = flavour; body = body.now })) }
+    ensures { OnOk result
+        (out.new ≡ out.old ++ auth_octets (record { flavour = flavour; body = body.now })) }
 {
     out.word(flavour)?;
     out.opaque(body)

@@ -1,20 +1,17 @@
 //! Calls, RFC 5531 section 9.
 
 ghost use Rattle.std.specs.Prelude.{◌≡◌, ◌≤◌, ◌++◌, length, OnOk, IfOk, Ok};
-ghost use Rattle.rpc_msgs.specs.Calls.{CallValue, IsCall, call_octets, secure_call, header_octets, call_value, call_word_at, version_at, xid_at, rest_at, call_at};
+ghost use Rattle.rpc_msgs.specs.Calls.{CallValue, IsCall, call_octets, secure_call, header_octets};
+ghost use Rattle.rpc_msgs.specs.Calls.{call_value, call_word_at, version_at, xid_at, rest_at};
+ghost use Rattle.rpc_msgs.specs.Calls.{call_at};
 ghost use Rattle.rpc_msgs.specs.Xdr.{Answers, Reads};
 
 use crate::auth::{Auth, put_auth, read_auth};
+use crate::numbers::{CALL, RPC_VERSION, RPCSEC_GSS};
 use crate::xdr_reader::{XdrReader, XdrRefusal};
 use crate::xdr_writer::XdrWriter;
 use sec_base::{NoMemory, Octets};
 use std::alloc::Global;
-
-/// The version of RPC.
-const RPC_VERSION: u32 = 2;
-
-/// The flavour of RPCSEC_GSS (RFC 2203).
-const GSS: u32 = 6;
 
 /// A call.
 #[derive(Clone, Copy, Debug)]
@@ -45,8 +42,10 @@ pub enum CallRefusal {
 pub fn read_call(bytes: &[u8]) -> Result<Call<'_>, CallRefusal>
     ensures exact { Answers call_value result (call_at bytes.now) }
     // What is read is spelled so, and what is spelled so is read.
-    ensures spelled { IfOk result (λ call. IsCall (call_value call) × (bytes.now ≡ call_octets (call_value call))) }
-    ensures only { (call : CallValue) → IsCall call → bytes.now ≡ call_octets call → Answers call_value result (Ok call) }
+    ensures spelled { IfOk result
+        (λ call. IsCall (call_value call) × (bytes.now ≡ call_octets (call_value call))) }
+    ensures only { (call : CallValue) → IsCall call → bytes.now ≡ call_octets call
+        → Answers call_value result (Ok call) }
 {
     call_in(bytes)
 }
@@ -71,7 +70,7 @@ fn read_xid(reader: &mut XdrReader<'_>) -> Result<u32, CallRefusal>
 {
     let xid = read_word(reader)?;
     let kind = read_word(reader)?;
-    if kind != 0 {
+    if kind != CALL {
         return Err(CallRefusal::NotCall);
     }
     read_version(xid, reader)
@@ -137,14 +136,36 @@ pub fn write_call(
 ) -> Result<Octets, NoMemory>
     requires cred { length cred.now ≤ 400 }
     requires verf { length verf.now ≤ 400 }
-    ensures octets { let call = secure_call xid program version procedure cred.now (record { flavour = verf_flavour; body = verf.now }) args.now in IfOk result (λ octets. octets ≡ call_octets call) }
+    ensures octets { let call = secure_call xid program version procedure
+        cred.now (record { flavour = verf_flavour; body = verf.now }) args.now in IfOk result
+        (λ octets. octets ≡ call_octets call) }
     // It is read as that call.
-    ensures again { let call = secure_call xid program version procedure cred.now (record { flavour = verf_flavour; body = verf.now }) args.now in IfOk result (λ octets. call_at octets ≡ Ok call) }
+    ensures again { let call = secure_call xid program version procedure
+        cred.now (record { flavour = verf_flavour; body = verf.now }) args.now in IfOk result
+        (λ octets. call_at octets ≡ Ok call) }
 {
     let mut out = XdrWriter::new(alloc);
     put_header(&mut out, xid, program, version, procedure, cred)?;
     put_auth(&mut out, verf_flavour, verf)?;
     out.octets(args)?;
+    Ok(out.finish())
+}
+
+/// The octets of a call up to the end of its credential, which is one of RPCSEC_GSS: the call's verifier is a MIC over them (RFC 2203 section 5.3.1).
+pub fn write_header(
+    alloc: Global,
+    xid: u32,
+    program: u32,
+    version: u32,
+    procedure: u32,
+    cred: &[u8],
+) -> Result<Octets, NoMemory>
+    requires { length cred.now ≤ 400 }
+    ensures { IfOk result (λ octets. octets ≡ header_octets xid program version procedure
+        (record { flavour = RPCSEC_GSS; body = cred.now })) }
+{
+    let mut out = XdrWriter::new(alloc);
+    put_header(&mut out, xid, program, version, procedure, cred)?;
     Ok(out.finish())
 }
 
@@ -158,13 +179,14 @@ fn put_header(
     cred: &[u8],
 ) -> Result<(), NoMemory>
     requires { length cred.now ≤ 400 }
-    ensures { OnOk result (out.new ≡ out.old ++ header_octets xid program version procedure (record { flavour = 6; body = cred.now })) }
+    ensures { OnOk result (out.new ≡ out.old ++ header_octets xid program version procedure
+        (record { flavour = RPCSEC_GSS; body = cred.now })) }
 {
     out.word(xid)?;
-    out.word(0)?;
+    out.word(CALL)?;
     out.word(RPC_VERSION)?;
     out.word(program)?;
     out.word(version)?;
     out.word(procedure)?;
-    put_auth(out, GSS, cred)
+    put_auth(out, RPCSEC_GSS, cred)
 }

@@ -3,6 +3,7 @@
 
 mod auth;
 mod call;
+pub mod numbers;
 mod record;
 mod reply;
 mod reply_reading;
@@ -11,7 +12,7 @@ mod xdr_reader;
 mod xdr_writer;
 
 pub use auth::Auth;
-pub use call::{Call, CallRefusal, read_call, write_call};
+pub use call::{Call, CallRefusal, read_call, write_call, write_header};
 pub use record::{RecordRefusal, next_record, write_record};
 pub use reply::{Reply, write_reply};
 pub use reply_reading::{ReplyRefusal, read_reply};

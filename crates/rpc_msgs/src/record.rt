@@ -1,8 +1,10 @@
 //! Records of a stream, RFC 5531 section 11.
 
-ghost use Rattle.std.specs.Prelude.{◌≡◌, ◌+◌, ◌^◌, ◌<◌, ◌≤◌, true, false, length, take, vec_len, IsTrue, Ok, OnOk, IfOk, OnErr, IsErrOf};
+ghost use Rattle.std.specs.Prelude.{◌≡◌, ◌+◌, ◌^◌, ◌<◌, ◌≤◌, true, false, length, take, vec_len};
+ghost use Rattle.std.specs.Prelude.{IsTrue, Ok, OnOk, IfOk, OnErr, IsErrOf};
 ghost use Rattle.sec_base.specs.Answers.{Rose};
-ghost use Rattle.rpc_msgs.specs.Fragments.{TakesFragment, TakesHeader, TakesAnnounced, TakesContent, TakesPiece};
+ghost use Rattle.rpc_msgs.specs.Fragments.{TakesFragment, TakesHeader, TakesAnnounced};
+ghost use Rattle.rpc_msgs.specs.Fragments.{TakesContent, TakesPiece};
 ghost use Rattle.rpc_msgs.specs.Records.{TakesRecord, last_fragment};
 ghost use Rattle.rpc_msgs.specs.Streams.{Sends};
 ghost use Rattle.rpc_msgs.specs.Words.{word};
@@ -62,10 +64,12 @@ enum Fragment {
 /// not for those that a header announces.
 pub fn next_record<L: Link>(alloc: Global, link: &mut L) -> Result<Option<Octets>, RecordRefusal>
     requires { L.closed link.old ≡ false }
-    ensures told { IsTrue (L.tells link.old) → TakesRecord (L.wire link.old) (L.wire link.new) result }
+    ensures told { IsTrue (L.tells link.old)
+        → TakesRecord (L.wire link.old) (L.wire link.new) result }
     ensures tells { L.tells link.new ≡ L.tells link.old }
     ensures unclosed { L.closed link.new ≡ false }
-    ensures fault { IsErrOf result RecordRefusal.LinkFault → Rose (L.faults link.old) (L.faults link.new) }
+    ensures fault { IsErrOf result RecordRefusal.LinkFault
+        → Rose (L.faults link.old) (L.faults link.new) }
     ensures faults { L.faults link.old ≤ L.faults link.new }
 {
     let mut octets = Vec::new(alloc);
@@ -89,13 +93,15 @@ fn read_fragment<L: Link>(
     requires unclosed { L.closed link.old ≡ false }
     requires size { vec_len octets.old ≤ 131072 }
     requires most { number ≤ 64 }
-    ensures told { IsTrue (L.tells link.old) → TakesFragment (L.wire link.old) (L.wire link.new) octets.old.items octets.new.items number result }
+    ensures told { IsTrue (L.tells link.old) → TakesFragment (L.wire link.old) (L.wire link.new)
+        octets.old.items octets.new.items number result }
     ensures size { OnOk result (vec_len octets.new ≤ 131072) }
     ensures more { result ≡ Ok Fragment.More → number < 64 }
     ensures last { result ≡ Ok Fragment.Last → number < 64 }
     ensures tells { L.tells link.new ≡ L.tells link.old }
     ensures unclosed { L.closed link.new ≡ false }
-    ensures fault { IsErrOf result RecordRefusal.LinkFault → Rose (L.faults link.old) (L.faults link.new) }
+    ensures fault { IsErrOf result RecordRefusal.LinkFault
+        → Rose (L.faults link.old) (L.faults link.new) }
     ensures faults { L.faults link.old ≤ L.faults link.new }
 {
     match read_header(link, number) {
@@ -108,10 +114,12 @@ fn read_fragment<L: Link>(
 /// Reads the header of the fragment of this number; None where the stream ends before the first one.
 fn read_header<L: Link>(link: &mut L, number: u32) -> Result<Option<u32>, RecordRefusal>
     requires { L.closed link.old ≡ false }
-    ensures told { IsTrue (L.tells link.old) → TakesHeader (L.wire link.old) (L.wire link.new) number result }
+    ensures told { IsTrue (L.tells link.old)
+        → TakesHeader (L.wire link.old) (L.wire link.new) number result }
     ensures tells { L.tells link.new ≡ L.tells link.old }
     ensures unclosed { L.closed link.new ≡ false }
-    ensures fault { IsErrOf result RecordRefusal.LinkFault → Rose (L.faults link.old) (L.faults link.new) }
+    ensures fault { IsErrOf result RecordRefusal.LinkFault
+        → Rose (L.faults link.old) (L.faults link.new) }
     ensures faults { L.faults link.old ≤ L.faults link.new }
 {
     let mut cells = [0; 4];
@@ -133,13 +141,15 @@ fn read_announced<L: Link>(
     requires unclosed { L.closed link.old ≡ false }
     requires size { vec_len octets.old ≤ 131072 }
     requires most { number ≤ 64 }
-    ensures told { IsTrue (L.tells link.old) → TakesAnnounced (L.wire link.old) (L.wire link.new) octets.old.items octets.new.items number header result }
+    ensures told { IsTrue (L.tells link.old) → TakesAnnounced (L.wire link.old) (L.wire link.new)
+        octets.old.items octets.new.items number header result }
     ensures size { OnOk result (vec_len octets.new ≤ 131072) }
     ensures more { result ≡ Ok Fragment.More → number < 64 }
     ensures last { result ≡ Ok Fragment.Last → number < 64 }
     ensures tells { L.tells link.new ≡ L.tells link.old }
     ensures unclosed { L.closed link.new ≡ false }
-    ensures fault { IsErrOf result RecordRefusal.LinkFault → Rose (L.faults link.old) (L.faults link.new) }
+    ensures fault { IsErrOf result RecordRefusal.LinkFault
+        → Rose (L.faults link.old) (L.faults link.new) }
     ensures faults { L.faults link.old ≤ L.faults link.new }
 {
     let size = (header % LAST) as usize;
@@ -164,11 +174,13 @@ fn read_content<L: Link>(
     length: usize,
 ) -> Result<bool, RecordRefusal>
     requires { L.closed link.old ≡ false }
-    ensures told { IsTrue (L.tells link.old) → TakesContent (L.wire link.old) (L.wire link.new) octets.old.items octets.new.items length result }
+    ensures told { IsTrue (L.tells link.old) → TakesContent (L.wire link.old) (L.wire link.new)
+        octets.old.items octets.new.items length result }
     ensures size { result ≡ Ok true → vec_len octets.new ≡ vec_len octets.old + length }
     ensures tells { L.tells link.new ≡ L.tells link.old }
     ensures unclosed { L.closed link.new ≡ false }
-    ensures fault { IsErrOf result RecordRefusal.LinkFault → Rose (L.faults link.old) (L.faults link.new) }
+    ensures fault { IsErrOf result RecordRefusal.LinkFault
+        → Rose (L.faults link.old) (L.faults link.new) }
     ensures faults { L.faults link.old ≤ L.faults link.new }
 {
     let mut left = length;
@@ -191,11 +203,14 @@ fn read_part<L: Link>(
 ) -> Result<usize, RecordRefusal>
     requires unclosed { L.closed link.old ≡ false }
     requires most { length ≤ 8192 }
-    ensures told { IsTrue (L.tells link.old) → TakesPiece (L.wire link.old) (L.wire link.new) octets.old.items octets.new.items length result }
-    ensures size { IfOk result (λ count. (count ≤ length) × (vec_len octets.new ≡ vec_len octets.old + count)) }
+    ensures told { IsTrue (L.tells link.old) → TakesPiece (L.wire link.old) (L.wire link.new)
+        octets.old.items octets.new.items length result }
+    ensures size { IfOk result
+        (λ count. (count ≤ length) × (vec_len octets.new ≡ vec_len octets.old + count)) }
     ensures tells { L.tells link.new ≡ L.tells link.old }
     ensures unclosed { L.closed link.new ≡ false }
-    ensures fault { IsErrOf result RecordRefusal.LinkFault → Rose (L.faults link.old) (L.faults link.new) }
+    ensures fault { IsErrOf result RecordRefusal.LinkFault
+        → Rose (L.faults link.old) (L.faults link.new) }
     ensures faults { L.faults link.old ≤ L.faults link.new }
 {
     if length <= SMALL_PIECE {
@@ -214,11 +229,14 @@ fn read_piece<L: Link, const SIZE: usize>(
     requires unclosed { L.closed link.old ≡ false }
     requires most { length ≤ SIZE }
     requires small { SIZE ≤ 8192 }
-    ensures told { IsTrue (L.tells link.old) → TakesPiece (L.wire link.old) (L.wire link.new) octets.old.items octets.new.items length result }
-    ensures size { IfOk result (λ count. (count ≤ length) × (vec_len octets.new ≡ vec_len octets.old + count)) }
+    ensures told { IsTrue (L.tells link.old) → TakesPiece (L.wire link.old) (L.wire link.new)
+        octets.old.items octets.new.items length result }
+    ensures size { IfOk result
+        (λ count. (count ≤ length) × (vec_len octets.new ≡ vec_len octets.old + count)) }
     ensures tells { L.tells link.new ≡ L.tells link.old }
     ensures unclosed { L.closed link.new ≡ false }
-    ensures fault { IsErrOf result RecordRefusal.LinkFault → Rose (L.faults link.old) (L.faults link.new) }
+    ensures fault { IsErrOf result RecordRefusal.LinkFault
+        → Rose (L.faults link.old) (L.faults link.new) }
     ensures faults { L.faults link.old ≤ L.faults link.new }
 {
     let mut cells = [0; SIZE];
@@ -235,7 +253,8 @@ fn read_piece<L: Link, const SIZE: usize>(
 pub fn write_record<L: Link>(link: &mut L, bytes: &[u8]) -> Result<(), LinkFault>
     requires unclosed { L.closed link.old ≡ false }
     requires room { length bytes.now ≤ 131072 }
-    ensures told { IsTrue (L.tells link.old) → Sends (L.wire link.old) (L.wire link.new) result (last_fragment bytes.now) }
+    ensures told { IsTrue (L.tells link.old)
+        → Sends (L.wire link.old) (L.wire link.new) result (last_fragment bytes.now) }
     ensures tells { L.tells link.new ≡ L.tells link.old }
     ensures unclosed { L.closed link.new ≡ false }
     ensures fault { OnErr result (Rose (L.faults link.old) (L.faults link.new)) }
@@ -258,7 +277,8 @@ fn write_at_once<L: Link, const SIZE: usize>(link: &mut L, bytes: &[u8]) -> Resu
     requires unclosed { L.closed link.old ≡ false }
     requires fits { 4 + length bytes.now ≤ SIZE }
     requires small { SIZE ≤ 8192 }
-    ensures told { IsTrue (L.tells link.old) → Sends (L.wire link.old) (L.wire link.new) result (last_fragment bytes.now) }
+    ensures told { IsTrue (L.tells link.old)
+        → Sends (L.wire link.old) (L.wire link.new) result (last_fragment bytes.now) }
     ensures tells { L.tells link.new ≡ L.tells link.old }
     ensures unclosed { L.closed link.new ≡ false }
     ensures fault { OnErr result (Rose (L.faults link.old) (L.faults link.new)) }

@@ -1,10 +1,15 @@
 //! Replies, RFC 5531 section 9.
 
 ghost use Rattle.std.specs.Prelude.{◌≡◌, ◌≤◌, ◌++◌, length, IfOk, OnOk, Ok};
-ghost use Rattle.rpc_msgs.specs.Replies.{accepted, mismatch, auth_error, reply_value, reply_octets, IsReply, accepted_head, accepted_body, mismatch_octets, auth_error_octets};
+ghost use Rattle.rpc_msgs.specs.Replies.{accepted, mismatch, auth_error, reply_value, reply_octets};
+ghost use Rattle.rpc_msgs.specs.Replies.{IsReply, accepted_head, accepted_body, mismatch_octets};
+ghost use Rattle.rpc_msgs.specs.Replies.{auth_error_octets};
 ghost use Rattle.rpc_msgs.specs.ReplyReading.{reply_at};
 ghost use Rattle.rpc_msgs.specs.Words.{word};
 
+use crate::numbers::{
+    AUTH_ERROR, MSG_ACCEPTED, MSG_DENIED, PROG_MISMATCH, REPLY, RPC_MISMATCH, SUCCESS,
+};
 use crate::xdr_writer::XdrWriter;
 use sec_base::{NoMemory, Octets};
 use std::alloc::Global;
@@ -12,7 +17,7 @@ use std::alloc::Global;
 /// A reply.
 #[derive(Clone, Copy, Debug)]
 pub enum Reply<'a> {
-    /// The call was accepted. `result` is there at stat 0 (SUCCESS), the versions `low` to `high` at stat 2 (PROG_MISMATCH).
+    /// The call was accepted. `result` is there at SUCCESS, the versions `low` to `high` at PROG_MISMATCH.
     Accepted {
         xid: u32,
         flavour: u32,
@@ -69,8 +74,10 @@ fn write_accepted(
     body: &[u8],
 ) -> Result<Octets, NoMemory>
     requires { IsReply (accepted xid flavour verf.now stat low high body.now) }
-    ensures octets { IfOk result (λ octets. octets ≡ reply_octets (accepted xid flavour verf.now stat low high body.now)) }
-    ensures again { IfOk result (λ octets. reply_at octets ≡ Ok (accepted xid flavour verf.now stat low high body.now)) }
+    ensures octets { IfOk result
+        (λ octets. octets ≡ reply_octets (accepted xid flavour verf.now stat low high body.now)) }
+    ensures again { IfOk result
+        (λ octets. reply_at octets ≡ Ok (accepted xid flavour verf.now stat low high body.now)) }
 {
     let mut out = XdrWriter::new(alloc);
     put_accepted(&mut out, xid, flavour, verf, stat)?;
@@ -90,8 +97,8 @@ fn put_accepted(
     ensures { OnOk result (out.new ≡ out.old ++ accepted_head xid flavour verf.now stat) }
 {
     out.word(xid)?;
-    out.word(1)?;
-    out.word(0)?;
+    out.word(REPLY)?;
+    out.word(MSG_ACCEPTED)?;
     out.word(flavour)?;
     out.opaque(verf)?;
     out.word(stat)
@@ -108,8 +115,8 @@ fn put_body(
     ensures { OnOk result (out.new ≡ out.old ++ accepted_body stat low high body.now) }
 {
     match stat {
-        0 => out.octets(body),
-        2 => put_range(out, low, high),
+        SUCCESS => out.octets(body),
+        PROG_MISMATCH => put_range(out, low, high),
         _ => Ok(()),
     }
 }
@@ -129,9 +136,9 @@ fn write_mismatch(alloc: Global, xid: u32, low: u32, high: u32) -> Result<Octets
 {
     let mut out = XdrWriter::new(alloc);
     out.word(xid)?;
-    out.word(1)?;
-    out.word(1)?;
-    out.word(0)?;
+    out.word(REPLY)?;
+    out.word(MSG_DENIED)?;
+    out.word(RPC_MISMATCH)?;
     out.word(low)?;
     out.word(high)?;
     Ok(out.finish())
@@ -144,9 +151,9 @@ fn write_auth_error(alloc: Global, xid: u32, stat: u32) -> Result<Octets, NoMemo
 {
     let mut out = XdrWriter::new(alloc);
     out.word(xid)?;
-    out.word(1)?;
-    out.word(1)?;
-    out.word(1)?;
+    out.word(REPLY)?;
+    out.word(MSG_DENIED)?;
+    out.word(AUTH_ERROR)?;
     out.word(stat)?;
     Ok(out.finish())
 }

@@ -3,10 +3,15 @@
 ghost use Rattle.std.specs.Prelude.{◌≡◌, IfOk, Ok};
 ghost use Rattle.rpc_msgs.specs.Auths.{auth_value};
 ghost use Rattle.rpc_msgs.specs.Replies.{ReplyValue, reply_value, reply_octets, IsReply, HasWords};
-ghost use Rattle.rpc_msgs.specs.ReplyReading.{reply_word_at, reply_auth_at, due_at, done_at, range_at, body_at, accepted_at, mismatch_at, auth_error_at, denied_at, state_at, reply_at};
+ghost use Rattle.rpc_msgs.specs.ReplyReading.{reply_word_at, reply_auth_at, due_at, done_at};
+ghost use Rattle.rpc_msgs.specs.ReplyReading.{range_at, body_at, accepted_at, mismatch_at};
+ghost use Rattle.rpc_msgs.specs.ReplyReading.{auth_error_at, denied_at, state_at, reply_at};
 ghost use Rattle.rpc_msgs.specs.Xdr.{Answers, Reads};
 
 use crate::auth::{Auth, read_auth};
+use crate::numbers::{
+    AUTH_ERROR, MSG_ACCEPTED, MSG_DENIED, PROG_MISMATCH, REPLY, RPC_MISMATCH, SUCCESS,
+};
 use crate::reply::Reply;
 use crate::xdr_reader::XdrReader;
 
@@ -20,8 +25,10 @@ pub struct ReplyRefusal {
 pub fn read_reply(bytes: &[u8]) -> Result<Reply<'_>, ReplyRefusal>
     ensures exact { Answers reply_value result (reply_at bytes.now) }
     // What is read is spelled so, and what is spelled so is read.
-    ensures spelled { IfOk result (λ reply. IsReply (reply_value reply) × HasWords (reply_value reply) × (bytes.now ≡ reply_octets (reply_value reply))) }
-    ensures only { (reply : ReplyValue) → IsReply reply → HasWords reply → bytes.now ≡ reply_octets reply → Answers reply_value result (Ok reply) }
+    ensures spelled { IfOk result (λ reply. IsReply (reply_value reply)
+        × HasWords (reply_value reply) × (bytes.now ≡ reply_octets (reply_value reply))) }
+    ensures only { (reply : ReplyValue) → IsReply reply → HasWords reply
+        → bytes.now ≡ reply_octets reply → Answers reply_value result (Ok reply) }
 {
     reply_in(bytes)
 }
@@ -33,7 +40,7 @@ fn reply_in(bytes: &[u8]) -> Result<Reply<'_>, ReplyRefusal>
 {
     let mut reader = XdrReader::new(bytes);
     let xid = read_word(&mut reader)?;
-    read_due(1, &mut reader)?;
+    read_due(REPLY, &mut reader)?;
     read_state(xid, &mut reader)
 }
 
@@ -79,10 +86,10 @@ fn read_state<'a>(xid: u32, reader: &mut XdrReader<'a>) -> Result<Reply<'a>, Rep
 {
     let at = reader.place();
     let state = read_word(reader)?;
-    if state == 0 {
+    if state == MSG_ACCEPTED {
         return read_accepted(xid, reader);
     }
-    if state == 1 {
+    if state == MSG_DENIED {
         return read_denied(xid, reader);
     }
     Err(ReplyRefusal { at })
@@ -108,19 +115,19 @@ fn read_body<'a>(
 ) -> Result<Reply<'a>, ReplyRefusal>
     ensures { Answers reply_value result (body_at xid (auth_value verf.now) stat reader.old) }
 {
-    if stat == 0 {
+    if stat == SUCCESS {
         let result = reader.rest();
         return Ok(Reply::Accepted {
             xid,
             flavour: verf.flavour,
             verf: verf.body,
-            stat: 0,
+            stat: SUCCESS,
             low: 0,
             high: 0,
             result,
         });
     }
-    if stat == 2 {
+    if stat == PROG_MISMATCH {
         return read_range(xid, verf, reader);
     }
     let reply = Reply::Accepted {
@@ -150,7 +157,7 @@ fn read_range<'a>(
         xid,
         flavour: verf.flavour,
         verf: verf.body,
-        stat: 2,
+        stat: PROG_MISMATCH,
         low,
         high,
         result: &[],
@@ -165,10 +172,10 @@ fn read_denied<'a>(xid: u32, reader: &mut XdrReader<'a>) -> Result<Reply<'a>, Re
 {
     let at = reader.place();
     let why = read_word(reader)?;
-    if why == 0 {
+    if why == RPC_MISMATCH {
         return read_mismatch(xid, reader);
     }
-    if why == 1 {
+    if why == AUTH_ERROR {
         return read_auth_error(xid, reader);
     }
     Err(ReplyRefusal { at })

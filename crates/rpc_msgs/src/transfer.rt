@@ -10,7 +10,8 @@ use sec_base::{Link, LinkFault};
 pub(crate) fn fill<L: Link>(link: &mut L, buf: &mut [u8]) -> Result<usize, LinkFault>
     requires { L.closed link.old ≡ false }
     ensures count { IfOk result (λ count. count ≤ length buf.old) }
-    ensures told { IsTrue (L.tells link.old) → Fills (L.wire link.old) (L.wire link.new) result buf.new }
+    ensures told { IsTrue (L.tells link.old)
+        → Fills (L.wire link.old) (L.wire link.new) result buf.new }
     ensures tells { L.tells link.new ≡ L.tells link.old }
     ensures unclosed { L.closed link.new ≡ false }
     ensures fault { OnErr result (Rose (L.faults link.old) (L.faults link.new)) }
@@ -30,7 +31,8 @@ pub(crate) fn fill<L: Link>(link: &mut L, buf: &mut [u8]) -> Result<usize, LinkF
 /// Writes all of `octets`.
 pub(crate) fn send<L: Link>(link: &mut L, octets: &[u8]) -> Result<(), LinkFault>
     requires { L.closed link.old ≡ false }
-    ensures told { IsTrue (L.tells link.old) → Sends (L.wire link.old) (L.wire link.new) result octets.now }
+    ensures told { IsTrue (L.tells link.old)
+        → Sends (L.wire link.old) (L.wire link.new) result octets.now }
     ensures tells { L.tells link.new ≡ L.tells link.old }
     ensures unclosed { L.closed link.new ≡ false }
     ensures fault { OnErr result (Rose (L.faults link.old) (L.faults link.new)) }

@@ -3,7 +3,8 @@
 ghost use Rattle.std.specs.Prelude.{◌≡◌, ◌≤◌, ◌++◌, length, IfOk, OnErr};
 ghost use Rattle.std.specs.Int.{w32, from_be_bytes};
 ghost use Rattle.rpc_msgs.specs.Words.{word, opaque, padding_length};
-ghost use Rattle.rpc_msgs.specs.Xdr.{Input, whole, place, octets_at, word_at, zeros_in, opaque_at, end_at, Answers, Reads};
+ghost use Rattle.rpc_msgs.specs.Xdr.{Input, whole, place, octets_at, word_at, zeros_in, opaque_at};
+ghost use Rattle.rpc_msgs.specs.Xdr.{end_at, Answers, Reads};
 
 use sec_base::NoMemory;
 use std::marker::Model;
@@ -99,7 +100,8 @@ impl<'a> XdrReader<'a> {
     pub fn opaque(&mut self, limit: u32) -> Result<&'a [u8], XdrRefusal>
         ensures read { Reads (λ v. v.now) self.new result (opaque_at limit self.old) }
         ensures unmoved { OnErr result (self.new ≡ self.old) }
-        ensures spelled { IfOk result (λ v. (length v.now ≤ limit) × (self.old.octets ≡ opaque v.now ++ self.new.octets)) }
+        ensures spelled { IfOk result
+            (λ v. (length v.now ≤ limit) × (self.old.octets ≡ opaque v.now ++ self.new.octets)) }
     {
         let (octets, left) = opaque_in(self.left, self.end, limit)?;
         self.left = left;
@@ -124,7 +126,8 @@ impl<'a> XdrReader<'a> {
 /// So many octets, and what stands behind them.
 #[tactic(auto, unfolding(crate::specs::Xdr::octets_at))]
 fn octets_in(left: &[u8], end: usize, size: usize) -> Result<(&[u8], &[u8]), XdrRefusal>
-    ensures read { Answers (λ x. (x.0.now, record { octets = x.1.now; end = end })) result (octets_at size (record { octets = left.now; end = end })) }
+    ensures read { Answers (λ x. (x.0.now, record { octets = x.1.now; end = end })) result
+        (octets_at size (record { octets = left.now; end = end })) }
     ensures size { IfOk result (λ x. length x.0.now ≡ size) }
     ensures less { IfOk result (λ x. length x.1.now ≤ length left.now) }
 {
@@ -140,7 +143,8 @@ fn octets_in(left: &[u8], end: usize, size: usize) -> Result<(&[u8], &[u8]), Xdr
 /// The number in front, and what stands behind it.
 #[tactic(auto, unfolding(crate::specs::Xdr::word_at))]
 fn word_in(left: &[u8], end: usize) -> Result<(u32, &[u8]), XdrRefusal>
-    ensures read { Answers (λ x. (x.0, record { octets = x.1.now; end = end })) result (word_at (record { octets = left.now; end = end })) }
+    ensures read { Answers (λ x. (x.0, record { octets = x.1.now; end = end })) result
+        (word_at (record { octets = left.now; end = end })) }
     ensures spelled { IfOk result (λ x. left.now ≡ word x.0 ++ x.1.now) }
     ensures less { IfOk result (λ x. length x.1.now ≤ length left.now) }
 {
@@ -162,7 +166,8 @@ pub(crate) fn word_of(bytes: &[u8]) -> u32
 #[tactic(auto, unfolding(crate::specs::Xdr::zeros_in))]
 fn zeros_of(left: &[u8], end: usize, count: usize) -> Result<&[u8], XdrRefusal>
     requires { length left.now ≤ end }
-    ensures read { Answers (λ x. record { octets = x.now; end = end }) result (zeros_in count left.now end) }
+    ensures read { Answers (λ x. record { octets = x.now; end = end }) result
+        (zeros_in count left.now end) }
     ensures less { IfOk result (λ x. length x.now ≤ length left.now) }
 {
     if count == 0 {
@@ -185,8 +190,10 @@ fn zeros_of(left: &[u8], end: usize, count: usize) -> Result<&[u8], XdrRefusal>
 #[tactic(auto, unfolding(crate::specs::Xdr::opaque_at))]
 fn opaque_in(left: &[u8], end: usize, limit: u32) -> Result<(&[u8], &[u8]), XdrRefusal>
     requires { length left.now ≤ end }
-    ensures read { Answers (λ x. (x.0.now, record { octets = x.1.now; end = end })) result (opaque_at limit (record { octets = left.now; end = end })) }
-    ensures spelled { IfOk result (λ x. (length x.0.now ≤ limit) × (left.now ≡ opaque x.0.now ++ x.1.now)) }
+    ensures read { Answers (λ x. (x.0.now, record { octets = x.1.now; end = end })) result
+        (opaque_at limit (record { octets = left.now; end = end })) }
+    ensures spelled { IfOk result
+        (λ x. (length x.0.now ≤ limit) × (left.now ≡ opaque x.0.now ++ x.1.now)) }
     ensures less { IfOk result (λ x. length x.1.now ≤ length left.now) }
 {
     let (size, behind) = word_in(left, end)?;

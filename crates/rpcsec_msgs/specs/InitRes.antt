@@ -8,7 +8,8 @@ use Rattle.rpcsec_msgs.specs.declared.init_res.InitRes.{InitRes}
 
 -- the one spelling: the handle, the major and minor status, the window, the token
 abbrev pub init_res_octets : InitRes → List ℕ
-init_res_octets r = opaque r.context ++ (word r.major ++ (word r.minor ++ (word r.window ++ opaque r.token)))
+init_res_octets r =
+    opaque r.context ++ (word r.major ++ (word r.minor ++ (word r.window ++ opaque r.token)))
 
 -- what has a spelling
 pub record IsInitRes (r : InitRes) : Type 0 where
@@ -18,6 +19,7 @@ pub record IsInitRes (r : InitRes) : Type 0 where
   pub window : r.window < 2 ^ 32
   pub token : length r.token ≤ 65536
 
+-- the result at the front: the handle has at most 64 octets, the token at most 65,536
 unfoldable pub init_fields_at : Input → Result (InitRes × Input) XdrRefusal
 init_fields_at i = do
   context ← opaque_at 64 i
@@ -25,7 +27,17 @@ init_fields_at i = do
   minor ← word_at major.1
   window ← word_at minor.1
   token ← opaque_at 65536 window.1
-  Ok (record { context = context.0; major = major.0; minor = minor.0; window = window.0; token = token.0 }, token.1)
+  Ok (
+    record {
+      context = context.0;
+      major = major.0;
+      minor = minor.0;
+      window = window.0;
+      token =
+          token.0;
+    },
+    token.1,
+  )
 
 -- the result that octets are
 unfoldable pub init_res_at : List ℕ → Result InitRes XdrRefusal
@@ -35,6 +47,7 @@ init_res_at octets = do
   Ok result.0
 
 -- the answer of a reading at the front that takes memory, and what it leaves
-abbrev pub MayRead : {A B : Type 0} → (A → B) → Input → Result A XdrRefusal → Result (B × Input) XdrRefusal → Type 0
+abbrev pub MayRead : {A B : Type 0} → (A → B) → Input → Result A XdrRefusal
+    → Result (B × Input) XdrRefusal → Type 0
 MayRead view left (Ok x) answer = answer ≡ Ok (view x, left)
 MayRead view left (Err e) answer = e.why ≢ NoMemory → answer ≡ Err e

@@ -13,7 +13,9 @@ use std::alloc::Global;
 pub fn split_checked(bytes: &[u8]) -> Result<(&[u8], &[u8]), XdrRefusal>
     ensures exact { Answers (λ p. (p.0.now, p.1.now)) result (checked_at bytes.now) }
     ensures found { IfOk result (λ p. bytes.now ≡ checked_octets p.0.now p.1.now) }
-    ensures only { (body tag : List ℕ) → IsLong body → IsLong tag → bytes.now ≡ checked_octets body tag → Answers {B = List ℕ × List ℕ} (λ p. (p.0.now, p.1.now)) result (Ok (body, tag)) }
+    ensures only { (body tag : List ℕ)
+        → IsLong body → IsLong tag → bytes.now ≡ checked_octets body tag
+        → Answers {B = List ℕ × List ℕ} (λ p. (p.0.now, p.1.now)) result (Ok (body, tag)) }
 {
     checked_in(bytes)
 }
@@ -46,7 +48,8 @@ pub fn join_checked(alloc: Global, body: &[u8], tag: &[u8]) -> Result<Octets, No
 pub fn split_sealed(bytes: &[u8]) -> Result<&[u8], XdrRefusal>
     ensures exact { Answers (λ token. token.now) result (sealed_at bytes.now) }
     ensures found { IfOk result (λ token. bytes.now ≡ opaque token.now) }
-    ensures only { (token : List ℕ) → IsLong token → bytes.now ≡ opaque token → Answers (λ t. t.now) result (Ok token) }
+    ensures only { (token : List ℕ) → IsLong token → bytes.now ≡ opaque token
+        → Answers (λ t. t.now) result (Ok token) }
 {
     sealed_in(bytes)
 }

@@ -2,20 +2,16 @@
 
 ghost use Rattle.std.specs.Prelude.{◌≡◌, ◌<◌, ◌^◌, length, IfOk, Ok};
 ghost use Rattle.rpc_msgs.specs.Xdr.{Answers, Reads};
-ghost use Rattle.rpcsec_msgs.specs.Cred.{CredValue, IsCred, cred_value, cred_octets, cred_word_at, version_at, procedure_at, is_service, service_at, cred_fields_at, cred_at};
+ghost use Rattle.rpcsec_msgs.specs.Cred.{CredValue, IsCred, cred_value, cred_octets, cred_word_at};
+ghost use Rattle.rpcsec_msgs.specs.Cred.{version_at, procedure_at, is_service, service_at};
+ghost use Rattle.rpcsec_msgs.specs.Cred.{cred_fields_at, cred_at};
 
+use crate::numbers::{
+    RPC_GSS_SVC_NONE, RPC_GSS_SVC_PRIVACY, RPCSEC_GSS_DATA, RPCSEC_GSS_DESTROY, RPCSEC_GSS_VERS_1,
+};
 use rpc_msgs::{XdrReader, XdrRefusal, XdrWriter};
 use sec_base::{NoMemory, Octets};
 use std::alloc::Global;
-
-/// The version of RPCSEC_GSS.
-const VERSION: u32 = 1;
-
-/// The procedure of data calls; 1 is that of creation, 2 of its continuation, 3 of destruction.
-const DATA: u32 = 0;
-
-/// The last procedure.
-const DESTROY: u32 = 3;
 
 /// The body of a credential.
 ///
@@ -43,8 +39,10 @@ pub struct CredRefusal {
 /// Reads the credential that a body is.
 pub fn read_cred(body: &[u8]) -> Result<GssCred<'_>, CredRefusal>
     ensures exact { Answers cred_value result (cred_at body.now) }
-    ensures found { IfOk result (λ c. IsCred (cred_value c) × (body.now ≡ cred_octets (cred_value c))) }
-    ensures only { (c : CredValue) → IsCred c → body.now ≡ cred_octets c → Answers cred_value result (Ok c) }
+    ensures found { IfOk result
+        (λ c. IsCred (cred_value c) × (body.now ≡ cred_octets (cred_value c))) }
+    ensures only { (c : CredValue) → IsCred c → body.now ≡ cred_octets c
+        → Answers cred_value result (Ok c) }
 {
     cred_in(body)
 }
@@ -100,7 +98,7 @@ fn read_version(reader: &mut XdrReader<'_>) -> Result<(), CredRefusal>
 {
     let at = reader.place();
     let version = read_word(reader)?;
-    if version != VERSION {
+    if version != RPCSEC_GSS_VERS_1 {
         return Err(CredRefusal { at });
     }
     Ok(())
@@ -113,7 +111,7 @@ fn read_procedure(reader: &mut XdrReader<'_>) -> Result<u32, CredRefusal>
 {
     let at = reader.place();
     let proc = read_word(reader)?;
-    if proc > DESTROY {
+    if proc > RPCSEC_GSS_DESTROY {
         return Err(CredRefusal { at });
     }
     Ok(proc)
@@ -123,7 +121,7 @@ fn read_procedure(reader: &mut XdrReader<'_>) -> Result<u32, CredRefusal>
 fn serves(proc: u32, service: u32) -> bool
     ensures { result ≡ is_service proc service }
 {
-    proc != DATA || (1 <= service && service <= 3)
+    proc != RPCSEC_GSS_DATA || (RPC_GSS_SVC_NONE <= service && service <= RPC_GSS_SVC_PRIVACY)
 }
 
 /// Reads the service.
@@ -145,7 +143,7 @@ pub fn write_cred(alloc: Global, v: &GssCred<'_>) -> Result<Octets, NoMemory>
     ensures { IfOk result (λ octets. octets ≡ cred_octets (cred_value v.now)) }
 {
     let mut out = XdrWriter::new(alloc);
-    out.word(VERSION)?;
+    out.word(RPCSEC_GSS_VERS_1)?;
     out.word(v.proc)?;
     out.word(v.seq)?;
     out.word(v.service)?;

@@ -2,7 +2,8 @@
 
 ghost use Rattle.std.specs.Prelude.{◌≡◌, ◌≤◌, length, IfOk, Ok};
 ghost use Rattle.rpc_msgs.specs.Xdr.{MayAnswer};
-ghost use Rattle.rpcsec_msgs.specs.InitRes.{IsInitRes, init_res_octets, init_fields_at, init_res_at, MayRead};
+ghost use Rattle.rpcsec_msgs.specs.InitRes.{IsInitRes, init_res_octets, init_fields_at};
+ghost use Rattle.rpcsec_msgs.specs.InitRes.{init_res_at, MayRead};
 
 use rpc_msgs::{XdrReader, XdrRefusal, XdrWriter};
 use sec_base::{NoMemory, Octets};
@@ -36,7 +37,8 @@ pub struct InitRes {
 pub fn read_init_res(alloc: Global, bytes: &[u8]) -> Result<InitRes, XdrRefusal>
     ensures exact { MayAnswer (λ v. v) result (init_res_at bytes.now) }
     ensures found { IfOk result (λ v. IsInitRes v × (bytes.now ≡ init_res_octets v)) }
-    ensures only { (v : _) → IsInitRes v → bytes.now ≡ init_res_octets v → MayAnswer (λ x. x) result (Ok v) }
+    ensures only { (v : _) → IsInitRes v → bytes.now ≡ init_res_octets v
+        → MayAnswer (λ x. x) result (Ok v) }
 {
     init_res_in(alloc, bytes)
 }

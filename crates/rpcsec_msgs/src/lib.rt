@@ -4,6 +4,7 @@
 mod bodies;
 mod cred;
 mod init_res;
+pub mod numbers;
 
 pub use bodies::{join_checked, join_sealed, split_checked, split_sealed};
 pub use cred::{CredRefusal, GssCred, read_cred, write_cred};
