@@ -23,17 +23,30 @@ acceptor_subkey j draws = drawn_subkey (type_of_key j.session) draws
 
 -- what a reply says: the authenticator's moment, the subkey
 abbrev pub reply_part_with : ℕ → Key → EncApRepPart
-reply_part_with stamp subkey = record { ctime = seconds_of stamp; cusec = micros_of stamp; subkey = Some (key_value subkey); seq_number = Some 0 }
+reply_part_with stamp subkey = record {
+  ctime = seconds_of stamp;
+  cusec = micros_of stamp;
+  subkey =
+      Some (key_value subkey);
+  seq_number = Some 0;
+}
 
+-- what the reply to a judged request says, with a subkey of the drawn octets
 abbrev pub reply_part_of : Judged → List ℕ → EncApRepPart
 reply_part_of j draws = reply_part_with j.stamp (acceptor_subkey j draws)
 
+-- the octets of what the reply says, which are sealed
 abbrev pub reply_octets : Judged → List ℕ → List ℕ
 reply_octets j draws = enc_ap_rep_part.spell (reply_part_of j draws)
 
+-- the reply: what it says, sealed under the session key
 abbrev pub ap_rep_of : Judged → List ℕ → ApRep
-ap_rep_of j draws = record { enc_part = sealed_data j.session None reply_usage (drawn_confounder draws) (reply_octets j draws) }
+ap_rep_of j draws = record {
+  enc_part =
+      sealed_data j.session None reply_usage (drawn_confounder draws) (reply_octets j draws);
+}
 
+-- the token with the reply, for the initiator
 unfoldable pub answer_token : Judged → List ℕ → List ℕ
 answer_token j draws = token_of ap_rep_id (ap_rep.spell (ap_rep_of j draws))
 
@@ -48,6 +61,7 @@ answer_done j draws = record {
   ends = j.ends;
 }
 
+-- what the acceptor is left with, and the token with its reply
 abbrev pub answer_of : Judged → List ℕ → MechDone × List ℕ
 answer_of j draws = (answer_done j draws, answer_token j draws)
 
@@ -55,10 +69,12 @@ answer_of j draws = (answer_done j draws, answer_token j draws)
 abbrev pub answer_making : Judged → List ℕ → Making
 answer_making j draws = sealed_making j.session reply_usage (reply_octets j draws)
 
+-- the one thing that is handed out with the token, as a list
 abbrev pub answer_makes : Judged → List ℕ → List Making
 answer_makes j draws = answer_making j draws ∷ []
 
--- what holds of an answer that was made: all that is written has a spelling, what is sealed opens again
+-- what holds of an answer that was made: all that is written has a spelling, what is sealed opens
+-- again
 pub record AnswerFits (j : Judged) (draws : List ℕ) : Type 0 where
   pub sealed : enc_ap_rep_part.fits (reply_part_of j draws) ≡ true
   pub opens : SealedOpens j.session reply_usage (drawn_confounder draws) (reply_octets j draws)

@@ -1,5 +1,8 @@
--- What an acceptor answers to a request, RFC 4120 section 3.2.3 and RFC 4121 section 4.1.1: the first refusal in the order of the steps.
-use Rattle.std.specs.Prelude.{ℕ, ℤ, negsuc, false, ◌^◌, ◌+◌, ◌/◌, ◌%◌, min, nat_eq, nat_le, pos, Bool, true, not, ◌==◌, ◌&&◌, if◌then◌else◌, List, [], ◌∷◌, length, take, drop, Option, Some, None, unwrap_or, Result, Ok, Err}
+-- What an acceptor answers to a request, RFC 4120 section 3.2.3 and RFC 4121 section 4.1.1: the
+-- first refusal in the order of the steps.
+use Rattle.std.specs.Prelude.{ℕ, ℤ, negsuc, false, ◌^◌, ◌+◌, ◌/◌, ◌%◌, min, nat_eq, nat_le, pos}
+use Rattle.std.specs.Prelude.{Bool, true, not, ◌==◌, ◌&&◌, if◌then◌else◌, List, [], ◌∷◌, length}
+use Rattle.std.specs.Prelude.{take, drop, Option, Some, None, unwrap_or, Result, Ok, Err}
 use lib.Pointwise.{pointwise}
 use Rattle.sec_base.specs.Moment.{greatest_moment}
 use Rattle.gss_base.specs.Name.{Name}
@@ -28,6 +31,7 @@ skew = 300000000
 abbrev pub client_granted : EncTicketPart → Name
 client_granted part = name_in_realm part.crealm part.cname
 
+-- the client that an authenticator names
 abbrev pub client_said : Authenticator → Name
 client_said said = name_in_realm said.crealm said.cname
 
@@ -40,15 +44,17 @@ abbrev pub is_checksum_type : ℤ → Bool
 is_checksum_type (pos number) = number == 32771
 is_checksum_type (negsuc number) = false
 
--- a checksum with 16 as the hash's length, in 32 bits with the least significant octet first, and whole up to its flags; any flags
--- and any octets behind them
+-- a checksum with 16 as the hash's length, in 32 bits with the least significant octet first, and
+-- whole up to its flags; any flags and any octets behind them
 abbrev pub is_checksum : Checksum → Bool
-is_checksum sum = is_checksum_type sum.cksumtype && (nat_le 24 (length sum.checksum) && pointwise nat_eq (take 4 sum.checksum) (16 ∷ 0 ∷ 0 ∷ 0 ∷ []))
+is_checksum sum = is_checksum_type sum.cksumtype && (nat_le 24 (length sum.checksum)
+    && pointwise nat_eq (take 4 sum.checksum) (16 ∷ 0 ∷ 0 ∷ 0 ∷ []))
 
 -- the hash of the initiator's bindings
 abbrev pub hash_carried : Option Checksum → Result (List ℕ) ApRefusal
 hash_carried None = Err refusals.ChecksumType
-hash_carried (Some sum) = if is_checksum sum then Ok (take 16 (drop 4 sum.checksum)) else Err refusals.ChecksumType
+hash_carried (Some sum) =
+    if is_checksum sum then Ok (take 16 (drop 4 sum.checksum)) else Err refusals.ChecksumType
 
 -- an acceptor without bindings takes any hash
 abbrev pub is_bound : Option (List ℕ) → List ℕ → Bool
@@ -71,7 +77,7 @@ start_of part = unwrap_or part.starttime part.authtime
 abbrev pub is_begun : ℕ → EncTicketPart → Bool
 is_begun now part = nat_le (start_of part) (now + skew) && not (is_invalid part.flags)
 
--- ended at least 300 seconds before now
+-- ended at most 300 seconds before now, or not yet
 abbrev pub is_lasting : ℕ → EncTicketPart → Bool
 is_lasting now part = nat_le now (part.endtime + skew)
 
@@ -86,8 +92,10 @@ timely now part said = do
   begun ← due refusals.NotYet (is_begun now part)
   due refusals.Expired (is_lasting now part)
 
--- what the authenticator says beside its moment: the subkey's type, the client's name, the checksum and its hash
-unfoldable pub hash_claimed : Option (List ℕ) → EncTicketPart → Authenticator → Result (List ℕ) ApRefusal
+-- what the authenticator says beside its moment: the subkey's type, the client's name, the checksum
+-- and its hash
+unfoldable pub hash_claimed : Option (List ℕ) → EncTicketPart → Authenticator
+    → Result (List ℕ) ApRefusal
 hash_claimed bindings part said = do
   subkey ← subkey_in said.subkey
   named ← due refusals.NameMatch (same_name (client_said said) (client_granted part))
@@ -107,12 +115,15 @@ judged_as own session part said hash = record {
 }
 
 -- what a request is judged as whose ticket and authenticator say this
-unfoldable pub claim_judged : Name → ℕ → Option (List ℕ) → Key → EncTicketPart → Authenticator → Result Judged ApRefusal
+unfoldable pub claim_judged : Name → ℕ → Option (List ℕ) → Key → EncTicketPart → Authenticator
+    → Result Judged ApRefusal
 claim_judged own now bindings session part said = do
   hash ← hash_claimed bindings part said
   moments ← timely now part said
   Ok (judged_as own session part said hash)
 
+-- what the request in a token is judged as, by keytab, own name, moment and bindings, or the first
+-- refusal
 unfoldable pub judged : List Entry → Name → ℕ → Option (List ℕ) → List ℕ → Result Judged ApRefusal
 judged keytab own now bindings token = do
   x ← exchange_of keytab own token

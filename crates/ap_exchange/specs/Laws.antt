@@ -1,4 +1,5 @@
--- What holds of both ends' definitions: what was found verified where an end goes on, and that two ends whose facts fit agree.
+-- What holds of both ends' definitions: what was found verified where an end goes on, and that two
+-- ends whose facts fit agree.
 use Rattle.std.specs.Prelude.{◌≡◌, ℕ, ◌+◌, true, List, [], ◌∷◌, length, Option, Some, Ok}
 use Rattle.gss_base.specs.Name.{Name}
 use Rattle.gss_base.specs.Bindings.{hash_of}
@@ -20,15 +21,18 @@ use Rattle.krb_files.specs.Granted.{Granted}
 use Rattle.krb_tokens.specs.declared.done.MechDone.{MechDone}
 use Rattle.ap_exchange.specs.declared.judged.Judged.{Judged}
 use Rattle.ap_exchange.specs.declared.request.ApInit.{ApInit}
-use Rattle.ap_exchange.specs.Keys.{ticket_usage, authenticator_usage, reply_usage, known_key, subkey_in}
+use Rattle.ap_exchange.specs.Keys.{ticket_usage, authenticator_usage, reply_usage, known_key}
+use Rattle.ap_exchange.specs.Keys.{subkey_in}
 use Rattle.ap_exchange.specs.Request.{label_of, waiting, request_token, RequestFits}
 use Rattle.ap_exchange.specs.Exchange.{name_in_realm, Exchange, exchange_of, judge_found}
-use Rattle.ap_exchange.specs.Judging.{client_granted, client_said, hash_carried, is_bound, is_near, is_begun, is_lasting, end_of, judged_as, judged}
+use Rattle.ap_exchange.specs.Judging.{client_granted, client_said, hash_carried, is_bound, is_near}
+use Rattle.ap_exchange.specs.Judging.{is_begun, is_lasting, end_of, judged_as, judged}
 use Rattle.ap_exchange.specs.Answer.{answer_done, answer_token, AnswerFits}
 use Rattle.ap_exchange.specs.Reply.{reply_done, reply_taken, reply_found}
 
 -- what an acceptor found where it judged a request
-pub record JudgesBy (keytab : List Entry) (own : Name) (bindings : Option (List ℕ)) (token : List ℕ) (j : Judged) : Type 0 where
+pub record JudgesBy (keytab : List Entry) (own : Name) (bindings : Option (List ℕ)) (token : List ℕ)
+    (j : Judged) : Type 0 where
   pub x : Exchange
   pub exchange : exchange_of keytab own token ≡ Ok x
   -- the service key is the keytab's, for the own name
@@ -39,10 +43,13 @@ pub record JudgesBy (keytab : List Entry) (own : Name) (bindings : Option (List 
   pub ticket_opens : VerifiesSealed x.service ticket_usage x.ticket_octets x.granted.enc_part.cipher
   pub ticket_says : enc_ticket_part.read (all_of x.ticket_octets) ≡ Ok x.part
   pub session : known_key x.part.key ≡ Some x.session
-  -- the authenticator verified under the session key, and says the same client, the stamp and the hash
-  pub verified : VerifiesSealed x.session authenticator_usage x.octets x.request.authenticator.cipher
+  -- the authenticator verified under the session key, and says the same client, the stamp and the
+  -- hash
+  pub verified : VerifiesSealed x.session authenticator_usage x.octets
+      x.request.authenticator.cipher
   pub says : authenticator.read (all_of x.octets) ≡ Ok x.said
-  pub finds : judge_found keytab own token ≡ sealed_making x.session authenticator_usage x.octets ∷ []
+  pub finds : judge_found keytab own token
+      ≡ sealed_making x.session authenticator_usage x.octets ∷ []
   pub client : client_said x.said ≡ client_granted x.part
   pub hash : hash_carried x.said.cksum ≡ Ok j.hash
   pub bound : is_bound bindings j.hash ≡ true
@@ -64,9 +71,11 @@ pub record TakesBy (end : ApInit) (token : List ℕ) (done : MechDone) : Type 0 
   pub subkey_is : subkey_in said.subkey ≡ Ok subkey
   pub done_is : done ≡ reply_done end subkey
 
--- the facts of an initiator and of an acceptor fit: the ticket is the acceptor's, opens under a key that the keytab finds, holds the
--- credential's client and session key, and is in its time; the stamp is near; the acceptor has no bindings or the initiator's
-pub record Fits (keytab : List Entry) (own : Name) (now : ℕ) (expected : Option (List ℕ)) (credential : Granted) (stamp : ℕ) (bindings : Option (List ℕ)) : Type 0 where
+-- the facts of an initiator and of an acceptor fit: the ticket is the acceptor's, opens under a key
+-- that the keytab finds, holds the credential's client and session key, and is in its time; the
+-- stamp is near; the acceptor has no bindings or the initiator's
+pub record Fits (keytab : List Entry) (own : Name) (now : ℕ) (expected : Option (List ℕ))
+    (credential : Granted) (stamp : ℕ) (bindings : Option (List ℕ)) : Type 0 where
   pub granted : Ticket
   pub service : Key
   pub etype : Etype
@@ -97,7 +106,8 @@ honest_judged credential stamp bindings part = record {
   ends = end_of part;
 }
 
--- two ends are left with the same: the key, whether it is the acceptor's subkey, both names and the hash
+-- two ends are left with the same: the key, whether it is the acceptor's subkey, both names and the
+-- hash
 pub record Agrees (initiator acceptor : MechDone) : Type 0 where
   pub key : initiator.key ≡ acceptor.key
   pub subkey : initiator.subkey ≡ acceptor.subkey
@@ -105,18 +115,28 @@ pub record Agrees (initiator acceptor : MechDone) : Type 0 where
   pub acceptor_name : initiator.acceptor ≡ acceptor.acceptor
   pub hash : initiator.hash ≡ acceptor.hash
 
+-- the laws of both ends: what was verified where one goes on, and that ends whose facts fit agree
 pub record Laws : Type 0 where
-  -- where a request is judged, its authenticator was verified under the session key of a ticket that one of the acceptor's keys opens
-  pub judges : (keytab : List Entry) (own : Name) (now : ℕ) (bindings : Option (List ℕ)) (token : List ℕ) (j : Judged)
+  -- where a request is judged, its authenticator was verified under the session key of a ticket
+  -- that one of the acceptor's keys opens
+  pub judges : (keytab : List Entry) (own : Name) (now : ℕ) (bindings : Option (List ℕ))
+      (token : List ℕ) (j : Judged)
       → judged keytab own now bindings token ≡ Ok j → JudgesBy keytab own bindings token j
   -- where a reply is taken, its sealed part was verified under the session key
-  pub takes : (end : ApInit) (token : List ℕ) (done : MechDone) → reply_taken end token ≡ Ok done → TakesBy end token done
+  pub takes : (end : ApInit) (token : List ℕ) (done : MechDone) → reply_taken end token ≡ Ok done
+      → TakesBy end token done
   -- the request of ends that fit is judged
-  pub honest_request : (keytab : List Entry) (own : Name) (now : ℕ) (expected : Option (List ℕ)) (credential : Granted) (stamp : ℕ) (draws : List ℕ) (bindings : Option (List ℕ))
-      → length draws ≡ 66 → RequestFits credential stamp draws bindings → (fit : Fits keytab own now expected credential stamp bindings)
-      → judged keytab own now expected (request_token credential stamp draws bindings) ≡ Ok (honest_judged credential stamp bindings fit.part)
+  pub honest_request : (keytab : List Entry) (own : Name) (now : ℕ) (expected : Option (List ℕ))
+      (credential : Granted) (stamp : ℕ) (draws : List ℕ) (bindings : Option (List ℕ))
+      → length draws ≡ 66 → RequestFits credential stamp draws bindings
+      → (fit : Fits keytab own now expected credential stamp bindings)
+      → judged keytab own now expected (request_token credential stamp draws bindings)
+      ≡ Ok (honest_judged credential stamp bindings fit.part)
   -- and the answer to it is taken, on the acceptor's subkey; both ends agree
-  pub honest_reply : (credential : Granted) (stamp : ℕ) (draws : List ℕ) (bindings : Option (List ℕ)) (part : EncTicketPart) (drawn : List ℕ)
+  pub honest_reply : (credential : Granted) (stamp : ℕ) (draws : List ℕ)
+      (bindings : Option (List ℕ)) (part : EncTicketPart) (drawn : List ℕ)
       → length drawn ≡ 66 → AnswerFits (honest_judged credential stamp bindings part) drawn
-      → (done : MechDone) × (reply_taken (waiting credential stamp draws bindings) (answer_token (honest_judged credential stamp bindings part) drawn) ≡ Ok done)
-      × Agrees done (answer_done (honest_judged credential stamp bindings part) drawn) × (done.subkey ≡ true)
+      → (done : MechDone) × (reply_taken (waiting credential stamp draws bindings)
+      (answer_token (honest_judged credential stamp bindings part) drawn) ≡ Ok done)
+      × Agrees done (answer_done (honest_judged credential stamp bindings part) drawn)
+      × (done.subkey ≡ true)

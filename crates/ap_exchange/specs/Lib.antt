@@ -10,3 +10,4 @@ pub mod Answer
 pub mod Reply
 pub mod SealedTicket
 pub mod Laws
+pub mod Numbers

@@ -1,5 +1,7 @@
--- What an initiator answers to a reply, RFC 4120 section 3.2.5: the first refusal in the order of the steps.
-use Rattle.std.specs.Prelude.{ℕ, ◌==◌, ◌&&◌, if◌then◌else◌, Bool, true, false, List, [], ◌∷◌, Option, Some, None, Result, Ok, Err}
+-- What an initiator answers to a reply, RFC 4120 section 3.2.5: the first refusal in the order of
+-- the steps.
+use Rattle.std.specs.Prelude.{ℕ, ◌==◌, ◌&&◌, if◌then◌else◌, Bool, true, false, List, [], ◌∷◌}
+use Rattle.std.specs.Prelude.{Option, Some, None, Result, Ok, Err}
 use Rattle.sec_base.specs.Moment.{greatest_moment}
 use Rattle.der_core.specs.Format.{all_of}
 use Rattle.krb_derive.specs.declared.key.Key.{Key}
@@ -48,6 +50,7 @@ abbrev pub key_agreed : Key → Option Key → Key
 key_agreed own None = own
 key_agreed own (Some subkey) = subkey
 
+-- the acceptor sent a subkey
 abbrev pub is_sent : Option Key → Bool
 is_sent None = false
 is_sent (Some subkey) = true
@@ -70,6 +73,7 @@ part_taken end said = do
   stamped ← due refusals.ReplyStamp (is_stamped end said)
   Ok (reply_done end subkey)
 
+-- what the initiator is left with once it takes the reply in a token, or the first refusal
 unfoldable pub reply_taken : ApInit → List ℕ → Result MechDone ApRefusal
 reply_taken end token = do
   octets ← reply_opened end token
@@ -81,5 +85,6 @@ abbrev pub reply_verified : ApInit → Result (List ℕ) ApRefusal → List Maki
 reply_verified end (Ok octets) = sealed_making end.session reply_usage octets ∷ []
 reply_verified end (Err refusal) = []
 
+-- what an initiator finds verified in a token with the reply
 abbrev pub reply_found : ApInit → List ℕ → List Making
 reply_found end token = reply_verified end (reply_opened end token)

@@ -7,7 +7,9 @@ use Rattle.ap_exchange.specs.declared.refusal.ApRefusal.TheVariants as refusals
 
 -- the steps that follow, unless this one refuses
 infixl 10 ◌>>=◌
-abbrev pub ◌>>=◌ : {A B : Type 0} → Result A ApRefusal → (A → Result B ApRefusal) → Result B ApRefusal
+-- the first step that refuses decides
+abbrev pub ◌>>=◌ : {A B : Type 0} → Result A ApRefusal → (A → Result B ApRefusal)
+    → Result B ApRefusal
 (Ok x) >>= next = next x
 (Err e) >>= next = Err e
 

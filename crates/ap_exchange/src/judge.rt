@@ -7,7 +7,8 @@ ghost use Rattle.der_core.specs.Format.{all_of};
 ghost use Rattle.krb_msgs.specs.ApReq.{ap_req};
 ghost use Rattle.ap_exchange.specs.Steps.{der_behind};
 ghost use Rattle.ap_exchange.specs.Exchange.{is_mutual, requested, ticket_for, service_key};
-ghost use Rattle.ap_exchange.specs.Judging.{is_checksum_type, is_checksum, hash_carried, is_bound, hash_claimed, claim_judged, judged};
+ghost use Rattle.ap_exchange.specs.Judging.{is_checksum_type, is_checksum, hash_carried, is_bound};
+ghost use Rattle.ap_exchange.specs.Judging.{hash_claimed, claim_judged, judged};
 
 use crate::judged::Judged;
 use crate::keys::{AUTHENTICATOR_USAGE, TICKET_USAGE, data_opened, key_in, opened_or, subkey_in};
@@ -38,7 +39,8 @@ fn is_mutual(options: u32) -> bool
 
 /// The message of a request, whose places count from the token's first octet.
 fn message_of_request(alloc: Global, token: &[u8], message: &[u8]) -> Result<ApReq, ApRefusal>
-    ensures { Gives ApRefusal.NoMemory (λ r. r) result (der_behind Part.Token (length token.now - length message.now) (ap_req.read (all_of message.now))) }
+    ensures { Gives ApRefusal.NoMemory (λ r. r) result (der_behind Part.Token
+        (length token.now - length message.now) (ap_req.read (all_of message.now))) }
 {
     let before = token.len().saturating_sub(message.len());
     match read_ap_req(alloc, message) {
@@ -77,7 +79,8 @@ fn ticket_for(alloc: Global, own: &Principal, request: &ApReq) -> Result<Ticket,
 
 /// The acceptor's key of the ticket's number and type.
 fn service_key(keytab: &Keytab, own: &Principal, granted: &Ticket) -> Result<Key, ApRefusal>
-    ensures { Gives ApRefusal.NoMemory (λ k. k) result (service_key keytab.now own.now granted.now) }
+    ensures { Gives ApRefusal.NoMemory (λ k. k) result
+        (service_key keytab.now own.now granted.now) }
 {
     let Some(etype) = Etype::of(granted.enc_part.etype) else {
         return Err(ApRefusal::NoKey);
@@ -139,7 +142,8 @@ fn hash_claimed(
     part: &EncTicketPart,
     said: &Authenticator,
 ) -> Result<[u8; 16], ApRefusal>
-    ensures { Gives ApRefusal.NoMemory (λ h. h) result (hash_claimed (option_map (λ b. b.now) bindings.entry) part.now said.now) }
+    ensures { Gives ApRefusal.NoMemory (λ h. h) result
+        (hash_claimed (option_map (λ b. b.now) bindings.entry) part.now said.now) }
 {
     let _subkey = subkey_in(&said.subkey)?;
     if !same_principal(&said.crealm, &said.cname, &part.crealm, &part.cname) {
@@ -166,7 +170,8 @@ fn claim_judged(
     requires named { is_named part.now.crealm part.now.cname.name_string ≡ true }
     requires time { said.now.ctime % 1000000 ≡ 0 }
     requires micros { said.now.cusec ≤ 999999 }
-    ensures { Gives ApRefusal.NoMemory (λ j. j) result (claim_judged own.now now (option_map (λ b. b.now) bindings.entry) session part.now said.now) }
+    ensures { Gives ApRefusal.NoMemory (λ j. j) result (claim_judged own.now now
+        (option_map (λ b. b.now) bindings.entry) session part.now said.now) }
 {
     let hash = hash_claimed(bindings, part, said)?;
     timely(now, part, said)?;
@@ -192,7 +197,8 @@ pub fn judge_request(
     bindings: Option<&Bindings>,
     token: &[u8],
 ) -> Result<Judged, ApRefusal>
-    ensures { Gives ApRefusal.NoMemory (λ j. j) result (judged keytab.now own.now now (option_map (λ b. b.now) bindings.entry) token.now) }
+    ensures { Gives ApRefusal.NoMemory (λ j. j) result
+        (judged keytab.now own.now now (option_map (λ b. b.now) bindings.entry) token.now) }
 {
     let request = requested(alloc, token)?;
     let granted = ticket_for(alloc, own, &request)?;

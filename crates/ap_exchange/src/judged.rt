@@ -8,7 +8,7 @@ use krb_derive::Key;
 use sec_base::Moment;
 
 /// What is kept of a request that can be taken: the answer is due, unless it is a repeat.
-#[derive(Debug, Drop)]
+#[derive(Drop)]
 pub struct Judged {
     /// The ticket's key.
     pub session: Key,

@@ -3,7 +3,8 @@
 ghost use Rattle.std.specs.Prelude.{◌≡◌, IfOk};
 ghost use Rattle.sec_base.specs.Answers.{Gives};
 ghost use Rattle.krb_derive.specs.Sealing.{opened};
-ghost use Rattle.ap_exchange.specs.Keys.{known_key, key_in, subkey_in, key_value, sealed_data, SealedOpens, is_type_of, opened_or, data_opened};
+ghost use Rattle.ap_exchange.specs.Keys.{known_key, key_in, subkey_in, key_value, sealed_data};
+ghost use Rattle.ap_exchange.specs.Keys.{SealedOpens, is_type_of, opened_or, data_opened};
 
 use crate::refusal::ApRefusal;
 use krb_derive::{Etype, Key, OpenRefusal, SealKeys, open};
@@ -73,7 +74,8 @@ pub fn sealed_data(
     confounder: &[u8; 16],
     octets: &[u8],
 ) -> Result<EncryptedData, NoMemory>
-    ensures value { IfOk result (λ d. d ≡ sealed_data key.now kvno usage confounder.now octets.now) }
+    ensures value { IfOk result
+        (λ d. d ≡ sealed_data key.now kvno usage confounder.now octets.now) }
     ensures opens { IfOk result (λ _. SealedOpens key.now usage confounder.now octets.now) }
 {
     let keys = SealKeys::of(key, usage);
@@ -103,7 +105,8 @@ pub fn opened_or(
     usage: u32,
     octets: &[u8],
 ) -> Result<Octets, ApRefusal>
-    ensures { Gives ApRefusal.NoMemory (λ o. o) result (opened_or refusal (opened key.now usage octets.now)) }
+    ensures { Gives ApRefusal.NoMemory (λ o. o) result
+        (opened_or refusal (opened key.now usage octets.now)) }
 {
     match open(alloc, key, usage, octets) {
         Ok(plain) => Ok(plain),
@@ -121,7 +124,8 @@ pub fn data_opened(
     usage: u32,
     sealed: &EncryptedData,
 ) -> Result<Octets, ApRefusal>
-    ensures { Gives ApRefusal.NoMemory (λ o. o) result (data_opened refusal key.now usage sealed.now) }
+    ensures { Gives ApRefusal.NoMemory (λ o. o) result
+        (data_opened refusal key.now usage sealed.now) }
 {
     if !is_type_of(key, Etype::of(sealed.etype)) {
         return Err(refusal);

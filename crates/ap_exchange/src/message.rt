@@ -22,7 +22,8 @@ use std::alloc::Global;
 
 /// The ticket in these octets.
 pub fn ticket_in(alloc: Global, octets: &[u8]) -> Result<Ticket, ApRefusal>
-    ensures exact { Gives ApRefusal.NoMemory (λ t. t) result (der_in Part.Ticket (ticket.read (all_of octets.now))) }
+    ensures exact { Gives ApRefusal.NoMemory (λ t. t) result
+        (der_in Part.Ticket (ticket.read (all_of octets.now))) }
     ensures kept { IfOk result (λ _. (kept ticket_element).fits octets.now ≡ true) }
 {
     match read_ticket(alloc, octets) {
@@ -33,7 +34,8 @@ pub fn ticket_in(alloc: Global, octets: &[u8]) -> Result<Ticket, ApRefusal>
 
 /// What an opened ticket says. Its client is a principal.
 pub fn part_in(alloc: Global, octets: &[u8]) -> Result<EncTicketPart, ApRefusal>
-    ensures exact { Gives ApRefusal.NoMemory (λ p. p) result (der_in Part.Ticket (enc_ticket_part.read (all_of octets.now))) }
+    ensures exact { Gives ApRefusal.NoMemory (λ p. p) result
+        (der_in Part.Ticket (enc_ticket_part.read (all_of octets.now))) }
     ensures named { IfOk result (λ p. is_named p.crealm p.cname.name_string ≡ true) }
 {
     match read_enc_ticket_part(alloc, octets) {
@@ -44,7 +46,8 @@ pub fn part_in(alloc: Global, octets: &[u8]) -> Result<EncTicketPart, ApRefusal>
 
 /// What an opened authenticator says. Its time is one of whole seconds.
 pub fn authenticator_in(alloc: Global, octets: &[u8]) -> Result<Authenticator, ApRefusal>
-    ensures exact { Gives ApRefusal.NoMemory (λ a. a) result (der_in Part.Authenticator (authenticator.read (all_of octets.now))) }
+    ensures exact { Gives ApRefusal.NoMemory (λ a. a) result
+        (der_in Part.Authenticator (authenticator.read (all_of octets.now))) }
     ensures time { IfOk result (λ a. a.ctime % 1000000 ≡ 0) }
     ensures micros { IfOk result (λ a. a.cusec ≤ 999999) }
 {
@@ -56,7 +59,8 @@ pub fn authenticator_in(alloc: Global, octets: &[u8]) -> Result<Authenticator, A
 
 /// The reply in these octets.
 pub fn reply_in(alloc: Global, octets: &[u8]) -> Result<ApRep, ApRefusal>
-    ensures { Gives ApRefusal.NoMemory (λ r. r) result (der_in Part.Reply (ap_rep.read (all_of octets.now))) }
+    ensures { Gives ApRefusal.NoMemory (λ r. r) result
+        (der_in Part.Reply (ap_rep.read (all_of octets.now))) }
 {
     match read_ap_rep(alloc, octets) {
         Ok(reply) => Ok(reply),
@@ -66,7 +70,8 @@ pub fn reply_in(alloc: Global, octets: &[u8]) -> Result<ApRep, ApRefusal>
 
 /// What an opened reply says.
 pub fn reply_part_in(alloc: Global, octets: &[u8]) -> Result<EncApRepPart, ApRefusal>
-    ensures { Gives ApRefusal.NoMemory (λ p. p) result (der_in Part.Reply (enc_ap_rep_part.read (all_of octets.now))) }
+    ensures { Gives ApRefusal.NoMemory (λ p. p) result
+        (der_in Part.Reply (enc_ap_rep_part.read (all_of octets.now))) }
 {
     match read_enc_ap_rep_part(alloc, octets) {
         Ok(part) => Ok(part),

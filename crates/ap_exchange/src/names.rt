@@ -40,7 +40,8 @@ fn name_value(alloc: Global, name: &Principal) -> Result<PrincipalName, NoMemory
 
 /// A principal's realm and its name as they are written here.
 pub fn names_of(alloc: Global, principal: &Principal) -> Result<(Text, PrincipalName), NoMemory>
-    ensures value { IfOk result (λ n. (n.0 ≡ principal.now.realm) × (n.1 ≡ name_value principal.now)) }
+    ensures value { IfOk result
+        (λ n. (n.0 ≡ principal.now.realm) × (n.1 ≡ name_value principal.now)) }
     ensures realm { IfOk result (λ n. has_zero n.0 ≡ false) }
     ensures name { IfOk result (λ n. IsName n.0 n.1) }
 {
@@ -65,7 +66,8 @@ pub fn same_principal(
     other_realm: &Text,
     other: &PrincipalName,
 ) -> bool
-    ensures { result ≡ same_name (name_in_realm realm.now name.now) (name_in_realm other_realm.now other.now) }
+    ensures { result
+        ≡ same_name (name_in_realm realm.now name.now) (name_in_realm other_realm.now other.now) }
 {
     *realm == *other_realm && name.name_string == other.name_string
 }

@@ -2,6 +2,7 @@
 
 ghost use Rattle.std.specs.Prelude.{◌≡◌, ◌≢◌, ◌+◌, ◌<◌, ◌^◌};
 ghost use Rattle.der_core.specs.declared.refusal.DerWhy.TheVariants as whys;
+ghost use Rattle.ap_exchange.specs.Numbers.{ap_number};
 ghost use Rattle.ap_exchange.specs.declared.refusal.ApRefusal.TheVariants as refusals;
 
 use der_core::{DerRefusal, DerWhy};
@@ -61,6 +62,38 @@ pub enum ApRefusal {
     NoMemory,
 }
 
+impl ApRefusal {
+    /// The number by which it is told: the minor status that an acceptor sends, and what a client prints.
+    pub fn number(self) -> u32
+        ensures { result ≡ ap_number self }
+    {
+        match self {
+            ApRefusal::Der {
+                part: _,
+                at: _,
+                why: _,
+            } => 101,
+            ApRefusal::Kind => 102,
+            ApRefusal::NotMutual => 103,
+            ApRefusal::TicketNames => 104,
+            ApRefusal::NoKey => 105,
+            ApRefusal::TicketClosed => 106,
+            ApRefusal::KeyType => 107,
+            ApRefusal::AuthClosed => 108,
+            ApRefusal::NameMatch => 109,
+            ApRefusal::ChecksumType => 110,
+            ApRefusal::Bindings => 111,
+            ApRefusal::Skew => 112,
+            ApRefusal::NotYet => 113,
+            ApRefusal::Expired => 114,
+            ApRefusal::ReplyClosed => 115,
+            ApRefusal::ReplyStamp => 116,
+            ApRefusal::PeerError { code: _ } => 117,
+            ApRefusal::NoMemory => 0,
+        }
+    }
+}
+
 impl From<NoMemory> for ApRefusal {
     ghost use Rattle.ap_exchange.specs.declared.refusal.ApRefusal.{ApRefusal};
 
@@ -89,7 +122,8 @@ pub fn refused(part: Part, refusal: DerRefusal) -> ApRefusal
 /// The refusal of octets that begin behind so many of this part.
 pub fn refused_behind(part: Part, before: usize, refusal: DerRefusal) -> ApRefusal
     requires { refusal.why ≢ whys.NoMemory → before + refusal.at < 2 ^ 64 }
-    ensures der { refusal.why ≢ whys.NoMemory → result ≡ ApRefusal.Der part (before + refusal.at) refusal.why }
+    ensures der { refusal.why ≢ whys.NoMemory
+        → result ≡ ApRefusal.Der part (before + refusal.at) refusal.why }
     ensures memory { refusal.why ≡ whys.NoMemory → result ≡ ApRefusal.NoMemory }
 {
     match refusal.why {

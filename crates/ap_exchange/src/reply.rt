@@ -2,7 +2,8 @@
 
 ghost use Rattle.std.specs.Prelude.{◌≡◌};
 ghost use Rattle.sec_base.specs.Answers.{Gives};
-ghost use Rattle.ap_exchange.specs.Reply.{replied, reply_opened, is_stamped, key_agreed, is_sent, part_taken, reply_taken};
+ghost use Rattle.ap_exchange.specs.Reply.{replied, reply_opened, is_stamped, key_agreed, is_sent};
+ghost use Rattle.ap_exchange.specs.Reply.{part_taken, reply_taken};
 
 use crate::keys::{REPLY_USAGE, data_opened, subkey_in};
 use crate::message::{error_told, reply_in, reply_part_in};

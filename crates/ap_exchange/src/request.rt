@@ -10,7 +10,8 @@ ghost use Rattle.krb_msgs.specs.ApReq.{ap_req};
 ghost use Rattle.krb_msgs.specs.Ticket.{ticket_element};
 ghost use Rattle.ap_exchange.specs.Keys.{authenticator_usage, SealedOpens};
 ghost use Rattle.ap_exchange.specs.Draws.{drawn_confounder};
-ghost use Rattle.ap_exchange.specs.Request.{checksum_for, authenticator_with, authenticator_of, ap_req_with, WritesRequest, request_of, RequestFits};
+ghost use Rattle.ap_exchange.specs.Request.{checksum_for, authenticator_with, authenticator_of};
+ghost use Rattle.ap_exchange.specs.Request.{ap_req_with, WritesRequest, request_of, RequestFits};
 
 use crate::draws::{confounder_of, subkey_of};
 use crate::keys::{AUTHENTICATOR_USAGE, key_value, sealed_data};
@@ -39,7 +40,7 @@ const FLAGS: [u8; 4] = [50, 0, 0, 0];
 const MUTUAL_REQUIRED: u32 = 0x2000_0000;
 
 /// An initiator whose request was sent, and whose reply is due.
-#[derive(Debug, Drop)]
+#[derive(Drop)]
 pub struct ApInit {
     /// The credential's key.
     pub session: Key,
@@ -77,7 +78,8 @@ fn authenticator_octets(
     subkey: &Key,
     hash: &[u8; 16],
 ) -> Result<Octets, NoMemory>
-    ensures { IfOk result (λ o. WritesWhole authenticator (authenticator_with client.now stamp subkey.now hash.now) o) }
+    ensures { IfOk result (λ o. WritesWhole authenticator
+        (authenticator_with client.now stamp subkey.now hash.now) o) }
 {
     let (crealm, cname) = names_of(alloc, client)?;
     let said = Authenticator {
@@ -102,8 +104,10 @@ fn message_of(
     octets: &[u8],
 ) -> Result<Octets, NoMemory>
     requires { (kept ticket_element).fits ticket.now ≡ true }
-    ensures message { IfOk result (λ o. WritesWhole ap_req (ap_req_with ticket.now session.now draws.now octets.now) o) }
-    ensures opens { IfOk result (λ _. SealedOpens session.now authenticator_usage (drawn_confounder draws.now) octets.now) }
+    ensures message { IfOk result
+        (λ o. WritesWhole ap_req (ap_req_with ticket.now session.now draws.now octets.now) o) }
+    ensures opens { IfOk result
+        (λ _. SealedOpens session.now authenticator_usage (drawn_confounder draws.now) octets.now) }
 {
     let confounder = confounder_of(draws);
     let sealed = sealed_data(
@@ -133,7 +137,8 @@ fn request_token(
     hash: &[u8; 16],
 ) -> Result<Octets, NoMemory>
     requires ticket { (kept ticket_element).fits credential.now.ticket ≡ true }
-    ensures { IfOk result (λ o. WritesRequest credential.now stamp draws.now subkey.now hash.now o) }
+    ensures { IfOk result
+        (λ o. WritesRequest credential.now stamp draws.now subkey.now hash.now o) }
 {
     let octets = authenticator_octets(alloc, &credential.client, stamp, subkey, hash)?;
     let message = message_of(
@@ -158,8 +163,10 @@ impl ApInit {
         draws: &[u8; 66],
         bindings: Option<&Bindings>,
     ) -> Result<(ApInit, Octets), ApRefusal>
-        ensures exact { Gives ApRefusal.NoMemory (λ p. p) result (request_of credential.now stamp draws.now (option_map (λ b. b.now) bindings.entry)) }
-        ensures fits { IfOk result (λ _. RequestFits credential.now stamp draws.now (option_map (λ b. b.now) bindings.entry)) }
+        ensures exact { Gives ApRefusal.NoMemory (λ p. p) result
+            (request_of credential.now stamp draws.now (option_map (λ b. b.now) bindings.entry)) }
+        ensures fits { IfOk result (λ _. RequestFits credential.now stamp draws.now
+            (option_map (λ b. b.now) bindings.entry)) }
     {
         let _ticket = ticket_in(alloc, credential.ticket.as_slice())?;
         let hash = binding_hash(bindings);
@@ -185,7 +192,8 @@ impl ApInit {
         draws: &[u8; 66],
         bindings: Option<&Bindings>,
     ) -> Result<(), NoMemory>
-        ensures { IfOk result (λ _. authenticator.fits (authenticator_of credential.now stamp draws.now (option_map (λ b. b.now) bindings.entry)) ≡ true) }
+        ensures { IfOk result (λ _. authenticator.fits (authenticator_of credential.now stamp
+            draws.now (option_map (λ b. b.now) bindings.entry)) ≡ true) }
     {
         let hash = binding_hash(bindings);
         let subkey = subkey_of(credential.session.etype(), draws);

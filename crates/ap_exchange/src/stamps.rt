@@ -7,7 +7,7 @@ use sec_base::Moment;
 use std::marker::Model;
 
 /// The stamps that an initiator gives, no two of which are equal. Contracts see the last one.
-#[derive(Debug, Drop)]
+#[derive(Drop)]
 pub struct Stamps {
     last: Option<Moment>,
 }

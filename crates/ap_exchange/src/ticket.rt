@@ -33,8 +33,10 @@ pub fn seal_ticket(
     requires starttime { IfSome part.now.starttime (λ m. m % 1000000 ≡ 0) }
     requires endtime { part.now.endtime % 1000000 ≡ 0 }
     requires renew_till { IfSome part.now.renew_till (λ m. m % 1000000 ≡ 0) }
-    ensures written { IfOk result (λ o. WritesWhole ticket (sealed_ticket service.now kvno server.now part.now confounder.now) o) }
-    ensures opens { IfOk result (λ _. SealedOpens service.now ticket_usage confounder.now (enc_ticket_part.spell part.now)) }
+    ensures written { IfOk result (λ o. WritesWhole ticket
+        (sealed_ticket service.now kvno server.now part.now confounder.now) o) }
+    ensures opens { IfOk result (λ _. SealedOpens service.now ticket_usage confounder.now
+        (enc_ticket_part.spell part.now)) }
 {
     let octets = write_enc_ticket_part(alloc, part)?;
     let (realm, sname) = names_of(alloc, server)?;

@@ -3,7 +3,8 @@
 ghost use Rattle.std.specs.Prelude.{◌≡◌, ◌≤◌, ◌%◌};
 ghost use Rattle.sec_base.specs.Answers.{Gives};
 ghost use Rattle.ap_exchange.specs.Request.{seconds_of};
-ghost use Rattle.ap_exchange.specs.Judging.{is_near, is_invalid, start_of, is_begun, is_lasting, stamp_of, timely};
+ghost use Rattle.ap_exchange.specs.Judging.{is_near, is_invalid, start_of, is_begun, is_lasting};
+ghost use Rattle.ap_exchange.specs.Judging.{stamp_of, timely};
 
 use crate::refusal::ApRefusal;
 use krb_msgs::{Authenticator, EncTicketPart};

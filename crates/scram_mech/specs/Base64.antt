@@ -1,5 +1,6 @@
 -- Base64 with padding as a whole, RFC 4648 section 4, by the kit's definition.
-use Rattle.std.specs.Prelude.{◌≡◌, ℕ, ◌+◌, ◌*◌, ◌/◌, ◌%◌, ◌==◌, ◌≤◌, List, [], ◌∷◌, ◌++◌, length, unwrap_or, if◌then◌else◌}
+use Rattle.std.specs.Prelude.{◌≡◌, ℕ, ◌+◌, ◌*◌, ◌/◌, ◌%◌, ◌==◌, ◌≤◌, List, [], ◌∷◌, ◌++◌, length}
+use Rattle.std.specs.Prelude.{unwrap_or, if◌then◌else◌}
 use Rattle.base64.specs.GeneralPurpose.{encode_of, IsBytes}
 use Rattle.base64.specs.Engines.{standard}
 use Rattle.scram_mech.specs.Signs.{sextet_of}
@@ -17,7 +18,8 @@ abbrev pub group : ℕ → ℕ → ℕ → ℕ → List ℕ
 group a b c d =
     if c == 61 then (bits a * 4 + bits b / 16) ∷ []
     else if d == 61 then (bits a * 4 + bits b / 16) ∷ (bits b % 16 * 16 + bits c / 4) ∷ []
-    else (bits a * 4 + bits b / 16) ∷ (bits b % 16 * 16 + bits c / 4) ∷ (bits c % 4 * 64 + bits d) ∷ []
+    else (bits a * 4 + bits b / 16) ∷ (bits b % 16 * 16 + bits c / 4) ∷ (bits c % 4 * 64 + bits d)
+    ∷ []
 
 -- the octets that signs stand for
 unfoldable pub decoded : List ℕ → List ℕ

@@ -4,7 +4,8 @@ use Rattle.scram_mech.specs.declared.verifiers.Verifier.{Verifier}
 use Rattle.scram_mech.specs.Verifiers.{line_text}
 use Rattle.scram_mech.specs.VerifierFile.{IsLine, AreLines, NotNamed, NamedOnce, lines_text}
 
--- the file begins with good lines, and what is behind them begins with none; lines are counted from 1
+-- the file begins with good lines, and what is behind them begins with none; lines are counted from
+-- 1
 pub record BadLine (octets : List ℕ) (number : ℕ) : Type 0 where
   pub lines : List Verifier
   pub rest : List ℕ

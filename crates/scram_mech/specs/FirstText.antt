@@ -10,8 +10,10 @@ use Rattle.scram_mech.specs.Formats.{Segment, Word, Value, End, piece, values_of
 
 -- a nonce of at most 232 octets, so that the acceptor's 24 have room behind it in 256
 unfoldable pub first_format : List Segment
-first_format = Word (codes "n=") ∷ Value a_name ∷ Word (codes ",r=") ∷ Value (some Nonce 232) ∷ Value (further_parts None) ∷ End ∷ []
+first_format = Word (codes "n=") ∷ Value a_name ∷ Word (codes ",r=") ∷ Value (some Nonce 232)
+    ∷ Value (further_parts None) ∷ End ∷ []
 
+-- what a first text says: the user's name without its escapes, and the initiator's nonce
 pub record First : Type 0 where
   pub name : List ℕ
   pub nonce : List ℕ

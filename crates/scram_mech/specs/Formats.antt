@@ -1,5 +1,6 @@
 -- Texts as words and values one behind the other.
-use Rattle.std.specs.Prelude.{ℕ, Bool, false, ◌==◌, ◌&&◌, List, [], ◌∷◌, slice_index_or, Result, Ok, Err, if◌then◌else◌}
+use Rattle.std.specs.Prelude.{ℕ, Bool, false, ◌==◌, ◌&&◌, List, [], ◌∷◌, slice_index_or, Result, Ok}
+use Rattle.std.specs.Prelude.{Err, if◌then◌else◌}
 use Rattle.scram_mech.specs.declared.refusal.Stuck.{Stuck}
 use Rattle.scram_mech.specs.declared.refusal.ScramRefusal.{ScramRefusal}
 use Rattle.scram_mech.specs.declared.refusal.ScramRefusal.TheVariants as refusals
@@ -7,6 +8,7 @@ use Rattle.scram_mech.specs.declared.state.State.{State}
 use Rattle.scram_mech.specs.Reading.{◌>>=◌, in_text, word_at, end_at}
 use Rattle.scram_mech.specs.Values.{value_at}
 
+-- a piece of a format: a word that stands so, a value by what is due of it, or the end of the text
 pub data Segment : Type 0 where
   Word : List ℕ → Segment
   Value : State → Segment
@@ -44,4 +46,5 @@ is_mandatory (a ∷ b ∷ octets) = (a == 109) && (b == 61)
 
 -- the values of a text of an exchange: a mandatory extension is judged first
 unfoldable pub values_of : List Segment → List ℕ → Result (List (List ℕ)) ScramRefusal
-values_of format text = if is_mandatory text then Err refusals.Mandatory else in_text text (pieces_of format text)
+values_of format text =
+    if is_mandatory text then Err refusals.Mandatory else in_text text (pieces_of format text)

@@ -33,17 +33,21 @@ pub record Extra : Type 0 where
   pub letter : ℕ
   pub value : List ℕ
 
+-- its letter is that of no named part, and its value is printable ASCII without comma
 pub record IsExtra (extra : Extra) : Type 0 where
   pub free : is_free extra.letter ≡ true
   pub each : list_all is_value extra.value ≡ true
 
+-- each is a further part
 abbrev pub AreExtras : List Extra → Type 0
 AreExtras [] = Unit {0}
 AreExtras (extra ∷ extras) = IsExtra extra × AreExtras extras
 
+-- further parts as a text has them, each behind its comma
 abbrev pub extras_text : List Extra → List ℕ
 extras_text [] = []
-extras_text (extra ∷ extras) = codes "," ++ (extra.letter ∷ []) ++ codes "=" ++ extra.value ++ extras_text extras
+extras_text (extra ∷ extras) =
+    codes "," ++ (extra.letter ∷ []) ++ codes "=" ++ extra.value ++ extras_text extras
 
 -- `n=NAME,r=NONCE` and further parts
 pub record SpellsFirst (first : First) (text : List ℕ) : Type 0 where
@@ -51,7 +55,8 @@ pub record SpellsFirst (first : First) (text : List ℕ) : Type 0 where
   pub named : IsName first.name
   pub fresh : IsNonce 232 first.nonce
   pub free : AreExtras extras
-  pub same : text ≡ codes "n=" ++ escaped first.name ++ codes ",r=" ++ first.nonce ++ extras_text extras
+  pub same : text
+      ≡ codes "n=" ++ escaped first.name ++ codes ",r=" ++ first.nonce ++ extras_text extras
 
 -- `r=NONCE,s=SALT,i=ROUNDS` and further parts; rounds of at most ten digits
 pub record SpellsSecond (second : Second) (text : List ℕ) : Type 0 where
@@ -60,7 +65,8 @@ pub record SpellsSecond (second : Second) (text : List ℕ) : Type 0 where
   pub salted : AreOctets 1 64 second.salt
   pub short : second.rounds < 10 ^ 10
   pub free : AreExtras extras
-  pub same : text ≡ codes "r=" ++ second.nonce ++ codes ",s=" ++ encoded second.salt ++ codes ",i=" ++ decimal second.rounds ++ extras_text extras
+  pub same : text ≡ codes "r=" ++ second.nonce ++ codes ",s=" ++ encoded second.salt ++ codes ",i="
+      ++ decimal second.rounds ++ extras_text extras
 
 -- `c=BINDING,r=NONCE`, further parts and `,p=PROOF`
 pub record SpellsThird (third : Third) (text : List ℕ) : Type 0 where
@@ -69,7 +75,8 @@ pub record SpellsThird (third : Third) (text : List ℕ) : Type 0 where
   pub fresh : IsNonce 256 third.nonce
   pub proved : AreOctets 20 20 third.proof
   pub free : AreExtras extras
-  pub bare : third.bare ≡ codes "c=" ++ encoded third.binding ++ codes ",r=" ++ third.nonce ++ extras_text extras
+  pub bare : third.bare
+      ≡ codes "c=" ++ encoded third.binding ++ codes ",r=" ++ third.nonce ++ extras_text extras
   pub same : text ≡ third.bare ++ codes ",p=" ++ encoded third.proof
 
 -- `v=SIGNATURE` and further parts

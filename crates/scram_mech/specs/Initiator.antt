@@ -1,4 +1,5 @@
--- The initiator's end: each step as a function on models, with what it hands out as made and what it found verified.
+-- The initiator's end: each step as a function on models, with what it hands out as made and what
+-- it found verified.
 use Rattle.std.specs.Prelude.{ℕ, false, List, [], ◌∷◌, Option, Result, Ok}
 use Rattle.sec_base.specs.Moment.{greatest_moment}
 use Rattle.gss_base.specs.Bindings.{hash_of}
@@ -17,7 +18,8 @@ use Rattle.scram_mech.specs.FirstText.{first_text}
 use Rattle.scram_mech.specs.SecondText.{Second, second_of}
 use Rattle.scram_mech.specs.ThirdText.{bare_text, with_proof}
 use Rattle.scram_mech.specs.FinalText.{final_of}
-use Rattle.scram_mech.specs.Secrets.{Secret, client_key, stored_key, server_key, auth_message, proof_of, signature_of, key_of_client}
+use Rattle.scram_mech.specs.Secrets.{Secret, client_key, stored_key, server_key, auth_message}
+use Rattle.scram_mech.specs.Secrets.{proof_of, signature_of, key_of_client}
 use Rattle.scram_mech.specs.MechMaking.{MechMaking, proof_making, signature_making}
 
 -- the first text is out: user, password, the text of the own nonce, and the bindings
@@ -35,10 +37,13 @@ pub record WaitModel : Type 0 where
   pub server : List ℕ
   pub key : Key
 
+-- an exchange is begun: the end whose first text is out, and that text in its frame
 pub record InitStarted : Type 0 where
   pub end : InitModel
   pub token : List ℕ
 
+-- a second text is taken: the end that waits for the signature, the third text, and what the
+-- initiator made
 pub record InitAnswered : Type 0 where
   pub end : WaitModel
   pub token : List ℕ
@@ -49,15 +54,18 @@ pub record Proving : Type 0 where
   pub end : WaitModel
   pub token : List ℕ
 
+-- an answer as the code gives it, without what was made
 abbrev pub proving : InitAnswered → Proving
 proving a = record { end = a.end; token = a.token }
 
+-- a final text is taken: what the exchange gives, and what the initiator found verified
 pub record InitFinished : Type 0 where
   pub done : MechDone
   pub found : List MechMaking
 
 -- the user is judged before the password
-unfoldable pub init_started : List ℕ → List ℕ → List ℕ → Option (List ℕ) → Result InitStarted ScramRefusal
+unfoldable pub init_started : List ℕ → List ℕ → List ℕ → Option (List ℕ)
+    → Result InitStarted ScramRefusal
 init_started user password draw bindings = do
   named ← judged Printable 255 user
   opened ← judged Printable 1024 password
@@ -66,8 +74,10 @@ init_started user password draw bindings = do
     token = framed.spell (oid_of Scram, first_text user (encoded draw));
   })
 
+-- the own password with the salt and the rounds of a second text
 abbrev pub secret_of : InitModel → Second → Secret
-secret_of init second = record { password = init.password; salt = second.salt; rounds = second.rounds }
+secret_of init second =
+    record { password = init.password; salt = second.salt; rounds = second.rounds }
 
 -- the third text without its proof
 abbrev pub bare_of : InitModel → Second → List ℕ
@@ -87,6 +97,8 @@ wait_with init secret auth = record {
   key = key_of_client (stored_key secret) (client_key secret) auth;
 }
 
+-- the answer to a second text that is taken, by the third text without its proof, the secret and
+-- the AuthMessage
 abbrev pub answer_with : InitModel → List ℕ → Secret → List ℕ → InitAnswered
 answer_with init bare secret auth = record {
   end = wait_with init secret auth;
@@ -94,6 +106,7 @@ answer_with init bare secret auth = record {
   makes = proof_making (stored_key secret) auth (proof_of secret auth) ∷ [];
 }
 
+-- the answer to a second text, whose form, nonce and rounds are judged in this order
 unfoldable pub init_answered : InitModel → List ℕ → Result InitAnswered ScramRefusal
 init_answered init text = do
   second ← second_of text
@@ -107,6 +120,14 @@ init_finished wait text = do
   signature ← final_of text
   verified ← demand (same (signature_of wait.server wait.auth) signature) refusals.Signature
   Ok (record {
-    done = record { key = wait.key; subkey = false; initiator = wait.user; acceptor = []; hash = wait.hash; ends = greatest_moment };
+    done = record {
+      key = wait.key;
+      subkey = false;
+      initiator = wait.user;
+      acceptor = [];
+      hash =
+          wait.hash;
+      ends = greatest_moment;
+    };
     found = signature_making wait.server wait.auth ∷ [];
   })

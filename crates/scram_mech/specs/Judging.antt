@@ -1,5 +1,7 @@
 -- What is judged at several steps.
-use Rattle.std.specs.Prelude.{ℕ, ◌-◌, Bool, true, false, nat_eq, nat_lt, nat_le, ◌==◌, ◌&&◌, List, [], ◌∷◌, length, take, Option, Some, None, unwrap_or, Result, Ok, Err, if◌then◌else◌}
+use Rattle.std.specs.Prelude.{ℕ, ◌-◌, Bool, true, false, nat_eq, nat_lt, nat_le, ◌==◌, ◌&&◌, List}
+use Rattle.std.specs.Prelude.{[], ◌∷◌, length, take, Option, Some, None, unwrap_or, Result, Ok, Err}
+use Rattle.std.specs.Prelude.{if◌then◌else◌}
 use lib.Pointwise.{pointwise}
 use Rattle.gss_base.specs.Mech.{is_oid_of}
 use Rattle.gss_base.specs.declared.mech.MechKind.TheVariants.{Scram}
@@ -24,6 +26,7 @@ judged class most octets = do
   values ← in_text octets (pieces_of (Value (some class most) ∷ End ∷ []) octets)
   Ok tt
 
+-- the same octets
 abbrev pub same : List ℕ → List ℕ → Bool
 same a b = pointwise nat_eq a b
 
@@ -48,10 +51,13 @@ abbrev pub is_bound : Option (List ℕ) → List ℕ → Bool
 is_bound None binding = true
 is_bound (Some bindings) binding = same bindings binding
 
--- what a frame holds, RFC 2743 section 3.1; one of another mechanism is refused at the content of its identifier
+-- what a frame holds, RFC 2743 section 3.1; one of another mechanism is refused at the content of
+-- its identifier
 abbrev pub held : List ℕ → Result (List ℕ × List ℕ) DerRefusal → Result (List ℕ) ScramRefusal
 held token (Err refusal) = Err (Text refusal.at)
-held token (Ok frame) = if is_oid_of Scram frame.0 then Ok frame.1 else Err (Text (length token - length frame.1 - length frame.0))
+held token (Ok frame) = if is_oid_of Scram frame.0 then Ok frame.1
+    else Err (Text (length token - length frame.1 - length frame.0))
 
+-- the first text that a whole token holds in its frame
 unfoldable pub unframed : List ℕ → Result (List ℕ) ScramRefusal
 unframed token = held token (framed.read (all_of token))

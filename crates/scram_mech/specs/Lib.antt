@@ -26,3 +26,4 @@ pub mod FilePlaces
 pub mod GrammarPlaces
 pub mod Laws
 pub mod AuthParts
+pub mod Numbers

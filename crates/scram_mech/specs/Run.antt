@@ -1,11 +1,13 @@
 -- Octets of one class in a row.
-use Rattle.std.specs.Prelude.{◌≡◌, ℕ, ◌-◌, ◌≤◌, Bool, true, List, length, not, ◌==◌, ◌||◌, Option, Some, None, if◌then◌else◌}
+use Rattle.std.specs.Prelude.{◌≡◌, ℕ, ◌-◌, ◌≤◌, Bool, true, List, length, not, ◌==◌, ◌||◌, Option}
+use Rattle.std.specs.Prelude.{Some, None, if◌then◌else◌}
 use Rattle.std.specs.List.{list_all}
 use Rattle.scram_mech.specs.declared.run.Class.{Class}
 use Rattle.scram_mech.specs.declared.run.Class.TheVariants.{Nonce, Printable, LineName}
 use Rattle.scram_mech.specs.declared.run.Run.{Run}
 use Rattle.scram_mech.specs.Signs.{is_nonce, is_printable, is_line_name}
 
+-- the octet is one of the class
 abbrev pub has : Class → ℕ → Bool
 has Nonce octet = is_nonce octet
 has Printable octet = is_printable octet
@@ -17,6 +19,7 @@ run_step run octet =
     if (run.left == 0) || not (has run.class octet) then None
     else Some (record { class = run.class; need = run.need - 1; left = run.left - 1 })
 
+-- the octets may end here: enough of them were there
 abbrev pub run_ends : Run → Bool
 run_ends run = run.need == 0
 

@@ -16,12 +16,15 @@ pub record Secret : Type 0 where
 unfoldable pub salted : Secret → List ℕ
 salted s = hi s.password s.salt s.rounds
 
+-- ClientKey, which a proof masks
 unfoldable pub client_key : Secret → List ℕ
 client_key s = hmac (salted s) (codes "Client Key")
 
+-- StoredKey, by which the acceptor checks a proof
 unfoldable pub stored_key : Secret → List ℕ
 stored_key s = sha1 (client_key s)
 
+-- ServerKey, by which the acceptor signs
 unfoldable pub server_key : Secret → List ℕ
 server_key s = hmac (salted s) (codes "Server Key")
 
@@ -41,9 +44,12 @@ proof_of s auth = masked (stored_key s) auth (client_key s)
 unfoldable pub signature_of : List ℕ → List ℕ → List ℕ
 signature_of server auth = hmac server auth
 
--- the key of the context, by the stored key and the proof: the last 16 octets of a code over the client key and the AuthMessage
+-- the key of the context, by the stored key and the proof: the last 16 octets of a code over the
+-- client key and the AuthMessage
 unfoldable pub key_of_client : List ℕ → List ℕ → List ℕ → Key
-key_of_client stored client auth = Aes128 (drop 4 (hmac stored (codes "GSS-API session key" ++ client ++ auth)))
+key_of_client stored client auth =
+    Aes128 (drop 4 (hmac stored (codes "GSS-API session key" ++ client ++ auth)))
 
+-- the same key as the acceptor has it, who takes the client key from the proof
 unfoldable pub context_key : List ℕ → List ℕ → List ℕ → Key
 context_key stored proof auth = key_of_client stored (masked stored auth proof) auth

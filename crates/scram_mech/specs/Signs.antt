@@ -1,5 +1,6 @@
 -- Classes of octets, RFC 5802 section 7.
-use Rattle.std.specs.Prelude.{ℕ, ◌+◌, ◌-◌, Bool, not, ◌==◌, ◌&&◌, ◌||◌, nat_le, Option, Some, None, if◌then◌else◌}
+use Rattle.std.specs.Prelude.{ℕ, ◌+◌, ◌-◌, Bool, not, ◌==◌, ◌&&◌, ◌||◌, nat_le, Option, Some, None}
+use Rattle.std.specs.Prelude.{if◌then◌else◌}
 
 -- an octet of a range, both ends included
 abbrev pub is_between : ℕ → ℕ → ℕ → Bool
@@ -21,13 +22,15 @@ is_nonce octet = is_value octet && not (octet == 32)
 abbrev pub is_line_name : ℕ → Bool
 is_line_name octet = is_printable octet && not (octet == 58)
 
+-- a decimal digit
 abbrev pub is_digit : ℕ → Bool
 is_digit octet = is_between 48 57 octet
 
 -- the letters of the named parts: c, e, i, m, n, p, r, s, v
 abbrev pub is_named : ℕ → Bool
 is_named octet =
-    (octet == 99) || (octet == 101) || (octet == 105) || (octet == 109) || (octet == 110) || (octet == 112) || (octet == 114) || (octet == 115) || (octet == 118)
+    (octet == 99) || (octet == 101) || (octet == 105) || (octet == 109) || (octet == 110)
+    || (octet == 112) || (octet == 114) || (octet == 115) || (octet == 118)
 
 -- a letter that a further part may have
 abbrev pub is_free : ℕ → Bool

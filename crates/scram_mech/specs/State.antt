@@ -38,6 +38,7 @@ further_parts last = states.Further (record { due = dues.Part; last = last })
 abbrev pub value_and_further : State
 value_and_further = states.Further (record { due = dues.Value; last = None })
 
+-- what is due behind an octet of a value, none if it can't stand here
 abbrev pub step : State → ℕ → Option State
 step (states.Run run) octet = option_map states.Run (run_step run octet)
 step (states.Name name) octet = option_map states.Name (name_step name octet)
@@ -45,6 +46,7 @@ step (states.Digits due) octet = option_map states.Digits (digits_step due octet
 step (states.Symbols symbols) octet = option_map states.Symbols (symbols_step symbols octet)
 step (states.Further further) octet = option_map states.Further (further_step further octet)
 
+-- the value may end here
 abbrev pub ends : State → Bool
 ends (states.Run run) = run_ends run
 ends (states.Name name) = name_ends name

@@ -1,5 +1,6 @@
 -- Values at the front of some octets: as many octets as can be.
-use Rattle.std.specs.Prelude.{ℕ, ◌+◌, List, [], ◌∷◌, take, drop, Option, Some, None, Result, Ok, if◌then◌else◌}
+use Rattle.std.specs.Prelude.{ℕ, ◌+◌, List, [], ◌∷◌, take, drop, Option, Some, None, Result, Ok}
+use Rattle.std.specs.Prelude.{if◌then◌else◌}
 use Rattle.scram_mech.specs.declared.refusal.Stuck.{Stuck}
 use Rattle.scram_mech.specs.declared.state.State.{State}
 use Rattle.scram_mech.specs.State.{step, ends}
@@ -10,6 +11,7 @@ pub record Progress : Type 0 where
   pub state : State
   pub count : ℕ
 
+-- the same progress with one octet more in front
 abbrev pub later : Progress → Progress
 later p = record { state = p.state; count = p.count + 1 }
 
@@ -27,4 +29,5 @@ progress state (octet ∷ octets) = go_on state (step state octet) (λ next. pro
 unfoldable pub value_at : State → List ℕ → Result (List ℕ × List ℕ) Stuck
 value_at start octets =
     let p : Progress = progress start octets in
-    if ends p.state then Ok (take p.count octets, drop p.count octets) else stuck_at (drop p.count octets)
+    if ends p.state then Ok (take p.count octets, drop p.count octets)
+    else stuck_at (drop p.count octets)

@@ -14,6 +14,7 @@ pub record IsLine (line : Verifier) : Type 0 where
   pub stored : AreOctets 20 20 line.stored
   pub server : AreOctets 20 20 line.server
 
+-- each is a line that a file may have
 abbrev pub AreLines : List Verifier → Type 0
 AreLines [] = Unit {0}
 AreLines (line ∷ lines) = IsLine line × AreLines lines

@@ -1,5 +1,7 @@
--- The file of verifiers: a line `name:rounds:salt:stored:server` for each user, ended by a line feed. Stored and server key: RFC 5802 section 3.
-use Rattle.std.specs.Prelude.{ℕ, zero, suc, ◌+◌, Bool, true, false, List, [], ◌∷◌, ◌++◌, codes, length, Option, Some, None, Result, Ok, Err, if◌then◌else◌}
+-- The file of verifiers: a line `name:rounds:salt:stored:server` for each user, ended by a line
+-- feed. Stored and server key: RFC 5802 section 3.
+use Rattle.std.specs.Prelude.{ℕ, zero, suc, ◌+◌, Bool, true, false, List, [], ◌∷◌, ◌++◌, codes}
+use Rattle.std.specs.Prelude.{length, Option, Some, None, Result, Ok, Err, if◌then◌else◌}
 use Rattle.std.specs.Fmt.{decimal}
 use Rattle.scram_mech.specs.declared.run.Class.TheVariants.{Printable, LineName}
 use Rattle.scram_mech.specs.declared.verifiers.Verifier.{Verifier}
@@ -16,9 +18,11 @@ use Rattle.scram_mech.specs.Formats.{Segment, Word, Value, piece, pieces}
 use Rattle.scram_mech.specs.Judging.{demand, judged, same, are_rounds}
 use Rattle.scram_mech.specs.Secrets.{Secret, stored_key, server_key}
 
+-- `name:rounds:salt:stored:server` and a line feed; salt and keys are in base64
 unfoldable pub line_format : List Segment
 line_format =
-    Value (some LineName 255) ∷ Word (codes ":") ∷ Value rounds_number ∷ Word (codes ":") ∷ Value (base64 1 64) ∷ Word (codes ":")
+    Value (some LineName 255) ∷ Word (codes ":") ∷ Value rounds_number ∷ Word (codes ":")
+    ∷ Value (base64 1 64) ∷ Word (codes ":")
     ∷ Value (base64 20 20) ∷ Word (codes ":") ∷ Value (base64 20 20) ∷ Word (codes "\n") ∷ []
 
 -- the line of these values
@@ -31,12 +35,16 @@ verifier_of values = record {
   server = decoded (piece values 4);
 }
 
+-- the refusal of the line of this number
 abbrev pub bad_line : {A : Type 0} → ℕ → Result A VerifierRefusal
 bad_line number = Err (Line number)
 
-abbrev pub line_from : ℕ → Result (List (List ℕ) × List ℕ) Stuck → Result (Verifier × List ℕ) VerifierRefusal
+-- the line of this number by how it was read; it is bad too if its rounds aren't within the limits
+abbrev pub line_from : ℕ → Result (List (List ℕ) × List ℕ) Stuck
+    → Result (Verifier × List ℕ) VerifierRefusal
 line_from number (Err stuck) = bad_line number
-line_from number (Ok x) = if are_rounds (number_of (piece x.0 1)) then Ok (verifier_of x.0, x.1) else bad_line number
+line_from number (Ok x) =
+    if are_rounds (number_of (piece x.0 1)) then Ok (verifier_of x.0, x.1) else bad_line number
 
 -- the line of this number, which stands at the front
 unfoldable pub line_at : ℕ → List ℕ → Result (Verifier × List ℕ) VerifierRefusal
@@ -56,6 +64,7 @@ abbrev pub line_for : List Verifier → List ℕ → Option Verifier
 line_for [] name = None
 line_for (line ∷ lines) name = if same line.name name then Some line else line_for lines name
 
+-- a line was found
 abbrev pub is_there : Option Verifier → Bool
 is_there None = false
 is_there (Some line) = true
@@ -63,7 +72,8 @@ is_there (Some line) = true
 -- refused at the first line whose name stands in a line before it
 unfoldable pub once : List Verifier → ℕ → List Verifier → Result (Unit {0}) VerifierRefusal
 once before number [] = Ok tt
-once before number (line ∷ lines) = if is_there (line_for before line.name) then Err (Twice number) else once (before ++ line ∷ []) (number + 1) lines
+once before number (line ∷ lines) = if is_there (line_for before line.name) then Err (Twice number)
+    else once (before ++ line ∷ []) (number + 1) lines
 
 -- the lines of a file
 unfoldable pub verifiers_of : List ℕ → Result (List Verifier) VerifierRefusal
@@ -74,14 +84,23 @@ verifiers_of octets = do
 
 -- ---- making a line
 
+-- a line as a file has it, with its line feed
 unfoldable pub line_text : Verifier → List ℕ
 line_text line =
-    line.name ++ codes ":" ++ decimal line.rounds ++ codes ":" ++ encoded line.salt ++ codes ":" ++ encoded line.stored ++ codes ":" ++ encoded line.server
+    line.name ++ codes ":" ++ decimal line.rounds ++ codes ":" ++ encoded line.salt ++ codes ":"
+    ++ encoded line.stored ++ codes ":" ++ encoded line.server
     ++ codes "\n"
 
 -- the line of a user with this secret
 abbrev pub line_with : List ℕ → Secret → Verifier
-line_with user secret = record { name = user; rounds = secret.rounds; salt = secret.salt; stored = stored_key secret; server = server_key secret }
+line_with user secret = record {
+  name = user;
+  rounds = secret.rounds;
+  salt = secret.salt;
+  stored =
+      stored_key secret;
+  server = server_key secret;
+}
 
 -- the user is judged before the password
 unfoldable pub made_line : List ℕ → List ℕ → List ℕ → ℕ → Result (List ℕ) ScramRefusal

@@ -5,7 +5,8 @@ ghost use Rattle.sec_base.specs.Answers.{Gives};
 ghost use Rattle.scram_mech.specs.declared.refusal.ScramRefusal.TheVariants as refusals;
 ghost use Rattle.scram_mech.specs.Reading.{seen};
 ghost use Rattle.scram_mech.specs.SecondText.{second_text};
-ghost use Rattle.scram_mech.specs.Acceptor.{accepting, nonce_of, second_by, auth_with, accept_started, accept_finished};
+ghost use Rattle.scram_mech.specs.Acceptor.{accepting, nonce_of, second_by, auth_with};
+ghost use Rattle.scram_mech.specs.Acceptor.{accept_started, accept_finished};
 
 use crate::encoding::encode;
 use crate::final_text::write_final;
@@ -29,7 +30,7 @@ use std::marker::Model;
 const LIFE: u64 = 86_400_000_000;
 
 /// The acceptor's first text is out, and the proof is due.
-#[derive(Debug, Drop)]
+#[derive(Drop)]
 pub struct ScramAccept {
     line: Verifier,
     first: Octets,
@@ -53,7 +54,8 @@ impl ScramAccept {
         token: &[u8],
         nonce: &[u8; 18],
     ) -> Result<(ScramAccept, Octets), ScramRefusal>
-        ensures exact { Gives refusals.NoMemory (λ p. record { end = p.0; token = p.1 }) result (accept_started verifiers.now token.now nonce.now) }
+        ensures exact { Gives refusals.NoMemory (λ p. record { end = p.0; token = p.1 }) result
+            (accept_started verifiers.now token.now nonce.now) }
         ensures short { IfOk result (λ p. length p.1 ≤ 1024) }
     {
         verifiers.told_lines();
@@ -67,7 +69,8 @@ impl ScramAccept {
         token: &[u8],
         nonce: &[u8; 18],
     ) -> Result<(ScramAccept, Octets), ScramRefusal>
-        ensures { Gives refusals.NoMemory (λ p. record { end = p.0; token = p.1 }) result (accept_started verifiers.now token.now nonce.now) }
+        ensures { Gives refusals.NoMemory (λ p. record { end = p.0; token = p.1 }) result
+            (accept_started verifiers.now token.now nonce.now) }
     {
         let text = unframed(token)?;
         let first = read_first(text)?;
@@ -123,8 +126,9 @@ impl ScramAccept {
         bindings: Option<&Bindings>,
         now: Moment,
     ) -> Result<(MechDone, Octets), ScramRefusal>
-        ensures exact { Gives refusals.NoMemory (λ p. record { done = p.0; token = p.1 }) result
-            (seen accepting (accept_finished self text.now (option_map (λ b. b.now) bindings.entry) now)) }
+        ensures exact { Gives
+            refusals.NoMemory (λ p. record { done = p.0; token = p.1 }) result (seen accepting
+            (accept_finished self text.now (option_map (λ b. b.now) bindings.entry) now)) }
         ensures short { IfOk result (λ p. length p.1 ≤ 1024) }
     {
         self.finished(alloc, text, bindings, now)
@@ -138,8 +142,9 @@ impl ScramAccept {
         bindings: Option<&Bindings>,
         now: Moment,
     ) -> Result<(MechDone, Octets), ScramRefusal>
-        ensures { Gives refusals.NoMemory (λ p. record { done = p.0; token = p.1 }) result
-            (seen accepting (accept_finished self.now text.now (option_map (λ b. b.now) bindings.entry) now)) }
+        ensures { Gives
+            refusals.NoMemory (λ p. record { done = p.0; token = p.1 }) result (seen accepting
+            (accept_finished self.now text.now (option_map (λ b. b.now) bindings.entry) now)) }
     {
         let third = read_third(text)?;
         let nonce = self.nonce(alloc)?;

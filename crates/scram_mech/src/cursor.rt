@@ -32,7 +32,7 @@ impl<'a> Model for Cursor<'a> {
 }
 
 /// How far octets can stand in a value: what is due then, and how many they are.
-#[derive(Clone, Copy, Debug, PartialEq, Eq)]
+#[derive(Clone, Copy)]
 struct Reached {
     state: State,
     count: usize,
@@ -137,7 +137,8 @@ impl<'a> Cursor<'a> {
 
     /// Reads the base64 of a number of octets from `least` to `most`.
     pub fn base64(&mut self, least: u16, most: u16) -> Result<Encoded<'a>, Stuck>
-        ensures read { Reads (λ e. e.signs.now) self.new result (value_at (base64 least most) self.old) }
+        ensures read { Reads (λ e. e.signs.now) self.new result
+            (value_at (base64 least most) self.old) }
         ensures range { IfOk result (λ e. InRange least most (decoded e.signs.now)) }
     {
         let signs = self.value(State::base64(least, most))?;

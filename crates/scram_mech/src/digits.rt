@@ -4,7 +4,7 @@ ghost use Rattle.std.specs.Prelude.{◌≡◌, ◌≤◌, length};
 ghost use Rattle.scram_mech.specs.Digits.{digits_step, digits_end, number_of, AreDigits};
 
 /// What is due of a number of at most ten digits.
-#[derive(Clone, Copy, Debug, PartialEq, Eq)]
+#[derive(Clone, Copy)]
 pub enum Digits {
     /// The first digit.
     First,

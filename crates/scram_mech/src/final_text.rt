@@ -4,7 +4,8 @@ ghost use Rattle.std.specs.Prelude.{◌≡◌, ◌++◌, ◌∷◌, [], IfOk};
 ghost use Rattle.scram_mech.specs.Reading.{Answers};
 ghost use Rattle.scram_mech.specs.Base64.{InRange, decoded};
 ghost use Rattle.scram_mech.specs.Formats.{pieces_of, values_of};
-ghost use Rattle.scram_mech.specs.FinalText.{signature_format, error_format, begins_as_error, final_of, final_text};
+ghost use Rattle.scram_mech.specs.FinalText.{signature_format, error_format, begins_as_error};
+ghost use Rattle.scram_mech.specs.FinalText.{final_of, final_text};
 
 use crate::cursor::Cursor;
 use crate::encoding::{Encoded, put_encoded};
@@ -27,7 +28,8 @@ struct SignatureText<'a> {
 
 #[tactic(auto, unfolding(crate::specs::Formats::pieces_of, crate::specs::Formats::pieces, crate::specs::FinalText::signature_format))]
 fn signature_parts(text: &[u8]) -> Result<SignatureText<'_>, Stuck>
-    ensures { Answers (λ t. t.signature.signs.now ∷ t.further.now ∷ []) result (pieces_of signature_format text.now) }
+    ensures { Answers (λ t. t.signature.signs.now ∷ t.further.now ∷ []) result
+        (pieces_of signature_format text.now) }
 {
     let mut cursor = Cursor::new(text);
     cursor.word(b"v=")?;

@@ -28,7 +28,8 @@ pub struct FirstText<'a> {
 
 #[tactic(auto, unfolding(crate::specs::Formats::pieces_of, crate::specs::Formats::pieces, crate::specs::FirstText::first_format))]
 fn parts_of(text: &[u8]) -> Result<FirstText<'_>, Stuck>
-    ensures { Answers (λ t. t.name.now ∷ t.nonce.now ∷ t.further.now ∷ []) result (pieces_of first_format text.now) }
+    ensures { Answers (λ t. t.name.now ∷ t.nonce.now ∷ t.further.now ∷ []) result
+        (pieces_of first_format text.now) }
 {
     let mut cursor = Cursor::new(text);
     cursor.word(b"n=")?;
@@ -47,7 +48,8 @@ fn parts_of(text: &[u8]) -> Result<FirstText<'_>, Stuck>
 /// The name and the nonce of a first text.
 #[tactic(auto, unfolding(crate::specs::Formats::values_of, crate::specs::FirstText::first_of))]
 pub fn read_first(text: &[u8]) -> Result<FirstText<'_>, ScramRefusal>
-    ensures { Answers (λ t. record { name = unescaped Outside t.name.now; nonce = t.nonce.now }) result (first_of text.now) }
+    ensures { Answers (λ t. record { name = unescaped Outside t.name.now; nonce = t.nonce.now })
+        result (first_of text.now) }
 {
     if is_mandatory(text) {
         return Err(ScramRefusal::Mandatory);

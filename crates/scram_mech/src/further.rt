@@ -6,7 +6,7 @@ ghost use Rattle.scram_mech.specs.Further.{go, is_last, letter, further_step, fu
 use crate::signs::{is_free, is_value};
 
 /// What is due of a further part.
-#[derive(Clone, Copy, Debug, PartialEq, Eq)]
+#[derive(Clone, Copy)]
 pub enum Due {
     /// A comma, or the end.
     Part,
@@ -21,7 +21,7 @@ pub enum Due {
 }
 
 /// Further parts, up to the end, or up to the letter of the named part behind them.
-#[derive(Clone, Copy, Debug, PartialEq, Eq)]
+#[derive(Clone, Copy)]
 pub struct Further {
     pub due: Due,
     pub last: Option<u8>,

@@ -29,7 +29,7 @@ use std::alloc::Global;
 use std::marker::Model;
 
 /// The first text is out, and the acceptor's is due.
-#[derive(Debug, Drop)]
+#[derive(Drop)]
 pub struct ScramInit {
     user: Label,
     password: Octets,
@@ -42,11 +42,12 @@ impl Model for ScramInit {
 
     ghost Value = { InitModel };
 
-    ghost view = { λ i. record { user = i.user; password = i.password; nonce = i.nonce; bindings = i.bindings } };
+    ghost view = { λ i.
+        record { user = i.user; password = i.password; nonce = i.nonce; bindings = i.bindings } };
 }
 
 /// The proof is out, and the acceptor's signature is due.
-#[derive(Debug, Drop)]
+#[derive(Drop)]
 pub struct ScramWait {
     user: Label,
     hash: [u8; 16],
@@ -60,7 +61,8 @@ impl Model for ScramWait {
 
     ghost Value = { WaitModel };
 
-    ghost view = { λ w. record { user = w.user; hash = w.hash; auth = w.auth; server = w.server; key = w.key } };
+    ghost view = { λ w.
+        record { user = w.user; hash = w.hash; auth = w.auth; server = w.server; key = w.key } };
 }
 
 /// The first text of a name and a nonce.
@@ -83,8 +85,9 @@ impl ScramInit {
         nonce: &[u8; 18],
         bindings: Option<&Bindings>,
     ) -> Result<(ScramInit, Octets), ScramRefusal>
-        ensures exact { Gives refusals.NoMemory (λ p. record { end = p.0; token = p.1 }) result
-            (init_started user.now password.now nonce.now (option_map (λ b. b.now) bindings.entry)) }
+        ensures exact { Gives refusals.NoMemory (λ p. record { end = p.0; token = p.1 })
+            result (init_started user.now password.now nonce.now
+            (option_map (λ b. b.now) bindings.entry)) }
         ensures named { IfOk result (λ _. length user.now ≤ 255) }
     {
         judge(user.as_bytes(), Class::Printable, 255)?;
@@ -112,7 +115,8 @@ impl ScramInit {
 impl ScramInit {
     /// Takes the acceptor's first text: the text with the proof. The rounds are worked here, once, and only for a text that is taken.
     pub fn take_first(self, alloc: Global, text: &[u8]) -> Result<(ScramWait, Octets), ScramRefusal>
-        ensures exact { Gives refusals.NoMemory (λ p. record { end = p.0; token = p.1 }) result (seen proving (init_answered self text.now)) }
+        ensures exact { Gives refusals.NoMemory (λ p. record { end = p.0; token = p.1 }) result
+            (seen proving (init_answered self text.now)) }
         ensures short { IfOk result (λ p. length p.1 ≤ 44000) }
     {
         self.told_data();
@@ -128,7 +132,8 @@ impl ScramInit {
 
     #[tactic(auto, unfolding(crate::specs::Initiator::init_answered, crate::specs::Secrets::proof_of))]
     fn answered(&self, alloc: Global, text: &[u8]) -> Result<(ScramWait, Octets), ScramRefusal>
-        ensures { Gives refusals.NoMemory (λ p. record { end = p.0; token = p.1 }) result (seen proving (init_answered self.now text.now)) }
+        ensures { Gives refusals.NoMemory (λ p. record { end = p.0; token = p.1 }) result
+            (seen proving (init_answered self.now text.now)) }
     {
         let second = read_second(text)?;
         if !is_extended(self.nonce.as_slice(), second.nonce) {
@@ -148,7 +153,8 @@ impl ScramInit {
 
     /// The AuthMessage with a second text, and with a third without its proof.
     fn auth(&self, alloc: Global, text: &[u8], bare: &[u8]) -> Result<Octets, NoMemory>
-        ensures { IfOk result (λ o. o ≡ auth_message (first_text self.now.user self.now.nonce) text.now bare.now) }
+        ensures { IfOk result
+            (λ o. o ≡ auth_message (first_text self.now.user self.now.nonce) text.now bare.now) }
     {
         let first = write_first(alloc, self.user.text().as_bytes(), self.nonce.as_slice())?;
         auth_message(alloc, first.as_slice(), text, bare)
@@ -157,7 +163,15 @@ impl ScramInit {
     /// What is kept until the signature comes.
     #[tactic(auto, unfolding(crate::specs::Secrets::key_of_client))]
     fn waiting(&self, secrets: &Secrets, auth: Octets) -> ScramWait
-        ensures { result ≡ record { user = self.now.user; hash = hash_of self.now.bindings; auth = auth; server = secrets.now.server; key = key_of_client secrets.now.stored secrets.now.client auth } }
+        ensures { result
+            ≡ record {
+              user = self.now.user;
+              hash = hash_of self.now.bindings;
+              auth = auth;
+              server =
+                  secrets.now.server;
+              key = key_of_client secrets.now.stored secrets.now.client auth;
+            } }
     {
         let key = key_of_client(&secrets.stored, &secrets.client, auth.as_slice());
         let server = secrets.server;
@@ -188,7 +202,8 @@ fn write_proof(
     secrets: &Secrets,
     auth: &[u8],
 ) -> Result<Octets, NoMemory>
-    ensures { IfOk result (λ o. o ≡ with_proof bare (masked secrets.now.stored auth.now secrets.now.client)) }
+    ensures { IfOk result
+        (λ o. o ≡ with_proof bare (masked secrets.now.stored auth.now secrets.now.client)) }
 {
     let proof = masked(&secrets.stored, auth, &secrets.client);
     let mut text = bare.into_vec();
@@ -200,7 +215,8 @@ impl ScramWait {
     /// Takes the acceptor's final text. The end is spent, whatever the answer.
     #[tactic(auto, unfolding(crate::specs::Initiator::init_finished, crate::specs::Secrets::signature_of))]
     pub fn take_final(self, alloc: Global, text: &[u8]) -> Result<MechDone, ScramRefusal>
-        ensures { Gives refusals.NoMemory (λ d. d) result (seen (λ f. f.done) (init_finished self text.now)) }
+        ensures { Gives refusals.NoMemory (λ d. d) result
+            (seen (λ f. f.done) (init_finished self text.now)) }
     {
         let signature = read_final(text)?.decode(alloc)?;
         let due = code_of(&self.server, self.auth.as_slice());

@@ -4,7 +4,8 @@ ghost use Rattle.std.specs.Prelude.{◌≡◌, ◌≤◌, ◌∷◌, [], length,
 ghost use Rattle.scram_mech.specs.Reading.{Answers};
 ghost use Rattle.scram_mech.specs.State.{some};
 ghost use Rattle.scram_mech.specs.Formats.{Value, End, pieces_of};
-ghost use Rattle.scram_mech.specs.Judging.{judged, is_extended, are_rounds, data_of, carried, is_bound, unframed};
+ghost use Rattle.scram_mech.specs.Judging.{judged, is_extended, are_rounds, data_of, carried};
+ghost use Rattle.scram_mech.specs.Judging.{is_bound, unframed};
 
 use crate::cursor::Cursor;
 use crate::refusal::{ScramRefusal, Stuck};
@@ -18,7 +19,8 @@ use std::alloc::Global;
 
 #[tactic(auto, unfolding(crate::specs::Formats::pieces_of, crate::specs::Formats::pieces))]
 fn whole(octets: &[u8], class: Class, most: u16) -> Result<&[u8], Stuck>
-    ensures read { Answers (λ v. v.now ∷ []) result (pieces_of (Value (some class most) ∷ End ∷ []) octets.now) }
+    ensures read { Answers (λ v. v.now ∷ []) result
+        (pieces_of (Value (some class most) ∷ End ∷ []) octets.now) }
     ensures few { OnOk result (length octets.now ≤ most) }
 {
     let mut cursor = Cursor::new(octets);

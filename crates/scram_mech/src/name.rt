@@ -9,7 +9,7 @@ use sec_base::{NoMemory, Octets};
 use std::alloc::Global;
 
 /// How much of an escape was read.
-#[derive(Clone, Copy, Debug, PartialEq, Eq)]
+#[derive(Clone, Copy)]
 pub enum Escape {
     /// No escape is open.
     Outside,
@@ -22,7 +22,7 @@ pub enum Escape {
 }
 
 /// A name, of whose octets at least `need` and at most `left` are still to come.
-#[derive(Clone, Copy, Debug, PartialEq, Eq)]
+#[derive(Clone, Copy)]
 pub struct Name {
     pub escape: Escape,
     pub need: u16,

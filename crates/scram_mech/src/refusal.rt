@@ -3,6 +3,7 @@
 ghost use Rattle.std.specs.Prelude.{◌≡◌, ◌-◌, length};
 ghost use Rattle.scram_mech.specs.declared.refusal.ScramRefusal.TheVariants as refusals;
 ghost use Rattle.scram_mech.specs.declared.refusal.VerifierRefusal.TheVariants as verifiers;
+ghost use Rattle.scram_mech.specs.Numbers.{scram_number};
 ghost use Rattle.scram_mech.specs.Reading.{text_refusal};
 
 use sec_base::NoMemory;
@@ -31,6 +32,26 @@ pub enum ScramRefusal {
     PeerError,
     /// No memory was to be had.
     NoMemory,
+}
+
+impl ScramRefusal {
+    /// The number by which it is told: the minor status that an acceptor sends, and what a client prints.
+    pub fn number(self) -> u32
+        ensures { result ≡ scram_number self }
+    {
+        match self {
+            ScramRefusal::Text { at: _ } => 201,
+            ScramRefusal::Mandatory => 202,
+            ScramRefusal::Nonce => 203,
+            ScramRefusal::Rounds => 204,
+            ScramRefusal::NoUser => 205,
+            ScramRefusal::Bindings => 206,
+            ScramRefusal::Proof => 207,
+            ScramRefusal::Signature => 208,
+            ScramRefusal::PeerError => 209,
+            ScramRefusal::NoMemory => 0,
+        }
+    }
 }
 
 impl From<NoMemory> for ScramRefusal {

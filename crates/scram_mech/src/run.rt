@@ -6,7 +6,7 @@ ghost use Rattle.scram_mech.specs.Run.{has, run_step, run_ends};
 use crate::signs::{is_line_name, is_nonce, is_printable};
 
 /// A class of octets.
-#[derive(Clone, Copy, Debug, PartialEq, Eq)]
+#[derive(Clone, Copy)]
 pub enum Class {
     /// Of a nonce.
     Nonce,
@@ -29,7 +29,7 @@ impl Class {
 }
 
 /// Octets of a class, of which at least `need` and at most `left` are still to come.
-#[derive(Clone, Copy, Debug, PartialEq, Eq)]
+#[derive(Clone, Copy)]
 pub struct Run {
     pub class: Class,
     pub need: u16,

@@ -32,7 +32,8 @@ pub struct SecondText<'a> {
 
 #[tactic(auto, unfolding(crate::specs::Formats::pieces_of, crate::specs::Formats::pieces, crate::specs::SecondText::second_format))]
 fn parts_of(text: &[u8]) -> Result<SecondText<'_>, Stuck>
-    ensures { Answers (λ t. t.nonce.now ∷ t.salt.signs.now ∷ t.rounds.digits.now ∷ t.further.now ∷ []) result (pieces_of second_format text.now) }
+    ensures { Answers (λ t. t.nonce.now ∷ t.salt.signs.now ∷ t.rounds.digits.now ∷ t.further.now
+        ∷ []) result (pieces_of second_format text.now) }
 {
     let mut cursor = Cursor::new(text);
     cursor.word(b"r=")?;
@@ -54,7 +55,12 @@ fn parts_of(text: &[u8]) -> Result<SecondText<'_>, Stuck>
 /// Nonce, salt and rounds of a second text.
 #[tactic(auto, unfolding(crate::specs::Formats::values_of, crate::specs::SecondText::second_of))]
 pub fn read_second(text: &[u8]) -> Result<SecondText<'_>, ScramRefusal>
-    ensures { Answers (λ t. record { nonce = t.nonce.now; salt = decoded t.salt.signs.now; rounds = number_of t.rounds.digits.now }) result (second_of text.now) }
+    ensures { Answers (λ t. record {
+      nonce = t.nonce.now;
+      salt = decoded t.salt.signs.now;
+      rounds =
+          number_of t.rounds.digits.now;
+    }) result (second_of text.now) }
 {
     if is_mandatory(text) {
         return Err(ScramRefusal::Mandatory);
@@ -83,7 +89,8 @@ pub fn put_second(
     salt: &[u8],
     rounds: u32,
 ) -> Result<(), NoMemory>
-    ensures text { OnOk result (text.new.items ≡ text.old.items ++ second_text nonce.now salt.now rounds) }
+    ensures text { OnOk result
+        (text.new.items ≡ text.old.items ++ second_text nonce.now salt.now rounds) }
 {
     put(text, b"r=")?;
     put(text, nonce)?;

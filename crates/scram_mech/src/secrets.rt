@@ -3,7 +3,8 @@
 ghost use Rattle.std.specs.Prelude.{◌≡◌, ◌≤◌, ◌++◌, length, codes, IfOk, OnOk};
 ghost use Rattle.mac_sha1.specs.Mac.{hmac};
 ghost use Rattle.mac_sha1.specs.Hi.{add_octets};
-ghost use Rattle.scram_mech.specs.Secrets.{Secret, client_key, stored_key, server_key, auth_message, masked, key_of_client};
+ghost use Rattle.scram_mech.specs.Secrets.{Secret, client_key, stored_key, server_key};
+ghost use Rattle.scram_mech.specs.Secrets.{auth_message, masked, key_of_client};
 ghost use Rattle.scram_mech.specs.Judging.{same};
 
 use crate::texts::put;
@@ -35,9 +36,12 @@ impl Secrets {
     #[tactic(auto, unfolding(crate::specs::Secrets::salted, crate::specs::Secrets::client_key, crate::specs::Secrets::stored_key, crate::specs::Secrets::server_key))]
     pub fn of(password: &[u8], salt: &[u8], rounds: u32) -> Secrets
         requires { 1 ≤ rounds }
-        ensures client { result.client ≡ client_key (record { password = password.now; salt = salt.now; rounds = rounds }) }
-        ensures stored { result.stored ≡ stored_key (record { password = password.now; salt = salt.now; rounds = rounds }) }
-        ensures server { result.server ≡ server_key (record { password = password.now; salt = salt.now; rounds = rounds }) }
+        ensures client { result.client
+            ≡ client_key (record { password = password.now; salt = salt.now; rounds = rounds }) }
+        ensures stored { result.stored
+            ≡ stored_key (record { password = password.now; salt = salt.now; rounds = rounds }) }
+        ensures server { result.server
+            ≡ server_key (record { password = password.now; salt = salt.now; rounds = rounds }) }
     {
         let salted = hi(password, salt, rounds);
         let client = code_of(&salted, b"Client Key");

@@ -1,7 +1,8 @@
 //! Classes of octets (RFC 5802 section 7).
 
 ghost use Rattle.std.specs.Prelude.{◌≡◌, MatchOption, Some};
-ghost use Rattle.scram_mech.specs.Signs.{is_printable, is_value, is_nonce, is_line_name, is_free, sextet_of};
+ghost use Rattle.scram_mech.specs.Signs.{is_printable, is_value, is_nonce, is_line_name, is_free};
+ghost use Rattle.scram_mech.specs.Signs.{sextet_of};
 
 /// Printable ASCII.
 pub fn is_printable(octet: u8) -> bool

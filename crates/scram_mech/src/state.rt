@@ -10,7 +10,7 @@ use crate::run::{Class, Run};
 use crate::symbols::{Spot, Symbols};
 
 /// What is due of a value.
-#[derive(Clone, Copy, Debug, PartialEq, Eq)]
+#[derive(Clone, Copy)]
 pub enum State {
     Run(Run),
     Name(Name),

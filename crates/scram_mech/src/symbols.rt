@@ -1,12 +1,13 @@
 //! Base64 with padding (RFC 4648 section 4): the signs of octets, four for three.
 
 ghost use Rattle.std.specs.Prelude.{◌≡◌, ◌<◌};
-ghost use Rattle.scram_mech.specs.Symbols.{at, may_be_last, pad, next_group, sextet, symbols_step, symbols_end};
+ghost use Rattle.scram_mech.specs.Symbols.{at, may_be_last, pad, next_group, sextet, symbols_step};
+ghost use Rattle.scram_mech.specs.Symbols.{symbols_end};
 
 use crate::signs::sextet_of;
 
 /// Which sign of a group of four is due, with the six bits of the sign before where it may be the last one.
-#[derive(Clone, Copy, Debug, PartialEq, Eq)]
+#[derive(Clone, Copy)]
 pub enum Spot {
     First,
     Second,
@@ -19,7 +20,7 @@ pub enum Spot {
 }
 
 /// The signs of octets of which, from this group on, at least `need` and at most `left` are still to come.
-#[derive(Clone, Copy, Debug, PartialEq, Eq)]
+#[derive(Clone, Copy)]
 pub struct Symbols {
     pub spot: Spot,
     pub need: u16,

@@ -37,7 +37,8 @@ pub struct ThirdText<'a> {
 
 #[tactic(auto, unfolding(crate::specs::Formats::pieces_of, crate::specs::Formats::pieces, crate::specs::ThirdText::third_format))]
 fn parts_of(text: &[u8]) -> Result<ThirdText<'_>, Stuck>
-    ensures read { Answers (λ t. t.binding.signs.now ∷ t.nonce.now ∷ t.further.now ∷ t.proof.signs.now ∷ []) result (pieces_of third_format text.now) }
+    ensures read { Answers (λ t. t.binding.signs.now ∷ t.nonce.now ∷ t.further.now
+        ∷ t.proof.signs.now ∷ []) result (pieces_of third_format text.now) }
     ensures bare { IfOk result (λ t. t.bare.now ≡ take (length text.now - 31) text.now) }
     ensures binding { IfOk result (λ t. InRange 0 32768 (decoded t.binding.signs.now)) }
     ensures proof { IfOk result (λ t. InRange 20 20 (decoded t.proof.signs.now)) }
@@ -63,7 +64,14 @@ fn parts_of(text: &[u8]) -> Result<ThirdText<'_>, Stuck>
 /// Binding data, nonce and proof of a third text.
 #[tactic(auto, unfolding(crate::specs::Formats::values_of, crate::specs::ThirdText::third_of))]
 pub fn read_third(text: &[u8]) -> Result<ThirdText<'_>, ScramRefusal>
-    ensures read { Answers (λ t. record { binding = decoded t.binding.signs.now; nonce = t.nonce.now; proof = decoded t.proof.signs.now; bare = t.bare.now }) result (third_of text.now) }
+    ensures read { Answers (λ t. record {
+      binding = decoded t.binding.signs.now;
+      nonce =
+          t.nonce.now;
+      proof = decoded t.proof.signs.now;
+      bare = t.bare.now;
+    }) result
+        (third_of text.now) }
     ensures binding { IfOk result (λ t. InRange 0 32768 (decoded t.binding.signs.now)) }
     ensures proof { IfOk result (λ t. InRange 20 20 (decoded t.proof.signs.now)) }
 {

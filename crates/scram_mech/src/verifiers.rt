@@ -1,6 +1,7 @@
 //! The file of verifiers: a line `name:rounds:salt:stored:server` for each user.
 
-ghost use Rattle.std.specs.Prelude.{◌≡◌, ◌≤◌, ◌<◌, ◌^◌, ◌++◌, ◌∷◌, [], length, IfOk, OnOk, option_copied, Option};
+ghost use Rattle.std.specs.Prelude.{◌≡◌, ◌≤◌, ◌<◌, ◌^◌, ◌++◌, ◌∷◌, [], length, IfOk, OnOk};
+ghost use Rattle.std.specs.Prelude.{option_copied, Option};
 ghost use Rattle.sec_base.specs.Answers.{Gives};
 ghost use Rattle.scram_mech.specs.declared.refusal.ScramRefusal.TheVariants as refusals;
 ghost use Rattle.scram_mech.specs.declared.refusal.VerifierRefusal.TheVariants as verifier_refusals;
@@ -9,7 +10,8 @@ ghost use Rattle.scram_mech.specs.Digits.{number_of};
 ghost use Rattle.scram_mech.specs.Reading.{Reads, Answers, MayRead};
 ghost use Rattle.scram_mech.specs.Formats.{pieces};
 ghost use Rattle.scram_mech.specs.VerifierFile.{AreLines};
-ghost use Rattle.scram_mech.specs.Verifiers.{line_format, line_at, lines_at, line_for, once, verifiers_of, line_text, made_line};
+ghost use Rattle.scram_mech.specs.Verifiers.{line_format, line_at, lines_at, line_for, once};
+ghost use Rattle.scram_mech.specs.Verifiers.{verifiers_of, line_text, made_line};
 
 use crate::cursor::Cursor;
 use crate::digits::Decimal;
@@ -29,7 +31,7 @@ use std::marker::Model;
 const KEY: u16 = 20;
 
 /// What an acceptor knows of a user.
-#[derive(Debug, Drop)]
+#[derive(Drop)]
 pub struct Verifier {
     pub name: Label,
     pub rounds: u32,
@@ -56,7 +58,7 @@ impl Verifier {
 }
 
 /// The verifiers of users, no name twice. Contracts see the list of their lines, each of which is one that a file may have.
-#[derive(Debug, Drop)]
+#[derive(Drop)]
 pub struct Verifiers {
     lines: Vec<Verifier>,
 }
@@ -85,7 +87,8 @@ struct LineText<'a> {
 
 #[tactic(auto, unfolding(crate::specs::Formats::pieces, crate::specs::Verifiers::line_format))]
 fn parts_of<'a>(cursor: &mut Cursor<'a>) -> Result<LineText<'a>, Stuck>
-    ensures read { Reads (λ t. t.name ∷ t.rounds.digits.now ∷ t.salt.signs.now ∷ t.stored.signs.now ∷ t.server.signs.now ∷ []) cursor.new result (pieces line_format cursor.old) }
+    ensures read { Reads (λ t. t.name ∷ t.rounds.digits.now ∷ t.salt.signs.now ∷ t.stored.signs.now
+        ∷ t.server.signs.now ∷ []) cursor.new result (pieces line_format cursor.old) }
     ensures stored { IfOk result (λ t. InRange 20 20 (decoded t.stored.signs.now)) }
     ensures server { IfOk result (λ t. InRange 20 20 (decoded t.server.signs.now)) }
 {
@@ -111,7 +114,8 @@ fn parts_of<'a>(cursor: &mut Cursor<'a>) -> Result<LineText<'a>, Stuck>
 /// The line of this number, which stands at the front.
 #[tactic(auto, unfolding(crate::specs::Verifiers::line_at))]
 fn read_line(alloc: Global, cursor: &mut Cursor, number: usize) -> Result<Verifier, VerifierRefusal>
-    ensures read { MayRead verifier_refusals.NoMemory (λ v. v) cursor.new result (line_at number cursor.old) }
+    ensures read { MayRead verifier_refusals.NoMemory (λ v. v) cursor.new result
+        (line_at number cursor.old) }
 {
     let Ok(line) = parts_of(cursor) else {
         return Err(VerifierRefusal::Line { number });
@@ -133,7 +137,8 @@ fn read_line(alloc: Global, cursor: &mut Cursor, number: usize) -> Result<Verifi
 
 /// All lines of a file.
 fn read_lines(alloc: Global, bytes: &[u8]) -> Result<Vec<Verifier>, VerifierRefusal>
-    ensures { Gives verifier_refusals.NoMemory (λ v. v.items) result (lines_at (length bytes.now) 1 bytes.now) }
+    ensures { Gives verifier_refusals.NoMemory (λ v. v.items) result
+        (lines_at (length bytes.now) 1 bytes.now) }
 {
     let mut cursor = Cursor::new(bytes);
     let mut lines = Vec::new(alloc);
@@ -208,7 +213,14 @@ fn write_line(
     rounds: u32,
     secrets: &Secrets,
 ) -> Result<Octets, NoMemory>
-    ensures { IfOk result (λ o. o ≡ line_text (record { name = user.now; rounds = rounds; salt = salt.now; stored = secrets.now.stored; server = secrets.now.server })) }
+    ensures { IfOk result (λ o. o ≡ line_text (record {
+      name = user.now;
+      rounds = rounds;
+      salt =
+          salt.now;
+      stored = secrets.now.stored;
+      server = secrets.now.server;
+    })) }
 {
     let mut line = Vec::new(alloc);
     put(&mut line, user)?;
@@ -236,7 +248,8 @@ pub fn make_verifier(
 ) -> Result<Octets, ScramRefusal>
     requires some { 1 ≤ length salt.now }
     requires few { length salt.now ≤ 64 }
-    ensures { Gives refusals.NoMemory (λ o. o) result (made_line user.now password.now salt.now rounds) }
+    ensures { Gives refusals.NoMemory (λ o. o) result
+        (made_line user.now password.now salt.now rounds) }
 {
     judge(user.as_bytes(), Class::LineName, 255)?;
     judge(password.as_bytes(), Class::Printable, 1_024)?;

@@ -1,5 +1,6 @@
 -- What holds of an acceptor over its steps.
-use Rattle.std.specs.Prelude.{◌≡◌, ◌⊎◌, ℕ, true, false, List, [], map, slice_get, Option, Some, None, Result, Ok}
+use Rattle.std.specs.Prelude.{◌≡◌, ◌⊎◌, ℕ, true, false, List, [], map, slice_get, Option, Some}
+use Rattle.std.specs.Prelude.{None, Result, Ok}
 use Rattle.gss_base.specs.declared.mech.MechKind.{MechKind}
 use Rattle.gss_base.specs.declared.mech.MechKind.TheVariants as kinds
 use Rattle.krb_tokens.specs.declared.end.Side.TheVariants.{Acceptor}
@@ -52,6 +53,7 @@ proof_due mechs.Kerberos = None
 proof_due mechs.Scram = None
 proof_due (mechs.Proof end) = Some end
 
+-- the same of an acceptor's end
 abbrev pub waits_for_proof : AcceptEnd → Option AcceptModel
 waits_for_proof ends.New = None
 waits_for_proof (ends.Runs running) = proof_due running.mech
@@ -59,12 +61,14 @@ waits_for_proof (ends.Owes owing) = None
 
 -- ---- good ends: those that runs reach
 
+-- the mechanism that runs, by its state at the acceptor
 abbrev pub kind_of_accept : AcceptMech → MechKind
 kind_of_accept mechs.Kerberos = kinds.Kerberos
 kind_of_accept mechs.Scram = kinds.Scram
 kind_of_accept (mechs.Proof end) = kinds.Scram
 
--- a SCRAM end that waits for the proof: the line stands in the verifiers under the name in the first text, whose nonce it has beside a drawn one
+-- a SCRAM end that waits for the proof: the line stands in the verifiers under the name in the
+-- first text, whose nonce it has beside a drawn one
 pub record IsOfLine (lines : List Verifier) (end : AcceptModel) : Type 0 where
   pub first : First
   pub read : first_of end.first ≡ Ok first
@@ -75,6 +79,7 @@ pub record IsOfLine (lines : List Verifier) (end : AcceptModel) : Type 0 where
   pub draw : List ℕ
   pub own : end.own ≡ encoded draw
 
+-- a mechanism's state is good: a SCRAM end that waits for the proof is of a line of the verifiers
 abbrev pub GoodMech : AcceptSetup → AcceptMech → Type 0
 GoodMech setup mechs.Kerberos = Unit {0}
 GoodMech setup mechs.Scram = Unit {0}
@@ -85,15 +90,19 @@ pub record GoodChosen (setup : AcceptSetup) (chosen : Chosen) : Type 0 where
   pub best_is : best setup.offer chosen.received ≡ Some chosen.kind
   pub due_is : chosen.due ≡ is_mic_due setup.offer chosen.received chosen.kind
 
+-- an end whose mechanism isn't done: the choice is by the rule, and the chosen mechanism runs
 pub record GoodRunning (setup : AcceptSetup) (running : Running) : Type 0 where
   pub choice : GoodChosen setup running.chosen
   pub mech_is : kind_of_accept running.mech ≡ running.chosen.kind
   pub mech : GoodMech setup running.mech
 
+-- an end that waits for the initiator's MIC: its mechanism is the best of the list that came, and
+-- the MIC is due by the rule
 pub record GoodOwing (setup : AcceptSetup) (owing : Owing) : Type 0 where
   pub best_is : best setup.offer owing.received ≡ Some owing.outcome.mech
   pub due_is : is_mic_due setup.offer owing.received owing.outcome.mech ≡ true
 
+-- an acceptor's end is good, by what is due next
 abbrev pub GoodAccept : AcceptSetup → AcceptEnd → Type 0
 GoodAccept setup ends.New = Unit {0}
 GoodAccept setup (ends.Runs running) = GoodRunning setup running
@@ -126,10 +135,12 @@ pub record TakesMic (old : AcceptEnd) (found : List MechMaking) (outcome : Outco
 abbrev pub Stands : AcceptSetup → AcceptEnd → List MechMaking → Outcome → Type 0
 Stands setup old found outcome = IsUndue setup old outcome ⊎ TakesMic old found outcome
 
+-- what a step shows once nothing is to be asked: its end goes on, or its context stands
 abbrev pub AfterAnswered : AcceptSetup → AcceptEnd → List MechMaking → Answered → Type 0
 AfterAnswered setup old found (afters.More end token) = GoesOn setup old end
 AfterAnswered setup old found (afters.Done outcome lasts token) = Stands setup old found outcome
 
+-- the same of any step; where it pauses, of what follows the pause
 abbrev pub AfterStep : AcceptSetup → AcceptEnd → List MechMaking → AcceptStep → Type 0
 AfterStep setup old found (steps.More end token) = GoesOn setup old end
 AfterStep setup old found (steps.Done outcome lasts token) = Stands setup old found outcome
@@ -140,25 +151,32 @@ abbrev pub outcome_after : Answered → Option Outcome
 outcome_after (afters.More end token) = settled_of end
 outcome_after (afters.Done outcome lasts token) = Some outcome
 
--- Kerberos: by a request that was judged in this step, and whose mark is asked for before anything is answered
-pub record ByKerberos (setup : AcceptSetup) (now : ℕ) (draws : List ℕ) (taken : Accepted) (fixed : Fixed) : Type 0 where
+-- Kerberos: by a request that was judged in this step, and whose mark is asked for before anything
+-- is answered
+pub record ByKerberos (setup : AcceptSetup) (now : ℕ) (draws : List ℕ) (taken : Accepted)
+    (fixed : Fixed) : Type 0 where
   pub request : Judged
   pub token : List ℕ
   pub judges : judged setup.keytab setup.own now setup.bindings token ≡ Ok request
   pub basis_is : fixed.basis ≡ ByRequest request
   pub outcome_is : fixed.outcome ≡ outcome_of kinds.Kerberos (answer_done request draws)
   pub lasts_is : fixed.lasts ≡ request.ends
-  pub verified : (making : MechMaking) → AmongMakings (map typed (judge_found setup.keytab setup.own token)) making → AmongMakings taken.found making
+  pub verified : (making : MechMaking)
+      → AmongMakings (map typed (judge_found setup.keytab setup.own token)) making
+      → AmongMakings taken.found making
   pub pause : AcceptPause
   pub asks : taken.step ≡ steps.WantsAuth pause
   pub mark_is : pause.mark ≡ judged_mark request
   pub after_is : outcome_after pause.after ≡ Some fixed.outcome
   -- what is handed out: the answer, or the MIC over the list that came
   pub made : (making : MechMaking) → AmongMakings taken.makes making
-      → (making ≡ typed (answer_making request draws)) ⊎ (making ≡ mic_making fixed.outcome Acceptor fixed.received)
+      → (making ≡ typed (answer_making request draws))
+      ⊎ (making ≡ mic_making fixed.outcome Acceptor fixed.received)
 
--- SCRAM: by a proof that was verified in this step, under the stored key of the user whose line the end has; no mark is asked for
-pub record ByScram (setup : AcceptSetup) (old : AcceptEnd) (now : ℕ) (taken : Accepted) (fixed : Fixed) : Type 0 where
+-- SCRAM: by a proof that was verified in this step, under the stored key of the user whose line the
+-- end has; no mark is asked for
+pub record ByScram (setup : AcceptSetup) (old : AcceptEnd) (now : ℕ) (taken : Accepted)
+    (fixed : Fixed) : Type 0 where
   pub end : AcceptModel
   pub was : waits_for_proof old ≡ Some end
   pub line : IsOfLine setup.verifiers end
@@ -168,26 +186,34 @@ pub record ByScram (setup : AcceptSetup) (old : AcceptEnd) (now : ℕ) (taken : 
   pub basis_is : fixed.basis ≡ ByProof end token
   pub outcome_is : fixed.outcome ≡ outcome_of kinds.Scram finished.done
   pub lasts_is : fixed.lasts ≡ finished.done.ends
-  pub verified : (making : MechMaking) → AmongMakings finished.found making → AmongMakings taken.found making
+  pub verified : (making : MechMaking) → AmongMakings finished.found making
+      → AmongMakings taken.found making
   pub after : Answered
   pub goes_on : taken.step ≡ gone_on after
   pub after_is : outcome_after after ≡ Some fixed.outcome
   -- what is handed out: the signature, or the MIC over the list that came
   pub made : (making : MechMaking) → AmongMakings taken.makes making
-      → AmongMakings finished.makes making ⊎ (making ≡ mic_making fixed.outcome Acceptor fixed.received)
+      → AmongMakings finished.makes making
+      ⊎ (making ≡ mic_making fixed.outcome Acceptor fixed.received)
 
 -- a context is fixed once, by the chosen mechanism
-pub record Fixes (setup : AcceptSetup) (old : AcceptEnd) (now : ℕ) (draws : List ℕ) (taken : Accepted) (fixed : Fixed) : Type 0 where
+pub record Fixes (setup : AcceptSetup) (old : AcceptEnd) (now : ℕ) (draws : List ℕ)
+    (taken : Accepted) (fixed : Fixed) : Type 0 where
   pub before : settled_of old ≡ None
   pub same : (list : List (List ℕ)) → received_of old ≡ Some list → fixed.received ≡ list
   pub best_is : best setup.offer fixed.received ≡ Some fixed.outcome.mech
   pub by : ByKerberos setup now draws taken fixed ⊎ ByScram setup old now taken fixed
 
-pub record AcceptLaw (setup : AcceptSetup) (old : AcceptEnd) (now : ℕ) (draws : List ℕ) (taken : Accepted) : Type 0 where
+-- what holds of a step that was taken from a good end; one that fixes no context hands nothing out
+pub record AcceptLaw (setup : AcceptSetup) (old : AcceptEnd) (now : ℕ) (draws : List ℕ)
+    (taken : Accepted) : Type 0 where
   pub after : AfterStep setup old taken.found taken.step
   pub fixes : (fixed : Fixed) → taken.fixes ≡ Some fixed → Fixes setup old now draws taken fixed
   pub unfixed : taken.fixes ≡ None → taken.makes ≡ []
 
+-- the law of each step that the machine takes from a good end
 pub record AcceptLaws : Type 0 where
-  pub steps : (setup : AcceptSetup) (old : AcceptEnd) (token : List ℕ) (now : ℕ) (draws : List ℕ) (taken : Accepted)
-      → GoodAccept setup old → accept_step setup old token now draws ≡ Ok taken → AcceptLaw setup old now draws taken
+  pub steps : (setup : AcceptSetup) (old : AcceptEnd) (token : List ℕ) (now : ℕ) (draws : List ℕ)
+      (taken : Accepted)
+      → GoodAccept setup old → accept_step setup old token now draws ≡ Ok taken
+      → AcceptLaw setup old now draws taken

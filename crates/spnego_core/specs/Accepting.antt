@@ -1,18 +1,22 @@
--- The acceptor's machine, RFC 4178 sections 3.2, 4.2.2 and 5. Each part gives the step, what is handed out with its token, what was found
--- verified, and what it fixes.
-use Rattle.std.specs.Prelude.{◌≡◌, ℕ, Bool, true, false, not, ◌&&◌, if◌then◌else◌, List, [], ◌∷◌, ◌++◌, length, Option, Some, None, option_map, Result, Ok, Err}
+-- The acceptor's machine, RFC 4178 sections 3.2, 4.2.2 and 5. Each part gives the step, what is
+-- handed out with its token, what was found verified, and what it fixes.
+use Rattle.std.specs.Prelude.{◌≡◌, ℕ, Bool, true, false, not, ◌&&◌, if◌then◌else◌, List, [], ◌∷◌}
+use Rattle.std.specs.Prelude.{◌++◌, length, Option, Some, None, option_map, Result, Ok, Err}
 use Rattle.gss_base.specs.declared.mech.MechKind.{MechKind}
 use Rattle.gss_base.specs.declared.mark.Mark.{Mark}
 use Rattle.gss_base.specs.Mech.{oid_of}
 use Rattle.krb_tokens.specs.declared.end.Side.TheVariants.{Acceptor}
 use Rattle.spnego_msgs.specs.declared.neg_state.NegState.{NegState}
-use Rattle.spnego_msgs.specs.declared.neg_state.NegState.TheVariants.{Completed, Incomplete, RequestMic}
+use Rattle.spnego_msgs.specs.declared.neg_state.NegState.TheVariants.{Completed, Incomplete}
+use Rattle.spnego_msgs.specs.declared.neg_state.NegState.TheVariants.{RequestMic}
 use Rattle.spnego_msgs.specs.declared.neg_init.NegInit.{NegInit}
 use Rattle.spnego_msgs.specs.declared.neg_resp.NegResp.{NegResp}
 use Rattle.scram_mech.specs.MechMaking.{MechMaking}
 use Rattle.spnego_core.specs.declared.outcome.Outcome.{Outcome}
 use Rattle.spnego_core.specs.declared.refusal.NegRefusal.{NegRefusal}
-use Rattle.spnego_core.specs.declared.refusal.NegRefusal.TheVariants.{Defective, Rejected, NoCommonMech, MicMissing, MicBad, Mech}
+use Rattle.spnego_core.specs.declared.refusal.NegRefusal.TheVariants.{Defective, Rejected}
+use Rattle.spnego_core.specs.declared.refusal.NegRefusal.TheVariants.{NoCommonMech, MicMissing}
+use Rattle.spnego_core.specs.declared.refusal.NegRefusal.TheVariants.{MicBad, Mech}
 use Rattle.spnego_core.specs.declared.refusal.MechRefusal.{MechRefusal}
 use Rattle.spnego_core.specs.declared.setup.AcceptSetup.{AcceptSetup}
 use Rattle.spnego_core.specs.declared.accept_mech.AcceptMech.{AcceptMech}
@@ -43,7 +47,8 @@ pub record Fixed : Type 0 where
   pub lasts : ℕ
   pub basis : Basis
 
--- a step that was taken. What is handed out goes with the step's token: where the step pauses, with that of the step that goes on
+-- a step that was taken. What is handed out goes with the step's token: where the step pauses, with
+-- that of the step that goes on
 pub record Accepted : Type 0 where
   pub step : AcceptStep
   pub makes : List MechMaking
@@ -59,30 +64,43 @@ step_of (Err refusal) = Err refusal
 
 -- what the reply says of the negotiation: the first one, then each later one
 abbrev pub state_said : Turn → Bool → Bool → NegState
-state_said First owes finished = if owes then RequestMic else if finished then Completed else Incomplete
-state_said Later owes finished = if owes then Incomplete else if finished then Completed else Incomplete
+state_said First owes finished =
+    if owes then RequestMic else if finished then Completed else Incomplete
+state_said Later owes finished =
+    if owes then Incomplete else if finished then Completed else Incomplete
 
 -- the first reply names the mechanism
 abbrev pub mech_said : Turn → MechKind → Option (List ℕ)
 mech_said First kind = Some (oid_of kind)
 mech_said Later kind = None
 
--- the reply: the turn, the mechanism, whether the MIC is due, whether the mechanism is done, its token, the own MIC
+-- the reply: the turn, the mechanism, whether the MIC is due, whether the mechanism is done, its
+-- token, the own MIC
 abbrev pub reply_with : Turn → MechKind → Bool → Bool → Option (List ℕ) → Option (List ℕ) → NegResp
 reply_with turn kind owes finished token mic =
-    record { state = Some (state_said turn owes finished); mech = mech_said turn kind; token = token; mic = mic }
+    record {
+      state = Some (state_said turn owes finished);
+      mech = mech_said turn kind;
+      token =
+          token;
+      mic = mic;
+    }
 
+-- the octets of that reply
 abbrev pub reply : Turn → MechKind → Bool → Bool → Option (List ℕ) → Option (List ℕ) → List ℕ
 reply turn kind owes finished token mic = resp_octets (reply_with turn kind owes finished token mic)
 
 -- ---- the mechanism
 
--- the mechanism is done: where the MIC is due, the own one goes with its last token, and the initiator's is owed
+-- the mechanism is done: where the MIC is due, the own one goes with its last token, and the
+-- initiator's is owed
 abbrev pub finished : Turn → Chosen → Outcome → ℕ → List ℕ → Answered
 finished turn chosen outcome lasts token =
     if chosen.due
-    then afters.More (ends.Owes (record { received = chosen.received; outcome = outcome; lasts = lasts }))
-    (reply turn chosen.kind true true (Some token) (Some (list_mic outcome Acceptor chosen.received)))
+    then afters.More
+    (ends.Owes (record { received = chosen.received; outcome = outcome; lasts = lasts }))
+    (reply turn chosen.kind true true (Some token)
+    (Some (list_mic outcome Acceptor chosen.received)))
     else afters.Done outcome lasts (reply turn chosen.kind false true (Some token) None)
 
 -- the step that follows once nothing is to be asked
@@ -99,14 +117,17 @@ going turn chosen mech token = steps.More
 -- the step by the mechanism's answer
 abbrev pub told : Turn → Chosen → AcceptAnswer → AcceptStep
 told turn chosen (answers.More mech token) = going turn chosen mech (Some token)
-told turn chosen (answers.Done outcome lasts token) = gone_on (finished turn chosen outcome lasts token)
+told turn chosen (answers.Done outcome lasts token) =
+    gone_on (finished turn chosen outcome lasts token)
 told turn chosen (answers.Pauses mark outcome lasts token) =
     steps.WantsAuth (record { mark = mark; after = finished turn chosen outcome lasts token })
 
 -- the own MIC is handed out with a last token where it is due
 abbrev pub mic_made : Chosen → Outcome → List MechMaking
-mic_made chosen outcome = if chosen.due then mic_making outcome Acceptor chosen.received ∷ [] else []
+mic_made chosen outcome =
+    if chosen.due then mic_making outcome Acceptor chosen.received ∷ [] else []
 
+-- what the end itself hands out with a mechanism's answer: its MIC, if the mechanism is done
 abbrev pub told_makes : Chosen → AcceptAnswer → List MechMaking
 told_makes chosen (answers.More mech token) = []
 told_makes chosen (answers.Done outcome lasts token) = mic_made chosen outcome
@@ -114,7 +135,13 @@ told_makes chosen (answers.Pauses mark outcome lasts token) = mic_made chosen ou
 
 -- what a finished mechanism fixes of the context
 abbrev pub fixed_with : List (List ℕ) → Built → Fixed
-fixed_with received built = record { received = received; outcome = built.outcome; lasts = built.lasts; basis = built.basis }
+fixed_with received built = record {
+  received = received;
+  outcome = built.outcome;
+  lasts =
+      built.lasts;
+  basis = built.basis;
+}
 
 -- the step by what the mechanism made of its token
 abbrev pub ran_with : Turn → Chosen → MechTaken → Accepted
@@ -139,19 +166,24 @@ begun setup list kind = record {
   mech = accept_begun kind;
 }
 
--- the mechanism's token in the first token is for the list's first: another mechanism passes it over
+-- the mechanism's token in the first token is for the list's first: another mechanism passes it
+-- over
 abbrev pub token_for : Bool → Option (List ℕ) → Option (List ℕ)
 token_for true token = token
 token_for false token = None
 
 -- the chosen mechanism takes its token, or waits for it
-abbrev pub started : AcceptSetup → ℕ → List ℕ → Running → Option (List ℕ) → Result Accepted NegRefusal
+abbrev pub started : AcceptSetup → ℕ → List ℕ → Running → Option (List ℕ)
+    → Result Accepted NegRefusal
 started setup now draws running None =
-    Ok (record { step = going First running.chosen running.mech None; makes = []; found = []; fixes = None })
-started setup now draws running (Some token) = run First running.chosen (accept_taken setup running.mech token now draws)
+    Ok (record
+    { step = going First running.chosen running.mech None; makes = []; found = []; fixes = None })
+started setup now draws running (Some token) =
+    run First running.chosen (accept_taken setup running.mech token now draws)
 
 -- what follows the choice
-abbrev pub chose : AcceptSetup → ℕ → List ℕ → List (List ℕ) → Option (List ℕ) → MechKind → Result Accepted NegRefusal
+abbrev pub chose : AcceptSetup → ℕ → List ℕ → List (List ℕ) → Option (List ℕ) → MechKind
+    → Result Accepted NegRefusal
 chose setup now draws list token kind =
     started setup now draws (begun setup list kind) (token_for (is_first_named list kind) token)
 
@@ -163,8 +195,10 @@ begins setup now draws init = do
 
 -- ---- later tokens
 
--- while the mechanism isn't done: the token of so many octets must have one for it, and a MIC is passed over
-unfoldable pub proceeds : AcceptSetup → ℕ → List ℕ → ℕ → Running → NegResp → Result Accepted NegRefusal
+-- while the mechanism isn't done: the token of so many octets must have one for it, and a MIC is
+-- passed over
+unfoldable pub proceeds : AcceptSetup → ℕ → List ℕ → ℕ → Running → NegResp
+    → Result Accepted NegRefusal
 proceeds setup now draws size running resp = do
   goes ← due Rejected (not (rejects resp.state))
   token ← or_refuse (Defective size) resp.token
@@ -188,9 +222,11 @@ closes owing resp = do
   Ok (settled owing mic)
 
 -- ---- the machine: setup, end, token, moment, draws
+-- what an acceptor makes of a token: the first, one for the mechanism, or one with the MIC
 abbrev pub accept_step : AcceptSetup → AcceptEnd → List ℕ → ℕ → List ℕ → Result Accepted NegRefusal
 accept_step setup ends.New token now draws = init_read token >>= begins setup now draws
-accept_step setup (ends.Runs running) token now draws = resp_read token >>= proceeds setup now draws (length token) running
+accept_step setup (ends.Runs running) token now draws =
+    resp_read token >>= proceeds setup now draws (length token) running
 accept_step setup (ends.Owes owing) token now draws = resp_read token >>= closes owing
 
 -- ---- what a pause shows

@@ -1,17 +1,20 @@
--- Which mechanism is chosen, and whether the list's MIC must come: RFC 4178 sections 4.2.2 and 5. Mechanisms are compared and never their
--- object identifiers, of which one may have several.
-use Rattle.std.specs.Prelude.{ℕ, Bool, true, false, not, ◌&&◌, if◌then◌else◌, List, [], ◌∷◌, Option, Some, None}
+-- Which mechanism is chosen, and whether the list's MIC must come: RFC 4178 sections 4.2.2 and 5.
+-- Mechanisms are compared and never their object identifiers, of which one may have several.
+use Rattle.std.specs.Prelude.{ℕ, Bool, true, false, not, ◌&&◌, if◌then◌else◌, List, [], ◌∷◌, Option}
+use Rattle.std.specs.Prelude.{Some, None}
 use Rattle.std.specs.List.{list_any}
 use Rattle.gss_base.specs.declared.mech.MechKind.{MechKind}
 use Rattle.gss_base.specs.declared.mech.MechKind.TheVariants.{Kerberos, Scram}
 use Rattle.gss_base.specs.Mech.{mech_of}
 
+-- both are the same mechanism
 abbrev pub same_kind : MechKind → MechKind → Bool
 same_kind Kerberos Kerberos = true
 same_kind Kerberos Scram = false
 same_kind Scram Kerberos = false
 same_kind Scram Scram = true
 
+-- the mechanism is one of these
 abbrev pub is_among : List MechKind → MechKind → Bool
 is_among kinds kind = list_any (λ other. same_kind other kind) kinds
 
@@ -35,6 +38,7 @@ abbrev pub offered : List MechKind → Option MechKind → Option MechKind
 offered offer None = None
 offered offer (Some kind) = if is_among offer kind then Some kind else None
 
+-- the first of both that is there
 abbrev pub or_next : Option MechKind → Option MechKind → Option MechKind
 or_next (Some kind) next = Some kind
 or_next None next = next

@@ -1,5 +1,6 @@
 -- What holds of an initiator over its steps.
-use Rattle.std.specs.Prelude.{◌≡◌, ◌⊎◌, ℕ, Bool, true, false, List, map, Option, Some, None, Result, Ok}
+use Rattle.std.specs.Prelude.{◌≡◌, ◌⊎◌, ℕ, Bool, true, false, List, map, Option, Some, None, Result}
+use Rattle.std.specs.Prelude.{Ok}
 use Rattle.gss_base.specs.declared.mech.MechKind.{MechKind}
 use Rattle.gss_base.specs.declared.mech.MechKind.TheVariants as kinds
 use Rattle.krb_tokens.specs.declared.done.MechDone.{MechDone}
@@ -10,7 +11,8 @@ use Rattle.ap_exchange.specs.Draws.{drawn_nonce}
 use Rattle.ap_exchange.specs.Request.{waiting, request_making}
 use Rattle.ap_exchange.specs.Reply.{reply_taken, reply_found}
 use Rattle.scram_mech.specs.MechMaking.{MechMaking, AmongMakings, typed}
-use Rattle.scram_mech.specs.Initiator.{InitModel, WaitModel, InitStarted, InitAnswered, InitFinished, init_started, init_answered, init_finished}
+use Rattle.scram_mech.specs.Initiator.{InitModel, WaitModel, InitStarted, InitAnswered}
+use Rattle.scram_mech.specs.Initiator.{InitFinished, init_started, init_answered, init_finished}
 use Rattle.spnego_core.specs.declared.outcome.Outcome.{Outcome}
 use Rattle.spnego_core.specs.declared.refusal.NegRefusal.{NegRefusal}
 use Rattle.spnego_core.specs.declared.setup.MechCred.TheVariants as creds
@@ -56,6 +58,7 @@ finished_of (ends.Opens opening) = None
 finished_of (ends.Talks talking) = None
 finished_of (ends.Signed signed) = Some signed.outcome
 
+-- the outcome of a mechanism that is done after the step
 abbrev pub finished_in : InitStep → Option Outcome
 finished_in (steps.More end token) = finished_of end
 finished_in (steps.Done outcome) = Some outcome
@@ -66,11 +69,13 @@ answering (mechs.Kerberos end) = None
 answering (mechs.Scram end) = Some end
 answering (mechs.Proof end) = None
 
+-- the same of an initiator's end
 abbrev pub answers_next : InitEnd → Option InitModel
 answers_next (ends.Opens opening) = answering opening.mech
 answers_next (ends.Talks talking) = answering talking.mech
 answers_next (ends.Signed signed) = None
 
+-- the same of the end after a step, where it goes on
 abbrev pub answers_in : InitStep → Option InitModel
 answers_in (steps.More end token) = answers_next end
 answers_in (steps.Done outcome) = None
@@ -101,32 +106,39 @@ pub record IsProved (own : InitSetup) (end : WaitModel) : Type 0 where
   pub answers : init_answered before text ≡ Ok answered
   pub waits : end ≡ answered.end
 
+-- a mechanism's state comes of the own setup: of its credential, stamp, draws and bindings
 abbrev pub IsMechOf : InitSetup → InitMech → Type 0
 IsMechOf own (mechs.Kerberos end) = IsWaiting own end
 IsMechOf own (mechs.Scram end) = IsFirstText own end
 IsMechOf own (mechs.Proof end) = IsProved own end
 
+-- the mechanism that runs, by its state at the initiator
 abbrev pub kind_of_mech : InitMech → MechKind
 kind_of_mech (mechs.Kerberos end) = kinds.Kerberos
 kind_of_mech (mechs.Scram end) = kinds.Scram
 kind_of_mech (mechs.Proof end) = kinds.Scram
 
--- the chosen mechanism is the own first choice, or the acceptor's MIC over the own list was verified: the list arrived as it was sent
+-- the chosen mechanism is the own first choice, or the acceptor's MIC over the own list was
+-- verified: the list arrived as it was sent
 abbrev pub Covered : InitSetup → MechKind → Bool → Type 0
 Covered own chosen listed = (is_first (kinds_of own.list) chosen ≡ true) ⊎ (listed ≡ true)
 
+-- an end that sent its first token: the own first mechanism runs
 pub record GoodOpening (opening : Opening) : Type 0 where
   pub mech : IsMechOf opening.own opening.mech
   pub first : is_first (kinds_of opening.own.list) (kind_of_mech opening.mech) ≡ true
 
+-- an end whose mechanism isn't done: the chosen one runs
 pub record GoodTalking (talking : Talking) : Type 0 where
   pub mech : IsMechOf talking.talk.own talking.mech
   pub chosen : kind_of_mech talking.mech ≡ talking.talk.chosen
 
+-- an end that sent its MIC: its outcome is by the chosen mechanism, and the choice is covered
 pub record GoodSigned (signed : Signed) : Type 0 where
   pub covered : Covered signed.talk.own signed.talk.chosen signed.listed
   pub chosen : signed.outcome.mech ≡ signed.talk.chosen
 
+-- an initiator's end is good, by what was done last
 abbrev pub GoodInit : InitEnd → Type 0
 GoodInit (ends.Opens opening) = GoodOpening opening
 GoodInit (ends.Talks talking) = GoodTalking talking
@@ -134,26 +146,32 @@ GoodInit (ends.Signed signed) = GoodSigned signed
 
 -- ---- what a step shows
 
--- the end that goes on keeps what it was begun with, is good, and knows what is chosen and whether the acceptor's MIC was verified
-pub record GoesOn (own : InitSetup) (chosen : Option MechKind) (listed : Bool) (end : InitEnd) : Type 0 where
+-- the end that goes on keeps what it was begun with, is good, and knows what is chosen and whether
+-- the acceptor's MIC was verified
+pub record GoesOn (own : InitSetup) (chosen : Option MechKind) (listed : Bool)
+    (end : InitEnd) : Type 0 where
   pub own_is : own_of end ≡ own
   pub good : GoodInit end
   pub chosen_is : chosen_of end ≡ chosen
   pub listed_is : listed_of end ≡ listed
 
+-- what an end that goes on after the step keeps and knows
 abbrev pub After : InitSetup → Option MechKind → Bool → InitStep → Type 0
 After own chosen listed (steps.More end token) = GoesOn own chosen listed end
 After own chosen listed (steps.Done outcome) = Unit {0}
 
 -- a request by the own credential of a mechanism that is chosen now
-pub record IsRequest (own : InitSetup) (chosen : Option MechKind) (making : MechMaking) : Type 0 where
-  pub credential : Granted
-  pub is_own : cred_for own.list kinds.Kerberos ≡ Some (creds.Kerberos credential)
-  pub made : making ≡ typed (request_making credential own.stamp own.draws own.bindings)
-  pub now : chosen ≡ Some kinds.Kerberos
+pub record IsRequest (own : InitSetup) (chosen : Option MechKind) (making : MechMaking) : Type 0
+  where
+    pub credential : Granted
+    pub is_own : cred_for own.list kinds.Kerberos ≡ Some (creds.Kerberos credential)
+    pub made : making ≡ typed (request_making credential own.stamp own.draws own.bindings)
+    pub now : chosen ≡ Some kinds.Kerberos
 
--- the proof of the own password, which is handed out once: by the end that answers the acceptor's first text
-pub record IsProof (own : InitSetup) (next : Option InitModel) (chosen : Option MechKind) (making : MechMaking) : Type 0 where
+-- the proof of the own password, which is handed out once: by the end that answers the acceptor's
+-- first text
+pub record IsProof (own : InitSetup) (next : Option InitModel) (chosen : Option MechKind)
+    (making : MechMaking) : Type 0 where
   pub end : InitModel
   pub was : next ≡ Some end
   pub first : IsFirstText own end
@@ -177,17 +195,20 @@ pub record ByReply (own : InitSetup) (found : List MechMaking) (outcome : Outcom
   pub waits : IsWaiting own end
   pub takes : reply_taken end token ≡ Ok made
   pub outcome_is : outcome ≡ outcome_of kinds.Kerberos made
-  pub verified : (making : MechMaking) → AmongMakings (map typed (reply_found end token)) making → AmongMakings found making
+  pub verified : (making : MechMaking) → AmongMakings (map typed (reply_found end token)) making
+      → AmongMakings found making
 
 -- the signature was taken, and what was found verified in it is among what the step found
-pub record BySignature (own : InitSetup) (found : List MechMaking) (outcome : Outcome) : Type 0 where
-  pub end : WaitModel
-  pub proved : IsProved own end
-  pub token : List ℕ
-  pub finished : InitFinished
-  pub takes : init_finished end token ≡ Ok finished
-  pub outcome_is : outcome ≡ outcome_of kinds.Scram finished.done
-  pub verified : (making : MechMaking) → AmongMakings finished.found making → AmongMakings found making
+pub record BySignature (own : InitSetup) (found : List MechMaking) (outcome : Outcome) : Type 0
+  where
+    pub end : WaitModel
+    pub proved : IsProved own end
+    pub token : List ℕ
+    pub finished : InitFinished
+    pub takes : init_finished end token ≡ Ok finished
+    pub outcome_is : outcome ≡ outcome_of kinds.Scram finished.done
+    pub verified : (making : MechMaking) → AmongMakings finished.found making
+        → AmongMakings found making
 
 -- the acceptor's MIC over the own list was verified in this step
 pub record SeesMic (own : InitSetup) (found : List MechMaking) (outcome : Outcome) : Type 0 where
@@ -195,34 +216,52 @@ pub record SeesMic (own : InitSetup) (found : List MechMaking) (outcome : Outcom
   pub right : is_list_mic outcome Initiator (own_list own) mic ≡ true
   pub verified : AmongMakings found (mic_found outcome Initiator (own_list own) mic)
 
+-- a mechanism is finished with this outcome in the step, by Kerberos's reply or SCRAM's signature
 abbrev pub IsFinish : InitSetup → List MechMaking → Outcome → Type 0
 IsFinish own found outcome = ByReply own found outcome ⊎ BySignature own found outcome
 
+-- what holds of a step that was taken from a good end
 pub record InitLaw (old : InitEnd) (taken : Initiated) : Type 0 where
   pub after : After (own_of old) taken.chosen taken.listed taken.step
-  -- what is handed out: a request by the own credential, the proof of the own password, or the MIC over the own list
+  -- what is handed out: a request by the own credential, the proof of the own password, or the MIC
+  -- over the own list
   pub made : (making : MechMaking) → AmongMakings taken.makes making
-      → IsRequest (own_of old) taken.chosen making ⊎ (IsProof (own_of old) (answers_next old) taken.chosen making ⊎ IsOwnMic (own_of old) taken.step making)
+      → IsRequest (own_of old) taken.chosen making ⊎ (IsProof (own_of old) (answers_next old)
+      taken.chosen making ⊎ IsOwnMic (own_of old) taken.step making)
   -- a mechanism is finished by a reply that it takes; it was then, or is now
   pub finishes : (outcome : Outcome) → finished_in taken.step ≡ Some outcome
       → (finished_of old ≡ Some outcome) ⊎ IsFinish (own_of old) taken.found outcome
-  -- once the acceptor chose, an end that doesn't answer a first text next never does: there is one proof
-  pub once : (kind : MechKind) → chosen_of old ≡ Some kind → answers_next old ≡ None → answers_in taken.step ≡ None
+  -- once the acceptor chose, an end that doesn't answer a first text next never does: there is one
+  -- proof
+  pub once : (kind : MechKind) → chosen_of old ≡ Some kind → answers_next old ≡ None
+      → answers_in taken.step ≡ None
   -- the acceptor's MIC is known as verified only where it was found so, then or now
-  pub sees : (outcome : Outcome) → finished_in taken.step ≡ Some outcome → taken.listed ≡ true → (listed_of old ≡ true) ⊎ SeesMic (own_of old) taken.found outcome
-  -- a finished mechanism is the chosen one, and a context on another than the own first choice stands only with the acceptor's MIC
-  pub chosen : (outcome : Outcome) → finished_in taken.step ≡ Some outcome → taken.chosen ≡ Some outcome.mech
-  pub covered : (outcome : Outcome) → taken.step ≡ steps.Done outcome → Covered (own_of old) outcome.mech taken.listed
+  pub sees : (outcome : Outcome) → finished_in taken.step ≡ Some outcome → taken.listed ≡ true
+      → (listed_of old ≡ true) ⊎ SeesMic (own_of old) taken.found outcome
+  -- a finished mechanism is the chosen one, and a context on another than the own first choice
+  -- stands only with the acceptor's MIC
+  pub chosen : (outcome : Outcome) → finished_in taken.step ≡ Some outcome
+      → taken.chosen ≡ Some outcome.mech
+  pub covered : (outcome : Outcome) → taken.step ≡ steps.Done outcome
+      → Covered (own_of old) outcome.mech taken.listed
   -- what is chosen or finished stays so
   pub turns : (kind : MechKind) → chosen_of old ≡ Some kind → taken.chosen ≡ Some kind
-  pub stays : (outcome : Outcome) → finished_of old ≡ Some outcome → finished_in taken.step ≡ Some outcome
+  pub stays : (outcome : Outcome) → finished_of old ≡ Some outcome
+      → finished_in taken.step ≡ Some outcome
 
+-- what holds of an end that sent its first token: it hands out no more than a request by the own
+-- credential
 pub record StartLaw (own : InitSetup) (started : Started) : Type 0 where
   pub own_is : own_of started.end ≡ own
   pub good : GoodInit started.end
   pub unchosen : chosen_of started.end ≡ None
-  pub made : (making : MechMaking) → AmongMakings started.makes making → (credential : Granted) × (cred_for own.list kinds.Kerberos ≡ Some (creds.Kerberos credential)) × (making ≡ typed (request_making credential own.stamp own.draws own.bindings))
+  pub made : (making : MechMaking) → AmongMakings started.makes making → (credential : Granted)
+      × (cred_for own.list kinds.Kerberos ≡ Some (creds.Kerberos credential))
+      × (making ≡ typed (request_making credential own.stamp own.draws own.bindings))
 
+-- the laws of each start, and of each step that the machine takes from a good end
 pub record InitLaws : Type 0 where
-  pub starts : (own : InitSetup) (started : Started) → init_start own ≡ Ok started → StartLaw own started
-  pub steps : (old : InitEnd) (token : List ℕ) (taken : Initiated) → GoodInit old → init_step old token ≡ Ok taken → InitLaw old taken
+  pub starts : (own : InitSetup) (started : Started) → init_start own ≡ Ok started
+      → StartLaw own started
+  pub steps : (old : InitEnd) (token : List ℕ) (taken : Initiated) → GoodInit old
+      → init_step old token ≡ Ok taken → InitLaw old taken

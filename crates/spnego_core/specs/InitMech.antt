@@ -1,5 +1,6 @@
 -- What a mechanism makes of a reply at the initiator, and how it begins.
-use Rattle.std.specs.Prelude.{ℕ, Bool, true, false, ◌&&◌, not, if◌then◌else◌, List, [], ◌∷◌, map, Option, Some, None, Result, Ok, Err}
+use Rattle.std.specs.Prelude.{ℕ, Bool, true, false, ◌&&◌, not, if◌then◌else◌, List, [], ◌∷◌, map}
+use Rattle.std.specs.Prelude.{Option, Some, None, Result, Ok, Err}
 use Rattle.std.specs.List.{list_any}
 use Rattle.gss_base.specs.declared.mech.MechKind.{MechKind}
 use Rattle.gss_base.specs.declared.mech.MechKind.TheVariants as kinds
@@ -11,7 +12,8 @@ use Rattle.ap_exchange.specs.Reply.{reply_taken, reply_found}
 use Rattle.ap_exchange.specs.Draws.{drawn_nonce}
 use Rattle.scram_mech.specs.declared.refusal.ScramRefusal.{ScramRefusal}
 use Rattle.scram_mech.specs.MechMaking.{MechMaking, typed}
-use Rattle.scram_mech.specs.Initiator.{InitStarted, InitAnswered, InitFinished, init_started, init_answered, init_finished}
+use Rattle.scram_mech.specs.Initiator.{InitStarted, InitAnswered, InitFinished, init_started}
+use Rattle.scram_mech.specs.Initiator.{init_answered, init_finished}
 use Rattle.spnego_core.specs.declared.outcome.Outcome.{Outcome}
 use Rattle.spnego_core.specs.declared.refusal.NegRefusal.{NegRefusal}
 use Rattle.spnego_core.specs.declared.refusal.NegRefusal.TheVariants.{Mech}
@@ -29,6 +31,7 @@ use Rattle.spnego_core.specs.Choice.{same_kind}
 
 -- ---- credentials
 
+-- the mechanism of a credential
 abbrev pub kind_of : MechCred → MechKind
 kind_of (creds.Kerberos credential) = kinds.Kerberos
 kind_of (creds.Scram user password) = kinds.Scram
@@ -51,7 +54,8 @@ is_own list kind = list_any (λ cred. same_kind (kind_of cred) kind) list
 -- the credential of a mechanism
 abbrev pub cred_for : List MechCred → MechKind → Option MechCred
 cred_for [] kind = None
-cred_for (cred ∷ rest) kind = if same_kind (kind_of cred) kind then Some cred else cred_for rest kind
+cred_for (cred ∷ rest) kind =
+    if same_kind (kind_of cred) kind then Some cred else cred_for rest kind
 
 -- ---- a mechanism begins
 
@@ -61,19 +65,26 @@ pub record MechBegun : Type 0 where
   pub token : List ℕ
   pub makes : List MechMaking
 
-abbrev pub request_begun : List MechMaking → Result (ApInit × List ℕ) ApRefusal → Result MechBegun MechRefusal
-request_begun makes (Ok sent) = Ok (record { mech = mechs.Kerberos sent.0; token = sent.1; makes = makes })
+-- Kerberos begins with its request
+abbrev pub request_begun : List MechMaking → Result (ApInit × List ℕ) ApRefusal
+    → Result MechBegun MechRefusal
+request_begun makes (Ok sent) =
+    Ok (record { mech = mechs.Kerberos sent.0; token = sent.1; makes = makes })
 request_begun makes (Err refusal) = Err (Ap refusal)
 
 -- SCRAM hands out nothing that was made with a key
 abbrev pub text_begun : Result InitStarted ScramRefusal → Result MechBegun MechRefusal
-text_begun (Ok started) = Ok (record { mech = mechs.Scram started.end; token = started.token; makes = [] })
+text_begun (Ok started) =
+    Ok (record { mech = mechs.Scram started.end; token = started.token; makes = [] })
 text_begun (Err refusal) = Err (Scram refusal)
 
+-- a mechanism begins, by its credential
 unfoldable pub init_begun : InitSetup → MechCred → Result MechBegun MechRefusal
 init_begun own (creds.Kerberos credential) =
-    request_begun (map typed (request_makes credential own.stamp own.draws own.bindings)) (request_of credential own.stamp own.draws own.bindings)
-init_begun own (creds.Scram user password) = text_begun (init_started user password (drawn_nonce own.draws) own.bindings)
+    request_begun (map typed (request_makes credential own.stamp own.draws own.bindings))
+    (request_of credential own.stamp own.draws own.bindings)
+init_begun own (creds.Scram user password) =
+    text_begun (init_started user password (drawn_nonce own.draws) own.bindings)
 
 -- the end and the token alone; a mechanism's refusal is the end's
 abbrev pub begun_with : Result MechBegun MechRefusal → Result (InitMech × List ℕ) NegRefusal
@@ -88,22 +99,29 @@ pub record MechReplied : Type 0 where
   pub makes : List MechMaking
   pub found : List MechMaking
 
-abbrev pub reply_answered : List MechMaking → Result MechDone ApRefusal → Result MechReplied MechRefusal
-reply_answered found (Ok made) = Ok (record { answer = Done (outcome_of kinds.Kerberos made); makes = []; found = found })
+-- Kerberos is done with the acceptor's reply
+abbrev pub reply_answered : List MechMaking → Result MechDone ApRefusal
+    → Result MechReplied MechRefusal
+reply_answered found (Ok made) =
+    Ok (record { answer = Done (outcome_of kinds.Kerberos made); makes = []; found = found })
 reply_answered found (Err refusal) = Err (Ap refusal)
 
 -- SCRAM answers the acceptor's first text with the proof
 abbrev pub text_answered : Result InitAnswered ScramRefusal → Result MechReplied MechRefusal
-text_answered (Ok answered) = Ok (record { answer = More (mechs.Proof answered.end) answered.token; makes = answered.makes; found = [] })
+text_answered (Ok answered) = Ok (record
+    { answer = More (mechs.Proof answered.end) answered.token; makes = answered.makes; found = [] })
 text_answered (Err refusal) = Err (Scram refusal)
 
 -- it is done with the signature
 abbrev pub final_answered : Result InitFinished ScramRefusal → Result MechReplied MechRefusal
-final_answered (Ok finished) = Ok (record { answer = Done (outcome_of kinds.Scram finished.done); makes = []; found = finished.found })
+final_answered (Ok finished) = Ok (record
+    { answer = Done (outcome_of kinds.Scram finished.done); makes = []; found = finished.found })
 final_answered (Err refusal) = Err (Scram refusal)
 
+-- what a mechanism makes of the acceptor's token, by its state
 unfoldable pub init_taken : InitMech → List ℕ → Result MechReplied MechRefusal
-init_taken (mechs.Kerberos end) token = reply_answered (map typed (reply_found end token)) (reply_taken end token)
+init_taken (mechs.Kerberos end) token =
+    reply_answered (map typed (reply_found end token)) (reply_taken end token)
 init_taken (mechs.Scram end) token = text_answered (init_answered end token)
 init_taken (mechs.Proof end) token = final_answered (init_finished end token)
 

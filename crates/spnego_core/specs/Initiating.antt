@@ -1,6 +1,8 @@
--- The initiator's machine, RFC 4178 sections 3.2, 4.2.2 and 5. Each part gives the step, which mechanism is chosen and whether the acceptor's MIC
--- over the own list was verified, what is handed out with the step's token, and what was found verified.
-use Rattle.std.specs.Prelude.{◌≡◌, ℕ, Bool, true, false, not, ◌||◌, if◌then◌else◌, List, [], ◌∷◌, ◌++◌, length, map, Option, Some, None, Result, Ok, Err}
+-- The initiator's machine, RFC 4178 sections 3.2, 4.2.2 and 5. Each part gives the step, which
+-- mechanism is chosen and whether the acceptor's MIC over the own list was verified, what is handed
+-- out with the step's token, and what was found verified.
+use Rattle.std.specs.Prelude.{◌≡◌, ℕ, Bool, true, false, not, ◌||◌, if◌then◌else◌, List, [], ◌∷◌}
+use Rattle.std.specs.Prelude.{◌++◌, length, map, Option, Some, None, Result, Ok, Err}
 use Rattle.gss_base.specs.declared.mech.MechKind.{MechKind}
 use Rattle.gss_base.specs.Mech.{oid_of, mech_of}
 use Rattle.krb_tokens.specs.declared.end.Side.TheVariants.{Initiator}
@@ -11,7 +13,9 @@ use Rattle.spnego_msgs.specs.declared.neg_resp.NegResp.{NegResp}
 use Rattle.scram_mech.specs.MechMaking.{MechMaking}
 use Rattle.spnego_core.specs.declared.outcome.Outcome.{Outcome}
 use Rattle.spnego_core.specs.declared.refusal.NegRefusal.{NegRefusal}
-use Rattle.spnego_core.specs.declared.refusal.NegRefusal.TheVariants.{Defective, Rejected, MechNotMine, MicMissing, MicBad, Mech}
+use Rattle.spnego_core.specs.declared.refusal.NegRefusal.TheVariants.{Defective, Rejected}
+use Rattle.spnego_core.specs.declared.refusal.NegRefusal.TheVariants.{MechNotMine, MicMissing}
+use Rattle.spnego_core.specs.declared.refusal.NegRefusal.TheVariants.{MicBad, Mech}
 use Rattle.spnego_core.specs.declared.refusal.MechRefusal.{MechRefusal}
 use Rattle.spnego_core.specs.declared.setup.MechCred.{MechCred}
 use Rattle.spnego_core.specs.declared.setup.InitSetup.{InitSetup}
@@ -27,10 +31,12 @@ use Rattle.spnego_core.specs.declared.init_end.InitEnd.TheVariants as ends
 use Rattle.spnego_core.specs.declared.init_end.InitStep.{InitStep}
 use Rattle.spnego_core.specs.declared.init_end.InitStep.TheVariants as steps
 use Rattle.spnego_core.specs.Steps.{◌>>=◌, due, or_refuse}
-use Rattle.spnego_core.specs.Tokens.{init_octets, resp_read, last_read, resp_octets, rejects, says_completed, asks_mic}
+use Rattle.spnego_core.specs.Tokens.{init_octets, resp_read, last_read, resp_octets, rejects}
+use Rattle.spnego_core.specs.Tokens.{says_completed, asks_mic}
 use Rattle.spnego_core.specs.ListMic.{list_mic, is_list_mic, mic_making, mic_found}
 use Rattle.spnego_core.specs.Choice.{is_first, is_kind}
-use Rattle.spnego_core.specs.InitMech.{kind_of, kinds_of, is_own, cred_for, MechBegun, init_begun, MechReplied, init_taken}
+use Rattle.spnego_core.specs.InitMech.{kind_of, kinds_of, is_own, cred_for, MechBegun, init_begun}
+use Rattle.spnego_core.specs.InitMech.{MechReplied, init_taken}
 
 -- a step that was taken
 pub record Initiated : Type 0 where
@@ -46,7 +52,8 @@ step_of (Ok taken) = Ok taken.step
 step_of (Err refusal) = Err refusal
 
 -- the same step behind what was handed out and found before
-abbrev pub behind : List MechMaking → List MechMaking → Result Initiated NegRefusal → Result Initiated NegRefusal
+abbrev pub behind : List MechMaking → List MechMaking → Result Initiated NegRefusal
+    → Result Initiated NegRefusal
 behind makes found (Err refusal) = Err refusal
 behind makes found (Ok taken) = Ok (record {
   step = taken.step;
@@ -79,6 +86,7 @@ abbrev pub sent_of : Result Started NegRefusal → Result (InitEnd × List ℕ) 
 sent_of (Ok started) = Ok (started.end, started.token)
 sent_of (Err refusal) = Err refusal
 
+-- the first token by how its mechanism began; the mechanism's refusal is the end's
 abbrev pub opens : InitSetup → Result MechBegun MechRefusal → Result Started NegRefusal
 opens own (Err refusal) = Err (Mech refusal)
 opens own (Ok begun) = Ok (record {
@@ -92,6 +100,7 @@ abbrev pub starts : InitSetup → List MechCred → Result Started NegRefusal
 starts own [] = Err MechNotMine
 starts own (first ∷ rest) = opens own (init_begun own first)
 
+-- an initiator begins, with the first mechanism of its list (RFC 4178 sections 3.2 and 4.2.1)
 abbrev pub init_start : InitSetup → Result Started NegRefusal
 init_start own = starts own own.list
 
@@ -105,15 +114,25 @@ token_sent token = record { state = None; mech = None; token = Some token; mic =
 abbrev pub mic_sent : List ℕ → NegResp
 mic_sent mic = record { state = Some Completed; mech = None; token = None; mic = Some mic }
 
+-- the initiator's MIC over its own list
 abbrev pub own_mic : Talk → Outcome → List ℕ
 own_mic talk outcome = list_mic outcome Initiator (own_list talk.own)
 
--- the end of a mechanism that is done: where all is complete, the outcome, else the own MIC is sent, once
+-- the end of a mechanism that is done: where all is complete, the outcome, else the own MIC is
+-- sent, once
 abbrev pub ended : Talk → Outcome → Bool → Bool → Initiated
 ended talk outcome listed true =
-    record { step = steps.Done outcome; chosen = Some talk.chosen; listed = listed; makes = []; found = [] }
+    record {
+      step = steps.Done outcome;
+      chosen = Some talk.chosen;
+      listed = listed;
+      makes =
+          [];
+      found = [];
+    }
 ended talk outcome listed false = record {
-  step = steps.More (ends.Signed (record { talk = talk; outcome = outcome; listed = listed })) (resp_octets (mic_sent (own_mic talk outcome)));
+  step = steps.More (ends.Signed (record { talk = talk; outcome = outcome; listed = listed }))
+      (resp_octets (mic_sent (own_mic talk outcome)));
   chosen = Some talk.chosen;
   listed = listed;
   makes = mic_making outcome Initiator (own_list talk.own) ∷ [];
@@ -122,11 +141,13 @@ ended talk outcome listed false = record {
 
 -- ---- the MIC
 
--- the acceptor's MIC must come where the chosen mechanism isn't the own first choice, or where the acceptor asked for MICs
+-- the acceptor's MIC must come where the chosen mechanism isn't the own first choice, or where the
+-- acceptor asked for MICs
 abbrev pub is_mic_owed : Talk → Bool
 is_mic_owed talk = not (is_first (kinds_of talk.own.list) talk.chosen) || talk.asked
 
--- whether all is complete by the reply that finishes the mechanism; a state that isn't said is accept-incomplete where a MIC is there
+-- whether all is complete by the reply that finishes the mechanism; a state that isn't said is
+-- accept-incomplete where a MIC is there
 abbrev pub completes_now : Option NegState → Bool → Bool
 completes_now None signed = not signed
 completes_now (Some state) signed = says_completed (Some state)
@@ -138,19 +159,24 @@ completes_later (Some state) = says_completed (Some state)
 
 -- the reply that finishes the mechanism, by its MIC
 abbrev pub looks : Talk → Outcome → Option NegState → Option (List ℕ) → Result Initiated NegRefusal
-looks talk outcome state None = if is_mic_owed talk then Err MicMissing else Ok (ended talk outcome false (completes_now state false))
+looks talk outcome state None = if is_mic_owed talk then Err MicMissing
+    else Ok (ended talk outcome false (completes_now state false))
 looks talk outcome state (Some mic) =
     if is_list_mic outcome Initiator (own_list talk.own) mic
-    then behind [] (mic_found outcome Initiator (own_list talk.own) mic ∷ []) (Ok (ended talk outcome true (completes_now state true)))
+    then behind [] (mic_found outcome Initiator (own_list talk.own) mic ∷ [])
+    (Ok (ended talk outcome true (completes_now state true)))
     else Err MicBad
 
 -- ---- the mechanism
 
--- the step by the mechanism's answer: a further token may not come where all is complete, and a MIC beside it is passed over
-abbrev pub told : Talk → Option NegState → Option (List ℕ) → InitAnswer → Result Initiated NegRefusal
+-- the step by the mechanism's answer: a further token may not come where all is complete, and a MIC
+-- beside it is passed over
+abbrev pub told : Talk → Option NegState → Option (List ℕ) → InitAnswer
+    → Result Initiated NegRefusal
 told talk state mic (answers.More mech token) =
     if says_completed state then Err (Defective 0) else Ok (record {
-      step = steps.More (ends.Talks (record { talk = talk; mech = mech })) (resp_octets (token_sent token));
+      step = steps.More (ends.Talks (record { talk = talk; mech = mech }))
+          (resp_octets (token_sent token));
       chosen = Some talk.chosen;
       listed = false;
       makes = [];
@@ -158,13 +184,16 @@ told talk state mic (answers.More mech token) =
     })
 told talk state mic (answers.Done outcome) = looks talk outcome state mic
 
--- the step by what the mechanism made of its token; its refusal is the end's, and comes before what the state says
-abbrev pub ran : Talk → Option NegState → Option (List ℕ) → Result MechReplied MechRefusal → Result Initiated NegRefusal
+-- the step by what the mechanism made of its token; its refusal is the end's, and comes before what
+-- the state says
+abbrev pub ran : Talk → Option NegState → Option (List ℕ) → Result MechReplied MechRefusal
+    → Result Initiated NegRefusal
 ran talk state mic (Err refusal) = Err (Mech refusal)
 ran talk state mic (Ok taken) = behind taken.makes taken.found (told talk state mic taken.answer)
 
 -- the reply of so many octets must have a token for the mechanism
-unfoldable pub run : ℕ → Talk → InitMech → Option NegState → Option (List ℕ) → Option (List ℕ) → Result Initiated NegRefusal
+unfoldable pub run : ℕ → Talk → InitMech → Option NegState → Option (List ℕ) → Option (List ℕ)
+    → Result Initiated NegRefusal
 run size talk mech state None mic = Err (Defective size)
 run size talk mech state (Some token) mic = ran talk state mic (init_taken mech token)
 
@@ -174,7 +203,8 @@ run size talk mech state (Some token) mic = ran talk state mic (init_taken mech 
 abbrev pub switched : Talk → Result MechBegun MechRefusal → Result Initiated NegRefusal
 switched talk (Err refusal) = Err (Mech refusal)
 switched talk (Ok begun) = Ok (record {
-  step = steps.More (ends.Talks (record { talk = talk; mech = begun.mech })) (resp_octets (token_sent begun.token));
+  step = steps.More (ends.Talks (record { talk = talk; mech = begun.mech }))
+      (resp_octets (token_sent begun.token));
   chosen = Some talk.chosen;
   listed = false;
   makes = begun.makes;
@@ -189,14 +219,16 @@ begins_other talk (Some cred) = switched talk (init_begun talk.own cred)
 -- there can be no token of it yet, and nothing can be complete
 abbrev pub switches : Talk → Option NegState → Option (List ℕ) → Result Initiated NegRefusal
 switches talk state (Some token) = Err (Defective 0)
-switches talk state None = if says_completed state then Err (Defective 0) else begins_other talk (cred_for talk.own.list talk.chosen)
+switches talk state None = if says_completed state then Err (Defective 0)
+    else begins_other talk (cred_for talk.own.list talk.chosen)
 
 -- the talk as the first reply begins it
 abbrev pub talk_with : InitSetup → MechKind → Option NegState → Talk
 talk_with own kind state = record { own = own; chosen = kind; asked = asks_mic state }
 
 -- the acceptor chose this mechanism
-unfoldable pub picks : ℕ → Opening → MechKind → Option NegState → Option (List ℕ) → Option (List ℕ) → Result Initiated NegRefusal
+unfoldable pub picks : ℕ → Opening → MechKind → Option NegState → Option (List ℕ) → Option (List ℕ)
+    → Result Initiated NegRefusal
 picks size opening kind state token mic =
     if is_first (kinds_of opening.own.list) kind
     then run size (talk_with opening.own kind state) opening.mech state token mic
@@ -207,7 +239,8 @@ abbrev pub own_kind : List MechCred → Option MechKind → Option MechKind
 own_kind list None = None
 own_kind list (Some kind) = if is_own list kind then Some kind else None
 
--- the first reply, of so many octets, must have a state and a mechanism, which is one of the own list
+-- the first reply, of so many octets, must have a state and a mechanism, which is one of the own
+-- list
 unfoldable pub opened : ℕ → Opening → NegResp → Result Initiated NegRefusal
 opened size opening resp = do
   goes ← due Rejected (not (rejects resp.state))
@@ -225,7 +258,8 @@ is_chosen kind (Some oid) = is_kind (mech_of oid) kind
 
 -- the talk behind a further reply
 abbrev pub talk_after : Talk → Option NegState → Talk
-talk_after talk state = record { own = talk.own; chosen = talk.chosen; asked = talk.asked || asks_mic state }
+talk_after talk state =
+    record { own = talk.own; chosen = talk.chosen; asked = talk.asked || asks_mic state }
 
 -- while the mechanism isn't done
 unfoldable pub talked : ℕ → Talking → NegResp → Result Initiated NegRefusal
@@ -237,7 +271,14 @@ talked size talking resp = do
 -- all is complete, or a second token would be due
 abbrev pub settles : Signed → Bool → Bool → Result Initiated NegRefusal
 settles signed listed true =
-    Ok (record { step = steps.Done signed.outcome; chosen = Some signed.talk.chosen; listed = listed; makes = []; found = [] })
+    Ok (record {
+      step = steps.Done signed.outcome;
+      chosen = Some signed.talk.chosen;
+      listed =
+          listed;
+      makes = [];
+      found = [];
+    })
 settles signed listed false = Err (Defective 0)
 
 -- the reply to the own MIC, by its MIC
@@ -245,7 +286,8 @@ abbrev pub looks_again : Signed → Option NegState → Option (List ℕ) → Re
 looks_again signed state None = settles signed signed.listed (completes_later state)
 looks_again signed state (Some mic) =
     if is_list_mic signed.outcome Initiator (own_list signed.talk.own) mic
-    then behind [] (mic_found signed.outcome Initiator (own_list signed.talk.own) mic ∷ []) (settles signed true (completes_later state))
+    then behind [] (mic_found signed.outcome Initiator (own_list signed.talk.own) mic ∷ [])
+    (settles signed true (completes_later state))
     else Err MicBad
 
 -- once the own MIC was sent
@@ -256,6 +298,7 @@ closed signed resp = do
   looks_again signed resp.state resp.mic
 
 -- ---- the machine: end, token
+-- what an initiator makes of a token: the first reply, a later one, or the one to its MIC
 abbrev pub init_step : InitEnd → List ℕ → Result Initiated NegRefusal
 init_step (ends.Opens opening) token = resp_read token >>= opened (length token) opening
 init_step (ends.Talks talking) token = resp_read token >>= talked (length token) talking

@@ -12,3 +12,4 @@ pub mod AcceptLaws
 pub mod Sizes
 pub mod PairLaws
 pub mod Exchange
+pub mod Numbers

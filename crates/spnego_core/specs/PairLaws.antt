@@ -1,4 +1,5 @@
--- An honest pair: an initiator with a Kerberos credential, and an acceptor that offers Kerberos, alone or beside others, in any order.
+-- An honest pair: an initiator with a Kerberos credential, and an acceptor that offers Kerberos,
+-- alone or beside others, in any order.
 use Rattle.std.specs.Prelude.{◌≡◌, ℕ, true, false, List, [], ◌∷◌, length, Option, Some, None, Ok}
 use Rattle.gss_base.specs.declared.mech.MechKind.TheVariants.{Kerberos}
 use Rattle.krb_tokens.specs.declared.end.Side.TheVariants.{Initiator, Acceptor}
@@ -33,10 +34,17 @@ use Rattle.spnego_core.specs.Initiating as initiating
 -- the setup of an initiator with this credential alone
 abbrev pub setup_with : Granted → ℕ → List ℕ → Option (List ℕ) → InitSetup
 setup_with credential stamp draws bindings =
-    record { list = creds.Kerberos credential ∷ []; bindings = bindings; stamp = stamp; draws = draws }
+    record {
+      list = creds.Kerberos credential ∷ [];
+      bindings = bindings;
+      stamp = stamp;
+      draws =
+          draws;
+    }
 
 -- the facts of the pair fit, the acceptor offers Kerberos, and all that both write has a spelling
-pub record Pair (setup : AcceptSetup) (now : ℕ) (drawn : List ℕ) (credential : Granted) (stamp : ℕ) (draws : List ℕ) (bindings : Option (List ℕ)) : Type 0 where
+pub record Pair (setup : AcceptSetup) (now : ℕ) (drawn : List ℕ) (credential : Granted) (stamp : ℕ)
+    (draws : List ℕ) (bindings : Option (List ℕ)) : Type 0 where
   pub fit : Fits setup.keytab setup.own now setup.bindings credential stamp bindings
   pub offers : is_among setup.offer Kerberos ≡ true
   pub draws_long : length draws ≡ 66
@@ -47,7 +55,8 @@ pub record Pair (setup : AcceptSetup) (now : ℕ) (drawn : List ℕ) (credential
 -- the octets that the initiator begins with
 abbrev pub first_token : Granted → ℕ → List ℕ → Option (List ℕ) → List ℕ
 first_token credential stamp draws bindings =
-    init_octets (initiating.first_sent (setup_with credential stamp draws bindings) (request_token credential stamp draws bindings))
+    init_octets (initiating.first_sent (setup_with credential stamp draws bindings)
+    (request_token credential stamp draws bindings))
 
 -- its end behind them
 abbrev pub opening_end : Granted → ℕ → List ℕ → Option (List ℕ) → InitEnd
@@ -62,25 +71,33 @@ pair_outcome j drawn = outcome_of Kerberos (answer_done j drawn)
 
 -- the acceptor's answer, without the MIC of the list or with it
 abbrev pub plain_reply : Judged → List ℕ → NegResp
-plain_reply j drawn = accepting.reply_with First Kerberos false true (Some (answer_token j drawn)) None
+plain_reply j drawn =
+    accepting.reply_with First Kerberos false true (Some (answer_token j drawn)) None
 
+-- the same with the MIC of the list, after which the initiator's is due
 abbrev pub signed_reply : Judged → List ℕ → List (List ℕ) → NegResp
 signed_reply j drawn list =
-    accepting.reply_with First Kerberos true true (Some (answer_token j drawn)) (Some (list_mic (pair_outcome j drawn) Acceptor list))
+    accepting.reply_with First Kerberos true true (Some (answer_token j drawn))
+    (Some (list_mic (pair_outcome j drawn) Acceptor list))
 
 -- both are done with the acceptor's one answer
-pub record DoneAtOnce (setup : AcceptSetup) (now : ℕ) (drawn : List ℕ) (end : InitEnd) (token : List ℕ) (outcome : Outcome) : Type 0 where
+pub record DoneAtOnce (setup : AcceptSetup) (now : ℕ) (drawn : List ℕ) (end : InitEnd)
+    (token : List ℕ) (outcome : Outcome) : Type 0 where
   pub pause : AcceptPause
-  pub asks : accepting.step_of (accepting.accept_step setup accepts.New token now drawn) ≡ Ok (accepted.WantsAuth pause)
+  pub asks : accepting.step_of (accepting.accept_step setup accepts.New token now drawn)
+      ≡ Ok (accepted.WantsAuth pause)
   pub lasts : ℕ
   pub reply : List ℕ
   pub goes_on : accepting.step_after pause ≡ accepted.Done outcome lasts reply
   pub takes : initiating.step_of (initiating.init_step end reply) ≡ Ok (initiated.Done outcome)
 
--- both are done after each has verified the other's MIC of the list; the acceptor's last token is empty
-pub record DoneAfterMics (setup : AcceptSetup) (now : ℕ) (drawn : List ℕ) (end : InitEnd) (token : List ℕ) (outcome : Outcome) : Type 0 where
+-- both are done after each has verified the other's MIC of the list; the acceptor's last token is
+-- empty
+pub record DoneAfterMics (setup : AcceptSetup) (now : ℕ) (drawn : List ℕ) (end : InitEnd)
+    (token : List ℕ) (outcome : Outcome) : Type 0 where
   pub pause : AcceptPause
-  pub asks : accepting.step_of (accepting.accept_step setup accepts.New token now drawn) ≡ Ok (accepted.WantsAuth pause)
+  pub asks : accepting.step_of (accepting.accept_step setup accepts.New token now drawn)
+      ≡ Ok (accepted.WantsAuth pause)
   pub owing : AcceptEnd
   pub reply : List ℕ
   pub goes_on : accepting.step_after pause ≡ accepted.More owing reply
@@ -88,24 +105,43 @@ pub record DoneAfterMics (setup : AcceptSetup) (now : ℕ) (drawn : List ℕ) (e
   pub mic : List ℕ
   pub takes : initiating.step_of (initiating.init_step end reply) ≡ Ok (initiated.More signed mic)
   pub lasts : ℕ
-  pub closes : (later : ℕ) (others : List ℕ) → accepting.step_of (accepting.accept_step setup owing mic later others) ≡ Ok (accepted.Done outcome lasts [])
+  pub closes : (later : ℕ) (others : List ℕ) → accepting.step_of
+      (accepting.accept_step setup owing mic later others) ≡ Ok (accepted.Done outcome lasts [])
   pub ends : initiating.step_of (initiating.init_step signed []) ≡ Ok (initiated.Done outcome)
 
+-- an honest pair by Kerberos begins, and both complete with one outcome
 pub record PairLaws : Type 0 where
   -- the initiator begins
-  pub begins : (setup : AcceptSetup) (now : ℕ) (drawn : List ℕ) (credential : Granted) (stamp : ℕ) (draws : List ℕ) (bindings : Option (List ℕ))
+  pub begins : (setup : AcceptSetup) (now : ℕ) (drawn : List ℕ) (credential : Granted) (stamp : ℕ)
+      (draws : List ℕ) (bindings : Option (List ℕ))
       → Pair setup now drawn credential stamp draws bindings
-      → initiating.sent_of (initiating.init_start (setup_with credential stamp draws bindings)) ≡ Ok (opening_end credential stamp draws bindings, first_token credential stamp draws bindings)
-  -- where Kerberos is the acceptor's first choice too, its one answer completes both, with one outcome
-  pub at_once : (setup : AcceptSetup) (now : ℕ) (drawn : List ℕ) (credential : Granted) (stamp : ℕ) (draws : List ℕ) (bindings : Option (List ℕ))
-      → (pair : Pair setup now drawn credential stamp draws bindings) → is_first setup.offer Kerberos ≡ true
-      → neg_init.fits (initiating.first_sent (setup_with credential stamp draws bindings) (request_token credential stamp draws bindings)) ≡ true
-      → neg_resp.fits (plain_reply (honest_judged credential stamp bindings pair.fit.part) drawn) ≡ true
-      → DoneAtOnce setup now drawn (opening_end credential stamp draws bindings) (first_token credential stamp draws bindings) (pair_outcome (honest_judged credential stamp bindings pair.fit.part) drawn)
+      → initiating.sent_of (initiating.init_start (setup_with credential stamp draws bindings)) ≡ Ok
+      (opening_end credential stamp draws bindings, first_token credential stamp draws bindings)
+  -- where Kerberos is the acceptor's first choice too, its one answer completes both, with one
+  -- outcome
+  pub at_once : (setup : AcceptSetup) (now : ℕ) (drawn : List ℕ) (credential : Granted) (stamp : ℕ)
+      (draws : List ℕ) (bindings : Option (List ℕ))
+      → (pair : Pair setup now drawn credential stamp draws bindings)
+      → is_first setup.offer Kerberos ≡ true
+      → neg_init.fits (initiating.first_sent (setup_with credential stamp draws bindings)
+      (request_token credential stamp draws bindings)) ≡ true
+      → neg_resp.fits (plain_reply (honest_judged credential stamp bindings pair.fit.part) drawn)
+      ≡ true
+      → DoneAtOnce setup now drawn
+      (opening_end credential stamp draws bindings) (first_token credential stamp draws bindings)
+      (pair_outcome (honest_judged credential stamp bindings pair.fit.part) drawn)
   -- where it isn't, both complete with one outcome after the MICs of the list
-  pub after_mics : (setup : AcceptSetup) (now : ℕ) (drawn : List ℕ) (credential : Granted) (stamp : ℕ) (draws : List ℕ) (bindings : Option (List ℕ))
-      → (pair : Pair setup now drawn credential stamp draws bindings) → is_first setup.offer Kerberos ≡ false
-      → neg_init.fits (initiating.first_sent (setup_with credential stamp draws bindings) (request_token credential stamp draws bindings)) ≡ true
-      → neg_resp.fits (signed_reply (honest_judged credential stamp bindings pair.fit.part) drawn (initiating.own_list (setup_with credential stamp draws bindings))) ≡ true
-      → neg_resp.fits (initiating.mic_sent (list_mic (pair_outcome (honest_judged credential stamp bindings pair.fit.part) drawn) Initiator (initiating.own_list (setup_with credential stamp draws bindings)))) ≡ true
-      → DoneAfterMics setup now drawn (opening_end credential stamp draws bindings) (first_token credential stamp draws bindings) (pair_outcome (honest_judged credential stamp bindings pair.fit.part) drawn)
+  pub after_mics : (setup : AcceptSetup) (now : ℕ) (drawn : List ℕ) (credential : Granted)
+      (stamp : ℕ) (draws : List ℕ) (bindings : Option (List ℕ))
+      → (pair : Pair setup now drawn credential stamp draws bindings)
+      → is_first setup.offer Kerberos ≡ false
+      → neg_init.fits (initiating.first_sent (setup_with credential stamp draws bindings)
+      (request_token credential stamp draws bindings)) ≡ true
+      → neg_resp.fits (signed_reply (honest_judged credential stamp bindings pair.fit.part) drawn
+      (initiating.own_list (setup_with credential stamp draws bindings))) ≡ true
+      → neg_resp.fits (initiating.mic_sent
+      (list_mic (pair_outcome (honest_judged credential stamp bindings pair.fit.part) drawn)
+      Initiator (initiating.own_list (setup_with credential stamp draws bindings)))) ≡ true
+      → DoneAfterMics setup now drawn
+      (opening_end credential stamp draws bindings) (first_token credential stamp draws bindings)
+      (pair_outcome (honest_judged credential stamp bindings pair.fit.part) drawn)

@@ -11,9 +11,11 @@ use Rattle.spnego_core.specs.declared.init_mech.InitAnswer.TheVariants as answer
 use Rattle.spnego_core.specs.declared.init_end.InitStep.{InitStep}
 use Rattle.spnego_core.specs.declared.init_end.InitStep.TheVariants as turns
 
+-- the token has at most 65,536 octets
 abbrev pub IsShort : List ℕ → Type 0
 IsShort token = length token ≤ 65536
 
+-- the token of an acceptor's step is short once nothing is to be asked
 abbrev pub ShortAnswered : Answered → Type 0
 ShortAnswered (afters.More end token) = IsShort token
 ShortAnswered (afters.Done outcome lasts token) = IsShort token
@@ -24,6 +26,7 @@ ShortAccept (steps.More end token) = IsShort token
 ShortAccept (steps.Done outcome lasts token) = IsShort token
 ShortAccept (steps.WantsAuth pause) = ShortAnswered pause.after
 
+-- the token of an initiator's step is short, where it has one
 abbrev pub ShortInit : InitStep → Type 0
 ShortInit (turns.More end token) = IsShort token
 ShortInit (turns.Done outcome) = Unit {0}
@@ -36,10 +39,12 @@ FitsBeside token = length token ≤ 61040
 abbrev pub IsMicSized : List ℕ → Type 0
 IsMicSized mic = length mic ≤ 28
 
+-- a mechanism's token at the initiator leaves that room, where it has one
 abbrev pub ShortAnswer : InitAnswer → Type 0
 ShortAnswer (answers.More mech token) = FitsBeside token
 ShortAnswer (answers.Done outcome) = Unit {0}
 
+-- a mechanism's token at the acceptor leaves that room
 abbrev pub ShortTold : AcceptAnswer → Type 0
 ShortTold (tellings.More mech token) = FitsBeside token
 ShortTold (tellings.Done outcome lasts token) = FitsBeside token

@@ -4,7 +4,9 @@ use Rattle.spnego_core.specs.declared.refusal.NegRefusal.{NegRefusal}
 
 -- the steps that follow, unless this one refuses
 infixl 10 ◌>>=◌
-abbrev pub ◌>>=◌ : {A B : Type 0} → Result A NegRefusal → (A → Result B NegRefusal) → Result B NegRefusal
+-- the first step that refuses decides
+abbrev pub ◌>>=◌ : {A B : Type 0} → Result A NegRefusal → (A → Result B NegRefusal)
+    → Result B NegRefusal
 (Ok x) >>= next = next x
 (Err refusal) >>= next = Err refusal
 

@@ -1,9 +1,11 @@
 -- The tokens of a negotiation as an end reads and writes them, RFC 4178 section 4.2.
-use Rattle.std.specs.Prelude.{ℕ, Bool, true, false, List, [], ◌∷◌, Option, Some, None, Result, Ok, Err}
+use Rattle.std.specs.Prelude.{ℕ, Bool, true, false, List, [], ◌∷◌, Option, Some, None, Result, Ok}
+use Rattle.std.specs.Prelude.{Err}
 use Rattle.der_core.specs.declared.refusal.DerRefusal.{DerRefusal}
 use Rattle.der_core.specs.Format.{all_of}
 use Rattle.spnego_msgs.specs.declared.neg_state.NegState.{NegState}
-use Rattle.spnego_msgs.specs.declared.neg_state.NegState.TheVariants.{Completed, Incomplete, Reject, RequestMic}
+use Rattle.spnego_msgs.specs.declared.neg_state.NegState.TheVariants.{Completed, Incomplete, Reject}
+use Rattle.spnego_msgs.specs.declared.neg_state.NegState.TheVariants.{RequestMic}
 use Rattle.spnego_msgs.specs.declared.neg_init.NegInit.{NegInit}
 use Rattle.spnego_msgs.specs.declared.neg_resp.NegResp.{NegResp}
 use Rattle.spnego_msgs.specs.NegInit.{neg_init}
@@ -16,15 +18,19 @@ abbrev pub said_in : {A : Type 0} → Result A DerRefusal → Result A NegRefusa
 said_in (Ok v) = Ok v
 said_in (Err refusal) = Err (Defective refusal.at)
 
+-- the initiator's first token, which is a NegTokenInit (RFC 4178 section 4.2.1)
 unfoldable pub init_read : List ℕ → Result NegInit NegRefusal
 init_read token = said_in (neg_init.read (all_of token))
 
+-- any later token, which is a NegTokenResp (RFC 4178 section 4.2.2)
 unfoldable pub resp_read : List ℕ → Result NegResp NegRefusal
 resp_read token = said_in (neg_resp.read (all_of token))
 
+-- the octets of an initiator's first token
 unfoldable pub init_octets : NegInit → List ℕ
 init_octets init = neg_init.spell init
 
+-- the octets of a later token
 unfoldable pub resp_octets : NegResp → List ℕ
 resp_octets resp = neg_resp.spell resp
 
@@ -32,23 +38,27 @@ resp_octets resp = neg_resp.spell resp
 abbrev pub completes : NegResp
 completes = record { state = Some Completed; mech = None; token = None; mic = None }
 
--- the reply to an own MIC: an empty token, as where the layer above has none to carry, says that all is complete
+-- the reply to an own MIC: an empty token, as where the layer above has none to carry, says that
+-- all is complete
 abbrev pub last_read : List ℕ → Result NegResp NegRefusal
 last_read [] = Ok completes
 last_read (octet ∷ octets) = resp_read (octet ∷ octets)
 
+-- the state is reject (RFC 4178 section 4.2.2)
 abbrev pub is_state_reject : NegState → Bool
 is_state_reject Completed = false
 is_state_reject Incomplete = false
 is_state_reject Reject = true
 is_state_reject RequestMic = false
 
+-- the state is accept-completed
 abbrev pub is_state_completed : NegState → Bool
 is_state_completed Completed = true
 is_state_completed Incomplete = false
 is_state_completed Reject = false
 is_state_completed RequestMic = false
 
+-- the state is request-mic
 abbrev pub is_state_request : NegState → Bool
 is_state_request Completed = false
 is_state_request Incomplete = false

@@ -10,14 +10,14 @@ use gss_base::{Mark, MechKind};
 use sec_base::{Items, Moment, Octets, Oid};
 
 /// Which of its replies an acceptor gives.
-#[derive(Clone, Copy, Debug)]
+#[derive(Clone, Copy)]
 pub enum Turn {
     First,
     Later,
 }
 
 /// A mechanism was chosen.
-#[derive(Debug, Drop)]
+#[derive(Drop)]
 pub struct Chosen {
     /// The initiator's list, as it came.
     pub(crate) received: Items<Oid>,
@@ -27,14 +27,14 @@ pub struct Chosen {
 }
 
 /// The chosen mechanism isn't done.
-#[derive(Debug, Drop)]
+#[derive(Drop)]
 pub struct Running {
     pub(crate) chosen: Chosen,
     pub(crate) mech: AcceptMech,
 }
 
 /// The mechanism is done, the own MIC went with its last token, and the initiator's is due.
-#[derive(Debug, Drop)]
+#[derive(Drop)]
 pub struct Owing {
     pub(crate) received: Items<Oid>,
     pub(crate) outcome: Outcome,
@@ -43,7 +43,7 @@ pub struct Owing {
 }
 
 /// An acceptor's end, by what is due next.
-#[derive(Debug, Drop)]
+#[derive(Drop)]
 pub enum AcceptEnd {
     /// The initiator's first token.
     New,
@@ -54,21 +54,21 @@ pub enum AcceptEnd {
 }
 
 /// What comes of a step once nothing is to be asked.
-#[derive(Debug, Drop)]
+#[derive(Drop)]
 pub enum Answered {
     More(AcceptEnd, Octets),
     Done(Outcome, Moment, Octets),
 }
 
 /// A step that is made but for one question: whether the initiator's request was taken before.
-#[derive(Debug, Drop)]
+#[derive(Drop)]
 pub struct AcceptPause {
     pub(crate) mark: Mark,
     pub(crate) after: Answered,
 }
 
 /// What comes of a step.
-#[derive(Debug, Drop)]
+#[derive(Drop)]
 pub enum AcceptStep {
     /// The token is for the initiator, and another of its tokens is due.
     More(AcceptEnd, Octets),

@@ -5,7 +5,8 @@ ghost use Rattle.sec_base.specs.Answers.{Gives};
 ghost use Rattle.ap_exchange.specs.Draws.{drawn_nonce};
 ghost use Rattle.scram_mech.specs.Acceptor.{accept_started, accept_finished};
 ghost use Rattle.spnego_core.specs.Sizes.{ShortTold};
-ghost use Rattle.spnego_core.specs.AcceptMech.{accept_begun, request_answered, text_taken, proof_taken, accept_taken, answered};
+ghost use Rattle.spnego_core.specs.AcceptMech.{accept_begun, request_answered, text_taken};
+ghost use Rattle.spnego_core.specs.AcceptMech.{proof_taken, accept_taken, answered};
 
 use crate::outcome::{Outcome, outcome_of};
 use crate::refusal::{NegRefusal, ap_refused, scram_refused};
@@ -17,7 +18,7 @@ use sec_base::{Moment, Octets};
 use std::alloc::Global;
 
 /// A mechanism that isn't done.
-#[derive(Debug, Drop)]
+#[derive(Drop)]
 pub enum AcceptMech {
     /// Kerberos waits for a request.
     Kerberos,
@@ -28,7 +29,7 @@ pub enum AcceptMech {
 }
 
 /// What a mechanism says to a token.
-#[derive(Debug, Drop)]
+#[derive(Drop)]
 pub enum AcceptAnswer {
     /// It goes on, with a token.
     More(AcceptMech, Octets),
@@ -54,7 +55,8 @@ fn request_answered(
     request: Judged,
     draws: &[u8; 66],
 ) -> Result<AcceptAnswer, NegRefusal>
-    ensures answer { IfOk result (λ answer. answer ≡ (request_answered draws.now [] request).answer) }
+    ensures answer { IfOk result
+        (λ answer. answer ≡ (request_answered draws.now [] request).answer) }
     ensures short { IfOk result ShortTold }
     ensures memory { IfErr result (λ refusal. refusal ≡ NegRefusal.NoMemory) }
 {
@@ -66,7 +68,8 @@ fn request_told(
     request: Judged,
     draws: &[u8; 66],
 ) -> Result<AcceptAnswer, NegRefusal>
-    ensures answer { IfOk result (λ answer. answer ≡ (request_answered draws.now [] request).answer) }
+    ensures answer { IfOk result
+        (λ answer. answer ≡ (request_answered draws.now [] request).answer) }
     ensures memory { IfErr result (λ refusal. refusal ≡ NegRefusal.NoMemory) }
 {
     let mark = request.mark();
@@ -84,7 +87,8 @@ fn text_taken(
     draws: &[u8; 66],
 ) -> Result<AcceptAnswer, NegRefusal>
     ensures short { IfOk result ShortTold }
-    ensures exact { Gives NegRefusal.NoMemory (λ a. a) result (answered (text_taken (accept_started verifiers.now token.now (drawn_nonce draws.now)))) }
+    ensures exact { Gives NegRefusal.NoMemory (λ a. a) result
+        (answered (text_taken (accept_started verifiers.now token.now (drawn_nonce draws.now)))) }
 {
     match ScramAccept::start(alloc, verifiers, token, &nonce_of(draws)) {
         Ok((end, text)) => Ok(AcceptAnswer::More(AcceptMech::Proof(end), text)),
@@ -101,8 +105,9 @@ fn proof_taken(
     now: Moment,
 ) -> Result<AcceptAnswer, NegRefusal>
     ensures short { IfOk result ShortTold }
-    ensures exact { let bound = option_map (λ b. b.now) bindings.entry in
-        Gives NegRefusal.NoMemory (λ a. a) result (answered (proof_taken end token.now (accept_finished end token.now bound now))) }
+    ensures exact { let bound =
+        option_map (λ b. b.now) bindings.entry in Gives NegRefusal.NoMemory (λ a. a) result
+        (answered (proof_taken end token.now (accept_finished end token.now bound now))) }
 {
     match end.finish(alloc, token, bindings, now) {
         Ok((made, text)) => {
@@ -126,7 +131,8 @@ impl AcceptMech {
         draws: &[u8; 66],
     ) -> Result<AcceptAnswer, NegRefusal>
         ensures short { IfOk result ShortTold }
-        ensures exact { Gives NegRefusal.NoMemory (λ a. a) result (answered (accept_taken setup.now self token.now now draws.now)) }
+        ensures exact { Gives NegRefusal.NoMemory (λ a. a) result
+            (answered (accept_taken setup.now self token.now now draws.now)) }
     {
         let bindings = setup.bindings.as_ref();
         match self {

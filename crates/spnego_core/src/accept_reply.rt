@@ -3,8 +3,10 @@
 ghost use Rattle.std.specs.Prelude.{◌≡◌, IfOk, IfErr, IfSome, Some, None, Ok};
 ghost use Rattle.sec_base.specs.Answers.{Gives};
 ghost use Rattle.spnego_core.specs.AcceptMech.{answered};
-ghost use Rattle.spnego_core.specs.Sizes.{IsShort, FitsBeside, IsMicSized, ShortTold, ShortAnswered, ShortAccept};
-ghost use Rattle.spnego_core.specs.Accepting.{state_said, mech_said, reply_with, reply, finished, going, told, run, step_of};
+ghost use Rattle.spnego_core.specs.Sizes.{IsShort, FitsBeside, IsMicSized, ShortTold};
+ghost use Rattle.spnego_core.specs.Sizes.{ShortAnswered, ShortAccept};
+ghost use Rattle.spnego_core.specs.Accepting.{state_said, mech_said, reply_with, reply, finished};
+ghost use Rattle.spnego_core.specs.Accepting.{going, told, run, step_of};
 
 use crate::accept_end::{
     AcceptEnd, AcceptPause, AcceptStep, Answered, Chosen, Owing, Running, Turn, gone_on,

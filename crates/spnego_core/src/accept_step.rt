@@ -4,7 +4,8 @@ ghost use Rattle.std.specs.Prelude.{◌≡◌, IfOk};
 ghost use Rattle.sec_base.specs.Answers.{Gives};
 ghost use Rattle.spnego_core.specs.AcceptMech.{accept_taken};
 ghost use Rattle.spnego_core.specs.Sizes.{ShortAccept};
-ghost use Rattle.spnego_core.specs.Accepting.{begun, token_for, started, chose, begins, proceeds, closes, run, step_of, accept_step};
+ghost use Rattle.spnego_core.specs.Accepting.{begun, token_for, started, chose, begins, proceeds};
+ghost use Rattle.spnego_core.specs.Accepting.{closes, run, step_of, accept_step};
 
 use crate::accept_end::{AcceptEnd, AcceptStep, Chosen, Owing, Running, Turn};
 use crate::accept_mech::accept_begun;
@@ -54,7 +55,8 @@ fn run(
     draws: &[u8; 66],
 ) -> Result<AcceptStep, NegRefusal>
     ensures short { IfOk result ShortAccept }
-    ensures exact { Gives NegRefusal.NoMemory (λ s. s) result (step_of (run turn running.chosen (accept_taken setup.now running.mech token.now now draws.now))) }
+    ensures exact { Gives NegRefusal.NoMemory (λ s. s) result (step_of
+        (run turn running.chosen (accept_taken setup.now running.mech token.now now draws.now))) }
 {
     let Running { chosen, mech } = running;
     let answer = mech.take(alloc, setup, token.as_slice(), now, draws)?;
@@ -72,7 +74,8 @@ fn started(
     draws: &[u8; 66],
 ) -> Result<AcceptStep, NegRefusal>
     ensures short { IfOk result ShortAccept }
-    ensures exact { Gives NegRefusal.NoMemory (λ s. s) result (step_of (started setup.now now draws.now running token)) }
+    ensures exact { Gives NegRefusal.NoMemory (λ s. s) result
+        (step_of (started setup.now now draws.now running token)) }
 {
     match token {
         None => {
@@ -94,7 +97,8 @@ fn begins(
     draws: &[u8; 66],
 ) -> Result<AcceptStep, NegRefusal>
     ensures short { IfOk result ShortAccept }
-    ensures exact { Gives NegRefusal.NoMemory (λ s. s) result (step_of (begins setup.now now draws.now init)) }
+    ensures exact { Gives NegRefusal.NoMemory (λ s. s) result
+        (step_of (begins setup.now now draws.now init)) }
 {
     let NegInit {
         list,
@@ -121,7 +125,8 @@ fn proceeds(
     draws: &[u8; 66],
 ) -> Result<AcceptStep, NegRefusal>
     ensures short { IfOk result ShortAccept }
-    ensures exact { Gives NegRefusal.NoMemory (λ s. s) result (step_of (proceeds setup.now now draws.now size running resp)) }
+    ensures exact { Gives NegRefusal.NoMemory (λ s. s) result
+        (step_of (proceeds setup.now now draws.now size running resp)) }
 {
     let NegResp {
         state,
@@ -174,7 +179,8 @@ fn stepped(
     draws: &[u8; 66],
 ) -> Result<AcceptStep, NegRefusal>
     ensures short { IfOk result ShortAccept }
-    ensures exact { Gives NegRefusal.NoMemory (λ s. s) result (step_of (accept_step setup.now end token.now now draws.now)) }
+    ensures exact { Gives NegRefusal.NoMemory (λ s. s) result
+        (step_of (accept_step setup.now end token.now now draws.now)) }
 {
     match end {
         AcceptEnd::New => begins(alloc, setup, init_read(alloc, token)?, now, draws),
@@ -196,7 +202,8 @@ impl AcceptEnd {
         now: Moment,
         draws: &[u8; 66],
     ) -> Result<AcceptStep, NegRefusal>
-        ensures exact { Gives NegRefusal.NoMemory (λ s. s) result (step_of (accept_step setup.now self token.now now draws.now)) }
+        ensures exact { Gives NegRefusal.NoMemory (λ s. s) result
+            (step_of (accept_step setup.now self token.now now draws.now)) }
         ensures short { IfOk result ShortAccept }
     {
         stepped(alloc, setup, self, token, now, draws)

@@ -1,7 +1,8 @@
 //! Which mechanism is chosen, and whether the list's MIC must come: RFC 4178 sections 4.2.2 and 5.
 
 ghost use Rattle.std.specs.Prelude.{◌≡◌};
-ghost use Rattle.spnego_core.specs.Choice.{same_kind, is_among, is_first, is_kind, is_first_named, offered, best, is_mic_due};
+ghost use Rattle.spnego_core.specs.Choice.{same_kind, is_among, is_first, is_kind, is_first_named};
+ghost use Rattle.spnego_core.specs.Choice.{offered, best, is_mic_due};
 
 use gss_base::MechKind;
 use sec_base::Oid;

@@ -7,7 +7,7 @@ use gss_base::MechKind;
 use sec_base::Octets;
 
 /// The first token was sent.
-#[derive(Debug, Drop)]
+#[derive(Drop)]
 pub struct Opening {
     pub(crate) own: InitSetup,
     /// The own first mechanism.
@@ -15,7 +15,7 @@ pub struct Opening {
 }
 
 /// What is known once the acceptor chose.
-#[derive(Debug, Drop)]
+#[derive(Drop)]
 pub struct Talk {
     pub(crate) own: InitSetup,
     pub(crate) chosen: MechKind,
@@ -24,14 +24,14 @@ pub struct Talk {
 }
 
 /// The chosen mechanism isn't done.
-#[derive(Debug, Drop)]
+#[derive(Drop)]
 pub struct Talking {
     pub(crate) talk: Talk,
     pub(crate) mech: InitMech,
 }
 
 /// The mechanism is done, and the own MIC was sent.
-#[derive(Debug, Drop)]
+#[derive(Drop)]
 pub struct Signed {
     pub(crate) talk: Talk,
     pub(crate) outcome: Outcome,
@@ -40,7 +40,7 @@ pub struct Signed {
 }
 
 /// An initiator's end, by what was done last.
-#[derive(Debug, Drop)]
+#[derive(Drop)]
 pub enum InitEnd {
     /// The first token was sent.
     Opens(Opening),
@@ -51,7 +51,7 @@ pub enum InitEnd {
 }
 
 /// What comes of a step.
-#[derive(Debug, Drop)]
+#[derive(Drop)]
 pub enum InitStep {
     /// The token is for the acceptor, and its reply is due.
     More(InitEnd, Octets),

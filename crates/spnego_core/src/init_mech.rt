@@ -7,7 +7,9 @@ ghost use Rattle.ap_exchange.specs.Draws.{drawn_nonce};
 ghost use Rattle.scram_mech.specs.MechMaking.{typed};
 ghost use Rattle.scram_mech.specs.Initiator.{init_started, init_answered, init_finished};
 ghost use Rattle.spnego_core.specs.Sizes.{FitsBeside, ShortAnswer};
-ghost use Rattle.spnego_core.specs.InitMech.{cred_for, request_begun, text_begun, init_begun, begun_with, text_answered, final_answered, init_taken, replied};
+ghost use Rattle.spnego_core.specs.InitMech.{cred_for, request_begun, text_begun, init_begun};
+ghost use Rattle.spnego_core.specs.InitMech.{begun_with, text_answered, final_answered, init_taken};
+ghost use Rattle.spnego_core.specs.InitMech.{replied};
 
 use crate::choice::same_kind;
 use crate::outcome::{Outcome, outcome_of};
@@ -21,7 +23,7 @@ use sec_base::{Moment, Octets, Text};
 use std::alloc::Global;
 
 /// A mechanism whose first token was sent.
-#[derive(Debug, Drop)]
+#[derive(Drop)]
 pub enum InitMech {
     /// Kerberos waits for the reply.
     Kerberos(ApInit),
@@ -32,7 +34,7 @@ pub enum InitMech {
 }
 
 /// What a mechanism says to a token.
-#[derive(Debug, Drop)]
+#[derive(Drop)]
 pub enum InitAnswer {
     /// It goes on, with a token.
     More(InitMech, Octets),
@@ -60,8 +62,10 @@ fn request_begun(
     draws: &[u8; 66],
     bindings: Option<&Bindings>,
 ) -> Result<(InitMech, Octets), NegRefusal>
-    ensures exact { let bound = option_map (λ b. b.now) bindings.entry in
-        Gives NegRefusal.NoMemory (λ b. b) result (begun_with (request_begun (map typed (request_makes credential.now stamp draws.now bound)) (request_of credential.now stamp draws.now bound))) }
+    ensures exact { let bound =
+        option_map (λ b. b.now) bindings.entry in Gives NegRefusal.NoMemory (λ b. b) result
+        (begun_with (request_begun (map typed (request_makes credential.now stamp draws.now bound))
+        (request_of credential.now stamp draws.now bound))) }
     ensures short { IfOk result (λ b. FitsBeside b.1) }
 {
     let _ticket = &credential.ticket;
@@ -80,8 +84,9 @@ fn text_begun(
     draws: &[u8; 66],
     bindings: Option<&Bindings>,
 ) -> Result<(InitMech, Octets), NegRefusal>
-    ensures exact { let bound = option_map (λ b. b.now) bindings.entry in
-        Gives NegRefusal.NoMemory (λ b. b) result (begun_with (text_begun (init_started user.now password.now (drawn_nonce draws.now) bound))) }
+    ensures exact { let bound = option_map
+        (λ b. b.now) bindings.entry in Gives NegRefusal.NoMemory (λ b. b) result (begun_with
+        (text_begun (init_started user.now password.now (drawn_nonce draws.now) bound))) }
     ensures short { IfOk result (λ b. FitsBeside b.1) }
 {
     let (user, password) = (user.as_str(), password.as_str());
@@ -93,7 +98,8 @@ fn text_begun(
 
 /// The answer to the acceptor's first text.
 fn text_answered(alloc: Global, end: ScramInit, text: &[u8]) -> Result<InitAnswer, NegRefusal>
-    ensures exact { Gives NegRefusal.NoMemory (λ a. a) result (replied (text_answered (init_answered end text.now))) }
+    ensures exact { Gives NegRefusal.NoMemory (λ a. a) result
+        (replied (text_answered (init_answered end text.now))) }
     ensures short { IfOk result ShortAnswer }
 {
     match end.take_first(alloc, text) {
@@ -104,7 +110,8 @@ fn text_answered(alloc: Global, end: ScramInit, text: &[u8]) -> Result<InitAnswe
 
 /// What the signature gives.
 fn final_answered(alloc: Global, end: ScramWait, text: &[u8]) -> Result<InitAnswer, NegRefusal>
-    ensures exact { Gives NegRefusal.NoMemory (λ a. a) result (replied (final_answered (init_finished end text.now))) }
+    ensures exact { Gives NegRefusal.NoMemory (λ a. a) result
+        (replied (final_answered (init_finished end text.now))) }
     ensures short { IfOk result ShortAnswer }
 {
     match end.take_final(alloc, text) {
@@ -121,7 +128,8 @@ impl InitMech {
         own: &InitSetup,
         cred: &MechCred,
     ) -> Result<(InitMech, Octets), NegRefusal>
-        ensures exact { Gives NegRefusal.NoMemory (λ b. b) result (begun_with (init_begun own.now cred.now)) }
+        ensures exact { Gives NegRefusal.NoMemory (λ b. b) result
+            (begun_with (init_begun own.now cred.now)) }
         ensures short { IfOk result (λ b. FitsBeside b.1) }
     {
         let bindings = own.bindings.as_ref();
@@ -138,7 +146,8 @@ impl InitMech {
     /// What the mechanism says to a token.
     #[tactic(auto, unfolding(crate::specs::InitMech::init_taken))]
     pub fn take(self, alloc: Global, token: &Octets) -> Result<InitAnswer, NegRefusal>
-        ensures exact { Gives NegRefusal.NoMemory (λ a. a) result (replied (init_taken self token.now)) }
+        ensures exact { Gives NegRefusal.NoMemory (λ a. a) result
+            (replied (init_taken self token.now)) }
         ensures short { IfOk result ShortAnswer }
     {
         match self {

@@ -8,7 +8,9 @@ ghost use Rattle.spnego_core.specs.InitMech.{kinds_of, init_begun};
 ghost use Rattle.spnego_core.specs.Choice.{is_first};
 ghost use Rattle.spnego_core.specs.Tokens.{resp_octets};
 ghost use Rattle.spnego_core.specs.Sizes.{IsShort, FitsBeside, ShortInit};
-ghost use Rattle.spnego_core.specs.Initiating.{own_list, token_sent, mic_sent, own_mic, ended, is_mic_owed, completes_now, completes_later, looks, looks_again, step_of};
+ghost use Rattle.spnego_core.specs.Initiating.{own_list, token_sent, mic_sent, own_mic, ended};
+ghost use Rattle.spnego_core.specs.Initiating.{is_mic_owed, completes_now, completes_later, looks};
+ghost use Rattle.spnego_core.specs.Initiating.{looks_again, step_of};
 
 use crate::choice::same_kind;
 use crate::init_end::{InitEnd, InitStep, Signed, Talk};
@@ -116,7 +118,8 @@ fn completes_later(state: Option<NegState>) -> bool
 
 /// Takes a MIC of the acceptor over the own list.
 fn listed(alloc: Global, talk: &Talk, outcome: &Outcome, mic: &Octets) -> Result<bool, NegRefusal>
-    ensures { Gives NegRefusal.NoMemory (λ b. b) result (Ok (is_list_mic outcome.now Initiator (own_list talk.now.own) mic.now)) }
+    ensures { Gives NegRefusal.NoMemory (λ b. b) result
+        (Ok (is_list_mic outcome.now Initiator (own_list talk.now.own) mic.now)) }
 {
     let list = own_list(alloc, &talk.own)?;
     is_list_mic(alloc, outcome, Side::Initiator, list.as_slice(), mic)
@@ -130,7 +133,8 @@ pub fn looks(
     state: Option<NegState>,
     mic: Option<Octets>,
 ) -> Result<InitStep, NegRefusal>
-    ensures exact { Gives NegRefusal.NoMemory (λ s. s) result (step_of (looks talk outcome state mic)) }
+    ensures exact { Gives NegRefusal.NoMemory (λ s. s) result
+        (step_of (looks talk outcome state mic)) }
     ensures short { IfOk result ShortInit }
 {
     match mic {
@@ -158,7 +162,8 @@ pub fn looks_again(
     state: Option<NegState>,
     mic: Option<Octets>,
 ) -> Result<InitStep, NegRefusal>
-    ensures exact { Gives NegRefusal.NoMemory (λ s. s) result (step_of (looks_again signed state mic)) }
+    ensures exact { Gives NegRefusal.NoMemory (λ s. s) result
+        (step_of (looks_again signed state mic)) }
     ensures short { IfOk result ShortInit }
 {
     if let Some(mic) = mic {

@@ -5,7 +5,8 @@ ghost use Rattle.sec_base.specs.Answers.{Gives};
 ghost use Rattle.spnego_core.specs.InitMech.{is_own_list};
 ghost use Rattle.spnego_core.specs.Tokens.{init_octets};
 ghost use Rattle.spnego_core.specs.Sizes.{IsShort, FitsBeside};
-ghost use Rattle.spnego_core.specs.Initiating.{own_list, first_sent, opens, starts, sent_of, init_start};
+ghost use Rattle.spnego_core.specs.Initiating.{own_list, first_sent, opens, starts, sent_of};
+ghost use Rattle.spnego_core.specs.Initiating.{init_start};
 
 use crate::init_end::{InitEnd, Opening};
 use crate::init_mech::InitMech;

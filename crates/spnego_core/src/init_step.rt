@@ -4,7 +4,9 @@ ghost use Rattle.std.specs.Prelude.{◌≡◌, IfOk};
 ghost use Rattle.sec_base.specs.Answers.{Gives};
 ghost use Rattle.spnego_core.specs.InitMech.{is_own, cred_for};
 ghost use Rattle.spnego_core.specs.Sizes.{ShortInit, ShortAnswer};
-ghost use Rattle.spnego_core.specs.Initiating.{told, run, begins_other, switches, talk_with, picks, own_kind, opened, is_chosen, talk_after, talked, closed, init_step, step_of};
+ghost use Rattle.spnego_core.specs.Initiating.{told, run, begins_other, switches, talk_with, picks};
+ghost use Rattle.spnego_core.specs.Initiating.{own_kind, opened, is_chosen, talk_after, talked};
+ghost use Rattle.spnego_core.specs.Initiating.{closed, init_step, step_of};
 
 use crate::choice::{is_kind, same_kind};
 use crate::init_end::{InitEnd, InitStep, Opening, Signed, Talk, Talking};
@@ -26,7 +28,8 @@ fn told(
     mic: Option<Octets>,
     answer: InitAnswer,
 ) -> Result<InitStep, NegRefusal>
-    ensures exact { Gives NegRefusal.NoMemory (λ s. s) result (step_of (told talk state mic answer)) }
+    ensures exact { Gives NegRefusal.NoMemory (λ s. s) result
+        (step_of (told talk state mic answer)) }
     ensures short { ShortAnswer answer → IfOk result ShortInit }
 {
     match answer {
@@ -53,7 +56,8 @@ fn run(
     token: Option<Octets>,
     mic: Option<Octets>,
 ) -> Result<InitStep, NegRefusal>
-    ensures exact { Gives NegRefusal.NoMemory (λ s. s) result (step_of (run size talk mech state token mic)) }
+    ensures exact { Gives NegRefusal.NoMemory (λ s. s) result
+        (step_of (run size talk mech state token mic)) }
     ensures short { IfOk result ShortInit }
 {
     let Some(token) = token else {
@@ -65,7 +69,8 @@ fn run(
 
 /// Another mechanism than the own first begins.
 fn begins_other(alloc: Global, talk: Talk) -> Result<InitStep, NegRefusal>
-    ensures exact { Gives NegRefusal.NoMemory (λ s. s) result (step_of (begins_other talk (cred_for talk.own.list talk.chosen))) }
+    ensures exact { Gives NegRefusal.NoMemory (λ s. s) result
+        (step_of (begins_other talk (cred_for talk.own.list talk.chosen))) }
     ensures short { IfOk result ShortInit }
 {
     let Some(cred) = cred_for(talk.own.list.as_slice(), talk.chosen) else {
@@ -84,7 +89,8 @@ fn switches(
     state: Option<NegState>,
     token: Option<Octets>,
 ) -> Result<InitStep, NegRefusal>
-    ensures exact { Gives NegRefusal.NoMemory (λ s. s) result (step_of (switches talk state token)) }
+    ensures exact { Gives NegRefusal.NoMemory (λ s. s) result
+        (step_of (switches talk state token)) }
     ensures short { IfOk result ShortInit }
 {
     match token {
@@ -121,7 +127,8 @@ fn picks(
     token: Option<Octets>,
     mic: Option<Octets>,
 ) -> Result<InitStep, NegRefusal>
-    ensures exact { Gives NegRefusal.NoMemory (λ s. s) result (step_of (picks size opening kind state token mic)) }
+    ensures exact { Gives NegRefusal.NoMemory (λ s. s) result
+        (step_of (picks size opening kind state token mic)) }
     ensures short { IfOk result ShortInit }
 {
     let Opening { own, mech } = opening;
@@ -254,7 +261,8 @@ fn closed(alloc: Global, signed: Signed, resp: NegResp) -> Result<InitStep, NegR
 impl InitEnd {
     /// Takes the acceptor's reply. The end is spent, whatever the answer.
     pub fn step(self, alloc: Global, token: &[u8]) -> Result<InitStep, NegRefusal>
-        ensures exact { Gives NegRefusal.NoMemory (λ s. s) result (step_of (init_step self token.now)) }
+        ensures exact { Gives NegRefusal.NoMemory (λ s. s) result
+            (step_of (init_step self token.now)) }
         ensures short { IfOk result ShortInit }
     {
         match self {

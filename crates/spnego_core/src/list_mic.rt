@@ -40,7 +40,8 @@ pub fn is_list_mic(
     list: &[Oid],
     mic: &Octets,
 ) -> Result<bool, NegRefusal>
-    ensures { Gives NegRefusal.NoMemory (λ b. b) result (Ok (is_list_mic outcome.now side list.now mic.now)) }
+    ensures { Gives NegRefusal.NoMemory (λ b. b) result
+        (Ok (is_list_mic outcome.now side list.now mic.now)) }
 {
     let octets = list_bytes(alloc, list)?;
     let end = outcome.token_end(side);

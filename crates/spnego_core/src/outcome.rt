@@ -8,7 +8,7 @@ use krb_derive::Key;
 use krb_tokens::{MechDone, Side, TokenEnd};
 
 /// What both ends agree on.
-#[derive(Clone, Copy, Debug, PartialEq)]
+#[derive(Clone, Copy)]
 pub struct Outcome {
     pub mech: MechKind,
     pub initiator: Label,

@@ -4,6 +4,7 @@ ghost use Rattle.std.specs.Prelude.{◌≡◌, ◌≢◌};
 ghost use Rattle.der_core.specs.declared.refusal.DerWhy.TheVariants as whys;
 ghost use Rattle.ap_exchange.specs.declared.refusal.ApRefusal.TheVariants as aps;
 ghost use Rattle.scram_mech.specs.declared.refusal.ScramRefusal.TheVariants as scrams;
+ghost use Rattle.spnego_core.specs.Numbers.{neg_number};
 ghost use Rattle.spnego_core.specs.declared.refusal.NegRefusal.TheVariants as refusals;
 
 use ap_exchange::ApRefusal;
@@ -42,6 +43,25 @@ pub enum NegRefusal {
     NoMemory,
 }
 
+impl NegRefusal {
+    /// The number by which it is told: the minor status that an acceptor sends, and what a client prints.
+    pub fn number(self) -> u32
+        ensures { result ≡ neg_number self }
+    {
+        match self {
+            NegRefusal::Defective { at: _ } => 1,
+            NegRefusal::Rejected => 2,
+            NegRefusal::MechNotMine => 3,
+            NegRefusal::NoCommonMech => 4,
+            NegRefusal::MicMissing => 5,
+            NegRefusal::MicBad => 6,
+            NegRefusal::Mech(MechRefusal::Ap(refusal)) => refusal.number(),
+            NegRefusal::Mech(MechRefusal::Scram(refusal)) => refusal.number(),
+            NegRefusal::NoMemory => 0,
+        }
+    }
+}
+
 impl From<NoMemory> for NegRefusal {
     ghost use Rattle.spnego_core.specs.declared.refusal.NegRefusal.{NegRefusal};
 
@@ -76,7 +96,8 @@ pub(crate) fn ap_refused(refusal: ApRefusal) -> NegRefusal
 
 /// The refusal of SCRAM's exchange.
 pub(crate) fn scram_refused(refusal: ScramRefusal) -> NegRefusal
-    ensures mech { refusal ≢ scrams.NoMemory → result ≡ NegRefusal.Mech (MechRefusal.Scram refusal) }
+    ensures mech { refusal ≢ scrams.NoMemory
+        → result ≡ NegRefusal.Mech (MechRefusal.Scram refusal) }
     ensures memory { refusal ≡ scrams.NoMemory → result ≡ NegRefusal.NoMemory }
 {
     match refusal {

@@ -9,7 +9,7 @@ use scram_mech::Verifiers;
 use sec_base::{Items, Moment, Text};
 
 /// A credential of a mechanism.
-#[derive(Debug, Drop)]
+#[derive(Drop)]
 pub enum MechCred {
     Kerberos(Credential),
     /// A user of SCRAM and its password.
@@ -28,7 +28,7 @@ impl MechCred {
 }
 
 /// What an initiator is begun with. Each call that takes one asks for one or two credentials, of different mechanisms.
-#[derive(Debug, Drop)]
+#[derive(Drop)]
 pub struct InitSetup {
     /// The mechanisms, the preferred first.
     pub list: Items<MechCred>,
@@ -40,7 +40,7 @@ pub struct InitSetup {
 }
 
 /// What an acceptor is begun with.
-#[derive(Debug, Drop)]
+#[derive(Drop)]
 pub struct AcceptSetup {
     /// The own name.
     pub own: Principal,

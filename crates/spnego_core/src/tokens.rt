@@ -3,7 +3,9 @@
 ghost use Rattle.std.specs.Prelude.{◌≡◌, IfOk, true};
 ghost use Rattle.sec_base.specs.Answers.{Gives};
 ghost use Rattle.spnego_msgs.specs.Lists.{is_count};
-ghost use Rattle.spnego_core.specs.Tokens.{init_read, resp_read, last_read, init_octets, resp_octets, is_state_reject, is_state_completed, is_state_request, rejects, says_completed, asks_mic};
+ghost use Rattle.spnego_core.specs.Tokens.{init_read, resp_read, last_read, init_octets};
+ghost use Rattle.spnego_core.specs.Tokens.{resp_octets, is_state_reject, is_state_completed};
+ghost use Rattle.spnego_core.specs.Tokens.{is_state_request, rejects, says_completed, asks_mic};
 
 use crate::refusal::{NegRefusal, unread};
 use sec_base::{NoMemory, Octets};
