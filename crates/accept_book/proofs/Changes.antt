@@ -1,6 +1,6 @@
 -- What a token changes of the contexts of a book.
-use Rattle.std.proofs.Common.{◌≡◌, ◌≢◌, ◌∙◌, ℕ, Bool, true, false, ◌==◌, if◌then◌else◌, nat_lt, Option, None, Some, refl, sym, ap, subst, inl, inr}
-use Rattle.std.specs.Prelude.{Result, Ok, Err, is_none}
+use Rattle.std.proofs.Common.{◌≡◌, ◌≢◌, ◌∙◌, ℕ, Bool, true, false, ◌==◌, if◌then◌else◌, Option, None, Some, refl, sym, ap, subst, inl, inr}
+use Rattle.std.specs.Prelude.{Result, Ok, Err}
 use Rattle.std.proofs.lemmas.Bool.{cases_eq, eq-eqb, ne_eqb}
 use Rattle.gss_base.specs.declared.mark.Mark.{Mark}
 use Rattle.spnego_core.specs.declared.accept_end.AcceptEnd.{AcceptEnd}
@@ -9,13 +9,12 @@ use Rattle.spnego_core.specs.declared.outcome.Outcome.{Outcome}
 use Rattle.spnego_core.specs.declared.refusal.NegRefusal.{NegRefusal}
 use Rattle.spnego_core.specs.Accepting.{Accepted}
 use Rattle.context_table.specs.declared.slot.Slot.{Slot}
-use Rattle.context_table.specs.Places.{Places, slot_at, live_of, KeepsOthers}
+use Rattle.context_table.specs.Places.{Places, slot_at, KeepsOthers}
 use Rattle.accept_book.specs.declared.answer.MarkRefusal.{MarkRefusal}
 use Rattle.accept_book.specs.History.{taken_of}
-use Rattle.accept_book.specs.Entering.{id_of, mark_refused}
-use Rattle.accept_book.specs.Replays.{Accepting}
-use Rattle.accept_book.specs.Stepping.{Context, context_of, context_after, until_of, kept_slot}
-use Rattle.accept_book.specs.Booking.{Change, Same, Ends, Becomes, changed, Changed, without, lapsed_by, Stands, stands_of, next_of, by_mark, taken, by_step, mark_of, settled_of}
+use Rattle.accept_book.specs.Entering.{mark_refused}
+use Rattle.accept_book.specs.Stepping.{Context, context_of, kept_slot}
+use Rattle.accept_book.specs.Booking.{Change, Same, Ends, Becomes, changed, Changed, without, lapsed_by, Stands, by_mark, by_step, mark_of, settled_of}
 
 pub changed_same : (table : Places AcceptEnd Outcome) → Changed table Same table
 changed_same table = λ id. refl
@@ -44,24 +43,6 @@ changed_entered old new id place past own after is others = λ other. elim (case
   | inl e ↦ rw (eq-eqb own other e) (ap context_of (ap (slot_at new) (sym e)) ∙ is)
   | inr ne ↦ rw (ne_eqb own other ne) (ap context_of (others other ne) ∙ kept_context id place past other (slot_at old other))
 ]
-
-entered_change : (book : Stands) (id past : Option ℕ) (mark : Option Mark) (step : AcceptStep) (refusal : Option MarkRefusal) → true ≡ is_none refusal
-    → Becomes (lapsed_by id (nat_lt (live_of book.table) book.table.limit) past) (id_of id book.history) (context_after (until_of id book.greatest book.table) (next_of step))
-    ≡ (by_mark book id past mark step refusal).change
-entered_change book id past mark step None taken = refl
-entered_change book id past mark step (Some refusal) taken = let z : true ≡ false = taken in absurd cc
-
--- a step that was taken
-pub changed_taken : (core : Accepting AcceptEnd Outcome) (new : Places AcceptEnd Outcome) (id past : Option ℕ) (mark : Option Mark) (step : AcceptStep) (own : ℕ)
-    → true ≡ is_none (mark_refused core.cache.capacity core.cache.greatest (taken_of core.history) mark) → own ≡ id_of id core.history
-    → context_of (slot_at new own) ≡ Some (context_after (until_of id core.cache.greatest core.table) (next_of step))
-    → ((other : ℕ) → own ≢ other → slot_at new other ≡ kept_slot id (nat_lt (live_of core.table) core.table.limit) past other (slot_at core.table other))
-    → Changed core.table (taken (stands_of core) id past mark step).change new
-changed_taken core new id past mark step own took is context others =
-    subst (λ (change : Change). Changed core.table change new)
-    (ap (λ (k : ℕ). Becomes (lapsed_by id (nat_lt (live_of core.table) core.table.limit) past) k (context_after (until_of id core.cache.greatest core.table) (next_of step))) is
-    ∙ entered_change (stands_of core) id past mark step (mark_refused core.cache.capacity core.cache.greatest (taken_of core.history) mark) took)
-    (changed_entered core.table new id (nat_lt (live_of core.table) core.table.limit) past own _ context others)
 
 -- ---- a later token's change is of its own context alone
 

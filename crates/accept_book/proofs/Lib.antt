@@ -10,3 +10,4 @@ pub mod Contexts
 pub mod Changes
 pub mod Founds
 pub mod Fixings
+pub mod Comings

@@ -1,5 +1,6 @@
 -- What the calls answer, as functions of the history and of the words over the table.
-use Rattle.std.specs.Prelude.{◌≡◌, ℕ, ◌<◌, ◌≤◌, nat_lt, if◌then◌else◌, List, ◌∷◌, length, Option, None, Some, Result, Ok, Err}
+use Rattle.std.specs.Prelude.{◌≡◌, ℕ, ◌<◌, ◌≤◌, nat_lt, if◌then◌else◌, List, ◌∷◌, length, Option}
+use Rattle.std.specs.Prelude.{None, Some, Result, Ok, Err}
 use denote.Ref.{Bor}
 use Rattle.seq_window.specs.declared.window.Verdict.{Verdict}
 use Rattle.seq_window.specs.declared.window.Verdict.TheVariants.{AboveMax, Below, Repeat, Fresh}
@@ -19,7 +20,8 @@ use Rattle.accept_book.specs.declared.answer.LookRefusal.{LookRefusal}
 use Rattle.accept_book.specs.declared.answer.LookRefusal.TheVariants as looks
 use Rattle.accept_book.specs.declared.answer.MarkRefusal.{MarkRefusal}
 use Rattle.accept_book.specs.declared.answer.MarkRefusal.TheVariants as marks
-use Rattle.accept_book.specs.History.{Standing, Unknown, Open, Whole, Over, standing, numbers, posts, is_whole}
+use Rattle.accept_book.specs.History.{Standing, Unknown, Open, Whole, Over, standing, numbers}
+use Rattle.accept_book.specs.History.{posts, is_whole}
 use Rattle.accept_book.specs.Legal.{MayCall}
 
 -- the refusal of a number by the verdict on it; where it is fresh, that of a full log
@@ -29,14 +31,16 @@ refusal_by (Below last) full = Some (admits.Below last)
 refusal_by Repeat full = Some admits.Repeat
 refusal_by Fresh full = full
 
--- the refusal of a call of an id with a number: the id isn't settled, or is ended; the verdict of the window over the numbers of
--- its calls; no place of the log is free
+-- the refusal of a call of an id with a number: the id isn't settled, or is ended; the verdict of
+-- the window over the numbers of its calls; no place of the log is free
 abbrev pub refused : ℕ → ℕ → List Entry → ℕ → ℕ → Option AdmitRefusal
 refused limit width h id seq =
     if is_whole (standing id h)
-    then refusal_by (verdict_of width (numbers id h) seq) (if nat_lt (length h) limit then None else Some admits.LogFull)
+    then refusal_by (verdict_of width (numbers id h) seq)
+    (if nat_lt (length h) limit then None else Some admits.LogFull)
     else Some admits.Gone
 
+-- the refusal, where there is one, else the value
 abbrev pub or_refused : {X : Type 0} → Option AdmitRefusal → X → Result X AdmitRefusal
 or_refused None x = Ok x
 or_refused (Some refusal) x = Err refusal
@@ -46,9 +50,11 @@ abbrev pub after : {R : Type 0} → Option R → Entry → List Entry → List E
 after None entry h = entry ∷ h
 after (Some refusal) entry h = h
 
+-- the receipt of an entry that is added: its place is the number of entries before it
 abbrev pub receipt_of : List Entry → Entry → Receipt
 receipt_of h entry = record { place = length h; entry = entry }
 
+-- what an admitted call is answered: its entry's receipt, and the posts up to it
 abbrev pub admitted : List Entry → Entry → Admitted
 admitted h entry = record { receipt = receipt_of h entry; posts = posts (entry ∷ h) }
 
@@ -66,21 +72,18 @@ taken_by (Whole mech names ends) state = Err takes.AlreadyComplete
 taken_by Over state = Err takes.NoContext
 
 -- the value of a context that is complete, or that its end lies before the moment
-abbrev pub LooksAt : {N S : Type 0} → Option (Slot N S) → ℕ → ℕ → Result (Bor S × ℕ) LookRefusal → Type 0
+abbrev pub LooksAt : {N S : Type 0} → Option (Slot N S) → ℕ → ℕ → Result (Bor S × ℕ) LookRefusal
+    → Type 0
 LooksAt slot now ends (Ok found) = (now ≤ ends) × HasValue slot found.0.now found.1
 LooksAt slot now ends (Err refusal) = (ends < now) × (refusal ≡ looks.Expired)
 
--- what `look` answers by what the history says of the id
-abbrev pub LooksBy : {N S : Type 0} → Standing → Option (Slot N S) → ℕ → Result (Bor S × ℕ) LookRefusal → Type 0
+-- what `peek` answers by what the history says of the id
+abbrev pub LooksBy : {N S : Type 0} → Standing → Option (Slot N S) → ℕ
+    → Result (Bor S × ℕ) LookRefusal → Type 0
 LooksBy Unknown slot now result = result ≡ Err looks.NoContext
 LooksBy (Open at) slot now result = result ≡ Err looks.NotReady
 LooksBy (Whole mech names ends) slot now result = LooksAt slot now ends result
 LooksBy Over slot now result = result ≡ Err looks.NoContext
-
--- a look's answer, whose end is lent, with the end itself
-abbrev pub with_end : {S : Type 0} → Result (Bor S × Bor ℕ) LookRefusal → Result (Bor S × ℕ) LookRefusal
-with_end (Ok found) = Ok (found.0, found.1.now)
-with_end (Err refusal) = Err refusal
 
 -- the refusal of a mark by the cache's verdict
 abbrev pub mark_refusal : CacheVerdict → Option MarkRefusal

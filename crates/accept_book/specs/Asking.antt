@@ -1,7 +1,8 @@
 -- What records ask: laws over all records.
 use Rattle.std.specs.Prelude.{◌≡◌, ◌<◌, ◌≤◌, ℕ, Bool, true, false, List, length}
 use Rattle.std.specs.List.{list_any}
-use Rattle.accept_book.specs.RecordShown.{KeptAnswers, Asked, AskedStep, AskedLook, AskedAdmit, AskedEnd}
+use Rattle.accept_book.specs.RecordShown.{KeptAnswers, Asked, AskedStep, AskedLook, AskedAdmit}
+use Rattle.accept_book.specs.RecordShown.{AskedEnd}
 use Rattle.accept_book.specs.RecordRule.{record_ruling}
 
 -- the question takes a number of the context
@@ -11,7 +12,11 @@ takes_number (AskedLook id now answer) = false
 takes_number (AskedAdmit lease seq procedure args answer) = true
 takes_number (AskedEnd lease seq answer) = true
 
--- no record asks more than two questions, and a record that one of the rules 1 to 14 decides asked for no number
+-- no record asks more than two questions, and a record that one of the rules 1 to 14 decides asked
+-- for no number
 pub record AsksLaws : Type 0 where
-  pub few : (octets : List ℕ) (kept : KeptAnswers) (width : ℕ) → length (record_ruling octets kept width).asked ≤ 2
-  pub early : (octets : List ℕ) (kept : KeptAnswers) (width : ℕ) → 0 < (record_ruling octets kept width).rule → (record_ruling octets kept width).rule ≤ 14 → list_any takes_number (record_ruling octets kept width).asked ≡ false
+  pub few : (octets : List ℕ) (kept : KeptAnswers) (width : ℕ)
+      → length (record_ruling octets kept width).asked ≤ 2
+  pub early : (octets : List ℕ) (kept : KeptAnswers) (width : ℕ)
+      → 0 < (record_ruling octets kept width).rule → (record_ruling octets kept width).rule ≤ 14
+      → list_any takes_number (record_ruling octets kept width).asked ≡ false

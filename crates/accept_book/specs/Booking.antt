@@ -1,5 +1,8 @@
--- A book: the contexts of an acceptor, each negotiating by an end of its own or complete with its outcome.
-use Rattle.std.specs.Prelude.{◌≡◌, ◌≢◌, ℕ, ◌+◌, ◌<◌, ◌≤◌, Bool, true, false, nat_eq, nat_lt, nat_le, ◌==◌, ◌&&◌, max, is_none, if◌then◌else◌, List, [], ◌∷◌, ◌++◌, length, Option, None, Some, Result, Ok, Err}
+-- A book: the contexts of an acceptor, each negotiating by an end of its own, or complete with its
+-- outcome.
+use Rattle.std.specs.Prelude.{◌≡◌, ◌≢◌, ℕ, ◌+◌, ◌<◌, ◌≤◌, Bool, true, false, nat_eq, nat_lt, nat_le}
+use Rattle.std.specs.Prelude.{◌==◌, ◌&&◌, max, is_none, if◌then◌else◌, List, [], ◌∷◌, ◌++◌, length}
+use Rattle.std.specs.Prelude.{Option, None, Some, Result, Ok, Err}
 use lib.Pointwise.{pointwise}
 use Rattle.sha1.specs.Sha1.{sha1}
 use Rattle.gss_base.specs.declared.mark.Mark.{Mark}
@@ -37,27 +40,33 @@ use Rattle.accept_book.specs.declared.book_answer.BookRefusal.{BookRefusal}
 use Rattle.accept_book.specs.declared.book_answer.BookRefusal.TheVariants as refusals
 use Rattle.accept_book.specs.declared.book_answer.NegAnswer.{NegAnswer}
 use Rattle.accept_book.specs.declared.book_answer.NegAnswer.TheVariants as answers
-use Rattle.accept_book.specs.History.{Standing, Unknown, Open, Whole, Over, standing, has_auth, taken_of}
+use Rattle.accept_book.specs.History.{Standing, Unknown, Open, Whole, Over, standing, has_auth}
+use Rattle.accept_book.specs.History.{taken_of}
 use Rattle.accept_book.specs.Answers.{refused, Free}
 use Rattle.accept_book.specs.Entering.{id_of, entered, mark_refused}
 use Rattle.accept_book.specs.Replays.{Accepting, Naming}
-use Rattle.accept_book.specs.Stepping.{Context, context_of, context_after, until_of}
+use Rattle.accept_book.specs.Stepping.{has_place, Context, context_of, context_after, until_of}
 
--- the digest by which the log knows an outcome: SHA-1 of both names, each with an octet 00 behind it, the key's octets, and 01 where
--- the key is the acceptor's subkey, else 00
+-- the digest by which the log knows an outcome: SHA-1 of both names, each with an octet 00 after
+-- it, the key's octets, and 01 if the key is the acceptor's subkey, else 00
 unfoldable pub names_of : Outcome → List ℕ
 names_of outcome =
-    sha1 (outcome.initiator ++ 0 ∷ outcome.acceptor ++ 0 ∷ key_octets outcome.key ++ (if outcome.subkey then 1 else 0) ∷ [])
+    sha1 (outcome.initiator ++ 0 ∷ outcome.acceptor ++ 0 ∷ key_octets outcome.key
+    ++ (if outcome.subkey then 1 else 0) ∷ [])
 
+-- what an outcome is known by in the log: its mechanism, and the digest of its names and key
 abbrev pub by_outcome : Naming Outcome
 by_outcome = record { mech = λ o. o.mech; names = names_of }
 
+-- a book as contracts see it: what its ends are begun with, and the history, contexts and marks
 pub record BookOf : Type 0 where
   pub setup : AcceptSetup
   pub core : Accepting AcceptEnd Outcome
 
--- ---- an end fits the marks: one was taken of its id exactly where its mechanism is done and is Kerberos
+-- ---- an end fits the marks: one was taken of its id exactly if its mechanism is done and is
+-- Kerberos
 
+-- an authenticator of the id was taken exactly if the end's mechanism is done and is Kerberos
 abbrev pub Fits : AcceptEnd → Bool → Type 0
 Fits ends.New auth = auth ≡ false
 Fits (ends.Runs running) auth = auth ≡ false
@@ -69,17 +78,21 @@ FitsState (Negotiating end) auth = Fits end auth
 FitsState Held auth = ⊥
 FitsState (Complete outcome) auth = Unit {0}
 
+-- the state of an id's slot fits, where one lives
 abbrev pub FitsSlot : Option (Slot AcceptEnd Outcome) → Bool → Type 0
 FitsSlot None auth = Unit {0}
 FitsSlot (Some slot) auth = FitsState slot.state auth
 
+-- each slot of the table fits what the history says was taken of its id
 abbrev pub AllFit : Accepting AcceptEnd Outcome → Type 0
 AllFit core = (id : ℕ) → FitsSlot (slot_at core.table id) (has_auth id core.history)
 
 -- all but one
 abbrev pub OthersFit : Option ℕ → Accepting AcceptEnd Outcome → Type 0
-OthersFit id core = (other : ℕ) → id ≢ Some other → FitsSlot (slot_at core.table other) (has_auth other core.history)
+OthersFit id core = (other : ℕ) → id ≢ Some other
+    → FitsSlot (slot_at core.table other) (has_auth other core.history)
 
+-- what comes of a step fits in the same way, once nothing is to be asked
 abbrev pub AnsweredFits : Answered → Bool → Type 0
 AnsweredFits (afters.More end token) auth = Fits end auth
 AnsweredFits (afters.Done outcome lasts token) auth = auth ≡ is_kerberos outcome.mech
@@ -92,27 +105,36 @@ StepFits (steps.WantsAuth pause) auth = (auth ≡ false) × AnsweredFits pause.a
 
 -- ---- what a step asks for and gives
 
+-- the mark that a step asks to be taken, where it waits for the repeat test of its request
 abbrev pub mark_of : AcceptStep → Option Mark
 mark_of (steps.More end token) = None
 mark_of (steps.Done outcome lasts token) = None
 mark_of (steps.WantsAuth pause) = Some (mark_asked pause)
 
+-- what a step makes of its context once nothing is to be asked: it goes on, or is settled
 abbrev pub next_answered : Answered → Next AcceptEnd Outcome
 next_answered (afters.More end token) = nexts.Going end
-next_answered (afters.Done outcome lasts token) = nexts.Settled outcome.mech (names_of outcome) outcome lasts
+next_answered (afters.Done outcome lasts token) =
+    nexts.Settled outcome.mech (names_of outcome) outcome lasts
 
+-- what a step makes of its context, if the mark that it may ask for is taken
 abbrev pub next_of : AcceptStep → Next AcceptEnd Outcome
 next_of (steps.More end token) = nexts.Going end
-next_of (steps.Done outcome lasts token) = nexts.Settled outcome.mech (names_of outcome) outcome lasts
+next_of (steps.Done outcome lasts token) =
+    nexts.Settled outcome.mech (names_of outcome) outcome lasts
 next_of (steps.WantsAuth pause) = next_answered pause.after
 
+-- the answer to a token of this id once nothing is to be asked
 abbrev pub answer_after : ℕ → Answered → NegAnswer
 answer_after id (afters.More end token) = answers.Going id token
-answer_after id (afters.Done outcome lasts token) = answers.Settled (record { id = id; outcome = outcome; ends = lasts }) token
+answer_after id (afters.Done outcome lasts token) =
+    answers.Settled (record { id = id; outcome = outcome; ends = lasts }) token
 
+-- the answer to a token of this id by its step, if the mark that it may ask for is taken
 abbrev pub answer_with : ℕ → AcceptStep → NegAnswer
 answer_with id (steps.More end token) = answers.Going id token
-answer_with id (steps.Done outcome lasts token) = answers.Settled (record { id = id; outcome = outcome; ends = lasts }) token
+answer_with id (steps.Done outcome lasts token) =
+    answers.Settled (record { id = id; outcome = outcome; ends = lasts }) token
 answer_with id (steps.WantsAuth pause) = answer_after id pause.after
 
 -- how many octets an answer's token has
@@ -122,8 +144,11 @@ token_size (answers.Settled lease token) = length token
 token_size (answers.Refused refusal) = 0
 token_size answers.NoMemory = 0
 
--- ---- what a token comes to, by how a book stands once the moment was taken note of, and by the id that is past, where one is
+-- ---- what a token comes to, by how a book stands once the moment was taken note of, and by the id
+-- that is past, where one is
 
+-- how a book stands: its history, the limit of its log, its contexts, how many marks it may hold,
+-- and the greatest moment that was seen
 pub record Stands : Type 0 where
   pub history : List Entry
   pub limit : ℕ
@@ -131,6 +156,7 @@ pub record Stands : Type 0 where
   pub capacity : ℕ
   pub greatest : ℕ
 
+-- how a book stands, by its history, contexts and marks
 abbrev pub stands_of : Accepting AcceptEnd Outcome → Stands
 stands_of core = record {
   history = core.history;
@@ -140,6 +166,7 @@ stands_of core = record {
   greatest = core.cache.greatest;
 }
 
+-- the same once this moment was taken note of
 abbrev pub raised : Accepting AcceptEnd Outcome → ℕ → Stands
 raised core now = record {
   history = core.history;
@@ -149,6 +176,7 @@ raised core now = record {
   greatest = max core.cache.greatest now;
 }
 
+-- the refusal of a token whose mark isn't taken
 abbrev pub refusal_of_mark : MarkRefusal → BookRefusal
 refusal_of_mark (marks.Stale greatest) = refusals.Stale greatest
 refusal_of_mark (marks.Repeat place) = refusals.Repeat place
@@ -165,26 +193,33 @@ abbrev pub after_refusal : Option ℕ → List Entry → List Entry
 after_refusal None h = h
 after_refusal (Some id) h = Ended id Refused ∷ h
 
--- what a token changes of the contexts: nothing, one ends, or one becomes what its step makes of it, before which another may lapse
+-- what a token changes of the contexts: nothing, one ends, or one becomes what its step makes of
+-- it, before which another may lapse
 pub data Change : Type 0 where
   Same : Change
   Ends : (id : ℕ) → Change
   Becomes : (lapsed : Option ℕ) (id : ℕ) (after : Context AcceptEnd Outcome) → Change
 
-abbrev pub without : Option ℕ → ℕ → Option (Context AcceptEnd Outcome) → Option (Context AcceptEnd Outcome)
+-- the context of an id after one, where one is named, is gone
+abbrev pub without : Option ℕ → ℕ → Option (Context AcceptEnd Outcome)
+    → Option (Context AcceptEnd Outcome)
 without None id before = before
 without (Some gone) id before = if gone == id then None else before
 
 -- a context after the change, by what it was before
-abbrev pub changed : Change → ℕ → Option (Context AcceptEnd Outcome) → Option (Context AcceptEnd Outcome)
+abbrev pub changed : Change → ℕ → Option (Context AcceptEnd Outcome)
+    → Option (Context AcceptEnd Outcome)
 changed Same id before = before
 changed (Ends gone) id before = if gone == id then None else before
-changed (Becomes lapsed own after) id before = if own == id then Some after else without lapsed id before
+changed (Becomes lapsed own after) id before =
+    if own == id then Some after else without lapsed id before
 
 -- each context is what the change makes of it
 abbrev pub Changed : Places AcceptEnd Outcome → Change → Places AcceptEnd Outcome → Type 0
-Changed old change new = (id : ℕ) → context_of (slot_at new id) ≡ changed change id (context_of (slot_at old id))
+Changed old change new = (id : ℕ)
+    → context_of (slot_at new id) ≡ changed change id (context_of (slot_at old id))
 
+-- what a refused token changes: a later token's context ends, of a first token nothing does
 abbrev pub change_refused : Option ℕ → Change
 change_refused None = Same
 change_refused (Some id) = Ends id
@@ -201,32 +236,46 @@ pub record Outcomes : Type 0 where
   pub history : List Entry
   pub change : Change
 
-abbrev pub refuses : Option ℕ → List Entry → BookRefusal → Outcomes
-refuses id h refusal =
-    record { answer = answers.Refused refusal; history = after_refusal id h; change = change_refused id }
+-- a token that was read and isn't taken: a later one's context ends
+abbrev pub spends : Option ℕ → List Entry → NegAnswer → Outcomes
+spends id h answer =
+    record { answer = answer; history = after_refusal id h; change = change_refused id }
 
+-- a token that its step refuses: the context of a later one ends
+abbrev pub refuses : Option ℕ → List Entry → BookRefusal → Outcomes
+refuses id h refusal = spends id h (answers.Refused refusal)
+
+-- a token that is refused before any step: history and contexts stay as they are
 abbrev pub leaves : List Entry → BookRefusal → Outcomes
 leaves h refusal = record { answer = answers.Refused refusal; history = h; change = Same }
 
-abbrev pub by_mark : Stands → Option ℕ → Option ℕ → Option Mark → AcceptStep → Option MarkRefusal → Outcomes
+-- a step, by whether its mark is refused: the token is refused, or the step enters the history and
+-- changes its context
+abbrev pub by_mark : Stands → Option ℕ → Option ℕ → Option Mark → AcceptStep
+    → Option MarkRefusal → Outcomes
 by_mark book id past mark step (Some refusal) = refuses id book.history (refusal_of_mark refusal)
 by_mark book id past mark step None = record {
   answer = answer_with (id_of id book.history) step;
-  history = entered id (nat_lt (live_of book.table) book.table.limit) past mark (next_of step) book.greatest book.history;
-  change = Becomes (lapsed_by id (nat_lt (live_of book.table) book.table.limit) past) (id_of id book.history)
+  history = entered id (has_place book.table) past mark (next_of step) book.greatest book.history;
+  change = Becomes (lapsed_by id (has_place book.table) past) (id_of id book.history)
       (context_after (until_of id book.greatest book.table) (next_of step));
 }
 
 -- a step with its mark, where it has one
 abbrev pub taken : Stands → Option ℕ → Option ℕ → Option Mark → AcceptStep → Outcomes
-taken book id past mark step = by_mark book id past mark step (mark_refused book.capacity book.greatest (taken_of book.history) mark)
+taken book id past mark step =
+    by_mark book id past mark step
+    (mark_refused book.capacity book.greatest (taken_of book.history) mark)
 
+-- what the acceptor's step comes to: a refusal, or the step with its mark
 abbrev pub by_step : Stands → Option ℕ → Option ℕ → Result Accepted NegRefusal → Outcomes
 by_step book id past (Err refusal) = refuses id book.history (refusals.Neg refusal)
-by_step book id past (Ok accepted) = taken book id past (mark_of accepted.step) (settled_of accepted.step)
+by_step book id past (Ok accepted) =
+    taken book id past (mark_of accepted.step) (settled_of accepted.step)
 
 -- a later token's step, from the state of its context
-abbrev pub later_step : AcceptSetup → Option AcceptEnd → List ℕ → ℕ → List ℕ → Result Accepted NegRefusal
+abbrev pub later_step : AcceptSetup → Option AcceptEnd → List ℕ → ℕ → List ℕ
+    → Result Accepted NegRefusal
 later_step setup None token now draws = accept_step setup ends.New token now draws
 later_step setup (Some end) token now draws = accept_step setup end token now draws
 
@@ -234,31 +283,41 @@ later_step setup (Some end) token now draws = accept_step setup end token now dr
 abbrev pub begun : AcceptSetup → Stands → Option ℕ → List ℕ → ℕ → List ℕ → Outcomes
 begun setup book past token now draws =
     if nat_lt book.limit (length book.history + 4) then leaves book.history refusals.LogFull
-    else if nat_le book.table.limit (live_of book.table) && is_none past then leaves book.history refusals.TableFull
+    else if nat_le book.table.limit (live_of book.table) && is_none past
+    then leaves book.history refusals.TableFull
     else by_step book None past (accept_step setup ends.New token now draws)
 
 -- a later token of a context that negotiates
 abbrev pub opened_by : AcceptSetup → Stands → ℕ → Option ℕ → List ℕ → ℕ → List ℕ → Outcomes
 opened_by setup book id past token now draws =
     if nat_lt book.limit (length book.history + 4) then leaves book.history refusals.LogFull
-    else by_step book (Some id) past (later_step setup (state_of (slot_at book.table id)) token now draws)
+    else by_step book (Some id) past
+    (later_step setup (state_of (slot_at book.table id)) token now draws)
 
 -- a later token, by what the history says of its id
-abbrev pub gone_on_by : Standing → AcceptSetup → Stands → ℕ → Option ℕ → List ℕ → ℕ → List ℕ → Outcomes
+abbrev pub gone_on_by : Standing → AcceptSetup → Stands → ℕ → Option ℕ → List ℕ → ℕ → List ℕ
+    → Outcomes
 gone_on_by Unknown setup book id past token now draws = leaves book.history refusals.NoContext
-gone_on_by (Open at) setup book id past token now draws = opened_by setup book id past token now draws
-gone_on_by (Whole mech names until) setup book id past token now draws = leaves book.history refusals.AlreadyComplete
+gone_on_by (Open at) setup book id past token now draws =
+    opened_by setup book id past token now draws
+gone_on_by (Whole mech names until) setup book id past token now draws =
+    leaves book.history refusals.AlreadyComplete
 gone_on_by Over setup book id past token now draws = leaves book.history refusals.NoContext
 
+-- what a token comes to: without an id it is the first of a context, else a later one of that id;
+-- the second number is the id that is past
 abbrev pub negotiated : AcceptSetup → Stands → Option ℕ → Option ℕ → List ℕ → ℕ → List ℕ → Outcomes
 negotiated setup book None past token now draws = begun setup book past token now draws
-negotiated setup book (Some id) past token now draws = gone_on_by (standing id book.history) setup book id past token now draws
+negotiated setup book (Some id) past token now draws =
+    gone_on_by (standing id book.history) setup book id past token now draws
 
 -- ---- admissions
 
+-- both keys have the same octets
 abbrev pub same_key : Key → Key → Bool
 same_key a b = pointwise nat_eq (key_octets a) (key_octets b)
 
+-- a context in this state is complete, with this key
 abbrev pub state_key : SlotState AcceptEnd Outcome → Key → Bool
 state_key (Negotiating end) key = false
 state_key Held key = false
@@ -269,13 +328,16 @@ abbrev pub has_key : Option (Slot AcceptEnd Outcome) → Key → Bool
 has_key None key = false
 has_key (Some slot) key = state_key slot.state key
 
--- why a number of a lease's context isn't admitted: the id isn't complete with the lease's key, or as the core says
+-- why a number of a lease's context isn't admitted: the id isn't complete with the lease's key, or
+-- as the core says
 abbrev pub lease_refused : Accepting AcceptEnd Outcome → Lease → ℕ → Option AdmitRefusal
 lease_refused core lease seq =
-    if has_key (slot_at core.table lease.id) lease.outcome.key then refused core.limit core.width core.history lease.id seq
+    if has_key (slot_at core.table lease.id) lease.outcome.key
+    then refused core.limit core.width core.history lease.id seq
     else Some admits.Gone
 
--- an admission by a lease is free: its context is complete with the lease's key, the number may be called, and a place of the log is free
+-- an admission by a lease is free: its context is complete with the lease's key, the number may be
+-- called, and a place of the log is free
 pub record FreeFor (core : Accepting AcceptEnd Outcome) (lease : Lease) (seq : ℕ) : Type 0 where
   pub key : has_key (slot_at core.table lease.id) lease.outcome.key ≡ true
   pub free : Free core.limit core.width core.history lease.id seq
@@ -283,12 +345,14 @@ pub record FreeFor (core : Accepting AcceptEnd Outcome) (lease : Lease) (seq : �
 -- ---- looks
 
 -- a lease has the context's id, and the mechanism, names and end that the log has of it
-pub record IsLease (lease : Lease) (number : ℕ) (kind : MechKind) (digest : List ℕ) (until : ℕ) : Type 0 where
+pub record IsLease
+    (lease : Lease) (number : ℕ) (kind : MechKind) (digest : List ℕ) (until : ℕ) : Type 0 where
   pub id : lease.id ≡ number
   pub mech : lease.outcome.mech ≡ kind
   pub names : names_of lease.outcome ≡ digest
   pub ends : lease.ends ≡ until
 
+-- a look at a complete context: a lease of it until its end, after that it is expired
 abbrev pub LeasedAt : ℕ → MechKind → List ℕ → ℕ → ℕ → Result Lease LookRefusal → Type 0
 LeasedAt id mech names ends now (Ok lease) = (now ≤ ends) × IsLease lease id mech names ends
 LeasedAt id mech names ends now (Err refusal) = (ends < now) × (refusal ≡ looks.Expired)

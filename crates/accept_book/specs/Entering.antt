@@ -1,5 +1,6 @@
 -- What a step of a negotiation that was taken makes of the history.
-use Rattle.std.specs.Prelude.{◌≡◌, ℕ, ◌+◌, Bool, true, false, nat_lt, ◌||◌, if◌then◌else◌, is_none, is_some, List, [], ◌∷◌, ◌++◌, length, take, Option, None, Some}
+use Rattle.std.specs.Prelude.{◌≡◌, ℕ, ◌+◌, Bool, true, false, nat_lt, ◌||◌, if◌then◌else◌, is_none}
+use Rattle.std.specs.Prelude.{is_some, List, [], ◌∷◌, ◌++◌, length, take, Option, None, Some}
 use Rattle.gss_base.specs.declared.mark.Mark.{Mark}
 use Rattle.gss_base.specs.Mech.{is_kerberos}
 use Rattle.replay_cache.specs.Taking.{cache_verdict}
@@ -12,9 +13,9 @@ use Rattle.accept_book.specs.declared.entry.Receipts.{Receipts}
 use Rattle.accept_book.specs.declared.answer.Next.{Next}
 use Rattle.accept_book.specs.declared.answer.Next.TheVariants as next
 use Rattle.accept_book.specs.declared.answer.MarkRefusal.{MarkRefusal}
-use Rattle.accept_book.specs.History.{opened, has_auth}
+use Rattle.accept_book.specs.History.{opened, has_auth, taken_of}
 use Rattle.accept_book.specs.Answers.{mark_refusal}
-use Rattle.accept_book.specs.Replays.{Naming}
+use Rattle.accept_book.specs.Replays.{Naming, Accepting}
 
 -- the id of a step: a first token's is the next one
 abbrev pub id_of : Option ℕ → List Entry → ℕ
@@ -43,15 +44,26 @@ finished true (next.Going state) id now h = h
 finished false (next.Going state) id now h = Went id now ∷ h
 finished first (next.Settled mech names value ends) id now h = Settled id mech names ends now ∷ h
 
-abbrev pub entered : {N S : Type 0} → Option ℕ → Bool → Option ℕ → Option Mark → Next N S → ℕ → List Entry → List Entry
+-- the history after a step that was taken: its id, whether the table has room, the id that is past,
+-- its mark, and what it makes of its context
+abbrev pub entered : {N S : Type 0} → Option ℕ → Bool → Option ℕ → Option Mark → Next N S → ℕ
+    → List Entry → List Entry
 entered id place past mark step now h =
-    finished (is_none id) step (id_of id h) now (noted mark (id_of id h) now (started id place past now h))
+    finished (is_none id) step (id_of id h) now
+    (noted mark (id_of id h) now (started id place past now h))
 
 -- the refusal of a mark, where one is given
 abbrev pub mark_refused : ℕ → ℕ → List TakenMark → Option Mark → Option MarkRefusal
 mark_refused capacity greatest taken None = None
-mark_refused capacity greatest taken (Some mark) = mark_refusal (cache_verdict capacity greatest taken mark)
+mark_refused capacity greatest taken (Some mark) =
+    mark_refusal (cache_verdict capacity greatest taken mark)
 
+-- the refusal of a mark by an acceptor's state
+abbrev pub mark_refused_in : {N S : Type 0} → Accepting N S → Option Mark → Option MarkRefusal
+mark_refused_in core mark =
+    mark_refused core.cache.capacity core.cache.greatest (taken_of core.history) mark
+
+-- the history once a mark was judged: the new one, or the old one if the mark is refused
 abbrev pub after_mark : Option MarkRefusal → List Entry → List Entry → List Entry
 after_mark None old new = new
 after_mark (Some refusal) old new = old
@@ -65,7 +77,8 @@ auth_of (Some id) h = has_auth id h
 abbrev pub auth_after : Option ℕ → Option Mark → List Entry → Bool
 auth_after id mark h = is_some mark || auth_of id h
 
--- a step that settles does so by Kerberos exactly where an authenticator was taken, and has the mechanism and names of its value
+-- a step that settles does so by Kerberos exactly if an authenticator was taken, and has the
+-- mechanism and names of its value
 abbrev pub SettlesBy : {N S : Type 0} → Naming S → Next N S → Bool → Type 0
 SettlesBy naming (next.Going state) auth = Unit {0}
 SettlesBy naming (next.Settled mech names value ends) auth =
@@ -79,4 +92,5 @@ given receipts = take receipts.count receipts.list
 abbrev pub gained : ℕ → List Entry → List Receipt
 gained from [] = []
 gained from (entry ∷ h) =
-    if nat_lt (length h) from then [] else gained from h ++ (record { place = length h; entry = entry }) ∷ []
+    if nat_lt (length h) from then []
+    else gained from h ++ (record { place = length h; entry = entry }) ∷ []

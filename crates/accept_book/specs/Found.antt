@@ -1,5 +1,7 @@
--- What the step of a book's token hands out, finds verified and fixes: what the acceptor's machine says of it, where the step was taken.
-use Rattle.std.specs.Prelude.{ℕ, ◌+◌, nat_lt, nat_le, ◌&&◌, is_none, if◌then◌else◌, List, [], length, Option, None, Some, Result, Ok, Err}
+-- What the step of a book's token hands out, finds verified and fixes: what the acceptor's machine
+-- says of it, where the step was taken.
+use Rattle.std.specs.Prelude.{ℕ, ◌+◌, nat_lt, nat_le, ◌&&◌, is_none, if◌then◌else◌, List, []}
+use Rattle.std.specs.Prelude.{length, Option, None, Some, Result, Ok, Err}
 use Rattle.scram_mech.specs.MechMaking.{MechMaking}
 use Rattle.spnego_core.specs.declared.refusal.NegRefusal.{NegRefusal}
 use Rattle.spnego_core.specs.declared.setup.AcceptSetup.{AcceptSetup}
@@ -17,10 +19,12 @@ abbrev pub unless_refused : Option MarkRefusal → Accepted → Option Accepted
 unless_refused None accepted = Some accepted
 unless_refused (Some refusal) accepted = None
 
+-- the step that the acceptor made of a token, where it was taken: neither token nor mark is refused
 abbrev pub took : Stands → Result Accepted NegRefusal → Option Accepted
 took book (Err refusal) = None
 took book (Ok accepted) =
-    unless_refused (mark_refused book.capacity book.greatest (taken_of book.history) (mark_of accepted.step)) accepted
+    unless_refused (mark_refused book.capacity book.greatest (taken_of book.history)
+    (mark_of accepted.step)) accepted
 
 -- the step of a first token
 abbrev pub first_took : AcceptSetup → Stands → Option ℕ → List ℕ → ℕ → List ℕ → Option Accepted
@@ -42,10 +46,13 @@ took_by (Open at) setup book id token now draws = later_took setup book id token
 took_by (Whole mech names until) setup book id token now draws = None
 took_by Over setup book id token now draws = None
 
--- the step of a token, where it was taken: setup, book, the token's id, the id that is past, token, moment, draws
-abbrev pub step_taken : AcceptSetup → Stands → Option ℕ → Option ℕ → List ℕ → ℕ → List ℕ → Option Accepted
+-- the step of a token, where it was taken: setup, book, the token's id, the id that is past, token,
+-- moment, draws
+abbrev pub step_taken : AcceptSetup → Stands → Option ℕ → Option ℕ → List ℕ → ℕ → List ℕ
+    → Option Accepted
 step_taken setup book None past token now draws = first_took setup book past token now draws
-step_taken setup book (Some id) past token now draws = took_by (standing id book.history) setup book id token now draws
+step_taken setup book (Some id) past token now draws =
+    took_by (standing id book.history) setup book id token now draws
 
 -- what was handed out with the answer
 abbrev pub makes_of : Option Accepted → List MechMaking
@@ -67,6 +74,7 @@ abbrev pub end_before : Option AcceptEnd → AcceptEnd
 end_before None = ends.New
 end_before (Some end) = end
 
+-- the end from which a token's step is made: a new one for a first token, else its context's
 abbrev pub stepped_from : Stands → Option ℕ → AcceptEnd
 stepped_from book None = ends.New
 stepped_from book (Some id) = end_before (state_of (slot_at book.table id))

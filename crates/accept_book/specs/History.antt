@@ -1,24 +1,29 @@
--- The acceptor's log as a history: a list of entries, the newest first. A place in the log is the number of entries before it.
-use Rattle.std.specs.Prelude.{ℕ, ◌+◌, Bool, true, false, ◌==◌, if◌then◌else◌, List, [], ◌∷◌, ◌++◌, length, Option, None, Some}
+-- The acceptor's log as a history: a list of entries, the newest first. A place in the log is the
+-- number of entries before it.
+use Rattle.std.specs.Prelude.{ℕ, ◌+◌, Bool, true, false, ◌==◌, if◌then◌else◌, List, [], ◌∷◌, ◌++◌}
+use Rattle.std.specs.Prelude.{length, Option, None, Some}
 use Rattle.gss_base.specs.declared.mech.MechKind.{MechKind}
 use Rattle.replay_cache.specs.declared.cache.TakenMark.{TakenMark}
 use Rattle.accept_book.specs.declared.entry.Entry.{Entry}
-use Rattle.accept_book.specs.declared.entry.Entry.TheVariants.{Opened, Auth, Went, Settled, Call, Ended}
+use Rattle.accept_book.specs.declared.entry.Entry.TheVariants.{Opened, Auth, Went, Settled, Call}
+use Rattle.accept_book.specs.declared.entry.Entry.TheVariants.{Ended}
 
--- what a history says of an id: it was never opened; it was opened and nothing more; it is settled, with its mechanism, names and
--- end; it is ended
+-- what a history says of an id: it was never opened; it was opened and nothing more; it is settled,
+-- with its mechanism, names and end; it is ended
 pub data Standing : Type 0 where
   Unknown : Standing
   Open : (at : ℕ) → Standing
   Whole : (mech : MechKind) (names : List ℕ) (ends : ℕ) → Standing
   Over : Standing
 
+-- what the history says of an id: its newest entry that opens, settles or ends it decides
 abbrev pub standing : ℕ → List Entry → Standing
 standing id [] = Unknown
 standing id (Opened i at ∷ h) = if i == id then Open at else standing id h
 standing id (Auth i mark at ∷ h) = standing id h
 standing id (Went i at ∷ h) = standing id h
-standing id (Settled i mech names ends at ∷ h) = if i == id then Whole mech names ends else standing id h
+standing id (Settled i mech names ends at ∷ h) =
+    if i == id then Whole mech names ends else standing id h
 standing id (Call i seq procedure args ∷ h) = standing id h
 standing id (Ended i cause ∷ h) = if i == id then Over else standing id h
 
@@ -87,6 +92,7 @@ abbrev pub entry_at : ℕ → List Entry → Option Entry
 entry_at place [] = None
 entry_at place (entry ∷ h) = if place == length h then Some entry else entry_at place h
 
+-- opened, neither settled nor ended
 abbrev pub IsOpen : Standing → Type 0
 IsOpen Unknown = ⊥
 IsOpen (Open at) = Unit {0}
@@ -100,6 +106,7 @@ IsLive (Open at) = Unit {0}
 IsLive (Whole mech names ends) = Unit {0}
 IsLive Over = ⊥
 
+-- never opened, or ended
 abbrev pub IsGone : Standing → Type 0
 IsGone Unknown = Unit {0}
 IsGone (Open at) = ⊥

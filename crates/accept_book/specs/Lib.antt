@@ -8,7 +8,9 @@ pub mod Once
 pub mod Looking
 pub mod Examples
 pub mod Stepping
+pub mod Ready
 pub mod Booking
+pub mod BookAnswers
 pub mod Found
 pub mod BookLaws
 pub mod Phases
@@ -17,6 +19,7 @@ pub mod Statuses
 pub mod Served
 pub mod RecordShown
 pub mod RecordRule
+pub mod Rules
 pub mod RuleExamples
 pub mod Asking
 pub mod Honest

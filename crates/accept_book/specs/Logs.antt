@@ -3,6 +3,8 @@ use Rattle.std.specs.Prelude.{ℕ, ◌≤◌, List, Vec, vec_len, vec_capacity}
 use Rattle.std.specs.Global.{Global}
 use Rattle.accept_book.specs.declared.entry.Entry.{Entry}
 
+-- a log as contracts see it; the numbers are the width of the windows, and how many entries,
+-- contexts and marks there may be
 pub record LogOf : Type 0 where
   pub entries : List Entry
   pub width : ℕ
@@ -10,6 +12,7 @@ pub record LogOf : Type 0 where
   pub contexts : ℕ
   pub marks : ℕ
 
+-- a log in memory: it has at most as many entries as its limit, and room for that many
 pub record IsLog (limit : ℕ) (entries : Vec Entry Global) : Type 0 where
   pub few : vec_len entries ≤ limit
   pub room : limit ≤ vec_capacity entries

@@ -5,10 +5,12 @@ use Rattle.context_table.specs.Slots.{HasState}
 use Rattle.accept_book.specs.History.{Standing, Unknown, Open, Whole, Over}
 use Rattle.accept_book.specs.Replays.{Naming}
 
+-- a value and an end are what the history says of an id: its mechanism, its names and its end
 abbrev pub NamedBy : {S : Type 0} → Naming S → Standing → S → ℕ → Type 0
 NamedBy naming Unknown value ends = ⊥
 NamedBy naming (Open at) value ends = ⊥
-NamedBy naming (Whole mech names until) value ends = (naming.mech value ≡ mech) × (naming.names value ≡ names) × (ends ≡ until)
+NamedBy naming (Whole mech names until) value ends =
+    (naming.mech value ≡ mech) × (naming.names value ≡ names) × (ends ≡ until)
 NamedBy naming Over value ends = ⊥
 
 -- the slot is complete, with this value

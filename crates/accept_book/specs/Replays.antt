@@ -9,11 +9,13 @@ use Rattle.context_table.specs.declared.slot.SlotState.{SlotState}
 use Rattle.context_table.specs.declared.slot.SlotState.TheVariants.{Negotiating, Held, Complete}
 use Rattle.context_table.specs.Places.{Places, slot_at}
 use Rattle.accept_book.specs.declared.entry.Entry.{Entry}
-use Rattle.accept_book.specs.History.{Standing, Unknown, Open, Whole, Over, standing, numbers, opened, posts, latest, taken_of, IsGone}
+use Rattle.accept_book.specs.History.{Standing, Unknown, Open, Whole, Over, standing, numbers}
+use Rattle.accept_book.specs.History.{opened, posts, latest, taken_of, IsGone}
 use Rattle.accept_book.specs.Legal.{Legal}
 use Rattle.accept_book.specs.Logs.{LogOf}
 
--- what a value of a complete context is known by: its mechanism, and the digest of its names and key
+-- what a value of a complete context is known by: its mechanism, and the digest of its names and
+-- key
 pub record Naming (S : Type 0) : Type 0 where
   pub mech : S → MechKind
   pub names : S → List ℕ
@@ -34,16 +36,21 @@ SameState naming (Whole mech names until) (Complete value) ends =
     (naming.mech value ≡ mech) × (naming.names value ≡ names) × (ends ≡ until)
 SameState naming Over state ends = ⊥
 
-pub record SlotOf {N S : Type 0} (naming : Naming S) (wide : ℕ) (stands : Standing) (ns : List ℕ) (slot : Slot N S) : Type 0 where
+-- a slot is what the history says of its id, and its window shows the numbers of the id's calls
+pub record SlotOf {N S : Type 0} (naming : Naming S) (wide : ℕ) (stands : Standing) (ns : List ℕ)
+    (slot : Slot N S) : Type 0 where
   pub state : SameState naming stands slot.state slot.ends
   pub width : slot.window.width ≡ wide
   pub window : Shows slot.window ns
 
+-- the slot of an id is what the history says of it: none exactly where the id is gone
 abbrev pub SameSlot : {N S : Type 0} → Naming S → ℕ → Option (Slot N S) → Standing → List ℕ → Type 0
 SameSlot naming wide None stands ns = IsGone stands
 SameSlot naming wide (Some slot) stands ns = SlotOf naming wide stands ns slot
 
-pub record Replays {N S : Type 0} (naming : Naming S) (wide posted : ℕ) (h : List Entry) (table : Places N S) (cache : Cached) : Type 0 where
+-- the history is legal, and contexts, marks and the number of posts are what it says
+pub record Replays {N S : Type 0} (naming : Naming S) (wide posted : ℕ) (h : List Entry)
+    (table : Places N S) (cache : Cached) : Type 0 where
   pub legal : Legal wide h
   pub slots : (id : ℕ) → SameSlot naming wide (slot_at table id) (standing id h) (numbers id h)
   pub count : posted ≡ posts h
@@ -51,7 +58,8 @@ pub record Replays {N S : Type 0} (naming : Naming S) (wide posted : ℕ) (h : L
   pub past : latest h ≤ cache.greatest
   pub marks : Holds cache (taken_of h)
 
--- the acceptor's state, as contracts see it: its history, the limit of its log, the width of its windows, its contexts and marks
+-- the acceptor's state, as contracts see it: its history, the limit of its log, the width of its
+-- windows, its contexts and marks
 pub record Accepting (N S : Type 0) : Type 0 where
   pub history : List Entry
   pub limit : ℕ
@@ -67,7 +75,10 @@ pub record Keeps {N S : Type 0} (old new : Accepting N S) : Type 0 where
   pub capacity : new.cache.capacity ≡ old.cache.capacity
   pub greatest : new.cache.greatest ≡ old.cache.greatest
 
-pub record IsCore {N S : Type 0} (naming : Naming S) (log : LogOf) (posted given : ℕ) (table : Places N S) (cache : Cached) : Type 0 where
+-- an acceptor's log, its number of posts, the ids that it gave, its contexts and its marks belong
+-- together
+pub record IsCore {N S : Type 0} (naming : Naming S) (log : LogOf) (posted given : ℕ)
+    (table : Places N S) (cache : Cached) : Type 0 where
   pub replays : Replays naming log.width posted (reverse log.entries) table cache
   pub ids : given ≡ opened (reverse log.entries)
   pub few : length (reverse log.entries) ≤ log.limit

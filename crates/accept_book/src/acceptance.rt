@@ -1,19 +1,30 @@
 //! The acceptance history as a plain sequential object.
-ghost use Rattle.std.specs.Prelude.{⊤, ◌≡◌, ◌≢◌, ℕ, ◌+◌, ◌<◌, ◌≤◌, ◌↔◌, List, [], ◌∷◌, ◌++◌, Option, IfOk, IfSome, IsSome, IsOk, is_some, is_none, is_ok, None, Some, Ok, Err, length, reverse, max, nat_lt, ◌==◌, ◌||◌, true, false, IfErr, OnErr, if◌then◌else◌};
+ghost use Rattle.std.specs.Prelude.{◌≡◌, ◌≢◌, ℕ, ◌+◌, ◌<◌, ◌≤◌, ◌↔◌, [], ◌∷◌, Option, IfOk, IfSome};
+ghost use Rattle.std.specs.Prelude.{IsSome, IsOk, is_some, is_none, is_ok, None, Some, Ok, Err};
+ghost use Rattle.std.specs.Prelude.{length, reverse, max, ◌==◌, ◌||◌, true, false, IfErr, OnErr};
+ghost use Rattle.std.specs.Prelude.{if◌then◌else◌};
 ghost use Rattle.context_table.specs.declared.slot.SlotState.{SlotState};
 ghost use Rattle.seq_window.specs.Marks.{Shows};
-ghost use Rattle.context_table.specs.Places.{slot_at, live_of, KeepsOthers, phase_of, is_complete, state_of, held_after, IsHeld, IsPast, IsFreshAt, Marks, with_state, settled_as, HasValue};
+ghost use Rattle.context_table.specs.Places.{slot_at, live_of, KeepsOthers, phase_of, is_complete};
+ghost use Rattle.context_table.specs.Places.{state_of, held_after, IsHeld, IsPast, IsFreshAt};
+ghost use Rattle.context_table.specs.Places.{Marks, with_state, settled_as, HasValue};
 ghost use Rattle.accept_book.specs.declared.entry.Entry.{Entry};
 ghost use Rattle.accept_book.specs.History.{standing, has_auth, opened, posts, taken_of};
-ghost use Rattle.accept_book.specs.Legal.{Legal, MayCall, MayEnd, MayAuth};
+ghost use Rattle.accept_book.specs.Legal.{Legal, MayCall, MayEnd};
 ghost use Rattle.gss_base.specs.Mech.{is_kerberos};
 ghost use Rattle.replay_cache.specs.Taking.{cache_verdict};
 ghost use Rattle.accept_book.specs.Replays.{Keeps, Replays, end_of_opened};
-ghost use Rattle.accept_book.specs.Answers.{refused, or_refused, after, admitted, receipt_of, Free, taken_by, LooksBy, with_end};
+ghost use Rattle.accept_book.specs.Answers.{refused, or_refused, after, admitted, receipt_of, Free};
+ghost use Rattle.accept_book.specs.Answers.{taken_by, LooksBy};
 ghost use Rattle.accept_book.specs.Phases.{PhaseBy};
+ghost use Rattle.accept_book.specs.Ready.{ReadyFor};
 ghost use Rattle.accept_book.specs.Naming.{NamedBy, IsValueAt};
-ghost use Rattle.accept_book.specs.Stepping.{lapsed_slot, kept_slot, context_of, context_after, slot_after, until_of, SameWindow, Stays};
-ghost use Rattle.accept_book.specs.Entering.{id_of, lapsed, started, noted, finished, entered, mark_refused, after_mark, auth_of, auth_after, SettlesBy, given, gained};
+ghost use Rattle.accept_book.specs.Stepping.{has_place, lapsed_slot, kept_slot, context_of};
+ghost use Rattle.accept_book.specs.Stepping.{context_after, slot_after, until_of, SameWindow};
+ghost use Rattle.accept_book.specs.Stepping.{Stays};
+ghost use Rattle.accept_book.specs.Entering.{id_of, lapsed, started, noted, finished, entered};
+ghost use Rattle.accept_book.specs.Entering.{mark_refused_in, after_mark, auth_of, auth_after};
+ghost use Rattle.accept_book.specs.Entering.{SettlesBy, given, gained};
 
 use crate::answer::{
     AdmitRefusal, Entered, LookRefusal, MarkRefusal, Next, RoomRefusal, TakeRefusal,
@@ -47,9 +58,16 @@ impl<N, S: Named> Model for Core<N, S> {
 
     ghost Value = { Accepting N S };
 
-    ghost view = { λ c. record { history = reverse c.log.entries; limit = c.log.limit; width = c.log.width; table = c.table; cache = c.cache } };
+    ghost view = { λ c. record {
+      history = reverse c.log.entries;
+      limit = c.log.limit;
+      width = c.log.width;
+      table = c.table;
+      cache = c.cache;
+    } };
 
-    ghost invariant = { λ c. IsCore (record { mech = S.mech_of; names = S.names_of }) c.log c.posts c.given c.table c.cache };
+    ghost invariant = { λ c. IsCore (record { mech = S.mech_of; names = S.names_of })
+        c.log c.posts c.given c.table c.cache };
 }
 
 impl<N: Drop, S: Named + Drop> Core<N, S> {
@@ -97,13 +115,19 @@ impl<N: Drop, S: Named + Drop> Core<N, S> {
         procedure: u32,
         args: [u8; 20],
     ) -> Result<Admitted, AdmitRefusal>
-        ensures answer { result ≡ or_refused (refused self.old.limit self.old.width self.old.history id seq) (admitted self.old.history (Entry.Call id seq procedure args)) }
-        ensures history { self.new.history ≡ after (refused self.old.limit self.old.width self.old.history id seq) (Entry.Call id seq procedure args) self.old.history }
-        ensures exactly { IsOk result ↔ Free self.old.limit self.old.width self.old.history id seq }
+        ensures answer { result
+            ≡ or_refused (refused self.old.limit self.old.width self.old.history id seq)
+            (admitted self.old.history (Entry.Call id seq procedure args)) }
+        ensures history { self.new.history
+            ≡ after (refused self.old.limit self.old.width self.old.history id seq)
+            (Entry.Call id seq procedure args) self.old.history }
+        ensures exactly { IsOk result
+            ↔ Free self.old.limit self.old.width self.old.history id seq }
         ensures unchanged { OnErr result (self.new ≡ self.old) }
         ensures keeps { Keeps self.old self.new }
         ensures others { KeepsOthers self.old.table self.new.table id }
-        ensures slot { IsOk result → Marks (slot_at self.old.table id) (slot_at self.new.table id) seq }
+        ensures slot { IsOk result
+            → Marks (slot_at self.old.table id) (slot_at self.new.table id) seq }
     {
         match self.refusal(id, seq) {
             Some(refusal) => Err(refusal),
@@ -159,9 +183,14 @@ impl<N: Drop, S: Named + Drop> Core<N, S> {
 
     /// Ends a complete context by a call with a number that is fresh.
     pub fn end(&mut self, id: u64, seq: u32) -> Result<Receipt, AdmitRefusal>
-        ensures answer { result ≡ or_refused (refused self.old.limit self.old.width self.old.history id seq) (receipt_of self.old.history (Entry.Ended id (EndCause.Destroyed seq))) }
-        ensures history { self.new.history ≡ after (refused self.old.limit self.old.width self.old.history id seq) (Entry.Ended id (EndCause.Destroyed seq)) self.old.history }
-        ensures exactly { IsOk result ↔ Free self.old.limit self.old.width self.old.history id seq }
+        ensures answer { result
+            ≡ or_refused (refused self.old.limit self.old.width self.old.history id seq)
+            (receipt_of self.old.history (Entry.Ended id (EndCause.Destroyed seq))) }
+        ensures history { self.new.history
+            ≡ after (refused self.old.limit self.old.width self.old.history id seq)
+            (Entry.Ended id (EndCause.Destroyed seq)) self.old.history }
+        ensures exactly { IsOk result
+            ↔ Free self.old.limit self.old.width self.old.history id seq }
         ensures unchanged { OnErr result (self.new ≡ self.old) }
         ensures keeps { Keeps self.old self.new }
         ensures others { KeepsOthers self.old.table self.new.table id }
@@ -197,7 +226,8 @@ impl<N: Drop, S: Named + Drop> Core<N, S> {
         ensures keeps { Keeps self.old self.new }
         ensures others { KeepsOthers self.old.table self.new.table id }
         ensures gone { slot_at self.new.table id ≡ None }
-        ensures live { live_of self.new.table + (if is_some (slot_at self.old.table id) then 1 else 0) ≡ live_of self.old.table }
+        ensures live { live_of self.new.table
+            + (if is_some (slot_at self.old.table id) then 1 else 0) ≡ live_of self.old.table }
     {
         let place = self.log.len();
         let _ = self.table.end(id);
@@ -213,12 +243,17 @@ impl<N: Drop, S: Named + Drop> Core<N, S> {
         requires live { live_of self.old.table < self.old.table.limit }
         requires room { length self.old.history < self.old.limit }
         ensures id { result ≡ opened self.old.history + 1 }
-        ensures history { self.new.history ≡ Entry.Opened result self.old.cache.greatest ∷ self.old.history }
+        ensures history { self.new.history
+            ≡ Entry.Opened result self.old.cache.greatest ∷ self.old.history }
         ensures keeps { Keeps self.old self.new }
         ensures held { IsHeld (slot_at self.new.table result) }
         ensures auth { has_auth result self.new.history ≡ false }
         ensures others { KeepsOthers self.old.table self.new.table result }
-        ensures context { context_of (slot_at self.new.table result) ≡ Some (record { state = SlotState.Held; ends = end_of_opened self.old.cache.greatest }) }
+        ensures context { context_of (slot_at self.new.table result)
+            ≡ Some (record {
+              state = SlotState.Held;
+              ends = end_of_opened self.old.cache.greatest;
+            }) }
         ensures window { IfSome (slot_at self.new.table result) (λ slot. Shows slot.window []) }
     {
         let id = self.given + 1;
@@ -231,18 +266,24 @@ impl<N: Drop, S: Named + Drop> Core<N, S> {
 
     // Makes a place for a context, where the table is at its limit and a context is past its end.
     fn make_place(&mut self)
-        requires place { IsPast self.old.table self.old.cache.greatest None → live_of self.old.table < self.old.table.limit }
+        requires place { IsPast self.old.table self.old.cache.greatest None
+            → live_of self.old.table < self.old.table.limit }
         requires room { length self.old.history < self.old.limit }
-        ensures history { (past : Option ℕ) → IsPast self.old.table self.old.cache.greatest past → self.new.history ≡ lapsed (nat_lt (live_of self.old.table) self.old.table.limit) past self.old.history }
+        ensures history { (past : Option ℕ) → IsPast self.old.table self.old.cache.greatest past
+            → self.new.history ≡ lapsed (has_place self.old.table) past self.old.history }
         ensures keeps { Keeps self.old self.new }
         ensures live { live_of self.new.table < self.new.table.limit }
         ensures given { opened self.new.history ≡ opened self.old.history }
         ensures taken { taken_of self.new.history ≡ taken_of self.old.history }
         ensures grows { length self.old.history ≤ length self.new.history }
         ensures count { length self.new.history ≤ length self.old.history + 1 }
-        ensures slots { (past : Option ℕ) → IsPast self.old.table self.old.cache.greatest past → (other : ℕ) → slot_at self.new.table other ≡ lapsed_slot (nat_lt (live_of self.old.table) self.old.table.limit) past other (slot_at self.old.table other) }
-        ensures stays { (other : ℕ) → Stays (slot_at self.old.table other) (slot_at self.new.table other) }
-        ensures auths { (other : ℕ) → has_auth other self.new.history ≡ has_auth other self.old.history }
+        ensures slots { (past : Option ℕ) → IsPast self.old.table self.old.cache.greatest past
+            → (other : ℕ) → slot_at self.new.table other
+            ≡ lapsed_slot (has_place self.old.table) past other (slot_at self.old.table other) }
+        ensures stays { (other : ℕ)
+            → Stays (slot_at self.old.table other) (slot_at self.new.table other) }
+        ensures auths { (other : ℕ)
+            → has_auth other self.new.history ≡ has_auth other self.old.history }
         ensures unopened { slot_at self.old.table (opened self.old.history + 1) ≡ None }
     {
         if self.table.live() < self.log.contexts() as usize {
@@ -258,22 +299,31 @@ impl<N: Drop, S: Named + Drop> Core<N, S> {
 
     // The context of a step: a first token opens one.
     fn start(&mut self, id: Option<u64>) -> u64
-        requires place { id ≡ None → IsPast self.old.table self.old.cache.greatest None → live_of self.old.table < self.old.table.limit }
-        requires room { length self.old.history + 1 < self.old.limit }
-        requires held { IfSome id (λ id. IsHeld (slot_at self.old.table id)) }
+        requires ready { ReadyFor self.old id }
         ensures id { result ≡ id_of id self.old.history }
-        ensures history { (past : Option ℕ) → IsPast self.old.table self.old.cache.greatest past → self.new.history ≡ started id (nat_lt (live_of self.old.table) self.old.table.limit) past self.old.cache.greatest self.old.history }
+        ensures history { (past : Option ℕ) → IsPast self.old.table self.old.cache.greatest past
+            → self.new.history ≡ started id (has_place self.old.table) past
+            self.old.cache.greatest self.old.history }
         ensures keeps { Keeps self.old self.new }
         ensures held { IsHeld (slot_at self.new.table result) }
         ensures taken { taken_of self.new.history ≡ taken_of self.old.history }
         ensures auth { has_auth result self.new.history ≡ auth_of id self.old.history }
         ensures grows { length self.old.history ≤ length self.new.history }
         ensures count { length self.new.history ≤ length self.old.history + 2 }
-        ensures slots { (past : Option ℕ) → IsPast self.old.table self.old.cache.greatest past → (other : ℕ) → result ≢ other → slot_at self.new.table other ≡ kept_slot id (nat_lt (live_of self.old.table) self.old.table.limit) past other (slot_at self.old.table other) }
-        ensures stays { (other : ℕ) → result ≢ other → Stays (slot_at self.old.table other) (slot_at self.new.table other) }
-        ensures auths { (other : ℕ) → has_auth other self.new.history ≡ has_auth other self.old.history }
-        ensures context { context_of (slot_at self.new.table result) ≡ Some (record { state = SlotState.Held; ends = until_of id self.old.cache.greatest self.old.table }) }
-        ensures window { SameWindow (slot_at self.old.table result) (slot_at self.new.table result) }
+        ensures slots { (past : Option ℕ) → IsPast self.old.table self.old.cache.greatest past
+            → (other : ℕ) → result ≢ other → slot_at self.new.table other
+            ≡ kept_slot id (has_place self.old.table) past other (slot_at self.old.table other) }
+        ensures stays { (other : ℕ) → result ≢ other
+            → Stays (slot_at self.old.table other) (slot_at self.new.table other) }
+        ensures auths { (other : ℕ)
+            → has_auth other self.new.history ≡ has_auth other self.old.history }
+        ensures context { context_of (slot_at self.new.table result)
+            ≡ Some (record {
+              state = SlotState.Held;
+              ends = until_of id self.old.cache.greatest self.old.table;
+            }) }
+        ensures window { SameWindow (slot_at self.old.table result)
+            (slot_at self.new.table result) }
     {
         match id {
             Some(id) => id,
@@ -289,12 +339,15 @@ impl<N: Drop, S: Named + Drop> Core<N, S> {
         requires held { IsHeld (slot_at self.old.table id) }
         requires room { length self.old.history < self.old.limit }
         requires first { IsSome mark → has_auth id self.old.history ≡ false }
-        requires verdict { mark_refused self.old.cache.capacity self.old.cache.greatest (taken_of self.old.history) mark ≡ None }
-        ensures history { self.new.history ≡ noted mark id self.old.cache.greatest self.old.history }
+        requires verdict { mark_refused_in self.old mark ≡ None }
+        ensures history { self.new.history
+            ≡ noted mark id self.old.cache.greatest self.old.history }
         ensures keeps { Keeps self.old self.new }
         ensures table { self.new.table ≡ self.old.table }
-        ensures auth { has_auth id self.new.history ≡ (is_some mark || has_auth id self.old.history) }
-        ensures auths { (other : ℕ) → id ≢ other → has_auth other self.new.history ≡ has_auth other self.old.history }
+        ensures auth { has_auth id self.new.history
+            ≡ (is_some mark || has_auth id self.old.history) }
+        ensures auths { (other : ℕ) → id ≢ other
+            → has_auth other self.new.history ≡ has_auth other self.old.history }
         ensures grows { length self.old.history ≤ length self.new.history }
         ensures count { length self.new.history ≤ length self.old.history + 1 }
     {
@@ -308,8 +361,10 @@ impl<N: Drop, S: Named + Drop> Core<N, S> {
         requires held { IsHeld (slot_at self.old.table id) }
         requires room { length self.old.history < self.old.limit }
         requires first { has_auth id self.old.history ≡ false }
-        requires verdict { cache_verdict self.old.cache.capacity self.old.cache.greatest (taken_of self.old.history) mark ≡ CacheVerdict.Taken }
-        ensures history { self.new.history ≡ Entry.Auth id mark self.old.cache.greatest ∷ self.old.history }
+        requires verdict { cache_verdict self.old.cache.capacity self.old.cache.greatest
+            (taken_of self.old.history) mark ≡ CacheVerdict.Taken }
+        ensures history { self.new.history
+            ≡ Entry.Auth id mark self.old.cache.greatest ∷ self.old.history }
         ensures keeps { Keeps self.old self.new }
         ensures table { self.new.table ≡ self.old.table }
     {
@@ -326,14 +381,17 @@ impl<N: Drop, S: Named + Drop> Core<N, S> {
     fn finish(&mut self, id: u64, first: bool, step: Next<N, S>)
         requires held { IsHeld (slot_at self.old.table id) }
         requires room { length self.old.history < self.old.limit }
-        requires settles { SettlesBy (record { mech = S.mech_of; names = S.names_of }) step (has_auth id self.old.history) }
-        ensures history { self.new.history ≡ finished first step id self.old.cache.greatest self.old.history }
+        requires settles { SettlesBy (record { mech = S.mech_of; names = S.names_of }) step
+            (has_auth id self.old.history) }
+        ensures history { self.new.history
+            ≡ finished first step id self.old.cache.greatest self.old.history }
         ensures keeps { Keeps self.old self.new }
         ensures grows { length self.old.history ≤ length self.new.history }
         ensures count { length self.new.history ≤ length self.old.history + 1 }
         ensures slot { slot_at self.new.table id ≡ slot_after step (slot_at self.old.table id) }
         ensures others { KeepsOthers self.old.table self.new.table id }
-        ensures auths { (other : ℕ) → has_auth other self.new.history ≡ has_auth other self.old.history }
+        ensures auths { (other : ℕ)
+            → has_auth other self.new.history ≡ has_auth other self.old.history }
     {
         match step {
             Next::Going(state) => self.go_on(id, first, state),
@@ -349,11 +407,15 @@ impl<N: Drop, S: Named + Drop> Core<N, S> {
     fn go_on(&mut self, id: u64, first: bool, state: N)
         requires held { IsHeld (slot_at self.old.table id) }
         requires room { length self.old.history < self.old.limit }
-        ensures history { self.new.history ≡ (if first then self.old.history else Entry.Went id self.old.cache.greatest ∷ self.old.history) }
+        ensures history { self.new.history
+            ≡ (if first then self.old.history
+            else Entry.Went id self.old.cache.greatest ∷ self.old.history) }
         ensures keeps { Keeps self.old self.new }
-        ensures slot { slot_at self.new.table id ≡ with_state (slot_at self.old.table id) (SlotState.Negotiating state) }
+        ensures slot { slot_at self.new.table id
+            ≡ with_state (slot_at self.old.table id) (SlotState.Negotiating state) }
         ensures others { KeepsOthers self.old.table self.new.table id }
-        ensures auths { (other : ℕ) → has_auth other self.new.history ≡ has_auth other self.old.history }
+        ensures auths { (other : ℕ)
+            → has_auth other self.new.history ≡ has_auth other self.old.history }
     {
         if !first {
             self.went(id);
@@ -364,7 +426,8 @@ impl<N: Drop, S: Named + Drop> Core<N, S> {
     fn went(&mut self, id: u64)
         requires held { IsHeld (slot_at self.old.table id) }
         requires room { length self.old.history < self.old.limit }
-        ensures history { self.new.history ≡ Entry.Went id self.old.cache.greatest ∷ self.old.history }
+        ensures history { self.new.history
+            ≡ Entry.Went id self.old.cache.greatest ∷ self.old.history }
         ensures keeps { Keeps self.old self.new }
         ensures table { self.new.table ≡ self.old.table }
     {
@@ -378,7 +441,8 @@ impl<N: Drop, S: Named + Drop> Core<N, S> {
         requires held { IsHeld (slot_at self.old.table id) }
         ensures history { self.new.history ≡ self.old.history }
         ensures keeps { Keeps self.old self.new }
-        ensures slot { slot_at self.new.table id ≡ with_state (slot_at self.old.table id) (SlotState.Negotiating state) }
+        ensures slot { slot_at self.new.table id
+            ≡ with_state (slot_at self.old.table id) (SlotState.Negotiating state) }
         ensures others { KeepsOthers self.old.table self.new.table id }
     {
         self.table.put_back(id, state);
@@ -390,9 +454,11 @@ impl<N: Drop, S: Named + Drop> Core<N, S> {
         requires auth { has_auth id self.old.history ≡ is_kerberos mech }
         requires mech { S.mech_of value ≡ mech }
         requires names { S.names_of value ≡ names }
-        ensures history { self.new.history ≡ Entry.Settled id mech names ends self.old.cache.greatest ∷ self.old.history }
+        ensures history { self.new.history
+            ≡ Entry.Settled id mech names ends self.old.cache.greatest ∷ self.old.history }
         ensures keeps { Keeps self.old self.new }
-        ensures slot { slot_at self.new.table id ≡ settled_as (slot_at self.old.table id) (SlotState.Complete value) ends }
+        ensures slot { slot_at self.new.table id
+            ≡ settled_as (slot_at self.old.table id) (SlotState.Complete value) ends }
         ensures others { KeepsOthers self.old.table self.new.table id }
     {
         let at = self.cache.greatest();
@@ -415,10 +481,16 @@ impl<N: Drop, S: Named + Drop> Core<N, S> {
 
     /// Whether a step may be taken, a first one where `first`.
     pub fn room(&self, first: bool) -> Result<(), RoomRefusal>
-        ensures log_full { (result ≡ Err RoomRefusal.LogFull) ↔ (self.now.limit < length self.now.history + 4) }
-        ensures table_full { (result ≡ Err RoomRefusal.TableFull) ↔ ((length self.now.history + 4 ≤ self.now.limit) × (first ≡ true) × (self.now.table.limit ≤ live_of self.now.table) × IsPast self.now.table self.now.cache.greatest None) }
+        ensures log_full { (result ≡ Err RoomRefusal.LogFull)
+            ↔ (self.now.limit < length self.now.history + 4) }
+        ensures table_full { (result ≡ Err RoomRefusal.TableFull)
+            ↔ ((length self.now.history + 4 ≤ self.now.limit) × (first ≡ true)
+            × (self.now.table.limit ≤ live_of self.now.table)
+            × IsPast self.now.table self.now.cache.greatest None) }
         ensures places { IsOk result → length self.now.history + 4 ≤ self.now.limit }
-        ensures place { IsOk result → first ≡ true → IsPast self.now.table self.now.cache.greatest None → live_of self.now.table < self.now.table.limit }
+        ensures place { IsOk result → first ≡ true
+            → IsPast self.now.table self.now.cache.greatest None
+            → live_of self.now.table < self.now.table.limit }
     {
         if self.log.limit() < self.log.len() + 4 {
             return Err(RoomRefusal::LogFull);
@@ -435,10 +507,12 @@ impl<N: Drop, S: Named + Drop> Core<N, S> {
     /// Takes the state of a context that negotiates; it is held until `enter` or `refuse`.
     pub fn take(&mut self, id: u64) -> Result<N, TakeRefusal>
         ensures unchanged { OnErr result (self.new ≡ self.old) }
-        ensures answer { result ≡ taken_by (standing id self.old.history) (state_of (slot_at self.old.table id)) }
+        ensures answer { result
+            ≡ taken_by (standing id self.old.history) (state_of (slot_at self.old.table id)) }
         ensures history { self.new.history ≡ self.old.history }
         ensures keeps { Keeps self.old self.new }
-        ensures held { IsOk result → slot_at self.new.table id ≡ held_after (slot_at self.old.table id) }
+        ensures held { IsOk result
+            → slot_at self.new.table id ≡ held_after (slot_at self.old.table id) }
         ensures others { KeepsOthers self.old.table self.new.table id }
     {
         match self.table.phase(id) {
@@ -461,31 +535,50 @@ impl<N: Drop, S: Named + Drop> Core<N, S> {
         self.table.take(id)
     }
 
-    /// Takes a step: its mark, where one is given, and what it makes of its context, which is a new one where no id is given.
+    /// Takes a step: its mark, if one is given, and what it makes of its context, which is a new
+    /// one if no id is given.
     pub fn enter(
         &mut self,
         id: Option<u64>,
         mark: Option<Mark>,
         step: Next<N, S>,
     ) -> Result<Entered, MarkRefusal>
-        requires room { length self.old.history + 4 ≤ self.old.limit }
-        requires place { id ≡ None → IsPast self.old.table self.old.cache.greatest None → live_of self.old.table < self.old.table.limit }
-        requires held { IfSome id (λ id. IsHeld (slot_at self.old.table id)) }
+        requires ready { ReadyFor self.old id }
         requires first { IsSome mark → auth_of id self.old.history ≡ false }
-        requires settles { SettlesBy (record { mech = S.mech_of; names = S.names_of }) step (auth_after id mark self.old.history) }
-        ensures taken { is_ok result ≡ is_none (mark_refused self.old.cache.capacity self.old.cache.greatest (taken_of self.old.history) mark) }
-        ensures refusal { IfErr result (λ refusal. mark_refused self.old.cache.capacity self.old.cache.greatest (taken_of self.old.history) mark ≡ Some refusal) }
-        ensures id { IfOk result (λ entered. entered.id ≡ id_of id self.old.history) }
-        ensures history { (past : Option ℕ) → IsPast self.old.table self.old.cache.greatest past → self.new.history ≡ after_mark (mark_refused self.old.cache.capacity self.old.cache.greatest (taken_of self.old.history) mark) self.old.history (entered id (nat_lt (live_of self.old.table) self.old.table.limit) past mark step self.old.cache.greatest self.old.history) }
-        ensures receipts { IfOk result (λ entered. given entered.receipts ≡ gained (length self.old.history) self.new.history) }
-        ensures context { IfOk result (λ entered. context_of (slot_at self.new.table entered.id) ≡ Some (context_after (until_of id self.old.cache.greatest self.old.table) step)) }
-        ensures window { IfOk result (λ entered. SameWindow (slot_at self.old.table entered.id) (slot_at self.new.table entered.id)) }
-        ensures others { IfOk result (λ entered. (past : Option ℕ) → IsPast self.old.table self.old.cache.greatest past → (other : ℕ) → entered.id ≢ other → slot_at self.new.table other ≡ kept_slot id (nat_lt (live_of self.old.table) self.old.table.limit) past other (slot_at self.old.table other)) }
-        ensures stays { IfOk result (λ entered. (other : ℕ) → entered.id ≢ other → Stays (slot_at self.old.table other) (slot_at self.new.table other)) }
-        ensures auth { IfOk result (λ entered. has_auth entered.id self.new.history ≡ auth_after id mark self.old.history) }
-        ensures auths { IfOk result (λ entered. (other : ℕ) → entered.id ≢ other → has_auth other self.new.history ≡ has_auth other self.old.history) }
-        ensures keeps { Keeps self.old self.new }
+        requires settles { SettlesBy (record { mech = S.mech_of; names = S.names_of }) step
+            (auth_after id mark self.old.history) }
+
+        // The mark is refused by the cache's verdict, and then nothing changed.
+        ensures taken { is_ok result ≡ is_none (mark_refused_in self.old mark) }
+        ensures refusal { IfErr result (λ refusal. mark_refused_in self.old mark ≡ Some refusal) }
         ensures unchanged { OnErr result (self.new ≡ self.old) }
+
+        // The entries of the step, and their receipts.
+        ensures history { (past : Option ℕ) → IsPast self.old.table self.old.cache.greatest past
+            → self.new.history ≡ after_mark (mark_refused_in self.old mark) self.old.history
+            (entered id (has_place self.old.table) past mark step self.old.cache.greatest
+            self.old.history) }
+        ensures receipts { IfOk result (λ entered.
+            given entered.receipts ≡ gained (length self.old.history) self.new.history) }
+
+        // The step's own context, and all others.
+        ensures id { IfOk result (λ entered. entered.id ≡ id_of id self.old.history) }
+        ensures context { IfOk result (λ entered.
+            context_of (slot_at self.new.table entered.id)
+            ≡ Some (context_after (until_of id self.old.cache.greatest self.old.table) step)) }
+        ensures window { IfOk result (λ entered.
+            SameWindow (slot_at self.old.table entered.id) (slot_at self.new.table entered.id)) }
+        ensures others { IfOk result (λ entered.
+            (past : Option ℕ) → IsPast self.old.table self.old.cache.greatest past
+            → (other : ℕ) → entered.id ≢ other → slot_at self.new.table other
+            ≡ kept_slot id (has_place self.old.table) past other (slot_at self.old.table other)) }
+        ensures stays { IfOk result (λ entered. (other : ℕ) → entered.id ≢ other
+            → Stays (slot_at self.old.table other) (slot_at self.new.table other)) }
+        ensures auth { IfOk result (λ entered.
+            has_auth entered.id self.new.history ≡ auth_after id mark self.old.history) }
+        ensures auths { IfOk result (λ entered. (other : ℕ) → entered.id ≢ other
+            → has_auth other self.new.history ≡ has_auth other self.old.history) }
+        ensures keeps { Keeps self.old self.new }
     {
         match self.mark_refusal(&mark) {
             Some(refusal) => Err(refusal),
@@ -512,13 +605,26 @@ impl<N: Drop, S: Named + Drop> Core<N, S> {
 
     /// The value of a complete context and its end.
     pub fn peek(&self, id: u64, now: Moment) -> Result<(&S, Moment), LookRefusal>
-        ensures value { IfOk result (λ found. HasValue (slot_at self.now.table id) found.0.now found.1) }
-        ensures looks { LooksBy (standing id self.now.history) (slot_at self.now.table id) now result }
-        ensures named { IfOk result (λ found. NamedBy (record { mech = S.mech_of; names = S.names_of }) (standing id self.now.history) found.0.now found.1) }
+        ensures value { IfOk result (λ found.
+            HasValue (slot_at self.now.table id) found.0.now found.1) }
+        ensures looks { LooksBy (standing id self.now.history) (slot_at self.now.table id) now
+            result }
+        ensures named { IfOk result (λ found.
+            NamedBy (record { mech = S.mech_of; names = S.names_of })
+            (standing id self.now.history) found.0.now found.1) }
     {
-        match self.show(id, now) {
-            Ok((value, ends)) => Ok((value, *ends)),
-            Err(refusal) => Err(refusal),
+        match self.table.read(id) {
+            Some((value, ends)) => {
+                if ends.total() < now.total() {
+                    Err(LookRefusal::Expired)
+                } else {
+                    Ok((value, *ends))
+                }
+            }
+            None => match self.table.phase(id) {
+                Phase::None => Err(LookRefusal::NoContext),
+                _ => Err(LookRefusal::NotReady),
+            },
         }
     }
 
@@ -533,26 +639,6 @@ impl<N: Drop, S: Named + Drop> Core<N, S> {
         }
     }
 
-    fn show(&self, id: u64, now: Moment) -> Result<(&S, &Moment), LookRefusal>
-        ensures value { IfOk result (λ found. HasValue (slot_at self.now.table id) found.0.now found.1.now) }
-        ensures looks { LooksBy (standing id self.now.history) (slot_at self.now.table id) now (with_end result) }
-        ensures named { IfOk result (λ found. NamedBy (record { mech = S.mech_of; names = S.names_of }) (standing id self.now.history) found.0.now found.1.now) }
-    {
-        match self.table.read(id) {
-            Some((value, ends)) => {
-                if ends.total() < now.total() {
-                    Err(LookRefusal::Expired)
-                } else {
-                    Ok((value, ends))
-                }
-            }
-            None => match self.table.phase(id) {
-                Phase::None => Err(LookRefusal::NoContext),
-                _ => Err(LookRefusal::NotReady),
-            },
-        }
-    }
-
     /// The log. It is legal, and the table, the cache and the counts are what it says.
     pub fn log(&self) -> &Log
         ensures entries { reverse result.now.entries ≡ self.now.history }
@@ -561,7 +647,9 @@ impl<N: Drop, S: Named + Drop> Core<N, S> {
         ensures contexts { result.now.contexts ≡ self.now.table.limit }
         ensures marks { result.now.marks ≡ self.now.cache.capacity }
         ensures legal { Legal self.now.width self.now.history }
-        ensures replays { Replays (record { mech = S.mech_of; names = S.names_of }) self.now.width (posts self.now.history) self.now.history self.now.table self.now.cache }
+        ensures replays { Replays (record { mech = S.mech_of; names = S.names_of })
+            self.now.width (posts self.now.history) self.now.history self.now.table
+            self.now.cache }
     {
         &self.log
     }
@@ -587,7 +675,7 @@ impl<N: Drop, S: Named + Drop> Core<N, S> {
 
     // Why a mark may not be taken.
     fn mark_refusal(&self, mark: &Option<Mark>) -> Option<MarkRefusal>
-        ensures { result ≡ mark_refused self.now.cache.capacity self.now.cache.greatest (taken_of self.now.history) mark.now }
+        ensures { result ≡ mark_refused_in self.now mark.now }
     {
         match mark {
             None => None,
@@ -622,23 +710,6 @@ impl<N: Drop, S: Named + Drop> Core<N, S> {
                 }
             }
         }
-    }
-}
-
-impl<N: Drop, S: Named + Drop> Core<N, S> {
-    ghost use mathlib.Core.Option.{none};
-    ghost use denote.Follow.{follows_so};
-    ghost use Rattle.std.specs.Borrow.{sem};
-    ghost use Rattle.accept_book.specs.contracts.acceptance.Core.{the_row};
-    ghost use Rattle.accept_book.specs.Looking.{IsLooked};
-
-    /// Takes note of a moment, and shows the value of a complete context and its end.
-    pub fn look(&mut self, id: u64, now: Moment) -> Result<(&S, &Moment), LookRefusal>
-        ensures answer { LooksBy (standing id self.old.history) (slot_at self.old.table id) now (with_end result) }
-        ensures* after { sem 𝓛 (follows_so (the_row N.row S.row S.Named) (the_row N.row S.row S.Named) self.entry.ghost_name none (λ _ _. ⊤) (IsLooked self.old now)) }
-    {
-        self.raise(now);
-        self.show(id, now)
     }
 }
 

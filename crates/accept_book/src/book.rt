@@ -1,23 +1,27 @@
 //! The contexts of a server, from their first token to their end, in one history.
-ghost use Rattle.std.specs.Prelude.{⊤, ◌≡◌, false, List, [], ◌∷◌, ◌≢◌, ℕ, ◌+◌, ◌<◌, ◌≤◌, ◌↔◌, Option, IfOk, IfSome, IsSome, IsOk, IfErr, OnErr, None, Some, Ok, Err, length, max, reverse};
+ghost use Rattle.std.specs.Prelude.{◌≡◌, false, List, [], ◌∷◌, ◌<◌, ◌≤◌, IfOk, IsSome, None, Some};
+ghost use Rattle.std.specs.Prelude.{length, reverse};
 ghost use Rattle.gss_base.specs.Mech.{is_kerberos};
 ghost use Rattle.spnego_core.specs.Accepting.{IsSettled, accept_step};
 ghost use Rattle.spnego_core.specs.Sizes.{ShortAccept};
-ghost use Rattle.context_table.specs.Places.{slot_at, live_of, phase_of, KeepsOthers, Marks, HasValue, IsHeld, IsPast};
+ghost use Rattle.context_table.specs.Places.{slot_at, phase_of};
 ghost use Rattle.accept_book.specs.Phases.{PhaseBy};
-ghost use Rattle.accept_book.specs.Stepping.{SameWindows};
 ghost use Rattle.accept_book.specs.declared.entry.Entry.{Entry};
-ghost use Rattle.accept_book.specs.History.{standing, has_auth, opened, posts};
-ghost use Rattle.accept_book.specs.Answers.{refused, or_refused, after, admitted, receipt_of, Free};
+ghost use Rattle.accept_book.specs.History.{standing, posts};
 ghost use Rattle.accept_book.specs.Entering.{auth_of, auth_after, given, gained};
 ghost use Rattle.accept_book.specs.Replays.{Keeps, Replays};
 ghost use Rattle.accept_book.specs.Legal.{Legal};
-ghost use Rattle.accept_book.specs.Booking.{names_of, by_outcome, Changed, change_refused, Fits, AllFit, OthersFit, StepFits, token_size, mark_of, settled_of, stands_of, raised, by_step, begun, opened_by, gone_on_by, taken, negotiated, after_refusal, refusal_of_mark, lease_refused, FreeFor, has_key, same_key};
+ghost use Rattle.accept_book.specs.Ready.{ReadyFor};
+ghost use Rattle.accept_book.specs.BookAnswers.{ComesTo};
+ghost use Rattle.accept_book.specs.Booking.{names_of, by_outcome, Fits, AllFit, OthersFit};
+ghost use Rattle.accept_book.specs.Booking.{StepFits, token_size, mark_of, settled_of, stands_of};
+ghost use Rattle.accept_book.specs.Booking.{spends, by_step, begun, opened_by, taken, negotiated};
+ghost use Rattle.accept_book.specs.Booking.{refusal_of_mark, has_key};
 
 use crate::acceptance::{Core, blank};
 use crate::answer::{AdmitRefusal, LookRefusal, MarkRefusal, Next, RoomRefusal};
 use crate::book_answer::{BookRefusal, Lease, NegAnswer, Negotiated};
-use crate::entry::{Admitted, EndCause, Entry, Limits, Receipt, Receipts};
+use crate::entry::{Admitted, Limits, Receipt, Receipts};
 use crate::log::Log;
 use crate::named::Named;
 use context_table::Phase;
@@ -97,14 +101,12 @@ fn one_receipt(receipt: Receipt) -> Receipts
 
 // A token that isn't taken once it was read: a later one ends its context.
 fn refuse(core: &mut Core<AcceptEnd, Outcome>, id: Option<u64>, answer: NegAnswer) -> Negotiated
-    requires room { length core.old.history < core.old.limit }
-    requires held { IfSome id (λ id. IsHeld (slot_at core.old.table id)) }
+    requires ready { ReadyFor core.old id }
     requires others { OthersFit id core.old }
     ensures answer { result.answer ≡ answer }
-    ensures history { core.new.history ≡ after_refusal id core.old.history }
-    ensures receipts { given result.receipts ≡ gained (length core.old.history) core.new.history }
-    ensures contexts { Changed core.old.table (change_refused id) core.new.table }
-    ensures windows { SameWindows core.old.table core.new.table }
+    ensures comes { ComesTo (stands_of core.old) id
+        (λ past. spends id core.old.history answer)
+        result core.new }
     ensures keeps { Keeps core.old core.new }
     ensures fits { AllFit core.new }
 {
@@ -141,20 +143,15 @@ fn go_on(
     end: AcceptEnd,
     token: Octets,
 ) -> Negotiated
-    requires room { length core.old.history + 4 ≤ core.old.limit }
-    requires place { id ≡ None → IsPast core.old.table core.old.cache.greatest None → live_of core.old.table < core.old.table.limit }
-    requires held { IfSome id (λ id. IsHeld (slot_at core.old.table id)) }
+    requires ready { ReadyFor core.old id }
     requires first { IsSome mark → auth_of id core.old.history ≡ false }
     requires fits { Fits end (auth_after id mark core.old.history) }
     requires others { OthersFit id core.old }
     requires short { length token ≤ 65536 }
-    ensures answer { (past : Option ℕ) → IsPast core.old.table core.old.cache.greatest past → result.answer ≡ (taken (stands_of core.old) id past mark (AcceptStep.More end token)).answer }
-    ensures history { (past : Option ℕ) → IsPast core.old.table core.old.cache.greatest past → core.new.history ≡ (taken (stands_of core.old) id past mark (AcceptStep.More end token)).history }
-    ensures contexts { (past : Option ℕ) → IsPast core.old.table core.old.cache.greatest past → Changed core.old.table (taken (stands_of core.old) id past mark (AcceptStep.More end token)).change core.new.table }
     ensures size { token_size result.answer ≤ 65536 }
-    ensures receipts { given result.receipts ≡ gained (length core.old.history) core.new.history }
-    ensures windows { SameWindows core.old.table core.new.table }
-    ensures told { result.answer ≢ NegAnswer.NoMemory }
+    ensures comes { ComesTo (stands_of core.old) id
+        (λ past. taken (stands_of core.old) id past mark (AcceptStep.More end token))
+        result core.new }
     ensures keeps { Keeps core.old core.new }
     ensures fits { AllFit core.new }
 {
@@ -178,20 +175,15 @@ fn settle(
     ends: Moment,
     token: Octets,
 ) -> Negotiated
-    requires room { length core.old.history + 4 ≤ core.old.limit }
-    requires place { id ≡ None → IsPast core.old.table core.old.cache.greatest None → live_of core.old.table < core.old.table.limit }
-    requires held { IfSome id (λ id. IsHeld (slot_at core.old.table id)) }
+    requires ready { ReadyFor core.old id }
     requires first { IsSome mark → auth_of id core.old.history ≡ false }
     requires fits { auth_after id mark core.old.history ≡ is_kerberos outcome.mech }
     requires others { OthersFit id core.old }
     requires short { length token ≤ 65536 }
-    ensures answer { (past : Option ℕ) → IsPast core.old.table core.old.cache.greatest past → result.answer ≡ (taken (stands_of core.old) id past mark (AcceptStep.Done outcome ends token)).answer }
-    ensures history { (past : Option ℕ) → IsPast core.old.table core.old.cache.greatest past → core.new.history ≡ (taken (stands_of core.old) id past mark (AcceptStep.Done outcome ends token)).history }
-    ensures contexts { (past : Option ℕ) → IsPast core.old.table core.old.cache.greatest past → Changed core.old.table (taken (stands_of core.old) id past mark (AcceptStep.Done outcome ends token)).change core.new.table }
     ensures size { token_size result.answer ≤ 65536 }
-    ensures receipts { given result.receipts ≡ gained (length core.old.history) core.new.history }
-    ensures windows { SameWindows core.old.table core.new.table }
-    ensures told { result.answer ≢ NegAnswer.NoMemory }
+    ensures comes { ComesTo (stands_of core.old) id
+        (λ past. taken (stands_of core.old) id past mark (AcceptStep.Done outcome ends token))
+        result core.new }
     ensures keeps { Keeps core.old core.new }
     ensures fits { AllFit core.new }
 {
@@ -223,20 +215,15 @@ fn finish(
     step: AcceptStep,
 ) -> Negotiated
     requires settled { IsSettled step }
-    requires room { length core.old.history + 4 ≤ core.old.limit }
-    requires place { id ≡ None → IsPast core.old.table core.old.cache.greatest None → live_of core.old.table < core.old.table.limit }
-    requires held { IfSome id (λ id. IsHeld (slot_at core.old.table id)) }
+    requires ready { ReadyFor core.old id }
     requires first { IsSome mark → auth_of id core.old.history ≡ false }
     requires fits { StepFits step (auth_after id mark core.old.history) }
     requires others { OthersFit id core.old }
     requires short { ShortAccept step }
-    ensures answer { (past : Option ℕ) → IsPast core.old.table core.old.cache.greatest past → result.answer ≡ (taken (stands_of core.old) id past mark step).answer }
-    ensures history { (past : Option ℕ) → IsPast core.old.table core.old.cache.greatest past → core.new.history ≡ (taken (stands_of core.old) id past mark step).history }
-    ensures contexts { (past : Option ℕ) → IsPast core.old.table core.old.cache.greatest past → Changed core.old.table (taken (stands_of core.old) id past mark step).change core.new.table }
     ensures size { token_size result.answer ≤ 65536 }
-    ensures receipts { given result.receipts ≡ gained (length core.old.history) core.new.history }
-    ensures windows { SameWindows core.old.table core.new.table }
-    ensures told { result.answer ≢ NegAnswer.NoMemory }
+    ensures comes { ComesTo (stands_of core.old) id
+        (λ past. taken (stands_of core.old) id past mark step)
+        result core.new }
     ensures keeps { Keeps core.old core.new }
     ensures fits { AllFit core.new }
 {
@@ -249,19 +236,14 @@ fn finish(
 
 // A step with its mark, where it asks for the repeat test.
 fn enter(core: &mut Core<AcceptEnd, Outcome>, id: Option<u64>, step: AcceptStep) -> Negotiated
-    requires room { length core.old.history + 4 ≤ core.old.limit }
-    requires place { id ≡ None → IsPast core.old.table core.old.cache.greatest None → live_of core.old.table < core.old.table.limit }
-    requires held { IfSome id (λ id. IsHeld (slot_at core.old.table id)) }
+    requires ready { ReadyFor core.old id }
     requires fits { StepFits step (auth_of id core.old.history) }
     requires others { OthersFit id core.old }
     requires short { ShortAccept step }
-    ensures answer { (past : Option ℕ) → IsPast core.old.table core.old.cache.greatest past → result.answer ≡ (taken (stands_of core.old) id past (mark_of step) (settled_of step)).answer }
-    ensures history { (past : Option ℕ) → IsPast core.old.table core.old.cache.greatest past → core.new.history ≡ (taken (stands_of core.old) id past (mark_of step) (settled_of step)).history }
-    ensures contexts { (past : Option ℕ) → IsPast core.old.table core.old.cache.greatest past → Changed core.old.table (taken (stands_of core.old) id past (mark_of step) (settled_of step)).change core.new.table }
     ensures size { token_size result.answer ≤ 65536 }
-    ensures receipts { given result.receipts ≡ gained (length core.old.history) core.new.history }
-    ensures windows { SameWindows core.old.table core.new.table }
-    ensures told { result.answer ≢ NegAnswer.NoMemory }
+    ensures comes { ComesTo (stands_of core.old) id
+        (λ past. taken (stands_of core.old) id past (mark_of step) (settled_of step))
+        result core.new }
     ensures keeps { Keeps core.old core.new }
     ensures fits { AllFit core.new }
 {
@@ -297,22 +279,14 @@ fn take_step(
     now: Moment,
     draws: &[u8; 66],
 ) -> Negotiated
-    requires room { length core.old.history + 4 ≤ core.old.limit }
-    requires place { id ≡ None → IsPast core.old.table core.old.cache.greatest None → live_of core.old.table < core.old.table.limit }
-    requires held { IfSome id (λ id. IsHeld (slot_at core.old.table id)) }
+    requires ready { ReadyFor core.old id }
     requires fits { Fits end (auth_of id core.old.history) }
     requires others { OthersFit id core.old }
-    ensures answer { (past : Option ℕ) → IsPast core.old.table core.old.cache.greatest past → result.answer ≢ NegAnswer.NoMemory
-        → result.answer ≡ (by_step (stands_of core.old) id past (accept_step setup.now end token.now now draws.now)).answer }
-    ensures history { (past : Option ℕ) → IsPast core.old.table core.old.cache.greatest past → result.answer ≢ NegAnswer.NoMemory
-        → core.new.history ≡ (by_step (stands_of core.old) id past (accept_step setup.now end token.now now draws.now)).history }
-    ensures contexts { (past : Option ℕ) → IsPast core.old.table core.old.cache.greatest past → result.answer ≢ NegAnswer.NoMemory
-        → Changed core.old.table (by_step (stands_of core.old) id past (accept_step setup.now end token.now now draws.now)).change core.new.table }
-    ensures memory { result.answer ≡ NegAnswer.NoMemory → core.new.history ≡ after_refusal id core.old.history }
-    ensures forgotten { result.answer ≡ NegAnswer.NoMemory → Changed core.old.table (change_refused id) core.new.table }
     ensures size { token_size result.answer ≤ 65536 }
-    ensures receipts { given result.receipts ≡ gained (length core.old.history) core.new.history }
-    ensures windows { SameWindows core.old.table core.new.table }
+    ensures comes { ComesTo (stands_of core.old) id
+        (λ past. by_step (stands_of core.old) id past
+        (accept_step setup.now end token.now now draws.now))
+        result core.new }
     ensures keeps { Keeps core.old core.new }
     ensures fits { AllFit core.new }
 {
@@ -333,17 +307,10 @@ fn begin(
     draws: &[u8; 66],
 ) -> Negotiated
     requires { AllFit core.old }
-    ensures answer { (past : Option ℕ) → IsPast core.old.table core.old.cache.greatest past → result.answer ≢ NegAnswer.NoMemory
-        → result.answer ≡ (begun setup.now (stands_of core.old) past token.now now draws.now).answer }
-    ensures history { (past : Option ℕ) → IsPast core.old.table core.old.cache.greatest past → result.answer ≢ NegAnswer.NoMemory
-        → core.new.history ≡ (begun setup.now (stands_of core.old) past token.now now draws.now).history }
-    ensures contexts { (past : Option ℕ) → IsPast core.old.table core.old.cache.greatest past → result.answer ≢ NegAnswer.NoMemory
-        → Changed core.old.table (begun setup.now (stands_of core.old) past token.now now draws.now).change core.new.table }
-    ensures memory { result.answer ≡ NegAnswer.NoMemory → core.new.history ≡ core.old.history }
-    ensures forgotten { result.answer ≡ NegAnswer.NoMemory → Changed core.old.table (change_refused None) core.new.table }
     ensures size { token_size result.answer ≤ 65536 }
-    ensures receipts { given result.receipts ≡ gained (length core.old.history) core.new.history }
-    ensures windows { SameWindows core.old.table core.new.table }
+    ensures comes { ComesTo (stands_of core.old) None
+        (λ past. begun setup.now (stands_of core.old) past token.now now draws.now)
+        result core.new }
     ensures keeps { Keeps core.old core.new }
     ensures fits { AllFit core.new }
 {
@@ -376,17 +343,10 @@ fn proceed(
     requires fits { AllFit core.old }
     requires negotiates { phase_of (slot_at core.old.table id) ≡ Phase.Negotiating }
     requires opened { PhaseBy (standing id core.old.history) Phase.Negotiating }
-    ensures answer { (past : Option ℕ) → IsPast core.old.table core.old.cache.greatest past → result.answer ≢ NegAnswer.NoMemory
-        → result.answer ≡ (opened_by setup.now (stands_of core.old) id past token.now now draws.now).answer }
-    ensures history { (past : Option ℕ) → IsPast core.old.table core.old.cache.greatest past → result.answer ≢ NegAnswer.NoMemory
-        → core.new.history ≡ (opened_by setup.now (stands_of core.old) id past token.now now draws.now).history }
-    ensures contexts { (past : Option ℕ) → IsPast core.old.table core.old.cache.greatest past → result.answer ≢ NegAnswer.NoMemory
-        → Changed core.old.table (opened_by setup.now (stands_of core.old) id past token.now now draws.now).change core.new.table }
-    ensures memory { result.answer ≡ NegAnswer.NoMemory → core.new.history ≡ after_refusal (Some id) core.old.history }
-    ensures forgotten { result.answer ≡ NegAnswer.NoMemory → Changed core.old.table (change_refused (Some id)) core.new.table }
     ensures size { token_size result.answer ≤ 65536 }
-    ensures receipts { given result.receipts ≡ gained (length core.old.history) core.new.history }
-    ensures windows { SameWindows core.old.table core.new.table }
+    ensures comes { ComesTo (stands_of core.old) (Some id)
+        (λ past. opened_by setup.now (stands_of core.old) id past token.now now draws.now)
+        result core.new }
     ensures keeps { Keeps core.old core.new }
     ensures fits { AllFit core.new }
 {
@@ -410,17 +370,11 @@ fn continue_with(
     draws: &[u8; 66],
 ) -> Negotiated
     requires { AllFit core.old }
-    ensures answer { (past : Option ℕ) → IsPast core.old.table core.old.cache.greatest past → result.answer ≢ NegAnswer.NoMemory
-        → result.answer ≡ (gone_on_by (standing id core.old.history) setup.now (stands_of core.old) id past token.now now draws.now).answer }
-    ensures history { (past : Option ℕ) → IsPast core.old.table core.old.cache.greatest past → result.answer ≢ NegAnswer.NoMemory
-        → core.new.history ≡ (gone_on_by (standing id core.old.history) setup.now (stands_of core.old) id past token.now now draws.now).history }
-    ensures contexts { (past : Option ℕ) → IsPast core.old.table core.old.cache.greatest past → result.answer ≢ NegAnswer.NoMemory
-        → Changed core.old.table (gone_on_by (standing id core.old.history) setup.now (stands_of core.old) id past token.now now draws.now).change core.new.table }
-    ensures memory { result.answer ≡ NegAnswer.NoMemory → core.new.history ≡ after_refusal (Some id) core.old.history }
-    ensures forgotten { result.answer ≡ NegAnswer.NoMemory → Changed core.old.table (change_refused (Some id)) core.new.table }
     ensures size { token_size result.answer ≤ 65536 }
-    ensures receipts { given result.receipts ≡ gained (length core.old.history) core.new.history }
-    ensures windows { SameWindows core.old.table core.new.table }
+    ensures comes { ComesTo (stands_of core.old) (Some id)
+        (λ past. negotiated setup.now (stands_of core.old) (Some id) past token.now now
+        draws.now)
+        result core.new }
     ensures keeps { Keeps core.old core.new }
     ensures fits { AllFit core.new }
 {
@@ -442,51 +396,12 @@ fn holds_key(core: &Core<AcceptEnd, Outcome>, lease: &Lease) -> bool
     }
 }
 
-fn admit_by(
-    core: &mut Core<AcceptEnd, Outcome>,
-    id: u64,
-    seq: u32,
-    procedure: u32,
-    args: [u8; 20],
-) -> Result<Admitted, AdmitRefusal>
-    requires { AllFit core.old }
-    ensures answer { result ≡ or_refused (refused core.old.limit core.old.width core.old.history id seq) (admitted core.old.history (Entry.Call id seq procedure args)) }
-    ensures history { core.new.history ≡ after (refused core.old.limit core.old.width core.old.history id seq) (Entry.Call id seq procedure args) core.old.history }
-    ensures exactly { IsOk result ↔ Free core.old.limit core.old.width core.old.history id seq }
-    ensures slot { IsOk result → Marks (slot_at core.old.table id) (slot_at core.new.table id) seq }
-    ensures others { KeepsOthers core.old.table core.new.table id }
-    ensures unchanged { OnErr result (core.new ≡ core.old) }
-    ensures keeps { Keeps core.old core.new }
-    ensures fits { AllFit core.new }
-{
-    match core.admit(id, seq, procedure, args) {
-        Ok(admitted) => Ok(admitted),
-        Err(refusal) => Err(refusal),
-    }
-}
-
-fn end_by(core: &mut Core<AcceptEnd, Outcome>, id: u64, seq: u32) -> Result<Receipt, AdmitRefusal>
-    requires { AllFit core.old }
-    ensures answer { result ≡ or_refused (refused core.old.limit core.old.width core.old.history id seq) (receipt_of core.old.history (Entry.Ended id (EndCause.Destroyed seq))) }
-    ensures history { core.new.history ≡ after (refused core.old.limit core.old.width core.old.history id seq) (Entry.Ended id (EndCause.Destroyed seq)) core.old.history }
-    ensures exactly { IsOk result ↔ Free core.old.limit core.old.width core.old.history id seq }
-    ensures gone { IsOk result → slot_at core.new.table id ≡ None }
-    ensures others { KeepsOthers core.old.table core.new.table id }
-    ensures unchanged { OnErr result (core.new ≡ core.old) }
-    ensures keeps { Keeps core.old core.new }
-    ensures fits { AllFit core.new }
-{
-    match core.end(id, seq) {
-        Ok(receipt) => Ok(receipt),
-        Err(refusal) => Err(refusal),
-    }
-}
-
 impl Book {
-    ghost use Rattle.accept_book.specs.Booking.{LeasedBy, NotesMoment};
-    ghost use Rattle.accept_book.specs.Looking.{IsLooked};
+    ghost use Rattle.accept_book.specs.BookAnswers.{BookStepped, BookLooked, BookAdmitted};
+    ghost use Rattle.accept_book.specs.BookAnswers.{BookEnded};
 
-    /// A book without contexts, which has seen the moment `start`. It takes the memory of table, cache and log here.
+    /// A book without contexts, which has seen the moment `start`. It takes the memory of table,
+    /// cache and log here.
     pub fn open(
         alloc: Global,
         setup: AcceptSetup,
@@ -521,8 +436,9 @@ impl Book {
         &self.setup
     }
 
-    /// Takes a token: the first of a context where no id is given, a later one of the context of that id else. A first token that is
-    /// refused, or meets want of memory, leaves all but the greatest moment as it was; a later one ends its own context.
+    /// Takes a token: the first of a context if no id is given, else a later one of that id's
+    /// context. A first token that is refused, or meets want of memory, leaves all but the greatest
+    /// moment as it was; a later one ends its own context.
     pub fn negotiate(
         &mut self,
         alloc: Global,
@@ -531,18 +447,8 @@ impl Book {
         now: Moment,
         draws: &[u8; 66],
     ) -> Negotiated
-        ensures answer { (past : Option ℕ) → IsPast self.old.core.table (max self.old.core.cache.greatest now) past → result.answer ≢ NegAnswer.NoMemory
-            → result.answer ≡ (negotiated self.old.setup (raised self.old.core now) id past token.now now draws.now).answer }
-        ensures history { (past : Option ℕ) → IsPast self.old.core.table (max self.old.core.cache.greatest now) past → result.answer ≢ NegAnswer.NoMemory
-            → self.new.core.history ≡ (negotiated self.old.setup (raised self.old.core now) id past token.now now draws.now).history }
-        ensures contexts { (past : Option ℕ) → IsPast self.old.core.table (max self.old.core.cache.greatest now) past → result.answer ≢ NegAnswer.NoMemory
-            → Changed self.old.core.table (negotiated self.old.setup (raised self.old.core now) id past token.now now draws.now).change self.new.core.table }
-        ensures memory { result.answer ≡ NegAnswer.NoMemory → self.new.core.history ≡ after_refusal id self.old.core.history }
-        ensures forgotten { result.answer ≡ NegAnswer.NoMemory → Changed self.old.core.table (change_refused id) self.new.core.table }
         ensures size { token_size result.answer ≤ 65536 }
-        ensures receipts { given result.receipts ≡ gained (length self.old.core.history) self.new.core.history }
-        ensures windows { SameWindows self.old.core.table self.new.core.table }
-        ensures notes { NotesMoment self.old self.new now }
+        ensures stepped { BookStepped self.old self.new id token.now now draws.now result }
     {
         self.core.raise(now);
         match id {
@@ -553,10 +459,7 @@ impl Book {
 
     /// Takes note of a moment, and gives the lease of a complete context.
     pub fn look(&mut self, id: u64, now: Moment) -> Result<Lease, LookRefusal>
-        ensures answer { LeasedBy (standing id self.old.core.history) id now result }
-        ensures value { IfOk result (λ lease. HasValue (slot_at self.old.core.table id) lease.outcome lease.ends) }
-        ensures looked { IsLooked self.old.core now self.new.core }
-        ensures setup { self.new.setup ≡ self.old.setup }
+        ensures looked { BookLooked self.old self.new id now result }
     {
         self.core.raise(now);
         match self.core.peek(id, now) {
@@ -569,7 +472,8 @@ impl Book {
         }
     }
 
-    /// Admits a call of a lease's context with a number that is fresh. Gone is where no complete context has the id and the key.
+    /// Admits a call of a lease's context with a number that is fresh. Gone is where no complete
+    /// context has the id and the key.
     pub fn admit(
         &mut self,
         lease: &Lease,
@@ -577,36 +481,22 @@ impl Book {
         procedure: u32,
         args: [u8; 20],
     ) -> Result<Admitted, AdmitRefusal>
-        ensures answer { result ≡ or_refused (lease_refused self.old.core lease.now seq) (admitted self.old.core.history (Entry.Call lease.now.id seq procedure args)) }
-        ensures history { self.new.core.history ≡ after (lease_refused self.old.core lease.now seq) (Entry.Call lease.now.id seq procedure args) self.old.core.history }
-        ensures exactly { IsOk result ↔ FreeFor self.old.core lease.now seq }
-        ensures slot { IsOk result → Marks (slot_at self.old.core.table lease.now.id) (slot_at self.new.core.table lease.now.id) seq }
-        ensures others { KeepsOthers self.old.core.table self.new.core.table lease.now.id }
-        ensures unchanged { OnErr result (self.new ≡ self.old) }
-        ensures keeps { Keeps self.old.core self.new.core }
-        ensures setup { self.new.setup ≡ self.old.setup }
+        ensures admitted { BookAdmitted self.old self.new lease.now seq procedure args result }
     {
         if !holds_key(&self.core, lease) {
             return Err(AdmitRefusal::Gone);
         }
-        admit_by(&mut self.core, lease.id, seq, procedure, args)
+        self.core.admit(lease.id, seq, procedure, args)
     }
 
     /// Ends a lease's context by a call with a number that is fresh.
     pub fn end(&mut self, lease: &Lease, seq: u32) -> Result<Receipt, AdmitRefusal>
-        ensures answer { result ≡ or_refused (lease_refused self.old.core lease.now seq) (receipt_of self.old.core.history (Entry.Ended lease.now.id (EndCause.Destroyed seq))) }
-        ensures history { self.new.core.history ≡ after (lease_refused self.old.core lease.now seq) (Entry.Ended lease.now.id (EndCause.Destroyed seq)) self.old.core.history }
-        ensures exactly { IsOk result ↔ FreeFor self.old.core lease.now seq }
-        ensures gone { IsOk result → slot_at self.new.core.table lease.now.id ≡ None }
-        ensures others { KeepsOthers self.old.core.table self.new.core.table lease.now.id }
-        ensures unchanged { OnErr result (self.new ≡ self.old) }
-        ensures keeps { Keeps self.old.core self.new.core }
-        ensures setup { self.new.setup ≡ self.old.setup }
+        ensures ended { BookEnded self.old self.new lease.now seq result }
     {
         if !holds_key(&self.core, lease) {
             return Err(AdmitRefusal::Gone);
         }
-        end_by(&mut self.core, lease.id, seq)
+        self.core.end(lease.id, seq)
     }
 
     /// The log. It is legal, and the table, the cache and the counts are what it says.
@@ -617,7 +507,8 @@ impl Book {
         ensures contexts { result.now.contexts ≡ self.now.core.table.limit }
         ensures marks { result.now.marks ≡ self.now.core.cache.capacity }
         ensures legal { Legal self.now.core.width self.now.core.history }
-        ensures replays { Replays by_outcome self.now.core.width (posts self.now.core.history) self.now.core.history self.now.core.table self.now.core.cache }
+        ensures replays { Replays by_outcome self.now.core.width (posts self.now.core.history)
+            self.now.core.history self.now.core.table self.now.core.cache }
     {
         self.core.log()
     }

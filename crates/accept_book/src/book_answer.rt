@@ -1,11 +1,15 @@
 //! What a book answers.
 
+ghost use Rattle.std.specs.Prelude.{◌≡◌};
+ghost use Rattle.accept_book.specs.Statuses.{book_number};
+
 use crate::entry::Receipts;
 use sec_base::{Moment, Octets};
 use spnego_core::{NegRefusal, Outcome};
 
-/// A complete context as a book shows it: what is needed to read its calls, and to ask for their admission.
-#[derive(Clone, Copy, Debug)]
+/// A complete context as a book shows it: what is needed to read its calls, and to ask for their
+/// admission.
+#[derive(Clone, Copy)]
 pub struct Lease {
     pub id: u64,
     pub outcome: Outcome,
@@ -33,8 +37,26 @@ pub enum BookRefusal {
     CacheFull,
 }
 
+impl BookRefusal {
+    /// The number by which it is told, the minor status of a refused creation.
+    pub fn number(self) -> u32
+        ensures { result ≡ book_number self }
+    {
+        match self {
+            BookRefusal::NoContext => 0,
+            BookRefusal::AlreadyComplete => 25,
+            BookRefusal::LogFull => 24,
+            BookRefusal::TableFull => 23,
+            BookRefusal::Neg(refusal) => refusal.number(),
+            BookRefusal::Stale { greatest: _ } => 21,
+            BookRefusal::Repeat { place: _ } => 20,
+            BookRefusal::CacheFull => 22,
+        }
+    }
+}
+
 /// What a token comes to.
-#[derive(Debug, Drop)]
+#[derive(Drop)]
 pub enum NegAnswer {
     /// The token is for the initiator, and another of its tokens is due.
     Going { id: u64, token: Octets },
@@ -46,7 +68,7 @@ pub enum NegAnswer {
 }
 
 /// An answer, and the entries that its step added.
-#[derive(Debug, Drop)]
+#[derive(Drop)]
 pub struct Negotiated {
     pub answer: NegAnswer,
     pub receipts: Receipts,

@@ -11,6 +11,7 @@ mod entry;
 pub mod laws;
 mod log;
 mod named;
+mod rule;
 
 pub use acceptance::Core;
 pub use answer::{AdmitRefusal, Entered, LookRefusal, MarkRefusal, Next, RoomRefusal, TakeRefusal};
@@ -19,3 +20,4 @@ pub use book_answer::{BookRefusal, Lease, NegAnswer, Negotiated};
 pub use entry::{Admitted, EndCause, Entry, Limits, Receipt, Receipts};
 pub use log::Log;
 pub use named::Named;
+pub use rule::Rule;

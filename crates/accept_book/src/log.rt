@@ -1,5 +1,6 @@
 //! The log of an acceptor.
-ghost use Rattle.std.specs.Prelude.{◌≡◌, ℕ, ◌+◌, ◌<◌, ◌≤◌, ◌^◌, List, [], ◌∷◌, ◌++◌, IfOk, length, slice_get, option_copied};
+ghost use Rattle.std.specs.Prelude.{◌≡◌, ℕ, ◌+◌, ◌<◌, ◌≤◌, ◌^◌, List, [], ◌∷◌, ◌++◌, IfOk, length};
+ghost use Rattle.std.specs.Prelude.{slice_get, option_copied};
 
 use crate::entry::{Entry, Limits};
 use sec_base::NoMemory;
@@ -21,7 +22,14 @@ impl Model for Log {
 
     ghost Value = { LogOf };
 
-    ghost view = { λ l. record { entries = l.entries.items; width = l.width; limit = l.limit; contexts = l.contexts; marks = l.marks } };
+    ghost view = { λ l. record {
+      entries = l.entries.items;
+      width = l.width;
+      limit =
+          l.limit;
+      contexts = l.contexts;
+      marks = l.marks;
+    } };
 
     ghost invariant = { λ l. IsLog l.limit l.entries };
 }
@@ -42,7 +50,14 @@ impl Log {
 
     /// A log without entries, with memory for as many as its limit.
     pub fn open(alloc: Global, limits: &Limits) -> Result<Log, NoMemory>
-        ensures { IfOk result (λ log. log ≡ record { entries = []; width = limits.now.width; limit = limits.now.log; contexts = limits.now.contexts; marks = limits.now.marks }) }
+        ensures { IfOk result (λ log. log ≡ record {
+          entries = [];
+          width = limits.now.width;
+          limit =
+              limits.now.log;
+          contexts = limits.now.contexts;
+          marks = limits.now.marks;
+        }) }
     {
         let entries = Vec::with_capacity(alloc, limits.log)?;
         Ok(Log {

@@ -1,20 +1,17 @@
-use Rattle.std.proofs.Common.{rules, ◌≡◌, subst}
-use Rattle.accept_book.specs.Booking.{Change, Same, Changed, stands_of, begun}
-use Rattle.accept_book.proofs.Changes.{changed_same}
+use Rattle.std.proofs.Common.{rules, None, refl}
+use Rattle.accept_book.proofs.Comings.{comes_left, comes_begun}
 use Rattle.accept_book.proofs.book.begin.Goals as goal
 
-pub returns-in-Err-LogFull-clause-receipts : goal.returns-in-Err-LogFull-clause-receipts
-returns-in-Err-LogFull-clause-receipts c = c.leave.ensures.receipts c.args.core.now.history
+pub returns-in-Err-LogFull-clause-comes : goal.returns-in-Err-LogFull-clause-comes
+returns-in-Err-LogFull-clause-comes c =
+    comes_left c.args.core.now None _ _ c.leave.result c.leave.ensures.answer c.leave.ensures.receipts (λ past is_past. search rules)
 
-pub returns-in-Err-TableFull-clause-receipts : goal.returns-in-Err-TableFull-clause-receipts
-returns-in-Err-TableFull-clause-receipts c = c.leave-in-Err-TableFull.ensures.receipts c.args.core.now.history
+pub returns-in-Err-TableFull-clause-comes : goal.returns-in-Err-TableFull-clause-comes
+returns-in-Err-TableFull-clause-comes c =
+    let leave = c.leave-in-Err-TableFull in
+    comes_left c.args.core.now None _ _ leave.result leave.ensures.answer leave.ensures.receipts (λ past is_past. search rules)
 
-pub returns-in-Err-LogFull-clause-contexts : goal.returns-in-Err-LogFull-clause-contexts
-returns-in-Err-LogFull-clause-contexts c = λ past is_past some.
-    let same : Same ≡ (begun c.args.setup.now (stands_of c.args.core.now) past c.args.token.now c.args.now c.args.draws.now).change = search rules in
-    subst (λ (change : Change). Changed c.args.core.now.table change c.args.core.now.table) same (changed_same c.args.core.now.table)
-
-pub returns-in-Err-TableFull-clause-contexts : goal.returns-in-Err-TableFull-clause-contexts
-returns-in-Err-TableFull-clause-contexts c = λ past is_past some.
-    let same : Same ≡ (begun c.args.setup.now (stands_of c.args.core.now) past c.args.token.now c.args.now c.args.draws.now).change = search rules in
-    subst (λ (change : Change). Changed c.args.core.now.table change c.args.core.now.table) same (changed_same c.args.core.now.table)
+pub returns-in-Ok-clause-comes : goal.returns-in-Ok-clause-comes
+returns-in-Ok-clause-comes c =
+    comes_begun c.args.core.now c.take_step.new.core c.args.setup.now c.args.token.now c.args.now c.args.draws.now c.new.result c.take_step.result c.new.ensures
+    (c.in-Ok.ensures.places refl) (c.in-Ok.ensures.place refl refl) c.take_step.ensures.comes
