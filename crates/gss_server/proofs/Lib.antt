@@ -6,12 +6,4 @@ pub mod OneReading
 pub mod Turning
 pub mod LoopTurns
 pub mod Replying
-pub mod StatusLines
-pub mod NoKeys
-pub mod DeskRuns
-pub mod ServedLinks
 pub mod Wanting
-pub mod Completions
-pub mod InTurn
-pub mod KeyNames
-pub mod Stepped

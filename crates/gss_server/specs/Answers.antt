@@ -1,5 +1,6 @@
 -- What the answer to one record says.
-use Rattle.std.specs.Prelude.{◌≡◌, ◌≤◌, ◌<◌, ◌==◌, ◌&&◌, ◌||◌, Bool, true, false, ℕ, length, is_some, Option, Some, None}
+use Rattle.std.specs.Prelude.{◌≡◌, ◌≤◌, ◌<◌, ◌==◌, ◌&&◌, ◌||◌, Bool, true, false, ℕ, length}
+use Rattle.std.specs.Prelude.{is_some, Option, Some, None}
 use Rattle.accept_book.specs.RecordShown.{Ruling, Question, Negotiate, Look, Admit, End}
 use Rattle.gss_server.specs.declared.answer.Reply.{Reply}
 use Rattle.gss_server.specs.declared.answer.Reply.TheVariants.{Silent, Bytes, NoMemory}
@@ -8,7 +9,8 @@ use Rattle.gss_server.specs.declared.answer.Reply.TheVariants.{Silent, Bytes, No
 abbrev pub IsDecided : Ruling → Type 0
 IsDecided ruling = 0 < ruling.rule
 
--- nothing is due, or an admission: a body is opened before its call is admitted, and that takes memory
+-- nothing is due, or an admission: a body is opened before its call is admitted, and that takes
+-- memory
 abbrev pub may_wait : Option Question → Bool
 may_wait None = true
 may_wait (Some (Negotiate id token now draws)) = false
@@ -16,14 +18,16 @@ may_wait (Some (Look id now)) = false
 may_wait (Some (Admit lease seq procedure args)) = true
 may_wait (Some (End lease seq)) = false
 
--- memory may be wanted: for the reply that is due, for a body whose call is to be admitted, or in the step of a creation
+-- memory may be wanted: for the reply that is due, for a body whose call is to be admitted, or in
+-- the step of a creation
 abbrev pub may_want : Ruling → Bool
 may_want ruling = is_some ruling.reply || (ruling.rule == 0 && may_wait ruling.due)
 
 -- the rule and the reply are the ruling's, unless memory was wanted where it may be
 abbrev pub Says : Reply → ℕ → Ruling → Type 0
 Says Silent rule ruling = (rule ≡ ruling.rule) × (ruling.reply ≡ None) × IsDecided ruling
-Says (Bytes octets) rule ruling = (rule ≡ ruling.rule) × (ruling.reply ≡ Some octets) × IsDecided ruling
+Says (Bytes octets) rule ruling = (rule ≡ ruling.rule) × (ruling.reply ≡ Some octets)
+    × IsDecided ruling
 Says NoMemory rule ruling = (rule ≡ 0) × (may_want ruling ≡ true)
 
 -- the same of the reply alone

@@ -1,15 +1,19 @@
 -- What a served connection did, over a link that tells its octets.
-use Rattle.std.specs.Prelude.{◌≡◌, ◌⊎◌, ℕ, ◌+◌, ◌<◌, true, List, [], ◌∷◌, ◌++◌, length, take, Option, Some, None}
+use Rattle.std.specs.Prelude.{◌≡◌, ◌⊎◌, ℕ, ◌+◌, ◌<◌, true, List, [], ◌∷◌, ◌++◌, length, take}
+use Rattle.std.specs.Prelude.{Option, Some, None}
 use Rattle.std.specs.List.{AllByRecursion, flat_map}
 use Rattle.sec_base.specs.Link.{Wire}
-use Rattle.rpc_msgs.specs.Records.{Fragments, octets_in, frame, last_fragment, IsRecord, IsTooLong, IsTooMany, IsFront, IsTorn}
+use Rattle.rpc_msgs.specs.Records.{Fragments, octets_in, frame, last_fragment, IsRecord, IsTooLong}
+use Rattle.rpc_msgs.specs.Records.{IsTooMany, IsFront, IsTorn}
 use Rattle.accept_book.specs.RecordRule.{record_ruling}
 use Rattle.accept_book.specs.RecordShown.{Ruling, Asked}
 use Rattle.gss_server.specs.Answers.{IsDecided, may_want}
 use Rattle.gss_server.specs.Hearing.{kept_answers}
 use Rattle.gss_server.specs.declared.answer.Kept.{Kept}
 use Rattle.gss_server.specs.declared.connection.ConnEnd.{ConnEnd}
-use Rattle.gss_server.specs.declared.connection.ConnEnd.TheVariants.{Ended, LinkFault, TooLong, TooManyFragments, Torn, Budget, NoMemory}
+use Rattle.gss_server.specs.declared.connection.ConnEnd.TheVariants.{Ended, LinkFault, TooLong}
+use Rattle.gss_server.specs.declared.connection.ConnEnd.TheVariants.{TooManyFragments, Torn, Budget}
+use Rattle.gss_server.specs.declared.connection.ConnEnd.TheVariants.{NoMemory}
 
 -- the octets of records as they stand in a stream
 abbrev pub octets_of : List Fragments → List ℕ
@@ -24,6 +28,7 @@ framed (Some octets) = last_fragment octets
 abbrev pub ruling_for : ℕ → List ℕ → Kept → Ruling
 ruling_for width octets kept = record_ruling octets (kept_answers kept) width
 
+-- what is written for a record, by its kept answer
 abbrev pub written_for : ℕ → List ℕ → Kept → List ℕ
 written_for width octets kept = framed (ruling_for width octets kept).reply
 
@@ -37,9 +42,11 @@ in_order each [] kept = []
 in_order each (cut ∷ records) [] = []
 in_order each (cut ∷ records) (one ∷ kept) = each (octets_in cut) one ++ in_order each records kept
 
+-- what is written for records, in order
 abbrev pub written_in : ℕ → List Fragments → List Kept → List ℕ
 written_in width records kept = in_order (written_for width) records kept
 
+-- what the gate is asked for records, in order
 abbrev pub asked_in : ℕ → List Fragments → List Kept → List Asked
 asked_in width records kept = in_order (asked_for width) records kept
 
@@ -49,8 +56,9 @@ pub record Went (old new : Wire) (took wrote : List ℕ) : Type 0 where
   pub coming : (more : List ℕ) × (old.coming ++ more ≡ took ++ new.coming)
   pub written : new.written ≡ old.written ++ wrote
 
--- why the connection ended, by what was taken behind the whole records, what was still to come, and how many records there were; at a
--- fault and at want of memory what was taken behind them is no whole record
+-- why the connection ended, by what was taken behind the whole records, what was still to come, and
+-- how many records there were; at a fault and at want of memory what was taken behind them is no
+-- whole record
 abbrev pub HasCause : ConnEnd → List ℕ → List ℕ → ℕ → Type 0
 HasCause Ended rest coming count = (rest ≡ []) × (coming ≡ []) × (count < 65536)
 HasCause LinkFault rest coming count = IsFront rest
@@ -84,7 +92,8 @@ IsCounted NoMemory records kept = (records ≡ kept) ⊎ (records ≡ kept + 1)
 abbrev pub AllDecided : ℕ → List Fragments → List Kept → Type 0
 AllDecided width [] kept = Unit {0}
 AllDecided width (cut ∷ records) [] = Unit {0}
-AllDecided width (cut ∷ records) (one ∷ kept) = IsDecided (ruling_for width (octets_in cut) one) × AllDecided width records kept
+AllDecided width (cut ∷ records) (one ∷ kept) =
+    IsDecided (ruling_for width (octets_in cut) one) × AllDecided width records kept
 
 -- each but the last, for whose answer memory was wanted
 pub record LastWanted (width : ℕ) (records : List Fragments) (kept : List Kept) : Type 0 where
@@ -97,6 +106,7 @@ pub record LastWanted (width : ℕ) (records : List Fragments) (kept : List Kept
   pub decided : AllDecided width earlier before
   pub wanted : may_want (ruling_for width (octets_in last) one) ≡ true
 
+-- a rule decided each record that has a kept answer, at want of memory perhaps all but the last
 abbrev pub IsAnswered : ConnEnd → ℕ → List Fragments → List Kept → Type 0
 IsAnswered Ended width records kept = AllDecided width records kept
 IsAnswered LinkFault width records kept = AllDecided width records kept
@@ -104,10 +114,12 @@ IsAnswered TooLong width records kept = AllDecided width records kept
 IsAnswered TooManyFragments width records kept = AllDecided width records kept
 IsAnswered Torn width records kept = AllDecided width records kept
 IsAnswered Budget width records kept = AllDecided width records kept
-IsAnswered NoMemory width records kept = AllDecided width records kept ⊎ LastWanted width records kept
+IsAnswered NoMemory width records kept =
+    AllDecided width records kept ⊎ LastWanted width records kept
 
 -- `gained` says what the gate was asked
-pub record IsServedBy (gained : List Asked → Type 0) (width : ℕ) (old new : Wire) (kept : List Kept) (ending : ConnEnd) : Type 0 where
+pub record IsServedBy (gained : List Asked → Type 0) (width : ℕ) (old new : Wire) (kept : List Kept)
+    (ending : ConnEnd) : Type 0 where
   pub records : List Fragments
   pub rest : List ℕ
   pub wrote : List ℕ
@@ -127,8 +139,10 @@ IsServed width old new kept ending = IsServedBy (λ asked. Unit {0}) width old n
 abbrev pub Ends : ConnEnd → List ℕ → ℕ → Type 0
 Ends Ended rest count = (rest ≡ []) × (count < 65536)
 Ends LinkFault rest count = ⊥
-Ends TooLong rest count = (front more : List ℕ) × IsTooLong front × (rest ≡ front ++ more) × (count < 65536)
-Ends TooManyFragments rest count = (front more : List ℕ) × IsTooMany front × (rest ≡ front ++ more) × (count < 65536)
+Ends TooLong rest count = (front more : List ℕ) × IsTooLong front × (rest ≡ front ++ more)
+    × (count < 65536)
+Ends TooManyFragments rest count = (front more : List ℕ) × IsTooMany front × (rest ≡ front ++ more)
+    × (count < 65536)
 Ends Torn rest count = IsTorn rest × (count < 65536)
 Ends Budget rest count = count ≡ 65536
 Ends NoMemory rest count = ⊥

@@ -1,5 +1,6 @@
--- What a gate over a list answers: the next answer of the list, where it is one to the question; else LogFull to a step, NoContext to a look,
--- and Gone to an admission or an end. Whatever it was, the next answer is used up.
+-- What a gate over a list answers: the next answer of the list, where it is one to the question;
+-- else LogFull to a step, NoContext to a look, and Gone to an admission or an end. Whatever it was,
+-- the next answer is used up.
 use Rattle.std.specs.Prelude.{◌≡◌, List, [], ◌∷◌, Result, Err}
 use Rattle.accept_book.specs.Entering.{given}
 use Rattle.accept_book.specs.declared.answer.AdmitRefusal.{AdmitRefusal}
@@ -20,6 +21,7 @@ pub record IsFull (negotiated : Negotiated) : Type 0 where
   pub answer : negotiated.answer ≡ Refused LogFull
   pub receipts : given negotiated.receipts ≡ []
 
+-- what a list answers to a step: its next answer if that is a step's, else that the log is full
 abbrev pub StepNext : List GateAnswer → Negotiated → Type 0
 StepNext [] negotiated = IsFull negotiated
 StepNext (answers.Negotiated step ∷ more) negotiated = negotiated ≡ step.negotiated
@@ -27,6 +29,7 @@ StepNext (answers.Looked answer ∷ more) negotiated = IsFull negotiated
 StepNext (answers.Admitted answer ∷ more) negotiated = IsFull negotiated
 StepNext (answers.Ended answer ∷ more) negotiated = IsFull negotiated
 
+-- what a list answers to a look: its next answer if that is a look's, else NoContext
 abbrev pub look_next : List GateAnswer → Result Lease LookRefusal
 look_next [] = Err NoContext
 look_next (answers.Negotiated step ∷ more) = Err NoContext
@@ -34,6 +37,7 @@ look_next (answers.Looked answer ∷ more) = answer
 look_next (answers.Admitted answer ∷ more) = Err NoContext
 look_next (answers.Ended answer ∷ more) = Err NoContext
 
+-- what a list answers to an admission: its next answer if that is one's, else Gone
 abbrev pub admission_next : List GateAnswer → Result Admitted AdmitRefusal
 admission_next [] = Err Gone
 admission_next (answers.Negotiated step ∷ more) = Err Gone
@@ -41,6 +45,7 @@ admission_next (answers.Looked answer ∷ more) = Err Gone
 admission_next (answers.Admitted answer ∷ more) = answer
 admission_next (answers.Ended answer ∷ more) = Err Gone
 
+-- what a list answers to an end: its next answer if that is one's, else Gone
 abbrev pub end_next : List GateAnswer → Result Receipt AdmitRefusal
 end_next [] = Err Gone
 end_next (answers.Negotiated step ∷ more) = Err Gone

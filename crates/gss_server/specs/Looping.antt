@@ -1,11 +1,14 @@
 -- What a link that answers in one thread heard and said.
-use Rattle.std.specs.Prelude.{◌≡◌, ◌⊎◌, ℕ, ◌+◌, Bool, true, false, List, [], ◌∷◌, ◌++◌, length, take}
+use Rattle.std.specs.Prelude.{◌≡◌, ◌⊎◌, ℕ, ◌+◌, Bool, true, false, List, [], ◌∷◌, ◌++◌, length}
+use Rattle.std.specs.Prelude.{take}
 use Rattle.std.specs.List.{AllByRecursion}
 use Rattle.sec_base.specs.Link.{Wire}
-use Rattle.rpc_msgs.specs.Records.{Fragments, octets_in, frame, IsRecord, IsFront, IsTooLong, IsTooMany}
+use Rattle.rpc_msgs.specs.Records.{Fragments, octets_in, frame, IsRecord, IsFront, IsTooLong}
+use Rattle.rpc_msgs.specs.Records.{IsTooMany}
 use Rattle.accept_book.specs.RecordShown.{Ruling}
 use Rattle.gss_server.specs.Answers.{IsDecided, may_want}
-use Rattle.gss_server.specs.Connections.{framed, octets_of, ruling_for, written_for, written_in, AllDecided}
+use Rattle.gss_server.specs.Connections.{framed, octets_of, ruling_for, written_for, written_in}
+use Rattle.gss_server.specs.Connections.{AllDecided}
 use Rattle.gss_server.specs.declared.answer.Kept.{Kept}
 use Rattle.gss_server.specs.declared.looping.Next.{Next}
 use Rattle.gss_server.specs.declared.looping.Next.TheVariants as nexts
@@ -29,15 +32,16 @@ pub record IsWanted (width : ℕ) (rest : List ℕ) (last : List Kept) : Type 0 
   pub kept : last ≡ one ∷ []
   pub wanted : may_want (ruling_for width (octets_in cut) one) ≡ true
 
--- what stands behind the records that were answered: a front of the next one, or what begins none; at want of memory anything, and then the
--- answer for which it was wanted may have been kept
+-- what stands behind the records that were answered: a front of the next one, or what begins none;
+-- at want of memory anything, and then the answer for which it was wanted may have been kept
 abbrev pub Rest : ℕ → Bool → List ℕ → List Kept → Type 0
 Rest width false rest last = (last ≡ []) × (IsFront rest ⊎ IsUnfit rest)
 Rest width true rest last = (last ≡ []) ⊎ IsWanted width rest last
 
--- what was heard are whole records, cut into fragments somehow, and a rest; what was said are the replies to the records, in order, each by the
--- answer that was kept of it, which a rule decides
-pub record LoopedTo (rests : List ℕ → List Kept → Type 0) (width : ℕ) (heard said : List ℕ) (kept : List Kept) (cut : ℕ) : Type 0 where
+-- what was heard are whole records, cut into fragments somehow, and a rest; what was said are the
+-- replies to the records, in order, each by the answer that was kept of it, which a rule decides
+pub record LoopedTo (rests : List ℕ → List Kept → Type 0) (width : ℕ) (heard said : List ℕ)
+    (kept : List Kept) (cut : ℕ) : Type 0 where
   pub records : List Fragments
   pub rest : List ℕ
   pub answers : List Kept
@@ -51,12 +55,15 @@ pub record LoopedTo (rests : List ℕ → List Kept → Type 0) (width : ℕ) (h
   pub replies : said ≡ written_in width records answers
   pub stands : rests rest last
 
+-- the same with a rest that was judged; `starved` says whether memory was wanted
 abbrev pub Looped : ℕ → List ℕ → List ℕ → List Kept → ℕ → Bool → Type 0
 Looped width heard said kept cut starved = LoopedTo (Rest width starved) width heard said kept cut
 
--- a link's octets: what was written to it is what was heard, and what was taken and what is to come is what was said
+-- a link's octets: what was written to it is what was heard, and what was taken and what is to come
+-- is what was said
 abbrev pub Loops : ℕ → Wire → List Kept → Bool → Type 0
-Loops width wire kept starved = (cut : ℕ) × Looped width wire.written (wire.taken ++ wire.coming) kept cut starved
+Loops width wire kept starved =
+    (cut : ℕ) × Looped width wire.written (wire.taken ++ wire.coming) kept cut starved
 
 -- ---- parts of a write
 
@@ -67,6 +74,7 @@ size_of nexts.Front = 0
 size_of nexts.Unfit = 0
 size_of nexts.NoMemory = 0
 
+-- a whole record stands at the front of octets: what it holds, and its size in the stream
 pub record IsWholeAt (octets found : List ℕ) (size : ℕ) : Type 0 where
   pub cut : Fragments
   pub more : List ℕ
@@ -75,6 +83,7 @@ pub record IsWholeAt (octets found : List ℕ) (size : ℕ) : Type 0 where
   pub long : size ≡ length (frame cut)
   pub begins : octets ≡ frame cut ++ more
 
+-- what was found at the front of octets is what stands there
 abbrev pub IsNext : List ℕ → Next → Type 0
 IsNext octets (nexts.Record found size) = IsWholeAt octets found size
 IsNext octets nexts.Front = IsFront octets
@@ -88,27 +97,34 @@ IsSaid ruling said said' Rests = ⊥
 IsSaid ruling said said' Starved = (said' ≡ said) × (may_want ruling ≡ true)
 
 -- a record was answered, and its answer kept
-pub record Answering (width : ℕ) (octets : List ℕ) (size : ℕ) (kept kept' : List Kept) (said said' : List ℕ) (cut cut' : ℕ) : Type 0 where
+pub record Answering (width : ℕ) (octets : List ℕ) (size : ℕ) (kept kept' : List Kept)
+    (said said' : List ℕ) (cut cut' : ℕ) : Type 0 where
   pub one : Kept
   pub keeps : kept' ≡ kept ++ one ∷ []
   pub decided : IsDecided (ruling_for width octets one)
   pub replied : said' ≡ said ++ written_for width octets one
   pub place : cut' ≡ cut + size
 
+-- an answer was kept, and memory was wanted for it or its reply
 pub record KeptOnly (width : ℕ) (octets : List ℕ) (kept kept' : List Kept) : Type 0 where
   pub one : Kept
   pub keeps : kept' ≡ kept ++ one ∷ []
   pub wanted : may_want (ruling_for width octets one) ≡ true
 
-abbrev pub IsAnsweredBy : ℕ → List ℕ → ℕ → List Kept → List Kept → List ℕ → List ℕ → ℕ → ℕ → Turned → Type 0
-IsAnsweredBy width octets size kept kept' said said' cut cut' Answered = Answering width octets size kept kept' said said' cut cut'
+-- a record was answered, or memory was wanted, nothing was said, and its answer may have been kept
+abbrev pub IsAnsweredBy : ℕ → List ℕ → ℕ → List Kept → List Kept → List ℕ → List ℕ → ℕ → ℕ → Turned
+    → Type 0
+IsAnsweredBy width octets size kept kept' said said' cut cut' Answered =
+    Answering width octets size kept kept' said said' cut cut'
 IsAnsweredBy width octets size kept kept' said said' cut cut' Rests = ⊥
-IsAnsweredBy width octets size kept kept' said said' cut cut' Starved = (said' ≡ said) × (cut' ≡ cut) × ((kept' ≡ kept) ⊎ KeptOnly width octets kept kept')
+IsAnsweredBy width octets size kept kept' said said' cut cut' Starved =
+    (said' ≡ said) × (cut' ≡ cut) × ((kept' ≡ kept) ⊎ KeptOnly width octets kept kept')
 
 -- a rest that wasn't judged yet
 abbrev pub Unjudged : List ℕ → List Kept → Type 0
 Unjudged rest last = last ≡ []
 
+-- what was heard and said after a turn, by how the turn ended
 abbrev pub IsTurned : ℕ → List ℕ → List ℕ → List Kept → ℕ → Turned → Type 0
 IsTurned width heard said kept cut Answered = LoopedTo Unjudged width heard said kept cut
 IsTurned width heard said kept cut Rests = Looped width heard said kept cut false

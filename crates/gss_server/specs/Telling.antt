@@ -1,5 +1,5 @@
 -- What a gate tells of the questions that it was asked.
-use Rattle.std.specs.Prelude.{◌≡◌, ◌≤◌, ℕ, ◌+◌, Bool, IsTrue, List, ◌++◌, length}
+use Rattle.std.specs.Prelude.{◌≡◌, ◌≤◌, ℕ, ◌+◌, Bool, IsTrue, List, [], ◌∷◌, ◌++◌, length}
 use Rattle.sha1.specs.Sha1.{sha1}
 use Rattle.spnego_core.specs.declared.accept_end.AcceptEnd.{AcceptEnd}
 use Rattle.spnego_core.specs.declared.outcome.Outcome.{Outcome}
@@ -22,7 +22,8 @@ step_told steps.NoMemory = tolds.NoMemory
 
 -- a question with its answer, as it is told
 abbrev pub told_of : Asked → Told
-told_of (AskedStep id token now draws answer) = Negotiating id (sha1 token) now draws (step_told answer.answer) answer.receipts
+told_of (AskedStep id token now draws answer) =
+    Negotiating id (sha1 token) now draws (step_told answer.answer) answer.receipts
 told_of (AskedLook id now answer) = Looking id now answer
 told_of (AskedAdmit lease seq procedure args answer) = Admitting lease seq procedure args answer
 told_of (AskedEnd lease seq answer) = Ending lease seq answer
@@ -34,8 +35,19 @@ pub record Gains (room room' : ℕ) (old new more : List Told) : Type 0 where
 
 -- a gate that tells, and has room for so many, gained these
 abbrev pub GainsWith : (tells : Bool) (least room room' : ℕ) (old new more : List Told) → Type 0
-GainsWith tells least room room' old new more = IsTrue tells → least ≤ room → Gains room room' old new more
+GainsWith tells least room room' old new more =
+    IsTrue tells → least ≤ room → Gains room room' old new more
+
+-- a gate was asked this question, and told it with its answer where it tells and has room for one
+abbrev pub Tells : {S : Type 0} → (S → Bool) → (S → ℕ) → (S → List Told) → S → S → Asked → Type 0
+Tells tells room told old new one =
+    GainsWith (tells old) 1 (room old) (room new) (told old) (told new) (told_of one ∷ [])
 
 -- the limits under which a book is kept
 abbrev pub limits_of : Accepting AcceptEnd Outcome → Limits
-limits_of core = record { contexts = core.table.limit; marks = core.cache.capacity; log = core.limit; width = core.width }
+limits_of core = record {
+  contexts = core.table.limit;
+  marks = core.cache.capacity;
+  log = core.limit;
+  width = core.width;
+}

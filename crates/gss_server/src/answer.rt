@@ -7,7 +7,7 @@ use accept_book::{AdmitRefusal, Admitted, Lease, LookRefusal, Negotiated, Receip
 use sec_base::{Moment, Octets};
 
 /// What is kept of the answer to a record: the moment and the draws, and what the gate answered, where it was asked.
-#[derive(Debug, Drop)]
+#[derive(Drop)]
 pub struct Kept {
     /// The moment at which the record was answered.
     pub now: Moment,
@@ -31,7 +31,7 @@ pub enum Reply {
 }
 
 /// The answer to a record.
-#[derive(Debug, Drop)]
+#[derive(Drop)]
 pub struct Answered {
     /// The number of the rule by which it is answered; 0 where there was no memory for the answer.
     pub rule: u8,

@@ -1,59 +1,39 @@
-//! The answer to a record, by the first rule that applies.
+//! The answer to a record, by the first rule that applies: the rules of RFC 5531 section 9 up to the credential, and of RFC 2203 sections
+//! 5.1 and 5.2.2 on the credential itself.
 
-ghost use Rattle.std.specs.Prelude.{◌≡◌, ◌≤◌, ◌+◌, IsTrue, length, map, is_some, if◌then◌else◌, Ok, Some, None};
+ghost use Rattle.std.specs.Prelude.{◌≡◌, ◌≤◌, length, Ok, Some};
 ghost use Rattle.rpc_msgs.specs.Calls.{call_value, call_at};
 ghost use Rattle.rpc_msgs.specs.Replies.{mismatch, reply_octets};
 ghost use Rattle.rpcsec_msgs.specs.Cred.{cred_value, cred_at};
-ghost use Rattle.accept_book.specs.RecordShown.{decided, is_other_version};
-ghost use Rattle.accept_book.specs.RecordRule.{is_misplaced, id_ruling, cred_ruling, call_ruling, read_ruling, record_ruling};
+ghost use Rattle.accept_book.specs.RecordShown.{by, is_other_version};
+ghost use Rattle.accept_book.specs.RecordRule.{is_misplaced, id_ruling, cred_ruling, call_ruling};
+ghost use Rattle.accept_book.specs.RecordRule.{read_ruling, record_ruling};
 ghost use Rattle.gss_server.specs.Answers.{Says, Fits};
-ghost use Rattle.gss_server.specs.Hearing.{shown, kept_answers, count_of};
-ghost use Rattle.gss_server.specs.Asking.{Asking};
-ghost use Rattle.gss_server.specs.Telling.{Gains, told_of};
+ghost use Rattle.gss_server.specs.Hearing.{shown, kept_answers};
+ghost use Rattle.gss_server.specs.Ruled.{IsRuled, kept_with, asks_of};
 
 use crate::answer::{Answered, Kept};
-use crate::creating::{Steps, say_creating};
+use crate::asks::{Asks, unasked};
+use crate::creating::say_creating;
 use crate::gate::Gate;
 use crate::heard::Heard;
-use crate::looking::{Looks, ask_for_look};
+use crate::looking::ask_for_look;
 use crate::opening::id_in;
-use crate::rules::*;
-use crate::saying::{AUTH_NONE, GSS, Said, say_denied, say_nothing, say_reply};
-use accept_book::{AdmitRefusal, Admitted, Lease, LookRefusal, Negotiated, Receipt};
+use crate::plain::say_unauthenticated;
+use crate::saying::{Said, say_denied, say_nothing, say_reply};
+use accept_book::Rule;
 use krb_tokens::MicCache;
+use rpc_msgs::numbers::{
+    AUTH_BADCRED, AUTH_NONE, AUTH_REJECTEDCRED, AUTH_TOOWEAK, NULL, RPC_VERSION, RPCSEC_GSS,
+    RPCSEC_GSS_CREDPROBLEM,
+};
 use rpc_msgs::{Call, CallRefusal, Reply as RpcReply, read_call};
+use rpcsec_msgs::numbers::{
+    RPCSEC_GSS_CONTINUE_INIT, RPCSEC_GSS_DATA, RPCSEC_GSS_INIT, RPCSEC_GSS_VERS_1,
+};
 use rpcsec_msgs::{GssCred, read_cred};
 use sec_base::Moment;
 use std::alloc::Global;
-
-/// The version of RPC that is served.
-const RPC_VERSION: u32 = 2;
-
-/// What a record asked, and what is said to it.
-pub(crate) struct Asks {
-    pub negotiated: Option<Negotiated>,
-    pub looked: Option<Result<Lease, LookRefusal>>,
-    pub admitted: Option<Result<Admitted, AdmitRefusal>>,
-    pub ended: Option<Result<Receipt, AdmitRefusal>>,
-    pub said: Said,
-}
-
-/// Nothing was asked.
-fn unasked(said: Said) -> Asks
-    ensures negotiated { result.negotiated ≡ None }
-    ensures looked { result.looked ≡ None }
-    ensures admitted { result.admitted ≡ None }
-    ensures ended { result.ended ≡ None }
-    ensures said { result.said ≡ said }
-{
-    Asks {
-        negotiated: None,
-        looked: None,
-        admitted: None,
-        ended: None,
-        said,
-    }
-}
 
 /// Answers a call of a context by the id of its handle.
 fn say_by_id<G: Gate>(
@@ -64,32 +44,13 @@ fn say_by_id<G: Gate>(
     id: Option<u64>,
 ) -> Asks
     requires { heard.now.call.header ≤ length heard.now.bytes.now }
-    ensures none { result.negotiated ≡ None }
-    ensures says { Says result.said.reply result.said.rule (id_ruling (shown heard.entry.now) (cred_value cred.now) result.looked result.admitted result.ended id) }
-    ensures fits { Fits result.said.reply }
-    ensures exact { length (id_ruling (shown heard.entry.now) (cred_value cred.now) result.looked result.admitted result.ended id).asked ≡ count_of result.negotiated result.looked result.admitted result.ended }
-    ensures tells { G.tells gate.new ≡ G.tells gate.old }
-    ensures limits { G.limits gate.new ≡ G.limits gate.old }
-    ensures told { IsTrue (G.tells gate.old) → 2 ≤ G.room gate.old → Gains (G.room gate.old) (G.room gate.new) (G.told gate.old) (G.told gate.new) (map told_of (id_ruling (shown heard.entry.now) (cred_value cred.now) result.looked result.admitted result.ended id).asked) }
-    ensures answers { Asking G.answers gate.old (id_ruling (shown heard.entry.now) (cred_value cred.now) result.looked result.admitted result.ended id).asked gate.new }
+    ensures ruled { IsRuled G.Gate 2 gate.old gate.new result
+        (id_ruling (shown heard.entry.now) (cred_value cred.now) result.looked result.admitted
+        result.ended id) }
 {
     match id {
-        None => unasked(say_denied(alloc, heard, 6, CRED_PROBLEM)),
-        Some(id) => {
-            let Looks {
-                looked,
-                admitted,
-                ended,
-                said,
-            } = ask_for_look(alloc, gate, heard, cred, id);
-            Asks {
-                negotiated: None,
-                looked,
-                admitted,
-                ended,
-                said,
-            }
-        }
+        None => unasked(say_denied(alloc, heard, Rule::NoContext, RPCSEC_GSS_CREDPROBLEM)),
+        Some(id) => ask_for_look(alloc, gate, heard, cred, id),
     }
 }
 
@@ -97,32 +58,22 @@ fn say_by_id<G: Gate>(
 fn misplaced(call: &Call<'_>, cred: &GssCred<'_>) -> bool
     ensures { result ≡ is_misplaced (call_value call.now) (cred_value cred.now) }
 {
-    (cred.proc != 0 && call.procedure != 0) || (cred.proc == 1 && !cred.context.is_empty())
+    (cred.proc != RPCSEC_GSS_DATA && call.procedure != NULL)
+        || (cred.proc == RPCSEC_GSS_INIT && !cred.context.is_empty())
 }
 
 /// Answers a call with this credential.
 fn say_with<G: Gate>(alloc: Global, gate: &mut G, heard: &Heard<'_>, cred: &GssCred<'_>) -> Asks
     requires { heard.now.call.header ≤ length heard.now.bytes.now }
-    ensures says { Says result.said.reply result.said.rule (cred_ruling (shown heard.entry.now) result.negotiated result.looked result.admitted result.ended (Ok (cred_value cred.now))) }
-    ensures fits { Fits result.said.reply }
-    ensures exact { length (cred_ruling (shown heard.entry.now) result.negotiated result.looked result.admitted result.ended (Ok (cred_value cred.now))).asked ≡ count_of result.negotiated result.looked result.admitted result.ended }
-    ensures tells { G.tells gate.new ≡ G.tells gate.old }
-    ensures limits { G.limits gate.new ≡ G.limits gate.old }
-    ensures told { IsTrue (G.tells gate.old) → 2 ≤ G.room gate.old → Gains (G.room gate.old) (G.room gate.new) (G.told gate.old) (G.told gate.new) (map told_of (cred_ruling (shown heard.entry.now) result.negotiated result.looked result.admitted result.ended (Ok (cred_value cred.now))).asked) }
-    ensures answers { Asking G.answers gate.old (cred_ruling (shown heard.entry.now) result.negotiated result.looked result.admitted result.ended (Ok (cred_value cred.now))).asked gate.new }
+    ensures ruled { IsRuled G.Gate 2 gate.old gate.new result
+        (cred_ruling (shown heard.entry.now) result.negotiated result.looked result.admitted
+        result.ended (Ok (cred_value cred.now))) }
 {
     if misplaced(&heard.call, cred) {
-        return unasked(say_denied(alloc, heard, 5, BAD_CRED));
+        return unasked(say_denied(alloc, heard, Rule::Credential, AUTH_BADCRED));
     }
-    if cred.proc == 1 || cred.proc == 2 {
-        let Steps { negotiated, said } = say_creating(alloc, gate, heard, cred);
-        return Asks {
-            negotiated,
-            looked: None,
-            admitted: None,
-            ended: None,
-            said,
-        };
+    if cred.proc == RPCSEC_GSS_INIT || cred.proc == RPCSEC_GSS_CONTINUE_INIT {
+        return say_creating(alloc, gate, heard, cred);
     }
     say_by_id(alloc, gate, heard, cred, id_in(cred.context))
 }
@@ -134,29 +85,25 @@ fn another_version(body: &[u8]) -> bool
     if body.len() < 4 {
         return false;
     }
-    u32::from_be_bytes([body[0], body[1], body[2], body[3]]) != 1
+    u32::from_be_bytes([body[0], body[1], body[2], body[3]]) != RPCSEC_GSS_VERS_1
 }
 
 /// Answers a call with a credential of flavour 6.
 fn say_secure<G: Gate>(alloc: Global, gate: &mut G, heard: &Heard<'_>) -> Asks
     requires { heard.now.call.header ≤ length heard.now.bytes.now }
-    ensures says { Says result.said.reply result.said.rule (cred_ruling (shown heard.entry.now) result.negotiated result.looked result.admitted result.ended (cred_at heard.entry.now.call.cred.body.now)) }
-    ensures fits { Fits result.said.reply }
-    ensures exact { length (cred_ruling (shown heard.entry.now) result.negotiated result.looked result.admitted result.ended (cred_at heard.entry.now.call.cred.body.now)).asked ≡ count_of result.negotiated result.looked result.admitted result.ended }
-    ensures tells { G.tells gate.new ≡ G.tells gate.old }
-    ensures limits { G.limits gate.new ≡ G.limits gate.old }
-    ensures told { IsTrue (G.tells gate.old) → 2 ≤ G.room gate.old → Gains (G.room gate.old) (G.room gate.new) (G.told gate.old) (G.told gate.new) (map told_of (cred_ruling (shown heard.entry.now) result.negotiated result.looked result.admitted result.ended (cred_at heard.entry.now.call.cred.body.now)).asked) }
-    ensures answers { Asking G.answers gate.old (cred_ruling (shown heard.entry.now) result.negotiated result.looked result.admitted result.ended (cred_at heard.entry.now.call.cred.body.now)).asked gate.new }
+    ensures ruled { IsRuled G.Gate 2 gate.old gate.new result
+        (cred_ruling (shown heard.entry.now) result.negotiated result.looked result.admitted
+        result.ended (cred_at heard.entry.now.call.cred.body.now)) }
 {
     match read_cred(heard.call.cred.body) {
         Ok(cred) => say_with(alloc, gate, heard, &cred),
         Err(_) => {
             let stat = if another_version(heard.call.cred.body) {
-                REJECTED_CRED
+                AUTH_REJECTEDCRED
             } else {
-                BAD_CRED
+                AUTH_BADCRED
             };
-            unasked(say_denied(alloc, heard, 5, stat))
+            unasked(say_denied(alloc, heard, Rule::Credential, stat))
         }
     }
 }
@@ -165,17 +112,13 @@ fn say_secure<G: Gate>(alloc: Global, gate: &mut G, heard: &Heard<'_>) -> Asks
 #[tactic(auto, unfolding(accept_book::specs::RecordRule::call_ruling))]
 fn say_call<G: Gate>(alloc: Global, gate: &mut G, heard: &Heard<'_>) -> Asks
     requires { heard.now.call.header ≤ length heard.now.bytes.now }
-    ensures says { Says result.said.reply result.said.rule (call_ruling (shown heard.entry.now) result.negotiated result.looked result.admitted result.ended) }
-    ensures fits { Fits result.said.reply }
-    ensures exact { length (call_ruling (shown heard.entry.now) result.negotiated result.looked result.admitted result.ended).asked ≡ count_of result.negotiated result.looked result.admitted result.ended }
-    ensures tells { G.tells gate.new ≡ G.tells gate.old }
-    ensures limits { G.limits gate.new ≡ G.limits gate.old }
-    ensures told { IsTrue (G.tells gate.old) → 2 ≤ G.room gate.old → Gains (G.room gate.old) (G.room gate.new) (G.told gate.old) (G.told gate.new) (map told_of (call_ruling (shown heard.entry.now) result.negotiated result.looked result.admitted result.ended).asked) }
-    ensures answers { Asking G.answers gate.old (call_ruling (shown heard.entry.now) result.negotiated result.looked result.admitted result.ended).asked gate.new }
+    ensures ruled { IsRuled G.Gate 2 gate.old gate.new result
+        (call_ruling (shown heard.entry.now) result.negotiated result.looked result.admitted
+        result.ended) }
 {
     let flavour = heard.call.cred.flavour;
-    if flavour != AUTH_NONE && flavour != GSS {
-        return unasked(say_denied(alloc, heard, 4, TOO_WEAK));
+    if flavour != AUTH_NONE && flavour != RPCSEC_GSS {
+        return unasked(say_denied(alloc, heard, Rule::Flavour, AUTH_TOOWEAK));
     }
     if flavour == AUTH_NONE {
         return unasked(say_unauthenticated(alloc, heard));
@@ -193,13 +136,8 @@ fn say_record<G: Gate>(
     width: u32,
     keys: &MicCache,
 ) -> Asks
-    ensures says { Says result.said.reply result.said.rule (read_ruling bytes.now (record { now = now; draws = draws.now; negotiated = result.negotiated; looked = result.looked; admitted = result.admitted; ended = result.ended }) width (call_at bytes.now)) }
-    ensures fits { Fits result.said.reply }
-    ensures exact { length (read_ruling bytes.now (record { now = now; draws = draws.now; negotiated = result.negotiated; looked = result.looked; admitted = result.admitted; ended = result.ended }) width (call_at bytes.now)).asked ≡ count_of result.negotiated result.looked result.admitted result.ended }
-    ensures tells { G.tells gate.new ≡ G.tells gate.old }
-    ensures limits { G.limits gate.new ≡ G.limits gate.old }
-    ensures told { IsTrue (G.tells gate.old) → 2 ≤ G.room gate.old → Gains (G.room gate.old) (G.room gate.new) (G.told gate.old) (G.told gate.new) (map told_of (read_ruling bytes.now (record { now = now; draws = draws.now; negotiated = result.negotiated; looked = result.looked; admitted = result.admitted; ended = result.ended }) width (call_at bytes.now)).asked) }
-    ensures answers { Asking G.answers gate.old (read_ruling bytes.now (record { now = now; draws = draws.now; negotiated = result.negotiated; looked = result.looked; admitted = result.admitted; ended = result.ended }) width (call_at bytes.now)).asked gate.new }
+    ensures ruled { IsRuled G.Gate 2 gate.old gate.new result
+        (read_ruling bytes.now (kept_with now draws.now result) width (call_at bytes.now)) }
 {
     match read_call(bytes) {
         Ok(call) => {
@@ -214,15 +152,16 @@ fn say_record<G: Gate>(
             };
             say_call(alloc, gate, &heard)
         }
-        Err(CallRefusal::Unreadable { at: _ }) => unasked(say_nothing(1)),
-        Err(CallRefusal::NotCall) => unasked(say_nothing(2)),
+        Err(CallRefusal::Unreadable { at: _ }) => unasked(say_nothing(Rule::Unreadable)),
+        Err(CallRefusal::NotCall) => unasked(say_nothing(Rule::NotCall)),
         Err(CallRefusal::RpcVersion { xid }) => unasked(say_other_version(alloc, xid)),
     }
 }
 
 /// The reply to another version of RPC.
 fn say_other_version(alloc: Global, xid: u32) -> Said
-    ensures says { Says result.reply result.rule (decided 3 (Some (reply_octets (mismatch xid 2 2)))) }
+    ensures says { Says result.reply result.rule
+        (by Rule.RpcVersion (Some (reply_octets (mismatch xid 2 2)))) }
     ensures fits { Fits result.reply }
 {
     let reply = RpcReply::Mismatch {
@@ -230,7 +169,7 @@ fn say_other_version(alloc: Global, xid: u32) -> Said
         low: RPC_VERSION,
         high: RPC_VERSION,
     };
-    say_reply(alloc, 3, &reply)
+    say_reply(alloc, Rule::RpcVersion, &reply)
 }
 
 /// Answers a record by the first rule that applies, and asks the gate what is due.
@@ -242,17 +181,11 @@ pub fn answer_record<G: Gate>(
     draws: &[u8; 82],
     width: u32,
 ) -> Answered
-    ensures says { Says result.reply result.rule (record_ruling bytes.now (kept_answers result.kept) width) }
-    ensures fits { Fits result.reply }
+    // The rule, the reply and what the gate was asked are the ruling's, by what was kept.
+    ensures ruled { IsRuled G.Gate 2 gate.old gate.new (asks_of result)
+        (record_ruling bytes.now (kept_answers result.kept) width) }
     ensures now { result.kept.now ≡ now }
     ensures draws { result.kept.draws ≡ draws.now }
-    // Each kept answer was asked for.
-    ensures exact { length (record_ruling bytes.now (kept_answers result.kept) width).asked ≡ count_of result.kept.negotiated result.kept.looked result.kept.admitted result.kept.ended }
-    ensures tells { G.tells gate.new ≡ G.tells gate.old }
-    ensures limits { G.limits gate.new ≡ G.limits gate.old }
-    // Exactly the questions that are due were asked, in order, want of memory aside, where it was a front of them.
-    ensures told { IsTrue (G.tells gate.old) → 2 ≤ G.room gate.old → Gains (G.room gate.old) (G.room gate.new) (G.told gate.old) (G.told gate.new) (map told_of (record_ruling bytes.now (kept_answers result.kept) width).asked) }
-    ensures answers { Asking G.answers gate.old (record_ruling bytes.now (kept_answers result.kept) width).asked gate.new }
 {
     answer_record_by(alloc, gate, bytes, now, draws, width, &MicCache::empty())
 }
@@ -268,17 +201,11 @@ pub(crate) fn answer_record_by<G: Gate>(
     width: u32,
     keys: &MicCache,
 ) -> Answered
-    ensures says { Says result.reply result.rule (record_ruling bytes.now (kept_answers result.kept) width) }
-    ensures fits { Fits result.reply }
+    // The rule, the reply and what the gate was asked are the ruling's, by what was kept.
+    ensures ruled { IsRuled G.Gate 2 gate.old gate.new (asks_of result)
+        (record_ruling bytes.now (kept_answers result.kept) width) }
     ensures now { result.kept.now ≡ now }
     ensures draws { result.kept.draws ≡ draws.now }
-    // Each kept answer was asked for.
-    ensures exact { length (record_ruling bytes.now (kept_answers result.kept) width).asked ≡ count_of result.kept.negotiated result.kept.looked result.kept.admitted result.kept.ended }
-    ensures tells { G.tells gate.new ≡ G.tells gate.old }
-    ensures limits { G.limits gate.new ≡ G.limits gate.old }
-    // Exactly the questions that are due were asked, in order, want of memory aside, where it was a front of them.
-    ensures told { IsTrue (G.tells gate.old) → 2 ≤ G.room gate.old → Gains (G.room gate.old) (G.room gate.new) (G.told gate.old) (G.told gate.new) (map told_of (record_ruling bytes.now (kept_answers result.kept) width).asked) }
-    ensures answers { Asking G.answers gate.old (record_ruling bytes.now (kept_answers result.kept) width).asked gate.new }
 {
     let Asks {
         negotiated,

@@ -1,31 +1,30 @@
-//! The rules of calls of a context: DATA and DESTROY.
+//! The rules of data calls, RFC 2203 section 5.3: a call is judged, its number taken, and its result given.
 
-ghost use Rattle.std.specs.Prelude.{◌≡◌, ◌≤◌, IsTrue, length, map, is_some, if◌then◌else◌, None};
+ghost use Rattle.std.specs.Prelude.{◌≡◌, ◌≤◌, length, [], None};
 ghost use Rattle.rpcsec_msgs.specs.Cred.{cred_value};
 ghost use Rattle.accept_book.specs.RecordShown.{is_verified, body_args, end_of};
-ghost use Rattle.accept_book.specs.RecordRule.{unadmitted, admitted_ruling, ask_admit, args_ruling, data_ruling};
+ghost use Rattle.accept_book.specs.RecordRule.{unadmitted, admitted_ruling, ask_admit, args_ruling};
+ghost use Rattle.accept_book.specs.RecordRule.{data_ruling};
 ghost use Rattle.gss_server.specs.Answers.{Says, Fits};
 ghost use Rattle.gss_server.specs.Hearing.{shown};
-ghost use Rattle.gss_server.specs.Asking.{Asking};
-ghost use Rattle.gss_server.specs.Telling.{Gains, told_of};
+ghost use Rattle.gss_server.specs.Ruled.{IsRuled};
 
+use crate::asks::{Asks, unasked};
 use crate::gate::Gate;
 use crate::heard::Heard;
 use crate::opening::{are_proper, open_body};
 use crate::results::say_result;
-use crate::rules::*;
-use crate::saying::{GSS, Said, end_at, say_denied, say_no_memory, say_nothing, say_signed};
-use accept_book::{AdmitRefusal, Admitted, Lease};
+use crate::saying::{Said, end_at, say_denied, say_mismatch, say_no_memory, say_nothing, say_stat};
+use accept_book::{AdmitRefusal, Admitted, Lease, Rule};
+use rpc_msgs::numbers::{
+    AUTH_TOOWEAK, COUNT, GARBAGE_ARGS, NULL, PROC_UNAVAIL, PROG_UNAVAIL, PROGRAM, RPCSEC_GSS,
+    RPCSEC_GSS_CREDPROBLEM, RPCSEC_GSS_CTXPROBLEM, SYSTEM_ERR, VERSION,
+};
 use rpcsec_msgs::GssCred;
+use rpcsec_msgs::numbers::RPC_GSS_SVC_NONE;
 use sec_base::Octets;
 use sha1::Sha1;
 use std::alloc::Global;
-
-/// What a stage said, and what it was answered.
-pub(crate) struct Admits {
-    pub admitted: Option<Result<Admitted, AdmitRefusal>>,
-    pub said: Said,
-}
 
 /// The number of a call wasn't taken.
 pub(crate) fn say_unadmitted(
@@ -35,15 +34,18 @@ pub(crate) fn say_unadmitted(
     lease: &Lease,
     refusal: AdmitRefusal,
 ) -> Said
-    ensures says { Says result.reply result.rule (unadmitted (shown heard.entry.now) (cred_value cred.now) lease.now refusal) }
+    ensures says { Says result.reply result.rule
+        (unadmitted (shown heard.entry.now) (cred_value cred.now) lease.now refusal) }
+    ensures unasked { (unadmitted (shown heard.entry.now) (cred_value cred.now) lease.now
+        refusal).asked ≡ [] }
     ensures fits { Fits result.reply }
 {
     match refusal {
-        AdmitRefusal::Gone => say_denied(alloc, heard, 15, CRED_PROBLEM),
-        AdmitRefusal::AboveMax => say_denied(alloc, heard, 16, CTX_PROBLEM),
-        AdmitRefusal::Below { last: _ } => say_nothing(17),
-        AdmitRefusal::Repeat => say_nothing(18),
-        AdmitRefusal::LogFull => say_signed(alloc, heard, cred, lease, 19, SYSTEM_ERR, 0, 0, &[]),
+        AdmitRefusal::Gone => say_denied(alloc, heard, Rule::Gone, RPCSEC_GSS_CREDPROBLEM),
+        AdmitRefusal::AboveMax => say_denied(alloc, heard, Rule::AboveMax, RPCSEC_GSS_CTXPROBLEM),
+        AdmitRefusal::Below { last: _ } => say_nothing(Rule::Below),
+        AdmitRefusal::Repeat => say_nothing(Rule::Repeat),
+        AdmitRefusal::LogFull => say_stat(alloc, heard, cred, lease, Rule::LogFull, SYSTEM_ERR),
     }
 }
 
@@ -54,7 +56,7 @@ pub(crate) fn verified(heard: &Heard<'_>, lease: &Lease) -> bool
     ensures { result ≡ is_verified (shown heard.entry.now) lease.now }
 {
     let call = &heard.call;
-    if call.verf.flavour != GSS {
+    if call.verf.flavour != RPCSEC_GSS {
         return false;
     }
     let header = &heard.bytes[..call.header];
@@ -73,7 +75,11 @@ fn say_admitted(
     answer: &Result<Admitted, AdmitRefusal>,
 ) -> Said
     requires { length args.now ≤ 65540 }
-    ensures says { Says result.reply result.rule (admitted_ruling (shown heard.entry.now) (cred_value cred.now) lease.now args.now answer.now) }
+    ensures says { Says result.reply result.rule
+        (admitted_ruling (shown heard.entry.now) (cred_value cred.now) lease.now args.now
+        answer.now) }
+    ensures unasked { (admitted_ruling (shown heard.entry.now) (cred_value cred.now) lease.now
+        args.now answer.now).asked ≡ [] }
     ensures fits { Fits result.reply }
 {
     match answer {
@@ -90,22 +96,19 @@ fn ask_admission<G: Gate>(
     cred: &GssCred<'_>,
     lease: &Lease,
     args: &[u8],
-) -> Admits
+) -> Asks
     requires { length args.now ≤ 65540 }
-    ensures says { Says result.said.reply result.said.rule (ask_admit (shown heard.entry.now) (cred_value cred.now) lease.now args.now result.admitted) }
-    ensures fits { Fits result.said.reply }
-    ensures exact { length (ask_admit (shown heard.entry.now) (cred_value cred.now) lease.now args.now result.admitted).asked ≡ (if is_some result.admitted then 1 else 0) }
-    ensures tells { G.tells gate.new ≡ G.tells gate.old }
-    ensures limits { G.limits gate.new ≡ G.limits gate.old }
-    ensures told { IsTrue (G.tells gate.old) → 1 ≤ G.room gate.old → Gains (G.room gate.old) (G.room gate.new) (G.told gate.old) (G.told gate.new) (map told_of (ask_admit (shown heard.entry.now) (cred_value cred.now) lease.now args.now result.admitted).asked) }
-    ensures answers { Asking G.answers gate.old (ask_admit (shown heard.entry.now) (cred_value cred.now) lease.now args.now result.admitted).asked gate.new }
+    ensures ruled { IsRuled G.Gate 1 gate.old gate.new result
+        (ask_admit (shown heard.entry.now) (cred_value cred.now) lease.now args.now
+        result.admitted) }
+    ensures unlooked { result.looked ≡ None }
 {
     let digest = Sha1::digest(args);
     let answer = gate.admit(lease, cred.seq, heard.call.procedure, digest);
     let said = say_admitted(alloc, heard, cred, lease, args, &answer);
-    Admits {
+    Asks {
         admitted: Some(answer),
-        said,
+        ..unasked(said)
     }
 }
 
@@ -117,31 +120,21 @@ fn say_args<G: Gate>(
     cred: &GssCred<'_>,
     lease: &Lease,
     args: Option<Octets>,
-) -> Admits
-    ensures says { Says result.said.reply result.said.rule (args_ruling (shown heard.entry.now) (cred_value cred.now) lease.now result.admitted args) }
-    ensures fits { Fits result.said.reply }
-    ensures exact { length (args_ruling (shown heard.entry.now) (cred_value cred.now) lease.now result.admitted args).asked ≡ (if is_some result.admitted then 1 else 0) }
-    ensures tells { G.tells gate.new ≡ G.tells gate.old }
-    ensures limits { G.limits gate.new ≡ G.limits gate.old }
-    ensures told { IsTrue (G.tells gate.old) → 1 ≤ G.room gate.old → Gains (G.room gate.old) (G.room gate.new) (G.told gate.old) (G.told gate.new) (map told_of (args_ruling (shown heard.entry.now) (cred_value cred.now) lease.now result.admitted args).asked) }
-    ensures answers { Asking G.answers gate.old (args_ruling (shown heard.entry.now) (cred_value cred.now) lease.now result.admitted args).asked gate.new }
+) -> Asks
+    ensures ruled { IsRuled G.Gate 1 gate.old gate.new result
+        (args_ruling (shown heard.entry.now) (cred_value cred.now) lease.now result.admitted args) }
+    ensures unlooked { result.looked ≡ None }
 {
     let args = match args {
         Some(args) => args,
         None => {
-            let said = say_signed(alloc, heard, cred, lease, 13, GARBAGE_ARGS, 0, 0, &[]);
-            return Admits {
-                admitted: None,
-                said,
-            };
+            let said = say_stat(alloc, heard, cred, lease, Rule::Body, GARBAGE_ARGS);
+            return unasked(said);
         }
     };
     if !are_proper(heard.call.procedure, args.as_slice()) {
-        let said = say_signed(alloc, heard, cred, lease, 14, GARBAGE_ARGS, 0, 0, &[]);
-        return Admits {
-            admitted: None,
-            said,
-        };
+        let said = say_stat(alloc, heard, cred, lease, Rule::Arguments, GARBAGE_ARGS);
+        return unasked(said);
     }
     ask_admission(alloc, gate, heard, cred, lease, args.as_slice())
 }
@@ -153,14 +146,11 @@ fn say_body<G: Gate>(
     heard: &Heard<'_>,
     cred: &GssCred<'_>,
     lease: &Lease,
-) -> Admits
-    ensures says { Says result.said.reply result.said.rule (args_ruling (shown heard.entry.now) (cred_value cred.now) lease.now result.admitted (body_args (end_of lease.now) (cred_value cred.now) heard.entry.now.call.args.now)) }
-    ensures fits { Fits result.said.reply }
-    ensures exact { length (args_ruling (shown heard.entry.now) (cred_value cred.now) lease.now result.admitted (body_args (end_of lease.now) (cred_value cred.now) heard.entry.now.call.args.now)).asked ≡ (if is_some result.admitted then 1 else 0) }
-    ensures tells { G.tells gate.new ≡ G.tells gate.old }
-    ensures limits { G.limits gate.new ≡ G.limits gate.old }
-    ensures told { IsTrue (G.tells gate.old) → 1 ≤ G.room gate.old → Gains (G.room gate.old) (G.room gate.new) (G.told gate.old) (G.told gate.new) (map told_of (args_ruling (shown heard.entry.now) (cred_value cred.now) lease.now result.admitted (body_args (end_of lease.now) (cred_value cred.now) heard.entry.now.call.args.now)).asked) }
-    ensures answers { Asking G.answers gate.old (args_ruling (shown heard.entry.now) (cred_value cred.now) lease.now result.admitted (body_args (end_of lease.now) (cred_value cred.now) heard.entry.now.call.args.now)).asked gate.new }
+) -> Asks
+    ensures ruled { IsRuled G.Gate 1 gate.old gate.new result
+        (args_ruling (shown heard.entry.now) (cred_value cred.now) lease.now result.admitted
+        (body_args (end_of lease.now) (cred_value cred.now) heard.entry.now.call.args.now)) }
+    ensures unlooked { result.looked ≡ None }
 {
     match open_body(alloc, &end_at(lease), heard.keys, cred, heard.call.args) {
         Ok(args) => say_args(alloc, gate, heard, cred, lease, args),
@@ -176,52 +166,27 @@ pub(crate) fn say_data<G: Gate>(
     heard: &Heard<'_>,
     cred: &GssCred<'_>,
     lease: &Lease,
-) -> Admits
+) -> Asks
     requires { heard.now.call.header ≤ length heard.now.bytes.now }
-    ensures says { Says result.said.reply result.said.rule (data_ruling (shown heard.entry.now) (cred_value cred.now) lease.now result.admitted) }
-    ensures fits { Fits result.said.reply }
-    ensures exact { length (data_ruling (shown heard.entry.now) (cred_value cred.now) lease.now result.admitted).asked ≡ (if is_some result.admitted then 1 else 0) }
-    ensures tells { G.tells gate.new ≡ G.tells gate.old }
-    ensures limits { G.limits gate.new ≡ G.limits gate.old }
-    ensures told { IsTrue (G.tells gate.old) → 1 ≤ G.room gate.old → Gains (G.room gate.old) (G.room gate.new) (G.told gate.old) (G.told gate.new) (map told_of (data_ruling (shown heard.entry.now) (cred_value cred.now) lease.now result.admitted).asked) }
-    ensures answers { Asking G.answers gate.old (data_ruling (shown heard.entry.now) (cred_value cred.now) lease.now result.admitted).asked gate.new }
+    ensures ruled { IsRuled G.Gate 1 gate.old gate.new result
+        (data_ruling (shown heard.entry.now) (cred_value cred.now) lease.now result.admitted) }
+    ensures unlooked { result.looked ≡ None }
 {
     if !verified(heard, lease) {
-        return unasked(say_denied(alloc, heard, 8, CRED_PROBLEM));
+        return unasked(say_denied(alloc, heard, Rule::Verifier, RPCSEC_GSS_CREDPROBLEM));
     }
     let call = &heard.call;
     if call.program != PROGRAM {
-        return unasked(say_signed(alloc, heard, cred, lease, 9, PROG_UNAVAIL, 0, 0, &[]));
+        return unasked(say_stat(alloc, heard, cred, lease, Rule::Program, PROG_UNAVAIL));
     }
     if call.version != VERSION {
-        return unasked(say_signed(
-            alloc,
-            heard,
-            cred,
-            lease,
-            10,
-            PROG_MISMATCH,
-            VERSION,
-            VERSION,
-            &[],
-        ));
+        return unasked(say_mismatch(alloc, heard, cred, lease));
     }
-    if call.procedure > LAST_PROCEDURE {
-        return unasked(say_signed(alloc, heard, cred, lease, 11, PROC_UNAVAIL, 0, 0, &[]));
+    if call.procedure > COUNT {
+        return unasked(say_stat(alloc, heard, cred, lease, Rule::Procedure, PROC_UNAVAIL));
     }
-    if cred.service == 1 && call.procedure != NULL {
-        return unasked(say_denied(alloc, heard, 12, TOO_WEAK));
+    if cred.service == RPC_GSS_SVC_NONE && call.procedure != NULL {
+        return unasked(say_denied(alloc, heard, Rule::Weak, AUTH_TOOWEAK));
     }
     say_body(alloc, gate, heard, cred, lease)
-}
-
-/// Nothing was asked.
-fn unasked(said: Said) -> Admits
-    ensures admitted { result.admitted ≡ None }
-    ensures said { result.said ≡ said }
-{
-    Admits {
-        admitted: None,
-        said,
-    }
 }

@@ -1,13 +1,18 @@
 //! One connection, from its first record to its end.
 
-ghost use Rattle.std.specs.Prelude.{◌≡◌, ◌≢◌, ◌≤◌, ℕ, List, [], ◌∷◌, ◌++◌, false, true, IsTrue, IsErrOf, IsOk, Option, Some, length, vec_len, vec_capacity, ◌+◌, ◌<◌};
+ghost use Rattle.std.specs.Prelude.{◌≡◌, ◌≢◌, ◌≤◌, ℕ, List, [], ◌∷◌, ◌++◌, false, true, IsTrue};
+ghost use Rattle.std.specs.Prelude.{IsErrOf, IsOk, Option, Some, length, vec_len, vec_capacity};
+ghost use Rattle.std.specs.Prelude.{◌+◌, ◌<◌};
 ghost use Rattle.sec_base.specs.Answers.{Rose};
 ghost use Rattle.accept_book.specs.RecordShown.{Ruling};
 ghost use Rattle.gss_server.specs.Answers.{IsReply, Fits};
 ghost use Rattle.gss_server.specs.Kept.{Keeps, moments_of, draws_of};
 ghost use Rattle.gss_server.specs.Turns.{Receives, Responds, Ruled, Replies, Turns};
-ghost use Rattle.gss_server.specs.Connections.{framed, ruling_for, asked_for, IsServedBy, IsServed, StreamEnds};
+ghost use Rattle.gss_server.specs.Connections.{framed, ruling_for, asked_for, IsServedBy, IsServed};
+ghost use Rattle.gss_server.specs.Connections.{StreamEnds};
 ghost use Rattle.gss_server.specs.Asking.{IsAsked};
+ghost use Rattle.gss_server.specs.Ruled.{Questions};
+ghost use Rattle.gss_server.specs.Steady.{LinkKept, GateKept, Timed, Drawn};
 
 use crate::answer::{Kept, Reply};
 use crate::answering::answer_record_by;
@@ -61,16 +66,22 @@ pub fn serve_link<L: Link, G: Gate, C: Clock, D: Draw>(
     width: u32,
 ) -> Served<L>
     requires { L.closed link ≡ false }
-    ensures told { IsTrue (L.tells link) → IsServed width (L.wire link) (L.wire result.link) result.kept.items result.end }
+    ensures told { IsTrue (L.tells link) → IsServed width (L.wire link) (L.wire result.link)
+        result.kept.items result.end }
     // The gate was asked what the records ask, in order, each answer one that it may give behind those before; a gate that tells, and has
     // room for two questions a record, told just these.
-    ensures asked { IsTrue (L.tells link) → IsServedBy (IsAsked G.answers G.tells G.room G.told 131072 gate.old gate.new) width (L.wire link) (L.wire result.link) result.kept.items result.end }
+    ensures asked { IsTrue (L.tells link) → IsServedBy
+        (IsAsked G.answers G.tells G.room G.told 131072 gate.old gate.new) width
+        (L.wire link) (L.wire result.link) result.kept.items result.end }
     // The end that the stream has comes, unless the link failed or there was no memory.
-    ensures always { IsTrue (L.tells link) → (expected : ConnEnd) → StreamEnds (L.wire link) (L.wire result.link) expected
+    ensures always { IsTrue (L.tells link) → (expected : ConnEnd)
+        → StreamEnds (L.wire link) (L.wire result.link) expected
         → result.end ≢ ConnEnd.LinkFault → result.end ≢ ConnEnd.NoMemory → result.end ≡ expected }
     ensures fault { result.end ≡ ConnEnd.LinkFault → Rose (L.faults link) (L.faults result.link) }
-    ensures moments { IsTrue (C.tells clock.new) → Keeps (C.given clock.old) (C.given clock.new) [] result.kept.items moments_of }
-    ensures draws { IsTrue (D.tells draw.new) → Keeps (D.given draw.old) (D.given draw.new) [] result.kept.items draws_of }
+    ensures moments { IsTrue (C.tells clock.new)
+        → Keeps (C.given clock.old) (C.given clock.new) [] result.kept.items moments_of }
+    ensures draws { IsTrue (D.tells draw.new)
+        → Keeps (D.given draw.old) (D.given draw.new) [] result.kept.items draws_of }
     ensures gate_tells { G.tells gate.new ≡ G.tells gate.old }
     ensures limits { G.limits gate.new ≡ G.limits gate.old }
     ensures clock_tells { IsTrue (C.tells clock.new) → IsTrue (C.tells clock.old) }
@@ -99,18 +110,15 @@ fn serve<L: Link, G: Gate, C: Clock, D: Draw>(
 ) -> ConnEnd
     requires unclosed { L.closed link.old ≡ false }
     requires none { kept.old.items ≡ [] }
-    ensures told { IsTrue (L.tells link.old) → IsServedBy (IsAsked G.answers G.tells G.room G.told 131072 gate.old gate.new) width (L.wire link.old) (L.wire link.new) kept.new.items result }
+    ensures told { IsTrue (L.tells link.old)
+        → IsServedBy (Questions G.Gate 131072 gate.old gate.new) width (L.wire link.old)
+        (L.wire link.new) kept.new.items result }
     ensures fault { result ≡ ConnEnd.LinkFault → Rose (L.faults link.old) (L.faults link.new) }
-    ensures moments { IsTrue (C.tells clock.new) → Keeps (C.given clock.old) (C.given clock.new) [] kept.new.items moments_of }
-    ensures draws { IsTrue (D.tells draw.new) → Keeps (D.given draw.old) (D.given draw.new) [] kept.new.items draws_of }
-    ensures gate_tells { G.tells gate.new ≡ G.tells gate.old }
-    ensures limits { G.limits gate.new ≡ G.limits gate.old }
-    ensures clock_tells { IsTrue (C.tells clock.new) → IsTrue (C.tells clock.old) }
-    ensures draw_tells { IsTrue (D.tells draw.new) → IsTrue (D.tells draw.old) }
+    ensures moments { Timed C.Clock clock.old clock.new [] kept.new.items }
+    ensures draws { Drawn D.Draw draw.old draw.new [] kept.new.items }
+    ensures gate_kept { GateKept G.Gate gate.old gate.new }
     ensures bound { vec_len kept.new ≤ 65536 }
-    ensures tells { L.tells link.new ≡ L.tells link.old }
-    ensures unclosed { L.closed link.new ≡ false }
-    ensures faults { L.faults link.old ≤ L.faults link.new }
+    ensures link_kept { LinkKept L.Link link.old link.new }
 {
     let mut keys = MicCache::empty();
     for number in 0..RECORDS {
@@ -134,18 +142,14 @@ fn turn<L: Link, G: Gate, C: Clock, D: Draw>(
     keys: &mut MicCache,
 ) -> Option<ConnEnd>
     requires unclosed { L.closed link.old ≡ false }
-    ensures told { IsTrue (L.tells link.old) → Turns (IsAsked G.answers G.tells G.room G.told 2 gate.old gate.new) width (L.wire link.old) (L.wire link.new) kept.old.items kept.new.items result }
+    ensures told { IsTrue (L.tells link.old) → Turns (Questions G.Gate 2 gate.old gate.new)
+        width (L.wire link.old) (L.wire link.new) kept.old.items kept.new.items result }
     ensures fault { result ≡ Some ConnEnd.LinkFault → Rose (L.faults link.old) (L.faults link.new) }
-    ensures moments { IsTrue (C.tells clock.new) → Keeps (C.given clock.old) (C.given clock.new) kept.old.items kept.new.items moments_of }
-    ensures draws { IsTrue (D.tells draw.new) → Keeps (D.given draw.old) (D.given draw.new) kept.old.items kept.new.items draws_of }
-    ensures gate_tells { G.tells gate.new ≡ G.tells gate.old }
-    ensures limits { G.limits gate.new ≡ G.limits gate.old }
-    ensures clock_tells { IsTrue (C.tells clock.new) → IsTrue (C.tells clock.old) }
-    ensures draw_tells { IsTrue (D.tells draw.new) → IsTrue (D.tells draw.old) }
+    ensures moments { Timed C.Clock clock.old clock.new kept.old.items kept.new.items }
+    ensures draws { Drawn D.Draw draw.old draw.new kept.old.items kept.new.items }
+    ensures gate_kept { GateKept G.Gate gate.old gate.new }
     ensures count { vec_len kept.new ≤ vec_len kept.old + 1 }
-    ensures tells { L.tells link.new ≡ L.tells link.old }
-    ensures unclosed { L.closed link.new ≡ false }
-    ensures faults { L.faults link.old ≤ L.faults link.new }
+    ensures link_kept { LinkKept L.Link link.old link.new }
 {
     match receive(alloc, link) {
         Ok(octets) => reply_to_record(
@@ -167,10 +171,9 @@ fn turn<L: Link, G: Gate, C: Clock, D: Draw>(
 fn receive<L: Link>(alloc: Global, link: &mut L) -> Result<Octets, ConnEnd>
     requires unclosed { L.closed link.old ≡ false }
     ensures told { IsTrue (L.tells link.old) → Receives (L.wire link.old) (L.wire link.new) result }
-    ensures fault { IsErrOf result ConnEnd.LinkFault → Rose (L.faults link.old) (L.faults link.new) }
-    ensures tells { L.tells link.new ≡ L.tells link.old }
-    ensures unclosed { L.closed link.new ≡ false }
-    ensures faults { L.faults link.old ≤ L.faults link.new }
+    ensures fault { IsErrOf result ConnEnd.LinkFault
+        → Rose (L.faults link.old) (L.faults link.new) }
+    ensures link_kept { LinkKept L.Link link.old link.new }
 {
     match next_record(alloc, link) {
         Ok(Some(octets)) => Ok(octets),
@@ -196,18 +199,14 @@ fn reply_to_record<L: Link, G: Gate, C: Clock, D: Draw>(
     keys: &mut MicCache,
 ) -> Option<ConnEnd>
     requires unclosed { L.closed link.old ≡ false }
-    ensures told { IsTrue (L.tells link.old) → Replies (IsAsked G.answers G.tells G.room G.told 2 gate.old gate.new) width (L.wire link.old) (L.wire link.new) octets.now kept.old.items kept.new.items result }
+    ensures told { IsTrue (L.tells link.old) → Replies (Questions G.Gate 2 gate.old gate.new)
+        width (L.wire link.old) (L.wire link.new) octets.now kept.old.items kept.new.items result }
     ensures fault { result ≡ Some ConnEnd.LinkFault → Rose (L.faults link.old) (L.faults link.new) }
-    ensures moments { IsTrue (C.tells clock.new) → Keeps (C.given clock.old) (C.given clock.new) kept.old.items kept.new.items moments_of }
-    ensures draws { IsTrue (D.tells draw.new) → Keeps (D.given draw.old) (D.given draw.new) kept.old.items kept.new.items draws_of }
-    ensures gate_tells { G.tells gate.new ≡ G.tells gate.old }
-    ensures limits { G.limits gate.new ≡ G.limits gate.old }
-    ensures clock_tells { IsTrue (C.tells clock.new) → IsTrue (C.tells clock.old) }
-    ensures draw_tells { IsTrue (D.tells draw.new) → IsTrue (D.tells draw.old) }
+    ensures moments { Timed C.Clock clock.old clock.new kept.old.items kept.new.items }
+    ensures draws { Drawn D.Draw draw.old draw.new kept.old.items kept.new.items }
+    ensures gate_kept { GateKept G.Gate gate.old gate.new }
     ensures count { vec_len kept.new ≤ vec_len kept.old + 1 }
-    ensures tells { L.tells link.new ≡ L.tells link.old }
-    ensures unclosed { L.closed link.new ≡ false }
-    ensures faults { L.faults link.old ≤ L.faults link.new }
+    ensures link_kept { LinkKept L.Link link.old link.new }
 {
     if kept.reserve(1).is_err() {
         return Some(ConnEnd::NoMemory);
@@ -232,14 +231,13 @@ pub(crate) fn answer<G: Gate, C: Clock, D: Draw>(
     keys: &MicCache,
 ) -> Reply
     requires room { vec_len kept.old + 1 ≤ vec_capacity kept.old }
-    ensures reply { (one : Kept) × (kept.new.items ≡ kept.old.items ++ one ∷ []) × IsReply (ruling_for width octets.now one) result × IsAsked G.answers G.tells G.room G.told 2 gate.old gate.new (asked_for width octets.now one) }
+    ensures reply { (one : Kept) × (kept.new.items ≡ kept.old.items ++ one ∷ [])
+        × IsReply (ruling_for width octets.now one) result
+        × Questions G.Gate 2 gate.old gate.new (asked_for width octets.now one) }
     ensures fits { Fits result }
-    ensures moments { IsTrue (C.tells clock.new) → Keeps (C.given clock.old) (C.given clock.new) kept.old.items kept.new.items moments_of }
-    ensures draws { IsTrue (D.tells draw.new) → Keeps (D.given draw.old) (D.given draw.new) kept.old.items kept.new.items draws_of }
-    ensures gate_tells { G.tells gate.new ≡ G.tells gate.old }
-    ensures limits { G.limits gate.new ≡ G.limits gate.old }
-    ensures clock_tells { IsTrue (C.tells clock.new) → IsTrue (C.tells clock.old) }
-    ensures draw_tells { IsTrue (D.tells draw.new) → IsTrue (D.tells draw.old) }
+    ensures moments { Timed C.Clock clock.old clock.new kept.old.items kept.new.items }
+    ensures draws { Drawn D.Draw draw.old draw.new kept.old.items kept.new.items }
+    ensures gate_kept { GateKept G.Gate gate.old gate.new }
 {
     let now = clock.now();
     let mut draws = [0; 82];
@@ -269,10 +267,9 @@ fn respond<L: Link>(link: &mut L, reply: &Reply) -> Result<(), ConnEnd>
     ensures told { IsTrue (L.tells link.old) → (ruling : Ruling) → IsReply ruling reply.now
         → Responds (L.wire link.old) (L.wire link.new) (framed ruling.reply) result }
     ensures ruled { (ruling : Ruling) → IsReply ruling reply.now → Ruled ruling result }
-    ensures fault { IsErrOf result ConnEnd.LinkFault → Rose (L.faults link.old) (L.faults link.new) }
-    ensures tells { L.tells link.new ≡ L.tells link.old }
-    ensures unclosed { L.closed link.new ≡ false }
-    ensures faults { L.faults link.old ≤ L.faults link.new }
+    ensures fault { IsErrOf result ConnEnd.LinkFault
+        → Rose (L.faults link.old) (L.faults link.new) }
+    ensures link_kept { LinkKept L.Link link.old link.new }
 {
     match reply {
         Reply::Silent => Ok(()),

@@ -1,31 +1,34 @@
-//! The rules of creation: INIT and CONTINUE_INIT.
+//! The rules of creation, RFC 2203 section 5.2: INIT and CONTINUE_INIT.
 
-ghost use Rattle.std.specs.Prelude.{◌≡◌, ◌<◌, ◌≤◌, IsTrue, length, map, is_some, if◌then◌else◌, None, Some, Ok, take, IfOk};
+ghost use Rattle.std.specs.Prelude.{◌≡◌, ◌<◌, ◌≤◌, length, [], Some, Ok, take, IfOk};
 ghost use Rattle.rpc_msgs.specs.Words.{word};
 ghost use Rattle.rpc_msgs.specs.Replies.{accepted, reply_octets};
 ghost use Rattle.rpcsec_msgs.specs.Cred.{cred_value};
 ghost use Rattle.rpcsec_msgs.specs.InitRes.{init_res_octets};
 ghost use Rattle.krb_tokens.specs.Mic.{mic_of};
-ghost use Rattle.accept_book.specs.Served.{one_opaque};
-ghost use Rattle.accept_book.specs.Statuses.{book_status};
-ghost use Rattle.accept_book.specs.RecordShown.{decided, plain, going, settled, refused, refusal_token, handle_of, handle_id, end_of};
-ghost use Rattle.accept_book.specs.RecordRule.{stepped, ask_step, continued, token_ruling, creation_ruling};
+ghost use Rattle.accept_book.specs.Booking.{token_size};
+ghost use Rattle.accept_book.specs.RecordShown.{by, plain, going, settled, refused, refusal_token};
+ghost use Rattle.accept_book.specs.RecordShown.{end_of};
+ghost use Rattle.accept_book.specs.RecordRule.{stepped, ask_step, continued, token_ruling};
+ghost use Rattle.accept_book.specs.RecordRule.{creation_ruling};
 ghost use Rattle.gss_server.specs.Answers.{Says, Fits};
 ghost use Rattle.gss_server.specs.Hearing.{shown, handle_or_none};
-ghost use Rattle.accept_book.specs.Booking.{token_size};
-ghost use Rattle.gss_server.specs.Asking.{Asking};
-ghost use Rattle.gss_server.specs.Telling.{Gains, told_of};
+ghost use Rattle.gss_server.specs.Ruled.{IsRuled};
 
+use crate::asks::{Asks, unasked};
 use crate::gate::Gate;
 use crate::heard::Heard;
 use crate::opening::{id_in, token_in};
-use crate::rules::*;
-use crate::saying::{
-    AUTH_NONE, GSS, Said, end_at, say_denied, say_no_memory, say_plain, say_reply,
-};
-use crate::statuses::status_of;
-use accept_book::{BookRefusal, Lease, NegAnswer, Negotiated};
+use crate::saying::{Said, end_at, say_denied, say_no_memory, say_plain, say_reply};
+use crate::statuses::major_of;
+use accept_book::{BookRefusal, Lease, NegAnswer, Negotiated, Rule};
+use gss_base::status::{COMPLETE, CONTINUE_NEEDED};
 use rpc_msgs::Reply as RpcReply;
+use rpc_msgs::numbers::{
+    AUTH_NONE, GARBAGE_ARGS, PROG_MISMATCH, PROG_UNAVAIL, PROGRAM, RPCSEC_GSS,
+    RPCSEC_GSS_CREDPROBLEM, SUCCESS, VERSION,
+};
+use rpcsec_msgs::numbers::RPCSEC_GSS_INIT;
 use rpcsec_msgs::{GssCred, InitRes, write_init_res};
 use sec_base::{NoMemory, Octets};
 use std::alloc::Global;
@@ -33,14 +36,8 @@ use std::alloc::Global;
 /// A negotiation token that says reject (RFC 4178 section 4.2.2).
 static REJECT: [u8; 9] = [0xa1, 7, 0x30, 5, 0xa0, 3, 10, 1, 2];
 
-/// The procedure of a first token.
-const INIT: u32 = 1;
-
-/// What a step was answered.
-pub(crate) struct Steps {
-    pub negotiated: Option<Negotiated>,
-    pub said: Said,
-}
+/// The number of the MIC over the window.
+const WINDOW_MIC: u64 = 1;
 
 /// The octets of a creation's result.
 fn result_octets(
@@ -52,7 +49,13 @@ fn result_octets(
     token: &[u8],
 ) -> Result<Octets, NoMemory>
     requires { length token.now ≤ 65536 }
-    ensures value { IfOk result (λ octets. octets ≡ init_res_octets (record { context = handle_or_none id; major = major; minor = minor; window = window; token = token.now })) }
+    ensures value { IfOk result (λ octets. octets ≡ init_res_octets (record {
+      context = handle_or_none id;
+      major = major;
+      minor = minor;
+      window = window;
+      token = token.now;
+    })) }
     ensures size { IfOk result (λ octets. length octets ≤ 130000) }
 {
     let result = InitRes {
@@ -78,20 +81,21 @@ fn handle(alloc: Global, id: Option<u64>) -> Result<Octets, NoMemory>
 /// A context goes on: its handle, and the token for the initiator.
 fn say_going(alloc: Global, heard: &Heard<'_>, id: u64, token: &[u8]) -> Said
     requires { length token.now ≤ 65536 }
-    ensures says { Says result.reply result.rule (decided 21 (going (shown heard.entry.now) id token.now)) }
+    ensures says { Says result.reply result.rule
+        (by Rule.Going (going (shown heard.entry.now) id token.now)) }
     ensures fits { Fits result.reply }
 {
-    match result_octets(alloc, Some(id), 1, 0, 0, token) {
-        Ok(result) => say_creation(alloc, heard, 21, result.as_slice()),
+    match result_octets(alloc, Some(id), CONTINUE_NEEDED, 0, 0, token) {
+        Ok(result) => say_creation(alloc, heard, Rule::Going, result.as_slice()),
         Err(_) => say_no_memory(),
     }
 }
 
 /// A creation's result without a verifier.
-fn say_creation(alloc: Global, heard: &Heard<'_>, rule: u8, body: &[u8]) -> Said
-    requires rule { 0 < rule }
+fn say_creation(alloc: Global, heard: &Heard<'_>, rule: Rule, body: &[u8]) -> Said
     requires size { length body.now ≤ 130000 }
-    ensures says { Says result.reply result.rule (decided rule (plain (shown heard.entry.now) 0 0 0 body.now)) }
+    ensures says { Says result.reply result.rule
+        (by rule (plain (shown heard.entry.now) 0 0 0 body.now)) }
     ensures fits { Fits result.reply }
 {
     let reply = RpcReply::Accepted {
@@ -109,10 +113,11 @@ fn say_creation(alloc: Global, heard: &Heard<'_>, rule: u8, body: &[u8]) -> Said
 /// A context is complete: its handle, the window, the token for the initiator, and a MIC over the window.
 fn say_settled(alloc: Global, heard: &Heard<'_>, lease: &Lease, token: &[u8]) -> Said
     requires { length token.now ≤ 65536 }
-    ensures says { Says result.reply result.rule (decided 22 (settled (shown heard.entry.now) lease.now token.now)) }
+    ensures says { Says result.reply result.rule
+        (by Rule.Settled (settled (shown heard.entry.now) lease.now token.now)) }
     ensures fits { Fits result.reply }
 {
-    match result_octets(alloc, Some(lease.id), 0, 0, heard.width, token) {
+    match result_octets(alloc, Some(lease.id), COMPLETE, 0, heard.width, token) {
         Ok(result) => say_window(alloc, heard, lease, result.as_slice()),
         Err(_) => say_no_memory(),
     }
@@ -121,20 +126,22 @@ fn say_settled(alloc: Global, heard: &Heard<'_>, lease: &Lease, token: &[u8]) ->
 /// A creation's result with a MIC over the window.
 fn say_window(alloc: Global, heard: &Heard<'_>, lease: &Lease, body: &[u8]) -> Said
     requires { length body.now ≤ 130000 }
-    ensures says { Says result.reply result.rule (decided 22 (Some (reply_octets (accepted heard.entry.now.call.xid 6 (mic_of (end_of lease.now) 1 (word heard.entry.now.width)) 0 0 0 body.now)))) }
+    ensures says { Says result.reply result.rule (by Rule.Settled
+        (Some (reply_octets (accepted heard.entry.now.call.xid 6
+        (mic_of (end_of lease.now) 1 (word heard.entry.now.width)) 0 0 0 body.now)))) }
     ensures fits { Fits result.reply }
 {
     let mic = window_mic(heard.width, lease);
     let reply = RpcReply::Accepted {
         xid: heard.call.xid,
-        flavour: GSS,
+        flavour: RPCSEC_GSS,
         verf: &mic,
         stat: SUCCESS,
         low: 0,
         high: 0,
         result: body,
     };
-    say_reply(alloc, 22, &reply)
+    say_reply(alloc, Rule::Settled, &reply)
 }
 
 /// The MIC over the window.
@@ -142,7 +149,7 @@ fn say_window(alloc: Global, heard: &Heard<'_>, lease: &Lease, body: &[u8]) -> S
 fn window_mic(width: u32, lease: &Lease) -> [u8; 28]
     ensures { result ≡ mic_of (end_of lease.now) 1 (word width) }
 {
-    end_at(lease).make_mic(1, &width.to_be_bytes())
+    end_at(lease).make_mic(WINDOW_MIC, &width.to_be_bytes())
 }
 
 /// The token that says reject, or none where the context was complete.
@@ -158,12 +165,13 @@ fn reject(refusal: &BookRefusal) -> &'static [u8]
 
 /// A refused step: its major and minor status.
 fn say_refused(alloc: Global, heard: &Heard<'_>, refusal: &BookRefusal) -> Said
-    ensures says { Says result.reply result.rule (decided 20 (refused (shown heard.entry.now) refusal.now)) }
+    ensures says { Says result.reply result.rule
+        (by Rule.Refused (refused (shown heard.entry.now) refusal.now)) }
     ensures fits { Fits result.reply }
 {
-    let (major, minor) = status_of(refusal);
+    let (major, minor) = (major_of(*refusal), refusal.number());
     match result_octets(alloc, None, major, minor, 0, reject(refusal)) {
-        Ok(result) => say_creation(alloc, heard, 20, result.as_slice()),
+        Ok(result) => say_creation(alloc, heard, Rule::Refused, result.as_slice()),
         Err(_) => say_no_memory(),
     }
 }
@@ -172,12 +180,18 @@ fn say_refused(alloc: Global, heard: &Heard<'_>, refusal: &BookRefusal) -> Said
 fn say_stepped(alloc: Global, heard: &Heard<'_>, answer: &NegAnswer) -> Said
     requires { token_size answer.now ≤ 65536 }
     ensures says { Says result.reply result.rule (stepped (shown heard.entry.now) answer.now) }
+    ensures unasked { (stepped (shown heard.entry.now) answer.now).asked ≡ [] }
     ensures fits { Fits result.reply }
 {
     match answer {
         NegAnswer::Going { id, token } => say_going(alloc, heard, *id, token.as_slice()),
         NegAnswer::Settled { lease, token } => say_settled(alloc, heard, lease, token.as_slice()),
-        NegAnswer::Refused(BookRefusal::NoContext) => say_denied(alloc, heard, 6, CRED_PROBLEM),
+        NegAnswer::Refused(BookRefusal::NoContext) => say_denied(
+            alloc,
+            heard,
+            Rule::NoContext,
+            RPCSEC_GSS_CREDPROBLEM,
+        ),
         NegAnswer::Refused(refusal) => say_refused(alloc, heard, refusal),
         NegAnswer::NoMemory => say_no_memory(),
     }
@@ -199,20 +213,18 @@ fn ask_for_step<G: Gate>(
     heard: &Heard<'_>,
     id: Option<u64>,
     token: &[u8],
-) -> Steps
-    ensures says { Says result.said.reply result.said.rule (ask_step (shown heard.entry.now) id token.now result.negotiated) }
-    ensures fits { Fits result.said.reply }
-    ensures exact { length (ask_step (shown heard.entry.now) id token.now result.negotiated).asked ≡ (if is_some result.negotiated then 1 else 0) }
-    ensures tells { G.tells gate.new ≡ G.tells gate.old }
-    ensures limits { G.limits gate.new ≡ G.limits gate.old }
-    ensures told { IsTrue (G.tells gate.old) → 1 ≤ G.room gate.old → Gains (G.room gate.old) (G.room gate.new) (G.told gate.old) (G.told gate.new) (map told_of (ask_step (shown heard.entry.now) id token.now result.negotiated).asked) }
-    ensures answers { Asking G.answers gate.old (ask_step (shown heard.entry.now) id token.now result.negotiated).asked gate.new }
+) -> Asks
+    ensures ruled { IsRuled G.Gate 1 gate.old gate.new result
+        (ask_step (shown heard.entry.now) id token.now result.negotiated) }
 {
     let draws = step_draws(&heard.draws);
     let negotiated = gate.negotiate(alloc, id, token, heard.now, &draws);
     let said = say_stepped(alloc, heard, &negotiated.answer);
-    Steps {
+    Asks {
         negotiated: Some(negotiated),
+        looked: None,
+        admitted: None,
+        ended: None,
         said,
     }
 }
@@ -224,17 +236,12 @@ fn say_continued<G: Gate>(
     heard: &Heard<'_>,
     token: &[u8],
     id: Option<u64>,
-) -> Steps
-    ensures says { Says result.said.reply result.said.rule (continued (shown heard.entry.now) token.now result.negotiated id) }
-    ensures fits { Fits result.said.reply }
-    ensures exact { length (continued (shown heard.entry.now) token.now result.negotiated id).asked ≡ (if is_some result.negotiated then 1 else 0) }
-    ensures tells { G.tells gate.new ≡ G.tells gate.old }
-    ensures limits { G.limits gate.new ≡ G.limits gate.old }
-    ensures told { IsTrue (G.tells gate.old) → 1 ≤ G.room gate.old → Gains (G.room gate.old) (G.room gate.new) (G.told gate.old) (G.told gate.new) (map told_of (continued (shown heard.entry.now) token.now result.negotiated id).asked) }
-    ensures answers { Asking G.answers gate.old (continued (shown heard.entry.now) token.now result.negotiated id).asked gate.new }
+) -> Asks
+    ensures ruled { IsRuled G.Gate 1 gate.old gate.new result
+        (continued (shown heard.entry.now) token.now result.negotiated id) }
 {
     match id {
-        None => unstepped(say_denied(alloc, heard, 6, CRED_PROBLEM)),
+        None => unasked(say_denied(alloc, heard, Rule::NoContext, RPCSEC_GSS_CREDPROBLEM)),
         Some(id) => ask_for_step(alloc, gate, heard, Some(id), token),
     }
 }
@@ -246,16 +253,12 @@ fn say_token<G: Gate>(
     heard: &Heard<'_>,
     cred: &GssCred<'_>,
     token: &[u8],
-) -> Steps
-    ensures says { Says result.said.reply result.said.rule (token_ruling (shown heard.entry.now) (cred_value cred.now) result.negotiated (Ok token.now)) }
-    ensures fits { Fits result.said.reply }
-    ensures exact { length (token_ruling (shown heard.entry.now) (cred_value cred.now) result.negotiated (Ok token.now)).asked ≡ (if is_some result.negotiated then 1 else 0) }
-    ensures tells { G.tells gate.new ≡ G.tells gate.old }
-    ensures limits { G.limits gate.new ≡ G.limits gate.old }
-    ensures told { IsTrue (G.tells gate.old) → 1 ≤ G.room gate.old → Gains (G.room gate.old) (G.room gate.new) (G.told gate.old) (G.told gate.new) (map told_of (token_ruling (shown heard.entry.now) (cred_value cred.now) result.negotiated (Ok token.now)).asked) }
-    ensures answers { Asking G.answers gate.old (token_ruling (shown heard.entry.now) (cred_value cred.now) result.negotiated (Ok token.now)).asked gate.new }
+) -> Asks
+    ensures ruled { IsRuled G.Gate 1 gate.old gate.new result
+        (token_ruling (shown heard.entry.now) (cred_value cred.now) result.negotiated
+        (Ok token.now)) }
 {
-    if cred.proc == INIT {
+    if cred.proc == RPCSEC_GSS_INIT {
         return ask_for_step(alloc, gate, heard, None, token);
     }
     say_continued(alloc, gate, heard, token, id_in(cred.context))
@@ -268,35 +271,19 @@ pub(crate) fn say_creating<G: Gate>(
     gate: &mut G,
     heard: &Heard<'_>,
     cred: &GssCred<'_>,
-) -> Steps
-    ensures says { Says result.said.reply result.said.rule (creation_ruling (shown heard.entry.now) (cred_value cred.now) result.negotiated) }
-    ensures fits { Fits result.said.reply }
-    ensures exact { length (creation_ruling (shown heard.entry.now) (cred_value cred.now) result.negotiated).asked ≡ (if is_some result.negotiated then 1 else 0) }
-    ensures tells { G.tells gate.new ≡ G.tells gate.old }
-    ensures limits { G.limits gate.new ≡ G.limits gate.old }
-    ensures told { IsTrue (G.tells gate.old) → 1 ≤ G.room gate.old → Gains (G.room gate.old) (G.room gate.new) (G.told gate.old) (G.told gate.new) (map told_of (creation_ruling (shown heard.entry.now) (cred_value cred.now) result.negotiated).asked) }
-    ensures answers { Asking G.answers gate.old (creation_ruling (shown heard.entry.now) (cred_value cred.now) result.negotiated).asked gate.new }
+) -> Asks
+    ensures ruled { IsRuled G.Gate 1 gate.old gate.new result
+        (creation_ruling (shown heard.entry.now) (cred_value cred.now) result.negotiated) }
 {
     let call = &heard.call;
     if call.program != PROGRAM {
-        return unstepped(say_plain(alloc, heard, 9, PROG_UNAVAIL, 0, 0));
+        return unasked(say_plain(alloc, heard, Rule::Program, PROG_UNAVAIL, 0, 0));
     }
     if call.version != VERSION {
-        return unstepped(say_plain(alloc, heard, 10, PROG_MISMATCH, VERSION, VERSION));
+        return unasked(say_plain(alloc, heard, Rule::Version, PROG_MISMATCH, VERSION, VERSION));
     }
     match token_in(call.args) {
         Ok(token) => say_token(alloc, gate, heard, cred, token),
-        Err(_) => unstepped(say_plain(alloc, heard, 14, GARBAGE_ARGS, 0, 0)),
-    }
-}
-
-/// Nothing was asked.
-fn unstepped(said: Said) -> Steps
-    ensures negotiated { result.negotiated ≡ None }
-    ensures said { result.said ≡ said }
-{
-    Steps {
-        negotiated: None,
-        said,
+        Err(_) => unasked(say_plain(alloc, heard, Rule::Arguments, GARBAGE_ARGS, 0, 0)),
     }
 }

@@ -6,14 +6,14 @@ ghost use Rattle.accept_book.specs.Booking.{token_size};
 use accept_book::{AdmitRefusal, Admitted, Lease, LookRefusal, Negotiated, Receipt};
 
 /// A step's answer whose token has at most 65,536 octets.
-#[derive(Debug, Drop)]
+#[derive(Drop)]
 pub struct Step {
     pub negotiated: Negotiated,
     ghost small: { token_size negotiated.answer ≤ 65536 },
 }
 
 /// An answer to one question.
-#[derive(Debug, Drop)]
+#[derive(Drop)]
 pub enum GateAnswer {
     Negotiated(Step),
     Looked(Result<Lease, LookRefusal>),

@@ -1,6 +1,7 @@
 //! A gate over a list of answers, for tests.
 
-ghost use Rattle.std.specs.Prelude.{◌≡◌, ◌<◌, ◌≤◌, ◌+◌, ◌++◌, IsTrue, true, [], ◌∷◌, drop, IfOk, None, option_to_list, vec_len, vec_capacity};
+ghost use Rattle.std.specs.Prelude.{◌≡◌, ◌<◌, ◌≤◌, ◌+◌, ◌++◌, IsTrue, true, [], ◌∷◌, drop, IfOk};
+ghost use Rattle.std.specs.Prelude.{None, option_to_list, vec_len, vec_capacity};
 ghost use Rattle.gss_server.specs.Listed.{IsFull, StepNext, look_next, admission_next, end_next};
 ghost use Rattle.accept_book.specs.Booking.{token_size};
 ghost use Rattle.gss_server.specs.Telling.{Gains, step_told, told_of};
@@ -19,7 +20,7 @@ use std::alloc::Global;
 
 /// A gate that gives the answers of a list, in order. Where the next answer is of another kind, or there is none, it answers
 /// LogFull, NoContext, Gone and Gone; such an answer is used up. It tells what it was asked, up to two questions more than it had answers.
-#[derive(Debug, Drop)]
+#[derive(Drop)]
 pub struct ListGate {
     answers: Vec<GateAnswer>,
     told: Vec<Told>,
@@ -215,8 +216,10 @@ impl ListGate {
 
     /// Tells a question, where there is room.
     fn tell(&mut self, one: Told)
-        ensures told { vec_len self.old.told < self.old.limit → self.new.told.items ≡ self.old.told.items ++ one ∷ [] }
-        ensures count { vec_len self.old.told < self.old.limit → vec_len self.new.told ≡ vec_len self.old.told + 1 }
+        ensures told { vec_len self.old.told < self.old.limit
+            → self.new.told.items ≡ self.old.told.items ++ one ∷ [] }
+        ensures count { vec_len self.old.told < self.old.limit
+            → vec_len self.new.told ≡ vec_len self.old.told + 1 }
         ensures answers { self.new.answers.items ≡ self.old.answers.items }
         ensures limit { self.new.limit ≡ self.old.limit }
     {
@@ -262,9 +265,15 @@ impl Gate for ListGate {
         ensures rest { self.new.answers.items ≡ drop 1 self.old.answers.items }
         ensures size { token_size result.answer ≤ 65536 }
         ensures tells { ⟦<ListGate as Gate>⟧.tells self.new ≡ ⟦<ListGate as Gate>⟧.tells self.old }
-        ensures limits { ⟦<ListGate as Gate>⟧.limits self.new ≡ ⟦<ListGate as Gate>⟧.limits self.old }
-        ensures told { IsTrue (⟦<ListGate as Gate>⟧.tells self.old) → 1 ≤ ⟦<ListGate as Gate>⟧.room self.old → Gains (⟦<ListGate as Gate>⟧.room self.old) (⟦<ListGate as Gate>⟧.room self.new) (⟦<ListGate as Gate>⟧.told self.old) (⟦<ListGate as Gate>⟧.told self.new) (told_of (AskedStep id token.now now draws.now result) ∷ []) }
-        ensures answers { ⟦<ListGate as Gate>⟧.answers self.old (AskedStep id token.now now draws.now result) self.new }
+        ensures limits { ⟦<ListGate as Gate>⟧.limits self.new
+            ≡ ⟦<ListGate as Gate>⟧.limits self.old }
+        ensures told { IsTrue (⟦<ListGate as Gate>⟧.tells self.old)
+            → 1 ≤ ⟦<ListGate as Gate>⟧.room self.old
+            → Gains (⟦<ListGate as Gate>⟧.room self.old) (⟦<ListGate as Gate>⟧.room self.new)
+            (⟦<ListGate as Gate>⟧.told self.old) (⟦<ListGate as Gate>⟧.told self.new)
+            (told_of (AskedStep id token.now now draws.now result) ∷ []) }
+        ensures answers { ⟦<ListGate as Gate>⟧.answers self.old
+            (AskedStep id token.now now draws.now result) self.new }
     {
         let negotiated = self.next_step();
         let draws = *draws;
@@ -285,8 +294,12 @@ impl Gate for ListGate {
         ensures next { result ≡ look_next self.old.answers.items }
         ensures rest { self.new.answers.items ≡ drop 1 self.old.answers.items }
         ensures tells { ⟦<ListGate as Gate>⟧.tells self.new ≡ ⟦<ListGate as Gate>⟧.tells self.old }
-        ensures limits { ⟦<ListGate as Gate>⟧.limits self.new ≡ ⟦<ListGate as Gate>⟧.limits self.old }
-        ensures told { IsTrue (⟦<ListGate as Gate>⟧.tells self.old) → 1 ≤ ⟦<ListGate as Gate>⟧.room self.old → Gains (⟦<ListGate as Gate>⟧.room self.old) (⟦<ListGate as Gate>⟧.room self.new) (⟦<ListGate as Gate>⟧.told self.old) (⟦<ListGate as Gate>⟧.told self.new) (told_of (AskedLook id now result) ∷ []) }
+        ensures limits { ⟦<ListGate as Gate>⟧.limits self.new
+            ≡ ⟦<ListGate as Gate>⟧.limits self.old }
+        ensures told { IsTrue (⟦<ListGate as Gate>⟧.tells self.old)
+            → 1 ≤ ⟦<ListGate as Gate>⟧.room self.old → Gains (⟦<ListGate as Gate>⟧.room self.old)
+            (⟦<ListGate as Gate>⟧.room self.new) (⟦<ListGate as Gate>⟧.told self.old)
+            (⟦<ListGate as Gate>⟧.told self.new) (told_of (AskedLook id now result) ∷ []) }
         ensures answers { ⟦<ListGate as Gate>⟧.answers self.old (AskedLook id now result) self.new }
     {
         let answer = self.next_look();
@@ -304,9 +317,15 @@ impl Gate for ListGate {
         ensures next { result ≡ admission_next self.old.answers.items }
         ensures rest { self.new.answers.items ≡ drop 1 self.old.answers.items }
         ensures tells { ⟦<ListGate as Gate>⟧.tells self.new ≡ ⟦<ListGate as Gate>⟧.tells self.old }
-        ensures limits { ⟦<ListGate as Gate>⟧.limits self.new ≡ ⟦<ListGate as Gate>⟧.limits self.old }
-        ensures told { IsTrue (⟦<ListGate as Gate>⟧.tells self.old) → 1 ≤ ⟦<ListGate as Gate>⟧.room self.old → Gains (⟦<ListGate as Gate>⟧.room self.old) (⟦<ListGate as Gate>⟧.room self.new) (⟦<ListGate as Gate>⟧.told self.old) (⟦<ListGate as Gate>⟧.told self.new) (told_of (AskedAdmit lease.now seq procedure args result) ∷ []) }
-        ensures answers { ⟦<ListGate as Gate>⟧.answers self.old (AskedAdmit lease.now seq procedure args result) self.new }
+        ensures limits { ⟦<ListGate as Gate>⟧.limits self.new
+            ≡ ⟦<ListGate as Gate>⟧.limits self.old }
+        ensures told { IsTrue (⟦<ListGate as Gate>⟧.tells self.old)
+            → 1 ≤ ⟦<ListGate as Gate>⟧.room self.old
+            → Gains (⟦<ListGate as Gate>⟧.room self.old) (⟦<ListGate as Gate>⟧.room self.new)
+            (⟦<ListGate as Gate>⟧.told self.old) (⟦<ListGate as Gate>⟧.told self.new)
+            (told_of (AskedAdmit lease.now seq procedure args result) ∷ []) }
+        ensures answers { ⟦<ListGate as Gate>⟧.answers self.old
+            (AskedAdmit lease.now seq procedure args result) self.new }
     {
         let answer = self.next_admission();
         self.tell(told_admission(lease, seq, procedure, args, &answer));
@@ -317,9 +336,14 @@ impl Gate for ListGate {
         ensures next { result ≡ end_next self.old.answers.items }
         ensures rest { self.new.answers.items ≡ drop 1 self.old.answers.items }
         ensures tells { ⟦<ListGate as Gate>⟧.tells self.new ≡ ⟦<ListGate as Gate>⟧.tells self.old }
-        ensures limits { ⟦<ListGate as Gate>⟧.limits self.new ≡ ⟦<ListGate as Gate>⟧.limits self.old }
-        ensures told { IsTrue (⟦<ListGate as Gate>⟧.tells self.old) → 1 ≤ ⟦<ListGate as Gate>⟧.room self.old → Gains (⟦<ListGate as Gate>⟧.room self.old) (⟦<ListGate as Gate>⟧.room self.new) (⟦<ListGate as Gate>⟧.told self.old) (⟦<ListGate as Gate>⟧.told self.new) (told_of (AskedEnd lease.now seq result) ∷ []) }
-        ensures answers { ⟦<ListGate as Gate>⟧.answers self.old (AskedEnd lease.now seq result) self.new }
+        ensures limits { ⟦<ListGate as Gate>⟧.limits self.new
+            ≡ ⟦<ListGate as Gate>⟧.limits self.old }
+        ensures told { IsTrue (⟦<ListGate as Gate>⟧.tells self.old)
+            → 1 ≤ ⟦<ListGate as Gate>⟧.room self.old → Gains (⟦<ListGate as Gate>⟧.room self.old)
+            (⟦<ListGate as Gate>⟧.room self.new) (⟦<ListGate as Gate>⟧.told self.old)
+            (⟦<ListGate as Gate>⟧.told self.new) (told_of (AskedEnd lease.now seq result) ∷ []) }
+        ensures answers { ⟦<ListGate as Gate>⟧.answers self.old (AskedEnd lease.now seq result)
+            self.new }
     {
         let answer = self.next_end();
         self.tell(told_end(lease, seq, &answer));

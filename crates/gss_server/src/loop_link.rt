@@ -1,6 +1,7 @@
 //! A link on which a client meets the rules of a record in one thread.
 
-ghost use Rattle.std.specs.Prelude.{◌≡◌, ◌≤◌, ◌+◌, nat_lt, [], false, IfOk, length, take, drop, vec_len};
+ghost use Rattle.std.specs.Prelude.{◌≡◌, ◌≤◌, ◌+◌, nat_lt, [], false, IfOk, length, take, drop};
+ghost use Rattle.std.specs.Prelude.{vec_len};
 ghost use Rattle.gss_server.specs.Looping.{Looped, Loops};
 
 use crate::answer::Kept;
@@ -21,7 +22,8 @@ pub struct LoopLink<G, Q> {
     faults: u64,
     closed: bool,
     ghost within: { at ≤ vec_len inner.said },
-    ghost looped: { ∥ Looped inner.width inner.heard.items inner.said.items inner.kept.items inner.cut (nat_lt 0 faults) ∥₁ },
+    ghost looped: { ∥ Looped inner.width inner.heard.items inner.said.items inner.kept.items
+        inner.cut (nat_lt 0 faults) ∥₁ },
 }
 
 impl<G: Gate, Q: Draw> LoopLink<G, Q> {
@@ -33,7 +35,8 @@ impl<G: Gate, Q: Draw> LoopLink<G, Q> {
         draws: Q,
         width: u32,
     ) -> Result<LoopLink<G, Q>, NoMemory>
-        ensures wire { IfOk result (λ link. ⟦<LoopLink<G, Q> as Link>⟧.wire link ≡ record { taken = []; coming = []; written = [] }) }
+        ensures wire { IfOk result (λ link. ⟦<LoopLink<G, Q> as Link>⟧.wire link
+            ≡ record { taken = []; coming = []; written = [] }) }
         ensures closed { IfOk result (λ link. ⟦<LoopLink<G, Q> as Link>⟧.closed link ≡ false) }
         ensures faults { IfOk result (λ link. ⟦<LoopLink<G, Q> as Link>⟧.faults link ≡ 0) }
         ensures width { IfOk result (λ link. link.inner.width ≡ width) }
@@ -77,7 +80,8 @@ impl<G: Gate, Q: Draw> LoopLink<G, Q> {
     /// What was kept of the answers so far.
     pub fn kept(&self) -> &[Kept]
         ensures kept { result.now ≡ self.now.inner.kept.items }
-        ensures looped { ∥ Loops self.now.inner.width (⟦<LoopLink<G, Q> as Link>⟧.wire self.now) result.now (nat_lt 0 (⟦<LoopLink<G, Q> as Link>⟧.faults self.now)) ∥₁ }
+        ensures looped { ∥ Loops self.now.inner.width (⟦<LoopLink<G, Q> as Link>⟧.wire self.now)
+            result.now (nat_lt 0 (⟦<LoopLink<G, Q> as Link>⟧.faults self.now)) ∥₁ }
     {
         self.inner.kept.as_slice()
     }
@@ -87,7 +91,8 @@ impl<G: Gate, Q: Draw> LoopLink<G, Q> {
         ensures gate { result.0 ≡ self.inner.gate }
         ensures draws { result.1 ≡ self.inner.draws }
         ensures kept { result.2.items ≡ self.inner.kept.items }
-        ensures looped { ∥ Loops self.inner.width (⟦<LoopLink<G, Q> as Link>⟧.wire self) result.2.items (nat_lt 0 (⟦<LoopLink<G, Q> as Link>⟧.faults self)) ∥₁ }
+        ensures looped { ∥ Loops self.inner.width (⟦<LoopLink<G, Q> as Link>⟧.wire self)
+            result.2.items (nat_lt 0 (⟦<LoopLink<G, Q> as Link>⟧.faults self)) ∥₁ }
     {
         let LoopLink { inner, .. } = self;
         let Looping {
@@ -107,7 +112,12 @@ impl<G: Gate, Q: Draw> Link for LoopLink<G, Q> {
 
     ghost tells = { λ _. true };
 
-    ghost wire = { λ l. record { taken = take l.at l.inner.said.items; coming = drop l.at l.inner.said.items; written = l.inner.heard.items } };
+    ghost wire = { λ l. record {
+      taken = take l.at l.inner.said.items;
+      coming =
+          drop l.at l.inner.said.items;
+      written = l.inner.heard.items;
+    } };
 
     ghost closed = { λ l. l.closed };
 

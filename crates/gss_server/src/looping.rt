@@ -1,10 +1,12 @@
 //! What a link in one thread heard, and what it answered.
 
-ghost use Rattle.std.specs.Prelude.{◌≡◌, ◌≤◌, ◌<◌, ◌+◌, ◌++◌, ℕ, List, true, false, not, IfOk, OnErr, length, vec_len};
+ghost use Rattle.std.specs.Prelude.{◌≡◌, ◌≤◌, ◌<◌, ◌+◌, ◌++◌, ℕ, List, true, false, not, IfOk};
+ghost use Rattle.std.specs.Prelude.{OnErr, length, vec_len};
 ghost use Rattle.rpc_msgs.specs.Records.{last_fragment};
 ghost use Rattle.accept_book.specs.RecordShown.{Ruling};
 ghost use Rattle.gss_server.specs.Answers.{IsReply, Fits};
-ghost use Rattle.gss_server.specs.Looping.{size_of, IsNext, IsSaid, IsAnsweredBy, Unjudged, LoopedTo, IsTurned, Looped, HeardMore};
+ghost use Rattle.gss_server.specs.Looping.{size_of, IsNext, IsSaid, IsAnsweredBy, Unjudged};
+ghost use Rattle.gss_server.specs.Looping.{LoopedTo, IsTurned, Looped, HeardMore};
 
 use crate::answer::{Kept, Reply};
 use crate::connection::answer;
@@ -93,7 +95,8 @@ fn append_record(alloc: Global, said: &mut Vec<u8>, bytes: &[u8]) -> Result<(), 
 /// Says what is replied, as one record or nothing.
 fn say(alloc: Global, said: &mut Vec<u8>, reply: &Reply) -> Turned
     requires fits { Fits reply.now }
-    ensures { (ruling : Ruling) → IsReply ruling reply.now → IsSaid ruling said.old.items said.new.items result }
+    ensures { (ruling : Ruling) → IsReply ruling reply.now
+        → IsSaid ruling said.old.items said.new.items result }
 {
     match reply {
         Reply::Silent => Turned::Answered,
@@ -109,7 +112,9 @@ impl<G: Gate, Q: Draw> Looping<G, Q> {
     /// Answers a record that has so many octets in the stream.
     fn answer(&mut self, alloc: Global, octets: &[u8], size: usize) -> Turned
         requires within { self.old.cut + size ≤ vec_len self.old.heard }
-        ensures answered { IsAnsweredBy self.old.width octets.now size self.old.kept.items self.new.kept.items self.old.said.items self.new.said.items self.old.cut self.new.cut result }
+        ensures answered { IsAnsweredBy self.old.width octets.now size self.old.kept.items
+            self.new.kept.items self.old.said.items self.new.said.items self.old.cut self.new.cut
+            result }
         ensures heard { self.new.heard ≡ self.old.heard }
         ensures width { self.new.width ≡ self.old.width }
     {
@@ -138,7 +143,9 @@ impl<G: Gate, Q: Draw> Looping<G, Q> {
 
     /// Answers the next record, where it is whole.
     fn turn(&mut self, alloc: Global) -> Turned
-        ensures looped { LoopedTo Unjudged self.old.width self.old.heard.items self.old.said.items self.old.kept.items self.old.cut → IsTurned self.new.width self.new.heard.items self.new.said.items self.new.kept.items self.new.cut result }
+        ensures looped { LoopedTo Unjudged self.old.width self.old.heard.items self.old.said.items
+            self.old.kept.items self.old.cut → IsTurned self.new.width self.new.heard.items
+            self.new.said.items self.new.kept.items self.new.cut result }
         ensures further { result ≡ Turned.Answered → self.old.cut < self.new.cut }
         ensures said { (more : List ℕ) × (self.new.said.items ≡ self.old.said.items ++ more) }
         ensures heard { self.new.heard ≡ self.old.heard }
@@ -154,7 +161,9 @@ impl<G: Gate, Q: Draw> Looping<G, Q> {
 
     /// Answers all whole records; false where there was no memory for one.
     fn hear(&mut self, alloc: Global) -> bool
-        ensures looped { LoopedTo Unjudged self.old.width self.old.heard.items self.old.said.items self.old.kept.items self.old.cut → Looped self.new.width self.new.heard.items self.new.said.items self.new.kept.items self.new.cut (not result) }
+        ensures looped { LoopedTo Unjudged self.old.width self.old.heard.items self.old.said.items
+            self.old.kept.items self.old.cut → Looped self.new.width self.new.heard.items
+            self.new.said.items self.new.kept.items self.new.cut (not result) }
         ensures said { (more : List ℕ) × (self.new.said.items ≡ self.old.said.items ++ more) }
         ensures heard { self.new.heard ≡ self.old.heard }
         ensures width { self.new.width ≡ self.old.width }
@@ -171,7 +180,9 @@ impl<G: Gate, Q: Draw> Looping<G, Q> {
 
     /// Hears these octets behind those that it heard, and answers; false where there was no memory.
     pub(crate) fn take(&mut self, alloc: Global, buf: &[u8]) -> bool
-        ensures looped { Looped self.old.width self.old.heard.items self.old.said.items self.old.kept.items self.old.cut false → Looped self.new.width self.new.heard.items self.new.said.items self.new.kept.items self.new.cut (not result) }
+        ensures looped { Looped self.old.width self.old.heard.items self.old.said.items
+            self.old.kept.items self.old.cut false → Looped self.new.width self.new.heard.items
+            self.new.said.items self.new.kept.items self.new.cut (not result) }
         ensures said { (more : List ℕ) × (self.new.said.items ≡ self.old.said.items ++ more) }
         ensures heard { HeardMore buf.now self.old.heard.items self.new.heard.items result }
         ensures width { self.new.width ≡ self.old.width }

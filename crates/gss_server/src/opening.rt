@@ -5,11 +5,14 @@ ghost use Rattle.rpc_msgs.specs.Xdr.{Answers};
 ghost use Rattle.rpcsec_msgs.specs.Cred.{cred_value};
 ghost use Rattle.rpcsec_msgs.specs.Bodies.{checked_at, sealed_at};
 ghost use Rattle.krb_tokens.specs.Wrap.{unwrapped};
-ghost use Rattle.accept_book.specs.RecordShown.{numbered, checked_args, sealed_args, unsealed_args, body_args, handle_id};
+ghost use Rattle.accept_book.specs.RecordShown.{numbered, checked_args, sealed_args, unsealed_args};
+ghost use Rattle.accept_book.specs.RecordShown.{body_args, handle_id};
 ghost use Rattle.accept_book.specs.Served.{are_args, is_one_opaque, one_opaque};
 
 use krb_tokens::{MicCache, TokenEnd, TokenRefusal};
+use rpc_msgs::numbers::{ECHO, POST};
 use rpc_msgs::{XdrReader, XdrRefusal};
+use rpcsec_msgs::numbers::{RPC_GSS_SVC_INTEGRITY, RPC_GSS_SVC_NONE};
 use rpcsec_msgs::{GssCred, split_checked, split_sealed};
 use sec_base::{NoMemory, Octets};
 use std::alloc::Global;
@@ -28,10 +31,10 @@ pub(crate) fn open_body(
 ) -> Result<Option<Octets>, NoMemory>
     ensures { IfOk result (λ args. args ≡ body_args end.now (cred_value cred.now) body.now) }
 {
-    if cred.service == 1 {
+    if cred.service == RPC_GSS_SVC_NONE {
         return some_of(alloc, body);
     }
-    if cred.service == 2 {
+    if cred.service == RPC_GSS_SVC_INTEGRITY {
         return open_checked(alloc, end, keys, cred.seq, body);
     }
     open_sealed(alloc, end, cred.seq, body)
@@ -122,8 +125,8 @@ pub(crate) fn are_proper(procedure: u32, args: &[u8]) -> bool
     ensures size { result ≡ true → length args.now ≤ 65540 }
 {
     match procedure {
-        1 => is_argument(args),
-        3 => is_argument(args),
+        ECHO => is_argument(args),
+        POST => is_argument(args),
         _ => args.is_empty(),
     }
 }

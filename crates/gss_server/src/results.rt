@@ -1,4 +1,4 @@
-//! The results of calls of a context.
+//! The results of calls of a context, RFC 2203 section 5.3.3.2, in the bodies of section 5.3.2.
 
 ghost use Rattle.std.specs.Prelude.{◌≡◌, ◌≤◌, ◌+◌, ◌++◌, true, take, drop, OnOk, IfOk, length};
 ghost use Rattle.rpc_msgs.specs.Words.{word, opaque};
@@ -6,18 +6,19 @@ ghost use Rattle.rpcsec_msgs.specs.Bodies.{checked_octets};
 ghost use Rattle.rpcsec_msgs.specs.Cred.{cred_value};
 ghost use Rattle.krb_tokens.specs.Mic.{mic_of};
 ghost use Rattle.krb_tokens.specs.Wrap.{wrap_of};
-ghost use Rattle.accept_book.specs.RecordShown.{decided, end_of, result_body};
+ghost use Rattle.accept_book.specs.RecordShown.{by, end_of, result_body};
 ghost use Rattle.accept_book.specs.RecordRule.{result_reply};
 ghost use Rattle.accept_book.specs.Served.{result_of};
 ghost use Rattle.gss_server.specs.Answers.{Says, Fits};
 ghost use Rattle.gss_server.specs.Hearing.{shown};
 
 use crate::heard::Heard;
-use crate::rules::SUCCESS;
 use crate::saying::{Said, end_at, say_no_memory, say_signed};
-use accept_book::Lease;
+use accept_book::{Lease, Rule};
 use krb_tokens::{MicCache, TokenEnd};
 use rpc_msgs::XdrWriter;
+use rpc_msgs::numbers::{ECHO, NULL, SUCCESS, WHOAMI};
+use rpcsec_msgs::numbers::{RPC_GSS_SVC_INTEGRITY, RPC_GSS_SVC_NONE};
 use rpcsec_msgs::{GssCred, join_checked, join_sealed};
 use sec_base::{NoMemory, Octets};
 use std::alloc::Global;
@@ -32,7 +33,8 @@ pub(crate) fn say_result(
     posts: u32,
 ) -> Said
     requires { length args.now ≤ 65540 }
-    ensures says { Says result.reply result.rule (decided 23 (result_reply (shown heard.entry.now) (cred_value cred.now) lease.now args.now posts)) }
+    ensures says { Says result.reply result.rule (by Rule.Done
+        (result_reply (shown heard.entry.now) (cred_value cred.now) lease.now args.now posts)) }
     ensures fits { Fits result.reply }
 {
     match make_body(alloc, heard, cred, lease, args, posts) {
@@ -41,7 +43,7 @@ pub(crate) fn say_result(
             heard,
             cred,
             lease,
-            23,
+            Rule::Done,
             SUCCESS,
             0,
             0,
@@ -62,17 +64,19 @@ fn make_body(
     posts: u32,
 ) -> Result<Octets, NoMemory>
     requires { length args.now ≤ 65540 }
-    ensures value { IfOk result (λ body. body ≡ result_body (end_of lease.now) (cred_value cred.now) (take 16 (drop 66 heard.entry.now.draws)) (result_of heard.entry.now.call.procedure args.now lease.now.outcome.initiator posts)) }
+    ensures value { IfOk result (λ body. body ≡ result_body
+        (end_of lease.now) (cred_value cred.now) (take 16 (drop 66 heard.entry.now.draws))
+        (result_of heard.entry.now.call.procedure args.now lease.now.outcome.initiator posts)) }
     ensures size { IfOk result (λ body. length body ≤ 130000) }
 {
     let result = result_octets(alloc, heard.call.procedure, args, lease, posts)?;
-    if cred.service == 1 {
+    if cred.service == RPC_GSS_SVC_NONE {
         return Ok(result);
     }
     let databody = numbered(alloc, cred.seq, result.as_slice())?;
     let end = end_at(lease);
     let number = 2 * cred.seq as u64 + 1;
-    if cred.service == 2 {
+    if cred.service == RPC_GSS_SVC_INTEGRITY {
         return sign_body(alloc, &end, heard.keys, number, databody.as_slice());
     }
     seal_body(alloc, &end, number, &heard.draws, databody.as_slice())
@@ -87,7 +91,8 @@ fn seal_body(
     databody: &[u8],
 ) -> Result<Octets, NoMemory>
     requires { length databody.now ≤ 65544 }
-    ensures value { IfOk result (λ body. body ≡ opaque (wrap_of end.now number true (take 16 (drop 66 draws.now)) databody.now)) }
+    ensures value { IfOk result (λ body. body
+        ≡ opaque (wrap_of end.now number true (take 16 (drop 66 draws.now)) databody.now)) }
     ensures size { IfOk result (λ body. length body ≤ 130000) }
 {
     let confounder = confounder_of(draws);
@@ -104,7 +109,8 @@ fn sign_body(
     databody: &[u8],
 ) -> Result<Octets, NoMemory>
     requires { length databody.now ≤ 65544 }
-    ensures value { IfOk result (λ body. body ≡ checked_octets databody.now (mic_of end.now number databody.now)) }
+    ensures value { IfOk result (λ body. body
+        ≡ checked_octets databody.now (mic_of end.now number databody.now)) }
     ensures size { IfOk result (λ body. length body ≤ 130000) }
 {
     let tag = end.make_mic_by(keys, number, databody);
@@ -140,7 +146,8 @@ fn result_octets(
     posts: u32,
 ) -> Result<Octets, NoMemory>
     requires { length args.now ≤ 65540 }
-    ensures value { IfOk result (λ octets. octets ≡ result_of procedure args.now lease.now.outcome.initiator posts) }
+    ensures value { IfOk result (λ octets. octets
+        ≡ result_of procedure args.now lease.now.outcome.initiator posts) }
     ensures size { IfOk result (λ octets. length octets ≤ 65540) }
 {
     let mut out = XdrWriter::new(alloc);
@@ -156,14 +163,15 @@ fn put_result(
     lease: &Lease,
     posts: u32,
 ) -> Result<(), NoMemory>
-    ensures value { OnOk result (out.new ≡ out.old ++ result_of procedure args.now lease.now.outcome.initiator posts) }
+    ensures value { OnOk result (out.new
+        ≡ out.old ++ result_of procedure args.now lease.now.outcome.initiator posts) }
     ensures name { length lease.now.outcome.initiator ≤ 255 }
 {
     let name = lease.outcome.initiator.text().as_bytes();
     match procedure {
-        0 => Ok(()),
-        1 => out.octets(args),
-        2 => out.opaque(name),
+        NULL => Ok(()),
+        ECHO => out.octets(args),
+        WHOAMI => out.opaque(name),
         _ => out.word(posts),
     }
 }

@@ -1,26 +1,22 @@
-//! Replies of every kind.
+//! Replies of every kind, RFC 5531 section 9; their verifiers are those of RFC 2203 section 5.3.3.2.
 
 ghost use Rattle.std.specs.Prelude.{◌≡◌, ◌≢◌, ◌<◌, ◌≤◌, ◌*◌, length, [], None, Some};
 ghost use Rattle.rpc_msgs.specs.Replies.{IsReply, reply_octets, reply_value};
 ghost use Rattle.rpc_msgs.specs.Words.{word};
 ghost use Rattle.rpcsec_msgs.specs.Cred.{cred_value};
 ghost use Rattle.krb_tokens.specs.Mic.{mic_of};
-ghost use Rattle.accept_book.specs.RecordShown.{decided, plain, signed, denied, end_of};
+ghost use Rattle.accept_book.specs.RecordShown.{by, plain, signed, denied, end_of};
 ghost use Rattle.gss_server.specs.Answers.{Says, Fits};
 ghost use Rattle.gss_server.specs.Hearing.{shown};
 
 use crate::answer::Reply;
 use crate::heard::Heard;
-use accept_book::Lease;
+use accept_book::{Lease, Rule};
 use krb_tokens::{MicCache, Side, TokenEnd};
+use rpc_msgs::numbers::{AUTH_NONE, PROG_MISMATCH, RPCSEC_GSS, SUCCESS, VERSION};
 use rpc_msgs::{Reply as RpcReply, write_reply};
 use rpcsec_msgs::GssCred;
 use std::alloc::Global;
-
-/// The flavour without authentication (RFC 5531 section 8.2), and that of RPCSEC_GSS (RFC 2203).
-pub(crate) const AUTH_NONE: u32 = 0;
-
-pub(crate) const GSS: u32 = 6;
 
 /// A rule, and the reply by it; at want of memory the rule is 0.
 #[derive(Debug, Drop)]
@@ -30,13 +26,12 @@ pub(crate) struct Said {
 }
 
 /// No reply.
-pub(crate) fn say_nothing(rule: u8) -> Said
-    requires { 0 < rule }
-    ensures says { Says result.reply result.rule (decided rule None) }
+pub(crate) fn say_nothing(rule: Rule) -> Said
+    ensures says { Says result.reply result.rule (by rule None) }
     ensures fits { Fits result.reply }
 {
     Said {
-        rule,
+        rule: rule.number(),
         reply: Reply::Silent,
     }
 }
@@ -53,9 +48,9 @@ pub(crate) fn say_no_memory() -> Said
 }
 
 /// The reply to a caller who isn't accepted.
-pub(crate) fn say_denied(alloc: Global, heard: &Heard<'_>, rule: u8, stat: u32) -> Said
-    requires { 0 < rule }
-    ensures says { Says result.reply result.rule (decided rule (denied (shown heard.entry.now) stat)) }
+pub(crate) fn say_denied(alloc: Global, heard: &Heard<'_>, rule: Rule, stat: u32) -> Said
+    ensures says { Says result.reply result.rule
+        (by rule (denied (shown heard.entry.now) stat)) }
     ensures fits { Fits result.reply }
 {
     let xid = heard.call.xid;
@@ -66,15 +61,15 @@ pub(crate) fn say_denied(alloc: Global, heard: &Heard<'_>, rule: u8, stat: u32) 
 pub(crate) fn say_plain(
     alloc: Global,
     heard: &Heard<'_>,
-    rule: u8,
+    rule: Rule,
     stat: u32,
     low: u32,
     high: u32,
 ) -> Said
-    requires rule { 0 < rule }
-    requires low { stat ≢ 2 → low ≡ 0 }
-    requires high { stat ≢ 2 → high ≡ 0 }
-    ensures says { Says result.reply result.rule (decided rule (plain (shown heard.entry.now) stat low high [])) }
+    requires low { stat ≢ PROG_MISMATCH → low ≡ 0 }
+    requires high { stat ≢ PROG_MISMATCH → high ≡ 0 }
+    ensures says { Says result.reply result.rule
+        (by rule (plain (shown heard.entry.now) stat low high [])) }
     ensures fits { Fits result.reply }
 {
     let reply = RpcReply::Accepted {
@@ -90,16 +85,16 @@ pub(crate) fn say_plain(
 }
 
 /// A reply that fits into a record.
-pub(crate) fn say_reply(alloc: Global, rule: u8, reply: &RpcReply<'_>) -> Said
-    requires rule { 0 < rule }
+pub(crate) fn say_reply(alloc: Global, rule: Rule, reply: &RpcReply<'_>) -> Said
     requires proper { IsReply (reply_value reply.now) }
     requires fits { length (reply_octets (reply_value reply.now)) ≤ 131072 }
-    ensures says { Says result.reply result.rule (decided rule (Some (reply_octets (reply_value reply.now)))) }
+    ensures says { Says result.reply result.rule
+        (by rule (Some (reply_octets (reply_value reply.now)))) }
     ensures fits { Fits result.reply }
 {
     match write_reply(alloc, reply) {
         Ok(octets) => Said {
-            rule,
+            rule: rule.number(),
             reply: Reply::Bytes(octets),
         },
         Err(_) => say_no_memory(),
@@ -131,24 +126,24 @@ pub(crate) fn say_signed(
     heard: &Heard<'_>,
     cred: &GssCred<'_>,
     lease: &Lease,
-    rule: u8,
+    rule: Rule,
     stat: u32,
     low: u32,
     high: u32,
     body: &[u8],
 ) -> Said
-    requires rule { 0 < rule }
-    requires low { stat ≢ 2 → low ≡ 0 }
-    requires high { stat ≢ 2 → high ≡ 0 }
-    requires body { stat ≢ 0 → body.now ≡ [] }
+    requires low { stat ≢ PROG_MISMATCH → low ≡ 0 }
+    requires high { stat ≢ PROG_MISMATCH → high ≡ 0 }
+    requires body { stat ≢ SUCCESS → body.now ≡ [] }
     requires size { length body.now ≤ 130000 }
-    ensures says { Says result.reply result.rule (decided rule (signed (shown heard.entry.now) (cred_value cred.now) lease.now stat low high body.now)) }
+    ensures says { Says result.reply result.rule (by rule
+        (signed (shown heard.entry.now) (cred_value cred.now) lease.now stat low high body.now)) }
     ensures fits { Fits result.reply }
 {
     let mic = verifier(cred.seq, heard.keys, lease);
     let reply = RpcReply::Accepted {
         xid: heard.call.xid,
-        flavour: GSS,
+        flavour: RPCSEC_GSS,
         verf: &mic,
         stat,
         low,
@@ -156,4 +151,45 @@ pub(crate) fn say_signed(
         result: body,
     };
     say_reply(alloc, rule, &reply)
+}
+
+/// The same with this stat alone: no versions, and no result.
+pub(crate) fn say_stat(
+    alloc: Global,
+    heard: &Heard<'_>,
+    cred: &GssCred<'_>,
+    lease: &Lease,
+    rule: Rule,
+    stat: u32,
+) -> Said
+    ensures says { Says result.reply result.rule (by rule
+        (signed (shown heard.entry.now) (cred_value cred.now) lease.now stat 0 0 [])) }
+    ensures fits { Fits result.reply }
+{
+    say_signed(alloc, heard, cred, lease, rule, stat, 0, 0, &[])
+}
+
+/// The call is of another version of the program, so that which is served is told.
+pub(crate) fn say_mismatch(
+    alloc: Global,
+    heard: &Heard<'_>,
+    cred: &GssCred<'_>,
+    lease: &Lease,
+) -> Said
+    ensures says { Says result.reply result.rule (by Rule.Version (signed (shown heard.entry.now)
+        (cred_value cred.now) lease.now PROG_MISMATCH VERSION VERSION [])) }
+    ensures fits { Fits result.reply }
+{
+    let rule = Rule::Version;
+    say_signed(
+        alloc,
+        heard,
+        cred,
+        lease,
+        rule,
+        PROG_MISMATCH,
+        VERSION,
+        VERSION,
+        &[],
+    )
 }

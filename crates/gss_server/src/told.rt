@@ -4,7 +4,7 @@ use accept_book::{AdmitRefusal, Admitted, BookRefusal, Lease, LookRefusal, Recei
 use sec_base::Moment;
 
 /// What a step's answer tells: its tokens by their SHA-1.
-#[derive(Clone, Copy, Debug)]
+#[derive(Clone, Copy)]
 pub enum StepTold {
     Going { id: u64, token: [u8; 20] },
     Settled { lease: Lease, token: [u8; 20] },
@@ -13,7 +13,7 @@ pub enum StepTold {
 }
 
 /// A question and its answer.
-#[derive(Clone, Copy, Debug)]
+#[derive(Clone, Copy)]
 pub enum Told {
     /// To take a token, told by its SHA-1.
     Negotiating {

@@ -3,10 +3,10 @@
 
 ghost use Rattle.std.specs.Prelude.{IfOk, IfSome};
 ghost use Rattle.std.specs.List.{AllByRecursion};
-ghost use Rattle.gss_server.specs.Desks.{IsFresh};
+ghost use Rattle.server_command.specs.Desks.{IsFresh};
 
-use gss_server::{Desk, address_of, run_server};
 use sec_base::{Clock, Port, Text};
+use server_command::{Desk, address_of, run_server};
 use std::process::ExitCode;
 use system_devices::{
     BufferedPort, FileShelf, HeldStreams, RandDraw, StdSink, StdioPort, SystemClock, TcpDoor,

@@ -7,37 +7,39 @@ use Rattle.gss_server.proofs.connection.serve.Goals as goal
 
 pub returns-in-Some-clause-told : goal.returns-in-Some-clause-told
 returns-in-Some-clause-told g c = λ t.
-    let tells : IsTrue (g.L.Link.tells c.loop-number.link) = rw c.loop-number.invariant.tells t in
-    serving-stop c.args.width c.turn.new.kept.items (joined _ _ _ c.loop-number.invariant.gate_tells c.loop-number-test.true) (c.loop-number.invariant.told t) c.loop-number-test.true c.in-Some.end (c.in-Some.ensures.told tells)
+    let tells : IsTrue (g.L.Link.tells c.loop-number.link) = rw c.loop-number.invariant.link_kept.tells t in
+    serving-stop c.args.width c.turn.new.kept.items (joined _ _ _ c.loop-number.invariant.gate_kept.tells c.loop-number-test.true) (c.loop-number.invariant.told t) c.loop-number-test.true c.in-Some.end (c.in-Some.ensures.told tells)
 
 pub loop-number-preserved : goal.loop-number-preserved
-loop-number-preserved g c = record {
-  told = λ t.
-      let tells : IsTrue (g.L.Link.tells c.loop-number.link) = rw c.loop-number.invariant.tells t in
-      serving-more c.args.width c.turn.new.kept.items c.loop-number.number (joined _ _ _ c.loop-number.invariant.gate_tells c.loop-number-test.true) (c.loop-number.invariant.told t) (c.in-None.ensures.told tells);
-  tells = c.in-None.ensures.tells ∙ c.loop-number.invariant.tells;
-  unclosed = c.in-None.ensures.unclosed;
-  faults = omega (arith, c.in-None.ensures.faults);
-  bound = omega (arith, c.in-None.ensures.count);
-  gate_tells = c.in-None.ensures.gate_tells ∙ c.loop-number.invariant.gate_tells;
-  limits = c.in-None.ensures.limits ∙ c.loop-number.invariant.limits;
-  clock_tells = λ t. c.loop-number.invariant.clock_tells (c.in-None.ensures.clock_tells t);
-  draw_tells = λ t. c.loop-number.invariant.draw_tells (c.in-None.ensures.draw_tells t);
-  moments = λ t. keeps-again moments_of moments_of-append (c.loop-number.invariant.moments (c.in-None.ensures.clock_tells t)) (c.in-None.ensures.moments t);
-  draws = λ t. keeps-again draws_of draws_of-append (c.loop-number.invariant.draws (c.in-None.ensures.draw_tells t)) (c.in-None.ensures.draws t);
-}
+loop-number-preserved g c =
+    let was = c.loop-number.invariant in
+    let now = c.in-None.ensures in record {
+      told = λ t.
+          let tells : IsTrue (g.L.Link.tells c.loop-number.link) = rw was.link_kept.tells t in
+          serving-more c.args.width c.turn.new.kept.items c.loop-number.number (joined _ _ _ was.gate_kept.tells c.loop-number-test.true) (was.told t) (now.told tells);
+      link_kept = record {
+        tells = now.link_kept.tells ∙ was.link_kept.tells;
+        unclosed = now.link_kept.unclosed;
+        faults = omega (arith, was.link_kept.faults, now.link_kept.faults);
+      };
+      bound = omega (arith, now.count);
+      gate_kept = record { tells = now.gate_kept.tells ∙ was.gate_kept.tells; limits = now.gate_kept.limits ∙ was.gate_kept.limits };
+      moments = record {
+        tells = λ t. was.moments.tells (now.moments.tells t);
+        moments = λ t. keeps-again moments_of moments_of-append (was.moments.moments (now.moments.tells t)) (now.moments.moments t);
+      };
+      draws = record {
+        tells = λ t. was.draws.tells (now.draws.tells t);
+        draws = λ t. keeps-again draws_of draws_of-append (was.draws.draws (now.draws.tells t)) (now.draws.draws t);
+      };
+    }
 
 pub loop-number-init : goal.loop-number-init
 loop-number-init g c = record {
   told = λ t. rw c.requires.none (serving-none c.args.width (g.L.Link.wire c.args.link.now) (asked-none _ _ _ _ 131072 _));
-  tells = refl;
-  unclosed = c.requires.unclosed;
-  faults = omega arith;
+  link_kept = record { tells = refl; unclosed = c.requires.unclosed; faults = omega arith };
   bound = omega (arith, c.args.kept.now.ok, ap length c.requires.none);
-  gate_tells = refl;
-  limits = refl;
-  clock_tells = λ t. t;
-  draw_tells = λ t. t;
-  moments = λ t. record { more = []; kept = c.requires.none; given = sym (append-nil _) };
-  draws = λ t. record { more = []; kept = c.requires.none; given = sym (append-nil _) };
+  gate_kept = record { tells = refl; limits = refl };
+  moments = record { tells = λ t. t; moments = λ t. record { more = []; kept = c.requires.none; given = sym (append-nil _) } };
+  draws = record { tells = λ t. t; draws = λ t. record { more = []; kept = c.requires.none; given = sym (append-nil _) } };
 }

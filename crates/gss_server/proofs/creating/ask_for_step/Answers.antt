@@ -1,10 +1,29 @@
-use Rattle.gss_server.specs.Hearing.{shown}
-use Rattle.gss_server.proofs.Stepped.{stepped-stays}
+use Rattle.std.proofs.Common.{ℕ, refl}
+use Rattle.accept_book.specs.RecordShown.{Asked, Ruling, asking}
+use Rattle.gss_server.specs.Answers.{Says}
+use Rattle.gss_server.specs.declared.answer.Reply.{Reply}
+use Rattle.gss_server.specs.declared.answer.Reply.TheVariants.{Silent, Bytes, NoMemory}
 use Rattle.gss_server.proofs.creating.ask_for_step.Goals as goal
 
-pub returns-clause-answers : goal.returns-clause-answers
-returns-clause-answers g c = (
-  c.negotiate-negotiated.new.self,
-  rw c.step_draws-draws.ensures at c.negotiate-negotiated.ensures.answers,
-  stepped-stays g.G.Gate.answers c.negotiate-negotiated.new.self (shown c.args.heard.now) c.negotiate-negotiated.result.answer,
-)
+-- what is said by a ruling is said by it with a question in front
+says-asking : (reply : Reply) (rule : ℕ) (one : Asked) (ruling : Ruling) → Says reply rule ruling → Says reply rule (asking one ruling)
+says-asking Silent rule one ruling p = p
+says-asking (Bytes octets) rule one ruling p = p
+says-asking NoMemory rule one ruling p = p
+
+pub returns : goal.returns
+returns g c =
+    let step = c.negotiate-negotiated in
+    let said = c.say_stepped-said in record {
+      ruled = record {
+        says = says-asking said.result.reply said.result.rule _ _ said.ensures.says;
+        fits = said.ensures.fits;
+        exact = rw said.ensures.unasked refl;
+        asked = record {
+          answers = (step.new.self, rw c.step_draws-draws.ensures at step.ensures.answers, rw said.ensures.unasked refl);
+          telling = λ tells room. rw said.ensures.unasked (rw c.step_draws-draws.ensures at step.ensures.told tells room);
+        };
+        tells = step.ensures.tells;
+        limits = step.ensures.limits;
+      };
+    }

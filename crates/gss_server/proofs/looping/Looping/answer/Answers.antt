@@ -8,7 +8,7 @@ returns-in-Answered-clause-answered g c =
     let r = c.answer-reply.ensures.reply in
     let d = c.in-Answered.ensures (ruling_for c.args.self.now.width c.args.octets.now r.0) r.2 in record {
       one = r.0;
-      keeps = r.1 ∙ ap (λ (ks : List Kept). ks ++ r.0 ∷ []) c.reserve.ensures.items;
+      keeps = ◌∙◌ {A = List Kept} r.1 (ap (λ (ks : List Kept). ks ++ r.0 ∷ []) c.reserve.ensures.items);
       decided = d.0;
       replied = d.1;
       place = refl;
@@ -20,5 +20,5 @@ returns-clause-answered g c =
     let d = c.in-Starved.ensures (ruling_for c.args.self.now.width c.args.octets.now r.0) r.2 in (
       d.0,
       refl,
-      inr (record { one = r.0; keeps = r.1 ∙ ap (λ (ks : List Kept). ks ++ r.0 ∷ []) c.reserve.ensures.items; wanted = d.1 }),
+      inr (record { one = r.0; keeps = ◌∙◌ {A = List Kept} r.1 (ap (λ (ks : List Kept). ks ++ r.0 ∷ []) c.reserve.ensures.items); wanted = d.1 }),
     )

@@ -1,0 +1,117 @@
+-- A run whose words and files are valid, and where no count rose, serves all connections.
+use Rattle.std.proofs.Common.{arith, ◌≡◌, ◌≢◌, ◌<◌, ◌≤◌, ℕ, ◌+◌, ◌-◌, Bool, true, List, length, slice_get, Option, Some, None, Result, Ok, Err, refl, sym, ap, ◌∙◌, subst}
+use Rattle.sec_base.specs.Answers.{Gives, Rose}
+use Rattle.sec_base.specs.declared.shelf.NamedFile.{NamedFile}
+use Rattle.gss_base.specs.Name.{Name}
+use Rattle.krb_files.specs.Keytab.{is_served}
+use Rattle.krb_files.specs.declared.keytab.Entry.{Entry}
+use Rattle.scram_mech.specs.declared.verifiers.Verifier.{Verifier}
+use Rattle.cli_base.specs.Files.{LoadsFile, file_in}
+use Rattle.cli_base.specs.declared.files.FileStop.{FileStop}
+use Rattle.cli_base.specs.declared.files.FileStop.TheVariants as stops
+use Rattle.server_command.specs.Desks.{Ran, is_begun}
+use Rattle.server_command.specs.Keys.{AreKeys, BehindKeytab, FromShelf, keytab_in, verifiers_in, keys_with, no_keys}
+use Rattle.server_command.specs.Runs.{EndsBy, Begins, AreValidFiles, AreValid, IsValid}
+use Rattle.server_command.specs.declared.ending.RunEnd.{RunEnd}
+use Rattle.server_command.specs.declared.ending.RunEnd.TheVariants.{Usage, CannotLoad, Bad, NoKey, PortFault, NoMemory, Served}
+use Rattle.server_command.specs.declared.keys.Keys.{Keys}
+use Rattle.server_command.specs.declared.options.Files.{Files}
+use Rattle.server_command.specs.declared.options.Options.{Options}
+use Rattle.server_command.proofs.DeskRuns.{some-at}
+
+-- keys that are due are there, want of memory aside
+due-there : (keys : Result Keys RunEnd) (end : RunEnd) (due : Keys) → Gives NoMemory (λ k. k) keys (Ok due) → EndsBy keys end → end ≢ NoMemory → is_begun end ≡ true
+due-there (Ok k) end due given ends other = ends other
+due-there (Err stop) end due given ends other = let bad : ◌≡◌ {A = Result Keys RunEnd} (Ok due) (Err stop) = given (λ e. other (ends ∙ e)) in cc
+
+ok-err : {A : Type 0} (value : A) (stop : RunEnd) → ◌≡◌ {A = Result A RunEnd} (Ok value) (Err stop) → ⊥
+ok-err value stop e = cc
+
+-- a file that is there and of its format is read, want of memory aside
+reads-well : {A : Type 0} (read : Result A RunEnd) (due : A) (read_in : Result (List ℕ) FileStop → Result A RunEnd) (content answer : Result (List ℕ) FileStop) (octets : List ℕ) → content ≡ Ok octets → LoadsFile content answer → (answer ≡ Err stops.CannotLoad → ⊥)
+    → read_in (Ok octets) ≡ Ok due → read_in (Err stops.NoMemory) ≡ Err NoMemory → Gives NoMemory (λ a. a) read (read_in answer) → ((stop : RunEnd) → read ≡ Err stop → stop ≢ NoMemory) → read ≡ Ok due
+reads-well {A} (Ok r) due read_in content (Ok got) octets c loads fault good wanted given other =
+    let same : got ≡ octets = cc in
+    let is : read_in (Ok got) ≡ Ok due = subst (λ (o : List ℕ). read_in (Ok o) ≡ Ok due) (sym same) good in
+    sym given ∙ is
+reads-well {A} (Err stop) due read_in content (Ok got) octets c loads fault good wanted given other =
+    let same : got ≡ octets = cc in
+    let is : read_in (Ok got) ≡ Ok due = subst (λ (o : List ℕ). read_in (Ok o) ≡ Ok due) (sym same) good in
+    absurd (ok-err due stop (sym is ∙ given (other stop refl)))
+reads-well read due read_in content (Err stops.CannotLoad) octets c loads fault good wanted given other = absurd (fault refl)
+reads-well read due read_in content (Err (stops.Bad at)) octets c loads fault good wanted given other = absurd (let f : ◌≡◌ {A = Result (List ℕ) FileStop} (Ok octets) (Err (stops.Bad at)) = sym c ∙ loads in cc)
+reads-well {A} (Ok r) due read_in content (Err stops.NoMemory) octets c loads fault good wanted given other = absurd (ok-err r NoMemory (sym given ∙ wanted))
+reads-well {A} (Err stop) due read_in content (Err stops.NoMemory) octets c loads fault good wanted given other =
+    let both : ◌≡◌ {A = Result A RunEnd} (Err stop) (Err NoMemory) = sym (given (other stop refl)) ∙ wanted in
+    let same : stop ≡ NoMemory = cc in
+    absurd (other stop refl same)
+
+rose-on : {a b c : ℕ} → Rose a b → b ≤ c → Rose a c
+rose-on r le = λ small. let less = r (omega (arith, small, le)) in omega (arith, less, le)
+
+rose-back : {a b c : ℕ} → a ≤ b → Rose b c → Rose a c
+rose-back le r = λ small. let less = r small in omega (arith, less, le)
+
+-- a run that ends by the stop of a read doesn't end so for want of memory
+not-wanted : {A : Type 0} (stop end : RunEnd) → end ≡ stop → end ≢ NoMemory → (other : RunEnd) → ◌≡◌ {A = Result A RunEnd} (Err stop) (Err other) → other ≢ NoMemory
+not-wanted stop end ends unwanted other e = λ wanted. unwanted (ends ∙ (let same : stop ≡ other = cc in same ∙ wanted))
+
+none-stops : {A : Type 0} (value : A) (other : RunEnd) → ◌≡◌ {A = Result A RunEnd} (Ok value) (Err other) → other ≢ NoMemory
+none-stops value other e = absurd (ok-err value other e)
+
+ok-same : {A : Type 0} (x y : A) → ◌≡◌ {A = Result A RunEnd} (Ok x) (Ok y) → x ≡ y
+ok-same x y e = cc
+
+ends-by : (keys other : Result Keys RunEnd) (end : RunEnd) → keys ≡ other → EndsBy keys end → EndsBy other end
+ends-by keys other end e h = subst (λ (k : Result Keys RunEnd). EndsBy k end) e h
+
+with-verifiers : (tells : Bool) (files : List NamedFile) (before after : List (List ℕ)) (faults faults' : ℕ) (named : Files) (name : Name) (entries : List Entry) (verifiers : Result (List Verifier) RunEnd) (keys : Result Keys RunEnd) (end : RunEnd) → (valid : AreValidFiles tells files named name) → entries ≡ valid.entries
+    → (Rose faults faults' → ⊥) → FromShelf tells files before after faults faults' named.verifiers verifiers_in verifiers → keys ≡ keys_with name entries verifiers → EndsBy keys end → end ≢ NoMemory → is_begun end ≡ true
+with-verifiers tells files before after faults faults' named name entries (Ok users) keys end valid same steady second are ends other =
+    let served : is_served name entries ≡ true = rw same valid.served in
+    let is : keys ≡ Ok (record { keytab = entries; verifiers = users }) = are ∙ rw served refl in
+    ends-by keys (Ok (record { keytab = entries; verifiers = users })) end is ends other
+with-verifiers tells files before after faults faults' named name entries (Err stop) keys end valid same steady second are ends other =
+    absurd (ok-err valid.users stop (sym (reads-well {A = List Verifier} (Err stop) valid.users verifiers_in (file_in files named.verifiers) second.answer valid.lines valid.text (second.loaded.content valid.told) (λ e. steady (second.loaded.fault e))
+    (rw valid.known refl) refl second.given (not-wanted {A = List Verifier} stop end (ends-by keys (Err stop) end are ends) other))))
+
+by-files : (tells : Bool) (files : List NamedFile) (before between after : List (List ℕ)) (faults counted faults' : ℕ) (named : Files) (name : Name) (keytab : Result (List Entry) RunEnd) (keys : Result Keys RunEnd) (end : RunEnd) → AreValidFiles tells files named name → (Rose faults faults' → ⊥)
+    → FromShelf tells files before between faults counted named.keytab keytab_in keytab → BehindKeytab tells files between after counted faults' named.verifiers name keytab keys → counted ≤ faults' → EndsBy keys end → end ≢ NoMemory → is_begun end ≡ true
+by-files tells files before between after faults counted faults' named name (Ok entries) keys end valid steady first behind le ends other =
+    let same : entries ≡ valid.entries = ok-same entries valid.entries (reads-well {A = List Entry} (Ok entries) valid.entries keytab_in (file_in files named.keytab) first.answer valid.octets valid.content (first.loaded.content valid.told) (λ e. steady (rose-on (first.loaded.fault e) le))
+    (rw valid.read refl) refl first.given (none-stops {A = List Entry} entries)) in
+    with-verifiers tells files between after counted faults' named name entries behind.verifiers keys end valid same (λ r. steady (rose-back first.loaded.grows r)) behind.read behind.are ends other
+by-files tells files before between after faults counted faults' named name (Err stop) keys end valid steady first behind le ends other =
+    absurd (ok-err valid.entries stop (sym (reads-well {A = List Entry} (Err stop) valid.entries keytab_in (file_in files named.keytab) first.answer valid.octets valid.content (first.loaded.content valid.told) (λ e. steady (rose-on (first.loaded.fault e) le))
+    (rw valid.read refl) refl first.given (not-wanted {A = List Entry} stop end (ends-by keys (Err stop) end behind.0 ends) other))))
+
+by-keys : (tells : Bool) (files : List NamedFile) (before after : List (List ℕ)) (faults faults' : ℕ) (named : Option Files) (name : Name) (keys : Result Keys RunEnd) (end : RunEnd) → AreValid tells files named name → (Rose faults faults' → ⊥)
+    → AreKeys tells files before after faults faults' named name keys → EndsBy keys end → end ≢ NoMemory → is_begun end ≡ true
+by-keys tells files before after faults faults' None name keys end valid steady are ends other = due-there keys end no_keys are.0 ends other
+by-keys tells files before after faults faults' (Some named) name keys end valid steady are ends other =
+    by-files tells files before are.between after faults are.counted faults' named name are.keytab keys end valid steady are.read are.behind are.grows ends other
+
+-- desks were served and no port failed
+all-served : {A : Type 0} {Base Done Failed : A → A → Type 0} (end : RunEnd) (olds news : List A) → length news ≡ length olds → is_begun end ≡ true → ((desk : ℕ) → end ≡ PortFault desk → (0 < desk) × (desk ≤ length olds))
+    → ((i : ℕ) (a b : A) → slice_get olds i ≡ Some a → slice_get news i ≡ Some b → Ran Base Done Failed end i a b)
+    → ((i : ℕ) (a b : A) → slice_get olds i ≡ Some a → slice_get news i ≡ Some b → Failed a b → ⊥) → end ≡ Served
+all-served Usage olds news same begun named ran steady = cc
+all-served (CannotLoad file) olds news same begun named ran steady = cc
+all-served (Bad file at) olds news same begun named ran steady = cc
+all-served NoKey olds news same begun named ran steady = cc
+all-served NoMemory olds news same begun named ran steady = cc
+all-served Served olds news same begun named ran steady = refl
+all-served (PortFault desk) olds news same begun named ran steady =
+    let some : 0 < desk = (named desk refl).0 in
+    let most : desk ≤ length olds = (named desk refl).1 in
+    let old = some-at olds (desk - 1) (omega arith) in
+    let new = some-at news (desk - 1) (omega arith) in
+    let place : desk ≡ desk - 1 + 1 = omega arith in
+    absurd (steady (desk - 1) old.0 new.0 old.1 new.1 ((ran (desk - 1) old.0 new.0 old.1 new.1).failed (ap PortFault place)))
+
+pub completed : {A : Type 0} {Base Done Failed : A → A → Type 0} (tells : Bool) (files : List NamedFile) (before after : List (List ℕ)) (faults faults' : ℕ) (options : Options) (end : RunEnd) (olds news : List A) → Begins tells files before after faults faults' options end
+    → IsValid tells files options → (Rose faults faults' → ⊥) → length news ≡ length olds → ((desk : ℕ) → end ≡ PortFault desk → (0 < desk) × (desk ≤ length olds))
+    → ((i : ℕ) (a b : A) → slice_get olds i ≡ Some a → slice_get news i ≡ Some b → Ran Base Done Failed end i a b)
+    → ((i : ℕ) (a b : A) → slice_get olds i ≡ Some a → slice_get news i ≡ Some b → Failed a b → ⊥) → end ≢ NoMemory → end ≡ Served
+completed tells files before after faults faults' options end olds news begins valid steady same named ran ports other =
+    all-served end olds news same (by-keys tells files before after faults faults' options.files options.name begins.keys end valid steady begins.given begins.ends other) named ran ports

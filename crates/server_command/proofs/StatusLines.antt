@@ -1,0 +1,36 @@
+-- The line of a known status is the line that is due.
+use Rattle.std.proofs.Common.{◌≡◌, ◌≢◌, ℕ, ◌<◌, List, [], Option, None, true, false, refl, arith}
+use Rattle.server_command.specs.Desks.{is_begun}
+use Rattle.server_command.specs.Lines.{line_of}
+use Rattle.server_command.specs.declared.ending.Counts.{Counts}
+use Rattle.server_command.specs.declared.ending.RunEnd.{RunEnd}
+use Rattle.server_command.specs.declared.ending.RunEnd.TheVariants.{Usage, CannotLoad, Bad, NoKey, PortFault, NoMemory, Served}
+use Rattle.server_command.specs.declared.options.Files.{Files}
+use Rattle.cli_base.specs.Lines.{SaysLine, Says, memory_line}
+
+pub known-said : {old new : List ℕ} {status : ℕ} {line : List ℕ} (known : ℕ) → known < 6 → (status ≢ 6 → status ≡ known) → SaysLine old new status line → Says old new status line
+known-said {old} {new} {status} {line} known small same said = record {
+  whole = λ n m. said.whole n;
+  memory = λ e. absurd (let ne : status ≢ 6 = (λ q. omega arith) in let is : status ≡ known = same ne in omega arith);
+  front = λ e. let f = said.front e in (false, f.0, f.1);
+}
+
+pub memory-said : {old new : List ℕ} {status : ℕ} {due : List ℕ} → (status ≢ 6 → status ≡ 8) → SaysLine old new status memory_line → Says old new status due
+memory-said {old} {new} {status} {due} same said = record {
+  whole = λ n m. absurd (m (same n));
+  memory = λ e. said.whole (λ q. omega arith);
+  front = λ e. let f = said.front e in (true, f.0, f.1);
+}
+
+false≢true : false ≡ true → ⊥
+false≢true e = cc
+
+-- behind the keys the line is one that speaks of no file
+pub end-line : (end : RunEnd) (files : Option Files) (name : List ℕ) (counts : Counts) → (end ≢ NoMemory → is_begun end ≡ true) → line_of None [] counts end ≡ line_of files name counts end
+end-line Usage files name counts begun = absurd (false≢true (begun (λ e. cc)))
+end-line (CannotLoad file) files name counts begun = absurd (false≢true (begun (λ e. cc)))
+end-line (Bad file at) files name counts begun = absurd (false≢true (begun (λ e. cc)))
+end-line NoKey files name counts begun = absurd (false≢true (begun (λ e. cc)))
+end-line (PortFault desk) files name counts begun = refl
+end-line NoMemory files name counts begun = refl
+end-line Served files name counts begun = refl

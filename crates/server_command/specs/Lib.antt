@@ -1,0 +1,6 @@
+pub mod Desks
+pub mod Keys
+pub mod Lines
+pub mod Options
+pub mod Runs
+pub mod Through

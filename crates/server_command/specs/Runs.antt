@@ -1,0 +1,112 @@
+-- The run of the server.
+use Rattle.std.specs.Prelude.{◌≡◌, ◌≢◌, ℕ, Bool, true, IsTrue, List, [], ◌∷◌, ◌++◌, length, take}
+use Rattle.std.specs.Prelude.{Option, Some, None, Result, Ok, Err}
+use Rattle.sec_base.specs.declared.shelf.NamedFile.{NamedFile}
+use Rattle.sec_base.specs.declared.shelf.Shelf.{Ghosts}
+use Rattle.gss_base.specs.Name.{Name}
+use Rattle.gss_base.specs.Principal.{text_form}
+use Rattle.krb_files.specs.Keytab.{keytab_of, is_served}
+use Rattle.cli_base.specs.Files.{file_in}
+use Rattle.krb_files.specs.declared.keytab.Entry.{Entry}
+use Rattle.scram_mech.specs.Verifiers.{verifiers_of}
+use Rattle.scram_mech.specs.declared.verifiers.Verifier.{Verifier}
+use Rattle.accept_book.specs.Logs.{LogOf}
+use Rattle.server_command.specs.Desks.{is_begun, all_connections, all_records}
+use Rattle.server_command.specs.Keys.{AreKeys}
+use Rattle.server_command.specs.declared.desk.Desk.{Desk}
+use Rattle.server_command.specs.declared.ending.Counts.{Counts}
+use Rattle.server_command.specs.declared.ending.RunEnd.{RunEnd}
+use Rattle.server_command.specs.declared.ending.RunEnd.TheVariants.{NoMemory}
+use Rattle.server_command.specs.declared.keys.Keys.{Keys}
+use Rattle.server_command.specs.declared.options.Files.{Files}
+use Rattle.server_command.specs.declared.options.Options.{Options}
+use Rattle.server_command.specs.declared.options.WordsRefusal.{WordsRefusal}
+
+-- the files of the keys, where the words name them
+abbrev pub files_of : Result Options WordsRefusal → Option Files
+files_of (Ok options) = options.files
+files_of (Err refusal) = None
+
+-- their names, in the order in which they are asked for
+abbrev pub names_of : Option Files → List (List ℕ)
+names_of None = []
+names_of (Some files) = files.keytab ∷ files.verifiers ∷ []
+
+-- the own name's text form
+abbrev pub name_of : Result Options WordsRefusal → List ℕ
+name_of (Ok options) = text_form options.name.realm options.name.parts
+name_of (Err refusal) = []
+
+-- a run ends by what its keys come to; with keys desks are served, want of memory aside
+abbrev pub EndsBy : Result Keys RunEnd → RunEnd → Type 0
+EndsBy (Err stop) end = end ≡ stop
+EndsBy (Ok keys) end = end ≢ NoMemory → is_begun end ≡ true
+
+-- the run ended by the keys in the files that its options name
+pub record Begins (tells : Bool) (files : List NamedFile) (before after : List (List ℕ))
+    (faults faults' : ℕ) (options : Options) (end : RunEnd) : Type 0 where
+  pub keys : Result Keys RunEnd
+  pub given : AreKeys tells files before after faults faults' options.files options.name keys
+  pub ends : EndsBy keys end
+
+-- the files are there, within the limit and of their formats, and the keytab has a key for the own
+-- name
+pub record AreValidFiles (tells : Bool) (files : List NamedFile) (named : Files)
+    (name : Name) : Type 0 where
+  pub told : IsTrue tells
+  pub octets : List ℕ
+  pub content : file_in files named.keytab ≡ Ok octets
+  pub entries : List Entry
+  pub read : keytab_of octets ≡ Ok entries
+  pub served : is_served name entries ≡ true
+  pub lines : List ℕ
+  pub text : file_in files named.verifiers ≡ Ok lines
+  pub users : List Verifier
+  pub known : verifiers_of lines ≡ Ok users
+
+-- the files that are named, where they are, can be used
+abbrev pub AreValid : Bool → List NamedFile → Option Files → Name → Type 0
+AreValid tells files None name = Unit {0}
+AreValid tells files (Some named) name = AreValidFiles tells files named name
+
+-- the files that the options name can be used
+abbrev pub IsValid : Bool → List NamedFile → Options → Type 0
+IsValid tells files options = AreValid tells files options.files options.name
+
+-- the log was kept under the limits of the options
+pub record HasLimits (options : Options) (log : LogOf) : Type 0 where
+  pub width : log.width ≡ options.window
+  pub limit : log.limit ≡ options.log
+  pub contexts : log.contexts ≡ options.contexts
+  pub marks : log.marks ≡ options.marks
+
+-- what a run's line counts: the connections and the records of its desks, and the entries of its
+-- log
+abbrev pub counts_of : {P C D L : Type 0} → List (Desk P C D L) → LogOf → Counts
+counts_of desks log = record {
+  connections = all_connections desks;
+  records =
+      all_records desks;
+  entries = length log.entries;
+}
+
+-- no book was opened
+abbrev pub no_log : LogOf
+no_log = record { entries = []; width = 0; limit = 0; contexts = 0; marks = 0 }
+
+-- ---- the same of a shelf before and after
+
+-- the run ended by the keys in the files that its options name
+abbrev pub RunBegins : {F : Type 0} → Ghosts F → F → F → Options → RunEnd → Type 0
+RunBegins shelf old new options end =
+    Begins (shelf.tells old) (shelf.files old) (shelf.asked old) (shelf.asked new)
+    (shelf.faults old) (shelf.faults new) options end
+
+-- it has what the options name, and all of it can be used
+abbrev pub HasValid : {F : Type 0} → Ghosts F → F → Options → Type 0
+HasValid shelf old options = IsValid (shelf.tells old) (shelf.files old) options
+
+-- at most these files were asked for, in this order
+abbrev pub AsksAtMost : {F : Type 0} → Ghosts F → F → F → List (List ℕ) → Type 0
+AsksAtMost shelf old new names = IsTrue (shelf.tells old)
+    → (count : ℕ) × (shelf.asked new ≡ shelf.asked old ++ take count names)

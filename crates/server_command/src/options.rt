@@ -1,0 +1,263 @@
+//! The words of the server.
+
+ghost use Rattle.std.specs.Prelude.{◌≡◌, ◌≤◌, IfOk, Some, codes};
+ghost use Rattle.sec_base.specs.Answers.{Gives};
+ghost use Rattle.std.specs.Option.{option_map};
+ghost use Rattle.cli_base.specs.Words.{value_of, first_word};
+ghost use Rattle.server_command.specs.Options.{is_command, formed, number_given, data_given};
+ghost use Rattle.server_command.specs.Options.{name_by, files_given, name_given, numbers_given};
+ghost use Rattle.server_command.specs.Options.{options_of, AreRanged, IsRanged};
+ghost use Rattle.gss_base.specs.Signs.{parsed};
+
+use cli_base::{are_words, count_plain, first_word, number_in, value_of};
+use gss_base::{Bindings, NameRefusal, Principal};
+use sec_base::{NoMemory, Octets, Text};
+use std::alloc::Global;
+
+/// The name of a server without keys.
+const NO_NAME: &str = "none@none";
+
+/// The files of the server's keys.
+#[derive(Debug, Drop)]
+pub struct Files {
+    pub keytab: Text,
+    /// The users of SCRAM.
+    pub verifiers: Text,
+}
+
+/// What the words of the server ask for.
+#[derive(Debug, Drop)]
+pub struct Options {
+    /// The files of the keys; without them no ticket is opened and no user is known.
+    pub files: Option<Files>,
+    /// The own name.
+    pub name: Principal,
+    pub bindings: Option<Bindings>,
+    /// The width of the windows, in numbers.
+    pub window: u32,
+    /// How many connections a desk serves.
+    pub connections: u32,
+    /// How many contexts live at once.
+    pub contexts: u32,
+    /// How many marks of authenticators are held at once.
+    pub marks: u32,
+    /// How many entries the log may have.
+    pub log: u32,
+}
+
+/// The address that the words name: the first word, where it is there and doesn't begin with `-`.
+pub fn address_of(words: &[Text]) -> Option<&str>
+    ensures { option_map (λ word. word.now) result ≡ first_word words.now }
+{
+    first_word(words)
+}
+
+/// Why words are refused.
+#[derive(Clone, Copy, Debug, PartialEq, Eq)]
+pub enum WordsRefusal {
+    /// They aren't in the command.
+    Usage,
+    /// There was no memory for what they ask for.
+    NoMemory,
+}
+
+impl From<NoMemory> for WordsRefusal {
+    ghost use Rattle.server_command.specs.declared.options.WordsRefusal.{WordsRefusal};
+
+    ghost from_gives = { λ _ e. e ≡ WordsRefusal.NoMemory };
+
+    fn from(_error: NoMemory) -> WordsRefusal {
+        WordsRefusal::NoMemory
+    }
+}
+
+/// Whether the words are an address and options with their values.
+fn is_command(words: &[Text]) -> bool
+    ensures { result ≡ is_command words.now }
+{
+    let named = match first_word(words) {
+        Some(address) => address != "drill",
+        None => false,
+    };
+    named
+        && count_plain(words) == 1
+        && are_words(
+            words,
+            &[
+                "--keytab",
+                "--verifiers",
+                "--name",
+                "--bind",
+                "--window",
+                "--connections",
+                "--contexts",
+                "--marks",
+                "--log",
+            ],
+        )
+}
+
+/// Refuses words that don't have the form of the command.
+fn demand_form(words: &[Text]) -> Result<(), WordsRefusal>
+    ensures { result ≡ formed words.now }
+{
+    if is_command(words) {
+        Ok(())
+    } else {
+        Err(WordsRefusal::Usage)
+    }
+}
+
+/// The number of the option `name`, from `least` to `most`, or the usual one without it.
+fn number_given(
+    words: &[Text],
+    name: &str,
+    least: u32,
+    most: u32,
+    usual: u32,
+) -> Result<u32, WordsRefusal>
+    requires least { least ≤ usual }
+    requires most { usual ≤ most }
+    ensures value { result ≡ number_given least most usual (value_of name.now words.now) }
+    ensures range { IfOk result (λ number. (least ≤ number) × (number ≤ most)) }
+{
+    match value_of(words, name) {
+        None => Ok(usual),
+        Some(text) => match number_in(text, least, most) {
+            Some(number) => Ok(number),
+            None => Err(WordsRefusal::Usage),
+        },
+    }
+}
+
+/// The bindings of this application data.
+fn bindings_of(alloc: Global, text: &str) -> Result<Option<Bindings>, WordsRefusal>
+    ensures { Gives WordsRefusal.NoMemory (λ b. b) result (data_given (Some text.now)) }
+{
+    if text.len() > 32768 {
+        return Err(WordsRefusal::Usage);
+    }
+    let data = Octets::of(alloc, text.as_bytes())?;
+    match Bindings::new(data) {
+        Ok(bindings) => Ok(Some(bindings)),
+        Err(_) => Err(WordsRefusal::Usage),
+    }
+}
+
+/// The bindings that the words ask for.
+fn bindings_given(alloc: Global, words: &[Text]) -> Result<Option<Bindings>, WordsRefusal>
+    ensures { Gives WordsRefusal.NoMemory (λ b. b) result
+        (data_given (value_of (codes "--bind") words.now)) }
+{
+    match value_of(words, "--bind") {
+        None => Ok(None),
+        Some(text) => bindings_of(alloc, text),
+    }
+}
+
+/// The own name of this text.
+fn name_of(alloc: Global, text: &str) -> Result<Principal, WordsRefusal>
+    ensures { Gives WordsRefusal.NoMemory (λ name. name) result (name_by (parsed text.now)) }
+{
+    match Principal::parse(alloc, text) {
+        Ok(name) => Ok(name),
+        Err(NameRefusal::NoMemory) => Err(WordsRefusal::NoMemory),
+        Err(_) => Err(WordsRefusal::Usage),
+    }
+}
+
+/// The files of the keys, which the words name together or not at all.
+fn files_given(alloc: Global, words: &[Text]) -> Result<Option<Files>, WordsRefusal>
+    ensures { Gives WordsRefusal.NoMemory (λ files. files) result (files_given
+        (value_of (codes "--keytab") words.now) (value_of (codes "--verifiers") words.now)) }
+{
+    match value_of(words, "--keytab") {
+        None => match value_of(words, "--verifiers") {
+            None => Ok(None),
+            Some(_) => Err(WordsRefusal::Usage),
+        },
+        Some(keytab) => match value_of(words, "--verifiers") {
+            None => Err(WordsRefusal::Usage),
+            Some(verifiers) => {
+                let keytab = Text::of(alloc, keytab)?;
+                let verifiers = Text::of(alloc, verifiers)?;
+                Ok(Some(Files { keytab, verifiers }))
+            }
+        },
+    }
+}
+
+/// The own name, which the words give together with these files or not at all.
+fn name_given(
+    alloc: Global,
+    files: &Option<Files>,
+    words: &[Text],
+) -> Result<Principal, WordsRefusal>
+    ensures { Gives WordsRefusal.NoMemory (λ name. name) result
+        (name_given files.now (value_of (codes "--name") words.now)) }
+{
+    match files {
+        None => match value_of(words, "--name") {
+            None => name_of(alloc, NO_NAME),
+            Some(_) => Err(WordsRefusal::Usage),
+        },
+        Some(_) => match value_of(words, "--name") {
+            None => Err(WordsRefusal::Usage),
+            Some(name) => name_of(alloc, name),
+        },
+    }
+}
+
+/// The numbers of the options.
+#[derive(Clone, Copy)]
+struct Numbers {
+    window: u32,
+    connections: u32,
+    contexts: u32,
+    marks: u32,
+    log: u32,
+}
+
+/// The numbers that the words ask for.
+fn numbers_given(words: &[Text]) -> Result<Numbers, WordsRefusal>
+    ensures value { result ≡ numbers_given words.now }
+    ensures range { IfOk result AreRanged }
+{
+    let window = number_given(words, "--window", 1, 1024, 128)?;
+    let connections = number_given(words, "--connections", 1, 1_000_000, 1000)?;
+    let contexts = number_given(words, "--contexts", 1, 65536, 1024)?;
+    let marks = number_given(words, "--marks", 1, 1_000_000, 65536)?;
+    let log = number_given(words, "--log", 16, 4_000_000, 262_144)?;
+    Ok(Numbers {
+        window,
+        connections,
+        contexts,
+        marks,
+        log,
+    })
+}
+
+/// What the words ask for.
+#[tactic(auto, unfolding(crate::specs::Options::options_of))]
+pub fn read_options(alloc: Global, words: &[Text]) -> Result<Options, WordsRefusal>
+    ensures value { Gives WordsRefusal.NoMemory (λ options. options) result (options_of words.now) }
+    ensures range { IfOk result IsRanged }
+{
+    demand_form(words)?;
+    let files = files_given(alloc, words)?;
+    let name = name_given(alloc, &files, words)?;
+    let bindings = bindings_given(alloc, words)?;
+    match numbers_given(words) {
+        Ok(numbers) => Ok(Options {
+            files,
+            name,
+            bindings,
+            window: numbers.window,
+            connections: numbers.connections,
+            contexts: numbers.contexts,
+            marks: numbers.marks,
+            log: numbers.log,
+        }),
+        Err(refusal) => Err(refusal),
+    }
+}

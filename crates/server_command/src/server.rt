@@ -1,0 +1,341 @@
+//! The run of the server.
+
+ghost use Rattle.std.specs.Prelude.{◌≡◌, ◌≢◌, ◌⊎◌, ◌<◌, ◌≤◌, ◌++◌, ◌∷◌, ℕ, List, [], take, true};
+ghost use Rattle.std.specs.Prelude.{false, IsTrue, IfOk, Some, Ok, Err, Option, length, vec_len};
+ghost use Rattle.std.specs.Prelude.{reverse, slice_get};
+ghost use Rattle.std.specs.List.{AllByRecursion};
+ghost use Rattle.sec_base.specs.Answers.{Rose};
+ghost use Rattle.cli_base.specs.Lines.{Says};
+ghost use Rattle.accept_book.specs.Legal.{Legal};
+ghost use Rattle.accept_book.specs.Booking.{BookOf};
+ghost use Rattle.gss_base.specs.declared.mech.MechKind.TheVariants as kinds;
+ghost use Rattle.gss_base.specs.Principal.{text_form};
+ghost use Rattle.server_command.specs.Desks.{IsFresh, IsSmall, DesksRan, NamesADesk, is_begun};
+ghost use Rattle.server_command.specs.Lines.{status_of, line_of};
+ghost use Rattle.server_command.specs.Options.{options_of, IsRanged};
+ghost use Rattle.gss_server.specs.Asking.{BookAnswers};
+ghost use Rattle.server_command.specs.Through.{DesksAsked, IsOpened, IsLogOf, OneBook};
+ghost use Rattle.server_command.specs.Runs.{files_of, names_of, name_of, counts_of, RunBegins};
+ghost use Rattle.server_command.specs.Runs.{HasLimits, HasValid, AsksAtMost, no_log};
+ghost use Rattle.server_command.specs.Keys.{KeysFrom};
+
+use crate::desk::Desk;
+use crate::desks::{count_connections, count_records, serve_desks};
+use crate::ending::{Counts, RunEnd, say_end};
+use crate::keys::{Keys, keys_given};
+use crate::options::{Files, Options, WordsRefusal, read_options};
+use accept_book::{Book, Limits, Log};
+use gss_base::{MechKind, Principal};
+use sec_base::{Clock, Draw, Items, Moment, NoMemory, Port, Shelf, Sink, Text};
+use spnego_core::AcceptSetup;
+use std::alloc::Global;
+
+/// How the run ended.
+#[derive(Drop)]
+pub struct ServerEnd {
+    /// The exit status: 0 all connections were served, 2 the words aren't in the command, 3 keytab or verifiers can't be loaded, 4 one of
+    /// them isn't of its format, or the keytab has no key for the own name, 5 a port failed, 6 a sink failed, 8 there was no memory.
+    pub status: u8,
+    /// How the run ended, before its line was written.
+    pub end: RunEnd,
+    /// The log of the book, which is empty and has no limits where no book was opened.
+    pub log: Log,
+}
+
+/// What is counted where nothing was served.
+const NOTHING: Counts = Counts {
+    connections: 0,
+    records: 0,
+    entries: 0,
+};
+
+/// What a run came to.
+#[derive(Drop)]
+struct Course {
+    end: RunEnd,
+    log: Log,
+}
+
+/// The mechanisms that are offered, the preferred first.
+fn offered(alloc: Global) -> Result<Items<MechKind>, NoMemory>
+    ensures { IfOk result (λ offer. offer ≡ kinds.Kerberos ∷ kinds.Scram ∷ []) }
+{
+    let mut offer = Vec::new(alloc);
+    offer.push(MechKind::Kerberos)?;
+    offer.push(MechKind::Scram)?;
+    Ok(Items::of(offer))
+}
+
+/// The book of a run.
+fn open_book(alloc: Global, options: Options, keys: Keys, start: Moment) -> Result<Book, NoMemory>
+    requires { IsRanged options }
+    ensures opened { IfOk result (λ book. IsOpened options keys start book) }
+{
+    let offer = offered(alloc)?;
+    let limits = Limits {
+        contexts: options.contexts as usize,
+        marks: options.marks as usize,
+        log: options.log as usize,
+        width: options.window,
+    };
+    let setup = AcceptSetup {
+        own: options.name,
+        keytab: keys.keytab,
+        verifiers: keys.verifiers,
+        bindings: options.bindings,
+        offer,
+    };
+    Book::open(alloc, setup, limits, start)
+}
+
+/// Serves the desks with a book.
+fn run_book<P: Port, C: Clock, D: Draw>(
+    alloc: Global,
+    book: Book,
+    desks: &mut Vec<Desk<P, C, D>>,
+    connections: u32,
+    width: u32,
+) -> Course
+where
+    P::Link: Drop,
+    requires fresh { AllByRecursion IsFresh desks.old.items }
+    requires connections { connections ≤ 1000000 }
+    ensures ran { DesksRan width connections P.Port P.Link.Link C.Clock D.Draw result.end
+        desks.old.items desks.new.items }
+    ensures count { vec_len desks.new ≡ vec_len desks.old }
+    ensures named { NamesADesk result.end (vec_len desks.old) }
+    ensures begun { result.end ≢ RunEnd.NoMemory → is_begun result.end ≡ true }
+    ensures small { AllByRecursion IsSmall desks.new.items }
+    ensures legal { Legal result.log.width (reverse result.log.entries) }
+    ensures asked { (last : BookOf) × DesksAsked BookAnswers width P.Port P.Link.Link book
+        desks.old.items desks.new.items last × IsLogOf last result.log }
+    ensures width { result.log.width ≡ book.core.width }
+    ensures limit { result.log.limit ≡ book.core.limit }
+    ensures contexts { result.log.contexts ≡ book.core.table.limit }
+    ensures marks { result.log.marks ≡ book.core.cache.capacity }
+{
+    let mut book = book;
+    let end = serve_desks(alloc, desks.as_mut_slice(), &mut book, connections, width);
+    Course {
+        end,
+        log: book.into_log(),
+    }
+}
+
+/// Opens the book and serves the desks.
+fn run_desks<P: Port, C: Clock, D: Draw>(
+    alloc: Global,
+    options: Options,
+    keys: Keys,
+    desks: &mut Vec<Desk<P, C, D>>,
+    start: Moment,
+) -> Course
+where
+    P::Link: Drop,
+    requires fresh { AllByRecursion IsFresh desks.old.items }
+    requires ranged { IsRanged options }
+    ensures ran { DesksRan options.window options.connections P.Port P.Link.Link C.Clock D.Draw
+        result.end desks.old.items desks.new.items }
+    ensures count { vec_len desks.new ≡ vec_len desks.old }
+    ensures named { NamesADesk result.end (vec_len desks.old) }
+    ensures begun { result.end ≢ RunEnd.NoMemory → is_begun result.end ≡ true }
+    ensures small { AllByRecursion IsSmall desks.new.items }
+    ensures legal { Legal result.log.width (reverse result.log.entries) }
+    ensures limits { is_begun result.end ≡ true → HasLimits options result.log }
+    ensures booked { ((result.end ≡ RunEnd.NoMemory) × (desks.new.items ≡ desks.old.items))
+        ⊎ OneBook options keys start P.Port P.Link.Link desks.old.items desks.new.items result.log }
+{
+    let connections = options.connections;
+    let width = options.window;
+    match open_book(alloc, options, keys, start) {
+        Ok(book) => run_book(alloc, book, desks, connections, width),
+        Err(_) => Course {
+            end: RunEnd::NoMemory,
+            log: Log::empty(alloc),
+        },
+    }
+}
+
+/// Says how a run ended that had its keys.
+fn finish<P: Port, C, D, O: Sink>(
+    alloc: Global,
+    desks: &[Desk<P, C, D>],
+    course: Course,
+    err: &mut O,
+) -> ServerEnd
+    requires small { AllByRecursion IsSmall desks.now }
+    requires begun { course.end ≢ RunEnd.NoMemory → is_begun course.end ≡ true }
+    ensures status { result.status ≢ 6 → result.status ≢ 8 → result.status ≡ status_of result.end }
+    ensures sink_fault { result.status ≡ 6 → Rose (O.faults err.old) (O.faults err.new) }
+    ensures said { IsTrue (O.tells err.old) → (files : Option Files) (name : List ℕ)
+        → Says (O.written err.old) (O.written err.new) result.status
+        (line_of files name (counts_of desks.now result.log) result.end) }
+    ensures end { result.end ≡ course.end }
+    ensures log { result.log ≡ course.log }
+{
+    let counts = Counts {
+        connections: count_connections(desks),
+        records: count_records(desks),
+        entries: course.log.len(),
+    };
+    let status = say_end(alloc, err, &None, "", &counts, course.end);
+    ServerEnd {
+        status,
+        end: course.end,
+        log: course.log,
+    }
+}
+
+/// Says why a run has no keys.
+fn unready<O: Sink>(
+    alloc: Global,
+    files: &Option<Files>,
+    own: &Principal,
+    end: RunEnd,
+    err: &mut O,
+) -> ServerEnd
+    requires { is_begun end ≡ false }
+    ensures status { result.status ≢ 6 → result.status ≢ 8 → result.status ≡ status_of result.end }
+    ensures sink_fault { result.status ≡ 6 → Rose (O.faults err.old) (O.faults err.new) }
+    ensures said { IsTrue (O.tells err.old)
+        → (counts : Counts) → Says (O.written err.old) (O.written err.new) result.status
+        (line_of files.now (text_form own.now.realm own.now.parts) counts end) }
+    ensures end { result.end ≡ end }
+    ensures log { result.log ≡ no_log }
+{
+    let status = say_end(alloc, err, files, own.label().text(), &NOTHING, end);
+    ServerEnd {
+        status,
+        end,
+        log: Log::empty(alloc),
+    }
+}
+
+/// Says that the words aren't in the command, or that there was no memory to read them.
+fn refused<O: Sink>(alloc: Global, end: RunEnd, err: &mut O) -> ServerEnd
+    requires { (end ≢ RunEnd.Usage) → (end ≡ RunEnd.NoMemory) }
+    ensures status { result.status ≢ 6 → result.status ≢ 8 → result.status ≡ status_of result.end }
+    ensures sink_fault { result.status ≡ 6 → Rose (O.faults err.old) (O.faults err.new) }
+    ensures said { IsTrue (O.tells err.old)
+        → (files : Option Files) (name : List ℕ) (counts : Counts) → Says (O.written err.old)
+        (O.written err.new) result.status (line_of files name counts end) }
+    ensures end { result.end ≡ end }
+    ensures log { result.log ≡ no_log }
+{
+    let status = say_end(alloc, err, &None, "", &NOTHING, end);
+    ServerEnd {
+        status,
+        end,
+        log: Log::empty(alloc),
+    }
+}
+
+/// Runs the server with these options.
+fn run_with<F: Shelf, P: Port, C: Clock, D: Draw, O: Sink>(
+    alloc: Global,
+    options: Options,
+    shelf: &mut F,
+    desks: &mut Vec<Desk<P, C, D>>,
+    start: Moment,
+    err: &mut O,
+) -> ServerEnd
+where
+    P::Link: Drop,
+    requires fresh { AllByRecursion IsFresh desks.old.items }
+    requires ranged { IsRanged options }
+    ensures begins { RunBegins F.Shelf shelf.old shelf.new options result.end }
+    ensures ran { DesksRan options.window options.connections P.Port P.Link.Link C.Clock D.Draw
+        result.end desks.old.items desks.new.items }
+    ensures legal { Legal result.log.width (reverse result.log.entries) }
+    ensures limits { is_begun result.end ≡ true → HasLimits options result.log }
+    ensures status { result.status ≢ 6 → result.status ≢ 8 → result.status ≡ status_of result.end }
+    ensures sink_fault { result.status ≡ 6 → Rose (O.faults err.old) (O.faults err.new) }
+    ensures said { IsTrue (O.tells err.old)
+        → Says (O.written err.old) (O.written err.new) result.status (line_of options.files
+        (name_of (Ok options)) (counts_of desks.new.items result.log) result.end) }
+    ensures count { vec_len desks.new ≡ vec_len desks.old }
+    ensures named { NamesADesk result.end (vec_len desks.old) }
+    ensures other { result.end ≢ RunEnd.Usage }
+    ensures idle { is_begun result.end ≡ false → result.end ≢ RunEnd.NoMemory
+        → desks.new.items ≡ desks.old.items }
+    ensures named_files { AsksAtMost F.Shelf shelf.old shelf.new (names_of options.files) }
+    ensures booked { ((is_begun result.end ≡ false) × (desks.new.items ≡ desks.old.items))
+        ⊎ ((keys : Keys) × KeysFrom F.Shelf shelf.old shelf.new options.files options.name (Ok keys)
+        × OneBook options keys start P.Port P.Link.Link desks.old.items desks.new.items
+        result.log) }
+{
+    match keys_given(alloc, shelf, &options.files, &options.name) {
+        Ok(keys) => {
+            let course = run_desks(alloc, options, keys, desks, start);
+            finish(alloc, desks.as_slice(), course, err)
+        }
+        Err(end) => unready(alloc, &options.files, &options.name, end, err),
+    }
+}
+
+/// Runs the server over its desks, one after the other, and says on `err` how it ended. The words are
+/// `ADDRESS [--keytab FILE --verifiers FILE --name PRINCIPAL] [--bind TEXT] [--window N] [--connections N] [--contexts N] [--marks N] [--log N]`.
+pub fn run_server<F: Shelf, P: Port, C: Clock, D: Draw, O: Sink>(
+    alloc: Global,
+    words: &[Text],
+    shelf: &mut F,
+    desks: &mut Vec<Desk<P, C, D>>,
+    start: Moment,
+    out: &mut O,
+    err: &mut O,
+) -> ServerEnd
+where
+    P::Link: Drop,
+    requires fresh { AllByRecursion IsFresh desks.old.items }
+    // The status and the line on `err`: those of the end, unless there was no memory for the line, or the sink failed.
+    ensures status { result.status ≢ 6 → result.status ≢ 8 → result.status ≡ status_of result.end }
+    ensures sink_fault { result.status ≡ 6 → Rose (O.faults err.old) (O.faults err.new) }
+    ensures said { IsTrue (O.tells err.old) → Says (O.written err.old) (O.written err.new)
+        result.status (line_of (files_of (options_of words.now)) (name_of (options_of words.now))
+        (counts_of desks.new.items result.log) result.end) }
+    ensures out { O.written out.new ≡ O.written out.old }
+    // The words are refused exactly where they aren't in the command, want of memory aside.
+    ensures usage { result.end ≡ RunEnd.Usage → options_of words.now ≡ Err WordsRefusal.Usage }
+    ensures always_usage { options_of words.now ≡ Err WordsRefusal.Usage
+        → result.end ≢ RunEnd.NoMemory → result.end ≡ RunEnd.Usage }
+    ensures unasked { (refusal : WordsRefusal) → options_of words.now ≡ Err refusal
+        → desks.new.items ≡ desks.old.items }
+    // Where no desk was served, the desks stay as they were; and at most the files that the words name are asked for, each once.
+    ensures idle { is_begun result.end ≡ false → result.end ≢ RunEnd.NoMemory
+        → desks.new.items ≡ desks.old.items }
+    ensures unloaded { result.end ≡ RunEnd.Usage → F.asked shelf.new ≡ F.asked shelf.old }
+    ensures named_files { AsksAtMost F.Shelf shelf.old shelf.new
+        (names_of (files_of (options_of words.now))) }
+    // Words in the command: the run ends by what keytab and verifiers come to.
+    ensures begins { (options : Options) → options_of words.now ≡ Ok options
+        → result.end ≢ RunEnd.NoMemory → RunBegins F.Shelf shelf.old shelf.new options result.end }
+    // Each desk served the first links of its port, in order; where it is done, all of them or as many as the words say.
+    ensures ran { (options : Options) → options_of words.now ≡ Ok options
+        → DesksRan options.window options.connections P.Port P.Link.Link C.Clock D.Draw result.end
+        desks.old.items desks.new.items }
+    // There are as many desks as there were, and the line of a failed port names one of them.
+    ensures count { vec_len desks.new ≡ vec_len desks.old }
+    ensures named { NamesADesk result.end (vec_len desks.old) }
+    // With files that can be used, and no count that rose, all connections are served, want of memory aside.
+    ensures complete { (options : Options) → options_of words.now ≡ Ok options
+        → HasValid F.Shelf shelf.old options → (Rose (F.faults shelf.old) (F.faults shelf.new) → ⊥)
+        → ((i : ℕ) (a b : _) → slice_get desks.old.items i ≡ Some a
+        → slice_get desks.new.items i ≡ Some b → Rose (P.faults a.port) (P.faults b.port) → ⊥)
+        → result.end ≢ RunEnd.NoMemory → result.end ≡ RunEnd.Served }
+    // The log is legal, and was kept under the limits of the words.
+    ensures legal { Legal result.log.width (reverse result.log.entries) }
+    ensures limits { (options : Options) → options_of words.now ≡ Ok options
+        → is_begun result.end ≡ true → HasLimits options result.log }
+    // One book, of the setup that words, keytab and verifiers give, gave all answers to the desks, in their order, from its opening to the log that
+    // is returned; or no desk was served.
+    ensures booked { (options : Options) → options_of words.now ≡ Ok options
+        → ((is_begun result.end ≡ false) × (desks.new.items ≡ desks.old.items)) ⊎ ((keys : Keys)
+        × KeysFrom F.Shelf shelf.old shelf.new options.files options.name (Ok keys) × OneBook
+        options keys start P.Port P.Link.Link desks.old.items desks.new.items result.log) }
+{
+    match read_options(alloc, words) {
+        Ok(options) => run_with(alloc, options, shelf, desks, start, err),
+        Err(WordsRefusal::Usage) => refused(alloc, RunEnd::Usage, err),
+        Err(WordsRefusal::NoMemory) => refused(alloc, RunEnd::NoMemory, err),
+    }
+}
