@@ -1,5 +1,6 @@
 -- The files of a run, and the credentials of its mechanisms.
-use Rattle.std.specs.Prelude.{◌≡◌, ◌≢◌, ℕ, Bool, true, false, nat_eq, List, [], ◌∷◌, ◌++◌, take, Option, Some, None, Result, Ok, Err, if◌then◌else◌}
+use Rattle.std.specs.Prelude.{◌≡◌, ◌≢◌, ℕ, Bool, true, false, nat_eq, List, [], ◌∷◌, ◌++◌, take}
+use Rattle.std.specs.Prelude.{Option, Some, None, Result, Ok, Err, if◌then◌else◌}
 use Rattle.std.specs.Str.{is_utf8}
 use Rattle.std.specs.Str.Lossy.{utf8_valid_len}
 use Rattle.gss_base.specs.Name.{Name}
@@ -13,7 +14,11 @@ use Rattle.cli_base.specs.Files.{file_in, stop_by}
 use Rattle.cli_base.specs.declared.files.FileStop.{FileStop}
 use Rattle.cli_base.specs.declared.files.FileStop.TheVariants as stops
 use Rattle.client_command.specs.declared.ending.RunEnd.{RunEnd}
-use Rattle.client_command.specs.declared.ending.RunEnd.TheVariants.{Usage, CannotLoad, Bad, NoCredential, NoMemory, LinkFault, PeerEnded, Refused, Negotiation, BadReply, Foreign, Spent, Finished}
+use Rattle.client_command.specs.declared.ending.RunEnd.TheVariants.{Usage, CannotLoad, Bad}
+use Rattle.client_command.specs.declared.ending.RunEnd.TheVariants.{NoCredential, NoMemory}
+use Rattle.client_command.specs.declared.ending.RunEnd.TheVariants.{LinkFault, PeerEnded, Refused}
+use Rattle.client_command.specs.declared.ending.RunEnd.TheVariants.{Negotiation, BadReply, Foreign}
+use Rattle.client_command.specs.declared.ending.RunEnd.TheVariants.{Spent, Finished}
 use Rattle.client_command.specs.declared.ending.WordFile.{WordFile}
 use Rattle.client_command.specs.declared.ending.WordFile.TheVariants.{Ccache, Password}
 use Rattle.client_command.specs.declared.words.Mechs.{Mechs}
@@ -22,6 +27,7 @@ use Rattle.client_command.specs.declared.words.Sources.{Sources}
 
 -- the rest of a reading, unless the run ends before
 infixl 10 ◌>>=◌
+-- the rest takes what was read
 abbrev pub ◌>>=◌ : {A B : Type 0} → Result A RunEnd → (A → Result B RunEnd) → Result B RunEnd
 (Ok x) >>= next = next x
 (Err e) >>= next = Err e
@@ -34,19 +40,23 @@ end_by file stops.NoMemory = NoMemory
 
 -- ---- the credential cache, where the words name one
 
+-- the cache as its file was read, or the run's end if the file is bad
 abbrev pub cache_by : Result Cache FileRefusal → Result Cache RunEnd
 cache_by (Ok cache) = Ok cache
 cache_by (Err refusal) = Err (end_by Ccache (stop_by refusal))
 
+-- the same by how the cache's file was loaded
 abbrev pub cache_in : Result (List ℕ) FileStop → Result Cache RunEnd
 cache_in (Ok octets) = cache_by (ccache_of octets)
 cache_in (Err stop) = Err (end_by Ccache stop)
 
 -- nothing is read where no file is named
-abbrev pub if_named : {A : Type 0} → (List ℕ → Result A RunEnd) → Option (List ℕ) → Result (Option A) RunEnd
+abbrev pub if_named : {A : Type 0} → (List ℕ → Result A RunEnd) → Option (List ℕ)
+    → Result (Option A) RunEnd
 if_named read None = Ok None
 if_named read (Some name) = read name >>= λ what. Ok (Some what)
 
+-- the cache by the shelf's files and the file's name, where the words name one
 abbrev pub cache_from : List NamedFile → Option (List ℕ) → Result (Option Cache) RunEnd
 cache_from files = if_named (λ name. cache_in (file_in files name))
 
@@ -60,17 +70,21 @@ less_feed (octet ∷ next ∷ octets) = octet ∷ less_feed (next ∷ octets)
 
 -- a file that isn't UTF-8 is bad behind its longest front that is
 abbrev pub password_by : List ℕ → Result (List ℕ) RunEnd
-password_by octets = if is_utf8 octets then Ok (less_feed octets) else Err (Bad Password (utf8_valid_len octets))
+password_by octets =
+    if is_utf8 octets then Ok (less_feed octets) else Err (Bad Password (utf8_valid_len octets))
 
+-- the same by how the password's file was loaded
 abbrev pub password_in : Result (List ℕ) FileStop → Result (List ℕ) RunEnd
 password_in (Ok octets) = password_by octets
 password_in (Err stop) = Err (end_by Password stop)
 
+-- the password by the shelf's files and the file's name, where the words name one
 abbrev pub password_from : List NamedFile → Option (List ℕ) → Result (Option (List ℕ)) RunEnd
 password_from files = if_named (λ name. password_in (file_in files name))
 
 -- ---- credentials
 
+-- Kerberos's credential, without which the run ends
 abbrev pub or_none : Option Granted → Result MechCred RunEnd
 or_none None = Err NoCredential
 or_none (Some granted) = Ok (creds.Kerberos granted)
@@ -87,21 +101,28 @@ login_of (Some user) (Some password) = Ok (creds.Scram user password)
 login_of (Some user) None = Err NoCredential
 login_of None password = Err NoCredential
 
--- the credentials of the mechanisms that are listed, in their order; that of Kerberos is looked for first
-abbrev pub listed : Mechs → Result MechCred RunEnd → Result MechCred RunEnd → Result (List MechCred) RunEnd
+-- the credentials of the mechanisms that are listed, in their order; that of Kerberos is looked for
+-- first
+abbrev pub listed : Mechs → Result MechCred RunEnd → Result MechCred RunEnd
+    → Result (List MechCred) RunEnd
 listed mechs.Kerberos ticket login = ticket >>= λ krb5. Ok (krb5 ∷ [])
 listed mechs.Scram ticket login = login >>= λ scram. Ok (scram ∷ [])
-listed mechs.KerberosScram ticket login = ticket >>= λ krb5. login >>= λ scram. Ok (krb5 ∷ scram ∷ [])
-listed mechs.ScramKerberos ticket login = ticket >>= λ krb5. login >>= λ scram. Ok (scram ∷ krb5 ∷ [])
+listed mechs.KerberosScram ticket login =
+    ticket >>= λ krb5. login >>= λ scram. Ok (krb5 ∷ scram ∷ [])
+listed mechs.ScramKerberos ticket login =
+    ticket >>= λ krb5. login >>= λ scram. Ok (scram ∷ krb5 ∷ [])
 
+-- the credentials that the words ask for, by the cache and the password that were read
 abbrev pub creds_with : Sources → Option Cache → Option (List ℕ) → Result (List MechCred) RunEnd
-creds_with sources cache password = listed sources.mechs (ticket_for cache sources.server) (login_of sources.user password)
+creds_with sources cache password =
+    listed sources.mechs (ticket_for cache sources.server) (login_of sources.user password)
 
--- the credentials of a run by the files of a shelf, or how the run ends without them. The cache is read before the password's file is loaded, and the
--- credential is looked for behind both.
+-- the credentials of a run by the files of a shelf, or how the run ends without them. The cache is
+-- read before the password's file is loaded, and the credential is looked for behind both.
 abbrev pub creds_from : List NamedFile → Sources → Result (List MechCred) RunEnd
 creds_from files sources =
-    cache_from files sources.ccache >>= λ cache. password_from files sources.password >>= λ password. creds_with sources cache password
+    cache_from files sources.ccache >>= λ cache. password_from files sources.password
+    >>= λ password. creds_with sources cache password
 
 -- ---- what a run finds, and asks for
 
@@ -130,6 +151,7 @@ Finds due (Err end) = is_unloaded end ≡ false → end ≢ NoMemory → due ≡
 abbrev pub IsStopOf : WordFile → RunEnd → Type 0
 IsStopOf file end = (stop : FileStop) × (end ≡ end_by file stop)
 
+-- the file that is loaded, none where the words name none
 abbrev pub file_named : Option (List ℕ) → List (List ℕ)
 file_named None = []
 file_named (Some name) = name ∷ []
@@ -139,7 +161,9 @@ pub record AskedOne (old new : List (List ℕ)) (name : Option (List ℕ)) (end 
   pub front : (count : ℕ) × (new ≡ old ++ take count (file_named name))
   pub whole : end ≢ NoMemory → new ≡ old ++ file_named name
 
-abbrev pub AsksOne : {A : Type 0} → List (List ℕ) → List (List ℕ) → Option (List ℕ) → Result A RunEnd → Type 0
+-- the same by what came of it: if the file was read, the shelf was asked for it
+abbrev pub AsksOne : {A : Type 0} → List (List ℕ) → List (List ℕ) → Option (List ℕ)
+    → Result A RunEnd → Type 0
 AsksOne old new name (Ok value) = new ≡ old ++ file_named name
 AsksOne old new name (Err end) = AskedOne old new name end
 
@@ -165,12 +189,14 @@ asked_until sources Foreign = files_named sources
 asked_until sources Spent = files_named sources
 asked_until sources Finished = files_named sources
 
--- the shelf was asked for these files, each once and in this order; want of memory may leave out the last of them
+-- the shelf was asked for these files, each once and in this order; want of memory may leave out
+-- the last of them
 pub record Asks (old new : List (List ℕ)) (sources : Sources) (end : RunEnd) : Type 0 where
   pub front : (count : ℕ) × (new ≡ old ++ take count (files_named sources))
   pub whole : end ≢ NoMemory → new ≡ old ++ asked_until sources end
 
 -- the same for what was found
-abbrev pub AsksFor : {A : Type 0} → List (List ℕ) → List (List ℕ) → Sources → Result A RunEnd → Type 0
+abbrev pub AsksFor : {A : Type 0} → List (List ℕ) → List (List ℕ) → Sources → Result A RunEnd
+    → Type 0
 AsksFor old new sources (Ok value) = new ≡ old ++ files_named sources
 AsksFor old new sources (Err end) = Asks old new sources end

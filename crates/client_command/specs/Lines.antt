@@ -9,8 +9,10 @@ use Rattle.rpc_msgs.specs.declared.xdr_reader.XdrRefusal.{XdrRefusal}
 use Rattle.spnego_core.specs.declared.outcome.Outcome.{Outcome}
 use Rattle.gss_client.specs.Procedure.{opaque_alone}
 use Rattle.gss_client.specs.declared.procedure.Procedure.{Procedure}
-use Rattle.gss_client.specs.declared.procedure.Procedure.TheVariants.{Null, Echo, Whoami, Post, Count}
+use Rattle.gss_client.specs.declared.procedure.Procedure.TheVariants.{Null, Echo, Whoami, Post}
+use Rattle.gss_client.specs.declared.procedure.Procedure.TheVariants.{Count}
 
+-- the mechanism, as the line of a context names it
 abbrev pub mech_word : MechKind → List ℕ
 mech_word kinds.Kerberos = codes "krb5"
 mech_word kinds.Scram = codes "scram"
@@ -23,8 +25,10 @@ name_word (octet ∷ octets) = octet ∷ octets
 -- `MECH INITIATOR ACCEPTOR`
 abbrev pub outcome_line : Outcome → List ℕ
 outcome_line outcome =
-    mech_word outcome.mech ++ (codes " " ++ (name_word outcome.initiator ++ (codes " " ++ (name_word outcome.acceptor ++ codes "\n"))))
+    mech_word outcome.mech ++ (codes " "
+    ++ (name_word outcome.initiator ++ (codes " " ++ (name_word outcome.acceptor ++ codes "\n"))))
 
+-- the line of a context, where there was one
 abbrev pub context_line : Option Outcome → List ℕ
 context_line None = []
 context_line (Some outcome) = outcome_line outcome
@@ -34,10 +38,12 @@ abbrev pub hex_line : Result (List ℕ) XdrRefusal → List ℕ
 hex_line (Ok octets) = encode_lower octets ++ codes "\n"
 hex_line (Err refusal) = []
 
+-- a text as it is
 abbrev pub text_line : Result (List ℕ) XdrRefusal → List ℕ
 text_line (Ok text) = text ++ codes "\n"
 text_line (Err refusal) = []
 
+-- a number in decimal
 abbrev pub number_line : Result (ℕ × Input) XdrRefusal → List ℕ
 number_line (Ok read) = decimal read.0 ++ codes "\n"
 number_line (Err refusal) = []
@@ -50,9 +56,11 @@ result_line Whoami octets = text_line (opaque_alone 1024 octets)
 result_line Post octets = number_line (word_at (whole octets))
 result_line Count octets = number_line (word_at (whole octets))
 
+-- the lines of all results, in order
 abbrev pub result_lines : Procedure → List (List ℕ) → List ℕ
 result_lines procedure [] = []
-result_lines procedure (octets ∷ results) = result_line procedure octets ++ result_lines procedure results
+result_lines procedure (octets ∷ results) =
+    result_line procedure octets ++ result_lines procedure results
 
 -- what is printed of a session with this outcome and these results
 abbrev pub lines : Procedure → Option Outcome → List (List ℕ) → List ℕ

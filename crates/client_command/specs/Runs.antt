@@ -1,5 +1,6 @@
 -- The run of the client.
-use Rattle.std.specs.Prelude.{◌≡◌, ◌≢◌, ◌⊎◌, ℕ, Bool, IsTrue, List, [], ◌∷◌, ◌++◌, length, Option, Some, None, Result, Ok, Err}
+use Rattle.std.specs.Prelude.{◌≡◌, ◌≢◌, ◌⊎◌, ℕ, Bool, IsTrue, List, [], ◌∷◌, ◌++◌, length, Option}
+use Rattle.std.specs.Prelude.{Some, None, Result, Ok, Err}
 use Rattle.sec_base.specs.Link.{Wire}
 use Rattle.sec_base.specs.declared.shelf.NamedFile.{NamedFile}
 use Rattle.gss_base.specs.Principal.{text_form}
@@ -35,8 +36,14 @@ abbrev pub server_text : Option Name → List ℕ
 server_text None = []
 server_text (Some server) = text_form server.realm server.parts
 
+-- what the words name: the credential cache, the password's file, and the server
 abbrev pub names_in : Sources → Named
-names_in sources = record { ccache = text_or_none sources.ccache; password = text_or_none sources.password; server = server_text sources.server }
+names_in sources = record {
+  ccache = text_or_none sources.ccache;
+  password =
+      text_or_none sources.password;
+  server = server_text sources.server;
+}
 
 -- none where the words aren't in the command
 abbrev pub names_of : Result ClientWords WordsRefusal → Named
@@ -50,7 +57,8 @@ procedure_of (Err refusal) = Null
 
 -- ---- the session
 
--- what a session is begun with: the plan of the words, the credentials of their mechanisms, a moment as stamp, and 66 random octets
+-- what a session is begun with: the plan of the words, the credentials of their mechanisms, a
+-- moment as stamp, and 66 random octets
 abbrev pub start_of : Plan → List MechCred → ℕ → List ℕ → Start
 start_of plan creds stamp draws = record {
   setup = record { list = creds; bindings = plan.bindings; stamp = stamp; draws = draws };
@@ -58,27 +66,34 @@ start_of plan creds stamp draws = record {
   first = plan.first;
 }
 
--- the talk of the plan over a stream of octets, where its calls' confounders are the first of these octets
+-- the talk of the plan over a stream of octets, where its calls' confounders are the first of these
+-- octets
 abbrev pub planned : Plan → List MechCred → ℕ → List ℕ → List ℕ → List ℕ → Talk
 planned plan creds stamp draws confounders stream =
     talk (start_of plan creds stamp draws) plan.times plan.procedure plan.args confounders stream
 
 -- this is what a talk wrote, agreed on and was answered, and the run ends as it did
-pub record IsWhole (wrote : List ℕ) (outcome : Option Outcome) (results : List (List ℕ)) (end : RunEnd) (t : Talk) : Type 0 where
+pub record IsWhole (wrote : List ℕ) (outcome : Option Outcome) (results : List (List ℕ))
+    (end : RunEnd) (t : Talk) : Type 0 where
   pub written : t.written ≡ wrote
   pub outcome_is : t.outcome ≡ outcome
   pub results_are : t.results ≡ results
   pub ends : end ≡ end_of t.parting
 
--- what the clock and the source of random octets gave: one moment, 66 octets, and the calls' confounders
-pub record Drew (clock : Bool) (moments moments' : List ℕ) (draw : Bool) (given given' : List ℕ) (stamp : ℕ) (draws confounders : List ℕ) : Type 0 where
+-- what the clock and the source of random octets gave: one moment, 66 octets, and the calls'
+-- confounders
+pub record Drew (clock : Bool) (moments moments' : List ℕ) (draw : Bool) (given given' : List ℕ)
+    (stamp : ℕ) (draws confounders : List ℕ) : Type 0 where
   pub moment : IsTrue clock → moments' ≡ moments ++ stamp ∷ []
   pub size : length draws ≡ 66
   pub octets : IsTrue draw → given' ≡ given ++ (draws ++ confounders)
 
--- the run held the session of its plan over a link that tells its octets: what it wrote, agreed on and was answered is its talk's, and it ends as the
--- talk does; after a fault of the link or want of memory these are fronts of the talk's
-pub record Spoke (clock : Bool) (moments moments' : List ℕ) (draw : Bool) (given given' : List ℕ) (plan : Plan) (creds : List MechCred) (old new : Wire) (outcome : Option Outcome) (results : List (List ℕ)) (end : RunEnd) : Type 0 where
+-- the run held the session of its plan over a link that tells its octets: what it wrote, agreed on
+-- and was answered is its talk's, and it ends as the talk does; after a fault of the link or want
+-- of memory these are fronts of the talk's
+pub record Spoke (clock : Bool) (moments moments' : List ℕ) (draw : Bool) (given given' : List ℕ)
+    (plan : Plan) (creds : List MechCred) (old new : Wire) (outcome : Option Outcome)
+    (results : List (List ℕ)) (end : RunEnd) : Type 0 where
   pub stamp : ℕ
   pub draws : List ℕ
   pub confounders : List ℕ
@@ -86,34 +101,50 @@ pub record Spoke (clock : Bool) (moments moments' : List ℕ) (draw : Bool) (giv
   pub took : List ℕ
   pub wrote : List ℕ
   pub went : Went old new took wrote
-  pub front : (later : List ℕ) → IsTalkFront wrote outcome results (planned plan creds stamp draws (confounders ++ later) (took ++ new.coming))
-  pub whole : end ≢ LinkFault → end ≢ NoMemory → (later : List ℕ) → IsWhole wrote outcome results end (planned plan creds stamp draws (confounders ++ later) (took ++ new.coming))
+  pub front : (later : List ℕ) → IsTalkFront wrote outcome results
+      (planned plan creds stamp draws (confounders ++ later) (took ++ new.coming))
+  pub whole : end ≢ LinkFault → end ≢ NoMemory → (later : List ℕ) → IsWhole wrote outcome results
+      end (planned plan creds stamp draws (confounders ++ later) (took ++ new.coming))
 
 -- the talk of the plan by what the devices gave ends so
-abbrev pub EndsSo : Bool → List ℕ → List ℕ → Bool → List ℕ → List ℕ → Plan → List MechCred → Wire → Wire → Parting → Type 0
+abbrev pub EndsSo : Bool → List ℕ → List ℕ → Bool → List ℕ → List ℕ → Plan → List MechCred → Wire
+    → Wire → Parting → Type 0
 EndsSo clock moments moments' draw given given' plan creds old new parting =
-    (stamp : ℕ) (draws confounders took : List ℕ) → Drew clock moments moments' draw given given' stamp draws confounders → new.taken ≡ old.taken ++ took
+    (stamp : ℕ) (draws confounders took : List ℕ)
+    → Drew clock moments moments' draw given given' stamp draws confounders
+    → new.taken ≡ old.taken ++ took
     → (planned plan creds stamp draws confounders (took ++ new.coming)).parting ≡ parting
 
--- the credentials are those of the files that the words name, where the shelf tells them, and the session was held
-pub record HasHeld (asked : ClientWords) (shelf : Bool) (files : List NamedFile) (clock : Bool) (moments moments' : List ℕ) (draw : Bool) (given given' : List ℕ) (old new : Wire) (outcome : Option Outcome) (results : List (List ℕ)) (end : RunEnd) : Type 0 where
+-- the credentials are those of the files that the words name, where the shelf tells them, and the
+-- session was held
+pub record HasHeld (asked : ClientWords) (shelf : Bool) (files : List NamedFile) (clock : Bool)
+    (moments moments' : List ℕ) (draw : Bool) (given given' : List ℕ) (old new : Wire)
+    (outcome : Option Outcome) (results : List (List ℕ)) (end : RunEnd) : Type 0 where
   pub creds : List MechCred
   pub found : IsTrue shelf → creds_from files asked.sources ≡ Ok creds
-  pub spoke : Spoke clock moments moments' draw given given' asked.plan creds old new outcome results end
+  pub spoke : Spoke clock moments moments' draw given given' asked.plan creds old new outcome
+      results end
 
 -- the words are in the command, and the session was held
-pub record HasSpoken (words : List (List ℕ)) (shelf : Bool) (files : List NamedFile) (clock : Bool) (moments moments' : List ℕ) (draw : Bool) (given given' : List ℕ) (old new : Wire) (outcome : Option Outcome) (results : List (List ℕ)) (end : RunEnd) : Type 0 where
+pub record HasSpoken (words : List (List ℕ)) (shelf : Bool) (files : List NamedFile) (clock : Bool)
+    (moments moments' : List ℕ) (draw : Bool) (given given' : List ℕ) (old new : Wire)
+    (outcome : Option Outcome) (results : List (List ℕ)) (end : RunEnd) : Type 0 where
   pub asked : ClientWords
   pub read : words_of words ≡ Ok asked
-  pub held : HasHeld asked shelf files clock moments moments' draw given given' old new outcome results end
+  pub held : HasHeld asked shelf files clock moments moments' draw given given' old new outcome
+      results end
 
 -- nothing was written or read on the link, and there are no outcome and no results
-pub record IsSilent (old new : Wire) (outcome : Option Outcome) (results : List (List ℕ)) : Type 0 where
-  pub same : new ≡ old
-  pub none : outcome ≡ None
-  pub empty : results ≡ []
+pub record IsSilent (old new : Wire) (outcome : Option Outcome) (results : List (List ℕ)) : Type 0
+  where
+    pub same : new ≡ old
+    pub none : outcome ≡ None
+    pub empty : results ≡ []
 
--- what is returned of a session is what it came to; where there was no memory to print that, nothing is
-abbrev pub Reports : Option Outcome → List (List ℕ) → Parting → Option Outcome → List (List ℕ) → RunEnd → Type 0
+-- what is returned of a session is what it came to; where there was no memory to print that,
+-- nothing is
+abbrev pub Reports : Option Outcome → List (List ℕ) → Parting → Option Outcome → List (List ℕ)
+    → RunEnd → Type 0
 Reports outcome results parting outcome' results' end =
-    ((outcome' ≡ outcome) × (results' ≡ results) × (end ≡ end_of parting)) ⊎ ((outcome' ≡ None) × (results' ≡ []) × (end ≡ NoMemory))
+    ((outcome' ≡ outcome) × (results' ≡ results) × (end ≡ end_of parting))
+    ⊎ ((outcome' ≡ None) × (results' ≡ []) × (end ≡ NoMemory))

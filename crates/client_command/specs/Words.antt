@@ -1,11 +1,15 @@
--- The words of the client, `ADDRESS COMMAND [ARG] [options]`: which are in its command, and what they ask for.
-use Rattle.std.specs.Prelude.{ℕ, ◌≤◌, Bool, true, false, ◌&&◌, ◌||◌, not, nat_eq, nat_lt, List, [], ◌∷◌, length, slice_get, codes, Option, Some, None, is_some, Result, Ok, Err, if◌then◌else◌}
+-- The words of the client, `ADDRESS COMMAND [ARG] [options]`: which are in its command, and what
+-- they ask for.
+use Rattle.std.specs.Prelude.{ℕ, ◌≤◌, Bool, true, false, ◌&&◌, ◌||◌, not, nat_eq, nat_lt, List, []}
+use Rattle.std.specs.Prelude.{◌∷◌, length, slice_get, codes, Option, Some, None, is_some, Result}
+use Rattle.std.specs.Prelude.{Ok, Err, if◌then◌else◌}
 use lib.Pointwise.{pointwise}
 use Rattle.gss_base.specs.Name.{Name}
 use Rattle.gss_base.specs.Signs.{parsed}
 use Rattle.gss_base.specs.declared.principal.NameRefusal.{NameRefusal}
 use Rattle.gss_client.specs.declared.procedure.Procedure.{Procedure}
-use Rattle.gss_client.specs.declared.procedure.Procedure.TheVariants.{Null, Echo, Whoami, Post, Count}
+use Rattle.gss_client.specs.declared.procedure.Procedure.TheVariants.{Null, Echo, Whoami, Post}
+use Rattle.gss_client.specs.declared.procedure.Procedure.TheVariants.{Count}
 use Rattle.gss_client.specs.declared.service.Service.{Service}
 use Rattle.gss_client.specs.declared.service.Service.TheVariants as services
 use Rattle.cli_base.specs.Numbers.{number_in}
@@ -24,10 +28,13 @@ use Rattle.client_command.specs.declared.words.WordsRefusal.TheVariants.{Usage}
 
 -- the rest of a reading, unless the part before was refused
 infixl 10 ◌>>=◌
-abbrev pub ◌>>=◌ : {A B : Type 0} → Result A WordsRefusal → (A → Result B WordsRefusal) → Result B WordsRefusal
+-- the rest takes what the part before gave
+abbrev pub ◌>>=◌ : {A B : Type 0} → Result A WordsRefusal → (A → Result B WordsRefusal)
+    → Result B WordsRefusal
 (Ok x) >>= next = next x
 (Err e) >>= next = Err e
 
+-- two words are the same
 abbrev pub same : List ℕ → List ℕ → Bool
 same = pointwise nat_eq
 
@@ -36,6 +43,7 @@ abbrev pub or_usage : {A : Type 0} → Option A → Result A WordsRefusal
 or_usage None = Err Usage
 or_usage (Some value) = Ok value
 
+-- what doesn't hold is refused
 abbrev pub demanded : Bool → Result (Unit {0}) WordsRefusal
 demanded holds = if holds then Ok tt else Err Usage
 
@@ -45,6 +53,7 @@ demanded holds = if holds then Ok tt else Err Usage
 abbrev pub within : List ℕ → Result (List ℕ) WordsRefusal
 within octets = if nat_lt 65536 (length octets) then Err Usage else Ok octets
 
+-- the same of ARG as it was read: what isn't hexadecimal is refused
 abbrev pub data_by : Result (List ℕ) FromHexError → Result (List ℕ) WordsRefusal
 data_by (Ok octets) = within octets
 data_by (Err refusal) = Err Usage
@@ -81,8 +90,10 @@ asked_in plain = do
 
 -- ---- the options
 
+-- the names of the options
 abbrev pub names : List (List ℕ)
-names = codes "--ccache" ∷ codes "--server" ∷ codes "--user" ∷ codes "--password" ∷ codes "--mechs" ∷ codes "--bind" ∷ codes "--service" ∷ codes "--times" ∷ codes "--first" ∷ []
+names = codes "--ccache" ∷ codes "--server" ∷ codes "--user" ∷ codes "--password" ∷ codes "--mechs"
+    ∷ codes "--bind" ∷ codes "--service" ∷ codes "--times" ∷ codes "--first" ∷ []
 
 -- a word that is no option stands first; the options are of these names, each once, with its value
 abbrev pub is_command : List (List ℕ) → Bool
@@ -96,16 +107,20 @@ number_given least most usual (Some text) = or_usage (number_in least most text)
 -- the application data of the bindings: 1 to 32,768 octets
 abbrev pub data_given : Option (List ℕ) → Result (Option (List ℕ)) WordsRefusal
 data_given None = Ok None
-data_given (Some text) = if nat_eq (length text) 0 || nat_lt 32768 (length text) then Err Usage else Ok (Some text)
+data_given (Some text) =
+    if nat_eq (length text) 0 || nat_lt 32768 (length text) then Err Usage else Ok (Some text)
 
+-- the server as its text was read, refused where it names no principal
 abbrev pub name_by : Result Name NameRefusal → Result (Option Name) WordsRefusal
 name_by (Ok name) = Ok (Some name)
 name_by (Err refusal) = Err Usage
 
+-- the server, where the option names one
 abbrev pub server_given : Option (List ℕ) → Result (Option Name) WordsRefusal
 server_given None = Ok None
 server_given (Some text) = name_by (parsed text)
 
+-- the service by its word
 abbrev pub service_by : List ℕ → Result Service WordsRefusal
 service_by text =
     if same text (codes "none") then Ok services.None
@@ -113,6 +128,7 @@ service_by text =
     else if same text (codes "privacy") then Ok services.Privacy
     else Err Usage
 
+-- the service by the option, or integrity without it
 abbrev pub service_given : Option (List ℕ) → Result Service WordsRefusal
 service_given None = Ok services.Integrity
 service_given (Some text) = service_by text
@@ -125,10 +141,19 @@ plan_of words = do
   service ← service_given (value_of (codes "--service") words)
   times ← number_given 1 1000 1 (value_of (codes "--times") words)
   first ← number_given 1 2147483647 1 (value_of (codes "--first") words)
-  Ok (record { procedure = asked.procedure; args = asked.args; bindings = bound; service = service; times = times; first = first })
+  Ok (record {
+    procedure = asked.procedure;
+    args = asked.args;
+    bindings = bound;
+    service =
+        service;
+    times = times;
+    first = first;
+  })
 
 -- ---- the mechanisms
 
+-- a list of mechanisms by its word, the preferred one first
 abbrev pub mechs_by : List ℕ → Result Mechs WordsRefusal
 mechs_by text =
     if same text (codes "krb5") then Ok mechs.Kerberos
@@ -144,6 +169,7 @@ are_equipped krb5 scram mechs.Scram = scram
 are_equipped krb5 scram mechs.KerberosScram = krb5 && scram
 are_equipped krb5 scram mechs.ScramKerberos = krb5 && scram
 
+-- each mechanism of a list that was read has its options, or the words are refused
 abbrev pub equipped : Bool → Bool → Result Mechs WordsRefusal → Result Mechs WordsRefusal
 equipped krb5 scram (Ok list) = if are_equipped krb5 scram list then Ok list else Err Usage
 equipped krb5 scram (Err refusal) = Err refusal
@@ -155,17 +181,21 @@ usual true false = Ok mechs.Kerberos
 usual false true = Ok mechs.Scram
 usual false false = Err Usage
 
+-- the mechanisms by the option, or the usual ones without it
 abbrev pub mechs_given : Bool → Bool → Option (List ℕ) → Result Mechs WordsRefusal
 mechs_given krb5 scram None = usual krb5 scram
 mechs_given krb5 scram (Some text) = equipped krb5 scram (mechs_by text)
 
--- Kerberos's two options are the credential cache and the server, SCRAM's the user and the password's file
+-- Kerberos's two options are the credential cache and the server, SCRAM's the user and the
+-- password's file
 abbrev pub is_given : List (List ℕ) → List ℕ → Bool
 is_given words name = is_some (value_of name words)
 
+-- both options of Kerberos are there
 abbrev pub has_krb5 : List (List ℕ) → Bool
 has_krb5 words = is_given words (codes "--ccache") && is_given words (codes "--server")
 
+-- both options of SCRAM are there
 abbrev pub has_scram : List (List ℕ) → Bool
 has_scram words = is_given words (codes "--user") && is_given words (codes "--password")
 

@@ -1,6 +1,7 @@
 //! The run of the client.
 
-ghost use Rattle.std.specs.Prelude.{◌≡◌, ◌≢◌, ◌≤◌, ◌⊎◌, [], List, false, true, IsTrue, IsOk, None, Ok, Err};
+ghost use Rattle.std.specs.Prelude.{◌≡◌, ◌≢◌, ◌≤◌, ◌⊎◌, [], List, false, true, IsTrue, IsOk, None};
+ghost use Rattle.std.specs.Prelude.{Ok, Err};
 ghost use Rattle.sec_base.specs.Answers.{Rose};
 ghost use Rattle.spnego_core.specs.InitMech.{is_own_list};
 ghost use Rattle.spnego_core.specs.declared.setup.MechCred.{MechCred};
@@ -8,7 +9,9 @@ ghost use Rattle.cli_base.specs.Lines.{SaysLine, Says};
 ghost use Rattle.client_command.specs.Credentials.{creds_from, is_unloaded, Asks};
 ghost use Rattle.client_command.specs.Endings.{end_of, is_begun, status_of, line_of};
 ghost use Rattle.client_command.specs.Lines.{lines};
-ghost use Rattle.client_command.specs.Runs.{text_or_none, server_text, names_in, names_of, procedure_of, start_of, Reports, Spoke, EndsSo, HasHeld, HasSpoken, IsSilent};
+ghost use Rattle.client_command.specs.Runs.{text_or_none, server_text, names_in, names_of};
+ghost use Rattle.client_command.specs.Runs.{procedure_of, start_of, Reports, Spoke, EndsSo};
+ghost use Rattle.client_command.specs.Runs.{HasHeld, HasSpoken, IsSilent};
 ghost use Rattle.client_command.specs.Words.{words_of, IsRanged};
 
 use crate::credential::creds_given;
@@ -45,7 +48,17 @@ fn start_of(
     stamp: Moment,
     draws: [u8; 66],
 ) -> Start
-    ensures { result ≡ record { setup = record { list = creds; bindings = bindings; stamp = stamp; draws = draws }; service = service; first = first } }
+    ensures { result ≡ record {
+      setup = record {
+        list = creds;
+        bindings = bindings;
+        stamp =
+            stamp;
+        draws = draws;
+      };
+      service = service;
+      first = first;
+    } }
 {
     let setup = InitSetup {
         list: creds,
@@ -74,9 +87,11 @@ fn speak<L: Link, C: Clock, D: Draw>(
     requires list { is_own_list creds ≡ true }
     requires range { IsRanged plan }
     ensures told { IsTrue (L.tells link.old)
-        → Spoke (C.tells clock.new) (C.given clock.old) (C.given clock.new) (D.tells draw.new) (D.given draw.old) (D.given draw.new) plan creds
-        (L.wire link.old) (L.wire link.new) result.outcome result.results.items (end_of result.parting) }
-    ensures fault { result.parting ≡ Parting.Refused ClientRefusal.LinkFault → Rose (L.faults link.old) (L.faults link.new) }
+        → Spoke (C.tells clock.new) (C.given clock.old) (C.given clock.new) (D.tells draw.new)
+        (D.given draw.old) (D.given draw.new) plan creds (L.wire link.old) (L.wire link.new)
+        result.outcome result.results.items (end_of result.parting) }
+    ensures fault { result.parting ≡ Parting.Refused ClientRefusal.LinkFault
+        → Rose (L.faults link.old) (L.faults link.new) }
     ensures tells { L.tells link.new ≡ L.tells link.old }
     ensures unclosed { L.closed link.new ≡ false }
     ensures faults { L.faults link.old ≤ L.faults link.new }
@@ -100,7 +115,8 @@ fn speak<L: Link, C: Clock, D: Draw>(
 fn unspoken<O: Sink>(alloc: Global, names: &Names<'_>, end: RunEnd, err: &mut O) -> ClientEnd
     ensures status { result.status ≢ 6 → result.status ≢ 8 → result.status ≡ status_of result.end }
     ensures sink_fault { result.status ≡ 6 → Rose (O.faults err.old) (O.faults err.new) }
-    ensures said { IsTrue (O.tells err.old) → Says (O.written err.old) (O.written err.new) result.status (line_of names.now end) }
+    ensures said { IsTrue (O.tells err.old)
+        → Says (O.written err.old) (O.written err.new) result.status (line_of names.now end) }
     ensures end { result.end ≡ end }
     ensures outcome { result.outcome ≡ None }
     ensures results { result.results.items ≡ [] }
@@ -124,10 +140,14 @@ fn report<O: Sink>(
     err: &mut O,
 ) -> ClientEnd
     ensures status { result.status ≢ 6 → result.status ≢ 8 → result.status ≡ status_of result.end }
-    ensures sink_fault { result.status ≡ 6 → Rose (O.faults out.old) (O.faults out.new) ⊎ Rose (O.faults err.old) (O.faults err.new) }
-    ensures printed { IsTrue (O.tells out.old) → SaysLine (O.written out.old) (O.written out.new) result.status (lines procedure result.outcome result.results.items) }
-    ensures said { IsTrue (O.tells err.old) → Says (O.written err.old) (O.written err.new) result.status (line_of names.now result.end) }
-    ensures kept { Reports talk.outcome talk.results.items talk.parting result.outcome result.results.items result.end }
+    ensures sink_fault { result.status ≡ 6
+        → Rose (O.faults out.old) (O.faults out.new) ⊎ Rose (O.faults err.old) (O.faults err.new) }
+    ensures printed { IsTrue (O.tells out.old) → SaysLine (O.written out.old) (O.written out.new)
+        result.status (lines procedure result.outcome result.results.items) }
+    ensures said { IsTrue (O.tells err.old) → Says (O.written err.old) (O.written err.new)
+        result.status (line_of names.now result.end) }
+    ensures kept { Reports talk.outcome talk.results.items talk.parting result.outcome
+        result.results.items result.end }
 {
     let Talk {
         outcome,
@@ -182,7 +202,8 @@ fn server_label(server: &Option<Principal>) -> Option<Label>
 
 /// What the words name; the label is the server's.
 fn names_in<'a>(sources: &'a Sources, label: &'a Option<Label>) -> Names<'a>
-    ensures { text_or_none label.now ≡ server_text sources.now.server → result ≡ names_in sources.now }
+    ensures { text_or_none label.now ≡ server_text sources.now.server
+        → result ≡ names_in sources.now }
 {
     Names {
         ccache: text_or_none(&sources.ccache),
@@ -205,27 +226,42 @@ fn run_with<F: Shelf, L: Link, C: Clock, D: Draw, O: Sink>(
     requires unclosed { L.closed link.old ≡ false }
     requires range { IsRanged words.plan }
     ensures status { result.status ≢ 6 → result.status ≢ 8 → result.status ≡ status_of result.end }
-    ensures sink_fault { result.status ≡ 6 → Rose (O.faults out.old) (O.faults out.new) ⊎ Rose (O.faults err.old) (O.faults err.new) }
-    ensures printed { IsTrue (O.tells out.old) → SaysLine (O.written out.old) (O.written out.new) result.status (lines words.plan.procedure result.outcome result.results.items) }
-    ensures said { IsTrue (O.tells err.old) → Says (O.written err.old) (O.written err.new) result.status (line_of (names_in words.sources) result.end) }
+    ensures sink_fault { result.status ≡ 6
+        → Rose (O.faults out.old) (O.faults out.new) ⊎ Rose (O.faults err.old) (O.faults err.new) }
+    ensures printed { IsTrue (O.tells out.old) → SaysLine (O.written out.old) (O.written out.new)
+        result.status (lines words.plan.procedure result.outcome result.results.items) }
+    ensures said { IsTrue (O.tells err.old) → Says (O.written err.old) (O.written err.new)
+        result.status (line_of (names_in words.sources) result.end) }
     ensures other { result.end ≢ RunEnd.Usage }
-    ensures load_fault { is_unloaded result.end ≡ true → Rose (F.faults shelf.old) (F.faults shelf.new) }
-    ensures asked { IsTrue (F.tells shelf.old) → Asks (F.asked shelf.old) (F.asked shelf.new) words.sources result.end }
-    ensures stops { IsTrue (F.tells shelf.old) → is_begun result.end ≡ false → is_unloaded result.end ≡ false → result.end ≢ RunEnd.NoMemory
+    ensures load_fault { is_unloaded result.end ≡ true
+        → Rose (F.faults shelf.old) (F.faults shelf.new) }
+    ensures asked { IsTrue (F.tells shelf.old)
+        → Asks (F.asked shelf.old) (F.asked shelf.new) words.sources result.end }
+    ensures stops { IsTrue (F.tells shelf.old) → is_begun result.end ≡ false
+        → is_unloaded result.end ≡ false → result.end ≢ RunEnd.NoMemory
         → creds_from (F.files shelf.old) words.sources ≡ Err result.end }
-    ensures found { IsTrue (F.tells shelf.old) → is_begun result.end ≡ true → IsOk (creds_from (F.files shelf.old) words.sources) }
-    ensures silent { is_begun result.end ≡ false → result.end ≢ RunEnd.NoMemory → IsSilent (L.wire link.old) (L.wire link.new) result.outcome result.results.items }
-    ensures spoke { is_begun result.end ≡ true → IsTrue (L.tells link.old)
-        → HasHeld words (F.tells shelf.old) (F.files shelf.old) (C.tells clock.new) (C.given clock.old) (C.given clock.new) (D.tells draw.new) (D.given draw.old) (D.given draw.new)
+    ensures found { IsTrue (F.tells shelf.old) → is_begun result.end ≡ true
+        → IsOk (creds_from (F.files shelf.old) words.sources) }
+    ensures silent { is_begun result.end ≡ false → result.end ≢ RunEnd.NoMemory
+        → IsSilent (L.wire link.old) (L.wire link.new) result.outcome result.results.items }
+    ensures spoke { is_begun result.end ≡ true → IsTrue (L.tells link.old) → HasHeld
+        words (F.tells shelf.old) (F.files shelf.old) (C.tells clock.new) (C.given clock.old)
+        (C.given clock.new) (D.tells draw.new) (D.given draw.old) (D.given draw.new)
         (L.wire link.old) (L.wire link.new) result.outcome result.results.items result.end }
     ensures wanting { result.end ≡ RunEnd.NoMemory → IsTrue (L.tells link.old)
-        → IsSilent (L.wire link.old) (L.wire link.new) result.outcome result.results.items
-        ⊎ HasHeld words (F.tells shelf.old) (F.files shelf.old) (C.tells clock.new) (C.given clock.old) (C.given clock.new) (D.tells draw.new) (D.given draw.old) (D.given draw.new)
+        → IsSilent (L.wire link.old) (L.wire link.new) result.outcome result.results.items ⊎ HasHeld
+        words (F.tells shelf.old) (F.files shelf.old) (C.tells clock.new) (C.given clock.old)
+        (C.given clock.new) (D.tells draw.new) (D.given draw.old) (D.given draw.new)
         (L.wire link.old) (L.wire link.new) result.outcome result.results.items result.end }
-    ensures ends { (creds : List MechCred) (parting : Parting) → IsTrue (F.tells shelf.old) → creds_from (F.files shelf.old) words.sources ≡ Ok creds → IsTrue (L.tells link.old)
-        → EndsSo (C.tells clock.new) (C.given clock.old) (C.given clock.new) (D.tells draw.new) (D.given draw.old) (D.given draw.new) words.plan creds (L.wire link.old) (L.wire link.new) parting
-        → (Rose (F.faults shelf.old) (F.faults shelf.new) → ⊥) → (Rose (L.faults link.old) (L.faults link.new) → ⊥) → result.end ≢ RunEnd.NoMemory → result.end ≡ end_of parting }
-    ensures link_fault { result.end ≡ RunEnd.LinkFault → Rose (L.faults link.old) (L.faults link.new) }
+    ensures ends { (creds : List MechCred) (parting : Parting) → IsTrue (F.tells shelf.old)
+        → creds_from (F.files shelf.old) words.sources ≡ Ok creds → IsTrue (L.tells link.old)
+        → EndsSo (C.tells clock.new) (C.given clock.old) (C.given clock.new)
+        (D.tells draw.new) (D.given draw.old) (D.given draw.new) words.plan creds (L.wire link.old)
+        (L.wire link.new) parting → (Rose (F.faults shelf.old) (F.faults shelf.new) → ⊥)
+        → (Rose (L.faults link.old) (L.faults link.new) → ⊥) → result.end ≢ RunEnd.NoMemory
+        → result.end ≡ end_of parting }
+    ensures link_fault { result.end ≡ RunEnd.LinkFault
+        → Rose (L.faults link.old) (L.faults link.new) }
     ensures tells { L.tells link.new ≡ L.tells link.old }
     ensures unclosed { L.closed link.new ≡ false }
     ensures faults { L.faults link.old ≤ L.faults link.new }
@@ -267,45 +303,64 @@ pub fn run_client<F: Shelf, L: Link, C: Clock, D: Draw, O: Sink>(
     requires unclosed { L.closed link.old ≡ false }
     // The status and the line on `err`: those of the end, unless there was no memory for the line, or a sink failed.
     ensures status { result.status ≢ 6 → result.status ≢ 8 → result.status ≡ status_of result.end }
-    ensures sink_fault { result.status ≡ 6 → Rose (O.faults out.old) (O.faults out.new) ⊎ Rose (O.faults err.old) (O.faults err.new) }
-    ensures said { IsTrue (O.tells err.old) → Says (O.written err.old) (O.written err.new) result.status (line_of (names_of (words_of words.now)) result.end) }
+    ensures sink_fault { result.status ≡ 6
+        → Rose (O.faults out.old) (O.faults out.new) ⊎ Rose (O.faults err.old) (O.faults err.new) }
+    ensures said { IsTrue (O.tells err.old) → Says (O.written err.old) (O.written err.new)
+        result.status (line_of (names_of (words_of words.now)) result.end) }
     // What is printed on `out`: the lines of the outcome and the results that are returned.
     ensures printed { IsTrue (O.tells out.old)
-        → SaysLine (O.written out.old) (O.written out.new) result.status (lines (procedure_of (words_of words.now)) result.outcome result.results.items) }
+        → SaysLine (O.written out.old) (O.written out.new) result.status
+        (lines (procedure_of (words_of words.now)) result.outcome result.results.items) }
     // The words are refused exactly where they aren't in the command, want of memory aside.
     ensures usage { result.end ≡ RunEnd.Usage → words_of words.now ≡ Err WordsRefusal.Usage }
-    ensures always_usage { words_of words.now ≡ Err WordsRefusal.Usage → result.end ≢ RunEnd.NoMemory → result.end ≡ RunEnd.Usage }
-    ensures unloaded { words_of words.now ≡ Err WordsRefusal.Usage → F.asked shelf.new ≡ F.asked shelf.old }
+    ensures always_usage { words_of words.now ≡ Err WordsRefusal.Usage
+        → result.end ≢ RunEnd.NoMemory → result.end ≡ RunEnd.Usage }
+    ensures unloaded { words_of words.now ≡ Err WordsRefusal.Usage
+        → F.asked shelf.new ≡ F.asked shelf.old }
     // Words in the command: their files are loaded, each once, and the run ends without a session exactly where a file can't be used or has no
     // credential for their server.
-    ensures asked { (asked : ClientWords) → words_of words.now ≡ Ok asked → IsTrue (F.tells shelf.old)
+    ensures asked { (asked : ClientWords)
+        → words_of words.now ≡ Ok asked → IsTrue (F.tells shelf.old)
         → Asks (F.asked shelf.old) (F.asked shelf.new) asked.sources result.end }
-    ensures load_fault { is_unloaded result.end ≡ true → Rose (F.faults shelf.old) (F.faults shelf.new) }
-    ensures stops { (asked : ClientWords) → words_of words.now ≡ Ok asked → IsTrue (F.tells shelf.old) → is_begun result.end ≡ false
-        → is_unloaded result.end ≡ false → result.end ≢ RunEnd.NoMemory → creds_from (F.files shelf.old) asked.sources ≡ Err result.end }
-    ensures always_stops { (asked : ClientWords) (end : RunEnd) → words_of words.now ≡ Ok asked → IsTrue (F.tells shelf.old)
-        → creds_from (F.files shelf.old) asked.sources ≡ Err end
-        → (Rose (F.faults shelf.old) (F.faults shelf.new) → ⊥) → result.end ≢ RunEnd.NoMemory → result.end ≡ end }
+    ensures load_fault { is_unloaded result.end ≡ true
+        → Rose (F.faults shelf.old) (F.faults shelf.new) }
+    ensures stops { (asked : ClientWords)
+        → words_of words.now ≡ Ok asked → IsTrue (F.tells shelf.old) → is_begun result.end ≡ false
+        → is_unloaded result.end ≡ false → result.end ≢ RunEnd.NoMemory
+        → creds_from (F.files shelf.old) asked.sources ≡ Err result.end }
+    ensures always_stops { (asked : ClientWords) (end : RunEnd) → words_of words.now ≡ Ok asked
+        → IsTrue (F.tells shelf.old) → creds_from (F.files shelf.old) asked.sources ≡ Err end
+        → (Rose (F.faults shelf.old) (F.faults shelf.new) → ⊥) → result.end ≢ RunEnd.NoMemory
+        → result.end ≡ end }
     // Without a session nothing is written on the link.
-    ensures silent { is_begun result.end ≡ false → result.end ≢ RunEnd.NoMemory → IsSilent (L.wire link.old) (L.wire link.new) result.outcome result.results.items }
+    ensures silent { is_begun result.end ≡ false → result.end ≢ RunEnd.NoMemory
+        → IsSilent (L.wire link.old) (L.wire link.new) result.outcome result.results.items }
     // With one, what is written, the outcome, the results and the end are those of its talk.
-    ensures spoke { is_begun result.end ≡ true → IsTrue (L.tells link.old)
-        → HasSpoken words.now (F.tells shelf.old) (F.files shelf.old) (C.tells clock.new) (C.given clock.old) (C.given clock.new) (D.tells draw.new) (D.given draw.old) (D.given draw.new)
+    ensures spoke { is_begun result.end ≡ true → IsTrue (L.tells link.old) → HasSpoken
+        words.now (F.tells shelf.old) (F.files shelf.old) (C.tells clock.new) (C.given clock.old)
+        (C.given clock.new) (D.tells draw.new) (D.given draw.old) (D.given draw.new)
         (L.wire link.old) (L.wire link.new) result.outcome result.results.items result.end }
     ensures wanting { result.end ≡ RunEnd.NoMemory → IsTrue (L.tells link.old)
         → IsSilent (L.wire link.old) (L.wire link.new) result.outcome result.results.items
-        ⊎ HasSpoken words.now (F.tells shelf.old) (F.files shelf.old) (C.tells clock.new) (C.given clock.old) (C.given clock.new) (D.tells draw.new) (D.given draw.old) (D.given draw.new)
+        ⊎ HasSpoken words.now (F.tells shelf.old) (F.files shelf.old) (C.tells clock.new) (C.given
+        clock.old) (C.given clock.new) (D.tells draw.new) (D.given draw.old) (D.given draw.new)
         (L.wire link.old) (L.wire link.new) result.outcome result.results.items result.end }
-    ensures link_fault { result.end ≡ RunEnd.LinkFault → Rose (L.faults link.old) (L.faults link.new) }
+    ensures link_fault { result.end ≡ RunEnd.LinkFault
+        → Rose (L.faults link.old) (L.faults link.new) }
     // With the credentials, and no count that rose, a session is held, and the run ends as its talk does, want of memory aside.
-    ensures complete { (asked : ClientWords) (creds : List MechCred) → words_of words.now ≡ Ok asked → IsTrue (F.tells shelf.old)
-        → creds_from (F.files shelf.old) asked.sources ≡ Ok creds
-        → (Rose (F.faults shelf.old) (F.faults shelf.new) → ⊥) → (Rose (L.faults link.old) (L.faults link.new) → ⊥)
-        → result.end ≢ RunEnd.NoMemory → (is_begun result.end ≡ true) × (result.end ≢ RunEnd.LinkFault) }
-    ensures ends { (asked : ClientWords) (creds : List MechCred) (parting : Parting) → words_of words.now ≡ Ok asked → IsTrue (F.tells shelf.old)
+    ensures complete { (asked : ClientWords) (creds : List MechCred) → words_of words.now ≡ Ok asked
+        → IsTrue (F.tells shelf.old) → creds_from (F.files shelf.old) asked.sources ≡ Ok creds
+        → (Rose (F.faults shelf.old) (F.faults shelf.new) → ⊥)
+        → (Rose (L.faults link.old) (L.faults link.new) → ⊥) → result.end ≢ RunEnd.NoMemory
+        → (is_begun result.end ≡ true) × (result.end ≢ RunEnd.LinkFault) }
+    ensures ends { (asked : ClientWords) (creds : List MechCred) (parting : Parting)
+        → words_of words.now ≡ Ok asked → IsTrue (F.tells shelf.old)
         → creds_from (F.files shelf.old) asked.sources ≡ Ok creds → IsTrue (L.tells link.old)
-        → EndsSo (C.tells clock.new) (C.given clock.old) (C.given clock.new) (D.tells draw.new) (D.given draw.old) (D.given draw.new) asked.plan creds (L.wire link.old) (L.wire link.new) parting
-        → (Rose (F.faults shelf.old) (F.faults shelf.new) → ⊥) → (Rose (L.faults link.old) (L.faults link.new) → ⊥) → result.end ≢ RunEnd.NoMemory → result.end ≡ end_of parting }
+        → EndsSo (C.tells clock.new) (C.given clock.old) (C.given clock.new)
+        (D.tells draw.new) (D.given draw.old) (D.given draw.new) asked.plan creds (L.wire link.old)
+        (L.wire link.new) parting → (Rose (F.faults shelf.old) (F.faults shelf.new) → ⊥)
+        → (Rose (L.faults link.old) (L.faults link.new) → ⊥) → result.end ≢ RunEnd.NoMemory
+        → result.end ≡ end_of parting }
     ensures tells { L.tells link.new ≡ L.tells link.old }
     ensures unclosed { L.closed link.new ≡ false }
     ensures faults { L.faults link.old ≤ L.faults link.new }

@@ -4,7 +4,8 @@ ghost use Rattle.std.specs.Prelude.{◌≡◌, ◌≢◌, ◌∷◌, [], IsTrue,
 ghost use Rattle.sec_base.specs.Answers.{Gives, Rose};
 ghost use Rattle.gss_base.specs.declared.mech.MechKind.TheVariants as kinds;
 ghost use Rattle.spnego_core.specs.InitMech.{kind_of, is_own_list};
-ghost use Rattle.client_command.specs.Credentials.{ticket_for, login_of, creds_with, creds_from, is_unloaded, Finds, AsksFor};
+ghost use Rattle.client_command.specs.Credentials.{ticket_for, login_of, creds_with, creds_from};
+ghost use Rattle.client_command.specs.Credentials.{is_unloaded, Finds, AsksFor};
 ghost use Rattle.client_command.specs.Endings.{is_begun};
 
 use crate::ending::RunEnd;
@@ -46,7 +47,8 @@ fn copy_credential(alloc: Global, credential: &Credential) -> Result<Credential,
 
 /// Kerberos's credential for this server in a cache.
 fn ticket_in(alloc: Global, cache: &Ccache, server: &Principal) -> Result<MechCred, RunEnd>
-    ensures value { Gives RunEnd.NoMemory (λ c. c) result (ticket_for (Some cache.now) (Some server.now)) }
+    ensures value { Gives RunEnd.NoMemory (λ c. c) result
+        (ticket_for (Some cache.now) (Some server.now)) }
     ensures kind { IfOk result (λ c. kind_of c ≡ kinds.Kerberos) }
     ensures stop { IfErr result (λ end. end ≢ RunEnd.NoMemory → end ≡ RunEnd.NoCredential) }
 {
@@ -139,7 +141,8 @@ fn creds_with(
     cache: &Option<Ccache>,
     password: &Option<Text>,
 ) -> Result<Items<MechCred>, RunEnd>
-    ensures value { Gives RunEnd.NoMemory (λ list. list) result (creds_with sources.now cache.now password.now) }
+    ensures value { Gives RunEnd.NoMemory (λ list. list) result
+        (creds_with sources.now cache.now password.now) }
     ensures own { IfOk result (λ list. is_own_list list ≡ true) }
     ensures stop { IfErr result (λ end. end ≢ RunEnd.NoMemory → end ≡ RunEnd.NoCredential) }
 {
@@ -165,9 +168,12 @@ pub fn creds_given<F: Shelf>(
     shelf: &mut F,
     sources: &Sources,
 ) -> Result<Items<MechCred>, RunEnd>
-    ensures found { IsTrue (F.tells shelf.old) → Finds (creds_from (F.files shelf.old) sources.now) result }
-    ensures asked { IsTrue (F.tells shelf.old) → AsksFor (F.asked shelf.old) (F.asked shelf.new) sources.now result }
-    ensures fault { IfErr result (λ end. is_unloaded end ≡ true → Rose (F.faults shelf.old) (F.faults shelf.new)) }
+    ensures found { IsTrue (F.tells shelf.old)
+        → Finds (creds_from (F.files shelf.old) sources.now) result }
+    ensures asked { IsTrue (F.tells shelf.old)
+        → AsksFor (F.asked shelf.old) (F.asked shelf.new) sources.now result }
+    ensures fault { IfErr result
+        (λ end. is_unloaded end ≡ true → Rose (F.faults shelf.old) (F.faults shelf.new)) }
     ensures own { IfOk result (λ list. is_own_list list ≡ true) }
     ensures unbegun { IfErr result (λ end. is_begun end ≡ false) }
     ensures other { IfErr result (λ end. end ≢ RunEnd.Usage) }

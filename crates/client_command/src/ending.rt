@@ -3,14 +3,13 @@
 ghost use Rattle.std.specs.Prelude.{◌≡◌, ◌≢◌, [], IsTrue};
 ghost use Rattle.sec_base.specs.Answers.{Rose};
 ghost use Rattle.cli_base.specs.Lines.{Says};
-ghost use Rattle.client_command.specs.Endings.{end_of, end_of_refusal, status_of, ap_number, scram_number, neg_number, denial_line, name_in, line_of};
+ghost use Rattle.client_command.specs.Endings.{end_of, end_of_refusal, status_of, denial_line};
+ghost use Rattle.client_command.specs.Endings.{name_in, line_of};
 
-use ap_exchange::ApRefusal;
 use cli_base::{FileStop, OUT_OF_MEMORY, say, say_made, say_stop};
 use gss_client::{ClientRefusal, Denial, Parting, ReplyWhy};
-use scram_mech::ScramRefusal;
 use sec_base::Sink;
-use spnego_core::{MechRefusal, NegRefusal};
+use spnego_core::NegRefusal;
 use std::alloc::Global;
 use std::marker::Model;
 
@@ -83,76 +82,12 @@ pub fn end_of(parting: Parting) -> RunEnd
     }
 }
 
-/// The number of a refusal of Kerberos's exchange.
-fn ap_number(refusal: ApRefusal) -> u32
-    ensures { result ≡ ap_number refusal }
-{
-    match refusal {
-        ApRefusal::Der {
-            part: _,
-            at: _,
-            why: _,
-        } => 101,
-        ApRefusal::Kind => 102,
-        ApRefusal::NotMutual => 103,
-        ApRefusal::TicketNames => 104,
-        ApRefusal::NoKey => 105,
-        ApRefusal::TicketClosed => 106,
-        ApRefusal::KeyType => 107,
-        ApRefusal::AuthClosed => 108,
-        ApRefusal::NameMatch => 109,
-        ApRefusal::ChecksumType => 110,
-        ApRefusal::Bindings => 111,
-        ApRefusal::Skew => 112,
-        ApRefusal::NotYet => 113,
-        ApRefusal::Expired => 114,
-        ApRefusal::ReplyClosed => 115,
-        ApRefusal::ReplyStamp => 116,
-        ApRefusal::PeerError { code: _ } => 117,
-        ApRefusal::NoMemory => 0,
-    }
-}
-
-/// The number of a refusal of SCRAM's exchange.
-fn scram_number(refusal: ScramRefusal) -> u32
-    ensures { result ≡ scram_number refusal }
-{
-    match refusal {
-        ScramRefusal::Text { at: _ } => 201,
-        ScramRefusal::Mandatory => 202,
-        ScramRefusal::Nonce => 203,
-        ScramRefusal::Rounds => 204,
-        ScramRefusal::NoUser => 205,
-        ScramRefusal::Bindings => 206,
-        ScramRefusal::Proof => 207,
-        ScramRefusal::Signature => 208,
-        ScramRefusal::PeerError => 209,
-        ScramRefusal::NoMemory => 0,
-    }
-}
-
-/// The number of a negotiating end's refusal.
-fn neg_number(refusal: NegRefusal) -> u32
-    ensures { result ≡ neg_number refusal }
-{
-    match refusal {
-        NegRefusal::Defective { at: _ } => 1,
-        NegRefusal::Rejected => 2,
-        NegRefusal::MechNotMine => 3,
-        NegRefusal::NoCommonMech => 4,
-        NegRefusal::MicMissing => 5,
-        NegRefusal::MicBad => 6,
-        NegRefusal::Mech(MechRefusal::Ap(refusal)) => ap_number(refusal),
-        NegRefusal::Mech(MechRefusal::Scram(refusal)) => scram_number(refusal),
-        NegRefusal::NoMemory => 0,
-    }
-}
-
 /// Says what the server denied.
 fn say_denied<O: Sink>(alloc: Global, err: &mut O, denial: Denial) -> u8
     ensures status { result ≢ 6 → result ≢ 8 → result ≡ 10 }
     ensures fault { result ≡ 6 → Rose (O.faults err.old) (O.faults err.new) }
-    ensures said { IsTrue (O.tells err.old) → Says (O.written err.old) (O.written err.new) result (denial_line denial) }
+    ensures said { IsTrue (O.tells err.old)
+        → Says (O.written err.old) (O.written err.new) result (denial_line denial) }
 {
     match denial {
         Denial::Rpc { low, high } => {
@@ -170,9 +105,11 @@ fn say_denied<O: Sink>(alloc: Global, err: &mut O, denial: Denial) -> u8
 fn say_negotiation<O: Sink>(alloc: Global, err: &mut O, refusal: NegRefusal) -> u8
     ensures status { result ≢ 6 → result ≢ 8 → result ≡ 11 }
     ensures fault { result ≡ 6 → Rose (O.faults err.old) (O.faults err.new) }
-    ensures said { IsTrue (O.tells err.old) → Says (O.written err.old) (O.written err.new) result (line_of (record { ccache = []; password = []; server = [] }) (RunEnd.Negotiation refusal)) }
+    ensures said { IsTrue (O.tells err.old)
+        → Says (O.written err.old) (O.written err.new) result (line_of
+        (record { ccache = []; password = []; server = [] }) (RunEnd.Negotiation refusal)) }
 {
-    let number = neg_number(refusal);
+    let number = refusal.number();
     say_made(err, 11, format!(in alloc; "negotiation: {number}\n"))
 }
 
@@ -180,7 +117,8 @@ fn say_negotiation<O: Sink>(alloc: Global, err: &mut O, refusal: NegRefusal) -> 
 fn say_uncredited<O: Sink>(alloc: Global, err: &mut O, server: &str) -> u8
     ensures status { result ≢ 6 → result ≢ 8 → result ≡ 4 }
     ensures fault { result ≡ 6 → Rose (O.faults err.old) (O.faults err.new) }
-    ensures said { IsTrue (O.tells err.old) → Says (O.written err.old) (O.written err.new) result (line_of (record { ccache = []; password = []; server = server.now }) RunEnd.NoCredential) }
+    ensures said { IsTrue (O.tells err.old) → Says (O.written err.old) (O.written err.new) result
+        (line_of (record { ccache = []; password = []; server = server.now }) RunEnd.NoCredential) }
 {
     say_made(err, 4, format!(in alloc; "no credential for {server}\n"))
 }
@@ -198,7 +136,8 @@ impl<'a> Model for Names<'a> {
 
     ghost Value = { Named };
 
-    ghost view = { λ n. record { ccache = n.ccache.now; password = n.password.now; server = n.server.now } };
+    ghost view = { λ n.
+        record { ccache = n.ccache.now; password = n.password.now; server = n.server.now } };
 }
 
 impl<'a> Names<'a> {
@@ -217,7 +156,8 @@ impl<'a> Names<'a> {
 pub fn say_end<O: Sink>(alloc: Global, err: &mut O, names: &Names<'_>, end: RunEnd) -> u8
     ensures status { result ≢ 6 → result ≢ 8 → result ≡ status_of end }
     ensures fault { result ≡ 6 → Rose (O.faults err.old) (O.faults err.new) }
-    ensures said { IsTrue (O.tells err.old) → Says (O.written err.old) (O.written err.new) result (line_of names.now end) }
+    ensures said { IsTrue (O.tells err.old)
+        → Says (O.written err.old) (O.written err.new) result (line_of names.now end) }
 {
     match end {
         RunEnd::Usage => say(err, 2, USAGE),

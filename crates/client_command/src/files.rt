@@ -4,7 +4,10 @@ ghost use Rattle.std.specs.Prelude.{◌≡◌, ◌≤◌, IsTrue, IfErr, Some, t
 ghost use Rattle.sec_base.specs.Answers.{Gives, Rose};
 ghost use Rattle.krb_files.specs.Ccache.{ccache_of};
 ghost use Rattle.cli_base.specs.Files.{file_in};
-ghost use Rattle.client_command.specs.Credentials.{end_by, cache_by, cache_in, cache_from, less_feed, password_by, password_in, password_from, is_unloaded, Finds, IsStopOf, AsksOne};
+ghost use Rattle.client_command.specs.Credentials.{end_by, cache_by, cache_in, cache_from};
+ghost use Rattle.client_command.specs.Credentials.{less_feed, password_by, password_in};
+ghost use Rattle.client_command.specs.Credentials.{password_from, is_unloaded, Finds, IsStopOf};
+ghost use Rattle.client_command.specs.Credentials.{AsksOne};
 
 use crate::ending::{RunEnd, WordFile};
 use cli_base::{FileStop, load, stop_of};
@@ -38,9 +41,12 @@ fn cache_by(alloc: Global, octets: &[u8]) -> Result<Ccache, RunEnd>
 
 /// The cache in the file of this name.
 fn cache_in<F: Shelf>(alloc: Global, shelf: &mut F, name: &str) -> Result<Ccache, RunEnd>
-    ensures found { IsTrue (F.tells shelf.old) → Finds (cache_in (file_in (F.files shelf.old) name.now)) result }
-    ensures asked { IsTrue (F.tells shelf.old) → AsksOne (F.asked shelf.old) (F.asked shelf.new) (Some name.now) result }
-    ensures fault { IfErr result (λ end. is_unloaded end ≡ true → Rose (F.faults shelf.old) (F.faults shelf.new)) }
+    ensures found { IsTrue (F.tells shelf.old)
+        → Finds (cache_in (file_in (F.files shelf.old) name.now)) result }
+    ensures asked { IsTrue (F.tells shelf.old)
+        → AsksOne (F.asked shelf.old) (F.asked shelf.new) (Some name.now) result }
+    ensures fault { IfErr result
+        (λ end. is_unloaded end ≡ true → Rose (F.faults shelf.old) (F.faults shelf.new)) }
     ensures stop { IfErr result (IsStopOf WordFile.Ccache) }
     ensures files { F.files shelf.new ≡ F.files shelf.old }
     ensures tells { F.tells shelf.new ≡ F.tells shelf.old }
@@ -58,9 +64,12 @@ pub fn cache_given<F: Shelf>(
     shelf: &mut F,
     name: &Option<Text>,
 ) -> Result<Option<Ccache>, RunEnd>
-    ensures found { IsTrue (F.tells shelf.old) → Finds (cache_from (F.files shelf.old) name.now) result }
-    ensures asked { IsTrue (F.tells shelf.old) → AsksOne (F.asked shelf.old) (F.asked shelf.new) name.now result }
-    ensures fault { IfErr result (λ end. is_unloaded end ≡ true → Rose (F.faults shelf.old) (F.faults shelf.new)) }
+    ensures found { IsTrue (F.tells shelf.old)
+        → Finds (cache_from (F.files shelf.old) name.now) result }
+    ensures asked { IsTrue (F.tells shelf.old)
+        → AsksOne (F.asked shelf.old) (F.asked shelf.new) name.now result }
+    ensures fault { IfErr result
+        (λ end. is_unloaded end ≡ true → Rose (F.faults shelf.old) (F.faults shelf.new)) }
     ensures stop { IfErr result (IsStopOf WordFile.Ccache) }
     ensures files { F.files shelf.new ≡ F.files shelf.old }
     ensures tells { F.tells shelf.new ≡ F.tells shelf.old }
@@ -105,9 +114,12 @@ fn password_by(alloc: Global, octets: &[u8]) -> Result<Text, RunEnd>
 
 /// The password in the file of this name.
 fn password_in<F: Shelf>(alloc: Global, shelf: &mut F, name: &str) -> Result<Text, RunEnd>
-    ensures found { IsTrue (F.tells shelf.old) → Finds (password_in (file_in (F.files shelf.old) name.now)) result }
-    ensures asked { IsTrue (F.tells shelf.old) → AsksOne (F.asked shelf.old) (F.asked shelf.new) (Some name.now) result }
-    ensures fault { IfErr result (λ end. is_unloaded end ≡ true → Rose (F.faults shelf.old) (F.faults shelf.new)) }
+    ensures found { IsTrue (F.tells shelf.old)
+        → Finds (password_in (file_in (F.files shelf.old) name.now)) result }
+    ensures asked { IsTrue (F.tells shelf.old)
+        → AsksOne (F.asked shelf.old) (F.asked shelf.new) (Some name.now) result }
+    ensures fault { IfErr result
+        (λ end. is_unloaded end ≡ true → Rose (F.faults shelf.old) (F.faults shelf.new)) }
     ensures stop { IfErr result (IsStopOf WordFile.Password) }
     ensures files { F.files shelf.new ≡ F.files shelf.old }
     ensures faults { F.faults shelf.old ≤ F.faults shelf.new }
@@ -124,9 +136,12 @@ pub fn password_given<F: Shelf>(
     shelf: &mut F,
     name: &Option<Text>,
 ) -> Result<Option<Text>, RunEnd>
-    ensures found { IsTrue (F.tells shelf.old) → Finds (password_from (F.files shelf.old) name.now) result }
-    ensures asked { IsTrue (F.tells shelf.old) → AsksOne (F.asked shelf.old) (F.asked shelf.new) name.now result }
-    ensures fault { IfErr result (λ end. is_unloaded end ≡ true → Rose (F.faults shelf.old) (F.faults shelf.new)) }
+    ensures found { IsTrue (F.tells shelf.old)
+        → Finds (password_from (F.files shelf.old) name.now) result }
+    ensures asked { IsTrue (F.tells shelf.old)
+        → AsksOne (F.asked shelf.old) (F.asked shelf.new) name.now result }
+    ensures fault { IfErr result
+        (λ end. is_unloaded end ≡ true → Rose (F.faults shelf.old) (F.faults shelf.new)) }
     ensures stop { IfErr result (IsStopOf WordFile.Password) }
     ensures files { F.files shelf.new ≡ F.files shelf.old }
     ensures faults { F.faults shelf.old ≤ F.faults shelf.new }

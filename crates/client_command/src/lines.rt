@@ -3,7 +3,8 @@
 ghost use Rattle.std.specs.Prelude.{◌≡◌, ◌++◌, IfOk, OnOk};
 ghost use Rattle.rpc_msgs.specs.Xdr.{whole, word_at};
 ghost use Rattle.gss_client.specs.Procedure.{opaque_alone};
-ghost use Rattle.client_command.specs.Lines.{mech_word, name_word, outcome_line, context_line, hex_line, text_line, number_line, result_line, lines};
+ghost use Rattle.client_command.specs.Lines.{mech_word, name_word, outcome_line, context_line};
+ghost use Rattle.client_command.specs.Lines.{hex_line, text_line, number_line, result_line, lines};
 
 use gss_base::MechKind;
 use gss_client::{Procedure, opaque_alone};
@@ -59,7 +60,8 @@ fn push_context(alloc: Global, out: &mut Vec<u8>, outcome: &Option<Outcome>) -> 
 
 /// Adds the line of an echo.
 fn push_echo(alloc: Global, out: &mut Vec<u8>, octets: &[u8]) -> Result<(), NoMemory>
-    ensures { OnOk result (out.new.items ≡ out.old.items ++ hex_line (opaque_alone 65536 octets.now)) }
+    ensures { OnOk result
+        (out.new.items ≡ out.old.items ++ hex_line (opaque_alone 65536 octets.now)) }
 {
     if let Ok(echo) = opaque_alone(MOST_ECHO, octets) {
         let line = hex::encode(alloc, echo)?;
@@ -71,7 +73,8 @@ fn push_echo(alloc: Global, out: &mut Vec<u8>, octets: &[u8]) -> Result<(), NoMe
 
 /// Adds the line of a name.
 fn push_name(out: &mut Vec<u8>, octets: &[u8]) -> Result<(), NoMemory>
-    ensures { OnOk result (out.new.items ≡ out.old.items ++ text_line (opaque_alone 1024 octets.now)) }
+    ensures { OnOk result
+        (out.new.items ≡ out.old.items ++ text_line (opaque_alone 1024 octets.now)) }
 {
     if let Ok(name) = opaque_alone(MOST_NAME, octets) {
         out.extend_from_slice(name)?;
@@ -82,7 +85,8 @@ fn push_name(out: &mut Vec<u8>, octets: &[u8]) -> Result<(), NoMemory>
 
 /// Adds the line of a number.
 fn push_number(alloc: Global, out: &mut Vec<u8>, octets: &[u8]) -> Result<(), NoMemory>
-    ensures { OnOk result (out.new.items ≡ out.old.items ++ number_line (word_at (whole octets.now))) }
+    ensures { OnOk result
+        (out.new.items ≡ out.old.items ++ number_line (word_at (whole octets.now))) }
 {
     let mut reader = XdrReader::new(octets);
     if let Ok(number) = reader.word() {

@@ -7,7 +7,12 @@ ghost use Rattle.gss_base.specs.Signs.{parsed};
 ghost use Rattle.hex.specs.Hex.{decode_of};
 ghost use Rattle.rpc_msgs.specs.Words.{opaque};
 ghost use Rattle.cli_base.specs.Words.{value_of, first_word, plain_of};
-ghost use Rattle.client_command.specs.Words.{is_command, demanded, or_usage, bare, with_data, data_by, asked_by, asked_in, number_given, data_given, name_by, server_given, mechs_by, are_equipped, equipped, usual, mechs_given, is_given, has_krb5, has_scram, sources_of, service_by, service_given, plan_of, words_of, IsRanged};
+ghost use Rattle.client_command.specs.Words.{is_command, demanded, or_usage, bare, with_data};
+ghost use Rattle.client_command.specs.Words.{data_by, asked_by, asked_in, number_given, data_given};
+ghost use Rattle.client_command.specs.Words.{name_by, server_given, mechs_by, are_equipped};
+ghost use Rattle.client_command.specs.Words.{equipped, usual, mechs_given, is_given, has_krb5};
+ghost use Rattle.client_command.specs.Words.{has_scram, sources_of, service_by, service_given};
+ghost use Rattle.client_command.specs.Words.{plan_of, words_of, IsRanged};
 
 use cli_base::{are_words, count_plain, first_word, number_in, plain, value_of};
 use gss_base::{Bindings, NameRefusal, Principal};
@@ -24,7 +29,7 @@ const MOST_DATA: usize = 65_536;
 const MOST_BOUND: usize = 32_768;
 
 /// What is called, how often, and how the calls are protected.
-#[derive(Debug, Drop)]
+#[derive(Drop)]
 pub struct Plan {
     pub procedure: Procedure,
     /// The arguments, in XDR.
@@ -61,7 +66,7 @@ pub struct Sources {
 }
 
 /// What the words of the client ask for.
-#[derive(Debug, Drop)]
+#[derive(Drop)]
 pub struct ClientWords {
     pub sources: Sources,
     pub plan: Plan,
@@ -94,7 +99,7 @@ impl From<NoMemory> for WordsRefusal {
 }
 
 /// What is called, and the arguments in XDR.
-#[derive(Debug, Drop)]
+#[derive(Drop)]
 struct Asked {
     procedure: Procedure,
     args: Octets,
@@ -163,7 +168,8 @@ fn argument(alloc: Global, octets: &[u8]) -> Result<Octets, NoMemory>
 /// What a command without an argument asks for.
 #[tactic(auto, unfolding(crate::specs::Words::bare))]
 fn bare(alloc: Global, words: &[Text], procedure: Procedure) -> Result<Asked, WordsRefusal>
-    ensures value { Gives WordsRefusal.NoMemory (λ a. a) result (bare (plain_of words.now) procedure) }
+    ensures value { Gives WordsRefusal.NoMemory (λ a. a) result
+        (bare (plain_of words.now) procedure) }
     ensures size { IfOk result (λ a. length a.args ≤ 65540) }
 {
     demand(count_plain(words) == 2)?;
@@ -176,7 +182,8 @@ fn bare(alloc: Global, words: &[Text], procedure: Procedure) -> Result<Asked, Wo
 /// What a command with an argument asks for.
 #[tactic(auto, unfolding(crate::specs::Words::with_data))]
 fn with_data(alloc: Global, words: &[Text], procedure: Procedure) -> Result<Asked, WordsRefusal>
-    ensures value { Gives WordsRefusal.NoMemory (λ a. a) result (with_data (plain_of words.now) procedure) }
+    ensures value { Gives WordsRefusal.NoMemory (λ a. a) result
+        (with_data (plain_of words.now) procedure) }
     ensures size { IfOk result (λ a. length a.args ≤ 65540) }
 {
     demand(count_plain(words) == 3)?;
@@ -192,7 +199,8 @@ fn with_data(alloc: Global, words: &[Text], procedure: Procedure) -> Result<Aske
 
 /// What this command asks for.
 fn asked_by(alloc: Global, words: &[Text], command: &str) -> Result<Asked, WordsRefusal>
-    ensures value { Gives WordsRefusal.NoMemory (λ a. a) result (asked_by (plain_of words.now) command.now) }
+    ensures value { Gives WordsRefusal.NoMemory (λ a. a) result
+        (asked_by (plain_of words.now) command.now) }
     ensures size { IfOk result (λ a. length a.args ≤ 65540) }
 {
     if command == "null" {
@@ -273,7 +281,8 @@ fn server_of(alloc: Global, text: &str) -> Result<Option<Principal>, WordsRefusa
 
 /// The server that the words name.
 fn server_given(alloc: Global, words: &[Text]) -> Result<Option<Principal>, WordsRefusal>
-    ensures { Gives WordsRefusal.NoMemory (λ name. name) result (server_given (value_of (codes "--server") words.now)) }
+    ensures { Gives WordsRefusal.NoMemory (λ name. name) result
+        (server_given (value_of (codes "--server") words.now)) }
 {
     match value_of(words, "--server") {
         None => Ok(None),
@@ -345,7 +354,8 @@ fn is_given(words: &[Text], name: &str) -> bool
 
 /// The mechanisms that the words ask for.
 fn mechs_given(words: &[Text]) -> Result<Mechs, WordsRefusal>
-    ensures { result ≡ mechs_given (has_krb5 words.now) (has_scram words.now) (value_of (codes "--mechs") words.now) }
+    ensures { result ≡ mechs_given (has_krb5 words.now) (has_scram words.now)
+        (value_of (codes "--mechs") words.now) }
 {
     let krb5 = is_given(words, "--ccache") && is_given(words, "--server");
     let scram = is_given(words, "--user") && is_given(words, "--password");
@@ -390,7 +400,8 @@ fn bindings_of(alloc: Global, text: &str) -> Result<Option<Bindings>, WordsRefus
 
 /// The bindings that the words ask for.
 fn bindings_given(alloc: Global, words: &[Text]) -> Result<Option<Bindings>, WordsRefusal>
-    ensures { Gives WordsRefusal.NoMemory (λ b. b) result (data_given (value_of (codes "--bind") words.now)) }
+    ensures { Gives WordsRefusal.NoMemory (λ b. b) result
+        (data_given (value_of (codes "--bind") words.now)) }
 {
     match value_of(words, "--bind") {
         None => Ok(None),

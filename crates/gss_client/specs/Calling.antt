@@ -1,4 +1,5 @@
--- The calls of a client, RFC 2203 sections 5.2.2 and 5.3.1: the program that is served, its version, RPCSEC_GSS's credential and verifier.
+-- The calls of a client, RFC 2203 sections 5.2.2 and 5.3.1: the program that is served, its
+-- version, RPCSEC_GSS's credential and verifier.
 use Rattle.std.specs.Prelude.{ℕ, ◌+◌, ◌*◌, true, List, [], ◌++◌}
 use Rattle.krb_tokens.specs.declared.end.Side.TheVariants.{Initiator}
 use Rattle.krb_tokens.specs.declared.end.TokenEnd.{TokenEnd}
@@ -7,57 +8,80 @@ use Rattle.krb_tokens.specs.Wrap.{wrap_of}
 use Rattle.rpc_msgs.specs.Words.{word, opaque}
 use Rattle.rpc_msgs.specs.Auths.{AuthValue}
 use Rattle.rpc_msgs.specs.Calls.{header_octets, call_octets, secure_call}
+use Rattle.rpc_msgs.specs.declared.numbers.TheConstants.{AUTH_NONE, RPCSEC_GSS, PROGRAM, VERSION}
+use Rattle.rpc_msgs.specs.declared.numbers.TheConstants.{NULL}
 use Rattle.rpcsec_msgs.specs.Bodies.{checked_octets}
 use Rattle.rpcsec_msgs.specs.Cred.{CredValue, cred_octets}
+use Rattle.rpcsec_msgs.specs.declared.numbers.TheConstants.{RPCSEC_GSS_DATA, RPCSEC_GSS_DESTROY}
+use Rattle.rpcsec_msgs.specs.declared.numbers.TheConstants.{RPC_GSS_SVC_NONE, RPC_GSS_SVC_INTEGRITY}
+use Rattle.rpcsec_msgs.specs.declared.numbers.TheConstants.{RPC_GSS_SVC_PRIVACY}
 use Rattle.spnego_core.specs.Outcome.{token_end}
 use Rattle.gss_client.specs.declared.service.Service.{Service}
 use Rattle.gss_client.specs.declared.service.Service.TheVariants as services
 use Rattle.gss_client.specs.Session.{SessionState}
 
-abbrev pub served_program : ℕ
-served_program = 0x20004753
-
--- the services: none, integrity, privacy (section 5.3.1)
+-- the services (section 5)
 abbrev pub number_of : Service → ℕ
-number_of services.None = 1
-number_of services.Integrity = 2
-number_of services.Privacy = 3
+number_of services.None = RPC_GSS_SVC_NONE
+number_of services.Integrity = RPC_GSS_SVC_INTEGRITY
+number_of services.Privacy = RPC_GSS_SVC_PRIVACY
 
--- creation is procedure 1 at first and 2 afterwards (section 5.2.2); such a call has number 0, the session's service, and no
--- verifier
+-- creation is procedure 1 at first and 2 afterwards (section 5.2.2); such a call has number 0, the
+-- session's service, and no verifier
 abbrev pub creation_cred : Service → ℕ → List ℕ → CredValue
-creation_cred service proc handle = record { proc = proc; seq = 0; service = number_of service; context = handle }
+creation_cred service proc handle =
+    record { proc = proc; seq = 0; service = number_of service; context = handle }
 
+-- a creation call: the server's handle in its credential, a token as its argument (section 5.2.2)
 unfoldable pub creation_call : Service → ℕ → ℕ → List ℕ → List ℕ → List ℕ
 creation_call service xid proc handle token =
-    call_octets (secure_call xid served_program 1 0 (cred_octets (creation_cred service proc handle)) (record { flavour = 0; body = [] }) (opaque token))
+    call_octets (secure_call xid PROGRAM VERSION NULL (cred_octets
+    (creation_cred service proc handle)) (record { flavour = AUTH_NONE; body = [] }) (opaque token))
 
 -- the initiator's end of a context
 abbrev pub own_end : SessionState → TokenEnd
 own_end s = token_end s.outcome Initiator
 
+-- the credential of a session's next call, with this procedure and service (section 5.3.1)
+abbrev pub own_cred : SessionState → ℕ → ℕ → CredValue
+own_cred s proc service =
+    record { proc = proc; seq = s.number; service = service; context = s.handle }
+
 -- a call up to the end of its credential
 unfoldable pub header_of : SessionState → ℕ → ℕ → ℕ → List ℕ
 header_of s proc service procedure =
-    header_octets s.xid served_program 1 procedure (record { flavour = 6; body = cred_octets (record { proc = proc; seq = s.number; service = service; context = s.handle }) })
+    header_octets s.xid PROGRAM VERSION procedure
+    (record { flavour = RPCSEC_GSS; body = cred_octets (own_cred s proc service) })
 
--- its verifier: the MIC over these octets; numbers of tokens are twice a call's number, and one more for its body
+-- its verifier: the MIC over these octets; numbers of tokens are twice a call's number, and one
+-- more for its body
 unfoldable pub verifier_of : SessionState → ℕ → ℕ → ℕ → AuthValue
-verifier_of s proc service procedure = record { flavour = 6; body = mic_of (own_end s) (2 * s.number) (header_of s proc service procedure) }
+verifier_of s proc service procedure = record {
+  flavour = RPCSEC_GSS;
+  body =
+      mic_of (own_end s) (2 * s.number) (header_of s proc service procedure);
+}
 
+-- a call of a context with its verifier, and with this body behind it (section 5.3.1)
 unfoldable pub signed_call : SessionState → ℕ → ℕ → ℕ → List ℕ → List ℕ
 signed_call s proc service procedure body =
-    call_octets (secure_call s.xid served_program 1 procedure (cred_octets (record { proc = proc; seq = s.number; service = service; context = s.handle })) (verifier_of s proc service procedure) body)
+    call_octets (secure_call s.xid PROGRAM VERSION procedure (cred_octets (own_cred s proc service))
+    (verifier_of s proc service procedure) body)
 
 -- the arguments as the service sends them (section 5.3.2)
 unfoldable pub body_of : SessionState → List ℕ → List ℕ → Service → List ℕ
 body_of s args confounder services.None = args
-body_of s args confounder services.Integrity = checked_octets (word s.number ++ args) (mic_of (own_end s) (2 * s.number + 1) (word s.number ++ args))
-body_of s args confounder services.Privacy = opaque (wrap_of (own_end s) (2 * s.number + 1) true confounder (word s.number ++ args))
+body_of s args confounder services.Integrity = checked_octets (word s.number ++ args)
+    (mic_of (own_end s) (2 * s.number + 1) (word s.number ++ args))
+body_of s args confounder services.Privacy =
+    opaque (wrap_of (own_end s) (2 * s.number + 1) true confounder (word s.number ++ args))
 
--- a call of data is procedure 0, destruction 3
+-- a call of a context, and the call that destroys it, which has no arguments and is the program's
+-- procedure NULL
 unfoldable pub data_call : SessionState → ℕ → List ℕ → List ℕ → List ℕ
-data_call s procedure args confounder = signed_call s 0 (number_of s.service) procedure (body_of s args confounder s.service)
+data_call s procedure args confounder = signed_call s RPCSEC_GSS_DATA (number_of s.service)
+    procedure (body_of s args confounder s.service)
 
+-- the call that destroys a context
 unfoldable pub destroy_call : SessionState → List ℕ
-destroy_call s = signed_call s 3 1 0 []
+destroy_call s = signed_call s RPCSEC_GSS_DESTROY RPC_GSS_SVC_NONE NULL []

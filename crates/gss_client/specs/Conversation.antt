@@ -1,9 +1,12 @@
--- A client's whole talk: calls of one procedure after the other, the end of the context, and the creation before them. Each is a function of what
--- the client begins with, the octets that its source of random octets gives, and the stream of octets that it hears.
-use Rattle.std.specs.Prelude.{ℕ, zero, suc, ◌==◌, if◌then◌else◌, List, [], ◌∷◌, ◌++◌, take, drop, Option, Some, None, Result, Ok, Err}
+-- A client's whole talk: calls of one procedure after the other, the end of the context, and the
+-- creation before them. Each is a function of what the client begins with, the octets that its
+-- source of random octets gives, and the stream of octets that it hears.
+use Rattle.std.specs.Prelude.{ℕ, zero, suc, ◌==◌, if◌then◌else◌, List, [], ◌∷◌, ◌++◌, take, drop}
+use Rattle.std.specs.Prelude.{Option, Some, None, Result, Ok, Err}
 use Rattle.spnego_core.specs.declared.outcome.Outcome.{Outcome}
 use Rattle.gss_client.specs.declared.conversation.Parting.{Parting}
-use Rattle.gss_client.specs.declared.conversation.Parting.TheVariants.{Finished, Spent, Foreign, Refused}
+use Rattle.gss_client.specs.declared.conversation.Parting.TheVariants.{Finished, Spent, Foreign}
+use Rattle.gss_client.specs.declared.conversation.Parting.TheVariants.{Refused}
 use Rattle.gss_client.specs.declared.procedure.Procedure.{Procedure}
 use Rattle.gss_client.specs.declared.refusal.ClientRefusal.{ClientRefusal}
 use Rattle.gss_client.specs.declared.start.Start.{Start}
@@ -14,8 +17,8 @@ use Rattle.gss_client.specs.Talking.{Said}
 
 -- ---- the calls of a session, and the end of its context
 
--- the octets that were written, the results of the calls in their order, how it ended, the random octets that weren't drawn, and the rest of the
--- stream
+-- the octets that were written, the results of the calls in their order, how it ended, the random
+-- octets that weren't drawn, and the rest of the stream
 pub record Conversed : Type 0 where
   pub written : List ℕ
   pub results : List (List ℕ)
@@ -23,12 +26,21 @@ pub record Conversed : Type 0 where
   pub undrawn : List ℕ
   pub rest : List ℕ
 
+-- a conversation with these parts
 abbrev pub conversed : List ℕ → List (List ℕ) → Parting → List ℕ → List ℕ → Conversed
-conversed written results parting undrawn rest = record { written = written; results = results; parting = parting; undrawn = undrawn; rest = rest }
+conversed written results parting undrawn rest = record {
+  written = written;
+  results =
+      results;
+  parting = parting;
+  undrawn = undrawn;
+  rest = rest;
+}
 
 -- the same behind what was written and answered before
 abbrev pub behind : List ℕ → List (List ℕ) → Conversed → Conversed
-behind written results c = conversed (written ++ c.written) (results ++ c.results) c.parting c.undrawn c.rest
+behind written results c =
+    conversed (written ++ c.written) (results ++ c.results) c.parting c.undrawn c.rest
 
 -- the end that was due, unless the destruction was refused
 abbrev pub parted : Parting → Result (Unit {0}) ClientRefusal → Parting
@@ -39,20 +51,28 @@ parted due (Err refusal) = Refused refusal
 abbrev pub leaves : Parting → List ℕ → Said (Unit {0}) → Conversed
 leaves due undrawn s = conversed s.written [] (parted due s.answer) undrawn s.rest
 
--- a call was answered: its result counts if it is one of the procedure, and the conversation goes on; else it ends here, and nothing more is written
-abbrev pub goes_on : Procedure → List ℕ → List ℕ → List ℕ → (SessionState → List ℕ → List ℕ → Conversed) → Result (SessionState × List ℕ) ClientRefusal → Conversed
+-- a call was answered: its result counts if it is one of the procedure, and the conversation goes
+-- on; else it ends here, and nothing more is written
+abbrev pub goes_on : Procedure → List ℕ → List ℕ → List ℕ
+    → (SessionState → List ℕ → List ℕ → Conversed) → Result (SessionState × List ℕ) ClientRefusal
+    → Conversed
 goes_on procedure written undrawn rest next (Ok called) =
-    if is_result procedure called.1 then behind written (called.1 ∷ []) (next called.0 undrawn rest) else conversed written [] Foreign undrawn rest
-goes_on procedure written undrawn rest next (Err refusal) = conversed written [] (Refused refusal) undrawn rest
+    if is_result procedure called.1 then behind written (called.1 ∷ []) (next called.0 undrawn rest)
+    else conversed written [] Foreign undrawn rest
+goes_on procedure written undrawn rest next (Err refusal) =
+    conversed written [] (Refused refusal) undrawn rest
 
--- so many calls of a procedure with these arguments, each with the next 16 random octets as its confounder, and then the destruction. Where a call is
--- due and the numbers are spent, it isn't made, and the context is destroyed.
+-- so many calls of a procedure with these arguments, each with the next 16 random octets as its
+-- confounder, and then the destruction. Where a call is due and the numbers are spent, it isn't
+-- made, and the context is destroyed.
 unfoldable pub converses : ℕ → Procedure → List ℕ → SessionState → List ℕ → List ℕ → Conversed
 converses zero procedure args s draws stream = leaves Finished draws (destroys s stream)
 converses (suc left) procedure args s draws stream =
     if s.number == 0x80000000 then leaves Spent draws (destroys s stream)
-    else (let said : Said (SessionState × List ℕ) = calls s (procedure_number procedure) args (take 16 draws) stream in
-    goes_on procedure said.written (drop 16 draws) said.rest (converses left procedure args) said.answer)
+    else (let said : Said (SessionState × List ℕ) =
+    calls s (procedure_number procedure) args (take 16 draws) stream in
+    goes_on procedure said.written (drop 16 draws) said.rest (converses left procedure args)
+    said.answer)
 
 -- ---- a whole session
 
@@ -65,14 +85,34 @@ pub record Talk : Type 0 where
   pub undrawn : List ℕ
   pub rest : List ℕ
 
+-- the talk of a session: its creation wrote this and agreed on this, and its calls went so
 abbrev pub by_session : List ℕ → Option Outcome → Conversed → Talk
 by_session written outcome c =
-    record { written = written ++ c.written; outcome = outcome; results = c.results; parting = c.parting; undrawn = c.undrawn; rest = c.rest }
+    record {
+      written = written ++ c.written;
+      outcome = outcome;
+      results = c.results;
+      parting =
+          c.parting;
+      undrawn = c.undrawn;
+      rest = c.rest;
+    }
 
-abbrev pub by_creation : ℕ → Procedure → List ℕ → List ℕ → List ℕ → List ℕ → Result SessionState ClientRefusal → Talk
-by_creation times procedure args draws written rest (Ok s) = by_session written (Some s.outcome) (converses times procedure args s draws rest)
+-- a talk by what its creation answered: with a session its calls follow, without one it ends
+abbrev pub by_creation : ℕ → Procedure → List ℕ → List ℕ → List ℕ → List ℕ
+    → Result SessionState ClientRefusal → Talk
+by_creation times procedure args draws written rest (Ok s) =
+    by_session written (Some s.outcome) (converses times procedure args s draws rest)
 by_creation times procedure args draws written rest (Err refusal) =
-    record { written = written; outcome = None; results = []; parting = Refused refusal; undrawn = draws; rest = rest }
+    record {
+      written = written;
+      outcome = None;
+      results = [];
+      parting = Refused refusal;
+      undrawn =
+          draws;
+      rest = rest;
+    }
 
 -- the creation of a context from this start, so many calls, and the destruction
 unfoldable pub talk : Start → ℕ → Procedure → List ℕ → List ℕ → List ℕ → Talk

@@ -20,31 +20,44 @@ IsFront front all = (more : List _) × (all ≡ front ++ more)
 -- ---- the calls of a session, and the end of its context
 
 -- the conversation is what was written and answered, wherever its random octets go on
-pub record IsConversed (wrote : List ℕ) (results : List (List ℕ)) (parting : Parting) (undrawn : List ℕ) (c : Conversed) : Type 0 where
+pub record IsConversed (wrote : List ℕ) (results : List (List ℕ)) (parting : Parting)
+    (undrawn : List ℕ) (c : Conversed) : Type 0 where
   pub written : c.written ≡ wrote
   pub results_are : c.results ≡ results
   pub parts : c.parting ≡ parting
   pub undrawn_is : c.undrawn ≡ undrawn
 
--- the conversation is the one of the octets that were drawn, whatever follows them, and of those that were taken and are to come. After a fault of the
--- link or want of memory a front of it was written and answered. Where it wasn't refused, it took no octet more than it heard.
-pub record Conferred (tells : Bool) (given given' : List ℕ) (times : ℕ) (procedure : Procedure) (args : List ℕ) (s : SessionState) (old new : Wire) (results : List (List ℕ)) (parting : Parting) : Type 0 where
+-- the conversation is the one of the octets that were drawn, whatever follows them, and of those
+-- that were taken and are to come. After a fault of the link or want of memory a front of it was
+-- written and answered. Where it wasn't refused, it took no octet more than it heard.
+pub record Conferred (tells : Bool) (given given' : List ℕ) (times : ℕ) (procedure : Procedure)
+    (args : List ℕ) (s : SessionState) (old new : Wire) (results : List (List ℕ))
+    (parting : Parting) : Type 0 where
   pub took : List ℕ
   pub wrote : List ℕ
   pub drawn : List ℕ
   pub went : Went old new took wrote
   pub draws : IsTrue tells → given' ≡ given ++ drawn
-  pub front : (later : List ℕ) → IsFront wrote (converses times procedure args s (drawn ++ later) (took ++ new.coming)).written × IsFront results (converses times procedure args s (drawn ++ later) (took ++ new.coming)).results
-  pub whole : parting ≢ Refused LinkFault → parting ≢ Refused NoMemory → (later : List ℕ) → IsConversed wrote results parting later (converses times procedure args s (drawn ++ later) (took ++ new.coming))
-  pub heard : ((refusal : ClientRefusal) → parting ≢ Refused refusal) → (later : List ℕ) → (converses times procedure args s (drawn ++ later) (took ++ new.coming)).rest ≡ new.coming
+  pub front : (later : List ℕ) → IsFront wrote
+      (converses times procedure args s (drawn ++ later) (took ++ new.coming)).written × IsFront
+      results (converses times procedure args s (drawn ++ later) (took ++ new.coming)).results
+  pub whole : parting ≢ Refused LinkFault
+      → parting ≢ Refused NoMemory → (later : List ℕ) → IsConversed wrote results parting later
+      (converses times procedure args s (drawn ++ later) (took ++ new.coming))
+  pub heard : ((refusal : ClientRefusal) → parting ≢ Refused refusal) → (later : List ℕ)
+      → (converses times procedure args s (drawn ++ later) (took ++ new.coming)).rest ≡ new.coming
 
 -- the context was destroyed, and the end is the one that was due; or the destruction was refused
 abbrev pub Leaves : SessionState → Wire → Wire → Parting → Parting → Type 0
-Leaves s old new due parting = (Done (destroys s) old new tt × (parting ≡ due)) ⊎ ((refusal : ClientRefusal) × (parting ≡ Refused refusal) × Stopped (destroys s) old new refusal)
+Leaves s old new due parting =
+    (Done (destroys s) old new tt × (parting ≡ due)) ⊎ ((refusal : ClientRefusal)
+    × (parting ≡ Refused refusal) × Stopped (destroys s) old new refusal)
 
 -- ---- a whole session
 
-pub record IsTalk (wrote : List ℕ) (outcome : Option Outcome) (results : List (List ℕ)) (parting : Parting) (undrawn : List ℕ) (t : Talk) : Type 0 where
+-- the talk is what was written, agreed on and answered, wherever its random octets go on
+pub record IsTalk (wrote : List ℕ) (outcome : Option Outcome) (results : List (List ℕ))
+    (parting : Parting) (undrawn : List ℕ) (t : Talk) : Type 0 where
   pub written : t.written ≡ wrote
   pub outcome_is : t.outcome ≡ outcome
   pub results_are : t.results ≡ results
@@ -52,18 +65,25 @@ pub record IsTalk (wrote : List ℕ) (outcome : Option Outcome) (results : List 
   pub undrawn_is : t.undrawn ≡ undrawn
 
 -- after a fault of the link or want of memory
-pub record IsTalkFront (wrote : List ℕ) (outcome : Option Outcome) (results : List (List ℕ)) (t : Talk) : Type 0 where
+pub record IsTalkFront (wrote : List ℕ) (outcome : Option Outcome) (results : List (List ℕ))
+    (t : Talk) : Type 0 where
   pub written : IsFront wrote t.written
   pub outcome_is : (outcome ≡ None) ⊎ (t.outcome ≡ outcome)
   pub results_are : IsFront results t.results
 
 -- the same for the whole talk
-pub record Talked (tells : Bool) (given given' : List ℕ) (start : Start) (times : ℕ) (procedure : Procedure) (args : List ℕ) (old new : Wire) (outcome : Option Outcome) (results : List (List ℕ)) (parting : Parting) : Type 0 where
+pub record Talked (tells : Bool) (given given' : List ℕ) (start : Start)
+    (times : ℕ) (procedure : Procedure) (args : List ℕ) (old new : Wire) (outcome : Option Outcome)
+    (results : List (List ℕ)) (parting : Parting) : Type 0 where
   pub took : List ℕ
   pub wrote : List ℕ
   pub drawn : List ℕ
   pub went : Went old new took wrote
   pub draws : IsTrue tells → given' ≡ given ++ drawn
-  pub front : (later : List ℕ) → IsTalkFront wrote outcome results (talk start times procedure args (drawn ++ later) (took ++ new.coming))
-  pub whole : parting ≢ Refused LinkFault → parting ≢ Refused NoMemory → (later : List ℕ) → IsTalk wrote outcome results parting later (talk start times procedure args (drawn ++ later) (took ++ new.coming))
-  pub heard : ((refusal : ClientRefusal) → parting ≢ Refused refusal) → (later : List ℕ) → (talk start times procedure args (drawn ++ later) (took ++ new.coming)).rest ≡ new.coming
+  pub front : (later : List ℕ) → IsTalkFront wrote outcome results
+      (talk start times procedure args (drawn ++ later) (took ++ new.coming))
+  pub whole : parting ≢ Refused LinkFault
+      → parting ≢ Refused NoMemory → (later : List ℕ) → IsTalk wrote outcome results parting later
+      (talk start times procedure args (drawn ++ later) (took ++ new.coming))
+  pub heard : ((refusal : ClientRefusal) → parting ≢ Refused refusal) → (later : List ℕ)
+      → (talk start times procedure args (drawn ++ later) (took ++ new.coming)).rest ≡ new.coming

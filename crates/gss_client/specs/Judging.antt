@@ -1,11 +1,14 @@
 -- How a client judges a reply: the first rule that applies decides.
-use Rattle.std.specs.Prelude.{ℕ, ◌-◌, Bool, not, ◌==◌, ◌&&◌, nat_le, if◌then◌else◌, is_ok, List, length, Result, Ok, Err}
+use Rattle.std.specs.Prelude.{ℕ, ◌-◌, Bool, not, ◌==◌, ◌&&◌, nat_le, if◌then◌else◌, is_ok, List}
+use Rattle.std.specs.Prelude.{length, Result, Ok, Err}
+use Rattle.gss_base.specs.declared.status.TheConstants.{COMPLETE, CONTINUE_NEEDED}
 use Rattle.krb_tokens.specs.declared.end.Side.TheVariants.{Initiator}
 use Rattle.krb_tokens.specs.declared.end.TokenEnd.{TokenEnd}
 use Rattle.krb_tokens.specs.Mic.{checked_mic}
 use Rattle.krb_tokens.specs.Wrap.{unwrapped}
 use Rattle.rpc_msgs.specs.Words.{word}
 use Rattle.rpc_msgs.specs.Xdr.{Input, whole, word_at}
+use Rattle.rpc_msgs.specs.declared.numbers.TheConstants.{SUCCESS, RPCSEC_GSS}
 use Rattle.rpc_msgs.specs.Replies.{ReplyValue, accepted, mismatch, auth_error}
 use Rattle.rpc_msgs.specs.ReplyReading.{reply_at}
 use Rattle.rpc_msgs.specs.declared.reply_reading.ReplyRefusal.{ReplyRefusal}
@@ -25,16 +28,20 @@ use Rattle.gss_client.specs.declared.creation.Granted.{Granted}
 use Rattle.gss_client.specs.declared.creation.Created.{Created}
 use Rattle.gss_client.specs.declared.creation.Created.TheVariants as created
 use Rattle.gss_client.specs.declared.refusal.ClientRefusal.{ClientRefusal}
-use Rattle.gss_client.specs.declared.refusal.ClientRefusal.TheVariants.{Refused, Negotiation, BadReply}
+use Rattle.gss_client.specs.declared.refusal.ClientRefusal.TheVariants.{Refused, Negotiation}
+use Rattle.gss_client.specs.declared.refusal.ClientRefusal.TheVariants.{BadReply}
 use Rattle.gss_client.specs.declared.refusal.Denial.TheVariants.{Rpc, Auth, Accept, Gss}
-use Rattle.gss_client.specs.declared.refusal.ReplyWhy.TheVariants.{Form, Xid, Verifier, Steps, Width, Body, Number}
+use Rattle.gss_client.specs.declared.refusal.ReplyWhy.TheVariants.{Form, Xid, Verifier, Steps}
+use Rattle.gss_client.specs.declared.refusal.ReplyWhy.TheVariants.{Width, Body, Number}
 use Rattle.gss_client.specs.Session.{SessionState, session_after}
 use Rattle.gss_client.specs.declared.service.Service.{Service}
 use Rattle.gss_client.specs.declared.service.Service.TheVariants as services
 
 -- the rules that follow, unless one before applied
 infixl 10 ◌>>=◌
-abbrev pub ◌>>=◌ : {A B : Type 0} → Result A ClientRefusal → (A → Result B ClientRefusal) → Result B ClientRefusal
+-- the rule that follows takes what the one before found
+abbrev pub ◌>>=◌ : {A B : Type 0} → Result A ClientRefusal → (A → Result B ClientRefusal)
+    → Result B ClientRefusal
 (Ok x) >>= next = next x
 (Err refusal) >>= next = Err refusal
 
@@ -44,7 +51,8 @@ due refusal holds = if holds then Ok tt else Err refusal
 
 -- ---- every reply
 
--- an accepted reply: its verifier, its stat, what follows the stat, and how many octets the record has
+-- an accepted reply: its verifier, its stat, what follows the stat, and how many octets the record
+-- has
 pub record AnswerValue : Type 0 where
   pub flavour : ℕ
   pub verf : List ℕ
@@ -52,9 +60,18 @@ pub record AnswerValue : Type 0 where
   pub result : List ℕ
   pub size : ℕ
 
+-- the accepted reply that the code's `Answer` is
 abbrev pub answer_value : Answer → AnswerValue
-answer_value a = record { flavour = a.flavour; verf = a.verf.now; stat = a.stat; result = a.result.now; size = a.size }
+answer_value a = record {
+  flavour = a.flavour;
+  verf = a.verf.now;
+  stat = a.stat;
+  result =
+      a.result.now;
+  size = a.size;
+}
 
+-- a reply's transaction number: it is accepted, a mismatch of versions, or an auth error
 abbrev pub xid_of : ReplyValue → ℕ
 xid_of (accepted xid flavour verf stat low high result) = xid
 xid_of (mismatch xid low high) = xid
@@ -76,6 +93,7 @@ granted size (accepted xid flavour verf stat low high result) =
 granted size (mismatch xid low high) = Err (Refused (Rpc low high))
 granted size (auth_error xid stat) = Err (Refused (Auth stat))
 
+-- C2, C3, C4: the accepted reply in a record, to the call of this transaction number
 unfoldable pub answer_in : ℕ → List ℕ → Result AnswerValue ClientRefusal
 answer_in xid octets = do
   reply ← formed (reply_at octets)
@@ -85,11 +103,12 @@ answer_in xid octets = do
 
 -- the verifier is the acceptor's MIC over this number (RFC 2203 sections 5.2.3.1 and 5.3.3.2)
 abbrev pub is_verified : Outcome → AnswerValue → ℕ → Bool
-is_verified outcome answer number = answer.flavour == 6 && is_ok (checked_mic (token_end outcome Initiator) answer.verf (word number))
+is_verified outcome answer number = answer.flavour == RPCSEC_GSS
+    && is_ok (checked_mic (token_end outcome Initiator) answer.verf (word number))
 
 -- C5, C13
 abbrev pub succeeded : AnswerValue → Result (Unit {0}) ClientRefusal
-succeeded answer = due (Refused (Accept answer.stat)) (answer.stat == 0)
+succeeded answer = due (Refused (Accept answer.stat)) (answer.stat == SUCCESS)
 
 -- ---- replies to creation calls
 
@@ -98,6 +117,7 @@ pub record GrantedValue : Type 0 where
   pub answer : AnswerValue
   pub result : InitRes
 
+-- the reply and the result that the code's `Granted` is
 abbrev pub granted_value : Granted → GrantedValue
 granted_value g = record { answer = answer_value g.answer; result = g.result }
 
@@ -106,13 +126,14 @@ abbrev pub placed : AnswerValue → Result InitRes XdrRefusal → Result InitRes
 placed answer (Ok result) = Ok result
 placed answer (Err refusal) = Err (BadReply (Form (place_of answer refusal.at)))
 
+-- C2 to C7: the creation's result in the reply to the call of this transaction number
 unfoldable pub granted_in : ℕ → List ℕ → Result GrantedValue ClientRefusal
 granted_in xid octets = do
   answer ← answer_in xid octets
   success ← succeeded answer
   result ← placed answer (init_res_at answer.result)
-  -- C7: complete is 0, and 1 that a further token is due
-  status ← due (Refused (Gss result.major result.minor)) (nat_le result.major 1)
+  -- C7: the context is complete, or a further token is due
+  status ← due (Refused (Gss result.major result.minor)) (nat_le result.major CONTINUE_NEEDED)
   Ok (record { answer = answer; result = result })
 
 -- C8
@@ -120,19 +141,28 @@ abbrev pub negotiated : Result InitStep NegRefusal → Result InitStep ClientRef
 negotiated (Ok step) = Ok step
 negotiated (Err refusal) = Err (Negotiation refusal)
 
+-- C9, C10, C11: whether the context stands behind the reply that finishes
+abbrev pub done_by : GrantedValue → Outcome → Result (Unit {0}) ClientRefusal
+done_by g outcome = do
+  finished ← due (BadReply Steps) (g.result.major == COMPLETE)
+  some ← due (BadReply Width) (not (g.result.window == 0))
+  due (BadReply Verifier) (is_verified outcome g.answer g.result.window)
+
 -- what the end's step leads to
 unfoldable pub by_step : GrantedValue → InitStep → Result Created ClientRefusal
 by_step g (steps.More end token) = do
   -- C9
-  unfinished ← due (BadReply Steps) (g.result.major == 1)
+  unfinished ← due (BadReply Steps) (g.result.major == CONTINUE_NEEDED)
   Ok (created.Going (record { end = end; handle = g.result.context; token = token }))
 by_step g (steps.Done outcome) = do
   -- C9, C10, C11
-  finished ← due (BadReply Steps) (g.result.major == 0)
+  finished ← due (BadReply Steps) (g.result.major == COMPLETE)
   some ← due (BadReply Width) (not (g.result.window == 0))
   proved ← due (BadReply Verifier) (is_verified outcome g.answer g.result.window)
   Ok (created.Stands outcome g.result.context)
 
+-- C2 to C11: what a record leads to as the reply to a creation call, whose token the end takes
+-- (RFC 2203 section 5.2.3)
 unfoldable pub creation_step : InitEnd → ℕ → List ℕ → Result Created ClientRefusal
 creation_step end xid octets = do
   g ← granted_in xid octets
@@ -159,6 +189,7 @@ abbrev pub or_number : Result (ℕ × Input) XdrRefusal → Result (ℕ × Input
 or_number (Ok seq) = Ok seq
 or_number (Err refusal) = Err (BadReply Number)
 
+-- C15: the result in a databody that has the call's number
 unfoldable pub numbered : ℕ → List ℕ → Result (List ℕ) ClientRefusal
 numbered number databody = do
   seq ← or_number (word_at (whole databody))
@@ -180,11 +211,14 @@ sealed_result end number body = do
   secret ← due (BadReply Body) content.sealed
   numbered number content.content
 
+-- C14, C15: the result in the body of a reply, by the service of the call
 unfoldable pub body_result : TokenEnd → ℕ → List ℕ → Service → Result (List ℕ) ClientRefusal
 body_result end number body services.None = Ok body
 body_result end number body services.Integrity = checked_result end number body
 body_result end number body services.Privacy = sealed_result end number body
 
+-- C2 to C4, C12 to C15: the result in the reply to the call of this number and transaction
+-- number (RFC 2203 section 5.3.3)
 unfoldable pub call_result : Outcome → Service → ℕ → ℕ → List ℕ → Result (List ℕ) ClientRefusal
 call_result outcome service number xid octets = do
   answer ← verified_in outcome number xid octets

@@ -4,6 +4,7 @@ use Rattle.krb_tokens.specs.declared.end.Side.TheVariants.{Initiator}
 use Rattle.krb_tokens.specs.declared.end.TokenEnd.{TokenEnd}
 use Rattle.krb_tokens.specs.Mic.{checked_mic}
 use Rattle.krb_tokens.specs.Wrap.{unwrapped}
+use Rattle.rpc_msgs.specs.declared.numbers.TheConstants.{SUCCESS, RPCSEC_GSS}
 use Rattle.rpc_msgs.specs.Replies.{accepted}
 use Rattle.rpc_msgs.specs.ReplyReading.{reply_at}
 use Rattle.rpc_msgs.specs.Words.{word}
@@ -40,24 +41,31 @@ pub record IsSealedBody (end : TokenEnd) (number : ℕ) (body result : List ℕ)
   pub opened : unwrapped end token ≡ Ok (record { sealed = true; content = databody })
   pub numbered : IsNumbered number databody result
 
+-- a body that holds this result by its service: bare, under the acceptor's MIC, or sealed by it
 abbrev pub IsBody : TokenEnd → ℕ → List ℕ → List ℕ → Service → Type 0
 IsBody end number body result services.None = result ≡ body
 IsBody end number body result services.Integrity = IsCheckedBody end number body result
 IsBody end number body result services.Privacy = IsSealedBody end number body result
 
--- a reply with the call's transaction number and SUCCESS, whose verifier is the acceptor's MIC over the call's number, with this result in its body
+-- a reply with the call's transaction number and SUCCESS, whose verifier is the acceptor's MIC over
+-- the call's number, with this result in its body
 pub record StandsIn (s : SessionState) (octets result : List ℕ) : Type 0 where
   pub verf : List ℕ
   pub low : ℕ
   pub high : ℕ
   pub body : List ℕ
-  pub reply : reply_at octets ≡ Ok (accepted s.xid 6 verf 0 low high body)
+  pub reply : reply_at octets ≡ Ok (accepted s.xid RPCSEC_GSS verf SUCCESS low high body)
   pub proved : checked_mic (token_end s.outcome Initiator) verf (word s.number) ≡ Ok tt
   pub held : IsBody (token_end s.outcome Initiator) s.number body result s.service
 
+-- each result that a session takes stands in a reply to its call
 abbrev pub ResultLaw : Type 0
-ResultLaw = (s next : SessionState) (octets result : List ℕ) → result_taken s octets ≡ Ok (next, result) → StandsIn s octets result
+ResultLaw = (s next : SessionState) (octets result : List ℕ)
+    → result_taken s octets ≡ Ok (next, result) → StandsIn s octets result
 
--- a creation that is begun with as many turns as its end takes replies is the same by every greater count: it never ends for want of turns
+-- a creation that is begun with as many turns as its end takes replies is the same by every greater
+-- count: it never ends for want of turns
 abbrev pub CountLaw : Type 0
-CountLaw = (left : ℕ) (service : Service) (first xid proc : ℕ) (offer : Offer) (stream : List ℕ) → replies_left offer.end ≤ left → creates left service first xid proc offer stream ≡ creates (replies_left offer.end) service first xid proc offer stream
+CountLaw = (left : ℕ) (service : Service) (first xid proc : ℕ) (offer : Offer) (stream : List ℕ)
+    → replies_left offer.end ≤ left → creates left service first xid proc offer stream
+    ≡ creates (replies_left offer.end) service first xid proc offer stream

@@ -1,17 +1,19 @@
 -- The procedures of the served program (own), and how their results are spelled, RFC 4506.
 use Rattle.std.specs.Prelude.{ℕ, Bool, false, ◌==◌, is_ok, List, length, Result, Ok, Err}
 use Rattle.std.specs.Str.{is_utf8}
+use Rattle.rpc_msgs.specs.declared.numbers.TheConstants.{NULL, ECHO, WHOAMI, POST, COUNT}
 use Rattle.rpc_msgs.specs.declared.xdr_reader.XdrRefusal.{XdrRefusal}
 use Rattle.rpc_msgs.specs.Xdr.{whole, opaque_at, end_at, ◌>>=◌}
 use Rattle.gss_client.specs.declared.procedure.Procedure.{Procedure}
 use Rattle.gss_client.specs.declared.procedure.Procedure.TheVariants as procedures
 
+-- the number of a procedure in a call
 abbrev pub procedure_number : Procedure → ℕ
-procedure_number procedures.Null = 0
-procedure_number procedures.Echo = 1
-procedure_number procedures.Whoami = 2
-procedure_number procedures.Post = 3
-procedure_number procedures.Count = 4
+procedure_number procedures.Null = NULL
+procedure_number procedures.Echo = ECHO
+procedure_number procedures.Whoami = WHOAMI
+procedure_number procedures.Post = POST
+procedure_number procedures.Count = COUNT
 
 -- octets of variable length within a limit (section 4.10), and nothing behind them
 unfoldable pub opaque_alone : ℕ → List ℕ → Result (List ℕ) XdrRefusal
@@ -20,6 +22,7 @@ opaque_alone limit octets = do
   used_up ← end_at value.1
   Ok value.0
 
+-- the text was read, and is UTF-8
 abbrev pub is_text : Result (List ℕ) XdrRefusal → Bool
 is_text (Ok text) = is_utf8 text
 is_text (Err refusal) = false

@@ -15,7 +15,8 @@ taken_by (mechs.Kerberos end) = 1
 taken_by (mechs.Scram end) = 2
 taken_by (mechs.Proof end) = 1
 
--- one to the own MIC; before it those that the mechanism takes; before the first, at most those of any mechanism and the one that chooses it
+-- one to the own MIC; before it those that the mechanism takes; before the first, at most those of
+-- any mechanism and the one that chooses it
 abbrev pub replies_left : InitEnd → ℕ
 replies_left (ends.Opens opening) = 4
 replies_left (ends.Talks talking) = taken_by talking.mech + 1
@@ -26,6 +27,7 @@ abbrev pub IsNearer : ℕ → InitStep → Type 0
 IsNearer count (steps.More end token) = replies_left end < count
 IsNearer count (steps.Done outcome) = Unit {0}
 
+-- the same of what a reply leads to
 abbrev pub IsCloser : ℕ → Created → Type 0
 IsCloser count (created.Going offer) = replies_left offer.end < count
 IsCloser count (created.Stands outcome handle) = Unit {0}

@@ -3,7 +3,8 @@ use Rattle.std.specs.Prelude.{ℕ, ◌+◌, ◌%◌, ◌^◌, List}
 use Rattle.spnego_core.specs.declared.outcome.Outcome.{Outcome}
 use Rattle.gss_client.specs.declared.service.Service.{Service}
 
--- what was agreed; how calls are protected; the server's handle; the number of the next call, and its transaction number
+-- what was agreed; how calls are protected; the server's handle; the number of the next call, and
+-- its transaction number
 pub record SessionState : Type 0 where
   pub outcome : Outcome
   pub service : Service
@@ -15,5 +16,13 @@ pub record SessionState : Type 0 where
 abbrev pub xid_after : ℕ → ℕ
 xid_after xid = (xid + 1) % 2 ^ 32
 
+-- the session after a call was made, whose next call has the next numbers
 abbrev pub session_after : SessionState → SessionState
-session_after s = record { outcome = s.outcome; service = s.service; handle = s.handle; number = s.number + 1; xid = xid_after s.xid }
+session_after s = record {
+  outcome = s.outcome;
+  service = s.service;
+  handle = s.handle;
+  number =
+      s.number + 1;
+  xid = xid_after s.xid;
+}

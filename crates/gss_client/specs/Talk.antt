@@ -1,5 +1,8 @@
--- A client's talk: from its start, its calls and the octets that it hears to what it writes, its outcome, its results and its end.
+-- A client's talk: from its start, its calls and the octets that it hears to what it writes, its
+-- outcome, its results and its end.
 use Rattle.std.specs.Prelude.{ℕ, zero, suc, List, [], Result, Ok, Err}
+use Rattle.rpcsec_msgs.specs.declared.numbers.TheConstants.{RPCSEC_GSS_INIT}
+use Rattle.rpcsec_msgs.specs.declared.numbers.TheConstants.{RPCSEC_GSS_CONTINUE_INIT}
 use Rattle.spnego_core.specs.declared.outcome.Outcome.{Outcome}
 use Rattle.spnego_core.specs.declared.refusal.NegRefusal.{NegRefusal}
 use Rattle.spnego_core.specs.Initiating.{Started, init_start}
@@ -26,24 +29,32 @@ turns service xid proc offer = do
 
 -- the session that begins with this number
 abbrev pub begun : Service → ℕ → ℕ → Outcome → List ℕ → SessionState
-begun service first xid outcome handle = record { outcome = outcome; service = service; handle = handle; number = first; xid = xid }
+begun service first xid outcome handle =
+    record { outcome = outcome; service = service; handle = handle; number = first; xid = xid }
 
-abbrev pub by_turn : Service → ℕ → ℕ → (Offer → Talking SessionState) → Created → Talking SessionState
+-- what follows a turn: `next` with a further offer, or the session if the context stands
+abbrev pub by_turn : Service → ℕ → ℕ → (Offer → Talking SessionState) → Created
+    → Talking SessionState
 by_turn service first xid next (created.Going offer) = next offer
-by_turn service first xid next (created.Stands outcome handle) = judges (Ok (begun service first (xid_after xid) outcome handle))
+by_turn service first xid next (created.Stands outcome handle) =
+    judges (Ok (begun service first (xid_after xid) outcome handle))
 
--- turn after turn, of which so many may still come. It is begun with as many as the end takes replies, and is the same for any greater count, so that
--- there is always one left.
+-- turn after turn, of which so many may still come. It is begun with as many as the end takes
+-- replies, and is the same for any greater count, so that there is always one left.
 unfoldable pub creates : ℕ → Service → ℕ → ℕ → ℕ → Offer → Talking SessionState
 creates zero service first xid proc offer = judges (Err (BadReply Steps))
 creates (suc left) service first xid proc offer = do
   what ← turns service xid proc offer
-  by_turn service first xid (creates left service first (xid_after xid) 2) what
+  by_turn service first xid (creates left service first (xid_after xid) RPCSEC_GSS_CONTINUE_INIT)
+      what
 
+-- the creation by how the negotiation began: turn after turn, or its refusal
 abbrev pub begins : Service → ℕ → Result Started NegRefusal → Talking SessionState
 begins service first (Err refusal) = judges (Err (Negotiation refusal))
-begins service first (Ok started) = creates (replies_left started.end) service first 1 1 (record { end = started.end; handle = []; token = started.token })
+begins service first (Ok started) = creates (replies_left started.end) service first 1
+    RPCSEC_GSS_INIT (record { end = started.end; handle = []; token = started.token })
 
+-- the creation of a session from this start, whose first call then has the start's number
 unfoldable pub created_from : Start → Talking SessionState
 created_from start = begins start.service start.first (init_start start.setup)
 
@@ -55,6 +66,7 @@ calls s procedure args confounder = do
   reply ← exchanges (data_call s procedure args confounder)
   judges (result_taken s reply)
 
+-- the call that destroys the context, and its reply
 unfoldable pub destroys : SessionState → Talking (Unit {0})
 destroys s = do
   reply ← exchanges (destroy_call s)

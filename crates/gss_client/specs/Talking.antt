@@ -1,5 +1,6 @@
--- What a client says by the octets that it hears: a part of its talk takes the stream of octets that are to come, writes octets, and leaves what
--- follows. Nothing here knows how reads cut the stream.
+-- What a client says by the octets that it hears: a part of its talk takes the stream of octets
+-- that are to come, writes octets, and leaves what follows. Nothing here knows how reads cut the
+-- stream.
 use Rattle.std.specs.Prelude.{ℕ, List, [], ◌++◌, Result, Ok, Err}
 use Rattle.rpc_msgs.specs.Records.{last_fragment}
 use Rattle.gss_client.specs.declared.refusal.ClientRefusal.{ClientRefusal}
@@ -13,9 +14,11 @@ pub record Said (A : Type 0) : Type 0 where
   pub answer : Result A ClientRefusal
   pub rest : List ℕ
 
+-- a part of a talk, of which an `A` comes: what it says to the stream of octets that it hears
 abbrev pub Talking : Type 0 → Type 0
 Talking A = List ℕ → Said A
 
+-- what a part says: what it wrote, what came of it, and the rest
 abbrev pub said : {A : Type 0} → List ℕ → Result A ClientRefusal → List ℕ → Said A
 said written answer rest = record { written = written; answer = answer; rest = rest }
 
@@ -24,11 +27,13 @@ abbrev pub after : {A : Type 0} → List ℕ → Said A → Said A
 after written s = said (written ++ s.written) s.answer s.rest
 
 -- the part that follows, unless this one was refused
-abbrev pub goes_on : {A B : Type 0} → List ℕ → List ℕ → (A → Talking B) → Result A ClientRefusal → Said B
+abbrev pub goes_on : {A B : Type 0} → List ℕ → List ℕ → (A → Talking B) → Result A ClientRefusal
+    → Said B
 goes_on written rest next (Ok x) = after written (next x rest)
 goes_on written rest next (Err refusal) = said written (Err refusal) rest
 
 infixl 10 ◌>>=◌
+-- one part after the other, which takes what came of the first and hears the rest
 abbrev pub ◌>>=◌ : {A B : Type 0} → Talking A → (A → Talking B) → Talking B
 (part >>= next) stream = goes_on (part stream).written (part stream).rest next (part stream).answer
 
@@ -42,6 +47,7 @@ by_heard (whole octets rest) = said [] (Ok octets) rest
 by_heard ended = said [] (Err PeerEnded) []
 by_heard unfit = said [] (Err (BadReply Record)) []
 
+-- the next record is heard, and nothing is written
 unfoldable pub listens : Talking (List ℕ)
 listens stream = by_heard (next_of stream)
 

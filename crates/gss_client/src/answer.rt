@@ -3,18 +3,17 @@
 ghost use Rattle.std.specs.Prelude.{◌≡◌};
 ghost use Rattle.rpc_msgs.specs.Replies.{reply_value};
 ghost use Rattle.rpc_msgs.specs.Xdr.{Answers};
-ghost use Rattle.gss_client.specs.Judging.{answer_value, answer_in, granted, place_of, xid_of, is_verified, succeeded, verified_in};
+ghost use Rattle.gss_client.specs.Judging.{answer_value, answer_in, granted, place_of, xid_of};
+ghost use Rattle.gss_client.specs.Judging.{is_verified, succeeded, verified_in};
 
 use crate::refusal::{ClientRefusal, Denial, ReplyWhy};
 use krb_tokens::{MicCache, Side};
+use rpc_msgs::numbers::{RPCSEC_GSS, SUCCESS};
 use rpc_msgs::{Reply, read_reply};
 use spnego_core::Outcome;
 
-/// The flavour of RPCSEC_GSS.
-const GSS: u32 = 6;
-
 /// An accepted reply.
-#[derive(Clone, Copy, Debug)]
+#[derive(Clone, Copy)]
 pub struct Answer<'a> {
     pub flavour: u32,
     pub verf: &'a [u8],
@@ -97,7 +96,7 @@ pub(crate) fn is_verified(
     ensures { result ≡ is_verified outcome.now (answer_value answer.now) number }
 {
     let end = outcome.token_end(Side::Initiator);
-    answer.flavour == GSS
+    answer.flavour == RPCSEC_GSS
         && end
             .check_mic_by(keys, answer.verf, &number.to_be_bytes())
             .is_ok()
@@ -107,7 +106,7 @@ pub(crate) fn is_verified(
 pub(crate) fn succeeded(answer: &Answer<'_>) -> Result<(), ClientRefusal>
     ensures { result ≡ succeeded (answer_value answer.now) }
 {
-    if answer.stat != 0 {
+    if answer.stat != SUCCESS {
         return Err(ClientRefusal::Refused(Denial::Accept { stat: answer.stat }));
     }
     Ok(())

@@ -1,46 +1,25 @@
 //! The calls of a client, RFC 2203 sections 5.2.2, 5.3.1 and 5.3.2.
 
 ghost use Rattle.std.specs.Prelude.{◌≡◌, ◌≤◌, ◌+◌, ◌++◌, true, length, IfOk};
-ghost use Rattle.rpc_msgs.specs.Calls.{header_octets, call_octets, secure_call};
+ghost use Rattle.rpc_msgs.specs.Calls.{call_octets, secure_call};
 ghost use Rattle.rpcsec_msgs.specs.Bodies.{checked_octets};
 ghost use Rattle.krb_tokens.specs.Mic.{mic_of};
 ghost use Rattle.krb_tokens.specs.Wrap.{wrap_of};
 ghost use Rattle.rpc_msgs.specs.Words.{word, opaque};
 ghost use Rattle.rpcsec_msgs.specs.Cred.{cred_octets};
-ghost use Rattle.gss_client.specs.Calling.{served_program, creation_call, signed_call, body_of, data_call, destroy_call};
+ghost use Rattle.gss_client.specs.Calling.{creation_call, signed_call, body_of, data_call};
+ghost use Rattle.gss_client.specs.Calling.{destroy_call};
 ghost use Rattle.gss_client.specs.Exchanging.{IsHandle};
 
 use crate::service::Service;
 use crate::session::Session;
 use krb_tokens::{MicCache, Side, TokenEnd};
-use rpc_msgs::{XdrWriter, write_call};
+use rpc_msgs::numbers::{AUTH_NONE, NULL, PROGRAM, RPCSEC_GSS, VERSION};
+use rpc_msgs::{XdrWriter, write_call, write_header};
+use rpcsec_msgs::numbers::{RPC_GSS_SVC_NONE, RPCSEC_GSS_DATA, RPCSEC_GSS_DESTROY};
 use rpcsec_msgs::{GssCred, join_checked, join_sealed, write_cred};
 use sec_base::{NoMemory, Octets};
 use std::alloc::Global;
-
-/// The program that is served.
-const PROGRAM: u32 = 0x2000_4753;
-
-/// Its version.
-const VERSION: u32 = 1;
-
-/// The version of RPC.
-const RPC_VERSION: u32 = 2;
-
-/// The flavour of calls without authentication.
-const AUTH_NONE: u32 = 0;
-
-/// The flavour of RPCSEC_GSS.
-const GSS: u32 = 6;
-
-/// The procedure of a call in a context.
-const DATA: u32 = 0;
-
-/// The procedure of a context's destruction.
-const DESTROY: u32 = 3;
-
-/// The service of the call that destroys a context.
-const PLAIN: u32 = 1;
 
 /// The body of a credential.
 fn credential(
@@ -51,7 +30,8 @@ fn credential(
     handle: &[u8],
 ) -> Result<Octets, NoMemory>
     requires { IsHandle handle.now }
-    ensures value { IfOk result (λ o. o ≡ cred_octets (record { proc = proc; seq = seq; service = service; context = handle.now })) }
+    ensures value { IfOk result (λ o. o ≡ cred_octets
+        (record { proc = proc; seq = seq; service = service; context = handle.now })) }
     ensures size { IfOk result (λ o. length o ≤ 400) }
 {
     let cred = GssCred {
@@ -87,7 +67,8 @@ fn call(
     requires cred { length cred.now ≤ 400 }
     requires verf { length verf.now ≤ 400 }
     requires args { length args.now ≤ 130000 }
-    ensures value { IfOk result (λ o. o ≡ call_octets (secure_call xid served_program 1 procedure cred.now (record { flavour = flavour; body = verf.now }) args.now)) }
+    ensures value { IfOk result (λ o. o ≡ call_octets (secure_call xid PROGRAM VERSION procedure
+        cred.now (record { flavour = flavour; body = verf.now }) args.now)) }
     ensures size { IfOk result (λ o. length o ≤ 131072) }
 {
     write_call(
@@ -116,29 +97,12 @@ pub fn creation_call(
     call(
         alloc,
         xid,
-        0,
+        NULL,
         cred.as_slice(),
         AUTH_NONE,
         &[],
         args.as_slice(),
     )
-}
-
-/// A call up to the end of its credential.
-fn header(alloc: Global, xid: u32, procedure: u32, cred: &[u8]) -> Result<Octets, NoMemory>
-    requires { length cred.now ≤ 400 }
-    ensures { IfOk result (λ o. o ≡ header_octets xid served_program 1 procedure (record { flavour = 6; body = cred.now })) }
-{
-    let mut out = XdrWriter::new(alloc);
-    out.word(xid)?;
-    out.word(0)?;
-    out.word(RPC_VERSION)?;
-    out.word(PROGRAM)?;
-    out.word(VERSION)?;
-    out.word(procedure)?;
-    out.word(GSS)?;
-    out.opaque(cred)?;
-    Ok(out.finish())
 }
 
 /// A call in a context, with its verifier.
@@ -157,7 +121,14 @@ fn signed_call(
 {
     let handle = session.handle.as_slice();
     let cred = credential(alloc, proc, session.number, service, handle)?;
-    let header = header(alloc, session.xid, procedure, cred.as_slice())?;
+    let header = write_header(
+        alloc,
+        session.xid,
+        PROGRAM,
+        VERSION,
+        procedure,
+        cred.as_slice(),
+    )?;
     let end = session.outcome.token_end(Side::Initiator);
     let mic = end.make_mic_by(&session.keys, 2 * session.number as u64, header.as_slice());
     call(
@@ -165,7 +136,7 @@ fn signed_call(
         session.xid,
         procedure,
         cred.as_slice(),
-        GSS,
+        RPCSEC_GSS,
         &mic,
         body,
     )
@@ -191,7 +162,8 @@ fn body_of(
     confounder: &[u8; 16],
 ) -> Result<Octets, NoMemory>
     requires { length args.now ≤ 65540 }
-    ensures value { IfOk result (λ o. o ≡ body_of session.now args.now confounder.now session.now.service) }
+    ensures value { IfOk result
+        (λ o. o ≡ body_of session.now args.now confounder.now session.now.service) }
     ensures size { IfOk result (λ o. length o ≤ 130000) }
 {
     let end = session.outcome.token_end(Side::Initiator);
@@ -218,7 +190,8 @@ fn sign_body(
     databody: &[u8],
 ) -> Result<Octets, NoMemory>
     requires { length databody.now ≤ 65544 }
-    ensures value { IfOk result (λ body. body ≡ checked_octets databody.now (mic_of end.now number databody.now)) }
+    ensures value { IfOk result
+        (λ body. body ≡ checked_octets databody.now (mic_of end.now number databody.now)) }
     ensures size { IfOk result (λ body. length body ≤ 130000) }
 {
     let tag = end.make_mic_by(keys, number, databody);
@@ -234,7 +207,8 @@ fn seal_body(
     databody: &[u8],
 ) -> Result<Octets, NoMemory>
     requires { length databody.now ≤ 65544 }
-    ensures value { IfOk result (λ body. body ≡ opaque (wrap_of end.now number true confounder.now databody.now)) }
+    ensures value { IfOk result
+        (λ body. body ≡ opaque (wrap_of end.now number true confounder.now databody.now)) }
     ensures size { IfOk result (λ body. length body ≤ 130000) }
 {
     let token = end.wrap(alloc, number, true, confounder, databody)?;
@@ -258,7 +232,7 @@ pub(crate) fn data_call(
     signed_call(
         alloc,
         session,
-        DATA,
+        RPCSEC_GSS_DATA,
         session.service.number(),
         procedure,
         body.as_slice(),
@@ -271,5 +245,12 @@ pub(crate) fn destroy_call(alloc: Global, session: &Session) -> Result<Octets, N
     ensures value { IfOk result (λ o. o ≡ destroy_call session.now) }
     ensures size { IfOk result (λ o. length o ≤ 131072) }
 {
-    signed_call(alloc, session, DESTROY, PLAIN, 0, &[])
+    signed_call(
+        alloc,
+        session,
+        RPCSEC_GSS_DESTROY,
+        RPC_GSS_SVC_NONE,
+        NULL,
+        &[],
+    )
 }

@@ -31,7 +31,7 @@ pub enum Parting {
 }
 
 /// What the calls of a session came to.
-#[derive(Debug, Drop)]
+#[derive(Drop)]
 pub struct Conversation {
     /// The calls' results, in order.
     pub results: Vec<Octets>,
@@ -39,7 +39,7 @@ pub struct Conversation {
 }
 
 /// What a whole session came to.
-#[derive(Debug, Drop)]
+#[derive(Drop)]
 pub struct Talk {
     /// What both ends agree on, once the context stood.
     pub outcome: Option<Outcome>,
@@ -70,8 +70,11 @@ impl Session {
     ) -> Conversation
         requires unclosed { L.closed link.old ≡ false }
         requires args { length args.now ≤ 65540 }
-        ensures told { IsTrue (L.tells link.old) → Conferred (D.tells draw.new) (D.given draw.old) (D.given draw.new) times procedure args.now self (L.wire link.old) (L.wire link.new) result.results.items result.parting }
-        ensures fault { result.parting ≡ Parting.Refused ClientRefusal.LinkFault → Rose (L.faults link.old) (L.faults link.new) }
+        ensures told { IsTrue (L.tells link.old)
+            → Conferred (D.tells draw.new) (D.given draw.old) (D.given draw.new) times procedure
+            args.now self (L.wire link.old) (L.wire link.new) result.results.items result.parting }
+        ensures fault { result.parting ≡ Parting.Refused ClientRefusal.LinkFault
+            → Rose (L.faults link.old) (L.faults link.new) }
         ensures tells { L.tells link.new ≡ L.tells link.old }
         ensures unclosed { L.closed link.new ≡ false }
         ensures faults { L.faults link.old ≤ L.faults link.new }
@@ -124,8 +127,11 @@ impl Session {
         requires first { 1 ≤ start.first }
         requires last { start.first ≤ 0x7fffffff }
         requires args { length args.now ≤ 65540 }
-        ensures told { IsTrue (L.tells link.old) → Talked (D.tells draw.new) (D.given draw.old) (D.given draw.new) start times procedure args.now (L.wire link.old) (L.wire link.new) result.outcome result.results.items result.parting }
-        ensures fault { result.parting ≡ Parting.Refused ClientRefusal.LinkFault → Rose (L.faults link.old) (L.faults link.new) }
+        ensures told { IsTrue (L.tells link.old) → Talked (D.tells draw.new) (D.given draw.old)
+            (D.given draw.new) start times procedure args.now (L.wire link.old) (L.wire link.new)
+            result.outcome result.results.items result.parting }
+        ensures fault { result.parting ≡ Parting.Refused ClientRefusal.LinkFault
+            → Rose (L.faults link.old) (L.faults link.new) }
         ensures tells { L.tells link.new ≡ L.tells link.old }
         ensures unclosed { L.closed link.new ≡ false }
         ensures faults { L.faults link.old ≤ L.faults link.new }
@@ -155,8 +161,11 @@ impl Session {
     /// Destroys the context at the end of a conversation.
     fn part<L: Link>(self, alloc: Global, link: &mut L, due: Parting) -> Parting
         requires unclosed { L.closed link.old ≡ false }
-        ensures told { IsTrue (L.tells link.old) → Leaves self (L.wire link.old) (L.wire link.new) due result }
-        ensures fault { result ≡ Parting.Refused ClientRefusal.LinkFault → due ≢ Parting.Refused ClientRefusal.LinkFault → Rose (L.faults link.old) (L.faults link.new) }
+        ensures told { IsTrue (L.tells link.old)
+            → Leaves self (L.wire link.old) (L.wire link.new) due result }
+        ensures fault { result ≡ Parting.Refused ClientRefusal.LinkFault
+            → due ≢ Parting.Refused ClientRefusal.LinkFault
+            → Rose (L.faults link.old) (L.faults link.new) }
         ensures tells { L.tells link.new ≡ L.tells link.old }
         ensures unclosed { L.closed link.new ≡ false }
         ensures faults { L.faults link.old ≤ L.faults link.new }

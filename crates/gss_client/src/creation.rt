@@ -1,15 +1,18 @@
 //! The replies to creation calls, RFC 2203 section 5.2.3.
 
-ghost use Rattle.std.specs.Prelude.{◌≡◌, ◌≢◌, ℕ, IfOk};
+ghost use Rattle.std.specs.Prelude.{◌≡◌, ◌≢◌, ◌==◌, ℕ, IfOk, Ok, Err, if◌then◌else◌};
 ghost use Rattle.rpc_msgs.specs.declared.xdr_reader.XdrWhy.TheVariants as whys;
 ghost use Rattle.sec_base.specs.Answers.{Gives};
 ghost use Rattle.gss_client.specs.Exchanging.{FitsCreated, IsHandle};
 ghost use Rattle.gss_client.specs.Rank.{replies_left, IsNearer, IsCloser};
-ghost use Rattle.gss_client.specs.Judging.{answer_value, place_of, granted_value, granted_in, by_step, creation_step};
+ghost use Rattle.gss_client.specs.Judging.{answer_value, place_of, granted_value, granted_in};
+ghost use Rattle.gss_client.specs.Judging.{done_by, by_step, creation_step};
+ghost use Rattle.gss_client.specs.declared.creation.Created.TheVariants as created;
 ghost use Rattle.spnego_core.specs.Sizes.{ShortInit};
 
 use crate::answer::{Answer, answer_in, is_verified, place_of, succeeded};
 use crate::refusal::{ClientRefusal, Denial, ReplyWhy, not_negotiated};
+use gss_base::status::{COMPLETE, CONTINUE_NEEDED};
 use krb_tokens::MicCache;
 use rpc_msgs::{XdrRefusal, XdrWhy};
 use rpcsec_msgs::{InitRes, read_init_res};
@@ -18,7 +21,7 @@ use spnego_core::{InitEnd, InitStep, Outcome};
 use std::alloc::Global;
 
 /// What the next creation call is made of: as `creation_step` gives it, a handle of at most 64 octets and a token of at most 65,536.
-#[derive(Debug, Drop)]
+#[derive(Drop)]
 pub struct Offer {
     /// The end that takes the reply's token.
     pub end: InitEnd,
@@ -28,14 +31,14 @@ pub struct Offer {
 }
 
 /// An accepted reply and the creation's result in it.
-#[derive(Debug, Drop)]
+#[derive(Drop)]
 pub struct Granted<'a> {
     pub answer: Answer<'a>,
     pub result: InitRes,
 }
 
 /// What a reply to a creation call leads to (RFC 2203 section 5.2.3).
-#[derive(Debug, Drop)]
+#[derive(Drop)]
 pub enum Created {
     /// A further call is due.
     Going(Offer),
@@ -45,7 +48,8 @@ pub enum Created {
 
 /// The refusal of a creation's result.
 fn misplaced(answer: &Answer<'_>, refusal: XdrRefusal) -> ClientRefusal
-    ensures form { refusal.why ≢ whys.NoMemory → result ≡ ClientRefusal.BadReply (ReplyWhy.Form (place_of (answer_value answer.now) refusal.at)) }
+    ensures form { refusal.why ≢ whys.NoMemory → result
+        ≡ ClientRefusal.BadReply (ReplyWhy.Form (place_of (answer_value answer.now) refusal.at)) }
     ensures memory { refusal.why ≡ whys.NoMemory → result ≡ ClientRefusal.NoMemory }
 {
     match refusal.why {
@@ -69,7 +73,7 @@ fn granted_in(alloc: Global, xid: u32, bytes: &[u8]) -> Result<Granted<'_>, Clie
         Err(refusal) => return Err(misplaced(&answer, refusal)),
     };
     let InitRes { major, minor, .. } = &result;
-    if *major > 1 {
+    if *major > CONTINUE_NEEDED {
         return Err(ClientRefusal::Refused(Denial::Gss {
             major: *major,
             minor: *minor,
@@ -78,38 +82,63 @@ fn granted_in(alloc: Global, xid: u32, bytes: &[u8]) -> Result<Granted<'_>, Clie
     Ok(Granted { answer, result })
 }
 
+/// Refuses the reply behind which the context doesn't stand.
+fn demand_done(
+    answer: &Answer<'_>,
+    granted: &InitRes,
+    outcome: &Outcome,
+) -> Result<(), ClientRefusal>
+    ensures { result
+        ≡ done_by (record { answer = answer_value answer.now; result = granted.now }) outcome.now }
+{
+    if granted.major != COMPLETE {
+        return Err(ClientRefusal::BadReply(ReplyWhy::Steps));
+    }
+    if granted.window == 0 {
+        return Err(ClientRefusal::BadReply(ReplyWhy::Width));
+    }
+    if !is_verified(&MicCache::empty(), outcome, answer, granted.window) {
+        return Err(ClientRefusal::BadReply(ReplyWhy::Verifier));
+    }
+    Ok(())
+}
+
+/// The end is spent by a refusal.
+pub(crate) fn spend(_end: InitEnd, refusal: ClientRefusal) -> Result<Created, ClientRefusal>
+    ensures { result ≡ Err refusal }
+{
+    Err(refusal)
+}
+
+/// What a step leads to behind which a further token is due.
+fn going(major: u32, end: InitEnd, handle: Octets, token: Octets) -> Result<Created, ClientRefusal>
+    ensures value { result ≡ (if major == CONTINUE_NEEDED
+        then Ok (created.Going (record { end = end; handle = handle; token = token }))
+        else Err (ClientRefusal.BadReply ReplyWhy.Steps)) }
+{
+    if major == CONTINUE_NEEDED {
+        Ok(Created::Going(Offer { end, handle, token }))
+    } else {
+        spend(end, ClientRefusal::BadReply(ReplyWhy::Steps))
+    }
+}
+
 /// What the end's step leads to.
 #[tactic(auto, unfolding(crate::specs::Judging::by_step))]
 fn by_step(answer: &Answer<'_>, granted: InitRes, step: InitStep) -> Result<Created, ClientRefusal>
     requires handle { IsHandle granted.context }
     requires token { ShortInit step }
-    ensures exact { result ≡ by_step (record { answer = answer_value answer.now; result = granted }) step }
+    ensures exact { result
+        ≡ by_step (record { answer = answer_value answer.now; result = granted }) step }
     ensures closer { (count : ℕ) → IsNearer count step → IfOk result (IsCloser count) }
     ensures fits { IfOk result FitsCreated }
 {
     match step {
-        InitStep::More(end, token) => {
-            if granted.major != 1 {
-                return Err(ClientRefusal::BadReply(ReplyWhy::Steps));
-            }
-            Ok(Created::Going(Offer {
-                end,
-                handle: granted.context,
-                token,
-            }))
-        }
-        InitStep::Done(outcome) => {
-            if granted.major != 0 {
-                return Err(ClientRefusal::BadReply(ReplyWhy::Steps));
-            }
-            if granted.window == 0 {
-                return Err(ClientRefusal::BadReply(ReplyWhy::Width));
-            }
-            if !is_verified(&MicCache::empty(), &outcome, answer, granted.window) {
-                return Err(ClientRefusal::BadReply(ReplyWhy::Verifier));
-            }
-            Ok(Created::Stands(outcome, granted.context))
-        }
+        InitStep::More(end, token) => going(granted.major, end, granted.context, token),
+        InitStep::Done(outcome) => match demand_done(answer, &granted, &outcome) {
+            Ok(()) => Ok(Created::Stands(outcome, granted.context)),
+            Err(refusal) => Err(refusal),
+        },
     }
 }
 
@@ -126,7 +155,10 @@ pub fn creation_step(
     ensures closer { IfOk result (IsCloser (replies_left end)) }
     ensures fits { IfOk result FitsCreated }
 {
-    let Granted { answer, result } = granted_in(alloc, xid, bytes)?;
+    let Granted { answer, result } = match granted_in(alloc, xid, bytes) {
+        Ok(granted) => granted,
+        Err(refusal) => return spend(end, refusal),
+    };
     match end.step(alloc, result.token.as_slice()) {
         Ok(step) => by_step(&answer, result, step),
         Err(refusal) => Err(not_negotiated(refusal)),

@@ -1,31 +1,63 @@
 //! The creation of a context, turn after turn, RFC 2203 section 5.2.
 
-ghost use Rattle.std.specs.Prelude.{◌≡◌, ◌≤◌, false, true, IsTrue, IsErrOf, IfOk};
+ghost use Rattle.std.specs.Prelude.{◌≡◌, ◌≤◌, false, true, IsTrue, IsErrOf, IfOk, length};
 ghost use Rattle.sec_base.specs.Answers.{Rose};
-ghost use Rattle.gss_client.specs.Exchanging.{Talks, FitsOffer, FitsCreated};
+ghost use Rattle.gss_client.specs.Calling.{creation_call};
+ghost use Rattle.gss_client.specs.Exchanging.{Talks, IsHandle, FitsOffer, FitsCreated};
 ghost use Rattle.gss_client.specs.Rank.{replies_left, IsCloser};
 ghost use Rattle.gss_client.specs.Talk.{turns, creates, created_from};
+ghost use Rattle.gss_client.specs.Talking.{exchanges};
 ghost use Rattle.spnego_core.specs.InitMech.{is_own_list};
 
 use crate::calling::creation_call;
-use crate::creation::{Created, Offer, creation_step};
+use crate::creation::{Created, Offer, creation_step, spend};
 use crate::exchange::exchange;
 use crate::refusal::{ClientRefusal, not_negotiated};
 use crate::service::Service;
 use crate::session::{Session, xid_after};
 use crate::start::Start;
+use rpcsec_msgs::numbers::{RPCSEC_GSS_CONTINUE_INIT, RPCSEC_GSS_INIT};
 use sec_base::{Link, NoMemory, Octets};
 use spnego_core::InitEnd;
 use std::alloc::Global;
 
-/// The procedure of a first creation call.
-const INIT: u32 = 1;
-
-/// The procedure of later ones.
-const CONTINUE_INIT: u32 = 2;
-
 /// The most replies that an end takes.
 const MOST_REPLIES: u32 = 4;
+
+/// Writes a creation call, and hears its reply.
+fn call_with<L: Link>(
+    alloc: Global,
+    link: &mut L,
+    service: Service,
+    xid: u32,
+    proc: u32,
+    handle: Octets,
+    token: Octets,
+) -> Result<Octets, ClientRefusal>
+    requires unclosed { L.closed link.old ≡ false }
+    requires handle { IsHandle handle }
+    requires token { length token ≤ 65536 }
+    ensures told { IsTrue (L.tells link.old)
+        → Talks (exchanges (creation_call service xid proc handle token)) (L.wire link.old)
+        (L.wire link.new) result }
+    ensures fault { IsErrOf result ClientRefusal.LinkFault
+        → Rose (L.faults link.old) (L.faults link.new) }
+    ensures tells { L.tells link.new ≡ L.tells link.old }
+    ensures unclosed { L.closed link.new ≡ false }
+    ensures faults { L.faults link.old ≤ L.faults link.new }
+{
+    match creation_call(
+        alloc,
+        service,
+        xid,
+        proc,
+        handle.as_slice(),
+        token.as_slice(),
+    ) {
+        Ok(call) => exchange(alloc, link, call.as_slice()),
+        Err(NoMemory) => Err(ClientRefusal::NoMemory),
+    }
+}
 
 /// A creation call, and what its reply leads to.
 fn turn<L: Link>(
@@ -38,29 +70,20 @@ fn turn<L: Link>(
 ) -> Result<Created, ClientRefusal>
     requires unclosed { L.closed link.old ≡ false }
     requires fits { FitsOffer offer }
-    ensures told { IsTrue (L.tells link.old) → Talks (turns service xid proc offer) (L.wire link.old) (L.wire link.new) result }
+    ensures told { IsTrue (L.tells link.old)
+        → Talks (turns service xid proc offer) (L.wire link.old) (L.wire link.new) result }
     ensures closer { IfOk result (IsCloser (replies_left offer.end)) }
     ensures fits { IfOk result FitsCreated }
-    ensures fault { IsErrOf result ClientRefusal.LinkFault → Rose (L.faults link.old) (L.faults link.new) }
+    ensures fault { IsErrOf result ClientRefusal.LinkFault
+        → Rose (L.faults link.old) (L.faults link.new) }
     ensures tells { L.tells link.new ≡ L.tells link.old }
     ensures unclosed { L.closed link.new ≡ false }
     ensures faults { L.faults link.old ≤ L.faults link.new }
 {
     let Offer { end, handle, token } = offer;
-    let call = match creation_call(
-        alloc,
-        service,
-        xid,
-        proc,
-        handle.as_slice(),
-        token.as_slice(),
-    ) {
-        Ok(call) => call,
-        Err(NoMemory) => return Err(ClientRefusal::NoMemory),
-    };
-    match exchange(alloc, link, call.as_slice()) {
+    match call_with(alloc, link, service, xid, proc, handle, token) {
         Ok(reply) => creation_step(alloc, end, xid, reply.as_slice()),
-        Err(refusal) => Err(refusal),
+        Err(refusal) => spend(end, refusal),
     }
 }
 
@@ -79,8 +102,10 @@ fn establish<L: Link>(
     requires fits { FitsOffer offer }
     requires enough { replies_left offer.end ≤ left }
     requires last { first ≤ 0x7fffffff }
-    ensures told { IsTrue (L.tells link.old) → Talks (creates left service first xid proc offer) (L.wire link.old) (L.wire link.new) result }
-    ensures fault { IsErrOf result ClientRefusal.LinkFault → Rose (L.faults link.old) (L.faults link.new) }
+    ensures told { IsTrue (L.tells link.old) → Talks (creates left service first xid proc offer)
+        (L.wire link.old) (L.wire link.new) result }
+    ensures fault { IsErrOf result ClientRefusal.LinkFault
+        → Rose (L.faults link.old) (L.faults link.new) }
     ensures tells { L.tells link.new ≡ L.tells link.old }
     ensures unclosed { L.closed link.new ≡ false }
     ensures faults { L.faults link.old ≤ L.faults link.new }
@@ -95,7 +120,7 @@ fn establish<L: Link>(
             service,
             first,
             xid_after(xid),
-            CONTINUE_INIT,
+            RPCSEC_GSS_CONTINUE_INIT,
             next,
             left - 1,
         ),
@@ -121,8 +146,10 @@ impl Session {
         requires list { is_own_list start.setup.list ≡ true }
         requires first { 1 ≤ start.first }
         requires last { start.first ≤ 0x7fffffff }
-        ensures told { IsTrue (L.tells link.old) → Talks (created_from start) (L.wire link.old) (L.wire link.new) result }
-        ensures fault { IsErrOf result ClientRefusal.LinkFault → Rose (L.faults link.old) (L.faults link.new) }
+        ensures told { IsTrue (L.tells link.old)
+            → Talks (created_from start) (L.wire link.old) (L.wire link.new) result }
+        ensures fault { IsErrOf result ClientRefusal.LinkFault
+            → Rose (L.faults link.old) (L.faults link.new) }
         ensures tells { L.tells link.new ≡ L.tells link.old }
         ensures unclosed { L.closed link.new ≡ false }
         ensures faults { L.faults link.old ≤ L.faults link.new }
@@ -138,6 +165,15 @@ impl Session {
         };
         let handle = Octets::from_vec(Vec::new(alloc));
         let offer = Offer { end, handle, token };
-        establish(alloc, link, service, first, 1, INIT, offer, MOST_REPLIES)
+        establish(
+            alloc,
+            link,
+            service,
+            first,
+            1,
+            RPCSEC_GSS_INIT,
+            offer,
+            MOST_REPLIES,
+        )
     }
 }

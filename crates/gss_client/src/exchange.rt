@@ -13,8 +13,10 @@ use std::alloc::Global;
 /// Hears the next record.
 fn listen<L: Link>(alloc: Global, link: &mut L) -> Result<Octets, ClientRefusal>
     requires unclosed { L.closed link.old ≡ false }
-    ensures told { IsTrue (L.tells link.old) → Talks listens (L.wire link.old) (L.wire link.new) result }
-    ensures fault { IsErrOf result ClientRefusal.LinkFault → Rose (L.faults link.old) (L.faults link.new) }
+    ensures told { IsTrue (L.tells link.old)
+        → Talks listens (L.wire link.old) (L.wire link.new) result }
+    ensures fault { IsErrOf result ClientRefusal.LinkFault
+        → Rose (L.faults link.old) (L.faults link.new) }
     ensures tells { L.tells link.new ≡ L.tells link.old }
     ensures unclosed { L.closed link.new ≡ false }
     ensures faults { L.faults link.old ≤ L.faults link.new }
@@ -38,8 +40,10 @@ pub(crate) fn exchange<L: Link>(
 ) -> Result<Octets, ClientRefusal>
     requires unclosed { L.closed link.old ≡ false }
     requires room { length call.now ≤ 131072 }
-    ensures told { IsTrue (L.tells link.old) → Talks (exchanges call.now) (L.wire link.old) (L.wire link.new) result }
-    ensures fault { IsErrOf result ClientRefusal.LinkFault → Rose (L.faults link.old) (L.faults link.new) }
+    ensures told { IsTrue (L.tells link.old)
+        → Talks (exchanges call.now) (L.wire link.old) (L.wire link.new) result }
+    ensures fault { IsErrOf result ClientRefusal.LinkFault
+        → Rose (L.faults link.old) (L.faults link.new) }
     ensures tells { L.tells link.new ≡ L.tells link.old }
     ensures unclosed { L.closed link.new ≡ false }
     ensures faults { L.faults link.old ≤ L.faults link.new }

@@ -5,6 +5,7 @@ ghost use Rattle.std.specs.Str.{is_utf8};
 ghost use Rattle.rpc_msgs.specs.Xdr.{Answers};
 ghost use Rattle.gss_client.specs.Procedure.{procedure_number, opaque_alone, is_result};
 
+use rpc_msgs::numbers::{COUNT, ECHO, NULL, POST, WHOAMI};
 use rpc_msgs::{XdrReader, XdrRefusal};
 use std::str::from_utf8;
 
@@ -17,7 +18,7 @@ use std::str::from_utf8;
 /// | 2 | the initiator's name | none | a text of at most 1,024 octets |
 /// | 3 | a post | octets, at most 65,536 | how many posts there were, in a word |
 /// | 4 | the count of posts | none | how many there were, in a word |
-#[derive(Clone, Copy, Debug, PartialEq, Eq)]
+#[derive(Clone, Copy, PartialEq, Eq)]
 pub enum Procedure {
     Null,
     Echo,
@@ -32,11 +33,11 @@ impl Procedure {
         ensures { result ≡ procedure_number self }
     {
         match self {
-            Procedure::Null => 0,
-            Procedure::Echo => 1,
-            Procedure::Whoami => 2,
-            Procedure::Post => 3,
-            Procedure::Count => 4,
+            Procedure::Null => NULL,
+            Procedure::Echo => ECHO,
+            Procedure::Whoami => WHOAMI,
+            Procedure::Post => POST,
+            Procedure::Count => COUNT,
         }
     }
 

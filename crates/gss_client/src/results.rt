@@ -2,7 +2,8 @@
 
 ghost use Rattle.std.specs.Prelude.{◌≡◌};
 ghost use Rattle.sec_base.specs.Answers.{Gives};
-ghost use Rattle.gss_client.specs.Judging.{numbered, checked_result, sealed_result, body_result, call_result, destroyed_in};
+ghost use Rattle.gss_client.specs.Judging.{numbered, checked_result, sealed_result, body_result};
+ghost use Rattle.gss_client.specs.Judging.{call_result, destroyed_in};
 
 use crate::answer::{place_of, verified_in};
 use crate::refusal::{ClientRefusal, ReplyWhy};
@@ -39,7 +40,8 @@ fn checked_result(
     number: u32,
     body: &[u8],
 ) -> Result<Octets, ClientRefusal>
-    ensures { Gives ClientRefusal.NoMemory (λ o. o) result (checked_result end.now number body.now) }
+    ensures { Gives ClientRefusal.NoMemory (λ o. o) result
+        (checked_result end.now number body.now) }
 {
     let Ok((databody, mic)) = split_checked(body) else {
         return Err(ClientRefusal::BadReply(ReplyWhy::Body));
@@ -84,7 +86,8 @@ fn body_result(
     body: &[u8],
     service: Service,
 ) -> Result<Octets, ClientRefusal>
-    ensures { Gives ClientRefusal.NoMemory (λ o. o) result (body_result end.now number body.now service) }
+    ensures { Gives ClientRefusal.NoMemory (λ o. o) result
+        (body_result end.now number body.now service) }
 {
     match service {
         Service::None => {
@@ -107,7 +110,8 @@ pub(crate) fn call_result(
     xid: u32,
     bytes: &[u8],
 ) -> Result<Octets, ClientRefusal>
-    ensures { Gives ClientRefusal.NoMemory (λ o. o) result (call_result outcome.now service number xid bytes.now) }
+    ensures { Gives ClientRefusal.NoMemory (λ o. o) result
+        (call_result outcome.now service number xid bytes.now) }
 {
     let answer = verified_in(keys, outcome, number, xid, bytes)?;
     let end = outcome.token_end(Side::Initiator);

@@ -3,8 +3,10 @@
 ghost use Rattle.std.specs.Prelude.{◌≡◌};
 ghost use Rattle.gss_client.specs.Calling.{number_of};
 
+use rpcsec_msgs::numbers::{RPC_GSS_SVC_INTEGRITY, RPC_GSS_SVC_NONE, RPC_GSS_SVC_PRIVACY};
+
 /// How calls and their results are protected.
-#[derive(Clone, Copy, Debug, PartialEq, Eq)]
+#[derive(Clone, Copy, PartialEq, Eq)]
 pub enum Service {
     /// Their headers alone.
     None,
@@ -20,9 +22,9 @@ impl Service {
         ensures { result ≡ number_of self }
     {
         match self {
-            Service::None => 1,
-            Service::Integrity => 2,
-            Service::Privacy => 3,
+            Service::None => RPC_GSS_SVC_NONE,
+            Service::Integrity => RPC_GSS_SVC_INTEGRITY,
+            Service::Privacy => RPC_GSS_SVC_PRIVACY,
         }
     }
 }

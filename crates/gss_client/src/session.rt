@@ -7,6 +7,7 @@ ghost use Rattle.gss_client.specs.Calling.{data_call};
 ghost use Rattle.gss_client.specs.Exchanging.{Talks, IsHandle};
 ghost use Rattle.gss_client.specs.Session.{xid_after, session_after};
 ghost use Rattle.gss_client.specs.Talk.{begun, calls, destroys};
+ghost use Rattle.gss_client.specs.Talking.{exchanges};
 
 use crate::calling::{data_call, destroy_call};
 use crate::exchange::exchange;
@@ -20,7 +21,7 @@ use std::alloc::Global;
 use std::marker::Model;
 
 /// A context that stands, and where its calls are. Each step consumes it and gives the next state.
-#[derive(Debug, Drop)]
+#[derive(Drop)]
 pub struct Session {
     pub(crate) outcome: Outcome,
     pub(crate) service: Service,
@@ -37,7 +38,14 @@ impl Model for Session {
 
     ghost Value = { SessionState };
 
-    ghost view = { λ s. record { outcome = s.outcome; service = s.service; handle = s.handle; number = s.number; xid = s.xid } };
+    ghost view = { λ s. record {
+      outcome = s.outcome;
+      service = s.service;
+      handle =
+          s.handle;
+      number = s.number;
+      xid = s.xid;
+    } };
 
     ghost invariant = { λ s. (length s.handle ≤ 64) × (s.number ≤ 0x80000000) };
 }
@@ -106,7 +114,8 @@ impl Session {
         confounder: &[u8; 16],
     ) -> Result<Octets, NoMemory>
         requires { length args.now ≤ 65540 }
-        ensures value { IfOk result (λ o. o ≡ data_call self.now procedure args.now confounder.now) }
+        ensures value { IfOk result
+            (λ o. o ≡ data_call self.now procedure args.now confounder.now) }
         ensures size { IfOk result (λ o. length o ≤ 131072) }
     {
         data_call(alloc, self, procedure, args, confounder)
@@ -127,6 +136,32 @@ impl Session {
         }
     }
 
+    /// Writes a call, and hears its reply.
+    fn ask<L: Link>(
+        &self,
+        alloc: Global,
+        link: &mut L,
+        procedure: u32,
+        args: &[u8],
+        confounder: &[u8; 16],
+    ) -> Result<Octets, ClientRefusal>
+        requires unclosed { L.closed link.old ≡ false }
+        requires args { length args.now ≤ 65540 }
+        ensures told { IsTrue (L.tells link.old)
+            → Talks (exchanges (data_call self.now procedure args.now confounder.now))
+            (L.wire link.old) (L.wire link.new) result }
+        ensures fault { IsErrOf result ClientRefusal.LinkFault
+            → Rose (L.faults link.old) (L.faults link.new) }
+        ensures tells { L.tells link.new ≡ L.tells link.old }
+        ensures unclosed { L.closed link.new ≡ false }
+        ensures faults { L.faults link.old ≤ L.faults link.new }
+    {
+        match data_call(alloc, self, procedure, args, confounder) {
+            Ok(call) => exchange(alloc, link, call.as_slice()),
+            Err(NoMemory) => Err(ClientRefusal::NoMemory),
+        }
+    }
+
     /// Calls a procedure: the result's octets, and the session behind the call. `confounder` are random octets, used once.
     pub fn call<L: Link>(
         self,
@@ -139,17 +174,16 @@ impl Session {
         requires unclosed { L.closed link.old ≡ false }
         requires number { self.number ≤ 0x7fffffff }
         requires args { length args.now ≤ 65540 }
-        ensures told { IsTrue (L.tells link.old) → Talks (calls self procedure args.now confounder.now) (L.wire link.old) (L.wire link.new) result }
-        ensures fault { IsErrOf result ClientRefusal.LinkFault → Rose (L.faults link.old) (L.faults link.new) }
+        ensures told { IsTrue (L.tells link.old)
+            → Talks (calls self procedure args.now confounder.now) (L.wire link.old)
+            (L.wire link.new) result }
+        ensures fault { IsErrOf result ClientRefusal.LinkFault
+            → Rose (L.faults link.old) (L.faults link.new) }
         ensures tells { L.tells link.new ≡ L.tells link.old }
         ensures unclosed { L.closed link.new ≡ false }
         ensures faults { L.faults link.old ≤ L.faults link.new }
     {
-        let call = match data_call(alloc, &self, procedure, args, confounder) {
-            Ok(call) => call,
-            Err(NoMemory) => return Err(ClientRefusal::NoMemory),
-        };
-        match exchange(alloc, link, call.as_slice()) {
+        match self.ask(alloc, link, procedure, args, confounder) {
             Ok(reply) => self.take_result(alloc, reply.as_slice()),
             Err(refusal) => Err(refusal),
         }
@@ -159,7 +193,8 @@ impl Session {
     #[tactic(auto, unfolding(crate::specs::Judging::result_taken))]
     fn take_result(self, alloc: Global, reply: &[u8]) -> Result<(Session, Octets), ClientRefusal>
         requires { self.number ≤ 0x7fffffff }
-        ensures judged { Gives ClientRefusal.NoMemory (λ p. p) result (result_taken self reply.now) }
+        ensures judged { Gives ClientRefusal.NoMemory (λ p. p) result
+            (result_taken self reply.now) }
         ensures fault { IsErrOf result ClientRefusal.LinkFault → ⊥ }
     {
         match call_result(
@@ -179,13 +214,29 @@ impl Session {
     /// Destroys the context. The session is spent, whatever the answer.
     pub fn destroy<L: Link>(self, alloc: Global, link: &mut L) -> Result<(), ClientRefusal>
         requires unclosed { L.closed link.old ≡ false }
-        ensures told { IsTrue (L.tells link.old) → Talks (destroys self) (L.wire link.old) (L.wire link.new) result }
-        ensures fault { IsErrOf result ClientRefusal.LinkFault → Rose (L.faults link.old) (L.faults link.new) }
+        ensures told { IsTrue (L.tells link.old)
+            → Talks (destroys self) (L.wire link.old) (L.wire link.new) result }
+        ensures fault { IsErrOf result ClientRefusal.LinkFault
+            → Rose (L.faults link.old) (L.faults link.new) }
         ensures tells { L.tells link.new ≡ L.tells link.old }
         ensures unclosed { L.closed link.new ≡ false }
         ensures faults { L.faults link.old ≤ L.faults link.new }
     {
-        let call = match destroy_call(alloc, &self) {
+        self.leave(alloc, link)
+    }
+
+    /// Destroys the context.
+    fn leave<L: Link>(&self, alloc: Global, link: &mut L) -> Result<(), ClientRefusal>
+        requires unclosed { L.closed link.old ≡ false }
+        ensures told { IsTrue (L.tells link.old)
+            → Talks (destroys self.now) (L.wire link.old) (L.wire link.new) result }
+        ensures fault { IsErrOf result ClientRefusal.LinkFault
+            → Rose (L.faults link.old) (L.faults link.new) }
+        ensures tells { L.tells link.new ≡ L.tells link.old }
+        ensures unclosed { L.closed link.new ≡ false }
+        ensures faults { L.faults link.old ≤ L.faults link.new }
+    {
+        let call = match destroy_call(alloc, self) {
             Ok(call) => call,
             Err(NoMemory) => return Err(ClientRefusal::NoMemory),
         };

@@ -4,7 +4,7 @@ use crate::service::Service;
 use spnego_core::InitSetup;
 
 /// What a session is begun with.
-#[derive(Debug, Drop)]
+#[derive(Drop)]
 pub struct Start {
     pub setup: InitSetup,
     /// How the session's calls are protected.
