@@ -1,6 +1,7 @@
 //! Octets of a link that were read before they were asked for.
 
-ghost use Rattle.std.specs.Prelude.{◌≡◌, ◌++◌, ◌==◌, ◌≤◌, false, [], length, take, min, vec_len, OnErr};
+ghost use Rattle.std.specs.Prelude.{◌≡◌, ◌++◌, ◌==◌, ◌≤◌, false, [], length, take, min, vec_len};
+ghost use Rattle.std.specs.Prelude.{OnErr};
 ghost use Rattle.sec_base.specs.Answers.{Rose};
 
 use sec_base::{Link, LinkFault};

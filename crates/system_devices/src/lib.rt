@@ -13,8 +13,6 @@ mod stdio_port;
 mod system_clock;
 mod tcp_link;
 mod tcp_port;
-#[cfg(test)]
-mod tests;
 mod words;
 
 pub use buffered::{Buffered, BufferedPort};
