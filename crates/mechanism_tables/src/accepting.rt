@@ -1,75 +1,113 @@
 //! An acceptor's end and the tokens that come to it.
 
 use sec_base::Moment;
-use spnego_core::{AcceptEnd, AcceptSetup, AcceptStep};
-use std::alloc::Global;
-use table_rows::{add, cell, octets};
+use spnego_core::{AcceptEnd, AcceptSetup, AcceptStep, Outcome};
+use table_rows::{Cells, Said};
 use table_setting::{Setting, draws, saying};
 
-/// What a step says, after `before`, and the end behind it.
-fn shown(alloc: Global, before: &str, step: AcceptStep) -> Option<(Option<AcceptEnd>, String)> {
+/// The octets of the token in `token=verdict`.
+pub fn token(cells: &mut Cells<'_>, part: &str) -> Vec<u8> {
+    let mut halves = Cells::new(cells.alloc(), part, '=');
+    let token = halves.octets();
+    cells.expect(halves.are_well() && halves.rest().is_some());
+    token
+}
+
+/// Says that another token is due behind this one.
+pub fn say_more(said: &mut Said, token: &[u8]) {
+    said.word("More");
+    said.join(":");
+    said.octets(token);
+}
+
+/// Says that the context stands, behind this token.
+fn say_done(said: &mut Said, outcome: &Outcome, token: &[u8]) {
+    said.word("Done");
+    said.join(":");
+    said.octets(token);
+    said.join(":");
+    saying::outcome(said, outcome);
+}
+
+/// Says what a step says that asks nothing, and gives the end that it leaves.
+fn settled(said: &mut Said, step: AcceptStep) -> Option<AcceptEnd> {
     match step {
         AcceptStep::More(end, token) => {
-            let token = cell(alloc, token.as_slice())?;
-            Some((Some(end), format!(in alloc; "{before}More:{token}").ok()?))
+            say_more(said, token.as_slice());
+            Some(end)
         }
         AcceptStep::Done(outcome, _ends, token) => {
-            let token = cell(alloc, token.as_slice())?;
-            let outcome = saying::outcome(alloc, &outcome)?;
-            Some((
-                None,
-                format!(in alloc; "{before}Done:{token}:{outcome}").ok()?,
-            ))
+            say_done(said, &outcome, token.as_slice());
+            None
         }
         AcceptStep::WantsAuth(_pause) => None,
     }
 }
 
-/// What an end says to a token at this moment, and the end behind it. Where it asks whether the request was taken before, it goes on.
+/// Says what a step says, and gives the end that it leaves. Where it asks whether the request was taken before, it goes on.
+fn shown(said: &mut Said, step: AcceptStep) -> Option<AcceptEnd> {
+    match step {
+        AcceptStep::WantsAuth(pause) => {
+            said.word("Auth+");
+            said.join("");
+            settled(said, pause.go_on())
+        }
+        step => settled(said, step),
+    }
+}
+
+/// Says what an end says to a token at this moment, and gives the end that it leaves.
 fn taken(
-    alloc: Global,
+    cells: &mut Cells<'_>,
+    said: &mut Said,
     setup: &AcceptSetup,
     end: AcceptEnd,
     token: &[u8],
     now: Moment,
-) -> Option<(Option<AcceptEnd>, String)> {
-    match end.step(alloc, setup, token, now, &draws()) {
-        Ok(AcceptStep::WantsAuth(pause)) => shown(alloc, "Auth+", pause.go_on()),
-        Ok(step) => shown(alloc, "", step),
-        Err(refusal) => Some((None, saying::refusal(alloc, refusal)?)),
+) -> Option<AcceptEnd> {
+    match end.step(cells.alloc(), setup, token, now, &draws()) {
+        Ok(step) => shown(said, step),
+        Err(refusal) => {
+            saying::refusal(said, refusal);
+            None
+        }
     }
 }
 
-/// `token=verdict` for a token to this end, and the end behind it.
+/// Says `token=verdict` for a token to this end, and gives the end that it leaves. To an end that is spent nothing more is said.
 fn stepped(
-    alloc: Global,
+    cells: &mut Cells<'_>,
+    said: &mut Said,
     setup: &AcceptSetup,
-    end: AcceptEnd,
+    end: Option<AcceptEnd>,
     part: &str,
     now: Moment,
-) -> Option<(Option<AcceptEnd>, String)> {
-    let (token, _verdict) = part.split_once('=')?;
-    let octets = octets(alloc, token)?;
-    let (after, verdict) = taken(alloc, setup, end, octets.as_slice(), now)?;
-    let said = format!(in alloc; "{token}={verdict}").ok()?;
-    Some((after, said))
-}
-
-/// `token=verdict` for each of these tokens.
-pub fn talk(alloc: Global, setup: &AcceptSetup, now: Moment, tokens: &str) -> Option<String> {
-    let mut said = String::new(alloc);
-    let mut next = Some(AcceptEnd::new());
-    for part in tokens.split(' ') {
-        let (after, one) = stepped(alloc, setup, next?, part, now)?;
-        next = after;
-        add(&mut said, " ", one.as_str())?;
+) -> Option<AcceptEnd> {
+    let token = token(cells, part);
+    match end {
+        None => None,
+        Some(end) => {
+            said.octets(token.as_slice());
+            said.join("=");
+            taken(cells, said, setup, end, token.as_slice(), now)
+        }
     }
-    Some(said)
 }
 
-/// `token=verdict` for each token of a line, which begins with the letters of the offer.
-pub fn answered(alloc: Global, setting: &Setting, line: &str) -> Option<String> {
-    let (letters, tokens) = line.split_once(' ')?;
-    let setup = setting.acceptor(alloc, letters)?;
-    talk(alloc, &setup, Moment::new(1_000_000, 0)?, tokens)
+/// Says `token=verdict` for each of the tokens that are left of a row.
+pub fn talk(cells: &mut Cells<'_>, said: &mut Said, setup: &AcceptSetup, now: Moment) {
+    let mut next = Some(AcceptEnd::new());
+    for part in cells.rest().unwrap_or("").split(' ') {
+        next = stepped(cells, said, setup, next, part, now);
+    }
+}
+
+/// What the setting's acceptor says to each token of a row, which begins with the letters of the offer.
+pub fn answer(setting: &Setting, cells: &mut Cells<'_>, said: &mut Said) {
+    let letters = cells.word();
+    let now = Moment::new(1_000_000, 0).unwrap_or(Moment::start());
+    match setting.acceptor(cells.alloc(), letters) {
+        Some(setup) => talk(cells, said, &setup, now),
+        None => cells.expect(false),
+    }
 }

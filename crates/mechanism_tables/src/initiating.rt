@@ -3,85 +3,99 @@
 ghost use Rattle.std.specs.Prelude.{◌≡◌, true};
 ghost use Rattle.spnego_core.specs.InitMech.{is_own_list};
 
-use spnego_core::{InitEnd, InitSetup, InitStep};
-use std::alloc::Global;
-use table_rows::{add, cell, exactly, octets};
+use crate::accepting::{say_more, token};
+use spnego_core::{InitEnd, InitSetup, InitStep, Outcome};
+use table_rows::{Cells, Said};
 use table_setting::{Setting, saying};
 
-/// What an end says to a reply, and the end behind it.
-fn replied(alloc: Global, end: InitEnd, reply: &[u8]) -> Option<(Option<InitEnd>, String)> {
-    match end.step(alloc, reply) {
-        Ok(InitStep::More(end, token)) => {
-            let token = cell(alloc, token.as_slice())?;
-            Some((Some(end), format!(in alloc; "More:{token}").ok()?))
+/// Says that the context stands.
+fn say_done(said: &mut Said, outcome: &Outcome) {
+    said.word("Done");
+    said.join(":");
+    saying::outcome(said, outcome);
+}
+
+/// Says what a step says, and gives the end that it leaves.
+fn shown(said: &mut Said, step: InitStep) -> Option<InitEnd> {
+    match step {
+        InitStep::More(end, token) => {
+            say_more(said, token.as_slice());
+            Some(end)
         }
-        Ok(InitStep::Done(outcome)) => {
-            let outcome = saying::outcome(alloc, &outcome)?;
-            Some((None, format!(in alloc; "Done:{outcome}").ok()?))
+        InitStep::Done(outcome) => {
+            say_done(said, &outcome);
+            None
         }
-        Err(refusal) => Some((None, saying::refusal(alloc, refusal)?)),
     }
 }
 
-/// An end and its first token.
-fn begun(alloc: Global, setup: InitSetup) -> Option<(InitEnd, String)>
-    requires { is_own_list setup.list ≡ true }
-{
-    let (end, first) = InitEnd::start(alloc, setup).ok()?;
-    Some((end, cell(alloc, first.as_slice())?))
+/// Says what an end says to a reply, and gives the end that it leaves.
+fn taken(cells: &mut Cells<'_>, said: &mut Said, end: InitEnd, reply: &[u8]) -> Option<InitEnd> {
+    match end.step(cells.alloc(), reply) {
+        Ok(step) => shown(said, step),
+        Err(refusal) => {
+            saying::refusal(said, refusal);
+            None
+        }
+    }
 }
 
-/// `reply=verdict` for a reply to this end, and the end behind it.
-fn stepped(alloc: Global, end: InitEnd, part: &str) -> Option<(Option<InitEnd>, String)> {
-    let (reply, _verdict) = part.split_once('=')?;
-    let octets = octets(alloc, reply)?;
-    let (after, verdict) = replied(alloc, end, octets.as_slice())?;
-    let said = format!(in alloc; "{reply}={verdict}").ok()?;
-    Some((after, said))
+/// Says `reply=verdict` for a reply to this end, and gives the end that it leaves. To an end that is spent nothing more is said.
+fn stepped(
+    cells: &mut Cells<'_>,
+    said: &mut Said,
+    end: Option<InitEnd>,
+    part: &str,
+) -> Option<InitEnd> {
+    let reply = token(cells, part);
+    match end {
+        None => None,
+        Some(end) => {
+            said.octets(reply.as_slice());
+            said.join("=");
+            taken(cells, said, end, reply.as_slice())
+        }
+    }
 }
 
-/// `reply=verdict` for each of these replies, behind the first token.
-fn followed(alloc: Global, end: InitEnd, first: String, replies: &str) -> Option<String> {
-    let mut said = first;
+/// Says `reply=verdict` for each reply that is left of a row behind the first token.
+fn followed(cells: &mut Cells<'_>, said: &mut Said, end: InitEnd) {
+    let mut parts = cells.rest().unwrap_or("").split(' ');
+    let _first = parts.next();
     let mut next = Some(end);
-    for part in replies.split(' ') {
-        let (after, one) = stepped(alloc, next?, part)?;
-        next = after;
-        add(&mut said, " ", one.as_str())?;
-    }
-    Some(said)
-}
-
-/// The first token, and `reply=verdict` for each of these replies.
-pub fn talk(alloc: Global, setup: InitSetup, replies: &str) -> Option<String>
-    requires { is_own_list setup.list ≡ true }
-{
-    let (end, first) = begun(alloc, setup)?;
-    followed(alloc, end, first, replies)
-}
-
-/// The first token alone.
-fn opened(alloc: Global, setup: InitSetup) -> Option<String>
-    requires { is_own_list setup.list ≡ true }
-{
-    let (_end, first) = begun(alloc, setup)?;
-    Some(first)
-}
-
-/// The first token, and `reply=verdict` for each reply of a line, which begins with the letters of the list.
-pub fn answered(alloc: Global, setting: &Setting, line: &str) -> Option<String> {
-    let (letters, rest) = line.split_once(' ')?;
-    let setup = setting.initiator(alloc, letters)?;
-    match rest.split_once(' ') {
-        None => opened(alloc, setup),
-        Some((_first, replies)) => talk(alloc, setup, replies),
+    for part in parts {
+        next = stepped(cells, said, next, part);
     }
 }
 
-/// The first token of a line, which has the letters of the list and the random octets.
-pub fn first(alloc: Global, setting: &Setting, line: &str) -> Option<String> {
-    let mut cells = line.split(' ');
-    let letters = cells.next()?;
-    let draws = exactly(cells.next()?)?;
-    opened(alloc, setting.initiator_with(alloc, letters, draws)?)
+/// Says the first token, and `reply=verdict` for each reply that is left of a row behind the first token.
+pub fn talk(cells: &mut Cells<'_>, said: &mut Said, setup: InitSetup)
+    requires { is_own_list setup.list ≡ true }
+{
+    match InitEnd::start(cells.alloc(), setup) {
+        Err(refusal) => saying::refusal(said, refusal),
+        Ok((end, first)) => {
+            said.octets(first.as_slice());
+            followed(cells, said, end);
+        }
+    }
+}
+
+/// What the setting's initiator says at first and to each reply of a row, which begins with the letters of the list.
+pub fn answer(setting: &Setting, cells: &mut Cells<'_>, said: &mut Said) {
+    let letters = cells.word();
+    match setting.initiator(cells.alloc(), letters) {
+        Some(setup) => talk(cells, said, setup),
+        None => cells.expect(false),
+    }
+}
+
+/// The first token, by the cells letters of the list and random octets.
+pub fn first(setting: &Setting, cells: &mut Cells<'_>, said: &mut Said) {
+    let letters = cells.word();
+    let draws = cells.exactly();
+    match setting.initiator_with(cells.alloc(), letters, draws) {
+        Some(setup) => talk(cells, said, setup),
+        None => cells.expect(false),
+    }
 }

@@ -10,16 +10,18 @@ mod scram_initiator;
 mod scram_texts;
 mod stamps;
 mod table;
+mod tickets;
 mod verifiers;
 
 use std::{fs, io};
 use table::{Table, compared};
 use table_setting::Setting;
 
-const TABLES: [Table; 14] = [
+const TABLES: [Table; 15] = [
     Table::Requests,
     Table::Replies,
     Table::Faults,
+    Table::Tickets,
     Table::Stamps,
     Table::ScramExchanges,
     Table::ScramInitiator,

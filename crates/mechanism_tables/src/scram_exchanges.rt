@@ -1,12 +1,12 @@
 //! An exchange of SCRAM between two ends.
 
-use crate::kerberos::bindings;
+use crate::kerberos::bindings_in;
 use gss_base::Bindings;
 use krb_tokens::MechDone;
 use scram_mech::{ScramAccept, ScramInit, ScramRefusal, ScramWait, Verifiers, read_verifiers};
 use sec_base::Moment;
 use std::alloc::Global;
-use table_rows::{add, cell, exactly, moment, octets, text};
+use table_rows::{Cells, Said};
 use table_setting::saying;
 
 /// What both ends of an exchange begin with.
@@ -14,7 +14,7 @@ use table_setting::saying;
 struct Ends {
     user: String,
     password: String,
-    verifiers: Verifiers,
+    verifiers: Vec<u8>,
     own: [u8; 18],
     theirs: [u8; 18],
     here: Option<Bindings>,
@@ -23,66 +23,44 @@ struct Ends {
 }
 
 /// The cells user, password, verifier file, random octets of both, bindings of both and the acceptor's moment.
-fn ends_in(alloc: Global, line: &str) -> Option<Ends> {
-    let mut cells = line.split(' ');
-    let user = text(alloc, cells.next()?)?;
-    let password = text(alloc, cells.next()?)?;
-    let file = octets(alloc, cells.next()?)?;
-    let own = exactly(cells.next()?)?;
-    let theirs = exactly(cells.next()?)?;
-    let here = bindings(alloc, cells.next()?)?;
-    let there = bindings(alloc, cells.next()?)?;
-    let now = moment(cells.next()?)?;
-    Some(Ends {
-        user,
-        password,
-        verifiers: read_verifiers(alloc, file.as_slice()).ok()?,
-        own,
-        theirs,
-        here,
-        there,
-        now,
-    })
+fn ends_in(cells: &mut Cells<'_>) -> Ends {
+    Ends {
+        user: cells.text(),
+        password: cells.text(),
+        verifiers: cells.octets(),
+        own: cells.exactly(),
+        theirs: cells.exactly(),
+        here: bindings_in(cells),
+        there: bindings_in(cells),
+        now: cells.moment(),
+    }
 }
 
-/// What was said so far, and the refusal.
-pub fn refused(alloc: Global, said: String, refusal: ScramRefusal) -> Option<String> {
-    let why = saying::scram(alloc, refusal)?;
-    let mut said = said;
-    add(&mut said, " ", "refused:")?;
-    said.push_str(why.as_str()).ok()?;
-    Some(said)
+/// Says a refusal.
+pub fn refused(said: &mut Said, refusal: ScramRefusal) {
+    said.word("refused");
+    said.join(":");
+    saying::scram(said, refusal);
 }
 
-/// What was said so far, and a token.
-pub fn with(alloc: Global, said: String, token: &[u8]) -> Option<String> {
-    let mut said = said;
-    add(&mut said, " ", cell(alloc, token)?.as_str())?;
-    Some(said)
+/// Says what an end is left with: `key:hash:initiator:end`.
+pub fn left(said: &mut Said, done: &MechDone) {
+    said.octets(done.key.bytes());
+    said.join(":");
+    said.octets(&done.hash);
+    said.join(":");
+    said.octets(done.initiator.text().as_bytes());
+    said.join(":");
+    said.moment(done.ends);
 }
 
-/// What an end is left with: `key:hash:initiator:end`.
-pub fn left(alloc: Global, done: &MechDone) -> Option<String> {
-    let key = cell(alloc, done.key.bytes())?;
-    let hash = cell(alloc, &done.hash)?;
-    let initiator = cell(alloc, done.initiator.text().as_bytes())?;
-    let ends = saying::moment(alloc, done.ends)?;
-    format!(in alloc; "{key}:{hash}:{initiator}:{ends}").ok()
-}
-
-/// The initiator's end behind the final text.
-fn ended(
-    alloc: Global,
-    wait: ScramWait,
-    there: &MechDone,
-    last: &[u8],
-    said: String,
-) -> Option<String> {
+/// What both ends are left with, once the initiator has the final text.
+fn ended(alloc: Global, said: &mut Said, wait: ScramWait, there: &MechDone, last: &[u8]) {
     match wait.take_final(alloc, last) {
-        Err(refusal) => refused(alloc, said, refusal),
+        Err(refusal) => refused(said, refusal),
         Ok(here) => {
-            let (there, here) = (left(alloc, there)?, left(alloc, &here)?);
-            format!(in alloc; "{said} {there} {here}").ok()
+            left(said, there);
+            left(said, &here);
         }
     }
 }
@@ -90,17 +68,17 @@ fn ended(
 /// The exchange from the text with the proof on.
 fn finished(
     alloc: Global,
+    said: &mut Said,
     ends: &Ends,
     wait: ScramWait,
     accept: ScramAccept,
     third: &[u8],
-    said: String,
-) -> Option<String> {
+) {
     match accept.finish(alloc, third, ends.there.as_ref(), ends.now) {
-        Err(refusal) => refused(alloc, said, refusal),
+        Err(refusal) => refused(said, refusal),
         Ok((done, last)) => {
-            let said = with(alloc, said, last.as_slice())?;
-            ended(alloc, wait, &done, last.as_slice(), said)
+            said.octets(last.as_slice());
+            ended(alloc, said, wait, &done, last.as_slice());
         }
     }
 }
@@ -108,17 +86,17 @@ fn finished(
 /// The exchange from the acceptor's first text on.
 fn proved(
     alloc: Global,
+    said: &mut Said,
     ends: &Ends,
     end: ScramInit,
     accept: ScramAccept,
     second: &[u8],
-    said: String,
-) -> Option<String> {
+) {
     match end.take_first(alloc, second) {
-        Err(refusal) => refused(alloc, said, refusal),
+        Err(refusal) => refused(said, refusal),
         Ok((wait, third)) => {
-            let said = with(alloc, said, third.as_slice())?;
-            finished(alloc, ends, wait, accept, third.as_slice(), said)
+            said.octets(third.as_slice());
+            finished(alloc, said, ends, wait, accept, third.as_slice());
         }
     }
 }
@@ -126,30 +104,43 @@ fn proved(
 /// The exchange from the initiator's first token on.
 fn accepted(
     alloc: Global,
+    said: &mut Said,
     ends: &Ends,
+    verifiers: &Verifiers,
     end: ScramInit,
     first: &[u8],
-    said: String,
-) -> Option<String> {
-    match ScramAccept::start(alloc, &ends.verifiers, first, &ends.theirs) {
-        Err(refusal) => refused(alloc, said, refusal),
+) {
+    match ScramAccept::start(alloc, verifiers, first, &ends.theirs) {
+        Err(refusal) => refused(said, refusal),
         Ok((accept, second)) => {
-            let said = with(alloc, said, second.as_slice())?;
-            proved(alloc, ends, end, accept, second.as_slice(), said)
+            said.octets(second.as_slice());
+            proved(alloc, said, ends, end, accept, second.as_slice());
         }
     }
 }
 
-/// The tokens of the exchange of a line, and what the acceptor and the initiator are left with, or the refusal.
-pub fn exchanged(alloc: Global, line: &str) -> Option<String> {
-    let ends = ends_in(alloc, line)?;
-    let said = String::new(alloc);
+/// The exchange with these verifiers.
+fn begun(alloc: Global, said: &mut Said, ends: &Ends, verifiers: &Verifiers) {
     let (user, password) = (ends.user.as_str(), ends.password.as_str());
     match ScramInit::start(alloc, user, password, &ends.own, ends.here.as_ref()) {
-        Err(refusal) => refused(alloc, said, refusal),
+        Err(refusal) => refused(said, refusal),
         Ok((end, first)) => {
-            let said = with(alloc, said, first.as_slice())?;
-            accepted(alloc, &ends, end, first.as_slice(), said)
+            said.octets(first.as_slice());
+            accepted(alloc, said, ends, verifiers, end, first.as_slice());
         }
     }
+}
+
+/// The exchange of these ends.
+fn begin(cells: &mut Cells<'_>, said: &mut Said, ends: &Ends) {
+    match read_verifiers(cells.alloc(), ends.verifiers.as_slice()) {
+        Ok(verifiers) => begun(cells.alloc(), said, ends, &verifiers),
+        Err(_) => cells.expect(false),
+    }
+}
+
+/// The tokens of the exchange of a row, and what the acceptor and the initiator are left with, or the refusal.
+pub fn answer(cells: &mut Cells<'_>, said: &mut Said) {
+    let ends = ends_in(cells);
+    begin(cells, said, &ends);
 }

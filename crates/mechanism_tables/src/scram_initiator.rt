@@ -1,57 +1,68 @@
 //! An initiator of SCRAM, and the texts that come to it.
 
-use crate::kerberos::bindings;
-use crate::scram_exchanges::{left, refused, with};
+use crate::kerberos::bindings_in;
+use crate::scram_exchanges::{left, refused};
+use gss_base::Bindings;
 use scram_mech::{ScramInit, ScramWait};
 use std::alloc::Global;
-use table_rows::{exactly, octets, text};
+use table_rows::{Cells, Said};
+
+/// What an initiator begins with, and the two texts of the acceptor.
+#[derive(Drop)]
+struct Talk {
+    user: String,
+    password: String,
+    nonce: [u8; 18],
+    bindings: Option<Bindings>,
+    second: Vec<u8>,
+    last: Vec<u8>,
+}
+
+/// The cells user, password, random octets, bindings, and the two texts of the acceptor.
+fn talk_in(cells: &mut Cells<'_>) -> Talk {
+    Talk {
+        user: cells.text(),
+        password: cells.text(),
+        nonce: cells.exactly(),
+        bindings: bindings_in(cells),
+        second: cells.octets(),
+        last: cells.octets(),
+    }
+}
 
 /// What the initiator says to the final text.
-fn ended(alloc: Global, wait: ScramWait, last: &str, said: String) -> Option<String> {
-    let last = octets(alloc, last)?;
-    match wait.take_final(alloc, last.as_slice()) {
-        Err(refusal) => refused(alloc, said, refusal),
-        Ok(done) => {
-            let left = left(alloc, &done)?;
-            format!(in alloc; "{said} {left}").ok()
-        }
+fn ended(alloc: Global, said: &mut Said, wait: ScramWait, last: &[u8]) {
+    match wait.take_final(alloc, last) {
+        Err(refusal) => refused(said, refusal),
+        Ok(done) => left(said, &done),
     }
 }
 
 /// What the initiator says to the acceptor's first text, and to the final one.
-fn proved(alloc: Global, end: ScramInit, second: &str, last: &str, said: String) -> Option<String> {
-    let second = octets(alloc, second)?;
-    match end.take_first(alloc, second.as_slice()) {
-        Err(refusal) => refused(alloc, said, refusal),
+fn proved(alloc: Global, said: &mut Said, talk: &Talk, end: ScramInit) {
+    match end.take_first(alloc, talk.second.as_slice()) {
+        Err(refusal) => refused(said, refusal),
         Ok((wait, third)) => {
-            let said = with(alloc, said, third.as_slice())?;
-            ended(alloc, wait, last, said)
+            said.octets(third.as_slice());
+            ended(alloc, said, wait, talk.last.as_slice());
         }
     }
 }
 
-/// The initiator's texts, and what it is left with or the refusal, by the cells user, password, random octets, bindings, and the two
-/// texts of the acceptor.
-pub fn talked(alloc: Global, line: &str) -> Option<String> {
-    let mut cells = line.split(' ');
-    let user = text(alloc, cells.next()?)?;
-    let password = text(alloc, cells.next()?)?;
-    let nonce = exactly(cells.next()?)?;
-    let bindings = bindings(alloc, cells.next()?)?;
-    let (second, last) = (cells.next()?, cells.next()?);
-    let said = String::new(alloc);
-    let begun = ScramInit::start(
-        alloc,
-        user.as_str(),
-        password.as_str(),
-        &nonce,
-        bindings.as_ref(),
-    );
-    match begun {
-        Err(refusal) => refused(alloc, said, refusal),
+/// The initiator's texts, and what it is left with or the refusal.
+fn begun(alloc: Global, said: &mut Said, talk: &Talk) {
+    let (user, password) = (talk.user.as_str(), talk.password.as_str());
+    match ScramInit::start(alloc, user, password, &talk.nonce, talk.bindings.as_ref()) {
+        Err(refusal) => refused(said, refusal),
         Ok((end, first)) => {
-            let said = with(alloc, said, first.as_slice())?;
-            proved(alloc, end, second, last, said)
+            said.octets(first.as_slice());
+            proved(alloc, said, talk, end);
         }
     }
+}
+
+/// The texts of the initiator of a row, and what it is left with or the refusal.
+pub fn answer(cells: &mut Cells<'_>, said: &mut Said) {
+    let talk = talk_in(cells);
+    begun(cells.alloc(), said, &talk);
 }

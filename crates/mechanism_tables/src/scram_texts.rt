@@ -3,7 +3,7 @@
 use scram_mech::{ScramAccept, ScramInit, ScramRefusal, ScramWait, Verifiers, read_verifiers};
 use sec_base::{Moment, Octets};
 use std::alloc::Global;
-use table_rows::{cell, octets};
+use table_rows::{Cells, Said};
 use table_setting::saying;
 
 /// The verifier file: the user `user` with the password `pencil`.
@@ -24,11 +24,6 @@ fn begun(alloc: Global) -> Result<(ScramInit, Octets), ScramRefusal> {
     ScramInit::start(alloc, "user", "pencil", &counting(0), None)
 }
 
-/// The verifiers of the file.
-fn verifiers(alloc: Global) -> Option<Verifiers> {
-    read_verifiers(alloc, FILE.as_bytes()).ok()
-}
-
 /// The acceptor behind a token, and its text.
 fn accepted(
     alloc: Global,
@@ -38,76 +33,111 @@ fn accepted(
     ScramAccept::start(alloc, verifiers, token, &counting(100))
 }
 
-/// The initiator that waits for the final text.
-fn waiting(alloc: Global) -> Option<ScramWait> {
-    let verifiers = verifiers(alloc)?;
-    let (end, first) = begun(alloc).ok()?;
-    let (_accept, second) = accepted(alloc, &verifiers, first.as_slice()).ok()?;
-    let (wait, _third) = end.take_first(alloc, second.as_slice()).ok()?;
-    Some(wait)
+/// Says `Ok` and a token.
+fn fine(said: &mut Said, token: &[u8]) {
+    said.word("Ok");
+    said.join(":");
+    said.octets(token);
 }
 
-/// The acceptor that waits for the proof.
-fn owing(alloc: Global) -> Option<ScramAccept> {
-    let verifiers = verifiers(alloc)?;
-    let (_end, first) = begun(alloc).ok()?;
-    let (accept, _second) = accepted(alloc, &verifiers, first.as_slice()).ok()?;
-    Some(accept)
-}
-
-/// `Ok` and the answer, or the refusal.
-fn verdict(alloc: Global, answer: Result<Octets, ScramRefusal>) -> Option<String> {
-    match answer {
-        Err(refusal) => saying::scram(alloc, refusal),
-        Ok(token) => {
-            let token = cell(alloc, token.as_slice())?;
-            format!(in alloc; "Ok:{token}").ok()
-        }
-    }
+/// A text, which of an exchange's texts it is, and the acceptor's verifiers.
+#[derive(Clone, Copy)]
+struct Asked<'a> {
+    which: &'a str,
+    text: &'a [u8],
+    verifiers: &'a Verifiers,
 }
 
 /// What the acceptor says to a first token.
-fn first(alloc: Global, token: &[u8]) -> Option<String> {
-    let verifiers = verifiers(alloc)?;
-    verdict(
-        alloc,
-        accepted(alloc, &verifiers, token).map(|(_end, second)| second),
-    )
-}
-
-/// What the initiator says to the acceptor's first text.
-fn second(alloc: Global, text: &[u8]) -> Option<String> {
-    let (end, _first) = begun(alloc).ok()?;
-    verdict(
-        alloc,
-        end.take_first(alloc, text).map(|(_end, third)| third),
-    )
-}
-
-/// What the acceptor says to the text with the proof.
-fn third(alloc: Global, text: &[u8]) -> Option<String> {
-    let answer = owing(alloc)?.finish(alloc, text, None, Moment::start());
-    verdict(alloc, answer.map(|(_done, last)| last))
-}
-
-/// What the initiator says to the final text.
-fn last(alloc: Global, text: &[u8]) -> Option<String> {
-    match waiting(alloc)?.take_final(alloc, text) {
-        Err(refusal) => saying::scram(alloc, refusal),
-        Ok(_done) => String::from_str(alloc, "Ok").ok(),
+fn first(alloc: Global, said: &mut Said, asked: &Asked<'_>) {
+    match accepted(alloc, asked.verifiers, asked.text) {
+        Ok((_accept, second)) => fine(said, second.as_slice()),
+        Err(refusal) => saying::scram(said, refusal),
     }
 }
 
-/// What is said to the text of a line, behind which text it is: `first`, framed, `second`, `third` or `final`.
-pub fn answered(alloc: Global, line: &str) -> Option<String> {
-    let mut cells = line.split(' ');
-    let which = cells.next()?;
-    let text = octets(alloc, cells.next()?)?;
-    match which {
-        "first" => first(alloc, text.as_slice()),
-        "second" => second(alloc, text.as_slice()),
-        "third" => third(alloc, text.as_slice()),
-        "final" => last(alloc, text.as_slice()),
-        _ => None,
+/// What the initiator says to the acceptor's first text.
+fn second(alloc: Global, said: &mut Said, end: ScramInit, text: &[u8]) {
+    match end.take_first(alloc, text) {
+        Ok((_wait, third)) => fine(said, third.as_slice()),
+        Err(refusal) => saying::scram(said, refusal),
+    }
+}
+
+/// What an acceptor that waits for the proof says to the text with it.
+fn finished(alloc: Global, said: &mut Said, accept: ScramAccept, text: &[u8]) {
+    match accept.finish(alloc, text, None, Moment::start()) {
+        Ok((_done, last)) => fine(said, last.as_slice()),
+        Err(refusal) => saying::scram(said, refusal),
+    }
+}
+
+/// What the acceptor behind the initiator's token says to the text with the proof.
+fn third(alloc: Global, said: &mut Said, asked: &Asked<'_>, opening: &[u8]) {
+    match accepted(alloc, asked.verifiers, opening) {
+        Ok((accept, _second)) => finished(alloc, said, accept, asked.text),
+        Err(_) => said.starve(),
+    }
+}
+
+/// What an initiator that waits for the final text says to it.
+fn ended(alloc: Global, said: &mut Said, wait: ScramWait, text: &[u8]) {
+    match wait.take_final(alloc, text) {
+        Ok(_done) => said.word("Ok"),
+        Err(refusal) => saying::scram(said, refusal),
+    }
+}
+
+/// What the initiator behind the acceptor's first text says to the final one.
+fn proved(alloc: Global, said: &mut Said, end: ScramInit, second: &[u8], text: &[u8]) {
+    match end.take_first(alloc, second) {
+        Ok((wait, _third)) => ended(alloc, said, wait, text),
+        Err(_) => said.starve(),
+    }
+}
+
+/// What the initiator says to the final text, once the acceptor has its token.
+fn last(alloc: Global, said: &mut Said, asked: &Asked<'_>, end: ScramInit, opening: &[u8]) {
+    match accepted(alloc, asked.verifiers, opening) {
+        Ok((_accept, second)) => proved(alloc, said, end, second.as_slice(), asked.text),
+        Err(_) => said.starve(),
+    }
+}
+
+/// What is said to a text by the end that waits for it: `first`, framed, `second`, `third` or `final`.
+fn told(alloc: Global, said: &mut Said, asked: &Asked<'_>, end: ScramInit, opening: &[u8]) {
+    match asked.which {
+        "first" => first(alloc, said, asked),
+        "second" => second(alloc, said, end, asked.text),
+        "third" => third(alloc, said, asked, opening),
+        "final" => last(alloc, said, asked, end, opening),
+        _ => said.word("which"),
+    }
+}
+
+/// What is said to a text, by an initiator and an acceptor with these verifiers.
+fn judged(alloc: Global, said: &mut Said, asked: &Asked<'_>) {
+    match begun(alloc) {
+        Ok((end, opening)) => told(alloc, said, asked, end, opening.as_slice()),
+        Err(_) => said.starve(),
+    }
+}
+
+/// What is said to the text of a row, by the cells which text it is and the text.
+pub fn answer(cells: &mut Cells<'_>, said: &mut Said) {
+    let which = cells.word();
+    let text = cells.octets();
+    let alloc = cells.alloc();
+    match read_verifiers(alloc, FILE.as_bytes()) {
+        Ok(verifiers) => {
+            let (text, verifiers) = (text.as_slice(), &verifiers);
+            let asked = Asked {
+                which,
+                text,
+                verifiers,
+            };
+            judged(alloc, said, &asked);
+        }
+        Err(_) => said.starve(),
     }
 }

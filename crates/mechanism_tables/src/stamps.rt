@@ -1,26 +1,24 @@
 //! The stamps that an initiator gives.
 
 use ap_exchange::Stamps;
-use std::alloc::Global;
-use table_rows::{add, moment};
-use table_setting::saying;
+use table_rows::{Cells, Said};
 
-/// The stamp for the moment of a cell, `None` where there is none.
-fn next(alloc: Global, stamps: &mut Stamps, cell: &str) -> Option<String> {
-    match stamps.next(moment(cell)?) {
-        Some(stamp) => saying::moment(alloc, stamp),
-        None => String::from_str(alloc, "None").ok(),
+/// Says the stamp for the moment of a part, `None` where there is none.
+fn next(cells: &mut Cells<'_>, said: &mut Said, stamps: &mut Stamps, part: &str) {
+    let mut one = Cells::new(cells.alloc(), part, ' ');
+    let now = one.moment();
+    cells.expect(one.are_well());
+    match stamps.next(now) {
+        Some(stamp) => said.moment(stamp),
+        None => said.word("None"),
     }
 }
 
-/// The stamps for the moments of a line, one after the other.
-pub fn given(alloc: Global, line: &str) -> Option<String> {
-    let (moments, _stamps) = line.split_once(' ')?;
+/// The stamps for the moments of a cell, one after the other.
+pub fn answer(cells: &mut Cells<'_>, said: &mut Said) {
     let mut stamps = Stamps::new();
-    let mut said = String::new(alloc);
-    for part in moments.split(',') {
-        let one = next(alloc, &mut stamps, part)?;
-        add(&mut said, ",", one.as_str())?;
+    for part in cells.word().split(',') {
+        next(cells, said, &mut stamps, part);
+        said.join(",");
     }
-    Some(said)
 }

@@ -2,10 +2,10 @@
 
 use crate::{
     accepting, initiating, kerberos, peers, scram_exchanges, scram_initiator, scram_texts, stamps,
-    verifiers,
+    tickets, verifiers,
 };
 use std::alloc::Global;
-use table_rows::Rows;
+use table_rows::{Cells, Rows, Said};
 use table_setting::Setting;
 
 /// A table of outside values.
@@ -14,6 +14,7 @@ pub enum Table {
     Requests,
     Replies,
     Faults,
+    Tickets,
     Stamps,
     ScramExchanges,
     ScramInitiator,
@@ -34,6 +35,7 @@ impl Table {
             Table::Requests => "requests.txt",
             Table::Replies => "replies.txt",
             Table::Faults => "faults.txt",
+            Table::Tickets => "tickets.txt",
             Table::Stamps => "stamps.txt",
             Table::ScramExchanges => "scram_exchanges.txt",
             Table::ScramInitiator => "scram_initiator.txt",
@@ -48,44 +50,35 @@ impl Table {
         }
     }
 
-    /// How many cells of a line are given; those behind them are what is answered.
-    fn given(self) -> u32 {
-        match self {
-            Table::Stamps | Table::Initiating | Table::Accepting => 1,
-            Table::ScramTexts | Table::Verifiers | Table::FirstTokens => 2,
-            Table::PeerRequests => 3,
-            Table::MadeVerifiers => 4,
-            Table::Requests | Table::Faults | Table::ScramInitiator | Table::PeerReplies => 6,
-            Table::ScramExchanges => 8,
-            Table::Replies => 9,
-        }
-    }
-
     /// Whether its lines begin with a name.
     fn are_named(self) -> bool {
         matches!(
             self,
-            Table::Faults | Table::Stamps | Table::ScramInitiator | Table::FirstTokens
+            Table::Faults
+                | Table::Tickets
+                | Table::Stamps
+                | Table::ScramInitiator
+                | Table::FirstTokens
         )
     }
 
-    /// What the calls answer to a line, None where it isn't in the table's form.
-    fn answered(self, alloc: Global, setting: &Setting, line: &str) -> Option<String> {
+    /// Reads the cells that are given in a row, and says what the calls answer.
+    fn answer(self, setting: &Setting, cells: &mut Cells<'_>, said: &mut Said) {
         match self {
-            Table::Requests => kerberos::judged(alloc, line),
-            Table::Replies => kerberos::replied(alloc, line),
-            Table::Faults => kerberos::judged(alloc, line),
-            Table::Stamps => stamps::given(alloc, line),
-            Table::ScramExchanges => scram_exchanges::exchanged(alloc, line),
-            Table::ScramInitiator => scram_initiator::talked(alloc, line),
-            Table::ScramTexts => scram_texts::answered(alloc, line),
-            Table::Verifiers => verifiers::read(alloc, line),
-            Table::MadeVerifiers => verifiers::made(alloc, line),
-            Table::Initiating => initiating::answered(alloc, setting, line),
-            Table::Accepting => accepting::answered(alloc, setting, line),
-            Table::FirstTokens => initiating::first(alloc, setting, line),
-            Table::PeerReplies => peers::begun(alloc, line),
-            Table::PeerRequests => peers::accepted(alloc, line),
+            Table::Requests | Table::Faults => kerberos::judged(cells, said),
+            Table::Replies => kerberos::replied(cells, said),
+            Table::Tickets => tickets::answer(cells, said),
+            Table::Stamps => stamps::answer(cells, said),
+            Table::ScramExchanges => scram_exchanges::answer(cells, said),
+            Table::ScramInitiator => scram_initiator::answer(cells, said),
+            Table::ScramTexts => scram_texts::answer(cells, said),
+            Table::Verifiers => verifiers::read(cells, said),
+            Table::MadeVerifiers => verifiers::made(cells, said),
+            Table::Initiating => initiating::answer(setting, cells, said),
+            Table::Accepting => accepting::answer(setting, cells, said),
+            Table::FirstTokens => initiating::first(setting, cells, said),
+            Table::PeerReplies => peers::begun(cells, said),
+            Table::PeerRequests => peers::accepted(cells, said),
         }
     }
 }
@@ -102,12 +95,8 @@ impl Rows for Set<'_> {
         self.table.are_named()
     }
 
-    fn given(&self) -> u32 {
-        self.table.given()
-    }
-
-    fn answered(&self, alloc: Global, row: &str) -> Option<String> {
-        self.table.answered(alloc, self.setting, row)
+    fn answer(&self, cells: &mut Cells<'_>, said: &mut Said) {
+        self.table.answer(self.setting, cells, said);
     }
 }
 

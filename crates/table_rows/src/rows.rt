@@ -3,6 +3,7 @@
 //! A row is a line of cells with one space between them: its name, where the table's rows have one, then the cells that are given,
 //! then the answer that is wanted. A line that begins with `#` is a comment.
 
+use crate::{Cells, Said};
 use std::alloc::Global;
 
 /// What a table's rows are about.
@@ -10,35 +11,26 @@ pub trait Rows {
     /// Whether a row begins with its name.
     fn are_named(&self) -> bool;
 
-    /// How many cells are given; what stands after them is the answer that is wanted.
-    fn given(&self) -> u32;
-
-    /// What the calls answer to a row, its name aside; None where it isn't in the table's form.
-    fn answered(&self, alloc: Global, row: &str) -> Option<String>;
-}
-
-/// What stands after so many cells of a line.
-fn after(line: &str, cells: u32) -> Option<&str> {
-    let mut rest = line;
-    for _ in 0..cells {
-        let (_cell, after) = rest.split_once(' ')?;
-        rest = after;
-    }
-    Some(rest)
+    /// Reads the cells that are given, all of them, and says what the calls answer. What stands behind is the answer that is wanted.
+    fn answer(&self, cells: &mut Cells<'_>, said: &mut Said);
 }
 
 /// Why a row isn't as the calls answer it, None where it is.
 fn differs<R: Rows>(alloc: Global, rows: &R, row: &str) -> Option<String> {
-    let Some(wanted) = after(row, rows.given()) else {
-        return String::from_str(alloc, "isn't in the table's form").ok();
+    let mut cells = Cells::new(alloc, row, ' ');
+    let mut said = Said::new(alloc);
+    rows.answer(&mut cells, &mut said);
+    let why = match (cells.are_well(), cells.rest(), said.told()) {
+        (true, Some(wanted), Some(told)) => {
+            if told == wanted {
+                return None;
+            }
+            format!(in alloc; "is answered {told}")
+        }
+        (true, Some(_), None) => String::from_str(alloc, "gets no answer, for want of memory"),
+        _ => String::from_str(alloc, "isn't in the table's form"),
     };
-    let Some(said) = rows.answered(alloc, row) else {
-        return String::from_str(alloc, "gets no answer").ok();
-    };
-    if said.as_str() == wanted {
-        return None;
-    }
-    format!(in alloc; "is answered {said}").ok()
+    Some(why.unwrap_or(String::new(alloc)))
 }
 
 /// Why a line isn't as the calls answer it, with the row's name or else the line's number; None where it is.
@@ -46,10 +38,10 @@ fn wrong<R: Rows>(alloc: Global, rows: &R, number: usize, line: &str) -> Option<
     if rows.are_named() {
         let (name, row) = line.split_once(' ').unwrap_or((line, ""));
         let why = differs(alloc, rows, row)?;
-        return format!(in alloc; "{name} {why}").ok();
+        return Some(format!(in alloc; "{name} {why}").unwrap_or(String::new(alloc)));
     }
     let why = differs(alloc, rows, line)?;
-    format!(in alloc; "line {number} {why}").ok()
+    Some(format!(in alloc; "line {number} {why}").unwrap_or(String::new(alloc)))
 }
 
 /// How many rows of a file are as the calls answer them, or the first that isn't. None at want of memory.

@@ -2,9 +2,13 @@
 //! refusals. For the programs that test the other crates by such tables.
 #![tactic(auto)]
 
+mod devices;
 mod names;
 pub mod saying;
 mod setting;
 
+pub use devices::{
+    Devices, Files, clock, link, numbers, numbers_of, present, say_list, words, words_of,
+};
 pub use names::{named, octets_by_name};
 pub use setting::{Setting, acceptor, credential, draws, initiator};

@@ -3,61 +3,79 @@
 use ap_exchange::ApRefusal;
 use gss_base::MechKind;
 use scram_mech::ScramRefusal;
-use sec_base::Moment;
 use spnego_core::{MechRefusal, NegRefusal, Outcome};
-use std::alloc::Global;
-use table_rows::cell;
+use table_rows::Said;
 
 /// `mechanism:initiator:acceptor:type-key:subkey:hash`.
-pub fn outcome(alloc: Global, outcome: &Outcome) -> Option<String> {
-    let mech = match outcome.mech {
+pub fn outcome(said: &mut Said, outcome: &Outcome) {
+    said.word(match outcome.mech {
         MechKind::Kerberos => "krb5",
         MechKind::Scram => "scram",
-    };
-    let initiator = cell(alloc, outcome.initiator.text().as_bytes())?;
-    let acceptor = cell(alloc, outcome.acceptor.text().as_bytes())?;
-    let number = outcome.key.etype().number();
-    let key = cell(alloc, outcome.key.bytes())?;
-    let subkey = if outcome.subkey { 1u8 } else { 0u8 };
-    let hash = cell(alloc, &outcome.hash)?;
-    format!(in alloc; "{mech}:{initiator}:{acceptor}:{number}-{key}:{subkey}:{hash}").ok()
+    });
+    said.join(":");
+    said.octets(outcome.initiator.text().as_bytes());
+    said.join(":");
+    said.octets(outcome.acceptor.text().as_bytes());
+    said.join(":");
+    said.form(&outcome.key.etype().number());
+    said.join("-");
+    said.octets(outcome.key.bytes());
+    said.join(":");
+    said.yes(outcome.subkey);
+    said.join(":");
+    said.octets(&outcome.hash);
 }
 
 /// A refusal by name, with its place, and a mechanism's own.
-pub fn refusal(alloc: Global, refusal: NegRefusal) -> Option<String> {
+pub fn refusal(said: &mut Said, refusal: NegRefusal) {
     match refusal {
-        NegRefusal::Defective { at } => format!(in alloc; "Defective:{at}").ok(),
+        NegRefusal::Defective { at } => placed(said, "Defective", at),
         NegRefusal::Mech(MechRefusal::Ap(refusal)) => {
-            let said = kerberos(alloc, refusal)?;
-            format!(in alloc; "Mech:{said}").ok()
+            said.word("Mech");
+            said.join(":");
+            kerberos(said, refusal);
         }
         NegRefusal::Mech(MechRefusal::Scram(refusal)) => {
-            let said = scram(alloc, refusal)?;
-            format!(in alloc; "Mech:{said}").ok()
+            said.word("Mech");
+            said.join(":");
+            scram(said, refusal);
         }
-        refusal => format!(in alloc; "{refusal:?}").ok(),
+        refusal => said.form(&refusal),
     }
 }
 
+/// A name and a place.
+fn placed(said: &mut Said, name: &str, at: usize) {
+    said.word(name);
+    said.join(":");
+    said.number(at as u64);
+}
+
 /// A refusal of SCRAM's exchange.
-pub fn scram(alloc: Global, refusal: ScramRefusal) -> Option<String> {
+pub fn scram(said: &mut Said, refusal: ScramRefusal) {
     match refusal {
-        ScramRefusal::Text { at } => format!(in alloc; "Text:{at}").ok(),
-        refusal => format!(in alloc; "{refusal:?}").ok(),
+        ScramRefusal::Text { at } => placed(said, "Text", at),
+        refusal => said.form(&refusal),
     }
 }
 
 /// A refusal of Kerberos's exchange.
-pub fn kerberos(alloc: Global, refusal: ApRefusal) -> Option<String> {
+pub fn kerberos(said: &mut Said, refusal: ApRefusal) {
     match refusal {
-        ApRefusal::Der { part, at, why } => { format!(in alloc; "Der:{part:?}:{at}:{why:?}").ok() }
-        ApRefusal::PeerError { code } => format!(in alloc; "PeerError:{code}").ok(),
-        refusal => format!(in alloc; "{refusal:?}").ok(),
+        ApRefusal::Der { part, at, why } => {
+            said.word("Der");
+            said.join(":");
+            said.form(&part);
+            said.join(":");
+            said.number(at as u64);
+            said.join(":");
+            said.form(&why);
+        }
+        ApRefusal::PeerError { code } => {
+            said.word("PeerError");
+            said.join(":");
+            said.form(&code);
+        }
+        refusal => said.form(&refusal),
     }
-}
-
-/// A moment as `seconds.micros`, with six digits behind the point.
-pub fn moment(alloc: Global, at: Moment) -> Option<String> {
-    let (seconds, micros) = (at.secs(), at.micros());
-    format!(in alloc; "{seconds}.{micros:06}").ok()
 }

@@ -5,7 +5,7 @@ ghost use Rattle.std.specs.Prelude.{◌≡◌, ◌≤◌, ◌∷◌, [], length,
 ghost use Rattle.gss_base.specs.declared.mech.MechKind.TheVariants as kinds;
 ghost use Rattle.spnego_core.specs.InitMech.{kind_of, is_own_list};
 
-use crate::names::named;
+use crate::names::{named, octets_by_name};
 use gss_base::{MechKind, Principal};
 use krb_derive::{Etype, Key};
 use krb_files::{Credential, read_keytab};
@@ -13,7 +13,7 @@ use scram_mech::read_verifiers;
 use sec_base::{Items, Moment, Octets, Text};
 use spnego_core::{AcceptSetup, InitSetup, MechCred};
 use std::alloc::Global;
-use table_rows::{exactly, octets};
+use table_rows::Cells;
 
 /// The octets of the file `setting.txt`.
 #[derive(Drop)]
@@ -28,12 +28,19 @@ pub struct Setting {
 impl Setting {
     /// The setting that the file says.
     pub fn read(alloc: Global, text: &str) -> Option<Setting> {
-        Some(Setting {
-            keytab: octets(alloc, named(text, "keytab")?)?,
-            session: exactly(named(text, "session")?)?,
-            ticket: octets(alloc, named(text, "ticket")?)?,
-            verifiers: octets(alloc, named(text, "verifiers")?)?,
-        })
+        let mut cells = Cells::new(alloc, "@keytab @ticket @verifiers", ' ');
+        let mut session = Cells::new(alloc, named(text, "session").unwrap_or("-"), ' ');
+        let setting = Setting {
+            keytab: octets_by_name(&mut cells, text),
+            session: session.exactly(),
+            ticket: octets_by_name(&mut cells, text),
+            verifiers: octets_by_name(&mut cells, text),
+        };
+        if cells.are_well() && session.are_well() {
+            Some(setting)
+        } else {
+            None
+        }
     }
 }
 
@@ -73,34 +80,52 @@ pub fn credential(
     session: Key,
     ticket: &[u8],
 ) -> Option<Credential> {
-    Some(Credential {
-        client: Principal::parse(alloc, client).ok()?,
-        server: Principal::parse(alloc, server).ok()?,
-        session,
-        ticket: ticket_of(alloc, ticket)?,
-    })
+    match (
+        Principal::parse(alloc, client),
+        Principal::parse(alloc, server),
+        ticket_of(alloc, ticket),
+    ) {
+        (Ok(client), Ok(server), Some(ticket)) => Some(Credential {
+            client,
+            server,
+            session,
+            ticket,
+        }),
+        _ => None,
+    }
+}
+
+/// What an initiator with this list begins with, without bindings.
+fn setup_of(list: Vec<MechCred>, stamp: Moment, draws: [u8; 66]) -> InitSetup
+    ensures { result.list ≡ list.items }
+{
+    InitSetup {
+        list: Items::of(list),
+        bindings: None,
+        stamp,
+        draws,
+    }
 }
 
 /// What an initiator begins with: this credential of Kerberos alone, without bindings, at this moment.
 pub fn initiator(alloc: Global, credential: Credential, stamp: Moment) -> Option<InitSetup>
     ensures { IfSome result (λ own. is_own_list own.list ≡ true) }
 {
-    let list = vec![in alloc; MechCred::Kerberos(credential)].ok()?;
-    Some(InitSetup {
-        list: Items::of(list),
-        bindings: None,
-        stamp,
-        draws: own_draws(),
-    })
+    match one(alloc, MechCred::Kerberos(credential)) {
+        Some(list) => Some(setup_of(list, stamp, own_draws())),
+        None => None,
+    }
 }
 
 /// A list of one credential.
 fn one(alloc: Global, only: MechCred) -> Option<Vec<MechCred>>
     ensures { IfSome result (λ list. list.items ≡ only ∷ []) }
 {
-    let mut list = Vec::new(alloc);
-    match list.push(only) {
-        Ok(()) => Some(list),
+    match Vec::with_capacity(alloc, 1) {
+        Ok(mut list) => {
+            list.push_reserved(only);
+            Some(list)
+        }
         Err(_) => None,
     }
 }
@@ -109,27 +134,51 @@ fn one(alloc: Global, only: MechCred) -> Option<Vec<MechCred>>
 fn two(alloc: Global, first: MechCred, second: MechCred) -> Option<Vec<MechCred>>
     ensures { IfSome result (λ list. list.items ≡ first ∷ second ∷ []) }
 {
-    let mut list = Vec::new(alloc);
-    if list.push(first).is_err() {
-        return None;
-    }
-    match list.push(second) {
-        Ok(()) => Some(list),
+    match Vec::with_capacity(alloc, 2) {
+        Ok(mut list) => {
+            list.push_reserved(first);
+            list.push_reserved(second);
+            Some(list)
+        }
         Err(_) => None,
+    }
+}
+
+/// A list of a credential of Kerberos and one of SCRAM, in this order.
+fn in_order(
+    alloc: Global,
+    ticket: MechCred,
+    login: MechCred,
+    is_ticket_first: bool,
+) -> Option<Vec<MechCred>>
+    requires ticket { kind_of ticket ≡ kinds.Kerberos }
+    requires login { kind_of login ≡ kinds.Scram }
+    ensures { IfSome result (λ list. is_own_list list.items ≡ true) }
+{
+    if is_ticket_first {
+        two(alloc, ticket, login)
+    } else {
+        two(alloc, login, ticket)
+    }
+}
+
+/// Adds the mechanism that a letter names, and answers whether it could.
+fn is_offered(offer: &mut Vec<MechKind>, letter: char) -> bool {
+    match letter {
+        'k' => offer.push(MechKind::Kerberos).is_ok(),
+        's' => offer.push(MechKind::Scram).is_ok(),
+        _ => false,
     }
 }
 
 /// The mechanisms that an offer's letters name: `k` Kerberos, `s` SCRAM.
 fn offer_of(alloc: Global, letters: &str) -> Option<Vec<MechKind>> {
     let mut offer = Vec::new(alloc);
+    let mut are_well = true;
     for letter in letters.chars() {
-        match letter {
-            'k' => offer.push(MechKind::Kerberos).ok()?,
-            's' => offer.push(MechKind::Scram).ok()?,
-            _ => return None,
-        }
+        are_well = are_well && is_offered(&mut offer, letter);
     }
-    Some(offer)
+    if are_well { Some(offer) } else { None }
 }
 
 /// What an acceptor begins with, by its name's text form, the octets of its keytab and its verifier file, and the letters of its offer,
@@ -141,13 +190,21 @@ pub fn acceptor(
     verifiers: &[u8],
     letters: &str,
 ) -> Option<AcceptSetup> {
-    Some(AcceptSetup {
-        own: Principal::parse(alloc, own).ok()?,
-        keytab: read_keytab(alloc, keytab).ok()?,
-        verifiers: read_verifiers(alloc, verifiers).ok()?,
-        bindings: None,
-        offer: Items::of(offer_of(alloc, letters)?),
-    })
+    match (
+        Principal::parse(alloc, own),
+        read_keytab(alloc, keytab),
+        read_verifiers(alloc, verifiers),
+        offer_of(alloc, letters),
+    ) {
+        (Ok(own), Ok(keytab), Ok(verifiers), Some(offer)) => Some(AcceptSetup {
+            own,
+            keytab,
+            verifiers,
+            bindings: None,
+            offer: Items::of(offer),
+        }),
+        _ => None,
+    }
 }
 
 impl Setting {
@@ -173,67 +230,55 @@ impl Setting {
     fn login(&self, alloc: Global) -> Option<MechCred>
         ensures { IfSome result (λ cred. kind_of cred ≡ kinds.Scram) }
     {
-        Some(MechCred::Scram {
-            user: Text::of(alloc, "user").ok()?,
-            password: Text::of(alloc, "p").ok()?,
-        })
+        match (Text::of(alloc, "user"), Text::of(alloc, "p")) {
+            (Ok(user), Ok(password)) => Some(MechCred::Scram { user, password }),
+            _ => None,
+        }
     }
 
     /// The credential of `alice@R` for a list.
     fn ticket(&self, alloc: Global) -> Option<MechCred>
         ensures { IfSome result (λ cred. kind_of cred ≡ kinds.Kerberos) }
     {
-        Some(MechCred::Kerberos(self.credential(alloc)?))
+        match self.credential(alloc) {
+            Some(credential) => Some(MechCred::Kerberos(credential)),
+            None => None,
+        }
     }
 
-    /// Both credentials, Kerberos's first.
-    fn ticket_first(&self, alloc: Global) -> Option<Vec<MechCred>>
+    /// Both credentials, in this order.
+    fn both(&self, alloc: Global, is_ticket_first: bool) -> Option<Vec<MechCred>>
         ensures { IfSome result (λ list. is_own_list list.items ≡ true) }
     {
         let ticket = self.ticket(alloc)?;
-        let login = self.login(alloc)?;
-        two(alloc, ticket, login)
-    }
-
-    /// Both credentials, SCRAM's first.
-    fn login_first(&self, alloc: Global) -> Option<Vec<MechCred>>
-        ensures { IfSome result (λ list. is_own_list list.items ≡ true) }
-    {
-        let ticket = self.ticket(alloc)?;
-        let login = self.login(alloc)?;
-        two(alloc, login, ticket)
+        match self.login(alloc) {
+            Some(login) => in_order(alloc, ticket, login, is_ticket_first),
+            None => None,
+        }
     }
 
     /// The credentials of a list's letters: `k` Kerberos, `s` SCRAM.
     fn list_of(&self, alloc: Global, letters: &str) -> Option<Vec<MechCred>>
         ensures { IfSome result (λ list. is_own_list list.items ≡ true) }
     {
-        if letters == "k" {
-            return one(alloc, self.ticket(alloc)?);
+        match letters {
+            "k" => one(alloc, self.ticket(alloc)?),
+            "s" => one(alloc, self.login(alloc)?),
+            "ks" => self.both(alloc, true),
+            "sk" => self.both(alloc, false),
+            _ => None,
         }
-        if letters == "s" {
-            return one(alloc, self.login(alloc)?);
-        }
-        if letters == "ks" {
-            return self.ticket_first(alloc);
-        }
-        if letters == "sk" {
-            return self.login_first(alloc);
-        }
-        None
     }
 
     /// What an initiator begins with, by the letters of its list and its random octets, at 1,000,000 seconds.
     pub fn initiator_with(&self, alloc: Global, letters: &str, draws: [u8; 66]) -> Option<InitSetup>
         ensures { IfSome result (λ own. is_own_list own.list ≡ true) }
     {
-        let list = self.list_of(alloc, letters)?;
-        Some(InitSetup {
-            list: Items::of(list),
-            bindings: None,
-            stamp: Moment::new(1_000_000, 0)?,
-            draws,
-        })
+        let stamp = Moment::new(1_000_000, 0)?;
+        match self.list_of(alloc, letters) {
+            Some(list) => Some(setup_of(list, stamp, draws)),
+            None => None,
+        }
     }
 
     /// The same with the random octets 00 to 41.

@@ -2,73 +2,83 @@
 
 use aes_cts::AesKey;
 use mac_sha1::{Hmac, hi};
-use std::alloc::Global;
-use table_rows::{cell, exactly, octets};
+use table_rows::{Cells, Said};
 
-/// The AES key of a cell of 16 or 32 octets.
-pub fn aes_key(said: &str) -> Option<AesKey> {
-    let short: Option<[u8; 16]> = exactly(said);
-    if let Some(key) = short {
-        return Some(AesKey::new128(&key));
+/// The AES key of a part of 16 octets, or else of 32.
+pub fn aes_key(cells: &mut Cells<'_>, part: &str) -> AesKey {
+    let mut part_cells = Cells::new(cells.alloc(), part, ' ');
+    if part.len() == 32 {
+        let key = part_cells.exactly();
+        cells.expect(part_cells.are_well());
+        return AesKey::new128(&key);
     }
-    let key: [u8; 32] = exactly(said)?;
-    Some(AesKey::new256(&key))
+    let key = part_cells.exactly();
+    cells.expect(part_cells.are_well());
+    AesKey::new256(&key)
+}
+
+/// The AES key of the next cell.
+fn next_key(cells: &mut Cells<'_>) -> AesKey {
+    let part = cells.word();
+    aes_key(cells, part)
 }
 
 /// The cells key and block: the cipher of the block, which deciphers to the block again.
-pub fn block(alloc: Global, row: &str) -> Option<String> {
-    let mut cells = row.split(' ');
-    let key = aes_key(cells.next()?)?;
-    let block: [u8; 16] = exactly(cells.next()?)?;
+pub fn block(cells: &mut Cells<'_>, said: &mut Said) {
+    let key = next_key(cells);
+    let block: [u8; 16] = cells.exactly();
     let made = key.block(&block);
     if key.unblock(&made) != block {
-        return String::from_str(alloc, "deciphers to another block").ok();
+        said.word("deciphers to another block");
     }
-    cell(alloc, &made)
+    said.octets(&made);
 }
 
-/// The cells key and octets: what they are enciphered to with ciphertext stealing, which deciphers to them again.
-pub fn stolen(alloc: Global, row: &str) -> Option<String> {
-    let mut cells = row.split(' ');
-    let key = aes_key(cells.next()?)?;
-    let plain = octets(alloc, cells.next()?)?;
-    let mut bytes = Vec::from_slice(alloc, plain.as_slice()).ok()?;
+/// Says what octets are enciphered to with ciphertext stealing, which deciphers to them again.
+fn steal(said: &mut Said, key: &AesKey, bytes: &mut [u8], plain: &[u8]) {
     if bytes.len() < 16 {
-        return None;
+        return;
     }
-    key.cts_encrypt(bytes.as_mut_slice());
-    let made = cell(alloc, bytes.as_slice())?;
+    key.cts_encrypt(bytes);
+    said.octets(bytes);
     if bytes.len() < 16 {
-        return None;
+        return;
     }
-    key.cts_decrypt(bytes.as_mut_slice());
-    if bytes.as_slice() != plain.as_slice() {
-        return String::from_str(alloc, "deciphers to other octets").ok();
+    key.cts_decrypt(bytes);
+    if *bytes != *plain {
+        said.word("deciphers to other octets");
     }
-    Some(made)
+}
+
+/// The cells key and octets: what they are enciphered to with ciphertext stealing.
+pub fn stolen(cells: &mut Cells<'_>, said: &mut Said) {
+    let key = next_key(cells);
+    let plain = cells.octets();
+    match Vec::from_slice(cells.alloc(), plain.as_slice()) {
+        Ok(bytes) => {
+            let mut bytes = bytes;
+            steal(said, &key, bytes.as_mut_slice(), plain.as_slice());
+        }
+        Err(_) => said.starve(),
+    }
 }
 
 /// The cells key and message: the code of the message, which is taken in two pieces.
-pub fn code(alloc: Global, row: &str) -> Option<String> {
-    let mut cells = row.split(' ');
-    let key = octets(alloc, cells.next()?)?;
-    let message = octets(alloc, cells.next()?)?;
+pub fn code(cells: &mut Cells<'_>, said: &mut Said) {
+    let (key, message) = (cells.octets(), cells.octets());
     let (front, back) = message.as_slice().split_at(message.len() / 2);
     let mut state = Hmac::new(key.as_slice());
     state.update(front);
     state.update(back);
-    cell(alloc, &state.finish())
+    said.octets(&state.finish());
 }
 
 /// The cells password, salt and rounds: Hi of them.
-pub fn sum(alloc: Global, row: &str) -> Option<String> {
-    let mut cells = row.split(' ');
-    let password = octets(alloc, cells.next()?)?;
-    let salt = octets(alloc, cells.next()?)?;
-    let rounds = cells.next()?.parse::<u32>().ok()?;
+pub fn sum(cells: &mut Cells<'_>, said: &mut Said) {
+    let (password, salt, rounds) = (cells.octets(), cells.octets(), cells.word_number());
     if rounds == 0 {
-        return None;
+        cells.expect(false);
+    } else {
+        said.octets(&hi(password.as_slice(), salt.as_slice(), rounds));
     }
-    let sum = hi(password.as_slice(), salt.as_slice(), rounds);
-    cell(alloc, &sum)
 }

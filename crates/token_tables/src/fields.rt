@@ -1,85 +1,96 @@
-//! Fields under explicit tags.
+//! Fields under explicit tags: a list under tag 0, octets under tag 1 and a text under tag 3, of which the latter two may be left out.
 
 use crate::values::refused;
-use der_core::{DerRefusal, Reader, Writer, field, optional, put_field, put_optional};
-use sec_base::{Items, Octets, Oid, Text};
+use der_core::{Reader, Writer, field, optional, put_field, put_optional};
+use sec_base::{Items, NoMemory, Octets, Oid, Text};
 use std::alloc::Global;
-use table_rows::{cell, octets};
+use table_rows::{Cells, Said};
 
-/// A list under tag 0, octets under tag 1 and a text under tag 3, of which the latter two may be left out.
-#[derive(Drop)]
-struct Fields {
-    list: Items<Oid>,
-    next: Option<u8>,
-    octets: Option<Octets>,
-    text: Option<Text>,
-    left: usize,
-}
-
-/// The fields of octets.
-fn fields_of(alloc: Global, octets: &[u8]) -> Result<Fields, DerRefusal> {
-    let mut reader = Reader::new(octets);
-    let list = field(alloc, &mut reader, 0xa0)?;
-    let next = reader.peek();
-    let octets = optional(alloc, &mut reader, 0xa1)?;
-    let text = optional(alloc, &mut reader, 0xa3)?;
-    Ok(Fields {
-        list,
-        next,
-        octets,
-        text,
-        left: reader.left(),
-    })
-}
-
-/// The identifiers of a list with commas between them.
-pub fn identifiers(alloc: Global, list: &[Oid]) -> Option<String> {
-    let mut said = String::new(alloc);
-    for oid in list {
-        let content = cell(alloc, oid.content())?;
-        table_rows::add(&mut said, ",", content.as_str())?;
+/// Says the identifiers of a list with commas between them.
+pub fn identifiers(said: &mut Said, list: &[Oid]) {
+    for (at, oid) in list.iter().enumerate() {
+        said.listed(at);
+        said.octets(oid.content());
     }
-    Some(said)
+}
+
+/// Writes the list and the octets.
+fn put(
+    out: &mut Writer,
+    alloc: Global,
+    list: &Items<Oid>,
+    octets: &Option<Octets>,
+) -> Result<(), NoMemory> {
+    put_field(alloc, out, 0xa0, list)?;
+    put_optional(alloc, out, 0xa1, octets)
 }
 
 /// The list and the octets as they are written again.
-fn written(alloc: Global, fields: &Fields) -> Option<String> {
+fn written(alloc: Global, list: &Items<Oid>, octets: &Option<Octets>) -> Option<Octets> {
     let mut out = Writer::new(alloc).ok()?;
-    put_field(alloc, &mut out, 0xa0, &fields.list).ok()?;
-    put_optional(alloc, &mut out, 0xa1, &fields.octets).ok()?;
-    cell(alloc, out.finish().ok()?.as_slice())
+    put(&mut out, alloc, list, octets).ok()?;
+    out.finish().ok()
 }
 
-/// The octets that may be there.
-pub fn octets_or_none(alloc: Global, octets: &Option<Octets>) -> Option<String> {
+/// Says the list, the tag behind it and the octets.
+fn front_said(said: &mut Said, list: &Items<Oid>, next: Option<u8>, octets: &Option<Octets>) {
+    identifiers(said, list.as_slice());
+    match next {
+        Some(tag) => said.octets(&[tag]),
+        None => said.word("end"),
+    }
     match octets {
-        None => String::from_str(alloc, "none").ok(),
-        Some(octets) => hex::encode(alloc, octets.as_slice()).ok(),
+        Some(octets) => said.hex(octets.as_slice()),
+        None => said.word("none"),
+    }
+}
+
+/// Says the text, how many octets are left behind it, and the list and the octets as they are written again.
+fn back_said(said: &mut Said, text: &Option<Text>, left: usize, written: Option<Octets>) {
+    match text {
+        Some(text) => said.hex(text.as_str().as_bytes()),
+        None => said.word("none"),
+    }
+    said.number(left as u64);
+    match written {
+        Some(written) => said.octets(written.as_slice()),
+        None => said.starve(),
+    }
+}
+
+/// Says what stands in a reader behind the octets, and all fields.
+fn behind_octets(
+    said: &mut Said,
+    reader: &mut Reader,
+    list: &Items<Oid>,
+    next: Option<u8>,
+    octets: &Option<Octets>,
+) {
+    match optional(said.alloc(), reader, 0xa3) {
+        Ok(text) => {
+            front_said(said, list, next, octets);
+            let written = written(said.alloc(), list, octets);
+            back_said(said, &text, reader.left(), written);
+        }
+        Err(refusal) => refused(said, refusal),
+    }
+}
+
+/// Says what stands in a reader behind the list, and all fields.
+fn behind_list(said: &mut Said, reader: &mut Reader, list: &Items<Oid>) {
+    let next = reader.peek();
+    match optional(said.alloc(), reader, 0xa1) {
+        Ok(octets) => behind_octets(said, reader, list, next, &octets),
+        Err(refusal) => refused(said, refusal),
     }
 }
 
 /// The cell octets: the list, the tag behind it, the octets, the text, how many octets are left, and the first two written again.
-pub fn read(alloc: Global, row: &str) -> Option<String> {
-    let octets = octets(alloc, row.split(' ').next()?)?;
-    match fields_of(alloc, octets.as_slice()) {
-        Err(refusal) => refused(alloc, refusal),
-        Ok(fields) => said(alloc, &fields),
+pub fn read(cells: &mut Cells<'_>, said: &mut Said) {
+    let octets = cells.octets();
+    let mut reader = Reader::new(octets.as_slice());
+    match field(cells.alloc(), &mut reader, 0xa0) {
+        Ok(list) => behind_list(said, &mut reader, &list),
+        Err(refusal) => refused(said, refusal),
     }
-}
-
-/// What the fields are.
-fn said(alloc: Global, fields: &Fields) -> Option<String> {
-    let list = identifiers(alloc, fields.list.as_slice())?;
-    let next = match fields.next {
-        None => String::from_str(alloc, "end").ok()?,
-        Some(tag) => format!(in alloc; "{tag:02x}").ok()?,
-    };
-    let octets = octets_or_none(alloc, &fields.octets)?;
-    let text = match &fields.text {
-        None => String::from_str(alloc, "none").ok()?,
-        Some(text) => hex::encode(alloc, text.as_str()).ok()?,
-    };
-    let written = written(alloc, fields)?;
-    let left = fields.left;
-    format!(in alloc; "{list} {next} {octets} {text} {left} {written}").ok()
 }

@@ -1,11 +1,11 @@
 //! Keytabs and credential caches.
 
+use crate::keys::etype;
 use gss_base::Principal;
-use krb_derive::{Etype, Key};
+use krb_derive::Etype;
 use krb_files::{Ccache, Credential, FileRefusal, Keytab, read_ccache, read_keytab};
 use sha1::Sha1;
-use std::alloc::Global;
-use table_rows::{add, cell, octets, or_none};
+use table_rows::{Cells, Said};
 
 /// The names that every file is asked for.
 const NAMES: [&str; 3] = ["rpc/host@R", "alice@R", "a\\/b/c@R.ORG"];
@@ -16,165 +16,200 @@ const NUMBERS: [Option<u32>; 4] = [None, Some(1), Some(3), Some(300)];
 /// The types that a keytab is asked for.
 const TYPES: [Etype; 2] = [Etype::Aes128, Etype::Aes256];
 
-/// A refusal: why, and the place.
-fn refused(alloc: Global, refusal: FileRefusal) -> Option<String> {
-    format!(in alloc; "{:?} {}", refusal.why, refusal.at).ok()
+/// Says a refusal: why, and the place.
+fn refused(said: &mut Said, refusal: FileRefusal) {
+    said.form(&refusal.why);
+    said.number(refusal.at as u64);
 }
 
-/// The text form of a name, in hexadecimal.
-fn name(alloc: Global, name: &Principal) -> Option<String> {
-    cell(alloc, name.label().text().as_bytes())
+/// Says the text form of a name, in hexadecimal.
+fn name(said: &mut Said, name: &Principal) {
+    said.octets(name.label().text().as_bytes());
 }
 
-/// A number that may be there.
-fn number(alloc: Global, number: Option<u32>) -> Option<String> {
-    match number {
-        None => String::from_str(alloc, "None").ok(),
-        Some(number) => format!(in alloc; "{number}").ok(),
-    }
-}
-
-/// Adds the key of a name, number and type, where there is one.
-fn add_key(
-    alloc: Global,
-    said: &mut String,
+/// Says the key of a name, number and type as the item `at` of a list, where there is one, and answers how many items there are then.
+fn key_found(
+    said: &mut Said,
     keytab: &Keytab,
     server: &Principal,
-    kvno: Option<u32>,
-    etype: Etype,
-) -> Option<()> {
+    (kvno, etype): (Option<u32>, Etype),
+    at: usize,
+) -> usize {
     let Some(key) = keytab.find(server, kvno, etype) else {
-        return Some(());
+        return at;
     };
-    let (name, kvno) = (name(alloc, server)?, number(alloc, kvno)?);
-    let key = cell(alloc, key.bytes())?;
-    let one = format!(in alloc; "{name}/{kvno}/{}={key}", etype.number()).ok()?;
-    add(said, ",", one.as_str())
+    said.listed(at);
+    name(said, server);
+    said.join("/");
+    match kvno {
+        Some(kvno) => said.number(u64::from(kvno)),
+        None => said.word("None"),
+    }
+    said.join("/");
+    said.signed(i64::from(etype.number()));
+    said.join("=");
+    said.octets(key.bytes());
+    at.saturating_add(1)
 }
 
-/// Adds what a keytab has for a name.
-fn add_keys(alloc: Global, said: &mut String, keytab: &Keytab, text: &str) -> Option<()> {
-    let server = Principal::parse(alloc, text).ok()?;
+/// Says what a keytab has for a name, behind so many items of a list, and answers how many items there are then.
+fn keys_found(said: &mut Said, keytab: &Keytab, server: &Principal, at: usize) -> usize {
+    let mut at = at;
     for kvno in NUMBERS {
         for etype in TYPES {
-            add_key(alloc, said, keytab, &server, kvno, etype)?;
+            at = key_found(said, keytab, server, (kvno, etype), at);
         }
     }
-    if keytab.serves(&server) {
-        let name = name(alloc, &server)?;
-        let one = format!(in alloc; "{name}/serves=1").ok()?;
-        add(said, ",", one.as_str())?;
+    if keytab.serves(server) {
+        said.listed(at);
+        name(said, server);
+        said.join("/");
+        said.word("serves=1");
+        at = at.saturating_add(1);
     }
-    Some(())
+    at
+}
+
+/// Says what a keytab has for all names.
+fn keytab_said(said: &mut Said, keytab: &Keytab) {
+    said.word("Ok");
+    let mut at = 0usize;
+    for text in NAMES {
+        match Principal::parse(said.alloc(), text) {
+            Ok(server) => at = keys_found(said, keytab, &server, at),
+            Err(_) => said.starve(),
+        }
+    }
+    if at == 0 {
+        said.word("-");
+    }
 }
 
 /// The cell of a keytab: the keys of all names, numbers and types, and which names it serves, or the refusal.
-pub fn keytab(alloc: Global, row: &str) -> Option<String> {
-    let octets = octets(alloc, row.split(' ').next()?)?;
-    let keytab = match read_keytab(alloc, octets.as_slice()) {
-        Ok(keytab) => keytab,
-        Err(refusal) => return refused(alloc, refusal),
-    };
-    let mut said = String::new(alloc);
-    for text in NAMES {
-        add_keys(alloc, &mut said, &keytab, text)?;
+pub fn keytab(cells: &mut Cells<'_>, said: &mut Said) {
+    let octets = cells.octets();
+    match read_keytab(cells.alloc(), octets.as_slice()) {
+        Ok(keytab) => keytab_said(said, &keytab),
+        Err(refusal) => refused(said, refusal),
     }
-    format!(in alloc; "Ok {}", or_none(said.as_str())).ok()
 }
 
-/// What a keytab has for a question `name/number/type`, or for `name/serves`.
-fn asked(alloc: Global, keytab: &Keytab, question: &str) -> Option<String> {
-    let mut cells = question.split('/');
-    let server = table_rows::text(alloc, cells.next()?)?;
-    let server = Principal::parse(alloc, server.as_str()).ok()?;
-    let kvno = match cells.next()? {
-        "serves" => return serves(alloc, keytab.serves(&server)),
-        "None" => None,
-        number => Some(number.parse::<u32>().ok()?),
+/// Says the key of a name by the parts number and type, where there is one.
+fn key_asked(parts: &mut Cells<'_>, said: &mut Said, keytab: &Keytab, server: &Principal) {
+    let word = parts.word();
+    let kvno = word.parse::<u32>().ok();
+    parts.expect(kvno.is_some() || word == "None");
+    let key = match etype(parts) {
+        Some(etype) => keytab.find(server, kvno, etype),
+        None => None,
     };
-    let etype = Etype::of(cells.next()?.parse::<i32>().ok()?)?;
-    key_said(alloc, keytab.find(&server, kvno, etype))
-}
-
-/// Whether a name is served.
-fn serves(alloc: Global, serves: bool) -> Option<String> {
-    String::from_str(alloc, if serves { "yes" } else { "no" }).ok()
-}
-
-/// A key that may be there.
-fn key_said(alloc: Global, key: Option<Key>) -> Option<String> {
     match key {
-        None => String::from_str(alloc, "none").ok(),
-        Some(key) => cell(alloc, key.bytes()),
+        Some(key) => said.octets(key.bytes()),
+        None => said.word("none"),
     }
+}
+
+/// Says what a keytab has for a question `name/number/type`, or for `name/serves`, and answers whether it is in that form.
+fn asked(said: &mut Said, keytab: &Keytab, question: &str) -> bool {
+    let mut parts = Cells::new(said.alloc(), question, '/');
+    let text = parts.text();
+    match Principal::parse(said.alloc(), text.as_str()) {
+        Ok(server) => {
+            if parts.rest() == Some("serves") {
+                said.word(if keytab.serves(&server) { "yes" } else { "no" });
+            } else {
+                key_asked(&mut parts, said, keytab, &server);
+            }
+        }
+        Err(_) => parts.expect(false),
+    }
+    parts.are_well()
 }
 
 /// The cells of a keytab and questions with commas between them: the answers.
-pub fn finds(alloc: Global, row: &str) -> Option<String> {
-    let mut cells = row.split(' ');
-    let octets = octets(alloc, cells.next()?)?;
-    let keytab = read_keytab(alloc, octets.as_slice()).ok()?;
-    let mut said = String::new(alloc);
-    for question in cells.next()?.split(',') {
-        let one = asked(alloc, &keytab, question)?;
-        add(&mut said, ",", one.as_str())?;
+pub fn finds(cells: &mut Cells<'_>, said: &mut Said) {
+    let (octets, questions) = (cells.octets(), cells.word());
+    match read_keytab(cells.alloc(), octets.as_slice()) {
+        Ok(keytab) => {
+            for (at, question) in questions.split(',').enumerate() {
+                said.listed(at);
+                let is_asked = asked(said, &keytab, question);
+                cells.expect(is_asked);
+            }
+        }
+        Err(_) => cells.expect(false),
     }
-    Some(said)
 }
 
-/// A credential: client, type and octets of the session key, and SHA-1 of the ticket.
-fn granted(alloc: Global, credential: &Credential) -> Option<String> {
-    let client = name(alloc, &credential.client)?;
-    let key = cell(alloc, credential.session.bytes())?;
+/// Says a credential: client, type and octets of the session key, and SHA-1 of the ticket.
+fn granted(said: &mut Said, credential: &Credential) {
+    name(said, &credential.client);
+    said.join(":");
+    said.signed(i64::from(credential.session.etype().number()));
+    said.join(":");
+    said.octets(credential.session.bytes());
+    said.join(":");
     let mut hasher = Sha1::new();
     hasher.update(credential.ticket.as_slice());
-    let ticket = cell(alloc, &hasher.finalize())?;
-    let number = credential.session.etype().number();
-    format!(in alloc; "{client}:{number}:{key}:{ticket}").ok()
+    said.octets(&hasher.finalize());
 }
 
-/// Adds the credential for a server, where there is one.
-fn add_credential(alloc: Global, said: &mut String, cache: &Ccache, text: &str) -> Option<()> {
-    let server = Principal::parse(alloc, text).ok()?;
-    let Some(credential) = cache.find(&server) else {
-        return Some(());
-    };
-    let (name, granted) = (
-        name(alloc, &credential.server)?,
-        granted(alloc, credential)?,
-    );
-    let one = format!(in alloc; "{name}={granted}").ok()?;
-    add(said, ",", one.as_str())
+/// Says the credential for a server as the item `at` of a list, where there is one, and answers how many items there are then.
+fn granted_found(said: &mut Said, cache: &Ccache, server: &Principal, at: usize) -> usize {
+    match cache.find(server) {
+        Some(credential) => {
+            said.listed(at);
+            name(said, &credential.server);
+            said.join("=");
+            granted(said, credential);
+            at.saturating_add(1)
+        }
+        None => at,
+    }
+}
+
+/// Says the owner of a cache and the credentials for all names.
+fn cache_said(said: &mut Said, cache: &Ccache) {
+    said.word("Ok");
+    name(said, cache.owner());
+    let mut at = 0usize;
+    for text in NAMES {
+        match Principal::parse(said.alloc(), text) {
+            Ok(server) => at = granted_found(said, cache, &server, at),
+            Err(_) => said.starve(),
+        }
+    }
+    if at == 0 {
+        said.word("-");
+    }
 }
 
 /// The cell of a credential cache: its owner and the credentials for all names, or the refusal.
-pub fn cache(alloc: Global, row: &str) -> Option<String> {
-    let octets = octets(alloc, row.split(' ').next()?)?;
-    let cache = match read_ccache(alloc, octets.as_slice()) {
-        Ok(cache) => cache,
-        Err(refusal) => return refused(alloc, refusal),
-    };
-    let mut said = String::new(alloc);
-    for text in NAMES {
-        add_credential(alloc, &mut said, &cache, text)?;
+pub fn cache(cells: &mut Cells<'_>, said: &mut Said) {
+    let octets = cells.octets();
+    match read_ccache(cells.alloc(), octets.as_slice()) {
+        Ok(cache) => cache_said(said, &cache),
+        Err(refusal) => refused(said, refusal),
     }
-    let owner = name(alloc, cache.owner())?;
-    format!(in alloc; "Ok {owner} {}", or_none(said.as_str())).ok()
+}
+
+/// Says the owner of a cache and the credential for the server of this name.
+fn found(cells: &mut Cells<'_>, said: &mut Said, cache: &Ccache, text: &str) {
+    name(said, cache.owner());
+    match Principal::parse(cells.alloc(), text) {
+        Ok(server) => match cache.find(&server) {
+            Some(credential) => granted(said, credential),
+            None => said.word("none"),
+        },
+        Err(_) => cells.expect(false),
+    }
 }
 
 /// The cells of a credential cache and a server: the owner and the credential.
-pub fn credential(alloc: Global, row: &str) -> Option<String> {
-    let mut cells = row.split(' ');
-    let octets = octets(alloc, cells.next()?)?;
-    let cache = read_ccache(alloc, octets.as_slice()).ok()?;
-    let server = table_rows::text(alloc, cells.next()?)?;
-    let server = Principal::parse(alloc, server.as_str()).ok()?;
-    let owner = name(alloc, cache.owner())?;
-    match cache.find(&server) {
-        None => format!(in alloc; "{owner} none").ok(),
-        Some(credential) => {
-            let granted = granted(alloc, credential)?;
-            format!(in alloc; "{owner} {granted}").ok()
-        }
+pub fn credential(cells: &mut Cells<'_>, said: &mut Said) {
+    let (octets, text) = (cells.octets(), cells.text());
+    match read_ccache(cells.alloc(), octets.as_slice()) {
+        Ok(cache) => found(cells, said, &cache, text.as_str()),
+        Err(_) => cells.expect(false),
     }
 }

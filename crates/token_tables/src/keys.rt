@@ -1,150 +1,154 @@
 //! n-fold, keys and those derived from them, sealed octets and checksums.
 
 use crate::ciphers::aes_key;
+use aes_cts::AesKey;
 use krb_derive::{
     CheckKey, Etype, Key, Part, SealKeys, checksum, derive, n_fold, open, seal, verify,
 };
 use mac_sha1::hi;
-use std::alloc::Global;
-use std::str::Split;
-use table_rows::{cell, exactly, octets};
+use table_rows::{Cells, Said};
+
+/// The type of the next cell's number, where there is one.
+pub fn etype(cells: &mut Cells<'_>) -> Option<Etype> {
+    match i32::try_from(cells.signed()) {
+        Ok(number) => Etype::of(number),
+        Err(_) => None,
+    }
+}
 
 /// The key of the cells type and octets.
-pub fn key(alloc: Global, cells: &mut Split<'_, char>) -> Option<Key> {
-    let etype = Etype::of(cells.next()?.parse::<i32>().ok()?)?;
-    let octets = octets(alloc, cells.next()?)?;
-    Key::new(etype, octets.as_slice())
+pub fn key(cells: &mut Cells<'_>) -> Key {
+    let (etype, octets) = (etype(cells), cells.octets());
+    let key = match etype {
+        Some(etype) => Key::new(etype, octets.as_slice()),
+        None => None,
+    };
+    cells.expect(key.is_some());
+    key.unwrap_or(Key::Aes128([0; 16]))
 }
 
-/// The number of a cell.
-fn usage(cells: &mut Split<'_, char>) -> Option<u32> {
-    cells.next()?.parse::<u32>().ok()
-}
-
-/// Octets folded to so many.
-fn fold(alloc: Global, bytes: &[u8], count: usize) -> Option<Vec<u8>> {
-    if bytes.is_empty() || count == 0 || count > 4096 {
-        return None;
+/// Says octets folded into others.
+fn fold(said: &mut Said, bytes: &[u8], out: &mut [u8]) {
+    if !bytes.is_empty() && !out.is_empty() {
+        n_fold(bytes, out);
     }
-    let mut out = vec![in alloc; 0u8; count].ok()?;
-    if out.is_empty() {
-        return None;
-    }
-    n_fold(bytes, out.as_mut_slice());
-    Some(out)
+    said.octets(out);
 }
 
 /// The cells octets and count: the octets folded to so many.
-pub fn folded(alloc: Global, row: &str) -> Option<String> {
-    let mut cells = row.split(' ');
-    let bytes = octets(alloc, cells.next()?)?;
-    let count = cells.next()?.parse::<usize>().ok()?;
-    let out = fold(alloc, bytes.as_slice(), count)?;
-    cell(alloc, out.as_slice())
+pub fn folded(cells: &mut Cells<'_>, said: &mut Said) {
+    let (bytes, count) = (cells.octets(), cells.number());
+    cells.expect(count <= 4096);
+    match vec![in cells.alloc(); 0u8; (count % 4097) as usize] {
+        Ok(out) => {
+            let mut out = out;
+            fold(said, bytes.as_slice(), out.as_mut_slice());
+        }
+        Err(_) => said.starve(),
+    }
 }
 
 /// Whether Hi of a password begins as these octets, as far as both go.
-fn begins_as(password: &[u8], salt: &[u8], rounds: u32, octets: &[u8]) -> Option<bool> {
+fn begins_as(password: &[u8], salt: &[u8], rounds: u32, octets: &[u8]) -> bool {
     if rounds == 0 {
-        return None;
+        return false;
     }
     let sum = hi(password, salt, rounds);
     let common = octets.len().min(20);
-    Some(octets.get(..common) == sum.get(..common))
+    octets.get(..common) == sum.get(..common)
 }
 
-/// The key of a password, RFC 3962 section 4: that of the stretched octets in a cell for the constant `kerberos`.
-fn password_key(alloc: Global, said: &str) -> Option<String> {
-    let key = aes_key(said)?;
+/// Says the key of a password, RFC 3962 section 4: that of the stretched octets, as a key of AES, for the constant `kerberos`.
+fn password_key(said: &mut Said, key: &AesKey, is_short: bool) {
     let mut block = [0u8; 16];
     n_fold(b"kerberos", &mut block);
     let first = key.block(&block);
-    if said.len() == 32 {
-        return cell(alloc, &first);
+    said.octets(&first);
+    if !is_short {
+        said.join("");
+        said.octets(&key.block(&first));
     }
-    let (first, second) = (cell(alloc, &first)?, cell(alloc, &key.block(&first))?);
-    format!(in alloc; "{first}{second}").ok()
 }
 
 /// The cells password, salt, rounds and stretched octets: the key, where Hi is their front.
-pub fn of_password(alloc: Global, row: &str) -> Option<String> {
-    let mut cells = row.split(' ');
-    let password = octets(alloc, cells.next()?)?;
-    let salt = octets(alloc, cells.next()?)?;
-    let rounds = usage(&mut cells)?;
-    let said = cells.next()?;
-    let stretched = octets(alloc, said)?;
-    if !begins_as(
-        password.as_slice(),
-        salt.as_slice(),
-        rounds,
-        stretched.as_slice(),
-    )? {
-        return String::from_str(alloc, "stretched otherwise").ok();
+pub fn of_password(cells: &mut Cells<'_>, said: &mut Said) {
+    let (password, salt, rounds) = (cells.octets(), cells.octets(), cells.word_number());
+    let part = cells.word();
+    let stretched = cells.octets_in(part);
+    let (password, salt) = (password.as_slice(), salt.as_slice());
+    if !begins_as(password, salt, rounds, stretched.as_slice()) {
+        said.word("stretched otherwise");
     }
-    password_key(alloc, said)
+    password_key(said, &aes_key(cells, part), part.len() == 32);
 }
 
 /// The cells type and octets: the key with its type's number, or that there is no such type or key.
-pub fn made(alloc: Global, row: &str) -> Option<String> {
-    let mut cells = row.split(' ');
-    let Some(etype) = Etype::of(cells.next()?.parse::<i32>().ok()?) else {
-        return String::from_str(alloc, "no type").ok();
-    };
-    let octets = octets(alloc, cells.next()?)?;
-    let Some(key) = Key::new(etype, octets.as_slice()) else {
-        return String::from_str(alloc, "no key").ok();
-    };
-    let bytes = cell(alloc, key.bytes())?;
-    format!(in alloc; "{}:{bytes}", key.etype().number()).ok()
+pub fn made(cells: &mut Cells<'_>, said: &mut Said) {
+    let (etype, octets) = (etype(cells), cells.octets());
+    match etype {
+        Some(etype) => match Key::new(etype, octets.as_slice()) {
+            Some(key) => {
+                said.signed(i64::from(key.etype().number()));
+                said.join(":");
+                said.octets(key.bytes());
+            }
+            None => said.word("no key"),
+        },
+        None => said.word("no type"),
+    }
 }
 
-/// The part of a cell.
-fn part(said: &str) -> Option<Part> {
-    match said {
-        "Encrypt" => Some(Part::Encrypt),
-        "Integrity" => Some(Part::Integrity),
-        "Check" => Some(Part::Check),
-        _ => None,
+/// The next cell's part.
+fn part(cells: &mut Cells<'_>) -> Part {
+    match cells.word() {
+        "Encrypt" => Part::Encrypt,
+        "Integrity" => Part::Integrity,
+        word => {
+            cells.expect(word == "Check");
+            Part::Check
+        }
     }
 }
 
 /// The cells of a key, usage and part: the derived key.
-pub fn derived(alloc: Global, row: &str) -> Option<String> {
-    let mut cells = row.split(' ');
-    let key = key(alloc, &mut cells)?;
-    let usage = usage(&mut cells)?;
-    let part = part(cells.next()?)?;
-    cell(alloc, derive(&key, usage, part).bytes())
+pub fn derived(cells: &mut Cells<'_>, said: &mut Said) {
+    let (key, usage, part) = (key(cells), cells.word_number(), part(cells));
+    said.octets(derive(&key, usage, part).bytes());
+}
+
+/// Whether kept keys open sealed octets to these.
+fn opens_to(said: &Said, key: &Key, usage: u32, sealed: &[u8], plain: &[u8]) -> bool {
+    match SealKeys::of(key, usage).open(said.alloc(), sealed) {
+        Ok(opened) => opened.as_slice() == plain,
+        Err(_) => false,
+    }
 }
 
 /// The cells of a key, usage, confounder and octets: what they are sealed to, which kept keys open to them again.
-pub fn sealed(alloc: Global, row: &str) -> Option<String> {
-    let mut cells = row.split(' ');
-    let key = key(alloc, &mut cells)?;
-    let usage = usage(&mut cells)?;
-    let confounder: [u8; 16] = exactly(cells.next()?)?;
-    let plain = octets(alloc, cells.next()?)?;
-    let made = seal(alloc, &key, usage, &confounder, plain.as_slice()).ok()?;
-    let opened = SealKeys::of(&key, usage).open(alloc, made.as_slice()).ok()?;
-    if opened.as_slice() != plain.as_slice() {
-        return String::from_str(alloc, "opens to other octets").ok();
+pub fn sealed(cells: &mut Cells<'_>, said: &mut Said) {
+    let (key, usage) = (key(cells), cells.word_number());
+    let confounder: [u8; 16] = cells.exactly();
+    let plain = cells.octets();
+    match seal(cells.alloc(), &key, usage, &confounder, plain.as_slice()) {
+        Ok(made) => {
+            if !opens_to(said, &key, usage, made.as_slice(), plain.as_slice()) {
+                said.word("opens to other octets");
+            }
+            said.octets(made.as_slice());
+        }
+        Err(_) => said.starve(),
     }
-    cell(alloc, made.as_slice())
 }
 
 /// The cells of a key, usage and sealed octets: what they open to, or the refusal.
-pub fn opened(alloc: Global, row: &str) -> Option<String> {
-    let mut cells = row.split(' ');
-    let key = key(alloc, &mut cells)?;
-    let usage = usage(&mut cells)?;
-    let sealed = octets(alloc, cells.next()?)?;
-    match open(alloc, &key, usage, sealed.as_slice()) {
-        Err(refusal) => format!(in alloc; "{refusal:?}").ok(),
+pub fn opened(cells: &mut Cells<'_>, said: &mut Said) {
+    let (key, usage, sealed) = (key(cells), cells.word_number(), cells.octets());
+    match open(cells.alloc(), &key, usage, sealed.as_slice()) {
         Ok(plain) => {
-            let plain = cell(alloc, plain.as_slice())?;
-            format!(in alloc; "Ok {plain}").ok()
+            said.word("Ok");
+            said.octets(plain.as_slice());
         }
+        Err(refusal) => said.form(&refusal),
     }
 }
 
@@ -160,15 +164,17 @@ fn is_taken(key: &Key, usage: u32, first: &[u8], second: &[u8], tag: &[u8; 12]) 
 }
 
 /// The cells of a key, usage and two pieces: the checksum of both in a row, which is taken.
-pub fn checked(alloc: Global, row: &str) -> Option<String> {
-    let mut cells = row.split(' ');
-    let key = key(alloc, &mut cells)?;
-    let usage = usage(&mut cells)?;
-    let first = octets(alloc, cells.next()?)?;
-    let second = octets(alloc, cells.next()?)?;
-    let tag = checksum(&key, usage, first.as_slice(), second.as_slice());
-    if !is_taken(&key, usage, first.as_slice(), second.as_slice(), &tag) {
-        return String::from_str(alloc, "isn't taken").ok();
+pub fn checked(cells: &mut Cells<'_>, said: &mut Said) {
+    let (key, usage, first, second) = (
+        key(cells),
+        cells.word_number(),
+        cells.octets(),
+        cells.octets(),
+    );
+    let (first, second) = (first.as_slice(), second.as_slice());
+    let tag = checksum(&key, usage, first, second);
+    if !is_taken(&key, usage, first, second, &tag) {
+        said.word("isn't taken");
     }
-    cell(alloc, &tag)
+    said.octets(&tag);
 }

@@ -4,249 +4,181 @@ use crate::parts::{
     key, maybe_addresses, maybe_authorization, maybe_key, maybe_number, maybe_octets, maybe_text,
     maybe_time, name, number, octets, pair, sealed, time,
 };
-use crate::values::refused;
+use crate::values::{refused, written_as};
 use crate::written;
 use krb_msgs::{
-    ApRep, ApReq, Authenticator, Checksum, EncApRepPart, EncTicketPart, KrbError, PrincipalName,
-    Ticket, read_ap_rep, read_ap_req, read_authenticator, read_enc_ap_rep_part,
-    read_enc_ticket_part, read_krb_error, read_ticket,
+    ApReq, Authenticator, EncApRepPart, EncTicketPart, KrbError, Ticket, read_ap_rep, read_ap_req,
+    read_authenticator, read_enc_ap_rep_part, read_enc_ticket_part, read_krb_error, read_ticket,
 };
-use sec_base::Octets;
-use std::alloc::Global;
+use table_rows::{Cells, Said};
 
-/// The fields of a request.
-fn ap_req(alloc: Global, message: &ApReq) -> Option<String> {
-    let mut said = String::new(alloc);
-    let options = i64::from(message.ap_options);
-    number(alloc, &mut said, "ap_options", options)?;
-    octets(alloc, &mut said, "ticket", message.ticket.as_slice())?;
-    sealed(alloc, &mut said, "authenticator", &message.authenticator)?;
-    Some(said)
+/// Says the fields of a request.
+fn ap_req(said: &mut Said, message: &ApReq) {
+    said.word("Ok");
+    number(said, "ap_options", i64::from(message.ap_options));
+    octets(said, "ticket", message.ticket.as_slice());
+    sealed(said, "authenticator", &message.authenticator);
 }
 
-/// The fields of a ticket.
-fn ticket(alloc: Global, message: &Ticket) -> Option<String> {
-    let mut said = String::new(alloc);
-    let realm = message.realm.as_str().as_bytes();
-    octets(alloc, &mut said, "realm", realm)?;
-    name(alloc, &mut said, "sname", &message.sname)?;
-    sealed(alloc, &mut said, "enc_part", &message.enc_part)?;
-    Some(said)
+/// Says the fields of a ticket.
+fn ticket(said: &mut Said, message: &Ticket) {
+    octets(said, "realm", message.realm.as_str().as_bytes());
+    name(said, "sname", &message.sname);
+    sealed(said, "enc_part", &message.enc_part);
 }
 
-/// The fields of a reply.
-fn ap_rep(alloc: Global, message: &ApRep) -> Option<String> {
-    let mut said = String::new(alloc);
-    sealed(alloc, &mut said, "enc_part", &message.enc_part)?;
-    Some(said)
+/// Says the fields of a reply's part.
+fn enc_ap_rep_part(said: &mut Said, message: &EncApRepPart) {
+    time(said, "ctime", message.ctime);
+    number(said, "cusec", i64::from(message.cusec));
+    maybe_key(said, "subkey", &message.subkey);
+    maybe_number(said, "seq_number", message.seq_number);
 }
 
-/// The fields of a reply's part.
-fn enc_ap_rep_part(alloc: Global, message: &EncApRepPart) -> Option<String> {
-    let mut said = String::new(alloc);
-    time(alloc, &mut said, "ctime", message.ctime)?;
-    number(alloc, &mut said, "cusec", i64::from(message.cusec))?;
-    maybe_key(alloc, &mut said, "subkey", &message.subkey)?;
-    maybe_number(alloc, &mut said, "seq_number", message.seq_number)?;
-    Some(said)
+/// Says the fields of an authenticator.
+fn authenticator(said: &mut Said, message: &Authenticator) {
+    octets(said, "crealm", message.crealm.as_str().as_bytes());
+    name(said, "cname", &message.cname);
+    if let Some(of) = &message.cksum {
+        let (kind, content) = (("cksumtype", of.cksumtype), ("checksum", &of.checksum));
+        pair(said, "cksum", kind, content);
+    }
+    number(said, "cusec", i64::from(message.cusec));
+    time(said, "ctime", message.ctime);
+    maybe_key(said, "subkey", &message.subkey);
+    maybe_number(said, "seq_number", message.seq_number);
+    maybe_authorization(said, &message.authorization_data);
 }
 
-/// Adds the checksum that may be there.
-fn checksum(alloc: Global, said: &mut String, of: &Option<Checksum>) -> Option<()> {
-    let Some(of) = of else {
-        return Some(());
-    };
-    let names = ("cksum", "cksumtype", "checksum");
-    pair(alloc, said, names, of.cksumtype, &of.checksum)
-}
-
-/// The fields of an authenticator.
-fn authenticator(alloc: Global, message: &Authenticator) -> Option<String> {
-    let mut said = String::new(alloc);
-    let realm = message.crealm.as_str().as_bytes();
-    octets(alloc, &mut said, "crealm", realm)?;
-    name(alloc, &mut said, "cname", &message.cname)?;
-    checksum(alloc, &mut said, &message.cksum)?;
-    number(alloc, &mut said, "cusec", i64::from(message.cusec))?;
-    time(alloc, &mut said, "ctime", message.ctime)?;
-    maybe_key(alloc, &mut said, "subkey", &message.subkey)?;
-    maybe_number(alloc, &mut said, "seq_number", message.seq_number)?;
-    maybe_authorization(alloc, &mut said, &message.authorization_data)?;
-    Some(said)
-}
-
-/// Adds the moments of a ticket's part.
-fn moments(alloc: Global, said: &mut String, message: &EncTicketPart) -> Option<()> {
-    time(alloc, said, "authtime", message.authtime)?;
-    maybe_time(alloc, said, "starttime", message.starttime)?;
-    time(alloc, said, "endtime", message.endtime)?;
-    maybe_time(alloc, said, "renew_till", message.renew_till)
-}
-
-/// The fields of a ticket's part.
-fn enc_ticket_part(alloc: Global, message: &EncTicketPart) -> Option<String> {
-    let mut said = String::new(alloc);
-    number(alloc, &mut said, "flags", i64::from(message.flags))?;
-    key(alloc, &mut said, "key", &message.key)?;
-    let realm = message.crealm.as_str().as_bytes();
-    octets(alloc, &mut said, "crealm", realm)?;
-    name(alloc, &mut said, "cname", &message.cname)?;
-    let names = ("transited", "tr_type", "contents");
+/// Says the fields of a ticket's part.
+fn enc_ticket_part(said: &mut Said, message: &EncTicketPart) {
+    number(said, "flags", i64::from(message.flags));
+    key(said, "key", &message.key);
+    octets(said, "crealm", message.crealm.as_str().as_bytes());
+    name(said, "cname", &message.cname);
     let transited = &message.transited;
-    pair(
-        alloc,
-        &mut said,
-        names,
-        transited.tr_type,
-        &transited.contents,
-    )?;
-    moments(alloc, &mut said, message)?;
-    maybe_addresses(alloc, &mut said, &message.caddr)?;
-    maybe_authorization(alloc, &mut said, &message.authorization_data)?;
-    Some(said)
+    let (kind, content) = (
+        ("tr_type", transited.tr_type),
+        ("contents", &transited.contents),
+    );
+    pair(said, "transited", kind, content);
+    time(said, "authtime", message.authtime);
+    maybe_time(said, "starttime", message.starttime);
+    time(said, "endtime", message.endtime);
+    maybe_time(said, "renew_till", message.renew_till);
+    maybe_addresses(said, &message.caddr);
+    maybe_authorization(said, &message.authorization_data);
 }
 
-/// Adds the name that may be there.
-fn maybe_name(alloc: Global, said: &mut String, of: &Option<PrincipalName>) -> Option<()> {
-    match of {
-        None => Some(()),
-        Some(of) => name(alloc, said, "cname", of),
+/// Says the fields of an error.
+fn krb_error(said: &mut Said, message: &KrbError) {
+    maybe_time(said, "ctime", message.ctime);
+    maybe_number(said, "cusec", message.cusec);
+    time(said, "stime", message.stime);
+    number(said, "susec", i64::from(message.susec));
+    number(said, "error_code", i64::from(message.error_code));
+    maybe_text(said, "crealm", &message.crealm);
+    if let Some(of) = &message.cname {
+        name(said, "cname", of);
+    }
+    octets(said, "realm", message.realm.as_str().as_bytes());
+    name(said, "sname", &message.sname);
+    maybe_text(said, "e_text", &message.e_text);
+    maybe_octets(said, "e_data", &message.e_data);
+}
+
+/// Says a request, or why octets are none.
+fn read_request(said: &mut Said, octets: &[u8]) {
+    match read_ap_req(said.alloc(), octets) {
+        Ok(message) => ap_req(said, &message),
+        Err(refusal) => refused(said, refusal),
     }
 }
 
-/// Adds the times and the number of an error.
-fn causes(alloc: Global, said: &mut String, message: &KrbError) -> Option<()> {
-    maybe_time(alloc, said, "ctime", message.ctime)?;
-    maybe_number(alloc, said, "cusec", message.cusec)?;
-    time(alloc, said, "stime", message.stime)?;
-    number(alloc, said, "susec", i64::from(message.susec))?;
-    number(alloc, said, "error_code", i64::from(message.error_code))
-}
-
-/// The fields of an error.
-fn krb_error(alloc: Global, message: &KrbError) -> Option<String> {
-    let mut said = String::new(alloc);
-    causes(alloc, &mut said, message)?;
-    maybe_text(alloc, &mut said, "crealm", &message.crealm)?;
-    maybe_name(alloc, &mut said, &message.cname)?;
-    let realm = message.realm.as_str().as_bytes();
-    octets(alloc, &mut said, "realm", realm)?;
-    name(alloc, &mut said, "sname", &message.sname)?;
-    maybe_text(alloc, &mut said, "e_text", &message.e_text)?;
-    maybe_octets(alloc, &mut said, "e_data", &message.e_data)?;
-    Some(said)
-}
-
-/// The fields of a message, where it is written as it stood.
-fn found(
-    alloc: Global,
-    octets: &[u8],
-    fields: Option<String>,
-    again: Option<Octets>,
-) -> Option<String> {
-    let fields = fields?;
-    match again {
-        None => String::from_str(alloc, "isn't written").ok(),
-        Some(again) => {
-            if again.as_slice() != octets {
-                return String::from_str(alloc, "is written otherwise").ok();
-            }
-            format!(in alloc; "Ok {fields}").ok()
-        }
-    }
-}
-
-/// A request.
-fn read_request(alloc: Global, octets: &[u8]) -> Option<String> {
-    match read_ap_req(alloc, octets) {
-        Err(refusal) => refused(alloc, refusal),
+/// Says a ticket that is written as it stood, or why octets are none.
+fn read_whole_ticket(said: &mut Said, octets: &[u8]) {
+    match read_ticket(said.alloc(), octets) {
         Ok(message) => {
-            let fields = ap_req(alloc, &message)?;
-            format!(in alloc; "Ok {fields}").ok()
+            let written = written::ticket(said.alloc(), &message);
+            written_as(said, octets, written);
+            ticket(said, &message);
         }
+        Err(refusal) => refused(said, refusal),
     }
 }
 
-/// A ticket.
-fn read_whole_ticket(alloc: Global, octets: &[u8]) -> Option<String> {
-    match read_ticket(alloc, octets) {
-        Err(refusal) => refused(alloc, refusal),
+/// Says a reply that is written as it stood, or why octets are none.
+fn read_reply(said: &mut Said, octets: &[u8]) {
+    match read_ap_rep(said.alloc(), octets) {
         Ok(message) => {
-            let again = written::ticket(alloc, octets);
-            found(alloc, octets, ticket(alloc, &message), again)
+            let written = written::ap_rep(said.alloc(), &message);
+            written_as(said, octets, written);
+            sealed(said, "enc_part", &message.enc_part);
         }
+        Err(refusal) => refused(said, refusal),
     }
 }
 
-/// A reply.
-fn read_reply(alloc: Global, octets: &[u8]) -> Option<String> {
-    match read_ap_rep(alloc, octets) {
-        Err(refusal) => refused(alloc, refusal),
+/// Says a reply's part that is written as it stood, or why octets are none.
+fn read_reply_part(said: &mut Said, octets: &[u8]) {
+    match read_enc_ap_rep_part(said.alloc(), octets) {
         Ok(message) => {
-            let again = written::ap_rep(alloc, octets);
-            found(alloc, octets, ap_rep(alloc, &message), again)
+            let written = written::enc_ap_rep_part(said.alloc(), &message);
+            written_as(said, octets, written);
+            enc_ap_rep_part(said, &message);
         }
+        Err(refusal) => refused(said, refusal),
     }
 }
 
-/// A reply's part.
-fn read_reply_part(alloc: Global, octets: &[u8]) -> Option<String> {
-    match read_enc_ap_rep_part(alloc, octets) {
-        Err(refusal) => refused(alloc, refusal),
+/// Says an authenticator that is written as it stood, or why octets are none.
+fn read_proof(said: &mut Said, octets: &[u8]) {
+    match read_authenticator(said.alloc(), octets) {
         Ok(message) => {
-            let again = written::enc_ap_rep_part(alloc, octets);
-            found(alloc, octets, enc_ap_rep_part(alloc, &message), again)
+            let written = written::authenticator(said.alloc(), &message);
+            written_as(said, octets, written);
+            authenticator(said, &message);
         }
+        Err(refusal) => refused(said, refusal),
     }
 }
 
-/// An authenticator.
-fn read_proof(alloc: Global, octets: &[u8]) -> Option<String> {
-    match read_authenticator(alloc, octets) {
-        Err(refusal) => refused(alloc, refusal),
+/// Says a ticket's part that is written as it stood, or why octets are none.
+fn read_ticket_part(said: &mut Said, octets: &[u8]) {
+    match read_enc_ticket_part(said.alloc(), octets) {
         Ok(message) => {
-            let again = written::authenticator(alloc, octets);
-            found(alloc, octets, authenticator(alloc, &message), again)
+            let written = written::enc_ticket_part(said.alloc(), &message);
+            written_as(said, octets, written);
+            enc_ticket_part(said, &message);
         }
+        Err(refusal) => refused(said, refusal),
     }
 }
 
-/// A ticket's part.
-fn read_ticket_part(alloc: Global, octets: &[u8]) -> Option<String> {
-    match read_enc_ticket_part(alloc, octets) {
-        Err(refusal) => refused(alloc, refusal),
+/// Says an error that is written as it stood, or why octets are none.
+fn read_error(said: &mut Said, octets: &[u8]) {
+    match read_krb_error(said.alloc(), octets) {
         Ok(message) => {
-            let again = written::enc_ticket_part(alloc, octets);
-            found(alloc, octets, enc_ticket_part(alloc, &message), again)
+            let written = written::krb_error(said.alloc(), &message);
+            written_as(said, octets, written);
+            krb_error(said, &message);
         }
-    }
-}
-
-/// An error.
-fn read_error(alloc: Global, octets: &[u8]) -> Option<String> {
-    match read_krb_error(alloc, octets) {
-        Err(refusal) => refused(alloc, refusal),
-        Ok(message) => {
-            let again = written::krb_error(alloc, octets);
-            found(alloc, octets, krb_error(alloc, &message), again)
-        }
+        Err(refusal) => refused(said, refusal),
     }
 }
 
 /// The cells kind and octets: the fields of the message, or the refusal.
-pub fn read(alloc: Global, row: &str) -> Option<String> {
-    let mut cells = row.split(' ');
-    let kind = cells.next()?;
-    let octets = table_rows::octets(alloc, cells.next()?)?;
+pub fn read(cells: &mut Cells<'_>, said: &mut Said) {
+    let (kind, octets) = (cells.word(), cells.octets());
     let octets = octets.as_slice();
     match kind {
-        "ap_req" => read_request(alloc, octets),
-        "ticket" => read_whole_ticket(alloc, octets),
-        "ap_rep" => read_reply(alloc, octets),
-        "enc_ap_rep_part" => read_reply_part(alloc, octets),
-        "authenticator" => read_proof(alloc, octets),
-        "enc_ticket_part" => read_ticket_part(alloc, octets),
-        "krb_error" => read_error(alloc, octets),
-        _ => None,
+        "ap_req" => read_request(said, octets),
+        "ticket" => read_whole_ticket(said, octets),
+        "ap_rep" => read_reply(said, octets),
+        "enc_ap_rep_part" => read_reply_part(said, octets),
+        "authenticator" => read_proof(said, octets),
+        "enc_ticket_part" => read_ticket_part(said, octets),
+        "krb_error" => read_error(said, octets),
+        _ => cells.expect(false),
     }
 }

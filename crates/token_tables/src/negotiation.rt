@@ -1,32 +1,36 @@
 //! The tokens of SPNEGO, and the list that both ends sign.
 
 use crate::fields::identifiers;
-use crate::values::refused;
+use crate::values::{refused, written_as};
 use sec_base::{Octets, Oid};
 use spnego_msgs::{
     NegInit, NegResp, NegState, list_bytes, read_init, read_resp, write_init, write_resp,
 };
 use std::alloc::Global;
-use table_rows::{cell, octets};
+use table_rows::{Cells, Said};
 
-/// Octets that may be there.
-fn octets_said(alloc: Global, octets: &Option<Octets>) -> Option<String> {
+/// Says a field of octets that may be there.
+fn octets_said(said: &mut Said, path: &str, octets: &Option<Octets>) {
+    said.word(path);
+    said.join("=");
     match octets {
-        None => String::from_str(alloc, "none").ok(),
         Some(octets) => {
-            let octets = hex::encode(alloc, octets.as_slice()).ok()?;
-            format!(in alloc; "some:{octets}").ok()
+            said.word("some");
+            said.join(":");
+            said.hex(octets.as_slice());
         }
+        None => said.word("none"),
     }
 }
 
-/// The fields of a first token.
-fn init_said(alloc: Global, token: &NegInit) -> Option<String> {
-    let list = identifiers(alloc, token.list.as_slice())?;
-    let flags = octets_said(alloc, &token.flags)?;
-    let inner = octets_said(alloc, &token.token)?;
-    let mic = octets_said(alloc, &token.mic)?;
-    format!(in alloc; "Ok list={list} flags={flags} token={inner} mic={mic}").ok()
+/// Says the fields of a first token.
+fn init_said(said: &mut Said, token: &NegInit) {
+    said.word("list");
+    said.join("=");
+    identifiers(said, token.list.as_slice());
+    octets_said(said, "flags", &token.flags);
+    octets_said(said, "token", &token.token);
+    octets_said(said, "mic", &token.mic);
 }
 
 /// A first token written.
@@ -38,16 +42,15 @@ fn init_written(alloc: Global, token: &NegInit) -> Option<Octets> {
     write_init(alloc, token).ok()
 }
 
-/// A first token, which is written as it stood.
-fn init(alloc: Global, octets: &[u8]) -> Option<String> {
-    match read_init(alloc, octets) {
-        Err(refusal) => refused(alloc, refusal),
+/// Says a first token, which is written as it stood, or why octets are none.
+fn init(said: &mut Said, octets: &[u8]) {
+    match read_init(said.alloc(), octets) {
         Ok(token) => {
-            if init_written(alloc, &token)?.as_slice() != octets {
-                return String::from_str(alloc, "is written otherwise").ok();
-            }
-            init_said(alloc, &token)
+            let written = init_written(said.alloc(), &token);
+            written_as(said, octets, written);
+            init_said(said, &token);
         }
+        Err(refusal) => refused(said, refusal),
     }
 }
 
@@ -62,59 +65,70 @@ fn state_said(state: Option<NegState>) -> &'static str {
     }
 }
 
-/// The mechanism that may be there.
-fn mechanism_said(alloc: Global, mechanism: &Option<Oid>) -> Option<String> {
+/// Says the mechanism that may be there.
+fn mechanism_said(said: &mut Said, mechanism: &Option<Oid>) {
+    said.word("mech");
+    said.join("=");
     match mechanism {
-        None => String::from_str(alloc, "none").ok(),
         Some(oid) => {
-            let content = cell(alloc, oid.content())?;
-            format!(in alloc; "some:{content}").ok()
+            said.word("some");
+            said.join(":");
+            said.octets(oid.content());
         }
+        None => said.word("none"),
     }
 }
 
-/// The fields of a later token.
-fn resp_said(alloc: Global, token: &NegResp) -> Option<String> {
-    let state = state_said(token.state);
-    let mechanism = mechanism_said(alloc, &token.mech)?;
-    let inner = octets_said(alloc, &token.token)?;
-    let mic = octets_said(alloc, &token.mic)?;
-    format!(in alloc; "Ok state={state} mech={mechanism} token={inner} mic={mic}").ok()
+/// Says the fields of a later token.
+fn resp_said(said: &mut Said, token: &NegResp) {
+    said.word("state");
+    said.join("=");
+    said.word(state_said(token.state));
+    mechanism_said(said, &token.mech);
+    octets_said(said, "token", &token.token);
+    octets_said(said, "mic", &token.mic);
 }
 
-/// A later token, which is written as it stood.
-fn resp(alloc: Global, octets: &[u8]) -> Option<String> {
-    match read_resp(alloc, octets) {
-        Err(refusal) => refused(alloc, refusal),
+/// Says a later token, which is written as it stood, or why octets are none.
+fn resp(said: &mut Said, octets: &[u8]) {
+    match read_resp(said.alloc(), octets) {
         Ok(token) => {
-            if write_resp(alloc, &token).ok()?.as_slice() != octets {
-                return String::from_str(alloc, "is written otherwise").ok();
-            }
-            resp_said(alloc, &token)
+            let written = write_resp(said.alloc(), &token).ok();
+            written_as(said, octets, written);
+            resp_said(said, &token);
         }
+        Err(refusal) => refused(said, refusal),
     }
 }
 
-/// The octets of a list of identifiers with commas between them.
-fn list(alloc: Global, said: &str) -> Option<String> {
-    let mut list = Vec::new(alloc);
-    for content in said.split(',') {
-        let oid = Oid::new(octets(alloc, content)?.as_slice())?;
-        list.push(oid).ok()?;
+/// Adds the identifier with this content, and answers whether it could.
+fn is_added(list: &mut Vec<Oid>, content: &[u8]) -> bool {
+    match Oid::new(content) {
+        Some(oid) => list.push(oid).is_ok(),
+        None => false,
     }
-    let octets = list_bytes(alloc, list.as_slice()).ok()?;
-    cell(alloc, octets.as_slice())
+}
+
+/// Says the octets of a list of identifiers with commas between them.
+fn list(cells: &mut Cells<'_>, said: &mut Said, contents: &str) {
+    let mut list = Vec::new(cells.alloc());
+    for content in contents.split(',') {
+        let is_added = is_added(&mut list, cells.octets_in(content).as_slice());
+        cells.expect(is_added);
+    }
+    match list_bytes(cells.alloc(), list.as_slice()) {
+        Ok(octets) => said.octets(octets.as_slice()),
+        Err(_) => said.starve(),
+    }
 }
 
 /// The cells kind and octets, or `list` and identifiers: the fields of a token or the refusal, or the list's octets.
-pub fn read(alloc: Global, row: &str) -> Option<String> {
-    let mut cells = row.split(' ');
-    let kind = cells.next()?;
-    let said = cells.next()?;
+pub fn read(cells: &mut Cells<'_>, said: &mut Said) {
+    let (kind, cell) = (cells.word(), cells.word());
     match kind {
-        "init" => init(alloc, octets(alloc, said)?.as_slice()),
-        "resp" => resp(alloc, octets(alloc, said)?.as_slice()),
-        "list" => list(alloc, said),
-        _ => None,
+        "init" => init(said, cells.octets_in(cell).as_slice()),
+        "resp" => resp(said, cells.octets_in(cell).as_slice()),
+        "list" => list(cells, said, cell),
+        _ => cells.expect(false),
     }
 }

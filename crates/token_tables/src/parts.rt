@@ -2,171 +2,155 @@
 
 use krb_msgs::{AuthorizationDatum, EncryptedData, EncryptionKey, HostAddress, PrincipalName};
 use sec_base::{Items, Moment, Octets, Text};
-use std::alloc::Global;
-use table_rows::add;
+use table_rows::Said;
 
-/// Adds a field.
-fn put(alloc: Global, said: &mut String, path: &str, value: &str) -> Option<()> {
-    let one = format!(in alloc; "{path}={value}").ok()?;
-    add(said, ";", one.as_str())
+/// Says a field that is a number.
+pub fn number(said: &mut Said, path: &str, number: i64) {
+    said.word(path);
+    said.join("=");
+    said.signed(number);
+    said.join(";");
 }
 
-/// Adds a number.
-pub fn number(alloc: Global, said: &mut String, path: &str, number: i64) -> Option<()> {
-    let value = format!(in alloc; "{number}").ok()?;
-    put(alloc, said, path, value.as_str())
-}
-
-/// Adds a number that may be there.
-pub fn maybe_number(alloc: Global, said: &mut String, path: &str, of: Option<u32>) -> Option<()> {
-    match of {
-        None => Some(()),
-        Some(of) => number(alloc, said, path, i64::from(of)),
+/// Says a number that may be there.
+pub fn maybe_number(said: &mut Said, path: &str, of: Option<u32>) {
+    if let Some(of) = of {
+        number(said, path, i64::from(of));
     }
 }
 
-/// Adds octets.
-pub fn octets(alloc: Global, said: &mut String, path: &str, octets: &[u8]) -> Option<()> {
-    let value = hex::encode(alloc, octets).ok()?;
-    put(alloc, said, path, value.as_str())
+/// Says a field that is octets.
+pub fn octets(said: &mut Said, path: &str, octets: &[u8]) {
+    said.word(path);
+    said.join("=");
+    said.hex(octets);
+    said.join(";");
 }
 
-/// Adds octets that may be there.
-pub fn maybe_octets(
-    alloc: Global,
-    said: &mut String,
-    path: &str,
-    of: &Option<Octets>,
-) -> Option<()> {
-    match of {
-        None => Some(()),
-        Some(of) => octets(alloc, said, path, of.as_slice()),
+/// Says octets that may be there.
+pub fn maybe_octets(said: &mut Said, path: &str, of: &Option<Octets>) {
+    if let Some(of) = of {
+        octets(said, path, of.as_slice());
     }
 }
 
-/// Adds a text that may be there.
-pub fn maybe_text(alloc: Global, said: &mut String, path: &str, of: &Option<Text>) -> Option<()> {
-    match of {
-        None => Some(()),
-        Some(of) => octets(alloc, said, path, of.as_str().as_bytes()),
+/// Says a text that may be there.
+pub fn maybe_text(said: &mut Said, path: &str, of: &Option<Text>) {
+    if let Some(of) = of {
+        octets(said, path, of.as_str().as_bytes());
     }
 }
 
-/// Adds a moment in seconds.
-pub fn time(alloc: Global, said: &mut String, path: &str, moment: Moment) -> Option<()> {
-    let value = format!(in alloc; "{}", moment.secs()).ok()?;
-    put(alloc, said, path, value.as_str())
+/// Says a moment in seconds.
+pub fn time(said: &mut Said, path: &str, moment: Moment) {
+    said.word(path);
+    said.join("=");
+    said.number(moment.secs());
+    said.join(";");
 }
 
-/// Adds a moment that may be there.
-pub fn maybe_time(alloc: Global, said: &mut String, path: &str, of: Option<Moment>) -> Option<()> {
-    match of {
-        None => Some(()),
-        Some(of) => time(alloc, said, path, of),
+/// Says a moment that may be there.
+pub fn maybe_time(said: &mut Said, path: &str, of: Option<Moment>) {
+    if let Some(of) = of {
+        time(said, path, of);
     }
 }
 
-/// Adds the type and the parts of a name.
-pub fn name(alloc: Global, said: &mut String, path: &str, name: &PrincipalName) -> Option<()> {
-    let kind = format!(in alloc; "{path}.name_type").ok()?;
-    number(alloc, said, kind.as_str(), i64::from(name.name_type))?;
-    let parts = format!(in alloc; "{path}.name_string").ok()?;
-    texts(alloc, said, parts.as_str(), name.name_string.as_slice())
+/// Says the front of the path of a part.
+fn front(said: &mut Said, path: &str) {
+    said.word(path);
+    said.join(".");
 }
 
-/// Adds a count, and so many texts.
-fn texts(alloc: Global, said: &mut String, path: &str, texts: &[Text]) -> Option<()> {
-    count(alloc, said, path, texts.len())?;
-    for (at, text) in texts.iter().enumerate() {
-        let path = format!(in alloc; "{path}.{at}").ok()?;
-        octets(alloc, said, path.as_str(), text.as_str().as_bytes())?;
-    }
-    Some(())
+/// Says the front of the path of a part of a list's item.
+fn item(said: &mut Said, path: &str, at: usize) {
+    front(said, path);
+    said.number(at as u64);
+    said.join(".");
 }
 
-/// Adds the count of a list.
-fn count(alloc: Global, said: &mut String, path: &str, count: usize) -> Option<()> {
-    let path = format!(in alloc; "{path}.count").ok()?;
-    let value = format!(in alloc; "{count}").ok()?;
-    put(alloc, said, path.as_str(), value.as_str())
+/// Says how many items a list has.
+fn count(said: &mut Said, path: &str, count: usize) {
+    front(said, path);
+    said.word("count");
+    said.join("=");
+    said.number(count as u64);
+    said.join(";");
 }
 
-/// Adds a number and octets under two names of fields.
-pub fn pair(
-    alloc: Global,
-    said: &mut String,
-    (path, first, second): (&str, &str, &str),
-    kind: i32,
-    content: &Octets,
-) -> Option<()> {
-    let first = format!(in alloc; "{path}.{first}").ok()?;
-    number(alloc, said, first.as_str(), i64::from(kind))?;
-    let second = format!(in alloc; "{path}.{second}").ok()?;
-    octets(alloc, said, second.as_str(), content.as_slice())
-}
-
-/// Adds a key.
-pub fn key(alloc: Global, said: &mut String, path: &str, key: &EncryptionKey) -> Option<()> {
-    let names = (path, "keytype", "keyvalue");
-    pair(alloc, said, names, key.keytype, &key.keyvalue)
-}
-
-/// Adds a key that may be there.
-pub fn maybe_key(
-    alloc: Global,
-    said: &mut String,
-    path: &str,
-    of: &Option<EncryptionKey>,
-) -> Option<()> {
-    match of {
-        None => Some(()),
-        Some(of) => key(alloc, said, path, of),
+/// Says the type and the parts of a name.
+pub fn name(said: &mut Said, path: &str, name: &PrincipalName) {
+    front(said, path);
+    number(said, "name_type", i64::from(name.name_type));
+    front(said, path);
+    count(said, "name_string", name.name_string.as_slice().len());
+    for (at, text) in name.name_string.as_slice().iter().enumerate() {
+        front(said, path);
+        front(said, "name_string");
+        said.number(at as u64);
+        said.join("=");
+        said.hex(text.as_str().as_bytes());
+        said.join(";");
     }
 }
 
-/// Adds sealed data.
-pub fn sealed(alloc: Global, said: &mut String, path: &str, of: &EncryptedData) -> Option<()> {
-    let kind = format!(in alloc; "{path}.etype").ok()?;
-    number(alloc, said, kind.as_str(), i64::from(of.etype))?;
-    let kvno = format!(in alloc; "{path}.kvno").ok()?;
-    maybe_number(alloc, said, kvno.as_str(), of.kvno)?;
-    let cipher = format!(in alloc; "{path}.cipher").ok()?;
-    octets(alloc, said, cipher.as_str(), of.cipher.as_slice())
+/// Says a field of a number and octets, by the names of these.
+pub fn pair(said: &mut Said, path: &str, kind: (&str, i32), content: (&str, &Octets)) {
+    front(said, path);
+    number(said, kind.0, i64::from(kind.1));
+    front(said, path);
+    octets(said, content.0, content.1.as_slice());
 }
 
-/// Adds the authorization data that may be there.
-pub fn maybe_authorization(
-    alloc: Global,
-    said: &mut String,
-    of: &Option<Items<AuthorizationDatum>>,
-) -> Option<()> {
+/// Says a key.
+pub fn key(said: &mut Said, path: &str, key: &EncryptionKey) {
+    let (kind, content) = (("keytype", key.keytype), ("keyvalue", &key.keyvalue));
+    pair(said, path, kind, content);
+}
+
+/// Says a key that may be there.
+pub fn maybe_key(said: &mut Said, path: &str, of: &Option<EncryptionKey>) {
+    if let Some(of) = of {
+        key(said, path, of);
+    }
+}
+
+/// Says sealed data.
+pub fn sealed(said: &mut Said, path: &str, of: &EncryptedData) {
+    front(said, path);
+    number(said, "etype", i64::from(of.etype));
+    if let Some(kvno) = of.kvno {
+        front(said, path);
+        number(said, "kvno", i64::from(kvno));
+    }
+    front(said, path);
+    octets(said, "cipher", of.cipher.as_slice());
+}
+
+/// Says the authorization data that may be there.
+pub fn maybe_authorization(said: &mut Said, of: &Option<Items<AuthorizationDatum>>) {
     let Some(list) = of else {
-        return Some(());
+        return;
     };
-    let path = "authorization_data";
-    count(alloc, said, path, list.as_slice().len())?;
+    count(said, "authorization_data", list.as_slice().len());
     for (at, datum) in list.as_slice().iter().enumerate() {
-        let path = format!(in alloc; "{path}.{at}").ok()?;
-        let names = (path.as_str(), "ad_type", "ad_data");
-        pair(alloc, said, names, datum.ad_type, &datum.ad_data)?;
+        item(said, "authorization_data", at);
+        number(said, "ad_type", i64::from(datum.ad_type));
+        item(said, "authorization_data", at);
+        octets(said, "ad_data", datum.ad_data.as_slice());
     }
-    Some(())
 }
 
-/// Adds the addresses that may be there.
-pub fn maybe_addresses(
-    alloc: Global,
-    said: &mut String,
-    of: &Option<Items<HostAddress>>,
-) -> Option<()> {
+/// Says the addresses that may be there.
+pub fn maybe_addresses(said: &mut Said, of: &Option<Items<HostAddress>>) {
     let Some(list) = of else {
-        return Some(());
+        return;
     };
-    count(alloc, said, "caddr", list.as_slice().len())?;
+    count(said, "caddr", list.as_slice().len());
     for (at, address) in list.as_slice().iter().enumerate() {
-        let path = format!(in alloc; "caddr.{at}").ok()?;
-        let names = (path.as_str(), "addr_type", "address");
-        pair(alloc, said, names, address.addr_type, &address.address)?;
+        item(said, "caddr", at);
+        number(said, "addr_type", i64::from(address.addr_type));
+        item(said, "caddr", at);
+        octets(said, "address", address.address.as_slice());
     }
-    Some(())
 }

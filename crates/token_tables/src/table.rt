@@ -2,7 +2,7 @@
 
 use crate::{ciphers, fields, files, keys, messages, negotiation, tokens, values};
 use std::alloc::Global;
-use table_rows::Rows;
+use table_rows::{Cells, Rows, Said};
 
 /// A table of outside values.
 #[derive(Clone, Copy, Drop)]
@@ -69,35 +69,6 @@ impl Table {
             Table::Credentials => "credentials.txt",
         }
     }
-
-    /// What the calls answer to a row, None where it isn't in the table's form.
-    fn answer(self, alloc: Global, row: &str) -> Option<String> {
-        match self {
-            Table::Blocks => ciphers::block(alloc, row),
-            Table::Stealing => ciphers::stolen(alloc, row),
-            Table::Codes => ciphers::code(alloc, row),
-            Table::Sums => ciphers::sum(alloc, row),
-            Table::Passwords => keys::of_password(alloc, row),
-            Table::Folds => keys::folded(alloc, row),
-            Table::Keys => keys::made(alloc, row),
-            Table::Derived => keys::derived(alloc, row),
-            Table::Sealed => keys::sealed(alloc, row),
-            Table::Opened => keys::opened(alloc, row),
-            Table::Checksums => keys::checked(alloc, row),
-            Table::Mics => tokens::mic(alloc, row),
-            Table::MicChecks | Table::MicCases => tokens::mic_check(alloc, row),
-            Table::Wraps => tokens::wrap(alloc, row),
-            Table::Unwraps | Table::UnwrapCases => tokens::unwrapped(alloc, row),
-            Table::Values => values::read(alloc, row),
-            Table::Fields => fields::read(alloc, row),
-            Table::Messages | Table::MessageCases => messages::read(alloc, row),
-            Table::Negotiation | Table::NegotiationCases => negotiation::read(alloc, row),
-            Table::Keytabs => files::keytab(alloc, row),
-            Table::Finds => files::finds(alloc, row),
-            Table::Caches => files::cache(alloc, row),
-            Table::Credentials => files::credential(alloc, row),
-        }
-    }
 }
 
 impl Rows for Table {
@@ -110,23 +81,32 @@ impl Rows for Table {
         }
     }
 
-    fn given(&self) -> u32 {
-        match self {
-            Table::Keytabs | Table::Caches | Table::Fields => 1,
-            Table::Blocks | Table::Stealing | Table::Codes | Table::Folds | Table::Keys => 2,
-            Table::Values | Table::Messages | Table::MessageCases => 2,
-            Table::Negotiation | Table::NegotiationCases => 2,
-            Table::Finds | Table::Credentials => 2,
-            Table::Sums => 3,
-            Table::Passwords | Table::Derived | Table::Opened => 4,
-            Table::Sealed | Table::Checksums | Table::Unwraps | Table::UnwrapCases => 5,
-            Table::Mics | Table::MicChecks | Table::MicCases => 6,
-            Table::Wraps => 8,
+    fn answer(&self, cells: &mut Cells<'_>, said: &mut Said) {
+        match *self {
+            Table::Blocks => ciphers::block(cells, said),
+            Table::Stealing => ciphers::stolen(cells, said),
+            Table::Codes => ciphers::code(cells, said),
+            Table::Sums => ciphers::sum(cells, said),
+            Table::Passwords => keys::of_password(cells, said),
+            Table::Folds => keys::folded(cells, said),
+            Table::Keys => keys::made(cells, said),
+            Table::Derived => keys::derived(cells, said),
+            Table::Sealed => keys::sealed(cells, said),
+            Table::Opened => keys::opened(cells, said),
+            Table::Checksums => keys::checked(cells, said),
+            Table::Mics => tokens::mic(cells, said),
+            Table::MicChecks | Table::MicCases => tokens::mic_check(cells, said),
+            Table::Wraps => tokens::wrap(cells, said),
+            Table::Unwraps | Table::UnwrapCases => tokens::unwrapped(cells, said),
+            Table::Values => values::read(cells, said),
+            Table::Fields => fields::read(cells, said),
+            Table::Messages | Table::MessageCases => messages::read(cells, said),
+            Table::Negotiation | Table::NegotiationCases => negotiation::read(cells, said),
+            Table::Keytabs => files::keytab(cells, said),
+            Table::Finds => files::finds(cells, said),
+            Table::Caches => files::cache(cells, said),
+            Table::Credentials => files::credential(cells, said),
         }
-    }
-
-    fn answered(&self, alloc: Global, row: &str) -> Option<String> {
-        self.answer(alloc, row)
     }
 }
 

@@ -2,29 +2,23 @@
 
 use crate::keys::key;
 use krb_tokens::{MicCache, Side, TokenEnd, TokenRefusal};
-use std::alloc::Global;
-use std::str::Split;
-use table_rows::{cell, exactly, octets};
+use table_rows::{Cells, Said};
 
-/// The end of the cells type, octets of the key, side and subkey.
-fn end(alloc: Global, cells: &mut Split<'_, char>) -> Option<TokenEnd> {
-    let key = key(alloc, cells)?;
-    let side = match cells.next()? {
-        "Initiator" => Side::Initiator,
-        "Acceptor" => Side::Acceptor,
-        _ => return None,
-    };
-    let subkey = flag(cells)?;
-    Some(TokenEnd { key, side, subkey })
+/// The next cell's side.
+fn side(cells: &mut Cells<'_>) -> Side {
+    let word = cells.word();
+    cells.expect(word == "Initiator" || word == "Acceptor");
+    if word == "Initiator" {
+        Side::Initiator
+    } else {
+        Side::Acceptor
+    }
 }
 
-/// Whether a cell is `1`.
-fn flag(cells: &mut Split<'_, char>) -> Option<bool> {
-    match cells.next()? {
-        "0" => Some(false),
-        "1" => Some(true),
-        _ => None,
-    }
+/// The end of the cells type, octets of the key, side and subkey.
+fn end(cells: &mut Cells<'_>) -> TokenEnd {
+    let (key, side, subkey) = (key(cells), side(cells), cells.is_yes());
+    TokenEnd { key, side, subkey }
 }
 
 /// The facing end.
@@ -52,64 +46,62 @@ fn is_made_by_kept(end: &TokenEnd, number: u64, bytes: &[u8], token: &[u8; 28]) 
 }
 
 /// The cells of an end, a number and octets: the MIC token, which is the same by kept keys.
-pub fn mic(alloc: Global, row: &str) -> Option<String> {
-    let mut cells = row.split(' ');
-    let end = end(alloc, &mut cells)?;
-    let number = cells.next()?.parse::<u64>().ok()?;
-    let bytes = octets(alloc, cells.next()?)?;
+pub fn mic(cells: &mut Cells<'_>, said: &mut Said) {
+    let (end, number, bytes) = (end(cells), cells.number(), cells.octets());
     let token = end.make_mic(number, bytes.as_slice());
     if !is_made_by_kept(&end, number, bytes.as_slice(), &token) {
-        return String::from_str(alloc, "is another by kept keys").ok();
+        said.word("is another by kept keys");
     }
-    cell(alloc, &token)
+    said.octets(&token);
 }
 
-/// What an end says to a token by no kept keys, by its own and by those of the facing end; None where they differ.
-fn verdict(end: &TokenEnd, token: &[u8], bytes: &[u8]) -> Option<Result<(), TokenRefusal>> {
-    let said = end.check_mic(token, bytes);
-    let own = end.check_mic_by(&kept(end), token, bytes);
-    let other = end.check_mic_by(&kept(&facing(end)), token, bytes);
-    if own == said && other == said {
-        return Some(said);
+/// Says what an end says to a token.
+fn verdict_said(said: &mut Said, verdict: Result<(), TokenRefusal>) {
+    match verdict {
+        Ok(()) => said.word("Ok"),
+        Err(refusal) => said.form(&refusal),
     }
-    None
 }
 
-/// The cells of an end, octets and a token: whether it is taken, or the refusal.
-pub fn mic_check(alloc: Global, row: &str) -> Option<String> {
-    let mut cells = row.split(' ');
-    let end = end(alloc, &mut cells)?;
-    let bytes = octets(alloc, cells.next()?)?;
-    let token = octets(alloc, cells.next()?)?;
-    match verdict(&end, token.as_slice(), bytes.as_slice())? {
-        Ok(()) => String::from_str(alloc, "Ok").ok(),
-        Err(refusal) => format!(in alloc; "{refusal:?}").ok(),
+/// The cells of an end, octets and a token: whether it is taken, or the refusal, which kept keys of both ends give too.
+pub fn mic_check(cells: &mut Cells<'_>, said: &mut Said) {
+    let (end, bytes, token) = (end(cells), cells.octets(), cells.octets());
+    let (bytes, token) = (bytes.as_slice(), token.as_slice());
+    let verdict = end.check_mic(token, bytes);
+    let own = end.check_mic_by(&kept(&end), token, bytes);
+    let other = end.check_mic_by(&kept(&facing(&end)), token, bytes);
+    if own != verdict || other != verdict {
+        said.word("kept keys say otherwise");
     }
+    verdict_said(said, verdict);
 }
 
 /// The cells of an end, a number, whether to seal, a confounder and octets: the Wrap token.
-pub fn wrap(alloc: Global, row: &str) -> Option<String> {
-    let mut cells = row.split(' ');
-    let end = end(alloc, &mut cells)?;
-    let number = cells.next()?.parse::<u64>().ok()?;
-    let sealed = flag(&mut cells)?;
-    let confounder: [u8; 16] = exactly(cells.next()?)?;
-    let bytes = octets(alloc, cells.next()?)?;
-    let token = end.wrap(alloc, number, sealed, &confounder, bytes.as_slice());
-    cell(alloc, token.ok()?.as_slice())
+pub fn wrap(cells: &mut Cells<'_>, said: &mut Said) {
+    let (end, number, is_sealed) = (end(cells), cells.number(), cells.is_yes());
+    let confounder: [u8; 16] = cells.exactly();
+    let bytes = cells.octets();
+    match end.wrap(
+        cells.alloc(),
+        number,
+        is_sealed,
+        &confounder,
+        bytes.as_slice(),
+    ) {
+        Ok(token) => said.octets(token.as_slice()),
+        Err(_) => said.starve(),
+    }
 }
 
 /// The cells of an end and a token: whether it was sealed and what it holds, or the refusal.
-pub fn unwrapped(alloc: Global, row: &str) -> Option<String> {
-    let mut cells = row.split(' ');
-    let end = end(alloc, &mut cells)?;
-    let token = octets(alloc, cells.next()?)?;
-    match end.unwrap(alloc, token.as_slice()) {
-        Err(refusal) => format!(in alloc; "{refusal:?}").ok(),
+pub fn unwrapped(cells: &mut Cells<'_>, said: &mut Said) {
+    let (end, token) = (end(cells), cells.octets());
+    match end.unwrap(cells.alloc(), token.as_slice()) {
         Ok(held) => {
-            let sealed = if held.sealed { "1" } else { "0" };
-            let content = cell(alloc, held.content.as_slice())?;
-            format!(in alloc; "Ok {sealed} {content}").ok()
+            said.word("Ok");
+            said.yes(held.sealed);
+            said.octets(held.content.as_slice());
         }
+        Err(refusal) => said.form(&refusal),
     }
 }

@@ -1,4 +1,4 @@
-//! Messages that are read and written again. What a writer asks for is tested first.
+//! Messages that were read, written again. What a writer asks for is tested first.
 
 ghost use Rattle.std.specs.Prelude.{◌≡◌, ◌≤◌, ◌%◌, IfSome, [], false, unwrap_or};
 ghost use Rattle.der_core.specs.Values.{has_zero};
@@ -6,9 +6,9 @@ ghost use Rattle.krb_msgs.specs.PrincipalName.{IsName};
 
 use gss_base::Principal;
 use krb_msgs::{
-    PrincipalName, read_ap_rep, read_authenticator, read_enc_ap_rep_part, read_enc_ticket_part,
-    read_krb_error, read_ticket, write_ap_rep, write_authenticator, write_enc_ap_rep_part,
-    write_enc_ticket_part, write_krb_error, write_ticket,
+    ApRep, Authenticator, EncApRepPart, EncTicketPart, KrbError, PrincipalName, Ticket,
+    write_ap_rep, write_authenticator, write_enc_ap_rep_part, write_enc_ticket_part,
+    write_krb_error, write_ticket,
 };
 use sec_base::{Moment, Octets, Text};
 use std::alloc::Global;
@@ -86,49 +86,43 @@ fn maybe_part(micros: &Option<u32>) -> Option<()>
 }
 
 /// A ticket.
-pub fn ticket(alloc: Global, octets: &[u8]) -> Option<Octets> {
-    let message = read_ticket(alloc, octets).ok()?;
+pub fn ticket(alloc: Global, message: &Ticket) -> Option<Octets> {
     spelled(alloc, &message.realm, &message.sname)?;
-    write_ticket(alloc, &message).ok()
+    write_ticket(alloc, message).ok()
 }
 
 /// A reply.
-pub fn ap_rep(alloc: Global, octets: &[u8]) -> Option<Octets> {
-    let message = read_ap_rep(alloc, octets).ok()?;
-    write_ap_rep(alloc, &message).ok()
+pub fn ap_rep(alloc: Global, message: &ApRep) -> Option<Octets> {
+    write_ap_rep(alloc, message).ok()
 }
 
 /// A reply's part.
-pub fn enc_ap_rep_part(alloc: Global, octets: &[u8]) -> Option<Octets> {
-    let message = read_enc_ap_rep_part(alloc, octets).ok()?;
+pub fn enc_ap_rep_part(alloc: Global, message: &EncApRepPart) -> Option<Octets> {
     whole(message.ctime)?;
     part(message.cusec)?;
-    write_enc_ap_rep_part(alloc, &message).ok()
+    write_enc_ap_rep_part(alloc, message).ok()
 }
 
 /// An authenticator.
-pub fn authenticator(alloc: Global, octets: &[u8]) -> Option<Octets> {
-    let message = read_authenticator(alloc, octets).ok()?;
+pub fn authenticator(alloc: Global, message: &Authenticator) -> Option<Octets> {
     spelled(alloc, &message.crealm, &message.cname)?;
     part(message.cusec)?;
     whole(message.ctime)?;
-    write_authenticator(alloc, &message).ok()
+    write_authenticator(alloc, message).ok()
 }
 
 /// A ticket's part.
-pub fn enc_ticket_part(alloc: Global, octets: &[u8]) -> Option<Octets> {
-    let message = read_enc_ticket_part(alloc, octets).ok()?;
+pub fn enc_ticket_part(alloc: Global, message: &EncTicketPart) -> Option<Octets> {
     spelled(alloc, &message.crealm, &message.cname)?;
     whole(message.authtime)?;
     maybe_whole(&message.starttime)?;
     whole(message.endtime)?;
     maybe_whole(&message.renew_till)?;
-    write_enc_ticket_part(alloc, &message).ok()
+    write_enc_ticket_part(alloc, message).ok()
 }
 
 /// An error.
-pub fn krb_error(alloc: Global, octets: &[u8]) -> Option<Octets> {
-    let message = read_krb_error(alloc, octets).ok()?;
+pub fn krb_error(alloc: Global, message: &KrbError) -> Option<Octets> {
     maybe_whole(&message.ctime)?;
     maybe_part(&message.cusec)?;
     whole(message.stime)?;
@@ -137,5 +131,5 @@ pub fn krb_error(alloc: Global, octets: &[u8]) -> Option<Octets> {
     maybe_spelled(alloc, &message.crealm, &message.cname)?;
     spelled(alloc, &message.realm, &message.sname)?;
     maybe_text(alloc, &message.e_text, &message.sname)?;
-    write_krb_error(alloc, &message).ok()
+    write_krb_error(alloc, message).ok()
 }

@@ -4,63 +4,85 @@ use gss_base::{Label, Mark, mark_of};
 use replay_cache::{Cache, CacheVerdict};
 use sec_base::Moment;
 use std::alloc::Global;
-use table_rows::add;
+use table_rows::{Cells, Said};
 
 /// The most marks that a cache may hold.
-const MOST: usize = 1_000_000;
+const MOST: u64 = 1_000_000;
 
 /// The microseconds of one second.
 const MICROS: u64 = 1_000_000;
 
-/// The moment of a cell of microseconds.
-fn moment(micros: &str) -> Option<Moment> {
-    let micros = micros.parse::<u64>().ok()?;
-    Moment::new(micros / MICROS, (micros % MICROS) as u32)
+/// The next cell's moment, in microseconds.
+fn moment(cells: &mut Cells<'_>) -> Moment {
+    let micros = cells.number();
+    match Moment::new(micros / MICROS, (micros % MICROS) as u32) {
+        Some(moment) => moment,
+        None => {
+            cells.expect(false);
+            Moment::start()
+        }
+    }
 }
 
-/// A verdict: T is Taken, R and a place Repeat, S and the greatest moment Stale, F Full.
-fn verdict_said(alloc: Global, verdict: CacheVerdict) -> Option<String> {
+/// Says a verdict: T is Taken, R and a place Repeat, S and the greatest moment Stale, F Full.
+fn verdict_said(said: &mut Said, verdict: CacheVerdict) {
     match verdict {
-        CacheVerdict::Taken => String::from_str(alloc, "T").ok(),
-        CacheVerdict::Repeat { place } => format!(in alloc; "R{place}").ok(),
-        CacheVerdict::Stale { greatest } => format!(in alloc; "S{}", greatest.total()).ok(),
-        CacheVerdict::Full => String::from_str(alloc, "F").ok(),
+        CacheVerdict::Taken => said.word("T"),
+        CacheVerdict::Repeat { place } => {
+            said.word("R");
+            said.join("");
+            said.number(place);
+        }
+        CacheVerdict::Stale { greatest } => {
+            said.word("S");
+            said.join("");
+            said.number(greatest.total());
+        }
+        CacheVerdict::Full => said.word("F"),
     }
 }
 
-/// The mark of the cells `who/at`, where the octet `who` is repeated 20 times.
-fn mark(said: &str) -> Option<Mark> {
-    let (who, at) = said.split_once('/')?;
-    let who = [who.parse::<u8>().ok()?; 20];
-    Some(Mark {
-        who,
-        at: moment(at)?,
-    })
+/// The mark of the parts `who/at`, where the octet `who` is repeated 20 times.
+fn mark(parts: &mut Cells<'_>) -> Mark {
+    let (who, at) = (parts.number(), moment(parts));
+    parts.expect(who < 256);
+    Mark {
+        who: [(who % 256) as u8; 20],
+        at,
+    }
 }
 
-/// What is asked of a cache beside an admission: `H` how many marks it holds, `G` its greatest moment, `now!` to take note of a moment,
-/// `?who/at` to judge a mark.
-fn asked(alloc: Global, cache: &mut Cache, step: &str) -> Option<String> {
-    if step == "H" {
-        return format!(in alloc; "H:{}", cache.held()).ok();
-    }
-    if step == "G" {
-        return format!(in alloc; "G:{}", cache.greatest().total()).ok();
-    }
+/// Says what is asked of a cache beside an admission: `H` how many marks it holds, `G` its greatest moment, `now!` to take note of a
+/// moment, `?who/at` to judge a mark. Answers whether it is in that form.
+fn asked(said: &mut Said, cache: &mut Cache, step: &str) -> bool {
+    said.word(step);
     if let Some(now) = step.strip_suffix('!') {
-        cache.raise(moment(now)?);
-        return String::from_str(alloc, step).ok();
+        let mut parts = Cells::new(said.alloc(), now, '/');
+        cache.raise(moment(&mut parts));
+        return parts.are_well();
     }
-    let verdict = verdict_said(alloc, cache.judge(&mark(step.strip_prefix('?')?)?))?;
-    format!(in alloc; "{step}:{verdict}").ok()
+    said.join(":");
+    match step {
+        "H" => said.number(cache.held() as u64),
+        "G" => said.number(cache.greatest().total()),
+        _ => {
+            let mark_asked = step.strip_prefix('?').unwrap_or("");
+            let mut parts = Cells::new(said.alloc(), mark_asked, '/');
+            verdict_said(said, cache.judge(&mark(&mut parts)));
+            return parts.are_well();
+        }
+    }
+    true
 }
 
-/// What a cache answers to `now/who/at` with this place.
-fn admitted(alloc: Global, cache: &mut Cache, step: &str, place: u64) -> Option<String> {
-    let (now, mark) = step.split_once('/')?;
-    let verdict = cache.admit(moment(now)?, self::mark(mark)?, place);
-    let verdict = verdict_said(alloc, verdict)?;
-    format!(in alloc; "{step}:{verdict}").ok()
+/// Says what a cache answers to `now/who/at` with this place, and answers whether the step is in that form.
+fn admitted(said: &mut Said, cache: &mut Cache, step: &str, place: u64) -> bool {
+    said.word(step);
+    said.join(":");
+    let mut parts = Cells::new(said.alloc(), step, '/');
+    let (now, mark) = (moment(&mut parts), mark(&mut parts));
+    verdict_said(said, cache.admit(now, mark, place));
+    parts.are_well()
 }
 
 /// Whether a step admits a mark.
@@ -68,83 +90,91 @@ fn admits(step: &str) -> bool {
     step.contains('/') && !step.starts_with('?')
 }
 
-/// What a cache answers to steps, whose admissions have the places from `place` on.
-fn answers(alloc: Global, cache: Cache, steps: &str, place: u64) -> Option<String> {
-    let mut cache = cache;
+/// Says what a cache answers to steps, whose admissions have the places from `place` on, and answers whether each is in its form.
+fn are_answered(said: &mut Said, cache: &mut Cache, steps: &str, place: u64) -> bool {
     let mut place = place;
-    let mut said = String::new(alloc);
+    let mut are_well = true;
     for word in steps.split(' ') {
-        let (step, _said) = word.split_once(':').unwrap_or((word, ""));
-        let one = if admits(step) {
-            let one = admitted(alloc, &mut cache, step, place)?;
+        let (step, _answer) = word.split_once(':').unwrap_or((word, ""));
+        if admits(step) {
+            are_well = admitted(said, cache, step, place) && are_well;
             place = place.saturating_add(1);
-            one
         } else {
-            asked(alloc, &mut cache, step)?
-        };
-        add(&mut said, " ", one.as_str())?;
+            are_well = asked(said, cache, step) && are_well;
+        }
     }
-    Some(said)
+    are_well
 }
 
 /// A cache with this capacity, which has seen this moment.
-fn cache(alloc: Global, capacity: usize, start: Moment) -> Option<Cache> {
+fn cache(alloc: Global, capacity: u64, start: Moment) -> Option<Cache> {
     if capacity == 0 || capacity > MOST {
         return None;
     }
-    Cache::new(alloc, capacity, start).ok()
+    Cache::new(alloc, capacity as usize, start).ok()
 }
 
 /// What a cache answers, by its capacity, its first moment, the first place, and `step:answer` for each step.
-pub fn judged(alloc: Global, row: &str) -> Option<String> {
-    let mut cells = row.splitn(4, ' ');
-    let capacity = cells.next()?.parse::<usize>().ok()?;
-    let start = moment(cells.next()?)?;
-    let place = cells.next()?.parse::<u64>().ok()?;
-    let cache = cache(alloc, capacity, start)?;
-    answers(alloc, cache, cells.next()?, place)
+pub fn judged(cells: &mut Cells<'_>, said: &mut Said) {
+    let (capacity, start, place) = (cells.number(), moment(cells), cells.number());
+    let steps = cells.rest().unwrap_or("");
+    match cache(cells.alloc(), capacity, start) {
+        Some(cache) => {
+            let mut cache = cache;
+            let are_well = are_answered(said, &mut cache, steps, place);
+            cells.expect(are_well);
+        }
+        None => cells.expect(false),
+    }
 }
 
-/// What a cache of one moment says of the mark of the client of this number.
-fn client(alloc: Global, cache: &mut Cache, at: Moment, number: u64) -> Option<CacheVerdict> {
-    let server = Label::new("rpc/host@R")?;
+/// The mark that the client of this number has made at a moment.
+fn client(alloc: Global, at: Moment, number: u64) -> Option<Mark> {
     let name = format!(in alloc; "client{number}@R").ok()?;
-    let mark = mark_of(&server, &Label::new(name.as_str())?, at);
-    Some(cache.admit(at, mark, number))
+    match (Label::new("rpc/host@R"), Label::new(name.as_str())) {
+        (Some(server), Some(client)) => Some(mark_of(&server, &client, at)),
+        _ => None,
+    }
 }
 
-/// How many marks of so many clients are taken, by a cache that has none of them.
-fn taken(alloc: Global, cache: &mut Cache, at: Moment, count: u64) -> Option<u64> {
-    let mut taken = 0u64;
+/// How many of the marks of so many clients a cache of one moment says to be taken, and how many to be held with the client's number as
+/// their place.
+fn counted(alloc: Global, cache: &mut Cache, at: Moment, count: u64) -> (u64, u64) {
+    let (mut taken, mut repeated) = (0u64, 0u64);
     for number in 0..count {
-        if client(alloc, cache, at, number)? == CacheVerdict::Taken {
-            taken = taken.saturating_add(1);
+        if let Some(mark) = client(alloc, at, number) {
+            match cache.admit(at, mark, number) {
+                CacheVerdict::Taken => taken = taken.saturating_add(1),
+                CacheVerdict::Repeat { place } => {
+                    if place == number {
+                        repeated = repeated.saturating_add(1);
+                    }
+                }
+                _ => {}
+            }
         }
     }
-    Some(taken)
+    (taken, repeated)
 }
 
-/// How many marks of so many clients are held with the client's number as their place.
-fn repeated(alloc: Global, cache: &mut Cache, at: Moment, count: u64) -> Option<u64> {
-    let mut repeated = 0u64;
-    for number in 0..count {
-        let verdict = client(alloc, cache, at, number)?;
-        if verdict == (CacheVerdict::Repeat { place: number }) {
-            repeated = repeated.saturating_add(1);
+/// Says how many marks are taken, then how many are held each with its own place, and how many are held.
+fn counts_said(said: &mut Said, cache: &mut Cache, at: Moment, count: u64) {
+    let (taken, _repeated) = counted(said.alloc(), cache, at, count);
+    let (_taken, repeated) = counted(said.alloc(), cache, at, count);
+    said.number(taken);
+    said.number(repeated);
+    said.number(cache.held() as u64);
+}
+
+/// What a cache says of the marks that so many clients made at one moment, each twice, by the cells capacity and count of clients.
+pub fn many(cells: &mut Cells<'_>, said: &mut Said) {
+    let (capacity, count) = (cells.number(), cells.number());
+    let at = Moment::new(1_000_000, 7).unwrap_or(Moment::start());
+    match cache(cells.alloc(), capacity, at) {
+        Some(cache) => {
+            let mut cache = cache;
+            counts_said(said, &mut cache, at, count);
         }
+        None => cells.expect(false),
     }
-    Some(repeated)
-}
-
-/// How many marks of one moment are taken, then how many are held each with its own place, and how many are held, by the cells capacity
-/// and count of clients.
-pub fn many(alloc: Global, row: &str) -> Option<String> {
-    let mut cells = row.split(' ');
-    let capacity = cells.next()?.parse::<usize>().ok()?;
-    let count = cells.next()?.parse::<u64>().ok()?;
-    let at = Moment::new(1_000_000, 7)?;
-    let mut cache = cache(alloc, capacity, at)?;
-    let taken = taken(alloc, &mut cache, at, count)?;
-    let repeated = repeated(alloc, &mut cache, at, count)?;
-    format!(in alloc; "{taken} {repeated} {}", cache.held()).ok()
 }

@@ -9,95 +9,103 @@ use cli_base::{
 use krb_files::{FileRefusal, FileWhy};
 use sec_base::{MemSink, Text};
 use std::alloc::Global;
-use table_rows::{add, cell, or_none, text};
+use table_rows::{Cells, Said};
 
 /// The names of the options that the words may have.
 const NAMES: [&str; 2] = ["--log", "--bind"];
 
-/// The words of a cell, with commas between them.
-fn words(alloc: Global, said: &str) -> Option<Vec<Text>> {
-    let mut words = Vec::new(alloc);
-    for word in said.split(',') {
-        words.push(Text::of(alloc, word).ok()?).ok()?;
+/// Adds a word, and answers whether it could.
+fn is_added(alloc: Global, words: &mut Vec<Text>, word: &str) -> bool {
+    match Text::of(alloc, word) {
+        Ok(word) => words.push(word).is_ok(),
+        Err(_) => false,
     }
-    Some(words)
 }
 
-/// The plain words, up to the first number that has none.
-fn plains(alloc: Global, words: &[Text]) -> Option<String> {
-    let mut said = String::new(alloc);
+/// The words of the next cell, with commas between them.
+fn words(cells: &mut Cells<'_>) -> Vec<Text> {
+    let alloc = cells.alloc();
+    let mut words = Vec::new(alloc);
+    for word in cells.word().split(',') {
+        let is_added = is_added(alloc, &mut words, word);
+        cells.expect(is_added);
+    }
+    words
+}
+
+/// Says the plain words, `-` where there is none.
+fn plains(said: &mut Said, words: &[Text]) {
+    if plain(words, 0).is_none() {
+        said.word("-");
+    }
     for number in 0..words.len() {
         if let Some(word) = plain(words, number) {
-            add(&mut said, ",", word)?;
+            said.listed(number);
+            said.word(word);
         }
     }
-    Some(said)
 }
 
 /// Whether words are well formed, then the first one, the plain ones and their count, and the values of `--log`, `--bind`, `--width`.
-pub fn sorted(alloc: Global, row: &str) -> Option<String> {
-    let words = words(alloc, row.split(' ').next()?)?;
+pub fn sorted(cells: &mut Cells<'_>, said: &mut Said) {
+    let words = words(cells);
     let words = words.as_slice();
-    let formed = are_words(words, &NAMES);
-    let first = first_word(words).unwrap_or("-");
-    let plains = plains(alloc, words)?;
-    let plains = or_none(plains.as_str());
-    let mut said = format!(in alloc; "{formed} {first} {plains} {}", count_plain(words)).ok()?;
+    said.form(&are_words(words, &NAMES));
+    said.word(first_word(words).unwrap_or("-"));
+    plains(said, words);
+    said.number(count_plain(words) as u64);
     for name in ["--log", "--bind", "--width"] {
-        add(&mut said, " ", value_of(words, name).unwrap_or("-"))?;
+        said.word(value_of(words, name).unwrap_or("-"));
     }
-    Some(said)
 }
 
 /// The number of a text, by the cells text, least and greatest.
-pub fn number(alloc: Global, row: &str) -> Option<String> {
-    let mut cells = row.split(' ');
-    let text = text(alloc, cells.next()?)?;
-    let least = cells.next()?.parse::<u32>().ok()?;
-    let most = cells.next()?.parse::<u32>().ok()?;
+pub fn number(cells: &mut Cells<'_>, said: &mut Said) {
+    let (text, least, most) = (cells.text(), cells.word_number(), cells.word_number());
     match number_in(text.as_str(), least, most) {
-        Some(number) => format!(in alloc; "{number}").ok(),
-        None => String::from_str(alloc, "None").ok(),
+        Some(number) => said.number(number as u64),
+        None => said.word("None"),
     }
 }
 
-/// Why a file can't be used, with its place where it has one.
-fn stop_said(alloc: Global, stop: FileStop) -> Option<String> {
+/// Says why a file can't be used, with its place where it has one.
+fn stop_said(said: &mut Said, stop: FileStop) {
     match stop {
-        FileStop::Bad { at } => format!(in alloc; "Bad:{at}").ok(),
-        stop => format!(in alloc; "{stop:?}").ok(),
+        FileStop::Bad { at } => {
+            said.word("Bad");
+            said.join(":");
+            said.number(at as u64);
+        }
+        stop => said.form(&stop),
     }
 }
 
 /// The octets of a file, and the names that were asked, by the cells files, numbers of the calls that fail, and name.
-pub fn file(alloc: Global, row: &str) -> Option<String> {
-    let mut cells = row.split(' ');
-    let mut shelf = shelf(alloc, cells.next()?, cells.next()?)?;
-    let said = match load(alloc, &mut shelf, cells.next()?) {
-        Ok(octets) => cell(alloc, octets.as_slice())?,
-        Err(stop) => stop_said(alloc, stop)?,
-    };
-    let end = shelf_said(alloc, &shelf)?;
-    format!(in alloc; "{said} {end}").ok()
+pub fn file(cells: &mut Cells<'_>, said: &mut Said) {
+    let mut shelf = shelf(cells);
+    match load(cells.alloc(), &mut shelf, cells.word()) {
+        Ok(octets) => said.octets(octets.as_slice()),
+        Err(stop) => stop_said(said, stop),
+    }
+    shelf_said(said, &shelf);
 }
 
 /// Why a file can't be used, by its name, or by the place at which a reader refused it.
-fn stop_in(said: &str) -> Option<FileStop> {
-    let (why, at) = match said {
-        "CannotLoad" => return Some(FileStop::CannotLoad),
+fn stop_in(cells: &mut Cells<'_>) -> FileStop {
+    let (why, at) = match cells.word() {
+        "CannotLoad" => return FileStop::CannotLoad,
         "NoMemory" => (FileWhy::NoMemory, 0),
-        place => (FileWhy::Short, place.parse::<usize>().ok()?),
+        place => (FileWhy::Short, cells.number_in(place) as usize),
     };
-    Some(stop_of(FileRefusal { at, why }))
+    stop_of(FileRefusal { at, why })
 }
 
 /// The status of a file that can't be used and its line, by the cells name, why, and the numbers of the writes that fail.
-pub fn stopped(alloc: Global, row: &str) -> Option<String> {
-    let mut cells = row.split(' ');
-    let name = cells.next()?;
-    let stop = stop_in(cells.next()?)?;
-    let mut sink = MemSink::new(alloc, numbers(alloc, cells.next()?)?);
-    let status = say_stop(alloc, &mut sink, name, stop);
-    let line = cell(alloc, sink.written())?;
-    format!(in alloc; "{status} {line} {}", sink.faults()).ok()
+pub fn stopped(cells: &mut Cells<'_>, said: &mut Said) {
+    let (name, stop) = (cells.word(), stop_in(cells));
+    let mut sink = MemSink::new(cells.alloc(), numbers(cells));
+    let status = say_stop(cells.alloc(), &mut sink, name, stop);
+    said.number(status as u64);
+    said.octets(sink.written());
+    said.number(sink.faults());
 }

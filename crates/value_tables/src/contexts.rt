@@ -7,7 +7,7 @@ use crate::windows::verdict_said;
 use context_table::Table;
 use sec_base::Moment;
 use seq_window::Verdict;
-use std::alloc::Global;
+use table_rows::{Cells, Said};
 
 /// The most contexts of a table.
 const MOST: u32 = 65_536;
@@ -30,47 +30,60 @@ fn fill(table: &mut Table<u8, u8>, count: u64)
     }
 }
 
-/// What a table shows of an id and the next one: how many contexts live, what lives under both, and the least id that is past its end.
-fn shown(alloc: Global, table: &Table<u8, u8>, id: u64) -> Option<String> {
-    let (here, next) = (table.phase(id), table.phase(id.saturating_add(1)));
-    let past = table.past(Moment::greatest()).unwrap_or(0);
-    format!(in alloc; "{} {here:?} {next:?} {past}", table.live()).ok()
+/// Says what a table shows of an id and the next one: how many contexts live, what lives under both, and the least id that is past its end.
+fn shown(said: &mut Said, table: &Table<u8, u8>, id: u64) {
+    said.number(table.live() as u64);
+    said.form(&table.phase(id));
+    said.form(&table.phase(id.saturating_add(1)));
+    said.number(table.past(Moment::greatest()).unwrap_or(0));
 }
 
-/// What a full table shows of its last id, then of one that ended once a further context took its place; and what that one's state is
-/// when it is taken twice.
-fn full(alloc: Global, count: u32, ended: u64, state: u8) -> Option<String>
-    requires { count ≤ 65536 }
+/// Ends one context of a table that has those from 1 to `last`, and opens a further one in its place.
+fn replace(table: &mut Table<u8, u8>, last: u64, ended: u64, state: u8) -> bool
+    requires few { last ≤ 65536 }
+    requires room { live_of table.old ≤ table.old.limit }
+    requires known { (id : ℕ) → IsSome (slot_at table.old id) → id ≤ last }
+    requires wide { (id : ℕ) → WideAt table.old.width (slot_at table.old id) }
 {
-    let Ok(mut table) = Table::<u8, u8>::new(alloc, count as usize, WIDTH) else {
-        return None;
-    };
-    let last = count as u64;
-    if ended > last {
-        return None;
-    }
-    fill(&mut table, last);
-    let before = shown(alloc, &table, last)?;
     if !table.end(ended) {
-        return None;
+        return false;
     }
     table.open(last + 1, state, Moment::greatest());
-    let after = shown(alloc, &table, ended)?;
-    let (taken, again) = (table.take(last + 1), table.take(last + 1));
-    let phase = table.phase(last + 1);
-    format!(in alloc; "{before} {after} {taken:?} {again:?} {phase:?}").ok()
+    true
+}
+
+/// Says what a full table shows of its last id, then of one that ended once a further context took its place; and what that one's state
+/// is when it is taken twice.
+fn full(said: &mut Said, table: &mut Table<u8, u8>, last: u64, ended: u64, state: u8)
+    requires empty { table.old.slots ≡ [] }
+    requires room { last ≤ table.old.limit }
+    requires few { last ≤ 65536 }
+{
+    fill(table, last);
+    shown(said, table, last);
+    if !replace(table, last, ended, state) {
+        return;
+    }
+    shown(said, table, ended);
+    said.form(&table.take(last + 1));
+    said.form(&table.take(last + 1));
+    said.form(&table.phase(last + 1));
 }
 
 /// The same, by the cells count, id that ends, and state.
-pub fn replaced(alloc: Global, row: &str) -> Option<String> {
-    let mut cells = row.split(' ');
-    let count = cells.next()?.parse::<u32>().ok()?;
-    let ended = cells.next()?.parse::<u64>().ok()?;
-    let state = cells.next()?.parse::<u8>().ok()?;
-    if count > MOST {
-        return None;
+pub fn replaced(cells: &mut Cells<'_>, said: &mut Said) {
+    let (count, ended, state) = (cells.word_number(), cells.number(), cells.number());
+    if count > MOST || state > 255 {
+        cells.expect(false);
+        return;
     }
-    full(alloc, count, ended, state)
+    match Table::<u8, u8>::new(cells.alloc(), count as usize, WIDTH) {
+        Ok(table) => {
+            let mut table = table;
+            full(said, &mut table, count as u64, ended, state as u8);
+        }
+        Err(_) => said.starve(),
+    }
 }
 
 /// Completes a context that negotiates.
@@ -98,33 +111,38 @@ fn mark(table: &mut Table<u8, u8>, id: u64, number: u32) -> bool {
     }
 }
 
-/// Whether the window of a context is lent before and after the context is complete, and what is said then of the number that was
+/// Says what is said of a number in the window of an id.
+fn judged(said: &mut Said, table: &Table<u8, u8>, id: u64, number: u32) {
+    match table.judge(id, number) {
+        Some(verdict) => verdict_said(said, verdict),
+        None => said.word("None"),
+    }
+}
+
+/// Says whether the window of a context is lent before and after the context is complete, and what is said then of the number that was
 /// marked in it, of 1, and of the same number in the window of the next id.
-fn lent(alloc: Global, count: u32, id: u64, number: u32) -> Option<String>
-    requires { count ≤ 65536 }
-{
-    let Ok(mut table) = Table::<u8, u8>::new(alloc, count as usize, WIDTH) else {
-        return None;
-    };
-    fill(&mut table, count as u64);
-    let early = mark(&mut table, id, number);
-    let completed = complete(&mut table, id);
-    let marked = mark(&mut table, id, number);
-    let (here, first) = (table.judge(id, number)?, table.judge(id, 1)?);
-    let next = table.judge(id.saturating_add(1), number)?;
-    let (here, first) = (verdict_said(alloc, here)?, verdict_said(alloc, first)?);
-    let next = verdict_said(alloc, next)?;
-    format!(in alloc; "{early} {completed} {marked} {here} {first} {next}").ok()
+fn lent(said: &mut Said, table: &mut Table<u8, u8>, id: u64, number: u32) {
+    said.form(&mark(table, id, number));
+    said.form(&complete(table, id));
+    said.form(&mark(table, id, number));
+    judged(said, table, id, number);
+    judged(said, table, id, 1);
+    judged(said, table, id.saturating_add(1), number);
 }
 
 /// The same, by the cells count, id and number.
-pub fn windowed(alloc: Global, row: &str) -> Option<String> {
-    let mut cells = row.split(' ');
-    let count = cells.next()?.parse::<u32>().ok()?;
-    let id = cells.next()?.parse::<u64>().ok()?;
-    let number = cells.next()?.parse::<u32>().ok()?;
+pub fn windowed(cells: &mut Cells<'_>, said: &mut Said) {
+    let (count, id, number) = (cells.word_number(), cells.number(), cells.word_number());
     if count > MOST {
-        return None;
+        cells.expect(false);
+        return;
     }
-    lent(alloc, count, id, number)
+    match Table::<u8, u8>::new(cells.alloc(), count as usize, WIDTH) {
+        Ok(table) => {
+            let mut table = table;
+            fill(&mut table, count as u64);
+            lent(said, &mut table, id, number);
+        }
+        Err(_) => said.starve(),
+    }
 }

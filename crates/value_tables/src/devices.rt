@@ -2,105 +2,106 @@
 
 use crate::links::numbers;
 use sec_base::{
-    Clock, Draw, LoadRefusal, MemClock, MemDraw, MemShelf, MemSink, NamedFile, Octets, Shelf, Sink,
-    SinkFault, Text,
+    Clock, Draw, LoadRefusal, MemClock, MemDraw, MemShelf, MemSink, Moment, NamedFile, Octets,
+    Shelf, Sink, SinkFault, Text,
 };
-use std::alloc::Global;
-use table_rows::{add, cell, moment, octets};
-
-/// What a write answers.
-fn write(sink: &mut MemSink, octets: &[u8]) -> &'static str {
-    match sink.write(octets) {
-        Ok(()) => "Ok",
-        Err(SinkFault) => "SinkFault",
-    }
-}
+use table_rows::{Cells, Said};
 
 /// What a sink answers, what was written and how many writes failed, by the cells numbers of the writes that fail, and octets.
-pub fn sunk(alloc: Global, row: &str) -> Option<String> {
-    let mut cells = row.split(' ');
-    let mut sink = MemSink::new(alloc, numbers(alloc, cells.next()?)?);
-    let mut said = String::new(alloc);
-    for part in cells.next()?.split(',') {
-        let octets = octets(alloc, part)?;
-        add(&mut said, ",", write(&mut sink, octets.as_slice()))?;
-    }
-    let written = cell(alloc, sink.written())?;
-    format!(in alloc; "{said} {written} {}", sink.faults()).ok()
-}
-
-/// A clock over the moments of a cell, `-` where there is none.
-fn clock(alloc: Global, said: &str) -> Option<MemClock> {
-    let mut moments = Vec::new(alloc);
-    if said != "-" {
-        for part in said.split(',') {
-            moments.push(moment(part)?).ok()?;
+pub fn sunk(cells: &mut Cells<'_>, said: &mut Said) {
+    let mut sink = MemSink::new(cells.alloc(), numbers(cells));
+    for (at, part) in cells.word().split(',').enumerate() {
+        said.listed(at);
+        match sink.write(cells.octets_in(part).as_slice()) {
+            Ok(()) => said.word("Ok"),
+            Err(SinkFault) => said.word("SinkFault"),
         }
     }
-    Some(MemClock::new(moments))
+    said.octets(sink.written());
+    said.number(sink.faults());
+}
+
+/// The moments of the next cell, `-` where there is none.
+fn moments(cells: &mut Cells<'_>) -> Vec<Moment> {
+    let alloc = cells.alloc();
+    let mut moments = Vec::new(alloc);
+    let cell = cells.word();
+    if cell != "-" {
+        for part in cell.split(',') {
+            let mut part = Cells::new(alloc, part, ' ');
+            let is_added = moments.push(part.moment()).is_ok();
+            cells.expect(is_added && part.are_well());
+        }
+    }
+    moments
 }
 
 /// The totals of the moments that a clock gives when it is asked three times, and how many it gave.
-pub fn clocked(alloc: Global, row: &str) -> Option<String> {
-    let mut clock = clock(alloc, row.split(' ').next()?)?;
-    let mut said = String::new(alloc);
-    for _ in 0..3 {
-        let total = clock.now().total();
-        add(&mut said, ",", format!(in alloc; "{total}").ok()?.as_str())?;
+pub fn clocked(cells: &mut Cells<'_>, said: &mut Said) {
+    let mut clock = MemClock::new(moments(cells));
+    for at in 0..3 {
+        said.listed(at);
+        said.number(clock.now().total());
     }
-    format!(in alloc; "{said} {}", clock.count()).ok()
+    said.number(clock.count());
 }
 
 /// The octets with which a draw over a list fills five octets, twice.
-pub fn drawn(alloc: Global, row: &str) -> Option<String> {
-    let mut draw = MemDraw::new(octets(alloc, row.split(' ').next()?)?);
+pub fn drawn(cells: &mut Cells<'_>, said: &mut Said) {
+    let mut draw = MemDraw::new(cells.octets());
     let mut first = [9; 5];
     draw.fill(&mut first);
+    said.octets(&first);
     let mut second = [9; 5];
     draw.fill(&mut second);
-    let (first, second) = (cell(alloc, &first)?, cell(alloc, &second)?);
-    format!(in alloc; "{first} {second}").ok()
+    said.octets(&second);
 }
 
-/// A shelf of the files of a cell, `name=content` with commas between them.
-pub fn shelf(alloc: Global, said: &str, failing: &str) -> Option<MemShelf> {
-    let mut files = Vec::new(alloc);
-    for part in said.split(',') {
-        let (name, content) = part.split_once('=')?;
-        let name = Text::of(alloc, name).ok()?;
-        let content = Octets::from_vec(octets(alloc, content)?);
-        files.push(NamedFile { name, content }).ok()?;
-    }
-    Some(MemShelf::new(alloc, files, numbers(alloc, failing)?))
-}
-
-/// What a shelf answers to `name:limit`.
-fn loaded(alloc: Global, shelf: &mut MemShelf, part: &str) -> Option<String> {
-    let (name, limit) = part.split_once(':')?;
-    match shelf.load(alloc, name, limit.parse::<usize>().ok()?) {
-        Ok(content) => cell(alloc, content.as_slice()),
-        Err(LoadRefusal::NoMemory) => None,
-        Err(refusal) => format!(in alloc; "{refusal:?}").ok(),
+/// Adds a file `name=content`, and answers whether it could.
+fn is_added(cells: &mut Cells<'_>, files: &mut Vec<NamedFile>, part: &str) -> bool {
+    let (name, content) = part.split_once('=').unwrap_or((part, ""));
+    let content = Octets::from_vec(cells.octets_in(content));
+    match Text::of(cells.alloc(), name) {
+        Ok(name) => files.push(NamedFile { name, content }).is_ok(),
+        Err(_) => false,
     }
 }
 
-/// The names that a shelf was asked, and how many calls failed.
-pub fn shelf_said(alloc: Global, shelf: &MemShelf) -> Option<String> {
-    let mut asked = String::new(alloc);
-    for name in shelf.asked() {
-        add(&mut asked, ",", name.as_str())?;
+/// A shelf by the cells files, `name=content` with commas between them, and numbers of the calls that fail.
+pub fn shelf(cells: &mut Cells<'_>) -> MemShelf {
+    let mut files = Vec::new(cells.alloc());
+    for part in cells.word().split(',') {
+        let is_added = is_added(cells, &mut files, part);
+        cells.expect(is_added);
     }
-    format!(in alloc; "{asked} {}", shelf.faults()).ok()
+    MemShelf::new(cells.alloc(), files, numbers(cells))
+}
+
+/// Says what a shelf answers to `name:limit`.
+fn loaded(cells: &mut Cells<'_>, said: &mut Said, shelf: &mut MemShelf, part: &str) {
+    let (name, limit) = part.split_once(':').unwrap_or((part, ""));
+    match shelf.load(said.alloc(), name, cells.number_in(limit) as usize) {
+        Ok(content) => said.octets(content.as_slice()),
+        Err(LoadRefusal::NoMemory) => said.starve(),
+        Err(refusal) => said.form(&refusal),
+    }
+}
+
+/// Says the names that a shelf was asked, and how many calls failed.
+pub fn shelf_said(said: &mut Said, shelf: &MemShelf) {
+    for (at, name) in shelf.asked().iter().enumerate() {
+        said.listed(at);
+        said.word(name.as_str());
+    }
+    said.number(shelf.faults());
 }
 
 /// What a shelf answers, by the cells files, numbers of the calls that fail, and `name:limit` with commas between them.
-pub fn shelved(alloc: Global, row: &str) -> Option<String> {
-    let mut cells = row.split(' ');
-    let mut shelf = shelf(alloc, cells.next()?, cells.next()?)?;
-    let mut said = String::new(alloc);
-    for part in cells.next()?.split(',') {
-        add(&mut said, ",", loaded(alloc, &mut shelf, part)?.as_str())?;
+pub fn shelved(cells: &mut Cells<'_>, said: &mut Said) {
+    let mut shelf = shelf(cells);
+    for (at, part) in cells.word().split(',').enumerate() {
+        said.listed(at);
+        loaded(cells, said, &mut shelf, part);
     }
-    let end = shelf_said(alloc, &shelf)?;
-    format!(in alloc; "{said} {end}").ok()
+    shelf_said(said, &shelf);
 }

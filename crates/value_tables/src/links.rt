@@ -2,101 +2,99 @@
 
 use sec_base::{Link, LinkFault, MemLink, MemPort, NoMemory, Port};
 use std::alloc::Global;
-use table_rows::{add, cell, octets};
+use table_rows::{Cells, Said};
 
-/// The numbers of a cell, `-` where there is none.
-pub fn numbers(alloc: Global, said: &str) -> Option<Vec<u64>> {
-    let mut numbers = Vec::new(alloc);
-    if said == "-" {
-        return Some(numbers);
+/// The numbers of the next cell, `-` where there is none.
+pub fn numbers(cells: &mut Cells<'_>) -> Vec<u64> {
+    let mut numbers = Vec::new(cells.alloc());
+    let cell = cells.word();
+    if cell != "-" {
+        for number in cell.split(',') {
+            let number = cells.number_in(number);
+            let is_added = numbers.push(number).is_ok();
+            cells.expect(is_added);
+        }
     }
-    for number in said.split(',') {
-        numbers.push(number.parse::<u64>().ok()?).ok()?;
-    }
-    Some(numbers)
+    numbers
 }
 
-/// The sizes of a cell, `-` where there is none.
-fn sizes(alloc: Global, said: &str) -> Option<Vec<usize>> {
-    let mut sizes = Vec::new(alloc);
-    for number in numbers(alloc, said)?.as_slice() {
-        sizes.push(*number as usize).ok()?;
+/// The sizes of the next cell, `-` where there is none.
+fn sizes(cells: &mut Cells<'_>) -> Vec<usize> {
+    let mut sizes = Vec::new(cells.alloc());
+    for number in numbers(cells).as_slice() {
+        let is_added = sizes.push(*number as usize).is_ok();
+        cells.expect(is_added);
     }
-    Some(sizes)
+    sizes
 }
 
-/// What a read into a buffer answers, and the whole buffer then.
-fn read(alloc: Global, link: &mut MemLink, buffer: &mut [u8]) -> Option<String> {
+/// Says what a read into a buffer answers, and the whole buffer then.
+fn read(said: &mut Said, link: &mut MemLink, buffer: &mut [u8]) {
     if link.is_closed() {
-        return None;
+        return;
     }
     match link.read(buffer) {
         Ok(count) => {
-            let buffer = cell(alloc, buffer)?;
-            format!(in alloc; "{count}:{buffer}").ok()
+            said.number(count as u64);
+            said.join(":");
+            said.octets(buffer);
         }
-        Err(LinkFault) => String::from_str(alloc, "LinkFault").ok(),
+        Err(LinkFault) => said.word("LinkFault"),
     }
 }
 
-/// What a write of octets answers.
-fn write(alloc: Global, link: &mut MemLink, said: &str) -> Option<String> {
+/// Says what a write of octets answers.
+fn write(said: &mut Said, link: &mut MemLink, octets: &[u8]) {
     if link.is_closed() {
-        return None;
+        return;
     }
-    let octets = octets(alloc, said)?;
-    match link.write(octets.as_slice()) {
-        Ok(count) => format!(in alloc; "{count}").ok(),
-        Err(LinkFault) => String::from_str(alloc, "LinkFault").ok(),
+    match link.write(octets) {
+        Ok(count) => said.number(count as u64),
+        Err(LinkFault) => said.word("LinkFault"),
     }
 }
 
-/// What a step answers: `read`, `close`, or octets to write.
-fn step(alloc: Global, link: &mut MemLink, buffer: &mut [u8], step: &str) -> Option<String> {
+/// Says what a step answers: `read`, `close`, or octets to write.
+fn step(cells: &mut Cells<'_>, said: &mut Said, link: &mut MemLink, buffer: &mut [u8], step: &str) {
     match step {
-        "read" => read(alloc, link, buffer),
+        "read" => read(said, link, buffer),
         "close" => {
             link.close();
-            String::from_str(alloc, "closed").ok()
+            said.word("closed");
         }
-        octets => write(alloc, link, octets),
+        octets => write(said, link, cells.octets_in(octets).as_slice()),
     }
 }
 
-/// What was written to a link and taken from it, how many of its calls failed, and whether it is closed.
-fn link_said(alloc: Global, link: &MemLink) -> Option<String> {
-    let written = cell(alloc, link.written())?;
-    let taken = cell(alloc, link.taken())?;
-    let closed = if link.is_closed() { "closed" } else { "open" };
-    format!(in alloc; "{written} {taken} {} {closed}", link.faults()).ok()
+/// Says what was written to a link and taken from it, how many of its calls failed, and whether it is closed.
+fn link_said(said: &mut Said, link: &MemLink) {
+    said.octets(link.written());
+    said.octets(link.taken());
+    said.number(link.faults());
+    said.word(if link.is_closed() { "closed" } else { "open" });
 }
 
 /// What a link answers, by the cells input, sizes of pieces, numbers of the calls that fail, and steps. Reads go into a buffer of 8.
-pub fn linked(alloc: Global, row: &str) -> Option<String> {
-    let mut cells = row.split(' ');
-    let input = octets(alloc, cells.next()?)?;
-    let pieces = sizes(alloc, cells.next()?)?;
-    let failing = numbers(alloc, cells.next()?)?;
-    let mut link = MemLink::new(alloc, input, pieces, failing);
+pub fn linked(cells: &mut Cells<'_>, said: &mut Said) {
+    let (input, pieces, failing) = (cells.octets(), sizes(cells), numbers(cells));
+    let mut link = MemLink::new(cells.alloc(), input, pieces, failing);
     let mut buffer = [0; 8];
-    let mut said = String::new(alloc);
-    for word in cells.next()?.split(',') {
-        let one = step(alloc, &mut link, &mut buffer, word)?;
-        add(&mut said, ",", one.as_str())?;
+    for (at, word) in cells.word().split(',').enumerate() {
+        said.listed(at);
+        step(cells, said, &mut link, &mut buffer, word);
     }
-    let end = link_said(alloc, &link)?;
-    format!(in alloc; "{said} {end}").ok()
+    link_said(said, &link);
 }
 
-/// What a port answers: what its next link gives into a buffer of 2, or None, or a fault.
-fn accepted(alloc: Global, port: &mut MemPort<MemLink>) -> Option<String> {
+/// Says what a port answers: what its next link gives into a buffer of 2, or None, or a fault.
+fn accepted(said: &mut Said, port: &mut MemPort<MemLink>) {
     match port.accept() {
         Ok(Some(link)) => {
             let mut link = link;
-            read(alloc, &mut link, &mut [0; 2])
+            read(said, &mut link, &mut [0; 2]);
         }
-        Ok(None) => String::from_str(alloc, "None").ok(),
-        Err(fault) => format!(in alloc; "{fault:?}").ok(),
+        Ok(None) => said.word("None"),
+        Err(fault) => said.form(&fault),
     }
 }
 
@@ -113,16 +111,23 @@ fn port(
     Ok(MemPort::new(links, failing))
 }
 
-/// What a port answers four times, and how many calls failed, by the cells of two links and of the numbers of the calls that fail.
-pub fn ported(alloc: Global, row: &str) -> Option<String> {
-    let mut cells = row.split(' ');
-    let first = octets(alloc, cells.next()?)?;
-    let second = octets(alloc, cells.next()?)?;
-    let failing = numbers(alloc, cells.next()?)?;
-    let mut port = port(alloc, first, second, failing).ok()?;
-    let mut said = String::new(alloc);
-    for _ in 0..4 {
-        add(&mut said, ",", accepted(alloc, &mut port)?.as_str())?;
+/// Says what a port answers four times, and how many calls failed.
+fn port_said(said: &mut Said, port: &mut MemPort<MemLink>) {
+    for at in 0..4 {
+        said.listed(at);
+        accepted(said, port);
     }
-    format!(in alloc; "{said} {}", port.faults()).ok()
+    said.number(port.faults());
+}
+
+/// What a port answers, by the cells of two links and of the numbers of the calls that fail.
+pub fn ported(cells: &mut Cells<'_>, said: &mut Said) {
+    let (first, second, failing) = (cells.octets(), cells.octets(), numbers(cells));
+    match port(cells.alloc(), first, second, failing) {
+        Ok(port) => {
+            let mut port = port;
+            port_said(said, &mut port);
+        }
+        Err(NoMemory) => said.starve(),
+    }
 }

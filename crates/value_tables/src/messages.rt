@@ -1,8 +1,9 @@
 //! Calls and replies, both ways.
 
-use rpc_msgs::{Call, CallRefusal, Reply, read_call, read_reply, write_call, write_reply};
+use rpc_msgs::{Auth, Call, CallRefusal, Reply, read_call, read_reply, write_call, write_reply};
+use sec_base::{NoMemory, Octets};
 use std::alloc::Global;
-use table_rows::{cell, octets};
+use table_rows::{Cells, Said};
 
 /// The flavour of the credentials that calls are written with.
 const GSS: u32 = 6;
@@ -10,32 +11,45 @@ const GSS: u32 = 6;
 /// The octets that a credential or a verifier may have.
 const BODY: usize = 400;
 
-/// What is said where octets that were read aren't written again.
-pub const OTHERWISE: &str = "is written otherwise";
-
-/// A call: its numbers, flavour and body of its credential, the length of its header, flavour and body of its verifier, its arguments.
-fn call_said(alloc: Global, call: &Call<'_>) -> Option<String> {
-    let (xid, program) = (call.xid, call.program);
-    let (version, procedure) = (call.version, call.procedure);
-    let numbers = format!(in alloc; "{xid} {program} {version} {procedure}").ok()?;
-    let cred = cell(alloc, call.cred.body)?;
-    let cred = format!(in alloc; "{}:{cred} {}", call.cred.flavour, call.header).ok()?;
-    let verf = cell(alloc, call.verf.body)?;
-    let verf = format!(in alloc; "{}:{verf}", call.verf.flavour).ok()?;
-    let args = cell(alloc, call.args)?;
-    format!(in alloc; "Ok {numbers} {cred} {verf} {args}").ok()
+/// Says that octets are read, and where they aren't written again as they were, that they are written otherwise.
+pub fn written_as(said: &mut Said, read: &[u8], written: Result<Octets, NoMemory>) {
+    match written {
+        Ok(written) => {
+            if written.as_slice() != read {
+                said.word("is written otherwise");
+            }
+        }
+        Err(NoMemory) => said.starve(),
+    }
+    said.word("Ok");
 }
 
-/// Whether a call with the flavour that calls are written with is written as these octets.
-fn is_written(alloc: Global, call: &Call<'_>, octets: &[u8]) -> Option<bool> {
-    if call.cred.flavour != GSS {
-        return Some(true);
-    }
+/// Says flavour and body of a credential or a verifier.
+fn auth_said(said: &mut Said, auth: &Auth<'_>) {
+    said.number(auth.flavour as u64);
+    said.join(":");
+    said.octets(auth.body);
+}
+
+/// Says a call: its numbers, flavour and body of its credential, the length of its header, flavour and body of its verifier, its arguments.
+fn call_said(said: &mut Said, call: &Call<'_>) {
+    said.number(call.xid as u64);
+    said.number(call.program as u64);
+    said.number(call.version as u64);
+    said.number(call.procedure as u64);
+    auth_said(said, &call.cred);
+    said.number(call.header as u64);
+    auth_said(said, &call.verf);
+    said.octets(call.args);
+}
+
+/// A call as it is written, none where its credential or its verifier is too long.
+fn call_written(alloc: Global, call: &Call<'_>) -> Result<Octets, NoMemory> {
     let (cred, verf) = (call.cred.body, call.verf.body);
     if cred.len() > BODY || verf.len() > BODY {
-        return None;
+        return Ok(Octets::from_vec(Vec::new(alloc)));
     }
-    let written = write_call(
+    write_call(
         alloc,
         call.xid,
         call.program,
@@ -45,28 +59,46 @@ fn is_written(alloc: Global, call: &Call<'_>, octets: &[u8]) -> Option<bool> {
         call.verf.flavour,
         verf,
         call.args,
-    );
-    Some(written.ok()?.as_slice() == octets)
+    )
+}
+
+/// Says a call that octets are, which is written as it was read where it has the flavour that calls are written with.
+fn call_found(said: &mut Said, octets: &[u8], call: &Call<'_>) {
+    if call.cred.flavour == GSS {
+        let written = call_written(said.alloc(), call);
+        written_as(said, octets, written);
+    } else {
+        said.word("Ok");
+    }
+    call_said(said, call);
 }
 
 /// The call that octets are, or why they are none.
-pub fn called(alloc: Global, row: &str) -> Option<String> {
-    let octets = octets(alloc, row.split(' ').next()?)?;
+pub fn called(cells: &mut Cells<'_>, said: &mut Said) {
+    let octets = cells.octets();
     match read_call(octets.as_slice()) {
-        Ok(call) => {
-            if !is_written(alloc, &call, octets.as_slice())? {
-                return String::from_str(alloc, OTHERWISE).ok();
-            }
-            call_said(alloc, &call)
+        Ok(call) => call_found(said, octets.as_slice(), &call),
+        Err(CallRefusal::Unreadable { at }) => {
+            said.word("Unreadable");
+            said.number(at as u64);
         }
-        Err(CallRefusal::Unreadable { at }) => format!(in alloc; "Unreadable {at}").ok(),
-        Err(CallRefusal::NotCall) => String::from_str(alloc, "NotCall").ok(),
-        Err(CallRefusal::RpcVersion { xid }) => format!(in alloc; "RpcVersion {xid}").ok(),
+        Err(CallRefusal::NotCall) => said.word("NotCall"),
+        Err(CallRefusal::RpcVersion { xid }) => {
+            said.word("RpcVersion");
+            said.number(xid as u64);
+        }
     }
 }
 
-/// A reply, with all its fields.
-fn reply_said(alloc: Global, reply: &Reply<'_>) -> Option<String> {
+/// Says numbers.
+fn numbers_said(said: &mut Said, numbers: &[u32]) {
+    for number in numbers {
+        said.number(*number as u64);
+    }
+}
+
+/// Says a reply, with all its fields.
+fn reply_said(said: &mut Said, reply: &Reply<'_>) {
     match *reply {
         Reply::Accepted {
             xid,
@@ -77,28 +109,34 @@ fn reply_said(alloc: Global, reply: &Reply<'_>) -> Option<String> {
             high,
             result,
         } => {
-            let (verf, result) = (cell(alloc, verf)?, cell(alloc, result)?);
-            let head = format!(in alloc; "Ok Accepted {xid} {flavour} {verf}").ok()?;
-            format!(in alloc; "{head} {stat} {low} {high} {result}").ok()
+            said.word("Accepted");
+            numbers_said(said, &[xid, flavour]);
+            said.octets(verf);
+            numbers_said(said, &[stat, low, high]);
+            said.octets(result);
         }
         Reply::Mismatch { xid, low, high } => {
-            format!(in alloc; "Ok Mismatch {xid} {low} {high}").ok()
+            said.word("Mismatch");
+            numbers_said(said, &[xid, low, high]);
         }
-        Reply::AuthError { xid, stat } => format!(in alloc; "Ok AuthError {xid} {stat}").ok(),
+        Reply::AuthError { xid, stat } => {
+            said.word("AuthError");
+            numbers_said(said, &[xid, stat]);
+        }
     }
 }
 
 /// The reply that octets are, which is written as they are, or the place at which they are none.
-pub fn replied(alloc: Global, row: &str) -> Option<String> {
-    let octets = octets(alloc, row.split(' ').next()?)?;
+pub fn replied(cells: &mut Cells<'_>, said: &mut Said) {
+    let octets = cells.octets();
     match read_reply(octets.as_slice()) {
         Ok(reply) => {
-            let written = write_reply(alloc, &reply).ok()?;
-            if written.as_slice() != octets.as_slice() {
-                return String::from_str(alloc, OTHERWISE).ok();
-            }
-            reply_said(alloc, &reply)
+            written_as(said, octets.as_slice(), write_reply(cells.alloc(), &reply));
+            reply_said(said, &reply);
         }
-        Err(refusal) => format!(in alloc; "Refused {}", refusal.at).ok(),
+        Err(refusal) => {
+            said.word("Refused");
+            said.number(refusal.at as u64);
+        }
     }
 }

@@ -2,90 +2,93 @@
 
 use gss_base::{Label, NameRefusal, Principal};
 use sec_base::Text;
-use std::alloc::Global;
-use table_rows::{cell, text};
+use table_rows::{Cells, Said};
 
-/// A refusal of a name, with its place where it has one.
-fn refused(alloc: Global, refusal: NameRefusal) -> Option<String> {
+/// Says a refusal of a name, with its place where it has one.
+fn refused(said: &mut Said, refusal: NameRefusal) {
     match refusal {
-        NameRefusal::Form { at } => format!(in alloc; "Form {at}").ok(),
-        NameRefusal::Zero { at } => format!(in alloc; "Zero {at}").ok(),
-        refusal => format!(in alloc; "{refusal:?}").ok(),
-    }
-}
-
-/// The parts of a name with a comma between them, an empty one as an empty cell.
-fn parts_said(alloc: Global, parts: &[Text]) -> Option<String> {
-    let mut said = String::new(alloc);
-    for (at, part) in parts.iter().enumerate() {
-        if at > 0 {
-            said.push_str(",").ok()?;
+        NameRefusal::Form { at } => {
+            said.word("Form");
+            said.number(at as u64);
         }
-        let part = hex::encode(alloc, part.as_str().as_bytes()).ok()?;
-        said.push_str(part.as_str()).ok()?;
+        NameRefusal::Zero { at } => {
+            said.word("Zero");
+            said.number(at as u64);
+        }
+        refusal => said.form(&refusal),
     }
-    Some(said)
 }
 
-/// The parts of a cell, `-` where there is none.
-fn parts_in(alloc: Global, said: &str) -> Option<Vec<Text>> {
+/// Says the parts of a name with a comma between them, an empty one as an empty cell.
+fn parts_said(said: &mut Said, parts: &[Text]) {
+    for (at, part) in parts.iter().enumerate() {
+        said.listed(at);
+        said.hex(part.as_str().as_bytes());
+    }
+}
+
+/// The parts of the next cell, `-` where there is none.
+fn parts_in(cells: &mut Cells<'_>) -> Vec<Text> {
+    let alloc = cells.alloc();
     let mut parts = Vec::new(alloc);
-    if said == "-" {
-        return Some(parts);
+    let cell = cells.word();
+    if cell != "-" {
+        for part in cell.split(',') {
+            let mut part = Cells::new(alloc, part, ' ');
+            let is_added = parts.push(Text::from_string(part.text())).is_ok();
+            cells.expect(is_added && part.are_well());
+        }
     }
-    for part in said.split(',') {
-        parts.push(Text::from_string(text(alloc, part)?)).ok()?;
-    }
-    Some(parts)
+    parts
 }
 
-/// Realm, parts and text form of a name that its realm and parts make again.
-fn name_said(alloc: Global, name: &Principal) -> Option<String> {
-    let again = Principal::new(alloc, name.realm(), name.parts()).ok()?;
-    if again != *name {
-        return String::from_str(alloc, "is made otherwise").ok();
+/// Says realm, parts and text form of a name that its realm and parts make again.
+fn name_said(said: &mut Said, name: &Principal) {
+    match Principal::new(said.alloc(), name.realm(), name.parts()) {
+        Ok(again) => {
+            if again != *name {
+                said.word("is made otherwise");
+            }
+        }
+        Err(_) => said.starve(),
     }
-    let realm = cell(alloc, name.realm().as_bytes())?;
-    let parts = parts_said(alloc, name.parts())?;
-    let label = name.label();
-    let form = cell(alloc, label.text().as_bytes())?;
-    format!(in alloc; "Ok {realm} {parts} {form}").ok()
+    said.word("Ok");
+    said.octets(name.realm().as_bytes());
+    parts_said(said, name.parts());
+    said.octets(name.label().text().as_bytes());
+}
+
+/// Says a name, or why there is none.
+fn name_or_refusal(said: &mut Said, read: Result<Principal, NameRefusal>) {
+    match read {
+        Ok(name) => name_said(said, &name),
+        Err(refusal) => refused(said, refusal),
+    }
 }
 
 /// The name that a text names, or why it names none.
-pub fn named(alloc: Global, row: &str) -> Option<String> {
-    let text = text(alloc, row.split(' ').next()?)?;
-    match Principal::parse(alloc, text.as_str()) {
-        Ok(name) => name_said(alloc, &name),
-        Err(refusal) => refused(alloc, refusal),
-    }
+pub fn named(cells: &mut Cells<'_>, said: &mut Said) {
+    let text = cells.text();
+    let read = Principal::parse(said.alloc(), text.as_str());
+    name_or_refusal(said, read);
 }
 
 /// The name of the cells realm and parts, or why there is none.
-pub fn made(alloc: Global, row: &str) -> Option<String> {
-    let mut cells = row.split(' ');
-    let realm = text(alloc, cells.next()?)?;
-    let parts = parts_in(alloc, cells.next()?)?;
-    match Principal::new(alloc, realm.as_str(), parts.as_slice()) {
-        Ok(name) => name_said(alloc, &name),
-        Err(refusal) => refused(alloc, refusal),
-    }
+pub fn made(cells: &mut Cells<'_>, said: &mut Said) {
+    let (realm, parts) = (cells.text(), parts_in(cells));
+    let made = Principal::new(said.alloc(), realm.as_str(), parts.as_slice());
+    name_or_refusal(said, made);
 }
 
 /// The label of a text, and whether it is that of another text, by the cells of both.
-pub fn labelled(alloc: Global, row: &str) -> Option<String> {
-    let mut cells = row.split(' ');
-    let text_cell = cells.next()?;
-    let text_given = text(alloc, text_cell)?;
-    let other = text(alloc, cells.next()?)?;
-    let Some(label) = Label::new(text_given.as_str()) else {
-        return String::from_str(alloc, "None").ok();
-    };
-    let said = cell(alloc, label.text().as_bytes())?;
-    let same = if Label::new(other.as_str())? == label {
-        "same"
-    } else {
-        "another"
-    };
-    format!(in alloc; "{said} {same}").ok()
+pub fn labelled(cells: &mut Cells<'_>, said: &mut Said) {
+    let (text, other) = (cells.text(), cells.text());
+    match (Label::new(text.as_str()), Label::new(other.as_str())) {
+        (Some(label), Some(other)) => {
+            said.octets(label.text().as_bytes());
+            said.word(if other == label { "same" } else { "another" });
+        }
+        (None, _) => said.word("None"),
+        (Some(_), None) => cells.expect(false),
+    }
 }

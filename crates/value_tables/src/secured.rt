@@ -1,99 +1,105 @@
 //! The credentials, results and bodies of RPCSEC_GSS, both ways.
 
-use crate::messages::OTHERWISE;
+use crate::messages::written_as;
 use crate::xdr::refused;
 use rpcsec_msgs::{
     GssCred, InitRes, join_checked, join_sealed, read_cred, read_init_res, split_checked,
     split_sealed, write_cred, write_init_res,
 };
+use sec_base::{NoMemory, Octets};
 use std::alloc::Global;
-use table_rows::{cell, octets};
+use table_rows::{Cells, Said};
 
 /// More octets than a row has.
 const MOST: usize = 65_536;
 
-/// What was read, where it is written as it was read.
-fn again(alloc: Global, read: &[u8], written: &[u8], said: String) -> Option<String> {
-    if read == written {
-        return Some(said);
+/// Says procedure, number, service and handle of a credential that octets are.
+fn cred_said(said: &mut Said, octets: &[u8], cred: &GssCred<'_>) {
+    if cred.context.len() <= MOST {
+        let written = write_cred(said.alloc(), cred);
+        written_as(said, octets, written);
     }
-    String::from_str(alloc, OTHERWISE).ok()
-}
-
-/// Procedure, number, service and handle of a credential.
-fn cred_said(alloc: Global, cred: &GssCred<'_>) -> Option<String> {
-    let context = cell(alloc, cred.context)?;
-    let (proc, seq, service) = (cred.proc, cred.seq, cred.service);
-    format!(in alloc; "Ok {proc} {seq} {service} {context}").ok()
+    said.number(cred.proc as u64);
+    said.number(cred.seq as u64);
+    said.number(cred.service as u64);
+    said.octets(cred.context);
 }
 
 /// The credential that octets are, or the place at which they are none.
-pub fn credential(alloc: Global, row: &str) -> Option<String> {
-    let octets = octets(alloc, row.split(' ').next()?)?;
+pub fn credential(cells: &mut Cells<'_>, said: &mut Said) {
+    let octets = cells.octets();
     match read_cred(octets.as_slice()) {
-        Ok(cred) => {
-            if cred.context.len() > MOST {
-                return None;
-            }
-            let written = write_cred(alloc, &cred).ok()?;
-            let said = cred_said(alloc, &cred)?;
-            again(alloc, octets.as_slice(), written.as_slice(), said)
+        Ok(cred) => cred_said(said, octets.as_slice(), &cred),
+        Err(refusal) => {
+            said.word("Refused");
+            said.number(refusal.at as u64);
         }
-        Err(refusal) => format!(in alloc; "Refused {}", refusal.at).ok(),
     }
 }
 
-/// Handle, statuses, window and token of a result.
-fn result_said(alloc: Global, res: &InitRes) -> Option<String> {
-    let context = cell(alloc, res.context.as_slice())?;
-    let token = cell(alloc, res.token.as_slice())?;
-    let (major, minor, window) = (res.major, res.minor, res.window);
-    format!(in alloc; "Ok {context} {major} {minor} {window} {token}").ok()
+/// Says handle, statuses, window and token of a result.
+fn result_said(said: &mut Said, res: &InitRes) {
+    said.octets(res.context.as_slice());
+    said.number(res.major as u64);
+    said.number(res.minor as u64);
+    said.number(res.window as u64);
+    said.octets(res.token.as_slice());
 }
 
 /// The result of a creation call that octets are, or why they are none.
-pub fn creation(alloc: Global, row: &str) -> Option<String> {
-    let octets = octets(alloc, row.split(' ').next()?)?;
-    match read_init_res(alloc, octets.as_slice()) {
+pub fn creation(cells: &mut Cells<'_>, said: &mut Said) {
+    let octets = cells.octets();
+    match read_init_res(cells.alloc(), octets.as_slice()) {
         Ok(res) => {
-            let written = write_init_res(alloc, &res).ok()?;
-            let said = result_said(alloc, &res)?;
-            again(alloc, octets.as_slice(), written.as_slice(), said)
+            let written = write_init_res(cells.alloc(), &res);
+            written_as(said, octets.as_slice(), written);
+            result_said(said, &res);
         }
-        Err(refusal) => refused(alloc, refusal),
+        Err(refusal) => refused(said, refusal),
     }
+}
+
+/// A body by integrity as it is joined, none where its parts are too long.
+fn checked_joined(alloc: Global, body: &[u8], tag: &[u8]) -> Result<Octets, NoMemory> {
+    if body.len() > MOST || tag.len() > MOST {
+        return Ok(Octets::from_vec(Vec::new(alloc)));
+    }
+    join_checked(alloc, body, tag)
 }
 
 /// Octets and MIC of a body by integrity, or why it is none.
-pub fn checked(alloc: Global, row: &str) -> Option<String> {
-    let octets = octets(alloc, row.split(' ').next()?)?;
+pub fn checked(cells: &mut Cells<'_>, said: &mut Said) {
+    let octets = cells.octets();
     match split_checked(octets.as_slice()) {
         Ok((body, tag)) => {
-            if body.len() > MOST || tag.len() > MOST {
-                return None;
-            }
-            let joined = join_checked(alloc, body, tag).ok()?;
-            let (body, tag) = (cell(alloc, body)?, cell(alloc, tag)?);
-            let said = format!(in alloc; "Ok {body} {tag}").ok()?;
-            again(alloc, octets.as_slice(), joined.as_slice(), said)
+            written_as(
+                said,
+                octets.as_slice(),
+                checked_joined(cells.alloc(), body, tag),
+            );
+            said.octets(body);
+            said.octets(tag);
         }
-        Err(refusal) => refused(alloc, refusal),
+        Err(refusal) => refused(said, refusal),
     }
 }
 
+/// A body by privacy as it is joined, none where its token is too long.
+fn sealed_joined(alloc: Global, token: &[u8]) -> Result<Octets, NoMemory> {
+    if token.len() > MOST {
+        return Ok(Octets::from_vec(Vec::new(alloc)));
+    }
+    join_sealed(alloc, token)
+}
+
 /// The token of a body by privacy, or why it is none.
-pub fn sealed(alloc: Global, row: &str) -> Option<String> {
-    let octets = octets(alloc, row.split(' ').next()?)?;
+pub fn sealed(cells: &mut Cells<'_>, said: &mut Said) {
+    let octets = cells.octets();
     match split_sealed(octets.as_slice()) {
         Ok(token) => {
-            if token.len() > MOST {
-                return None;
-            }
-            let joined = join_sealed(alloc, token).ok()?;
-            let token = cell(alloc, token)?;
-            let said = format!(in alloc; "Ok {token}").ok()?;
-            again(alloc, octets.as_slice(), joined.as_slice(), said)
+            written_as(said, octets.as_slice(), sealed_joined(cells.alloc(), token));
+            said.octets(token);
         }
-        Err(refusal) => refused(alloc, refusal),
+        Err(refusal) => refused(said, refusal),
     }
 }

@@ -5,7 +5,7 @@ use crate::{
     windows, xdr,
 };
 use std::alloc::Global;
-use table_rows::Rows;
+use table_rows::{Cells, Rows, Said};
 
 /// A table of outside values.
 #[derive(Clone, Copy)]
@@ -149,68 +149,43 @@ impl Rows for Table {
         }
     }
 
-    fn given(&self) -> u32 {
+    fn answer(&self, cells: &mut Cells<'_>, said: &mut Said) {
         match *self {
-            Table::Pieces
-            | Table::Opaques
-            | Table::Words
-            | Table::Parts
-            | Table::Labels
-            | Table::Values
-            | Table::Sinks
-            | Table::ManyMarks => 2,
-            Table::Marks
-            | Table::Moments
-            | Table::Ports
-            | Table::Shelves
-            | Table::Numbers
-            | Table::Files
-            | Table::Stops
-            | Table::Caches
-            | Table::Contexts
-            | Table::ContextWindows => 3,
-            Table::Links => 4,
-            _ => 1,
-        }
-    }
-
-    fn answered(&self, alloc: Global, row: &str) -> Option<String> {
-        match *self {
-            Table::Pieces => records::in_pieces(alloc, row),
-            Table::Framed => records::framed(alloc, row),
-            Table::Calls => messages::called(alloc, row),
-            Table::Replies => messages::replied(alloc, row),
-            Table::Opaques => xdr::opaques(alloc, row),
-            Table::Words => xdr::words(alloc, row),
-            Table::Credentials => secured::credential(alloc, row),
-            Table::Creations => secured::creation(alloc, row),
-            Table::Checked => secured::checked(alloc, row),
-            Table::Sealed => secured::sealed(alloc, row),
-            Table::Kinds => mechs::kind(alloc, row),
-            Table::Hashes => mechs::hash(alloc, row),
-            Table::Marks => mechs::mark(alloc, row),
-            Table::Statuses => mechs::statuses(alloc, row),
-            Table::Names => names::named(alloc, row),
-            Table::Parts => names::made(alloc, row),
-            Table::Labels => names::labelled(alloc, row),
-            Table::Moments => values::moment(alloc, row),
-            Table::Oids => values::oid(alloc, row),
-            Table::Values => values::shown(alloc, row),
-            Table::Links => links::linked(alloc, row),
-            Table::Ports => links::ported(alloc, row),
-            Table::Sinks => devices::sunk(alloc, row),
-            Table::Clocks => devices::clocked(alloc, row),
-            Table::Draws => devices::drawn(alloc, row),
-            Table::Shelves => devices::shelved(alloc, row),
-            Table::Commands => commands::sorted(alloc, row),
-            Table::Numbers => commands::number(alloc, row),
-            Table::Files => commands::file(alloc, row),
-            Table::Stops => commands::stopped(alloc, row),
-            Table::Windows => windows::judged(alloc, row),
-            Table::Caches => caches::judged(alloc, row),
-            Table::ManyMarks => caches::many(alloc, row),
-            Table::Contexts => contexts::replaced(alloc, row),
-            Table::ContextWindows => contexts::windowed(alloc, row),
+            Table::Pieces => records::in_pieces(cells, said),
+            Table::Framed => records::framed(cells, said),
+            Table::Calls => messages::called(cells, said),
+            Table::Replies => messages::replied(cells, said),
+            Table::Opaques => xdr::opaques(cells, said),
+            Table::Words => xdr::words(cells, said),
+            Table::Credentials => secured::credential(cells, said),
+            Table::Creations => secured::creation(cells, said),
+            Table::Checked => secured::checked(cells, said),
+            Table::Sealed => secured::sealed(cells, said),
+            Table::Kinds => mechs::kind(cells, said),
+            Table::Hashes => mechs::hash(cells, said),
+            Table::Marks => mechs::mark(cells, said),
+            Table::Statuses => mechs::statuses(cells, said),
+            Table::Names => names::named(cells, said),
+            Table::Parts => names::made(cells, said),
+            Table::Labels => names::labelled(cells, said),
+            Table::Moments => values::moment(cells, said),
+            Table::Oids => values::oid(cells, said),
+            Table::Values => values::shown(cells, said),
+            Table::Links => links::linked(cells, said),
+            Table::Ports => links::ported(cells, said),
+            Table::Sinks => devices::sunk(cells, said),
+            Table::Clocks => devices::clocked(cells, said),
+            Table::Draws => devices::drawn(cells, said),
+            Table::Shelves => devices::shelved(cells, said),
+            Table::Commands => commands::sorted(cells, said),
+            Table::Numbers => commands::number(cells, said),
+            Table::Files => commands::file(cells, said),
+            Table::Stops => commands::stopped(cells, said),
+            Table::Windows => windows::judged(cells, said),
+            Table::Caches => caches::judged(cells, said),
+            Table::ManyMarks => caches::many(cells, said),
+            Table::Contexts => contexts::replaced(cells, said),
+            Table::ContextWindows => contexts::windowed(cells, said),
         }
     }
 }

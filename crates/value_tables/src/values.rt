@@ -1,85 +1,90 @@
 //! Moments, object identifiers, and what octets, texts and items show.
 
 use sec_base::{Items, Moment, Octets, Oid, Text};
-use std::alloc::Global;
-use table_rows::{cell, octets};
+use table_rows::{Cells, Said};
 
-/// The moment of the cells seconds, microseconds and span: its total, seconds and microseconds, the total of the moment that is a span
-/// later, and whether the moment itself is before the greatest.
-pub fn moment(alloc: Global, row: &str) -> Option<String> {
-    let mut cells = row.split(' ');
-    let secs = cells.next()?.parse::<u64>().ok()?;
-    let micros = cells.next()?.parse::<u32>().ok()?;
-    let span = cells.next()?.parse::<u64>().ok()?;
-    let Some(moment) = Moment::new(secs, micros) else {
-        return String::from_str(alloc, "None").ok();
-    };
-    let place = if moment < Moment::greatest() {
-        "before"
-    } else {
-        "greatest"
-    };
-    let (total, later) = (moment.total(), moment.later(span).total());
-    let (secs, micros) = (moment.secs(), moment.micros());
-    format!(in alloc; "{total} {secs} {micros} {later} {place}").ok()
+/// Says a moment's total, seconds and microseconds, the total of the moment that is a span later, and whether it is before the greatest.
+fn moment_said(said: &mut Said, moment: Moment, span: u64) {
+    said.number(moment.total());
+    said.number(moment.secs());
+    said.number(moment.micros() as u64);
+    said.number(moment.later(span).total());
+    let is_before = moment < Moment::greatest();
+    said.word(if is_before { "before" } else { "greatest" });
 }
 
-/// The content of the object identifier that octets are.
-pub fn oid(alloc: Global, row: &str) -> Option<String> {
-    let content = octets(alloc, row.split(' ').next()?)?;
-    match Oid::new(content.as_slice()) {
-        Some(oid) => cell(alloc, oid.content()),
-        None => String::from_str(alloc, "None").ok(),
+/// The moment of the cells seconds, microseconds and span, where there is one.
+pub fn moment(cells: &mut Cells<'_>, said: &mut Said) {
+    let (secs, micros, span) = (cells.number(), cells.word_number(), cells.number());
+    match Moment::new(secs, micros) {
+        Some(moment) => moment_said(said, moment, span),
+        None => said.word("None"),
     }
 }
 
+/// The content of the object identifier that octets are.
+pub fn oid(cells: &mut Cells<'_>, said: &mut Said) {
+    let content = cells.octets();
+    match Oid::new(content.as_slice()) {
+        Some(oid) => said.octets(oid.content()),
+        None => said.word("None"),
+    }
+}
+
+/// Says whether a value is the same as another.
+fn same(said: &mut Said, is_same: bool) {
+    said.word(if is_same { "same" } else { "another" });
+}
+
 /// What octets show, and whether a copy of them is the same.
-fn octets_said(alloc: Global, given: &[u8]) -> Option<String> {
-    let octets = Octets::of(alloc, given).ok()?;
-    let said = cell(alloc, octets.as_slice())?;
-    let copy = Octets::from_vec(octets.into_vec());
-    let same = if copy == Octets::of(alloc, given).ok()? {
-        "same"
-    } else {
-        "another"
-    };
-    format!(in alloc; "{said} {same}").ok()
+fn octets_said(said: &mut Said, given: &[u8]) {
+    match (
+        Octets::of(said.alloc(), given),
+        Octets::of(said.alloc(), given),
+    ) {
+        (Ok(octets), Ok(other)) => {
+            said.octets(octets.as_slice());
+            let copy = Octets::from_vec(octets.into_vec());
+            same(said, copy == other);
+        }
+        _ => said.starve(),
+    }
 }
 
-/// What a text shows, and whether it is another's; `-` where octets are none.
-fn text_said(alloc: Global, given: &[u8]) -> Option<String> {
-    let Ok(text) = str::from_utf8(given) else {
-        return String::from_str(alloc, "none").ok();
+/// What a text shows, and whether it is `a`; `none` where octets are no text.
+fn text_said(said: &mut Said, given: &[u8]) {
+    let Ok(given) = str::from_utf8(given) else {
+        said.word("none");
+        return;
     };
-    let text = Text::of(alloc, text).ok()?;
-    let said = cell(alloc, text.as_str().as_bytes())?;
-    let other = if text == Text::of(alloc, "a").ok()? {
-        "same"
-    } else {
-        "another"
-    };
-    format!(in alloc; "{said} {other}").ok()
+    match (Text::of(said.alloc(), given), Text::of(said.alloc(), "a")) {
+        (Ok(text), Ok(other)) => {
+            said.octets(text.as_str().as_bytes());
+            same(said, text == other);
+        }
+        _ => said.starve(),
+    }
 }
 
-/// What items show, how many they are, and whether they are those of another list.
-fn items_said(alloc: Global, given: &[u8]) -> Option<String> {
-    let items = Items::of(Vec::from_slice(alloc, given).ok()?);
-    let said = cell(alloc, items.as_slice())?;
-    let other = Items::of(Vec::from_slice(alloc, &[3u8, 4]).ok()?);
-    let same = if items == other { "same" } else { "another" };
-    let count = items.into_vec().len();
-    format!(in alloc; "{said} {same} {count}").ok()
+/// What items show, whether they are those of another list, and how many they are.
+fn items_said(said: &mut Said, items: Vec<u8>, other: Vec<u8>) {
+    let (items, other) = (Items::of(items), Items::of(other));
+    said.octets(items.as_slice());
+    same(said, items == other);
+    said.number(items.into_vec().len() as u64);
 }
 
 /// What a row of octets shows as `octets`, as a `text` (whether it is `a`), and as `items` (whether they are 3 and 4).
-pub fn shown(alloc: Global, row: &str) -> Option<String> {
-    let mut cells = row.split(' ');
-    let kind = cells.next()?;
-    let given = octets(alloc, cells.next()?)?;
+pub fn shown(cells: &mut Cells<'_>, said: &mut Said) {
+    let kind = cells.word();
+    let given = cells.octets();
     match kind {
-        "octets" => octets_said(alloc, given.as_slice()),
-        "text" => text_said(alloc, given.as_slice()),
-        "items" => items_said(alloc, given.as_slice()),
-        _ => None,
+        "octets" => octets_said(said, given.as_slice()),
+        "text" => text_said(said, given.as_slice()),
+        "items" => match Vec::from_slice(cells.alloc(), &[3u8, 4]) {
+            Ok(other) => items_said(said, given, other),
+            Err(_) => said.starve(),
+        },
+        _ => cells.expect(false),
     }
 }

@@ -1,19 +1,22 @@
 //! The window of a context's numbers.
 
 use seq_window::{Verdict, Window};
-use std::alloc::Global;
-use table_rows::add;
+use table_rows::{Cells, Said};
 
 /// The widest window.
 const WIDEST: u32 = 1024;
 
-/// A verdict: A is AboveMax, B and the greatest number Below, R Repeat, F Fresh.
-pub fn verdict_said(alloc: Global, verdict: Verdict) -> Option<String> {
+/// Says a verdict: A is AboveMax, B and the greatest number Below, R Repeat, F Fresh.
+pub fn verdict_said(said: &mut Said, verdict: Verdict) {
     match verdict {
-        Verdict::AboveMax => String::from_str(alloc, "A").ok(),
-        Verdict::Below { last } => format!(in alloc; "B{last}").ok(),
-        Verdict::Repeat => String::from_str(alloc, "R").ok(),
-        Verdict::Fresh => String::from_str(alloc, "F").ok(),
+        Verdict::AboveMax => said.word("A"),
+        Verdict::Below { last } => {
+            said.word("B");
+            said.join("");
+            said.number(last as u64);
+        }
+        Verdict::Repeat => said.word("R"),
+        Verdict::Fresh => said.word("F"),
     }
 }
 
@@ -27,40 +30,42 @@ fn take(window: &mut Window, number: u32) -> Verdict {
     verdict
 }
 
-/// What a step answers: C clears the window, L asks the greatest number, W the width, and a number is taken.
-fn step(alloc: Global, window: &mut Window, word: &str) -> Option<String> {
-    let (step, _said) = word.split_once(':').unwrap_or((word, ""));
-    match step {
-        "C" => {
-            window.clear();
-            String::from_str(alloc, "C").ok()
-        }
-        "L" => format!(in alloc; "L:{}", window.last()).ok(),
-        "W" => format!(in alloc; "W:{}", window.width()).ok(),
-        number => {
-            let verdict = take(window, number.parse::<u32>().ok()?);
-            let verdict = verdict_said(alloc, verdict)?;
-            format!(in alloc; "{step}:{verdict}").ok()
-        }
+/// Says what a step answers: C clears the window, L asks the greatest number, W the width, and a number is taken.
+fn step(said: &mut Said, window: &mut Window, step: &str) {
+    said.word(step);
+    if step == "C" {
+        window.clear();
+        return;
+    }
+    said.join(":");
+    match (step, step.parse::<u32>()) {
+        ("L", _) => said.number(window.last() as u64),
+        ("W", _) => said.number(window.width() as u64),
+        (_, Ok(number)) => verdict_said(said, take(window, number)),
+        _ => said.word("isn't a step"),
     }
 }
 
-/// A window of this width.
-fn window(alloc: Global, width: &str) -> Option<Window> {
-    let width = width.parse::<u32>().ok()?;
-    if width == 0 || width > WIDEST {
-        return None;
+/// Says what a window answers to steps.
+fn steps_said(said: &mut Said, window: &mut Window, steps: &str) {
+    for word in steps.split(' ') {
+        let (asked, _answer) = word.split_once(':').unwrap_or((word, ""));
+        step(said, window, asked);
     }
-    Window::new(alloc, width).ok()
 }
 
 /// What a window answers, by its width and `step:answer` for each step.
-pub fn judged(alloc: Global, row: &str) -> Option<String> {
-    let (width, steps) = row.split_once(' ')?;
-    let mut window = window(alloc, width)?;
-    let mut said = String::new(alloc);
-    for word in steps.split(' ') {
-        add(&mut said, " ", step(alloc, &mut window, word)?.as_str())?;
+pub fn judged(cells: &mut Cells<'_>, said: &mut Said) {
+    let (width, steps) = (cells.word_number(), cells.rest().unwrap_or(""));
+    if width == 0 || width > WIDEST {
+        cells.expect(false);
+    } else {
+        match Window::new(cells.alloc(), width) {
+            Ok(window) => {
+                let mut window = window;
+                steps_said(said, &mut window, steps);
+            }
+            Err(_) => said.starve(),
+        }
     }
-    Some(said)
 }

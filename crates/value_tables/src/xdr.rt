@@ -1,68 +1,72 @@
 //! Numbers and octets in XDR, both ways.
 
-use crate::messages::OTHERWISE;
+use crate::messages::written_as;
 use rpc_msgs::{XdrReader, XdrRefusal, XdrWriter};
-use sec_base::Octets;
+use sec_base::{NoMemory, Octets};
 use std::alloc::Global;
-use table_rows::{cell, octets};
+use table_rows::{Cells, Said};
 
 /// More octets than a row has.
 const MOST: usize = 65_536;
 
-/// A refusal by its reason and place.
-pub fn refused(alloc: Global, refusal: XdrRefusal) -> Option<String> {
-    format!(in alloc; "{:?} {}", refusal.why, refusal.at).ok()
+/// Says a refusal by its reason and place.
+pub fn refused(said: &mut Said, refusal: XdrRefusal) {
+    said.form(&refusal.why);
+    said.number(refusal.at as u64);
 }
 
-/// Octets of variable length as they are written.
-fn opaque(alloc: Global, value: &[u8]) -> Option<Octets> {
-    if value.len() > MOST {
-        return None;
-    }
+/// Octets of variable length as they are written, none where they are too long.
+fn opaque(alloc: Global, value: &[u8]) -> Result<Octets, NoMemory> {
     let mut out = XdrWriter::new(alloc);
-    out.opaque(value).ok()?;
-    Some(out.finish())
+    if value.len() <= MOST {
+        out.opaque(value)?;
+    }
+    Ok(out.finish())
 }
 
 /// The octets of variable length that stand in front and how many were read, or why there are none, by the cells limit and octets.
-pub fn opaques(alloc: Global, row: &str) -> Option<String> {
-    let mut cells = row.split(' ');
-    let limit = cells.next()?.parse::<u32>().ok()?;
-    let octets = octets(alloc, cells.next()?)?;
+pub fn opaques(cells: &mut Cells<'_>, said: &mut Said) {
+    let (limit, octets) = (cells.word_number(), cells.octets());
     let mut reader = XdrReader::new(octets.as_slice());
-    let value = match reader.opaque(limit) {
-        Ok(value) => value,
-        Err(refusal) => return refused(alloc, refusal),
-    };
-    let written = opaque(alloc, value)?;
-    let place = reader.place();
-    if written.as_slice().len() != place || !octets.starts_with(written.as_slice()) {
-        return String::from_str(alloc, OTHERWISE).ok();
+    match reader.opaque(limit) {
+        Ok(value) => {
+            let place = reader.place();
+            let front = octets.get(..place).unwrap_or(&[]);
+            written_as(said, front, opaque(cells.alloc(), value));
+            said.octets(value);
+            said.number(place as u64);
+        }
+        Err(refusal) => refused(said, refusal),
     }
-    let value = cell(alloc, value)?;
-    format!(in alloc; "Ok {value} {place}").ok()
 }
 
 /// A number and octets as they are written.
-fn written(alloc: Global, number: u32, octets: &[u8]) -> Option<Octets> {
+fn written(alloc: Global, number: u32, octets: &[u8]) -> Result<Octets, NoMemory> {
     let mut out = XdrWriter::new(alloc);
-    out.word(number).ok()?;
-    out.octets(octets).ok()?;
-    Some(out.finish())
+    out.word(number)?;
+    out.octets(octets)?;
+    Ok(out.finish())
+}
+
+/// Says octets, the number that is read there, and whether octets are left.
+fn read_again(said: &mut Said, octets: &[u8]) {
+    said.octets(octets);
+    let mut reader = XdrReader::new(octets);
+    match reader.word() {
+        Ok(number) => said.number(number as u64),
+        Err(refusal) => refused(said, refusal),
+    }
+    match reader.end() {
+        Ok(()) => said.word("Ended"),
+        Err(refusal) => refused(said, refusal),
+    }
 }
 
 /// What is written for the cells number and octets, then the number that is read there, and whether octets are left.
-pub fn words(alloc: Global, row: &str) -> Option<String> {
-    let mut cells = row.split(' ');
-    let number = cells.next()?.parse::<u32>().ok()?;
-    let octets = octets(alloc, cells.next()?)?;
-    let written = written(alloc, number, octets.as_slice())?;
-    let mut reader = XdrReader::new(written.as_slice());
-    let number = reader.word().ok()?;
-    let end = match reader.end() {
-        Ok(()) => String::from_str(alloc, "Ended").ok()?,
-        Err(refusal) => refused(alloc, refusal)?,
-    };
-    let written = cell(alloc, written.as_slice())?;
-    format!(in alloc; "{written} {number} {end}").ok()
+pub fn words(cells: &mut Cells<'_>, said: &mut Said) {
+    let (number, octets) = (cells.word_number(), cells.octets());
+    match written(cells.alloc(), number, octets.as_slice()) {
+        Ok(written) => read_again(said, written.as_slice()),
+        Err(NoMemory) => said.starve(),
+    }
 }

@@ -1,0 +1,198 @@
+//! A book and what is asked of it, one question after the other.
+
+use crate::connections::book_of;
+use crate::entries;
+use accept_book::{
+    AdmitRefusal, Admitted, Book, BookRefusal, Lease, NegAnswer, Negotiated, Receipt, Receipts,
+};
+use table_rows::{Cells, Said};
+use table_setting::{Files, Setting, draws, saying};
+
+/// A book, and the lease that it gave last.
+#[derive(Drop)]
+struct Held {
+    book: Book,
+    lease: Option<Lease>,
+}
+
+/// Says a name and a number.
+fn numbered(said: &mut Said, name: &str, number: u64) {
+    said.word(name);
+    said.join(":");
+    said.number(number);
+}
+
+/// Says `id:outcome:end`, the end in microseconds.
+fn say_lease(said: &mut Said, lease: &Lease) {
+    said.number(lease.id);
+    said.join(":");
+    saying::outcome(said, &lease.outcome);
+    said.join(":");
+    said.number(lease.ends.total());
+}
+
+/// Says a book's refusal by its name and what it holds.
+fn say_refused(said: &mut Said, refusal: BookRefusal) {
+    match refusal {
+        BookRefusal::Neg(refusal) => saying::refusal(said, refusal),
+        BookRefusal::Stale { greatest } => numbered(said, "Stale", greatest.total()),
+        BookRefusal::Repeat { place } => numbered(said, "Repeat", place),
+        refusal => said.form(&refusal),
+    }
+}
+
+/// Says what a token came to.
+fn say_answer(said: &mut Said, answer: &NegAnswer) {
+    match answer {
+        NegAnswer::Going { id, token } => {
+            numbered(said, "Going", *id);
+            said.join(":");
+            said.octets(token.as_slice());
+        }
+        NegAnswer::Settled { lease, token } => {
+            said.word("Settled");
+            said.join(":");
+            say_lease(said, lease);
+            said.join(":");
+            said.octets(token.as_slice());
+        }
+        NegAnswer::Refused(refusal) => say_refused(said, *refusal),
+        NegAnswer::NoMemory => said.word("NoMemory"),
+    }
+}
+
+/// Says `place-entry`.
+pub fn say_receipt(said: &mut Said, receipt: &Receipt) {
+    said.number(receipt.place);
+    said.join("-");
+    entries::say(said, &receipt.entry);
+}
+
+/// Says the entries that a step added, `-` where there is none.
+pub fn say_receipts(said: &mut Said, receipts: &Receipts) {
+    if receipts.count == 0 {
+        said.word("-");
+    }
+    for one in receipts.list.iter().take(receipts.count as usize) {
+        say_receipt(said, one);
+        said.join(",");
+    }
+    said.join(" ");
+}
+
+/// Says what a token came to, and the entries that its step added.
+fn say_negotiated(said: &mut Said, negotiated: &Negotiated) {
+    say_answer(said, &negotiated.answer);
+    said.join("/");
+    say_receipts(said, &negotiated.receipts);
+}
+
+/// Says why a number isn't admitted.
+fn say_unadmitted(said: &mut Said, refusal: AdmitRefusal) {
+    match refusal {
+        AdmitRefusal::Below { last } => numbered(said, "Below", last as u64),
+        refusal => said.form(&refusal),
+    }
+}
+
+/// Says what is answered to a call: its entry, and how many posts there were up to it.
+pub fn say_admitted(said: &mut Said, answer: &Result<Admitted, AdmitRefusal>) {
+    match answer {
+        Ok(admitted) => {
+            say_receipt(said, &admitted.receipt);
+            said.join(":");
+            said.number(admitted.posts as u64);
+        }
+        Err(refusal) => say_unadmitted(said, *refusal),
+    }
+}
+
+/// Says what is answered to an end.
+pub fn say_ended(said: &mut Said, answer: &Result<Receipt, AdmitRefusal>) {
+    match answer {
+        Ok(receipt) => say_receipt(said, receipt),
+        Err(refusal) => say_unadmitted(said, *refusal),
+    }
+}
+
+impl Held {
+    /// Says what comes of `token:moment` for a context, of a first token where there is no id.
+    fn take(&mut self, files: &Files, id: Option<u64>, parts: &mut Cells<'_>, said: &mut Said) {
+        let token = files.octets(parts);
+        let now = parts.moment();
+        let (alloc, token) = (parts.alloc(), token.as_slice());
+        let answer = self.book.negotiate(alloc, id, token, now, &draws());
+        say_negotiated(said, &answer);
+    }
+
+    /// Says what is answered to a look, `id:moment`.
+    fn look(&mut self, parts: &mut Cells<'_>, said: &mut Said) {
+        let (id, now) = (parts.number(), parts.moment());
+        match self.book.look(id, now) {
+            Ok(found) => {
+                self.lease = Some(found);
+                say_lease(said, &found);
+            }
+            Err(refusal) => said.form(&refusal),
+        }
+    }
+
+    /// Says what is answered to a call of the lease's context, `number:procedure:arguments`.
+    fn call(&mut self, parts: &mut Cells<'_>, said: &mut Said) {
+        let (number, procedure) = (parts.word_number(), parts.word_number());
+        let args = parts.exactly();
+        match self.lease {
+            Some(lease) => say_admitted(said, &self.book.admit(&lease, number, procedure, args)),
+            None => parts.expect(false),
+        }
+    }
+
+    /// Says what is answered to an end of the lease's context.
+    fn end(&mut self, parts: &mut Cells<'_>, said: &mut Said) {
+        let number = parts.word_number();
+        match self.lease {
+            Some(lease) => say_ended(said, &self.book.end(&lease, number)),
+            None => parts.expect(false),
+        }
+    }
+
+    /// Says what is answered to a step.
+    fn step(&mut self, files: &Files, parts: &mut Cells<'_>, said: &mut Said) {
+        match parts.word() {
+            "first" => self.take(files, None, parts, said),
+            "later" => {
+                let id = parts.number();
+                self.take(files, Some(id), parts, said);
+            }
+            "look" => self.look(parts, said),
+            "call" => self.call(parts, said),
+            "end" => self.end(parts, said),
+            "log" => entries::logged(parts.alloc(), said, self.book.log().entries(), ":"),
+            _ => parts.expect(false),
+        }
+    }
+
+    /// Says `step=answer` for each step of a line.
+    fn step_all(&mut self, files: &Files, cells: &mut Cells<'_>, said: &mut Said) {
+        for part in cells.rest().unwrap_or("").split(' ') {
+            let (step, _answer) = part.split_once('=').unwrap_or((part, ""));
+            said.word(step);
+            said.join("=");
+            let mut parts = Cells::new(cells.alloc(), step, ':');
+            self.step(files, &mut parts, said);
+            cells.expect(parts.are_well() && parts.rest().is_none());
+        }
+    }
+}
+
+/// By the cells of the offer's letters, the limits and the moment of the book's opening, `step=answer` for each step behind them.
+pub fn answer(setting: &Setting, files: &Files, cells: &mut Cells<'_>, said: &mut Said) {
+    let (letters, limits, start) = (cells.word(), cells.word(), cells.moment());
+    match book_of(cells.alloc(), setting, letters, limits, start) {
+        Some(book) => {
+            let mut held = Held { book, lease: None };
+            held.step_all(files, cells, said);
+        }
+        None => cells.expect(false),
+    }
+}

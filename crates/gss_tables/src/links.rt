@@ -1,0 +1,53 @@
+//! A connection over a link that gives its octets in pieces, and whose calls may fail; the gate has no answer.
+
+use gss_server::{ListGate, Served, serve_link};
+use sec_base::{MemDraw, MemLink, Moment};
+use std::alloc::Global;
+use table_rows::{Cells, Said};
+use table_setting::{Files, clock, numbers};
+
+/// Pieces of one size, as many as octets.
+fn pieces(cells: &mut Cells<'_>, size: usize, count: usize) -> Vec<usize> {
+    let mut pieces = Vec::new(cells.alloc());
+    for _ in 0..count {
+        cells.expect(pieces.push(size).is_ok());
+    }
+    pieces
+}
+
+/// Says what is written on a connection, its end, how many records were answered, and how many of the link's calls failed.
+fn say(said: &mut Said, served: &Served<MemLink>) {
+    said.octets(served.link.written());
+    said.form(&served.end);
+    said.number(served.kept.len() as u64);
+    said.number(served.link.faults());
+}
+
+/// Says what a connection over a link with this stream comes to.
+fn serve(
+    alloc: Global,
+    gate: &mut ListGate,
+    input: Vec<u8>,
+    pieces: Vec<usize>,
+    failing: Vec<u64>,
+    said: &mut Said,
+) {
+    let link = MemLink::new(alloc, input, pieces, failing);
+    let mut clock = clock(alloc, Moment::start());
+    let mut draw = MemDraw::new(Vec::new(alloc));
+    let served = serve_link(alloc, link, gate, &mut clock, &mut draw, 128);
+    say(said, &served);
+}
+
+/// By the cells size of a read, numbers of failing calls and stream, what a connection comes to.
+pub fn answer(files: &Files, cells: &mut Cells<'_>, said: &mut Said) {
+    let alloc = cells.alloc();
+    let size = cells.word_number() as usize;
+    let failing = numbers(cells);
+    let input = files.octets(cells);
+    let pieces = pieces(cells, size, input.len());
+    match ListGate::new(alloc, Vec::new(alloc)) {
+        Ok(mut gate) => serve(alloc, &mut gate, input, pieces, failing, said),
+        Err(_) => said.starve(),
+    }
+}
