@@ -1,0 +1,91 @@
+//! A client's session with a server over a link in memory: a context is created, one call is made in it, and it is destroyed.
+//!
+//! What the client writes on the link are records of ONC RPC (RFC 5531), under RPCSEC_GSS (RFC 2203 section 5); the link answers each by the
+//! rules by which `gssrpcd` answers it. Where something is refused, or memory wants, the program ends with status 1.
+#![tactic(auto)]
+
+mod setups;
+
+ghost use Rattle.std.specs.Prelude.{◌≡◌, false};
+
+use gss_client::{Parting, Procedure, Service, Session, Start, Talk, opaque_alone};
+use sec_base::{Link, MemDraw, Octets};
+use setups::{BookLink, initiator, link_of};
+use spnego_core::Outcome;
+use std::alloc::Global;
+use std::io;
+use std::process::ExitCode;
+use std::str::from_utf8;
+
+/// The sequence number of the session's first call (RFC 2203 section 5.3.1), and how many calls it makes.
+const FIRST_NUMBER: u32 = 1;
+
+const CALLS: u32 = 1;
+
+/// The argument of the call: how many octets the words have, the words, and zeros up to a multiple of four (RFC 4506 section 4.10).
+const ARGUMENT: [u8; 16] = *b"\0\0\0\x0bhello world\0";
+
+/// The most octets of an echo.
+const MOST_OCTETS: u32 = 65_536;
+
+/// Holds the session. Its creation carries the tokens of a negotiation (RFC 2203 section 5.2); its call goes by integrity, so that a MIC covers
+/// the argument and another the result (section 5.3.2.2); then it destroys the context (section 5.4).
+fn hold(alloc: Global, link: &mut BookLink) -> Option<Talk>
+    // a link that is closed isn't written to
+    requires { ⟦<BookLink as Link>⟧.closed link.old ≡ false }
+{
+    let start = Start {
+        setup: initiator(alloc)?,
+        service: Service::Integrity,
+        first: FIRST_NUMBER,
+    };
+    // A call by privacy would need random octets; those of the draw in memory count from 0 on.
+    let mut draw = MemDraw::new(Vec::new(alloc));
+    let procedure = Procedure::Echo;
+    Some(Session::hold(alloc, link, &mut draw, start, procedure, &ARGUMENT, CALLS))
+}
+
+/// Says who made the context, once it stood.
+fn say_outcome(rt: &impl Print, outcome: &Option<Outcome>) -> io::Result<()> {
+    match outcome {
+        Some(outcome) => println!(rt; "a context stands, made by {}", outcome.initiator.text()),
+        None => println!(rt; "no context stands"),
+    }
+}
+
+/// Says the words of a result, which is spelled as the argument is.
+fn say_words(rt: &impl Print, spelled: &Octets) -> io::Result<()> {
+    match opaque_alone(MOST_OCTETS, spelled.as_slice()) {
+        Ok(words) => println!(rt;
+            "the server echoes: {}",
+            from_utf8(words).unwrap_or("no text")
+        ),
+        Err(_) => Err(io::Error::other("the result isn't spelled as it should be")),
+    }
+}
+
+/// Says what a session came to, and how many records the server answered.
+fn report(rt: &impl Print, talk: &Talk, answered: usize) -> io::Result<()> {
+    say_outcome(rt, &talk.outcome)?;
+    for result in talk.results.as_slice() {
+        say_words(rt, result)?;
+    }
+    match talk.parting {
+        Parting::Finished => println!(rt; "the context is destroyed, after {answered} records"),
+        _ => Err(io::Error::other("the session ended early")),
+    }
+}
+
+/// Makes the link, holds the session over it, and says what came of it.
+fn run(rt: &impl Print, alloc: Global) -> Option<()> {
+    let mut link = link_of(alloc)?;
+    let talk = hold(alloc, &mut link)?;
+    report(rt, &talk, link.kept().len()).ok()
+}
+
+fn main(rt: HostRuntime) -> ExitCode {
+    match run(&rt, rt.alloc()) {
+        Some(()) => ExitCode::SUCCESS,
+        None => ExitCode::FAILURE,
+    }
+}

@@ -1,0 +1,87 @@
+//! What the client begins with, and the link to its server.
+
+ghost use Rattle.std.specs.Prelude.{◌≡◌, IfSome, false, true};
+ghost use Rattle.spnego_core.specs.InitMech.{is_own_list};
+
+use accept_book::{Book, Limits};
+use gss_base::{MechKind, Principal};
+use gss_server::LoopLink;
+use krb_files::read_keytab;
+use scram_mech::{make_verifier, read_verifiers};
+use sec_base::{Items, Link, MemClock, MemDraw, Moment, Text};
+use spnego_core::{AcceptSetup, InitSetup, MechCred};
+use std::alloc::Global;
+
+/// A link to a server in the same thread, whose state is a book and whose random octets come from memory.
+pub type BookLink = LoopLink<Book, MemDraw>;
+
+/// The width of the windows of sequence numbers (RFC 2203 section 5.3.3.1).
+const WIDTH: u32 = 8;
+
+/// How many contexts, authenticators and entries of its log the server keeps, and the width.
+const LIMITS: Limits = Limits {
+    contexts: 4,
+    marks: 4,
+    log: 16,
+    width: WIDTH,
+};
+
+/// The user, whom both ends know, and the password, which the client alone knows.
+const USER: &str = "alice";
+
+const PASSWORD: &str = "open sesame";
+
+/// The salt and the count of rounds by which the user's verifier is made from the password (RFC 5802 section 2.2).
+const SALT: [u8; 16] = *b"salt of example.";
+
+const ROUNDS: u32 = 4_096;
+
+/// What the server is called.
+const SERVICE: &str = "rpc/localhost@REALM.TEST";
+
+/// A keytab without keys, which has the number of its format alone: SCRAM needs none.
+const NO_KEYS: [u8; 2] = [5, 2];
+
+/// Random octets of the client. A program draws them anew for each session; these stand here, so that each run is the same.
+const DRAWS: [u8; 66] = [1; 66];
+
+/// What the client begins with: one credential, of SCRAM.
+pub fn initiator(alloc: Global) -> Option<InitSetup>
+    ensures { IfSome result (λ setup. is_own_list setup.list ≡ true) }
+{
+    let mut list = Vec::with_capacity(alloc, 1).ok()?;
+    list.push_reserved(MechCred::Scram {
+        user: Text::of(alloc, USER).ok()?,
+        password: Text::of(alloc, PASSWORD).ok()?,
+    });
+    Some(InitSetup {
+        list: Items::of(list),
+        bindings: None,
+        stamp: Moment::start(),
+        draws: DRAWS,
+    })
+}
+
+/// What the server begins with: the user's verifier in place of a password, and SCRAM alone on offer.
+fn acceptor(alloc: Global) -> Option<AcceptSetup> {
+    let line = make_verifier(alloc, USER, PASSWORD, &SALT, ROUNDS).ok()?;
+    let mut offer = Vec::new(alloc);
+    offer.push(MechKind::Scram).ok()?;
+    Some(AcceptSetup {
+        own: Principal::parse(alloc, SERVICE).ok()?,
+        keytab: read_keytab(alloc, &NO_KEYS).ok()?,
+        verifiers: read_verifiers(alloc, line.as_slice()).ok()?,
+        bindings: None,
+        offer: Items::of(offer),
+    })
+}
+
+/// A link to a server that knows the user. Its clock stands at the start of 1970, and its random octets count.
+pub fn link_of(alloc: Global) -> Option<BookLink>
+    ensures { IfSome result (λ link. ⟦<BookLink as Link>⟧.closed link ≡ false) }
+{
+    let book = Book::open(alloc, acceptor(alloc)?, LIMITS, Moment::start()).ok()?;
+    let moments = MemClock::new(Vec::new(alloc));
+    let draws = MemDraw::new(Vec::new(alloc));
+    LoopLink::new(alloc, book, moments, draws, WIDTH).ok()
+}

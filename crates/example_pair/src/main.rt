@@ -1,0 +1,110 @@
+//! Two ends that negotiate a security context, token by token: an initiator that knows a password, and an acceptor with a verifier of it.
+//!
+//! The tokens are those of SPNEGO (RFC 4178 section 4.2), and each carries a message of SCRAM-SHA-1 (RFC 5802 section 7). A step takes its end
+//! by value and gives the next state, so that no end can be asked twice. A step that is refused, or finds no memory, ends the program with status 1.
+#![tactic(auto)]
+
+mod outcomes;
+mod setups;
+
+use sec_base::{Moment, Octets};
+use setups::{DRAWS, acceptor, initiator};
+use spnego_core::{AcceptEnd, AcceptSetup, AcceptStep, InitEnd, InitStep, Outcome};
+use std::alloc::Global;
+use std::process::ExitCode;
+
+/// Random octets of the acceptor's steps. A program draws them anew for each step; these stand here, so that each run prints the same.
+const ANSWER_DRAWS: [u8; DRAWS] = [2; DRAWS];
+
+const FINISH_DRAWS: [u8; DRAWS] = [3; DRAWS];
+
+/// Says who sends a message, and of how many octets the token is that carries it. A line that can't be printed is left out.
+fn say(rt: &impl Print, message: &str, token: &Octets) {
+    let count = token.as_slice().len();
+    let _ = println!(rt; "{message}, in a token of {count} octets");
+}
+
+/// The initiator's first token, a NegTokenInit, lists its mechanisms, here SCRAM alone, and carries a message of the first of them.
+fn open(alloc: Global) -> Option<(InitEnd, Octets)> {
+    InitEnd::start(alloc, initiator(alloc)?).ok()
+}
+
+/// The acceptor chooses a mechanism that both have. Its reply is a NegTokenResp, as all further tokens are.
+fn answer(alloc: Global, host: &AcceptSetup, token: Octets) -> Option<(AcceptEnd, Octets)> {
+    let (token, now) = (token.as_slice(), Moment::start());
+    match AcceptEnd::new().step(alloc, host, token, now, &ANSWER_DRAWS) {
+        Ok(AcceptStep::More(end, reply)) => Some((end, reply)),
+        _ => None,
+    }
+}
+
+/// The initiator proves that it knows the password.
+fn proceed(alloc: Global, end: InitEnd, token: Octets) -> Option<(InitEnd, Octets)> {
+    match end.step(alloc, token.as_slice()) {
+        Ok(InitStep::More(end, reply)) => Some((end, reply)),
+        _ => None,
+    }
+}
+
+/// The acceptor checks the proof, by which its context stands, and signs that it knows the verifier.
+fn finish(
+    alloc: Global,
+    host: &AcceptSetup,
+    end: AcceptEnd,
+    token: Octets,
+) -> Option<(Outcome, Octets)> {
+    let (token, now) = (token.as_slice(), Moment::start());
+    match end.step(alloc, host, token, now, &FINISH_DRAWS) {
+        Ok(AcceptStep::Done(outcome, _ends, reply)) => Some((outcome, reply)),
+        _ => None,
+    }
+}
+
+/// The initiator checks the signature, by which its context stands too.
+fn conclude(alloc: Global, end: InitEnd, token: Octets) -> Option<Outcome> {
+    let step = end.step(alloc, token.as_slice()).ok()?;
+    match &step {
+        InitStep::Done(outcome) => Some(*outcome),
+        InitStep::More(_, _) => None,
+    }
+}
+
+/// The second half of the negotiation, by which both ends have an outcome.
+fn confirm(
+    rt: &impl Print,
+    alloc: Global,
+    host: &AcceptSetup,
+    initiator: InitEnd,
+    acceptor: AcceptEnd,
+    token: Octets,
+) -> Option<(Outcome, Outcome)> {
+    let (initiator, token) = proceed(alloc, initiator, token)?;
+    say(rt, "initiator: client-final-message", &token);
+    let (accepted, token) = finish(alloc, host, acceptor, token)?;
+    say(rt, "acceptor: server-final-message", &token);
+    let initiated = conclude(alloc, initiator, token)?;
+    Some((initiated, accepted))
+}
+
+/// The negotiation, from the first token on.
+fn negotiate(rt: &impl Print, alloc: Global, host: &AcceptSetup) -> Option<(Outcome, Outcome)> {
+    let (initiator, token) = open(alloc)?;
+    say(rt, "initiator: client-first-message", &token);
+    let (acceptor, token) = answer(alloc, host, token)?;
+    say(rt, "acceptor: server-first-message", &token);
+    confirm(rt, alloc, host, initiator, acceptor, token)
+}
+
+/// Both ends from their setups on.
+fn run(rt: &impl Print, alloc: Global) -> Option<()> {
+    let host = acceptor(alloc)?;
+    let (initiated, accepted) = negotiate(rt, alloc, &host)?;
+    outcomes::report(rt, &initiated, &accepted).ok()
+}
+
+fn main(rt: HostRuntime) -> ExitCode {
+    match run(&rt, rt.alloc()) {
+        Some(()) => ExitCode::SUCCESS,
+        None => ExitCode::FAILURE,
+    }
+}

@@ -1,0 +1,71 @@
+//! What both ends begin with.
+
+ghost use Rattle.std.specs.Prelude.{◌≡◌, IfSome, true};
+ghost use Rattle.spnego_core.specs.InitMech.{is_own_list};
+
+use gss_base::{Bindings, MechKind, Principal};
+use krb_files::read_keytab;
+use scram_mech::{make_verifier, read_verifiers};
+use sec_base::{Items, Moment, Octets, Text};
+use spnego_core::{AcceptSetup, InitSetup, MechCred};
+use std::alloc::Global;
+
+/// The user, whom both ends know, and the password, which the initiator alone knows.
+const USER: &str = "alice";
+
+const PASSWORD: &str = "open sesame";
+
+/// The salt and the count of rounds by which a verifier is made from the password (RFC 5802 section 2.2).
+const SALT: [u8; 16] = *b"salt of example.";
+
+const ROUNDS: u32 = 4_096;
+
+/// What the acceptor is called.
+const SERVICE: &str = "rpc/localhost@REALM.TEST";
+
+/// What tells the channel between the ends from others (RFC 5056): both have to name the same one.
+const CHANNEL: [u8; 11] = *b"the channel";
+
+/// A keytab without keys, which has the number of its format alone: SCRAM needs none.
+const NO_KEYS: [u8; 2] = [5, 2];
+
+/// How many random octets a step takes, and those of the initiator.
+pub const DRAWS: usize = 66;
+
+const OPEN_DRAWS: [u8; DRAWS] = [1; DRAWS];
+
+/// The bindings of the channel.
+fn bindings(alloc: Global) -> Option<Bindings> {
+    Bindings::new(Octets::of(alloc, &CHANNEL).ok()?).ok()
+}
+
+/// What the initiator begins with: one credential, of SCRAM.
+pub fn initiator(alloc: Global) -> Option<InitSetup>
+    ensures { IfSome result (λ setup. is_own_list setup.list ≡ true) }
+{
+    let mut list = Vec::with_capacity(alloc, 1).ok()?;
+    list.push_reserved(MechCred::Scram {
+        user: Text::of(alloc, USER).ok()?,
+        password: Text::of(alloc, PASSWORD).ok()?,
+    });
+    Some(InitSetup {
+        list: Items::of(list),
+        bindings: Some(bindings(alloc)?),
+        stamp: Moment::start(),
+        draws: OPEN_DRAWS,
+    })
+}
+
+/// What the acceptor begins with: the user's verifier in place of a password, and SCRAM alone on offer.
+pub fn acceptor(alloc: Global) -> Option<AcceptSetup> {
+    let line = make_verifier(alloc, USER, PASSWORD, &SALT, ROUNDS).ok()?;
+    let mut offer = Vec::new(alloc);
+    offer.push(MechKind::Scram).ok()?;
+    Some(AcceptSetup {
+        own: Principal::parse(alloc, SERVICE).ok()?,
+        keytab: read_keytab(alloc, &NO_KEYS).ok()?,
+        verifiers: read_verifiers(alloc, line.as_slice()).ok()?,
+        bindings: Some(bindings(alloc)?),
+        offer: Items::of(offer),
+    })
+}
