@@ -1,4 +1,5 @@
--- The field GF(2^8) and the S-box of FIPS 197, sections 4 and 5.1.1. An octet is the polynomial whose coefficients are its bits.
+-- The field GF(2^8) and the S-box of FIPS 197, sections 4 and 5.1.1. An octet is the polynomial
+-- whose coefficients are its bits.
 use Rattle.std.specs.Prelude.{ℕ, zero, suc, ◌+◌, ◌*◌, ◌/◌, ◌%◌, ◌==◌, bit_xor, if◌then◌else◌}
 use Rattle.std.specs.Int.{bit_at}
 
@@ -28,9 +29,11 @@ inverse a = power 254 a
 abbrev pub rotated : ℕ → ℕ → ℕ
 rotated factor b = (b * factor) % 256 + b * factor / 256
 
--- the affine map (section 5.1.1): bit i is the sum of bits i, i+4, i+5, i+6, i+7 of b and bit i of 63
+-- the affine map (section 5.1.1): bit i is the sum of bits i, i+4, i+5, i+6, i+7 of b and bit i of
+-- 63
 abbrev pub affine : ℕ → ℕ
-affine b = bit_xor (bit_xor (bit_xor (bit_xor (bit_xor b (rotated 2 b)) (rotated 4 b)) (rotated 8 b)) (rotated 16 b)) 0x63
+affine b = bit_xor (bit_xor
+    (bit_xor (bit_xor (bit_xor b (rotated 2 b)) (rotated 4 b)) (rotated 8 b)) (rotated 16 b)) 0x63
 
 -- its inverse (section 5.3.2): bit i is the sum of bits i+2, i+5, i+7 of b and bit i of 05
 abbrev pub affine_back : ℕ → ℕ
@@ -40,5 +43,6 @@ affine_back b = bit_xor (bit_xor (bit_xor (rotated 2 b) (rotated 8 b)) (rotated 
 unfoldable pub sbox : ℕ → ℕ
 sbox a = affine (inverse a)
 
+-- InvSBox (section 5.3.2)
 unfoldable pub inverse_sbox : ℕ → ℕ
 inverse_sbox b = inverse (affine_back b)

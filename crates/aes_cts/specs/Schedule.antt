@@ -1,5 +1,6 @@
 -- The key expansion of FIPS 197, section 5.2, for keys of 16 and 32 octets.
-use Rattle.std.specs.Prelude.{ℕ, zero, suc, ◌+◌, ◌-◌, ◌*◌, ◌/◌, ◌%◌, ◌==◌, nat_lt, List, [], ◌∷◌, ◌++◌, length, slice_index_or, if◌then◌else◌}
+use Rattle.std.specs.Prelude.{ℕ, zero, suc, ◌+◌, ◌-◌, ◌*◌, ◌/◌, ◌%◌, ◌==◌, nat_lt, List, [], ◌∷◌}
+use Rattle.std.specs.Prelude.{◌++◌, length, slice_index_or, if◌then◌else◌}
 use Rattle.aes_cts.specs.Field.{times_x}
 use Rattle.aes_cts.specs.State.{Column, State, column_from, add_column, sub_column, rotate_column}
 
@@ -7,6 +8,7 @@ use Rattle.aes_cts.specs.State.{Column, State, column_from, add_column, sub_colu
 abbrev pub words_of : List ℕ → ℕ
 words_of key = length key / 4
 
+-- Nr: 10 for a key of 16 octets, 14 for one of 32
 abbrev pub rounds_of : List ℕ → ℕ
 rounds_of key = words_of key + 6
 
@@ -37,12 +39,14 @@ turned size i before =
 
 -- word i, made of the words before it
 unfoldable pub next_column : ℕ → List Column → ℕ → Column
-next_column size words i = add_column (column_at words (i - size)) (turned size i (column_at words (i - 1)))
+next_column size words i =
+    add_column (column_at words (i - size)) (turned size i (column_at words (i - 1)))
 
 -- the key's words and that many further ones
 unfoldable pub expanded : ℕ → List ℕ → ℕ → List Column
 expanded size key zero = first_columns size key
-expanded size key (suc n) = expanded size key n ++ next_column size (expanded size key n) (size + n) ∷ []
+expanded size key (suc n) =
+    expanded size key n ++ next_column size (expanded size key n) (size + n) ∷ []
 
 -- w, the words of the round keys of a key: four for each round and four before the first
 unfoldable pub key_schedule : List ℕ → List Column

@@ -1,4 +1,5 @@
--- The state of FIPS 197, section 3.4, four columns of four octets, and the maps on it, sections 5.1 and 5.3.
+-- The state of FIPS 197, section 3.4, four columns of four octets, and the maps on it, sections 5.1
+-- and 5.3.
 use Rattle.std.specs.Prelude.{ℕ, ◌+◌, ◌/◌, ◌%◌, ◌^◌, List, [], ◌∷◌, slice_index, bit_xor}
 use Rattle.aes_cts.specs.Field.{times, sbox, inverse_sbox}
 
@@ -9,6 +10,7 @@ pub record Column : Type 0 where
   pub row2 : ℕ
   pub row3 : ℕ
 
+-- a state: four columns, the first of them column 0
 pub record State : Type 0 where
   pub column0 : Column
   pub column1 : Column
@@ -23,7 +25,13 @@ octet_of word shift = word / 2 ^ shift % 2 ^ 8
 
 -- the octets of a word, the most significant in row 0
 unfoldable pub column_of : ℕ → Column
-column_of word = record { row0 = octet_of word 24; row1 = octet_of word 16; row2 = octet_of word 8; row3 = octet_of word 0 }
+column_of word = record {
+  row0 = octet_of word 24;
+  row1 = octet_of word 16;
+  row2 =
+      octet_of word 8;
+  row3 = octet_of word 0;
+}
 
 -- four octets of a list from that place on
 unfoldable pub column_from : List ℕ → ℕ → Column
@@ -53,6 +61,7 @@ state_octets s =
 
 -- ---- maps on a column
 
+-- the sum of two columns, row by row
 unfoldable pub add_column : Column → Column → Column
 add_column a b = record {
   row0 = bit_xor a.row0 b.row0;
@@ -63,8 +72,10 @@ add_column a b = record {
 
 -- SubWord (section 5.2)
 unfoldable pub sub_column : Column → Column
-sub_column a = record { row0 = sbox a.row0; row1 = sbox a.row1; row2 = sbox a.row2; row3 = sbox a.row3 }
+sub_column a =
+    record { row0 = sbox a.row0; row1 = sbox a.row1; row2 = sbox a.row2; row3 = sbox a.row3 }
 
+-- InvSubBytes on one column (section 5.3.2)
 unfoldable pub inverse_sub_column : Column → Column
 inverse_sub_column a = record {
   row0 = inverse_sbox a.row0;
@@ -103,18 +114,28 @@ inverse_mix_column a = record {
 
 -- a map on columns, at each column
 abbrev pub each_column : (Column → Column) → State → State
-each_column f s = record { column0 = f s.column0; column1 = f s.column1; column2 = f s.column2; column3 = f s.column3 }
+each_column f s = record {
+  column0 = f s.column0;
+  column1 = f s.column1;
+  column2 =
+      f s.column2;
+  column3 = f s.column3;
+}
 
--- SubBytes, InvSubBytes (sections 5.1.1 and 5.3.2), MixColumns, InvMixColumns (sections 5.1.3 and 5.3.3)
+-- SubBytes, InvSubBytes (sections 5.1.1 and 5.3.2), MixColumns, InvMixColumns (sections 5.1.3 and
+-- 5.3.3)
 unfoldable pub sub_bytes : State → State
 sub_bytes = each_column sub_column
 
+-- InvSubBytes (section 5.3.2)
 unfoldable pub inverse_sub_bytes : State → State
 inverse_sub_bytes = each_column inverse_sub_column
 
+-- MixColumns (section 5.1.3)
 unfoldable pub mix_columns : State → State
 mix_columns = each_column mix_column
 
+-- InvMixColumns (section 5.3.3)
 unfoldable pub inverse_mix_columns : State → State
 inverse_mix_columns = each_column inverse_mix_column
 

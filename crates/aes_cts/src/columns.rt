@@ -2,7 +2,11 @@
 
 ghost use Rattle.std.specs.Prelude.{◌≡◌, ◌+◌, ◌<◌, ◌≤◌, length};
 ghost use Rattle.aes_cts.specs.Words.{state_of, state_at};
-ghost use Rattle.aes_cts.specs.State.{octet_of, column_of, column_from, state_from, state_octets, across, add_column, sub_column, inverse_sub_column, mix_column, inverse_mix_column, add_state, sub_bytes, inverse_sub_bytes, shift_rows, inverse_shift_rows, mix_columns, inverse_mix_columns};
+ghost use Rattle.aes_cts.specs.State.{octet_of, column_of, column_from, state_from, state_octets};
+ghost use Rattle.aes_cts.specs.State.{across, add_column, sub_column, inverse_sub_column};
+ghost use Rattle.aes_cts.specs.State.{mix_column, inverse_mix_column, add_state, sub_bytes};
+ghost use Rattle.aes_cts.specs.State.{inverse_sub_bytes, shift_rows, inverse_shift_rows};
+ghost use Rattle.aes_cts.specs.State.{mix_columns, inverse_mix_columns};
 
 use crate::tables::{mix0, mix1, mix2, mix3, sub, unmix0, unmix1, unmix2, unmix3, unsub};
 
@@ -65,7 +69,8 @@ pub fn block_of(state: Columns) -> [u8; 16]
 // SubBytes of the column whose rows stand in these four.
 #[inline]
 pub fn substitute(a: u32, b: u32, c: u32, d: u32) -> u32
-    ensures { column_of result ≡ sub_column (across (column_of a) (column_of b) (column_of c) (column_of d)) }
+    ensures { column_of result
+        ≡ sub_column (across (column_of a) (column_of b) (column_of c) (column_of d)) }
 {
     u32::from_be_bytes([
         sub(octet(a, 24)),
@@ -77,7 +82,8 @@ pub fn substitute(a: u32, b: u32, c: u32, d: u32) -> u32
 
 #[inline]
 fn unsubstitute(a: u32, b: u32, c: u32, d: u32) -> u32
-    ensures { column_of result ≡ inverse_sub_column (across (column_of a) (column_of b) (column_of c) (column_of d)) }
+    ensures { column_of result
+        ≡ inverse_sub_column (across (column_of a) (column_of b) (column_of c) (column_of d)) }
 {
     u32::from_be_bytes([
         unsub(octet(a, 24)),
@@ -91,14 +97,17 @@ fn unsubstitute(a: u32, b: u32, c: u32, d: u32) -> u32
 // The word of the key comes first in the sum and the last row next: in another order the compiler keeps octets on the stack, and each round waits for them.
 #[inline]
 fn mix(key: u32, a: u32, b: u32, c: u32, d: u32) -> u32
-    ensures { column_of result ≡ add_column (mix_column (sub_column (across (column_of a) (column_of b) (column_of c) (column_of d)))) (column_of key) }
+    ensures { column_of result ≡ add_column
+        (mix_column (sub_column (across (column_of a) (column_of b) (column_of c) (column_of d))))
+        (column_of key) }
 {
     key ^ mix3(octet(d, 0)) ^ mix2(octet(c, 8)) ^ mix0(octet(a, 24)) ^ mix1(octet(b, 16))
 }
 
 #[inline]
 fn unmix(key: u32, a: u32, b: u32, c: u32, d: u32) -> u32
-    ensures { column_of result ≡ add_column (inverse_mix_column (inverse_sub_column (across (column_of a) (column_of b) (column_of c) (column_of d)))) (column_of key) }
+    ensures { column_of result ≡ add_column (inverse_mix_column (inverse_sub_column
+        (across (column_of a) (column_of b) (column_of c) (column_of d)))) (column_of key) }
 {
     key ^ unmix3(octet(d, 0)) ^ unmix2(octet(c, 8)) ^ unmix0(octet(a, 24)) ^ unmix1(octet(b, 16))
 }
@@ -127,7 +136,8 @@ pub fn add(s: Columns, words: &[u32; 60], at: usize) -> Columns
 #[inline]
 pub fn round(s: Columns, words: &[u32; 60], at: usize) -> Columns
     requires { at + 4 ≤ 60 }
-    ensures { state_of result ≡ add_state (mix_columns (shift_rows (sub_bytes (state_of s)))) (state_at words.now at) }
+    ensures { state_of result
+        ≡ add_state (mix_columns (shift_rows (sub_bytes (state_of s)))) (state_at words.now at) }
 {
     let Columns {
         first: a,
@@ -146,7 +156,8 @@ pub fn round(s: Columns, words: &[u32; 60], at: usize) -> Columns
 #[inline]
 pub fn last_round(s: Columns, words: &[u32; 60], at: usize) -> Columns
     requires { at + 4 ≤ 60 }
-    ensures { state_of result ≡ add_state (shift_rows (sub_bytes (state_of s))) (state_at words.now at) }
+    ensures { state_of result
+        ≡ add_state (shift_rows (sub_bytes (state_of s))) (state_at words.now at) }
 {
     let Columns {
         first: a,
@@ -167,7 +178,9 @@ pub fn last_round(s: Columns, words: &[u32; 60], at: usize) -> Columns
 #[inline]
 pub fn inverse_round(s: Columns, words: &[u32; 60], at: usize) -> Columns
     requires { at + 4 ≤ 60 }
-    ensures { state_of result ≡ add_state (inverse_mix_columns (inverse_sub_bytes (inverse_shift_rows (state_of s)))) (state_at words.now at) }
+    ensures { state_of result
+        ≡ add_state (inverse_mix_columns (inverse_sub_bytes (inverse_shift_rows (state_of s))))
+        (state_at words.now at) }
 {
     let Columns {
         first: a,
@@ -186,7 +199,8 @@ pub fn inverse_round(s: Columns, words: &[u32; 60], at: usize) -> Columns
 #[inline]
 pub fn inverse_last_round(s: Columns, words: &[u32; 60], at: usize) -> Columns
     requires { at + 4 ≤ 60 }
-    ensures { state_of result ≡ add_state (inverse_sub_bytes (inverse_shift_rows (state_of s))) (state_at words.now at) }
+    ensures { state_of result
+        ≡ add_state (inverse_sub_bytes (inverse_shift_rows (state_of s))) (state_at words.now at) }
 {
     let Columns {
         first: a,

@@ -1,6 +1,7 @@
 // Keys with their schedules, made once, and the cipher on a block.
 
-ghost use Rattle.std.specs.Prelude.{◌≡◌, ◌≢◌, ℕ, ◌+◌, ◌-◌, ◌*◌, ◌<◌, ◌≤◌, ◌⊎◌, List, [], ◌∷◌, length, take, slice_index, All};
+ghost use Rattle.std.specs.Prelude.{◌≡◌, ◌≢◌, ℕ, ◌+◌, ◌-◌, ◌*◌, ◌<◌, ◌≤◌, ◌⊎◌, List, [], ◌∷◌};
+ghost use Rattle.std.specs.Prelude.{length, take, slice_index, All};
 ghost use Rattle.aes_cts.specs.State.{column_of, inverse_mix_column};
 ghost use Rattle.aes_cts.specs.Schedule.{column_at, key_schedule};
 
@@ -21,14 +22,18 @@ pub struct AesKey {
     ghost low: { 10 ≤ rounds },
     ghost high: { rounds ≤ 14 },
     ghost sized: { rounds ≢ 10 → rounds ≡ 14 },
-    ghost scheduled: { (i : ℕ) → i < 4 * rounds + 4 → column_of (slice_index forward i) ≡ column_at (key_schedule (take (4 * (rounds - 6)) octets)) i },
-    ghost mixed: { (i : ℕ) → 4 ≤ i → i < 4 * rounds → column_of (slice_index backward i) ≡ inverse_mix_column (column_of (slice_index forward i)) },
+    ghost scheduled: { (i : ℕ) → i < 4 * rounds + 4 → column_of (slice_index forward i)
+        ≡ column_at (key_schedule (take (4 * (rounds - 6)) octets)) i },
+    ghost mixed: { (i : ℕ) → 4 ≤ i → i < 4 * rounds → column_of (slice_index backward i)
+        ≡ inverse_mix_column (column_of (slice_index forward i)) },
 }
 
 impl AesKey {
     ghost use Rattle.aes_cts.specs.Words.{state_of};
     ghost use Rattle.aes_cts.specs.State.{State};
-    ghost use Rattle.aes_cts.specs.Cipher.{cipher, inverse_cipher, cipher_state, inverse_cipher_state, after_rounds, after_inverse_rounds, IsOctets};
+    ghost use Rattle.aes_cts.specs.Cipher.{cipher, inverse_cipher, cipher_state};
+    ghost use Rattle.aes_cts.specs.Cipher.{inverse_cipher_state, after_rounds};
+    ghost use Rattle.aes_cts.specs.Cipher.{after_inverse_rounds, IsOctets};
     ghost use Rattle.aes_cts.specs.AesKey.{cipher_key};
 
     /// The key of 16 octets, with 10 rounds.
@@ -67,7 +72,9 @@ impl AesKey {
     fn after(&self, state: Columns, number: usize) -> Columns
         requires some { 0 < number }
         requires inner { number < self.now.rounds }
-        ensures { (s : State) → state_of state ≡ after_rounds (key_schedule (cipher_key self.now)) s (number - 1) → state_of result ≡ after_rounds (key_schedule (cipher_key self.now)) s number }
+        ensures { (s : State)
+            → state_of state ≡ after_rounds (key_schedule (cipher_key self.now)) s (number - 1)
+            → state_of result ≡ after_rounds (key_schedule (cipher_key self.now)) s number }
     {
         round(state, &self.forward, 4 * number)
     }
@@ -75,7 +82,8 @@ impl AesKey {
     // The rounds are written out one by one: in a loop the state's words would be packed into a vector and taken apart at each round.
     #[inline(always)]
     pub(crate) fn encrypt(&self, block: Columns) -> Columns
-        ensures { state_of result ≡ cipher_state (key_schedule (cipher_key self.now)) self.now.rounds (state_of block) }
+        ensures { state_of result
+            ≡ cipher_state (key_schedule (cipher_key self.now)) self.now.rounds (state_of block) }
     {
         let begun = add(block, &self.forward, 0);
         let one = self.after(begun, 1);
@@ -102,7 +110,10 @@ impl AesKey {
     fn before(&self, state: Columns, number: usize) -> Columns
         requires some { 0 < number }
         requires inner { number < self.now.rounds }
-        ensures { (s : State) (done : ℕ) → done + number + 1 ≡ self.now.rounds → state_of state ≡ after_inverse_rounds (key_schedule (cipher_key self.now)) self.now.rounds s done → state_of result ≡ after_inverse_rounds (key_schedule (cipher_key self.now)) self.now.rounds s (done + 1) }
+        ensures { (s : State) (done : ℕ) → done + number + 1 ≡ self.now.rounds → state_of state
+            ≡ after_inverse_rounds (key_schedule (cipher_key self.now)) self.now.rounds s done
+            → state_of result ≡ after_inverse_rounds (key_schedule (cipher_key self.now))
+            self.now.rounds s (done + 1) }
     {
         inverse_round(state, &self.backward, 4 * number)
     }
@@ -110,7 +121,8 @@ impl AesKey {
     // The state of the inverse before its round with the key of round 9.
     #[inline(always)]
     fn begun(&self, block: Columns) -> Columns
-        ensures { state_of result ≡ after_inverse_rounds (key_schedule (cipher_key self.now)) self.now.rounds (state_of block) (self.now.rounds - 10) }
+        ensures { state_of result ≡ after_inverse_rounds (key_schedule (cipher_key self.now))
+            self.now.rounds (state_of block) (self.now.rounds - 10) }
     {
         let whole = add(block, &self.forward, 4 * self.rounds);
         if self.rounds == 10 {
@@ -124,7 +136,8 @@ impl AesKey {
 
     #[inline(always)]
     pub(crate) fn decrypt(&self, block: Columns) -> Columns
-        ensures { state_of result ≡ inverse_cipher_state (key_schedule (cipher_key self.now)) self.now.rounds (state_of block) }
+        ensures { state_of result ≡ inverse_cipher_state (key_schedule (cipher_key self.now))
+            self.now.rounds (state_of block) }
     {
         let begun = self.begun(block);
         let nine = self.before(begun, 9);
@@ -149,7 +162,8 @@ impl AesKey {
     /// The inverse cipher of a block, section 5.3.
     pub fn unblock(&self, b: &[u8; 16]) -> [u8; 16]
         ensures value { result ≡ inverse_cipher (cipher_key self.now) b.now }
-        ensures undoes { (block : List ℕ) → IsOctets block → length block ≡ 16 → b.now ≡ cipher (cipher_key self.now) block → result ≡ block }
+        ensures undoes { (block : List ℕ) → IsOctets block → length block ≡ 16
+            → b.now ≡ cipher (cipher_key self.now) block → result ≡ block }
         ensures undone { cipher (cipher_key self.now) result ≡ b.now }
     {
         block_of(self.decrypt(state_words(b)))

@@ -1,7 +1,9 @@
 // The words of a key's rounds, FIPS 197 section 5.2, and those of the inverse.
 
-ghost use Rattle.std.specs.Prelude.{◌≡◌, ℕ, ◌+◌, ◌-◌, ◌*◌, ◌<◌, ◌≤◌, ◌⊎◌, length, take, slice_index};
-ghost use Rattle.aes_cts.specs.State.{column_of, add_column, sub_column, rotate_column, inverse_mix_column};
+ghost use Rattle.std.specs.Prelude.{◌≡◌, ℕ, ◌+◌, ◌-◌, ◌*◌, ◌<◌, ◌≤◌, ◌⊎◌, length, take};
+ghost use Rattle.std.specs.Prelude.{slice_index};
+ghost use Rattle.aes_cts.specs.State.{column_of, add_column, sub_column, rotate_column};
+ghost use Rattle.aes_cts.specs.State.{inverse_mix_column};
 ghost use Rattle.aes_cts.specs.Schedule.{column_at, key_schedule, round_constant, turned};
 
 use crate::columns::{octet, substitute, unmixed, word_at};
@@ -11,7 +13,8 @@ use crate::tables::{constant, sub};
 fn turned_first(before: u32, number: usize) -> u32
     requires low { 0 < number }
     requires high { number < 11 }
-    ensures { column_of result ≡ add_column (sub_column (rotate_column (column_of before))) (round_constant number) }
+    ensures { column_of result
+        ≡ add_column (sub_column (rotate_column (column_of before))) (round_constant number) }
 {
     let put = u32::from_be_bytes([
         sub(octet(before, 16)),
@@ -41,7 +44,8 @@ fn turned(before: u32, size: usize, i: usize) -> u32
 /// The words of the rounds, of a key of `size` words.
 pub fn expand(key: &[u8; 32], size: usize) -> [u32; 60]
     requires sized { (size ≡ 4) ⊎ (size ≡ 8) }
-    ensures { (i : ℕ) → i < 4 * size + 28 → column_of (slice_index result i) ≡ column_at (key_schedule (take (4 * size) key.now)) i }
+    ensures { (i : ℕ) → i < 4 * size + 28
+        → column_of (slice_index result i) ≡ column_at (key_schedule (take (4 * size) key.now)) i }
 {
     let mut words = [0u32; 60];
     'own: for i in 0..size {
@@ -56,7 +60,8 @@ pub fn expand(key: &[u8; 32], size: usize) -> [u32; 60]
 /// The words from 4 to `end` after InvMixColumns.
 pub fn mixed(forward: &[u32; 60], end: usize) -> [u32; 60]
     requires { end ≤ 60 }
-    ensures { (i : ℕ) → 4 ≤ i → i < end → column_of (slice_index result i) ≡ inverse_mix_column (column_of (slice_index forward.now i)) }
+    ensures { (i : ℕ) → 4 ≤ i → i < end → column_of (slice_index result i)
+        ≡ inverse_mix_column (column_of (slice_index forward.now i)) }
 {
     let mut words = [0u32; 60];
     'words: for i in 4..end {

@@ -5,7 +5,8 @@ ghost use Rattle.aes_cts.specs.Words.{state_of};
 ghost use Rattle.aes_cts.specs.State.{state_octets};
 ghost use Rattle.aes_cts.specs.AesKey.{cipher_key};
 ghost use Rattle.aes_cts.specs.Cipher.{cipher, inverse_cipher, IsOctets};
-ghost use Rattle.aes_cts.specs.Stealing.{add_octets, chain, chained, stolen, cts_encrypted, unchained, given_back, cts_decrypted};
+ghost use Rattle.aes_cts.specs.Stealing.{add_octets, chain, chained, stolen, cts_encrypted};
+ghost use Rattle.aes_cts.specs.Stealing.{unchained, given_back, cts_decrypted};
 
 use crate::columns::{Columns, block_of, state_words};
 use crate::key::AesKey;
@@ -19,7 +20,8 @@ const ZERO: Columns = Columns {
 
 #[inline]
 fn added(a: Columns, b: Columns) -> Columns
-    ensures { state_octets (state_of result) ≡ add_octets (state_octets (state_of a)) (state_octets (state_of b)) }
+    ensures { state_octets (state_of result)
+        ≡ add_octets (state_octets (state_of a)) (state_octets (state_of b)) }
 {
     Columns {
         first: a.first ^ b.first,
@@ -57,8 +59,10 @@ impl AesKey {
     pub fn cts_decrypt(&self, bytes: &mut [u8])
         requires { 16 ≤ length bytes.old }
         ensures value { bytes.new ≡ cts_decrypted (cipher_key self.now) bytes.old }
-        ensures undoes { (plain : List ℕ) → IsOctets plain → 16 ≤ length plain → bytes.old ≡ cts_encrypted (cipher_key self.now) plain → bytes.new ≡ plain }
-        ensures undone { IsOctets bytes.old → cts_encrypted (cipher_key self.now) bytes.new ≡ bytes.old }
+        ensures undoes { (plain : List ℕ) → IsOctets plain → 16 ≤ length plain
+            → bytes.old ≡ cts_encrypted (cipher_key self.now) plain → bytes.new ≡ plain }
+        ensures undone { IsOctets bytes.old
+            → cts_encrypted (cipher_key self.now) bytes.new ≡ bytes.old }
     {
         let count = (bytes.len() - 1) / 16;
         if count == 0 {
@@ -73,7 +77,8 @@ impl AesKey {
     #[inline(always)]
     fn chain(&self, before: Columns, block: &[u8]) -> Columns
         requires { length block.now ≡ 16 }
-        ensures { state_octets (state_of result) ≡ cipher (cipher_key self.now) (add_octets (state_octets (state_of before)) block.now) }
+        ensures { state_octets (state_of result)
+            ≡ cipher (cipher_key self.now) (add_octets (state_octets (state_of before)) block.now) }
     {
         self.encrypt(added(before, state_words(block)))
     }
@@ -82,8 +87,10 @@ impl AesKey {
     #[inline(never)]
     fn encrypt_blocks(&self, bytes: &mut [u8], count: usize) -> Columns
         requires { 16 * count ≤ length bytes.old }
-        ensures bytes { bytes.new ≡ chained (cipher_key self.now) bytes.old count ++ drop (16 * count) bytes.old }
-        ensures last { state_octets (state_of result) ≡ chain (cipher_key self.now) bytes.old count }
+        ensures bytes { bytes.new
+            ≡ chained (cipher_key self.now) bytes.old count ++ drop (16 * count) bytes.old }
+        ensures last { state_octets (state_of result)
+            ≡ chain (cipher_key self.now) bytes.old count }
     {
         let mut before = ZERO;
         'each: for i in 0..count {
@@ -114,7 +121,8 @@ impl AesKey {
     #[inline(never)]
     fn decrypt_blocks(&self, bytes: &mut [u8], count: usize)
         requires { 16 * count ≤ length bytes.old }
-        ensures { bytes.new ≡ unchained (cipher_key self.now) bytes.old count ++ drop (16 * count) bytes.old }
+        ensures { bytes.new
+            ≡ unchained (cipher_key self.now) bytes.old count ++ drop (16 * count) bytes.old }
     {
         let mut before = ZERO;
         'each: for i in 0..count {

@@ -4,7 +4,8 @@ ghost use Rattle.std.specs.Prelude.{◌≡◌, ◌-◌, ◌<◌};
 ghost use Rattle.aes_cts.specs.Field.{sbox, inverse_sbox};
 ghost use Rattle.aes_cts.specs.State.{column_of};
 ghost use Rattle.aes_cts.specs.Schedule.{x_power};
-ghost use Rattle.aes_cts.specs.Words.{part0, part1, part2, part3, unpart0, unpart1, unpart2, unpart3};
+ghost use Rattle.aes_cts.specs.Words.{part0, part1, part2, part3, unpart0, unpart1, unpart2};
+ghost use Rattle.aes_cts.specs.Words.{unpart3};
 
 // The S-box, FIPS 197 section 5.1.1.
 static SBOX: [u8; 256] = [

@@ -1,5 +1,6 @@
 -- The files that words name.
-use Rattle.std.specs.Prelude.{◌≡◌, ℕ, List, [], ◌∷◌, ◌++◌, length, take, codes, Option, Some, None, Result, Ok, Err, if◌then◌else◌, nat_le}
+use Rattle.std.specs.Prelude.{◌≡◌, ℕ, List, [], ◌∷◌, ◌++◌, length, take, codes, Option, Some, None}
+use Rattle.std.specs.Prelude.{Result, Ok, Err, if◌then◌else◌, nat_le}
 use Rattle.std.specs.Fmt.{decimal}
 use Rattle.sec_base.specs.Shelf.{content_of}
 use Rattle.sec_base.specs.declared.shelf.NamedFile.{NamedFile}
@@ -14,11 +15,13 @@ use Rattle.cli_base.specs.declared.files.FileStop.TheVariants.{CannotLoad, Bad, 
 abbrev pub most : ℕ
 most = 1048576
 
+-- the octets of a file, refused if it isn't there, and bad at the limit if it is longer
 abbrev pub file_within : Option (List ℕ) → Result (List ℕ) FileStop
 file_within None = Err CannotLoad
 file_within (Some octets) = if nat_le (length octets) most then Ok octets else Err (Bad most)
 
--- the octets of the first file of this name; it can't be loaded where there is none, and is bad at the limit where it is longer
+-- the octets of the first file of this name; it can't be loaded where there is none, and is bad at
+-- the limit where it is longer
 abbrev pub file_in : List NamedFile → List ℕ → Result (List ℕ) FileStop
 file_in files name = file_within (content_of files name)
 
@@ -36,6 +39,7 @@ AsksFile old new name (Err (Bad at)) = new ≡ old ++ name ∷ []
 AsksFile old new name (Err CannotLoad) = new ≡ old ++ name ∷ []
 AsksFile old new name (Err NoMemory) = (count : ℕ) × (new ≡ old ++ take count (name ∷ []))
 
+-- a file that was read and refused is bad at the place, but for want of memory
 abbrev pub stop_for : FileWhy → ℕ → FileStop
 stop_for whys.Magic at = Bad at
 stop_for whys.Short at = Bad at
@@ -47,6 +51,7 @@ stop_for whys.NoMemory at = NoMemory
 abbrev pub stop_by : FileRefusal → FileStop
 stop_by refusal = stop_for refusal.why refusal.at
 
+-- the status with which such a stop ends a program
 abbrev pub stop_status : FileStop → ℕ
 stop_status CannotLoad = 3
 stop_status (Bad at) = 4

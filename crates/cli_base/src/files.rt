@@ -2,7 +2,8 @@
 
 ghost use Rattle.std.specs.Prelude.{◌≡◌, ◌≢◌, ◌≤◌, IsTrue, IsErrOf};
 ghost use Rattle.sec_base.specs.Answers.{Rose};
-ghost use Rattle.cli_base.specs.Files.{file_in, LoadsFile, AsksFile, stop_by, stop_status, stop_line};
+ghost use Rattle.cli_base.specs.Files.{file_in, LoadsFile, AsksFile, stop_by, stop_status};
+ghost use Rattle.cli_base.specs.Files.{stop_line};
 ghost use Rattle.cli_base.specs.Lines.{Says};
 
 use crate::lines::{OUT_OF_MEMORY, say, say_made};
@@ -26,9 +27,12 @@ pub enum FileStop {
 
 /// The octets of the file of this name.
 pub fn load<F: Shelf>(alloc: Global, shelf: &mut F, name: &str) -> Result<Octets, FileStop>
-    ensures told { IsTrue (F.tells shelf.old) → LoadsFile (file_in (F.files shelf.old) name.now) result }
-    ensures asked { IsTrue (F.tells shelf.old) → AsksFile (F.asked shelf.old) (F.asked shelf.new) name.now result }
-    ensures fault { IsErrOf result FileStop.CannotLoad → Rose (F.faults shelf.old) (F.faults shelf.new) }
+    ensures told { IsTrue (F.tells shelf.old)
+        → LoadsFile (file_in (F.files shelf.old) name.now) result }
+    ensures asked { IsTrue (F.tells shelf.old)
+        → AsksFile (F.asked shelf.old) (F.asked shelf.new) name.now result }
+    ensures fault { IsErrOf result FileStop.CannotLoad
+        → Rose (F.faults shelf.old) (F.faults shelf.new) }
     ensures files { F.files shelf.new ≡ F.files shelf.old }
     ensures tells { F.tells shelf.new ≡ F.tells shelf.old }
     ensures faults { F.faults shelf.old ≤ F.faults shelf.new }
@@ -56,7 +60,8 @@ pub fn stop_of(refusal: FileRefusal) -> FileStop
 pub fn say_stop<O: Sink>(alloc: Global, sink: &mut O, name: &str, stop: FileStop) -> u8
     ensures status { result ≢ 6 → result ≢ 8 → result ≡ stop_status stop }
     ensures fault { result ≡ 6 → Rose (O.faults sink.old) (O.faults sink.new) }
-    ensures said { IsTrue (O.tells sink.old) → Says (O.written sink.old) (O.written sink.new) result (stop_line name.now stop) }
+    ensures said { IsTrue (O.tells sink.old)
+        → Says (O.written sink.old) (O.written sink.new) result (stop_line name.now stop) }
     ensures tells { O.tells sink.new ≡ O.tells sink.old }
     ensures faults { O.faults sink.old ≤ O.faults sink.new }
 {

@@ -15,7 +15,8 @@ pub fn say<O: Sink>(sink: &mut O, status: u8, line: &str) -> u8
     requires { status ≢ 6 }
     ensures status { result ≢ 6 → result ≡ status }
     ensures fault { result ≡ 6 → Rose (O.faults sink.old) (O.faults sink.new) }
-    ensures said { IsTrue (O.tells sink.old) → SaysLine (O.written sink.old) (O.written sink.new) result line.now }
+    ensures said { IsTrue (O.tells sink.old)
+        → SaysLine (O.written sink.old) (O.written sink.new) result line.now }
     ensures tells { O.tells sink.new ≡ O.tells sink.old }
     ensures faults { O.faults sink.old ≤ O.faults sink.new }
 {
@@ -32,7 +33,8 @@ pub fn say_made<O: Sink>(sink: &mut O, status: u8, line: Result<String, AllocErr
     requires memory { status ≢ 8 }
     ensures status { result ≢ 6 → result ≢ 8 → result ≡ status }
     ensures fault { result ≡ 6 → Rose (O.faults sink.old) (O.faults sink.new) }
-    ensures said { IsTrue (O.tells sink.old) → (due : List ℕ) → IfOk line (λ made. string_bytes made ≡ due)
+    ensures said { IsTrue (O.tells sink.old)
+        → (due : List ℕ) → IfOk line (λ made. string_bytes made ≡ due)
         → Says (O.written sink.old) (O.written sink.new) result due }
     ensures tells { O.tells sink.new ≡ O.tells sink.old }
     ensures faults { O.faults sink.old ≤ O.faults sink.new }

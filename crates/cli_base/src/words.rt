@@ -2,7 +2,8 @@
 
 ghost use Rattle.std.specs.Prelude.{◌≡◌, false, length, slice_get};
 ghost use Rattle.std.specs.Option.{option_map};
-ghost use Rattle.cli_base.specs.Words.{is_dashed, is_one_of, texts, has_value, is_option, are_words, value_of, first_word, plain_of};
+ghost use Rattle.cli_base.specs.Words.{is_dashed, is_one_of, texts, has_value, is_option};
+ghost use Rattle.cli_base.specs.Words.{are_words, value_of, first_word, plain_of};
 
 use sec_base::Text;
 

@@ -1,18 +1,22 @@
 -- The contexts of an acceptor: a map from the id of a context to its slot.
-use Rattle.std.specs.Prelude.{◌≡◌, ◌≢◌, ℕ, ◌+◌, ◌<◌, ◌≤◌, Bool, true, false, ◌==◌, if◌then◌else◌, List, [], ◌∷◌, length, Option, None, Some, IfSome, IsSomeAnd}
+use Rattle.std.specs.Prelude.{◌≡◌, ◌≢◌, ℕ, ◌+◌, ◌<◌, ◌≤◌, Bool, true, false, ◌==◌, if◌then◌else◌}
+use Rattle.std.specs.Prelude.{List, [], ◌∷◌, length, Option, None, Some, IfSome, IsSomeAnd}
 use Rattle.seq_window.specs.Marks.{Shows, IsFresh}
 use Rattle.context_table.specs.declared.slot.Slot.{Slot}
 use Rattle.context_table.specs.declared.slot.SlotState.{SlotState}
 use Rattle.context_table.specs.declared.slot.Phase.{Phase}
 use Rattle.context_table.specs.declared.slot.Phase.TheVariants as phases
-use Rattle.context_table.specs.Slots.{state_taken, state_held, phase_in, is_whole, HasState, IsHeldState, IsMarked}
+use Rattle.context_table.specs.Slots.{state_taken, state_held, phase_in, is_whole, HasState}
+use Rattle.context_table.specs.Slots.{IsHeldState, IsMarked}
 
--- a table: how many slots it has room for, the width of their windows, and the live slots by rising id
+-- a table: how many slots it has room for, the width of their windows, and the live slots by rising
+-- id
 pub record Places (N S : Type 0) : Type 0 where
   pub limit : ℕ
   pub width : ℕ
   pub slots : List (Slot N S)
 
+-- the slot of an id, among these
 abbrev pub slot_in : {N S : Type 0} → List (Slot N S) → ℕ → Option (Slot N S)
 slot_in [] id = None
 slot_in (slot ∷ slots) id = if slot.id == id then Some slot else slot_in slots id
@@ -36,6 +40,7 @@ abbrev pub phase_of : {N S : Type 0} → Option (Slot N S) → Phase
 phase_of None = phases.None
 phase_of (Some slot) = phase_in slot.state
 
+-- the slot lives, and its context is complete
 abbrev pub is_complete : {N S : Type 0} → Option (Slot N S) → Bool
 is_complete None = false
 is_complete (Some slot) = is_whole slot.state
@@ -65,6 +70,7 @@ abbrev pub HasValue : {N S : Type 0} → Option (Slot N S) → S → ℕ → Typ
 HasValue None value ends = ⊥
 HasValue (Some slot) value ends = HasState slot.state value × (slot.ends ≡ ends)
 
+-- the slot lives, and its context's state is in a step's hands
 abbrev pub IsHeld : {N S : Type 0} → Option (Slot N S) → Type 0
 IsHeld None = ⊥
 IsHeld (Some slot) = IsHeldState slot.state
@@ -74,6 +80,7 @@ abbrev pub ShowsAt : {N S : Type 0} → Option (Slot N S) → List ℕ → Type 
 ShowsAt None numbers = ⊥
 ShowsAt (Some slot) numbers = Shows slot.window numbers
 
+-- the width of the slot's window, 0 where none lives
 abbrev pub width_at : {N S : Type 0} → Option (Slot N S) → ℕ
 width_at None = 0
 width_at (Some slot) = slot.window.width
@@ -83,6 +90,7 @@ abbrev pub WideAt : {N S : Type 0} → ℕ → Option (Slot N S) → Type 0
 WideAt width None = Unit {0}
 WideAt width (Some slot) = slot.window.width ≡ width
 
+-- the slot lives, and the number may be marked in its window
 abbrev pub IsFreshAt : {N S : Type 0} → Option (Slot N S) → ℕ → Type 0
 IsFreshAt None n = ⊥
 IsFreshAt (Some slot) n = IsFresh slot.window n

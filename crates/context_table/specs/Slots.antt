@@ -19,11 +19,13 @@ state_held (Negotiating state) = Held
 state_held Held = Held
 state_held (Complete value) = Complete value
 
+-- the phase of a context that lives, by its state
 abbrev pub phase_in : {N S : Type 0} → SlotState N S → Phase
 phase_in (Negotiating state) = phases.Negotiating
 phase_in Held = phases.Held
 phase_in (Complete value) = phases.Complete
 
+-- the context is complete
 abbrev pub is_whole : {N S : Type 0} → SlotState N S → Bool
 is_whole (Negotiating state) = false
 is_whole Held = false
@@ -35,13 +37,15 @@ HasState (Negotiating state) value = ⊥
 HasState Held value = ⊥
 HasState (Complete held) value = held ≡ value
 
+-- the context negotiates, and its state is in a step's hands
 abbrev pub IsHeldState : {N S : Type 0} → SlotState N S → Type 0
 IsHeldState (Negotiating state) = ⊥
 IsHeldState Held = Unit {0}
 IsHeldState (Complete value) = ⊥
 
 -- a context that was just opened: nothing is marked in its window
-pub record IsOpened {N S : Type 0} (slot : Slot N S) (number : ℕ) (shape : SlotState N S) (end : ℕ) (wide : ℕ) : Type 0 where
+pub record IsOpened {N S : Type 0} (slot : Slot N S) (number : ℕ) (shape : SlotState N S) (end : ℕ)
+    (wide : ℕ) : Type 0 where
   pub id : slot.id ≡ number
   pub state : slot.state ≡ shape
   pub ends : slot.ends ≡ end

@@ -1,7 +1,8 @@
 //! A slot of the table: one context.
 ghost use Rattle.std.specs.Prelude.{◌≡◌, IfSome, is_some};
 ghost use Rattle.seq_window.specs.Marks.{IsFresh};
-ghost use Rattle.context_table.specs.Slots.{state_taken, state_held, phase_in, is_whole, HasState, IsMarked};
+ghost use Rattle.context_table.specs.Slots.{state_taken, state_held, phase_in, is_whole, HasState};
+ghost use Rattle.context_table.specs.Slots.{IsMarked};
 ghost use Rattle.context_table.specs.Order.{IsSpare};
 
 use sec_base::Moment;

@@ -1,8 +1,13 @@
 //! A table of contexts whose slots stay where they are.
-ghost use Rattle.std.specs.Prelude.{◌≡◌, ◌≢◌, ℕ, ◌+◌, ◌<◌, ◌≤◌, ◌↔◌, List, [], ◌∷◌, IfOk, IfSome, IsSome, IsSomeAnd, IsTrue, is_some, is_none, None, Some, if◌then◌else◌};
+ghost use Rattle.std.specs.Prelude.{◌≡◌, ◌≢◌, ℕ, ◌+◌, ◌<◌, ◌≤◌, ◌↔◌, List, [], ◌∷◌, IfOk, IfSome};
+ghost use Rattle.std.specs.Prelude.{IsSome, IsSomeAnd, IsTrue, is_some, is_none, None, Some};
+ghost use Rattle.std.specs.Prelude.{if◌then◌else◌};
 ghost use Rattle.seq_window.specs.Marks.{Shows, verdict_of};
 ghost use Rattle.context_table.specs.Slots.{IsOpened};
-ghost use Rattle.context_table.specs.Places.{slot_at, live_of, KeepsOthers, phase_of, is_complete, state_of, held_after, with_state, settled_as, WideAt, HasValue, IsHeld, ShowsAt, width_at, IsFreshAt, Marks, IsPast};
+ghost use Rattle.context_table.specs.Places.{slot_at, live_of, KeepsOthers, phase_of, is_complete};
+ghost use Rattle.context_table.specs.Places.{state_of, held_after, with_state, settled_as, WideAt};
+ghost use Rattle.context_table.specs.Places.{HasValue, IsHeld, ShowsAt, width_at, IsFreshAt, Marks};
+ghost use Rattle.context_table.specs.Places.{IsPast};
 
 use crate::order::{find, first_past, turn};
 use crate::slot::{
@@ -89,7 +94,8 @@ impl<N: Drop, S: Drop> Table<N, S> {
     pub fn open(&mut self, id: u64, state: N, ends: Moment)
         requires room { live_of self.old < self.old.limit }
         requires above { (other : ℕ) → IsSome (slot_at self.old other) → other < id }
-        ensures slot { IsSomeAnd (slot_at self.new id) (λ slot. IsOpened slot id (SlotState.Negotiating state) ends self.old.width) }
+        ensures slot { IsSomeAnd (slot_at self.new id)
+            (λ slot. IsOpened slot id (SlotState.Negotiating state) ends self.old.width) }
         ensures others { KeepsOthers self.old self.new id }
         ensures live { live_of self.new ≡ live_of self.old + 1 }
     {
@@ -100,7 +106,8 @@ impl<N: Drop, S: Drop> Table<N, S> {
     pub fn open_held(&mut self, id: u64, ends: Moment)
         requires room { live_of self.old < self.old.limit }
         requires above { (other : ℕ) → IsSome (slot_at self.old other) → other < id }
-        ensures slot { IsSomeAnd (slot_at self.new id) (λ slot. IsOpened slot id SlotState.Held ends self.old.width) }
+        ensures slot { IsSomeAnd (slot_at self.new id)
+            (λ slot. IsOpened slot id SlotState.Held ends self.old.width) }
         ensures others { KeepsOthers self.old self.new id }
         ensures live { live_of self.new ≡ live_of self.old + 1 }
     {
@@ -110,7 +117,8 @@ impl<N: Drop, S: Drop> Table<N, S> {
     fn begin(&mut self, id: u64, state: SlotState<N, S>, ends: Moment)
         requires room { live_of self.old < self.old.limit }
         requires above { (other : ℕ) → IsSome (slot_at self.old other) → other < id }
-        ensures slot { IsSomeAnd (slot_at self.new id) (λ slot. IsOpened slot id state ends self.old.width) }
+        ensures slot { IsSomeAnd (slot_at self.new id)
+            (λ slot. IsOpened slot id state ends self.old.width) }
         ensures others { KeepsOthers self.old self.new id }
         ensures live { live_of self.new ≡ live_of self.old + 1 }
     {
@@ -138,7 +146,8 @@ impl<N: Drop, S: Drop> Table<N, S> {
     /// Gives a held context its state back, or the one after it.
     pub fn put_back(&mut self, id: u64, state: N)
         requires { IsHeld (slot_at self.old id) }
-        ensures slot { slot_at self.new id ≡ with_state (slot_at self.old id) (SlotState.Negotiating state) }
+        ensures slot { slot_at self.new id
+            ≡ with_state (slot_at self.old id) (SlotState.Negotiating state) }
         ensures others { KeepsOthers self.old self.new id }
         ensures live { live_of self.new ≡ live_of self.old }
     {
@@ -154,7 +163,8 @@ impl<N: Drop, S: Drop> Table<N, S> {
     /// Completes a held context with this value, which has this end.
     pub fn settle(&mut self, id: u64, value: S, ends: Moment)
         requires { IsHeld (slot_at self.old id) }
-        ensures slot { slot_at self.new id ≡ settled_as (slot_at self.old id) (SlotState.Complete value) ends }
+        ensures slot { slot_at self.new id
+            ≡ settled_as (slot_at self.old id) (SlotState.Complete value) ends }
         ensures others { KeepsOthers self.old self.new id }
         ensures live { live_of self.new ≡ live_of self.old }
     {
@@ -170,7 +180,8 @@ impl<N: Drop, S: Drop> Table<N, S> {
     /// The value of a complete context and its end, None exactly where there is no such.
     pub fn get(&self, id: u64) -> Option<(&S, Moment)>
         ensures some { is_some result ≡ is_complete (slot_at self.now id) }
-        ensures value { IfSome result (λ found. HasValue (slot_at self.now id) found.0.now found.1) }
+        ensures value { IfSome result
+            (λ found. HasValue (slot_at self.now id) found.0.now found.1) }
     {
         match self.read(id) {
             None => None,
@@ -181,7 +192,8 @@ impl<N: Drop, S: Drop> Table<N, S> {
     /// The same, with the end where it lies.
     pub fn read(&self, id: u64) -> Option<(&S, &Moment)>
         ensures some { is_some result ≡ is_complete (slot_at self.now id) }
-        ensures value { IfSome result (λ found. HasValue (slot_at self.now id) found.0.now found.1.now) }
+        ensures value { IfSome result
+            (λ found. HasValue (slot_at self.now id) found.0.now found.1.now) }
     {
         match find(self.order.as_slice(), self.slots.as_slice(), self.live, id) {
             None => None,
@@ -192,7 +204,9 @@ impl<N: Drop, S: Drop> Table<N, S> {
     /// What the window of a context says of a number, None exactly where the id has no context.
     pub fn judge(&self, id: u64, n: u32) -> Option<Verdict>
         ensures some { is_some result ≡ is_some (slot_at self.now id) }
-        ensures verdict { IfSome result (λ verdict. (numbers : List ℕ) → ShowsAt (slot_at self.now id) numbers → verdict ≡ verdict_of (width_at (slot_at self.now id)) numbers n) }
+        ensures verdict { IfSome
+            result (λ verdict. (numbers : List ℕ) → ShowsAt (slot_at self.now id) numbers
+            → verdict ≡ verdict_of (width_at (slot_at self.now id)) numbers n) }
         ensures fresh { result ≡ Some Verdict.Fresh → IsFreshAt (slot_at self.now id) n }
     {
         match find(self.order.as_slice(), self.slots.as_slice(), self.live, id) {
@@ -253,7 +267,8 @@ impl<N: Drop, S: Drop> Table<N, S> {
 
     /// Lends the window of a complete context, None exactly where there is no such.
     pub fn window(&mut self, id: u64) -> Option<&mut Window>
-        ensures* lends { sem 𝓛 (LendsIf (the_row N.row S.row) window_row self.entry result (with_window self.entry.now id) self.entry.now) }
+        ensures* lends { sem 𝓛 (LendsIf (the_row N.row S.row) window_row self.entry result
+            (with_window self.entry.now id) self.entry.now) }
         ensures some { is_some result ≡ is_complete (slot_at self.old id) }
         ensures value { IfSome result (IsWindowOf (slot_at self.old id)) }
     {

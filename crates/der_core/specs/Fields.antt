@@ -1,5 +1,6 @@
 -- The fields of a SEQUENCE, one behind the other, and its entries.
-use Rattle.std.specs.Prelude.{◌≡◌, ℕ, zero, suc, Bool, true, ◌&&◌, if◌then◌else◌, List, [], ◌∷◌, ◌++◌, length, Option, Some, None, Result, Ok}
+use Rattle.std.specs.Prelude.{◌≡◌, ℕ, zero, suc, Bool, true, ◌&&◌, if◌then◌else◌, List, [], ◌∷◌}
+use Rattle.std.specs.Prelude.{◌++◌, length, Option, Some, None, Result, Ok}
 use Rattle.der_core.specs.declared.refusal.DerRefusal.{DerRefusal}
 use Rattle.der_core.specs.Format.{Input, Format, Content, begins, ◌>>=◌}
 use Rattle.der_core.specs.Header.{end_at}
@@ -32,16 +33,19 @@ optional_at tag format i =
       Ok (Some x.0, x.1))
     else Ok (None, i)
 
+-- a field that may be left out as it is spelled: no octets if it is left out
 abbrev pub optional_spelling : {A : Type 0} → Format A → Option A → List ℕ
 optional_spelling format None = []
 optional_spelling format (Some v) = format.spell v
 
+-- the format has the field's value, if there is one
 abbrev pub optional_fits : {A : Type 0} → Format A → Option A → Bool
 optional_fits format None = true
 optional_fits format (Some v) = format.fits v
 
 -- a field that may be left out, and the fields behind it, which may hang on its value
-abbrev pub with_optional_known : {A B : Type 0} → ℕ → Format A → (Option A → Content B) → Content (Option A × B)
+abbrev pub with_optional_known : {A B : Type 0} → ℕ → Format A → (Option A → Content B)
+    → Content (Option A × B)
 with_optional_known tag format fields = record {
   read = λ i. do
     x ← optional_at tag format i
@@ -66,27 +70,32 @@ seen to from content = record {
 }
 
 -- values one behind the other, to the end; no more than there are octets
-abbrev pub many_step : {A : Type 0} → Format A → (Input → Result (List A) DerRefusal) → Input → List ℕ → Result (List A) DerRefusal
+abbrev pub many_step : {A : Type 0} → Format A → (Input → Result (List A) DerRefusal) → Input
+    → List ℕ → Result (List A) DerRefusal
 many_step format others i [] = Ok []
 many_step format others i (o ∷ os) = do
   x ← format.read i
   rest ← others x.1
   Ok (x.0 ∷ rest)
 
+-- the values up to the end of an input, of which there are at most so many
 abbrev pub many_of : {A : Type 0} → Format A → ℕ → Input → Result (List A) DerRefusal
 many_of format zero i = do
   nothing ← end_at i
   Ok []
 many_of format (suc n) i = many_step format (many_of format n) i i.octets
 
+-- the spellings of values one behind the other
 abbrev pub many_spelling : {A : Type 0} → Format A → List A → List ℕ
 many_spelling format [] = []
 many_spelling format (v ∷ vs) = format.spell v ++ many_spelling format vs
 
+-- the format has each of the values
 abbrev pub many_fit : {A : Type 0} → Format A → List A → Bool
 many_fit format [] = true
 many_fit format (v ∷ vs) = format.fits v && many_fit format vs
 
+-- values of a format one behind the other, up to the end
 abbrev pub many : {A : Type 0} → Format A → Content (List A)
 many format = record {
   read = λ i. many_of format (length i.octets) i;
@@ -99,6 +108,7 @@ abbrev pub list_of : {A : Type 0} → Format A → Format (List A)
 list_of format = element 0x30 (many format)
 
 -- a value was added, where there is one
-pub record PutsMaybe {A : Type 0} (format : Format A) (v : Option A) (old new : List ℕ) : Type 0 where
-  pub spells : new ≡ old ++ optional_spelling format v
-  pub fits : optional_fits format v ≡ true
+pub record PutsMaybe {A : Type 0} (format : Format A) (v : Option A) (old new : List ℕ) : Type 0
+  where
+    pub spells : new ≡ old ++ optional_spelling format v
+    pub fits : optional_fits format v ≡ true

@@ -1,5 +1,8 @@
--- What a reader has before it, and what a format of values is: how it is read, and how it is spelled.
-use Rattle.std.specs.Prelude.{◌≡◌, ◌≢◌, ℕ, ◌-◌, ◌<◌, ◌^◌, Bool, true, false, ◌==◌, ◌&&◌, nat_lt, if◌then◌else◌, List, [], ◌∷◌, ◌++◌, length, Option, Some, None, Result, Ok, Err, IfOk, IsOkAnd, slice_index}
+-- What a reader has before it, and what a format of values is: how it is read, and how it is
+-- spelled.
+use Rattle.std.specs.Prelude.{◌≡◌, ◌≢◌, ℕ, ◌-◌, ◌<◌, ◌^◌, Bool, true, false, ◌==◌, ◌&&◌, nat_lt}
+use Rattle.std.specs.Prelude.{if◌then◌else◌, List, [], ◌∷◌, ◌++◌, length, Option, Some, None}
+use Rattle.std.specs.Prelude.{Result, Ok, Err, IfOk, IsOkAnd, slice_index}
 use Rattle.der_core.specs.declared.refusal.DerRefusal.{DerRefusal}
 use Rattle.der_core.specs.declared.refusal.DerWhy.{DerWhy}
 use Rattle.der_core.specs.declared.refusal.DerWhy.TheVariants.{NoMemory}
@@ -33,11 +36,13 @@ refused why at = Err (record { at = at; why = why })
 
 -- the rest of a reading, unless the part before was refused
 infixl 10 ◌>>=◌
-abbrev pub ◌>>=◌ : {A B : Type 0} → Result A DerRefusal → (A → Result B DerRefusal) → Result B DerRefusal
+abbrev pub ◌>>=◌ : {A B : Type 0} → Result A DerRefusal → (A → Result B DerRefusal)
+    → Result B DerRefusal
 (Ok x) >>= next = next x
 (Err e) >>= next = Err e
 
--- values that are read at the front of an input, with what stands behind them, and their one spelling
+-- values that are read at the front of an input, with what stands behind them, and their one
+-- spelling
 pub record Format (A : Type 0) : Type 0 where
   pub read : Input → Result (A × Input) DerRefusal
   pub spell : A → List ℕ
@@ -64,7 +69,8 @@ Answers view (Ok x) read = read ≡ Ok (view x)
 Answers view (Err e) read = read ≡ Err e
 
 -- the answer of a reading at the front, and what it leaves
-abbrev pub Reads : {A B : Type 0} → (A → B) → Input → Result A DerRefusal → Result (B × Input) DerRefusal → Type 0
+abbrev pub Reads : {A B : Type 0} → (A → B) → Input → Result A DerRefusal
+    → Result (B × Input) DerRefusal → Type 0
 Reads view left (Ok x) read = read ≡ Ok (view x, left)
 Reads view left (Err e) read = read ≡ Err e
 
@@ -76,9 +82,12 @@ pub record Took {A : Type 0} (format : Format A) (v : A) (old new : Input) : Typ
   pub end : new.end ≡ old.end
 
 -- a value is answered exactly where a spelling of it stands at the front, which is then taken
-pub record ReadsSpellings {A B : Type 0} (view : A → B) (format : Format B) (old new : Input) (result : Result A DerRefusal) : Type 0 where
+pub record ReadsSpellings {A B : Type 0} (view : A → B) (format : Format B) (old new : Input)
+    (result : Result A DerRefusal) : Type 0 where
   pub found : IfOk result (λ x. Took format (view x) old new)
-  pub only : (v : B) (spelling rest : List ℕ) → Spells format v spelling → old.octets ≡ spelling ++ rest → IsOkAnd result (λ x. view x ≡ v) × (new ≡ record { end = old.end; octets = rest })
+  pub only : (v : B) (spelling rest : List ℕ)
+      → Spells format v spelling → old.octets ≡ spelling ++ rest
+      → IsOkAnd result (λ x. view x ≡ v) × (new ≡ record { end = old.end; octets = rest })
 
 -- the one spelling of a value that the format has was added
 pub record Puts {A : Type 0} (format : Format A) (v : A) (old new : List ℕ) : Type 0 where
@@ -91,7 +100,8 @@ pub record PutsAll {A : Type 0} (content : Content A) (v : A) (old new : List �
   pub fits : content.fits v ≡ true
 
 -- the answer of a reading at the front, want of memory aside
-abbrev pub MayRead : {A B : Type 0} → (A → B) → Input → Result A DerRefusal → Result (B × Input) DerRefusal → Type 0
+abbrev pub MayRead : {A B : Type 0} → (A → B) → Input → Result A DerRefusal
+    → Result (B × Input) DerRefusal → Type 0
 MayRead view left (Ok x) read = read ≡ Ok (view x, left)
 MayRead view left (Err e) read = e.why ≢ NoMemory → read ≡ Err e
 
@@ -106,6 +116,7 @@ pub record WritesWhole {A : Type 0} (content : Content A) (v : A) (octets : List
   pub fits : content.fits v ≡ true
 
 -- a value is answered exactly where all the octets spell it
-pub record SpelledWhole {A B : Type 0} (view : A → B) (content : Content B) (octets : List ℕ) (result : Result A DerRefusal) : Type 0 where
+pub record SpelledWhole {A B : Type 0} (view : A → B) (content : Content B) (octets : List ℕ)
+    (result : Result A DerRefusal) : Type 0 where
   pub found : IfOk result (λ x. WritesWhole content (view x) octets)
   pub only : (v : B) → WritesWhole content v octets → IsOkAnd result (λ x. view x ≡ v)

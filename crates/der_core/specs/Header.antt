@@ -1,7 +1,10 @@
 -- Tag, length and content of an element, ITU-T X.690 sections 8.1 and 10.1.
-use Rattle.std.specs.Prelude.{ℕ, ◌+◌, ◌-◌, ◌/◌, ◌%◌, Bool, not, ◌==◌, ◌&&◌, ◌||◌, nat_lt, nat_le, if◌then◌else◌, List, [], ◌∷◌, ◌++◌, length, take, drop, Result, Ok, Err}
+use Rattle.std.specs.Prelude.{ℕ, ◌+◌, ◌-◌, ◌/◌, ◌%◌, Bool, not, ◌==◌, ◌&&◌, ◌||◌, nat_lt, nat_le}
+use Rattle.std.specs.Prelude.{if◌then◌else◌, List, [], ◌∷◌, ◌++◌, length, take, drop, Result, Ok}
+use Rattle.std.specs.Prelude.{Err}
 use Rattle.der_core.specs.declared.refusal.DerRefusal.{DerRefusal}
-use Rattle.der_core.specs.declared.refusal.DerWhy.TheVariants.{Short, Tag, Length, NotShortest, Trailing}
+use Rattle.der_core.specs.declared.refusal.DerWhy.TheVariants.{Short, Tag, Length, NotShortest}
+use Rattle.der_core.specs.declared.refusal.DerWhy.TheVariants.{Trailing}
 use Rattle.der_core.specs.Format.{Input, place, begins, refused, ◌>>=◌}
 use Rattle.der_core.specs.Number.{natural_of}
 
@@ -18,7 +21,8 @@ length_octets n =
 unfoldable pub tlv : ℕ → List ℕ → List ℕ
 tlv tag content = tag ∷ (length_octets (length content) ++ content)
 
--- whether the octets of a long length are as few as can be: no leading 0, and no number that one octet spells
+-- whether the octets of a long length are as few as can be: no leading 0, and no number that one
+-- octet spells
 abbrev pub is_shortest_length : List ℕ → Bool
 is_shortest_length octets = not (begins 0 octets) && nat_le 128 (natural_of octets)
 
@@ -42,6 +46,7 @@ abbrev pub length_of : Input → List ℕ → Result (ℕ × Input) DerRefusal
 length_of i [] = refused Short i.end
 length_of i (first ∷ rest) = length_from (place i) first (record { end = i.end; octets = rest })
 
+-- the length at the front of an input
 unfoldable pub length_at : Input → Result (ℕ × Input) DerRefusal
 length_at i = length_of i i.octets
 
@@ -49,8 +54,10 @@ length_at i = length_of i i.octets
 abbrev pub header_of : ℕ → Input → List ℕ → Result (ℕ × Input) DerRefusal
 header_of tag i [] = refused Short i.end
 header_of tag i (first ∷ rest) =
-    if first == tag then length_at (record { end = i.end; octets = rest }) else refused Tag (place i)
+    if first == tag then length_at (record { end = i.end; octets = rest })
+    else refused Tag (place i)
 
+-- the length behind this tag, which is to stand at the front of an input
 unfoldable pub header_at : ℕ → Input → Result (ℕ × Input) DerRefusal
 header_at tag i = header_of tag i i.octets
 
@@ -58,7 +65,10 @@ header_at tag i = header_of tag i i.octets
 abbrev pub content_at : ℕ → Input → Result (Input × Input) DerRefusal
 content_at size i =
     if nat_lt (length i.octets) size then refused Short i.end else
-    Ok (record { end = i.end - (length i.octets - size); octets = take size i.octets }, record { end = i.end; octets = drop size i.octets })
+    Ok (
+      record { end = i.end - (length i.octets - size); octets = take size i.octets },
+      record { end = i.end; octets = drop size i.octets },
+    )
 
 -- the content of the element with this tag at the front, and what stands behind it
 unfoldable pub tlv_at : ℕ → Input → Result (Input × Input) DerRefusal
@@ -71,5 +81,6 @@ abbrev pub end_of : Input → List ℕ → Result (Unit {0}) DerRefusal
 end_of i [] = Ok tt
 end_of i (o ∷ os) = refused Trailing (place i)
 
+-- nothing is left of an input
 unfoldable pub end_at : Input → Result (Unit {0}) DerRefusal
 end_at i = end_of i i.octets

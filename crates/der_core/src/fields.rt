@@ -136,7 +136,8 @@ pub fn optional<T: Element + Drop>(
     fields: &mut Reader,
     tag: u8,
 ) -> Result<Option<T>, DerRefusal>
-    ensures { MayRead (λ v. v) fields.new result (optional_at tag (explicit tag T.format) fields.old) }
+    ensures { MayRead (λ v. v) fields.new result
+        (optional_at tag (explicit tag T.format) fields.old) }
 {
     if !fields.begins(tag) {
         return Ok(None);

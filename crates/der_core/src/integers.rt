@@ -3,7 +3,8 @@
 ghost use Rattle.std.specs.Prelude.{◌≡◌, ◌≤◌, length, OnErr, IfOk};
 ghost use Rattle.der_core.specs.Format.{Answers, Reads, ReadsSpellings, AreOctets};
 ghost use Rattle.der_core.specs.Number.{is_negative};
-ghost use Rattle.der_core.specs.Integer.{has_spare_octet, signed_of, shortest_at, int32_at, int32, natural_at, natural, uint32};
+ghost use Rattle.der_core.specs.Integer.{has_spare_octet, signed_of, shortest_at, int32_at, int32};
+ghost use Rattle.der_core.specs.Integer.{natural_at, natural, uint32};
 
 use crate::numbers::{flipped_number_of, number_of};
 use crate::{DerRefusal, DerWhy, Reader};

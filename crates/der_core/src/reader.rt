@@ -1,10 +1,12 @@
 //! A reader over the octets of one value, front to back.
 
 ghost use Rattle.std.specs.Prelude.{◌≡◌, ◌≤◌, length, OnErr, IfOk};
-ghost use Rattle.der_core.specs.Format.{place, begins, first_octet, Reads, ReadsSpellings, AreOctets};
+ghost use Rattle.der_core.specs.Format.{place, begins, first_octet, Reads, ReadsSpellings};
+ghost use Rattle.der_core.specs.Format.{AreOctets};
 ghost use Rattle.der_core.specs.declared.refusal.DerWhy.TheVariants.{Value};
 ghost use Rattle.der_core.specs.Element.{any_element, raw_element};
-ghost use Rattle.der_core.specs.Header.{tlv_at, content_at, header_at, length_at, long_length_at, end_at};
+ghost use Rattle.der_core.specs.Header.{tlv_at, content_at, header_at, length_at, long_length_at};
+ghost use Rattle.der_core.specs.Header.{end_at};
 
 use crate::numbers::number_of;
 use crate::{DerRefusal, DerWhy};
@@ -74,7 +76,8 @@ impl<'a> Reader<'a> {
     /// A reader over the content of the next element, which has this tag.
     pub fn tlv(&mut self, tag: u8) -> Result<Reader<'a>, DerRefusal>
         ensures exact { Reads (λ r. r) self.new result (tlv_at tag self.old) }
-        ensures spelled { ReadsSpellings (λ r. r.octets) (any_element tag) self.old self.new result }
+        ensures spelled { ReadsSpellings (λ r. r.octets) (any_element tag) self.old self.new
+            result }
         ensures stays { OnErr result (self.new ≡ self.old) }
     {
         self.element(tag)

@@ -1,8 +1,10 @@
 //! GeneralizedTime, ITU-T X.690 section 11.7: `YYYYMMDDHHMMSSZ`.
 
-ghost use Rattle.std.specs.Prelude.{◌≡◌, ◌+◌, ◌-◌, ◌*◌, ◌/◌, ◌%◌, ◌<◌, ◌≤◌, ◌&&◌, nat_lt, if◌then◌else◌, take, length, Some, None, IfSome, OnOk, OnErr};
+ghost use Rattle.std.specs.Prelude.{◌≡◌, ◌+◌, ◌-◌, ◌*◌, ◌/◌, ◌%◌, ◌<◌, ◌≤◌, ◌&&◌, nat_lt};
+ghost use Rattle.std.specs.Prelude.{if◌then◌else◌, take, length, Some, None, IfSome, OnOk, OnErr};
 ghost use Rattle.der_core.specs.Format.{Reads, ReadsSpellings, AreOctets, Puts};
-ghost use Rattle.der_core.specs.Time.{day_number, is_date, year_of, month_of, day_of, seconds_of, is_civil, is_zulu, numbers, are_digits, is_time, time};
+ghost use Rattle.der_core.specs.Time.{day_number, is_date, year_of, month_of, day_of, seconds_of};
+ghost use Rattle.der_core.specs.Time.{is_civil, is_zulu, numbers, are_digits, is_time, time};
 
 use crate::{DerRefusal, Reader, Writer};
 use jiff_core::civil::Date;
@@ -78,7 +80,8 @@ impl Writer {
 /// The moment that octets spell.
 #[tactic(auto, using(crate::proofs::CivilTimes::short_no_time), unfolding(crate::specs::Time::is_time))]
 fn moment_of(octets: &[u8]) -> Option<Moment>
-    ensures { result ≡ (if is_time octets.now then Some (seconds_of (numbers (take 14 octets.now)) * 1000000) else None) }
+    ensures { result ≡ (if is_time octets.now
+        then Some (seconds_of (numbers (take 14 octets.now)) * 1000000) else None) }
 {
     if octets.len() < 14 {
         return None;
@@ -106,7 +109,8 @@ fn is_zulu(octets: &[u8]) -> bool
 /// The moment of fourteen digits: year, month, day, hour, minute and second.
 fn civil_moment(digits: &[u8]) -> Option<Moment>
     requires { length digits.now ≡ 14 }
-    ensures { result ≡ (if is_civil (numbers digits.now) then Some (seconds_of (numbers digits.now) * 1000000) else None) }
+    ensures { result ≡ (if is_civil (numbers digits.now)
+        then Some (seconds_of (numbers digits.now) * 1000000) else None) }
 {
     match digits {
         [a, b, c, d, e, f, g, h, i, j, k, l, m, n] => {
@@ -121,7 +125,8 @@ fn civil_moment(digits: &[u8]) -> Option<Moment>
 
 /// The seconds from midnight to a time of day.
 fn second_of_day(hour: u32, minute: u32, second: u32) -> Option<u32>
-    ensures value { result ≡ (if nat_lt hour 24 && (nat_lt minute 60 && nat_lt second 60) then Some (hour * 3600 + (minute * 60 + second)) else None) }
+    ensures value { result ≡ (if nat_lt hour 24 && (nat_lt minute 60 && nat_lt second 60)
+        then Some (hour * 3600 + (minute * 60 + second)) else None) }
     ensures bound { IfSome result (λ n. n < 86400) }
 {
     if hour < 24 && minute < 60 && second < 60 {
@@ -133,7 +138,8 @@ fn second_of_day(hour: u32, minute: u32, second: u32) -> Option<u32>
 
 /// The days from 1 January 1970 to a date.
 fn day_number(year: u32, month: u32, day: u32) -> Option<u32>
-    ensures value { result ≡ (if is_date year month day then Some (day_number year month day) else None) }
+    ensures value { result
+        ≡ (if is_date year month day then Some (day_number year month day) else None) }
     ensures bound { IfSome result (λ n. n < 2932897) }
 {
     if year < 1970 || year > 9999 || month > 12 || day > 31 {

@@ -3,7 +3,8 @@
 ghost use Rattle.std.specs.Prelude.{◌≡◌, OnErr};
 ghost use Rattle.der_core.specs.Format.{Answers, Reads, ReadsSpellings, AreOctets, place};
 ghost use Rattle.der_core.specs.Element.{octet_string};
-ghost use Rattle.der_core.specs.Values.{has_zero, is_text, text, object_identifier, small_of, small, flags_of, flags, OfText};
+ghost use Rattle.der_core.specs.Values.{has_zero, is_text, text, object_identifier, small_of};
+ghost use Rattle.der_core.specs.Values.{small, flags_of, flags, OfText};
 
 use crate::{DerRefusal, Reader};
 use sec_base::Oid;

@@ -1,6 +1,7 @@
 //! A writer of DER: each call adds the one spelling of its value.
 
-ghost use Rattle.std.specs.Prelude.{◌≡◌, ◌^◌, ◌<◌, ◌≤◌, ◌++◌, [], ◌∷◌, length, false, OnOk, OnErr, IfOk};
+ghost use Rattle.std.specs.Prelude.{◌≡◌, ◌^◌, ◌<◌, ◌≤◌, ◌++◌, [], ◌∷◌, length, false, OnOk, OnErr};
+ghost use Rattle.std.specs.Prelude.{IfOk};
 ghost use Rattle.der_core.specs.Format.{Puts};
 ghost use Rattle.der_core.specs.Header.{tlv, length_octets};
 ghost use Rattle.der_core.specs.Number.{flipped};

@@ -1,4 +1,5 @@
--- Fields of keytabs and credential caches as they are written, numbers with the most significant octet first.
+-- Fields of keytabs and credential caches as they are written, numbers with the most significant
+-- octet first.
 use Rattle.std.specs.Prelude.{◌≡◌, ◌≤◌, ℕ, true, List, ◌++◌, length}
 use Rattle.std.specs.List.{AllByRecursion, flat_map}
 use Rattle.std.specs.Int.{bytes_high_first}
@@ -19,7 +20,8 @@ counted size octets = number size (length octets) ++ octets
 
 -- a principal: how many components, the realm, the components
 unfoldable pub principal : ℕ → Name → List ℕ
-principal size name = number size (length name.parts) ++ (counted size name.realm ++ flat_map (counted size) name.parts)
+principal size name = number size (length name.parts)
+    ++ (counted size name.realm ++ flat_map (counted size) name.parts)
 
 -- a key: the number of its type, its octets
 unfoldable pub key_field : ℕ → Key → List ℕ

@@ -1,6 +1,7 @@
--- What the words of a command line ask for: `keytab PRINCIPAL KVNO TYPE KEYHEX`, `ccache CLIENT SERVER KVNO TYPE KEYHEX HOURS`,
--- `verifier USER PASSWORD SALTHEX ROUNDS`.
-use Rattle.std.specs.Prelude.{ℕ, ◌+◌, Bool, ◌&&◌, ◌==◌, nat_eq, nat_lt, List, [], length, codes, slice_index_or, Option, Some, None, Result, Ok, Err, if◌then◌else◌}
+-- What the words of a command line ask for: `keytab PRINCIPAL KVNO TYPE KEYHEX`, `ccache CLIENT
+-- SERVER KVNO TYPE KEYHEX HOURS`, `verifier USER PASSWORD SALTHEX ROUNDS`.
+use Rattle.std.specs.Prelude.{ℕ, ◌+◌, Bool, ◌&&◌, ◌==◌, nat_eq, nat_lt, List, [], length, codes}
+use Rattle.std.specs.Prelude.{slice_index_or, Option, Some, None, Result, Ok, Err, if◌then◌else◌}
 use lib.Pointwise.{pointwise}
 use Rattle.gss_base.specs.Name.{Name}
 use Rattle.gss_base.specs.Signs.{parsed}
@@ -18,6 +19,7 @@ use Rattle.files_command.specs.declared.words.Order.TheVariants.{Keytab, Ccache,
 
 -- the rest of a reading, unless the part before was refused
 infixl 10 ◌>>=◌
+-- the rest takes what the part before gave
 abbrev pub ◌>>=◌ : {A B : Type 0} → Result A NoFile → (A → Result B NoFile) → Result B NoFile
 (Ok x) >>= next = next x
 (Err e) >>= next = Err e
@@ -32,6 +34,7 @@ abbrev pub unless_refused : {A E : Type 0} → Result A E → Result A NoFile
 unless_refused (Ok x) = Ok x
 unless_refused (Err e) = Err Usage
 
+-- two words are the same
 abbrev pub same : List ℕ → List ℕ → Bool
 same = pointwise nat_eq
 
@@ -43,14 +46,18 @@ word words at = slice_index_or words at []
 abbrev pub is_command : ℕ → List ℕ → List (List ℕ) → Bool
 is_command count name words = length words == count && (nat_lt 0 count && same (word words 0) name)
 
+-- a principal in its text form
 abbrev pub principal_word : List ℕ → Result Name NoFile
 principal_word text = unless_refused (parsed text)
 
+-- a number in decimal, from `least` to `most`
 abbrev pub number_word : ℕ → ℕ → List ℕ → Result ℕ NoFile
 number_word least most text = or_usage (number_in least most text)
 
+-- an encryption type by its number, 17 or 18
 abbrev pub type_word : List ℕ → Result Etype NoFile
-type_word text = if same text (codes "17") then Ok Aes128 else if same text (codes "18") then Ok Aes256 else Err Usage
+type_word text = if same text (codes "17") then Ok Aes128
+    else if same text (codes "18") then Ok Aes256 else Err Usage
 
 -- octets in hexadecimal
 abbrev pub octets_word : List ℕ → Result (List ℕ) NoFile
@@ -71,6 +78,7 @@ service_word at words = do
   key ← key_word (word words (at + 2)) (word words (at + 3))
   Ok (record { server = server; kvno = kvno; key = key })
 
+-- what the words of `keytab` ask for
 unfoldable pub keytab_words : List (List ℕ) → Result Order NoFile
 keytab_words words = do
   service ← service_word 1 words
@@ -84,12 +92,14 @@ ccache_words words = do
   hours ← number_word 1 87600 (word words 6)
   Ok (Ccache client service hours)
 
+-- what the words of `verifier` ask for, with 4,096 to 200,000 rounds
 unfoldable pub verifier_words : List (List ℕ) → Result Order NoFile
 verifier_words words = do
   salt ← octets_word (word words 3)
   rounds ← number_word 4096 200000 (word words 4)
   Ok (Verifier (word words 1) (word words 2) salt rounds)
 
+-- what the words ask for: one of three files, or none where they are in no command
 abbrev pub order_of : List (List ℕ) → Result Order NoFile
 order_of words =
     if is_command 5 (codes "keytab") words then keytab_words words

@@ -4,7 +4,8 @@ ghost use Rattle.std.specs.Prelude.{◌≡◌, ◌≤◌, ◌++◌, length, Ok, 
 ghost use Rattle.krb_files.specs.Ccache.{ccache_of};
 ghost use Rattle.krb_files.specs.CcacheGrammar.{SpellsCcache};
 ghost use Rattle.files_command.specs.Fields.{IsTextName, IsSizedKey};
-ghost use Rattle.files_command.specs.CcacheFile.{cache_of, cache_name, times_octets, ticket_octets, credential_octets, ccache_file, IsWritable};
+ghost use Rattle.files_command.specs.CcacheFile.{cache_of, cache_name, times_octets, ticket_octets};
+ghost use Rattle.files_command.specs.CcacheFile.{credential_octets, ccache_file, IsWritable};
 
 use crate::fields::{put, put_counted, put_key, put_number, put_principal};
 use gss_base::Principal;
@@ -58,7 +59,8 @@ fn put_ticket(out: &mut Vec<u8>, times: Times, ticket: &[u8]) -> Result<(), NoMe
 /// Adds a credential.
 #[tactic(auto, unfolding(crate::specs::CcacheFile::credential_octets))]
 fn put_credential(out: &mut Vec<u8>, times: Times, credential: &Credential) -> Result<(), NoMemory>
-    ensures written { OnOk result (out.new.items ≡ out.old.items ++ credential_octets times credential.now) }
+    ensures written { OnOk result
+        (out.new.items ≡ out.old.items ++ credential_octets times credential.now) }
     ensures writable { OnOk result (IsWritable credential.now) }
 {
     put_name(out, &credential.client)?;

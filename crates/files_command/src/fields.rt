@@ -3,7 +3,8 @@
 ghost use Rattle.std.specs.Prelude.{◌≡◌, ◌<◌, ◌≤◌, ◌^◌, ◌++◌, true, length, OnOk};
 ghost use Rattle.std.specs.List.{flat_map};
 ghost use Rattle.krb_files.specs.Names.{are_texts};
-ghost use Rattle.files_command.specs.Fields.{number, counted, principal, key_field, AreShort, IsTextName, IsSizedKey};
+ghost use Rattle.files_command.specs.Fields.{number, counted, principal, key_field, AreShort};
+ghost use Rattle.files_command.specs.Fields.{IsTextName, IsSizedKey};
 
 use gss_base::Principal;
 use krb_derive::Key;
@@ -41,7 +42,8 @@ pub fn put_counted(out: &mut Vec<u8>, size: usize, octets: &[u8]) -> Result<(), 
 fn put_parts(out: &mut Vec<u8>, size: usize, parts: &[Text]) -> Result<(), NoMemory>
     requires size { size ≤ 4 }
     requires short { AreShort parts.now }
-    ensures written { OnOk result (out.new.items ≡ out.old.items ++ flat_map (counted size) parts.now) }
+    ensures written { OnOk result
+        (out.new.items ≡ out.old.items ++ flat_map (counted size) parts.now) }
     ensures texts { OnOk result (are_texts parts.now ≡ true) }
 {
     for part in parts {
@@ -74,7 +76,8 @@ fn put_typed<const N: usize>(
 ) -> Result<(), NoMemory>
     requires size { size ≤ 4 }
     requires length { N < 2 ^ 32 }
-    ensures written { OnOk result (out.new.items ≡ out.old.items ++ (number 2 kind ++ counted size octets.now)) }
+    ensures written { OnOk result
+        (out.new.items ≡ out.old.items ++ (number 2 kind ++ counted size octets.now)) }
     ensures sized { length octets.now ≡ N }
 {
     put_number(out, 2, kind)?;

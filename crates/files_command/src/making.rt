@@ -8,7 +8,9 @@ ghost use Rattle.krb_msgs.specs.PrincipalName.{IsName};
 ghost use Rattle.ap_exchange.specs.Draws.{drawn_subkey, drawn_confounder};
 ghost use Rattle.ap_exchange.specs.Keys.{key_value};
 ghost use Rattle.ap_exchange.specs.Request.{name_value};
-ghost use Rattle.files_command.specs.Making.{whole_second, ticket_part, ticket_for, within, granted_with, credential_for, times_of, ccache_from, verifier_for, file_for, file_of};
+ghost use Rattle.files_command.specs.Making.{whole_second, ticket_part, ticket_for, within};
+ghost use Rattle.files_command.specs.Making.{granted_with, credential_for, times_of, ccache_from};
+ghost use Rattle.files_command.specs.Making.{verifier_for, file_for, file_of};
 
 use crate::ccache_file::{Times, write_ccache};
 use crate::keytab_file::{ServiceKey, write_keytab};
@@ -60,7 +62,8 @@ fn copies(alloc: Global, parts: &[Text]) -> Result<Vec<Text>, NoMemory>
 
 /// A principal's realm and its name as messages have them.
 fn names_of(alloc: Global, principal: &Principal) -> Result<(Text, PrincipalName), NoMemory>
-    ensures value { IfOk result (λ n. (n.0 ≡ principal.now.realm) × (n.1 ≡ name_value principal.now)) }
+    ensures value { IfOk result
+        (λ n. (n.0 ≡ principal.now.realm) × (n.1 ≡ name_value principal.now)) }
     ensures realm { IfOk result (λ n. has_zero n.0 ≡ false) }
     ensures name { IfOk result (λ n. IsName n.0 n.1) }
 {
@@ -129,7 +132,8 @@ fn ticket_for(
     until: u64,
     confounder: &[u8; 16],
 ) -> Result<Octets, NoMemory>
-    ensures { IfOk result (λ o. o ≡ ticket_for client.now service.now session.now since until confounder.now) }
+    ensures { IfOk result
+        (λ o. o ≡ ticket_for client.now service.now session.now since until confounder.now) }
 {
     let part = ticket_part(alloc, client, session, whole(since), whole(until))?;
     seal_ticket(
@@ -179,7 +183,8 @@ fn credential_for(
     until: u64,
     draws: &[u8; DRAWS],
 ) -> Result<Credential, NoFile>
-    ensures { Gives NoFile.NoMemory (λ c. c) result (credential_for client service since until draws.now) }
+    ensures { Gives NoFile.NoMemory (λ c. c) result
+        (credential_for client service since until draws.now) }
 {
     let session = session_of(service.key.etype(), draws);
     let confounder = confounder_of(draws);
@@ -224,7 +229,8 @@ fn ccache_from(
     draws: &[u8; DRAWS],
 ) -> Result<Octets, NoFile>
     requires { since ≤ 253402300799 }
-    ensures { Gives NoFile.NoMemory (λ o. o) result (ccache_from client service hours since draws.now) }
+    ensures { Gives NoFile.NoMemory (λ o. o) result
+        (ccache_from client service hours since draws.now) }
 {
     let until = since + hours as u64 * HOUR;
     let credential = credential_for(alloc, client, service, since, until, draws)?;
@@ -241,7 +247,8 @@ fn verifier_for(
     salt: &Octets,
     rounds: u32,
 ) -> Result<Octets, NoFile>
-    ensures { Gives NoFile.NoMemory (λ o. o) result (verifier_for user.now password.now salt.now rounds) }
+    ensures { Gives NoFile.NoMemory (λ o. o) result
+        (verifier_for user.now password.now salt.now rounds) }
 {
     let salt = salt.as_slice();
     if salt.len() < 1 || salt.len() > 64 {

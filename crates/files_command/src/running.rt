@@ -34,8 +34,10 @@ fn deliver<O: Sink>(made: Result<Octets, NoFile>, out: &mut O, err: &mut O) -> u
     ensures always_made { IsOk made → result ≢ 6 → result ≡ 0 }
     ensures always_refused { made ≡ Err NoFile.Usage → result ≢ 6 → result ≡ 2 }
     ensures always_memory { made ≡ Err NoFile.NoMemory → result ≢ 6 → result ≡ 8 }
-    ensures fault { result ≡ 6 → Rose (O.faults out.old) (O.faults out.new) ⊎ Rose (O.faults err.old) (O.faults err.new) }
-    ensures wrote { IsTrue (O.tells out.old) → Writes (O.written out.old) (O.written out.new) result made }
+    ensures fault { result ≡ 6
+        → Rose (O.faults out.old) (O.faults out.new) ⊎ Rose (O.faults err.old) (O.faults err.new) }
+    ensures wrote { IsTrue (O.tells out.old)
+        → Writes (O.written out.old) (O.written out.new) result made }
     ensures told { IsTrue (O.tells err.old) → Tells (O.written err.old) (O.written err.new) result }
 {
     match made {
@@ -59,18 +61,24 @@ pub fn run_files<C: Clock, D: Draw, O: Sink>(
     err: &mut O,
 ) -> FilesEnd
     ensures made { result.status ≡ 0 → IsOk (file_of words.now result.now result.draws) }
-    ensures refused { result.status ≡ 2 → file_of words.now result.now result.draws ≡ Err NoFile.Usage }
-    ensures always_made { IsOk (file_of words.now result.now result.draws) → result.status ≢ 6 → result.status ≢ 8 → result.status ≡ 0 }
-    ensures always_refused { file_of words.now result.now result.draws ≡ Err NoFile.Usage → result.status ≢ 6 → result.status ≢ 8
-        → result.status ≡ 2 }
-    ensures statuses { result.status ≢ 0 → result.status ≢ 2 → result.status ≢ 8 → result.status ≡ 6 }
-    ensures fault { result.status ≡ 6 → Rose (O.faults out.old) (O.faults out.new) ⊎ Rose (O.faults err.old) (O.faults err.new) }
+    ensures refused { result.status ≡ 2
+        → file_of words.now result.now result.draws ≡ Err NoFile.Usage }
+    ensures always_made { IsOk (file_of words.now result.now result.draws) → result.status ≢ 6
+        → result.status ≢ 8 → result.status ≡ 0 }
+    ensures always_refused { file_of words.now result.now result.draws ≡ Err NoFile.Usage
+        → result.status ≢ 6 → result.status ≢ 8 → result.status ≡ 2 }
+    ensures statuses { result.status ≢ 0 → result.status ≢ 2 → result.status ≢ 8
+        → result.status ≡ 6 }
+    ensures fault { result.status ≡ 6
+        → Rose (O.faults out.old) (O.faults out.new) ⊎ Rose (O.faults err.old) (O.faults err.new) }
     // What the two streams gained, where they tell it.
-    ensures wrote { IsTrue (O.tells out.old)
-        → Writes (O.written out.old) (O.written out.new) result.status (file_of words.now result.now result.draws) }
-    ensures told { IsTrue (O.tells err.old) → Tells (O.written err.old) (O.written err.new) result.status }
+    ensures wrote { IsTrue (O.tells out.old) → Writes (O.written out.old) (O.written out.new)
+        result.status (file_of words.now result.now result.draws) }
+    ensures told { IsTrue (O.tells err.old)
+        → Tells (O.written err.old) (O.written err.new) result.status }
     // The file was made at the clock's next moment and with the next drawn octets.
-    ensures clock { IsTrue (C.tells clock.new) → C.given clock.new ≡ C.given clock.old ++ result.now ∷ [] }
+    ensures clock { IsTrue (C.tells clock.new)
+        → C.given clock.new ≡ C.given clock.old ++ result.now ∷ [] }
     ensures draw { IsTrue (D.tells draw.new) → D.given draw.new ≡ D.given draw.old ++ result.draws }
 {
     let now = clock.now();

@@ -2,7 +2,9 @@
 
 ghost use Rattle.std.specs.Prelude.{◌≡◌, ◌<◌, ◌+◌, length};
 ghost use Rattle.sec_base.specs.Answers.{Gives};
-ghost use Rattle.files_command.specs.Words.{is_command, principal_word, number_word, type_word, octets_word, key_word, service_word, keytab_words, ccache_words, verifier_words, order_of};
+ghost use Rattle.files_command.specs.Words.{is_command, principal_word, number_word, type_word};
+ghost use Rattle.files_command.specs.Words.{octets_word, key_word, service_word, keytab_words};
+ghost use Rattle.files_command.specs.Words.{ccache_words, verifier_words, order_of};
 
 use crate::keytab_file::ServiceKey;
 use crate::refusal::NoFile;

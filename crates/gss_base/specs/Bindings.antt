@@ -3,10 +3,12 @@ use Rattle.std.specs.Prelude.{ℕ, ◌<◌, ◌≤◌, List, ◌++◌, length, r
 use Rattle.std.specs.Int.{w32, to_le_bytes}
 use Rattle.md5.specs.Md5.{md5}
 
--- what is hashed, RFC 4121 section 4.1.1.2: type and length of the initiator's address and of the acceptor's, all 0, then the
--- length of the data, each as 32 bits with the least significant octet first, then the data
+-- what is hashed, RFC 4121 section 4.1.1.2: type and length of the initiator's address and of the
+-- acceptor's, all 0, then the length of the data, each as 32 bits with the least significant octet
+-- first, then the data
 abbrev pub bindings_octets : List ℕ → List ℕ
-bindings_octets application = replicate 16 0 ++ (to_le_bytes w32 (length application) ++ application)
+bindings_octets application =
+    replicate 16 0 ++ (to_le_bytes w32 (length application) ++ application)
 
 -- the hash that an authenticator's checksum carries: 16 octets 00 without bindings
 unfoldable pub hash_of : Option (List ℕ) → List ℕ

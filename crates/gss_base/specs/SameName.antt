@@ -26,10 +26,14 @@ second_of false b e = cc
 both_of : (a b : Bool) → a ≡ true → b ≡ true → (a && b) ≡ true
 both_of a b e f = rw (e, f) refl
 
+-- being the same name is symmetric and transitive
 pub same_name_per : IsPartialEquivalence same_name
 same_name_per = record {
   symm = λ a b. rw (texts_per.symm a.realm b.realm, rows_per.symm a.parts b.parts) refl;
-  trans = λ a b c e f. both_of (pointwise nat_eq a.realm c.realm) (pointwise (pointwise nat_eq) a.parts c.parts)
-      (texts_per.trans a.realm b.realm c.realm (first_of (pointwise nat_eq a.realm b.realm) _ e) (first_of (pointwise nat_eq b.realm c.realm) _ f))
-      (rows_per.trans a.parts b.parts c.parts (second_of (pointwise nat_eq a.realm b.realm) _ e) (second_of (pointwise nat_eq b.realm c.realm) _ f));
+  trans = λ a b c e f. both_of (pointwise nat_eq a.realm c.realm)
+      (pointwise (pointwise nat_eq) a.parts c.parts)
+      (texts_per.trans a.realm b.realm c.realm (first_of (pointwise nat_eq a.realm b.realm) _ e)
+      (first_of (pointwise nat_eq b.realm c.realm) _ f))
+      (rows_per.trans a.parts b.parts c.parts (second_of (pointwise nat_eq a.realm b.realm) _ e)
+      (second_of (pointwise nat_eq b.realm c.realm) _ f));
 }

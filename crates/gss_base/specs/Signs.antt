@@ -1,28 +1,35 @@
 -- How a text names a principal: it is a row of signs.
-use Rattle.std.specs.Prelude.{◌≡◌, ℕ, ◌+◌, ◌-◌, Bool, true, false, ◌&&◌, not, nat_eq, List, [], ◌∷◌, ◌++◌, Result, Ok, Err, Vec, if◌then◌else◌}
+use Rattle.std.specs.Prelude.{◌≡◌, ℕ, ◌+◌, ◌-◌, Bool, true, false, ◌&&◌, not, nat_eq, List, [], ◌∷◌}
+use Rattle.std.specs.Prelude.{◌++◌, Result, Ok, Err, Vec, if◌then◌else◌}
 use Rattle.gss_base.specs.Name.{Name}
 use Rattle.gss_base.specs.Principal.{is_mark, name_judged}
 use Rattle.gss_base.specs.declared.principal.NameRefusal.{NameRefusal}
-use Rattle.gss_base.specs.declared.principal.NameRefusal.TheVariants.{Form, PartCount, Zero, TooLong, NoMemory}
+use Rattle.gss_base.specs.declared.principal.NameRefusal.TheVariants.{Form, PartCount, Zero}
+use Rattle.gss_base.specs.declared.principal.NameRefusal.TheVariants.{TooLong, NoMemory}
 use Rattle.gss_base.specs.declared.principal.Sign.{Sign}
 use Rattle.gss_base.specs.declared.principal.Sign.TheVariants.{Octet, Slash, At}
 
+-- this sign before those that follow, unless the text is refused behind it
 abbrev pub with_sign : Sign → Result (List Sign) ℕ → Result (List Sign) ℕ
 with_sign sign (Ok signs) = Ok (sign ∷ signs)
 with_sign sign (Err at) = Err at
 
--- the signs from the place `at` on, where `quotes` says that the octet before it is a `\` that isn't quoted itself, and `realm` that the bare
--- `@` was there; else the first place that no text of a name has so: of a `\` that stands before no mark, of a second bare `@`, or
--- the end where no bare `@` was there. Behind the bare `@` a bare `/` is an octet of the realm.
+-- the signs from the place `at` on, where `quotes` says that the octet before it is a `\` that
+-- isn't quoted itself, and `realm` that the bare `@` was there; else the first place that no text
+-- of a name has so: of a `\` that stands before no mark, of a second bare `@`, or the end where no
+-- bare `@` was there. Behind the bare `@` a bare `/` is an octet of the realm.
 abbrev pub signs_of : Bool → Bool → ℕ → List ℕ → Result (List Sign) ℕ
 signs_of true realm at [] = Err (at - 1)
 signs_of false realm at [] = if realm then Ok [] else Err at
 signs_of true realm at (octet ∷ octets) =
-    if is_mark octet then with_sign (Octet octet) (signs_of false realm (at + 1) octets) else Err (at - 1)
+    if is_mark octet then with_sign (Octet octet) (signs_of false realm (at + 1) octets)
+    else Err (at - 1)
 signs_of false realm at (octet ∷ octets) =
     if nat_eq octet 92 then signs_of true realm (at + 1) octets
-    else if nat_eq octet 64 then (if realm then Err at else with_sign At (signs_of false true (at + 1) octets))
-    else with_sign (if nat_eq octet 47 && not realm then Slash else Octet octet) (signs_of false realm (at + 1) octets)
+    else if nat_eq octet 64
+    then (if realm then Err at else with_sign At (signs_of false true (at + 1) octets))
+    else with_sign (if nat_eq octet 47 && not realm then Slash else Octet octet)
+    (signs_of false realm (at + 1) octets)
 
 -- what a function that reads the signs answers
 abbrev pub AreSigns : {A : Type 0} → Result (Vec Sign A) NameRefusal → Result (List Sign) ℕ → Type 0
@@ -40,6 +47,7 @@ parts_from part (Octet octet ∷ signs) = parts_from (part ++ octet ∷ []) sign
 parts_from part (Slash ∷ signs) = part ∷ parts_from [] signs
 parts_from part (At ∷ signs) = part ∷ []
 
+-- the octets among signs
 abbrev pub octets_in : List Sign → List ℕ
 octets_in [] = []
 octets_in (Octet octet ∷ signs) = octet ∷ octets_in signs
@@ -53,6 +61,7 @@ realm_of (Octet octet ∷ signs) = realm_of signs
 realm_of (Slash ∷ signs) = realm_of signs
 realm_of (At ∷ signs) = octets_in signs
 
+-- the principal by the signs of a text; a text of another form is refused at its place
 abbrev pub name_by : List ℕ → Result (List Sign) ℕ → Result Name NameRefusal
 name_by text (Ok signs) = name_judged text (realm_of signs) (parts_from [] signs)
 name_by text (Err at) = Err (Form at)

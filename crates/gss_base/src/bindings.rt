@@ -1,5 +1,6 @@
 //! Channel bindings (RFC 2744 section 3.11) and the hash that an authenticator carries of them (RFC 4121 section 4.1.1.2).
-ghost use Rattle.std.specs.Prelude.{◌≡◌, ◌≤◌, length, Ok, Err, Some, if◌then◌else◌, nat_eq, option_map};
+ghost use Rattle.std.specs.Prelude.{◌≡◌, ◌≤◌, length, Ok, Err, Some, if◌then◌else◌, nat_eq};
+ghost use Rattle.std.specs.Prelude.{option_map};
 ghost use Rattle.gss_base.specs.Bindings.{IsApplicationData, hash_of};
 
 use md5::{Digest, Md5};
@@ -31,7 +32,8 @@ impl Bindings {
     /// The bindings of this application data, refused exactly where there is none.
     pub fn new(application: Octets) -> Result<Bindings, EmptyBindings>
         requires { length application ≤ 32768 }
-        ensures { result ≡ (if nat_eq (length application) 0 then Err (record {}) else Ok application) }
+        ensures { result
+            ≡ (if nat_eq (length application) 0 then Err (record {}) else Ok application) }
     {
         if application.as_slice().is_empty() {
             return Err(EmptyBindings);

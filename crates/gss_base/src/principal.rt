@@ -1,10 +1,13 @@
 //! Principals by their realm and parts, and their text form (RFC 1964 section 2.1.1).
 
-ghost use Rattle.std.specs.Prelude.{◌≡◌, ℕ, List, Ok, ◌∷◌, ◌++◌, [], length, IfOk, OnOk, if◌then◌else◌, Some, None, true, false, nat_eq, nat_le, not, ◌&&◌, IsUtf8};
+ghost use Rattle.std.specs.Prelude.{◌≡◌, ℕ, List, Ok, ◌∷◌, ◌++◌, [], length, IfOk, OnOk};
+ghost use Rattle.std.specs.Prelude.{if◌then◌else◌, Some, None, true, false, nat_eq, nat_le, not};
+ghost use Rattle.std.specs.Prelude.{◌&&◌, IsUtf8};
 ghost use Rattle.std.specs.List.{AllByRecursion};
 ghost use Rattle.sec_base.specs.Answers.{Gives};
 ghost use Rattle.gss_base.specs.declared.principal.Sign.TheVariants.{Octet, Slash};
-ghost use Rattle.gss_base.specs.Principal.{is_mark, quoted, text_form, zero_from, name_of, is_named};
+ghost use Rattle.gss_base.specs.Principal.{is_mark, quoted, text_form, zero_from, name_of};
+ghost use Rattle.gss_base.specs.Principal.{is_named};
 ghost use Rattle.gss_base.specs.SameName.{same_name, same_name_per};
 ghost use Rattle.gss_base.specs.Signs.{signs_of, AreSigns, parts_from, realm_of, parsed};
 
@@ -66,7 +69,8 @@ fn push_quoted(out: &mut Vec<u8>, text: &str) -> Result<(), NoMemory>
 
 /// Writes what stands before a part: nothing before the first.
 fn push_between(out: &mut Vec<u8>, first: bool) -> Result<(), NoMemory>
-    ensures between { OnOk result (out.new.items ≡ out.old.items ++ (if first then [] else 47 ∷ [])) }
+    ensures between { OnOk result
+        (out.new.items ≡ out.old.items ++ (if first then [] else 47 ∷ [])) }
     ensures utf8 { IsUtf8 out.old.items → OnOk result (IsUtf8 out.new.items) }
 {
     if !first {
@@ -244,8 +248,9 @@ impl Principal {
     /// `/`, `@` and `\` of a part and each `@` and `\` of the realm.
     pub fn parse(alloc: Global, text: &str) -> Result<Principal, NameRefusal>
         ensures exact { Gives NameRefusal.NoMemory (λ p. p) result (parsed text.now) }
-        ensures again { (realm : List ℕ) (parts : List (List ℕ)) → is_named realm parts ≡ true → text.now ≡ text_form realm parts
-            → Gives NameRefusal.NoMemory (λ p. p) result (Ok (record { realm = realm; parts = parts })) }
+        ensures again { (realm : List ℕ) (parts : List (List ℕ)) → is_named realm parts ≡ true
+            → text.now ≡ text_form realm parts → Gives NameRefusal.NoMemory (λ p. p) result
+            (Ok (record { realm = realm; parts = parts })) }
     {
         named_by(alloc, text)
     }

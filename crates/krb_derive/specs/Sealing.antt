@@ -1,5 +1,6 @@
 -- Sealed octets and checksums, RFC 3961 section 5.3 and RFC 3962 section 6.
-use Rattle.std.specs.Prelude.{ℕ, ◌-◌, nat_lt, nat_eq, List, ◌++◌, length, take, drop, Result, Ok, Err, if◌then◌else◌}
+use Rattle.std.specs.Prelude.{ℕ, ◌-◌, nat_lt, nat_eq, List, ◌++◌, length, take, drop, Result, Ok}
+use Rattle.std.specs.Prelude.{Err, if◌then◌else◌}
 use lib.Pointwise.{pointwise}
 use Rattle.aes_cts.specs.Stealing.{cts_encrypted, cts_decrypted}
 use Rattle.mac_sha1.specs.Mac.{hmac}
@@ -17,18 +18,22 @@ tag_of key octets = take 12 (hmac (key_octets key) octets)
 -- what a plain text, with its confounder in front, is sealed to
 unfoldable pub seal_of : Key → ℕ → List ℕ → List ℕ → List ℕ
 seal_of key usage confounder octets =
-    cts_encrypted (key_octets (derived key usage Encrypt)) (confounder ++ octets) ++ tag_of (derived key usage Integrity) (confounder ++ octets)
+    cts_encrypted (key_octets (derived key usage Encrypt)) (confounder ++ octets)
+    ++ tag_of (derived key usage Integrity) (confounder ++ octets)
 
 -- what sealed octets decipher to, the confounder in front
 unfoldable pub deciphered : Key → ℕ → List ℕ → List ℕ
-deciphered key usage octets = cts_decrypted (key_octets (derived key usage Encrypt)) (take (length octets - 12) octets)
+deciphered key usage octets =
+    cts_decrypted (key_octets (derived key usage Encrypt)) (take (length octets - 12) octets)
 
 -- what sealed octets open to: the tag is compared before anything is handed out
 unfoldable pub opened : Key → ℕ → List ℕ → Result (List ℕ) OpenRefusal
 opened key usage octets =
     if nat_lt (length octets) 28 then Err Short
-    else if pointwise nat_eq (tag_of (derived key usage Integrity) (deciphered key usage octets)) (drop (length octets - 12) octets)
+    else if pointwise nat_eq (tag_of (derived key usage Integrity) (deciphered key usage octets))
+    (drop (length octets - 12) octets)
     then Ok (drop 16 (deciphered key usage octets)) else Err BadChecksum
 
+-- the checksum of octets under this key and usage
 unfoldable pub checksum_of : Key → ℕ → List ℕ → List ℕ
 checksum_of key usage octets = tag_of (derived key usage Check) octets

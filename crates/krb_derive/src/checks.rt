@@ -38,7 +38,8 @@ pub(crate) fn is_tag(computed: &[u8; 12], tag: &[u8]) -> bool
 
 // The front of the code of two pieces in a row, under the key with which `begun` was made.
 pub(crate) fn tag_under(begun: &Hmac, first: &[u8], second: &[u8]) -> [u8; 12]
-    ensures { (key : List ℕ) → Begun begun.now key [] → result ≡ take 12 (hmac key (first.now ++ second.now)) }
+    ensures { (key : List ℕ) → Begun begun.now key []
+        → result ≡ take 12 (hmac key (first.now ++ second.now)) }
 {
     let mut code = begun.clone().unwrap();
     code.update(first);
@@ -63,14 +64,16 @@ impl CheckKey {
 
     /// The checksum of both in a row.
     pub fn checksum(&self, first: &[u8], second: &[u8]) -> [u8; 12]
-        ensures { (key : Key) (usage : ℕ) → ForChecks self.now key usage → result ≡ checksum_of key usage (first.now ++ second.now) }
+        ensures { (key : Key) (usage : ℕ) → ForChecks self.now key usage
+            → result ≡ checksum_of key usage (first.now ++ second.now) }
     {
         tag_under(&self.code, first, second)
     }
 
     /// Whether `tag` is the checksum of both in a row.
     pub fn verify(&self, first: &[u8], second: &[u8], tag: &[u8]) -> bool
-        ensures { (key : Key) (usage : ℕ) → ForChecks self.now key usage → result ≡ pointwise nat_eq (checksum_of key usage (first.now ++ second.now)) tag.now }
+        ensures { (key : Key) (usage : ℕ) → ForChecks self.now key usage
+            → result ≡ pointwise nat_eq (checksum_of key usage (first.now ++ second.now)) tag.now }
     {
         is_tag(&self.checksum(first, second), tag)
     }
@@ -85,7 +88,8 @@ pub fn checksum(key: &Key, usage: u32, first: &[u8], second: &[u8]) -> [u8; 12]
 
 /// Whether `tag` is the checksum of both in a row.
 pub fn verify(key: &Key, usage: u32, first: &[u8], second: &[u8], tag: &[u8]) -> bool
-    ensures { result ≡ pointwise nat_eq (checksum_of key.now usage (first.now ++ second.now)) tag.now }
+    ensures { result
+        ≡ pointwise nat_eq (checksum_of key.now usage (first.now ++ second.now)) tag.now }
 {
     CheckKey::of(key, usage).verify(first, second, tag)
 }

@@ -1,7 +1,10 @@
 // n-fold, RFC 3961 section 5.1.
 
-ghost use Rattle.std.specs.Prelude.{◌≡◌, ◌≢◌, ◌==◌, ◌&&◌, ℕ, ◌+◌, ◌-◌, ◌*◌, ◌/◌, ◌%◌, ◌^◌, ◌<◌, ◌≤◌, min, length, drop, List};
-ghost use Rattle.krb_derive.specs.Fold.{greatest_common_divisor, octet_around, bit_of_copies, octet_of_copies, part_of_copies, number_of, add_around, sum_of_pieces, n_fold};
+ghost use Rattle.std.specs.Prelude.{◌≡◌, ◌≢◌, ◌==◌, ◌&&◌, ℕ, ◌+◌, ◌-◌, ◌*◌, ◌/◌, ◌%◌, ◌^◌, ◌<◌};
+ghost use Rattle.std.specs.Prelude.{◌≤◌, min, length, drop, List};
+ghost use Rattle.krb_derive.specs.Fold.{greatest_common_divisor, octet_around, bit_of_copies};
+ghost use Rattle.krb_derive.specs.Fold.{octet_of_copies, part_of_copies, number_of, add_around};
+ghost use Rattle.krb_derive.specs.Fold.{sum_of_pieces, n_fold};
 
 fn divides_both(divisor: usize, a: usize, b: usize) -> bool
     requires { 0 < divisor }
@@ -91,7 +94,8 @@ fn octet_of_piece(octets: &[u8], count: usize, piece: usize, i: usize) -> u8
 fn add_piece(sum: &mut [u8], octets: &[u8], piece: usize) -> u32
     requires { piece < length octets.now }
     ensures low { number_of sum.new < 256 ^ length sum.old }
-    ensures sum { number_of sum.new + result * 256 ^ length sum.old ≡ number_of sum.old + number_of (part_of_copies octets.now (length sum.old * piece) (length sum.old)) }
+    ensures sum { number_of sum.new + result * 256 ^ length sum.old ≡ number_of sum.old + number_of
+        (part_of_copies octets.now (length sum.old * piece) (length sum.old)) }
     ensures carry { result < 2 }
 {
     let count = sum.len();

@@ -1,7 +1,8 @@
 //! Encryption types and their keys.
 
 ghost use Rattle.std.specs.Prelude.{◌≡◌, pos, length};
-ghost use Rattle.krb_derive.specs.Key.{etype_of, number_of_etype, key_length, type_of_key, key_octets, key_of};
+ghost use Rattle.krb_derive.specs.Key.{etype_of, number_of_etype, key_length, type_of_key};
+ghost use Rattle.krb_derive.specs.Key.{key_octets, key_of};
 
 use std::fmt;
 

@@ -1,6 +1,7 @@
 //! Sealed octets, RFC 3961 section 5.3.
 
-ghost use Rattle.std.specs.Prelude.{◌≡◌, ℕ, ◌≤◌, nat_eq, List, [], ◌++◌, length, take, drop, vec_len, IfOk, Ok};
+ghost use Rattle.std.specs.Prelude.{◌≡◌, ℕ, ◌≤◌, nat_eq, List, [], ◌++◌, length, take, drop};
+ghost use Rattle.std.specs.Prelude.{vec_len, IfOk, Ok};
 ghost use Rattle.sec_base.specs.Answers.{Gives};
 ghost use Rattle.aes_cts.specs.AesKey.{cipher_key};
 ghost use Rattle.aes_cts.specs.Cipher.{IsOctets};
@@ -76,7 +77,8 @@ impl SealKeys {
         confounder: &[u8; 16],
         bytes: &[u8],
     ) -> Result<Octets, NoMemory>
-        ensures { (key : Key) (usage : ℕ) → ForSealing self.now key usage → IfOk result (λ o. o ≡ seal_of key usage confounder.now bytes.now) }
+        ensures { (key : Key) (usage : ℕ) → ForSealing self.now key usage
+            → IfOk result (λ o. o ≡ seal_of key usage confounder.now bytes.now) }
     {
         let mut list = Vec::with_capacity(alloc, bytes.len().saturating_add(28))?;
         list.extend_from_slice(confounder)?;
@@ -89,9 +91,12 @@ impl SealKeys {
 
     /// Opens sealed octets. Nothing is handed out before the tag is compared.
     pub fn open(&self, alloc: Global, bytes: &[u8]) -> Result<Octets, OpenRefusal>
-        ensures value { (key : Key) (usage : ℕ) → ForSealing self.now key usage → Gives OpenRefusal.NoMemory (λ o. o) result (opened key usage bytes.now) }
-        ensures undoes { (key : Key) (usage : ℕ) (confounder plain : List ℕ) → ForSealing self.now key usage → length confounder ≡ 16 → IsOctets (confounder ++ plain)
-            → bytes.now ≡ seal_of key usage confounder plain → opened key usage bytes.now ≡ Ok plain }
+        ensures value { (key : Key) (usage : ℕ) → ForSealing self.now key usage
+            → Gives OpenRefusal.NoMemory (λ o. o) result (opened key usage bytes.now) }
+        ensures undoes { (key : Key) (usage : ℕ) (confounder plain : List ℕ)
+            → ForSealing self.now key usage → length confounder ≡ 16
+            → IsOctets (confounder ++ plain) → bytes.now ≡ seal_of key usage confounder plain
+            → opened key usage bytes.now ≡ Ok plain }
     {
         if bytes.len() < 28 {
             return Err(OpenRefusal::Short);
@@ -127,8 +132,9 @@ pub fn seal(
 /// Opens sealed octets.
 pub fn open(alloc: Global, key: &Key, usage: u32, bytes: &[u8]) -> Result<Octets, OpenRefusal>
     ensures value { Gives OpenRefusal.NoMemory (λ o. o) result (opened key.now usage bytes.now) }
-    ensures undoes { (confounder plain : List ℕ) → length confounder ≡ 16 → IsOctets (confounder ++ plain)
-        → bytes.now ≡ seal_of key.now usage confounder plain → opened key.now usage bytes.now ≡ Ok plain }
+    ensures undoes { (confounder plain : List ℕ) → length confounder ≡ 16
+        → IsOctets (confounder ++ plain) → bytes.now ≡ seal_of key.now usage confounder plain
+        → opened key.now usage bytes.now ≡ Ok plain }
 {
     SealKeys::of(key, usage).open(alloc, bytes)
 }

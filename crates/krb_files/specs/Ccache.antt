@@ -1,5 +1,7 @@
--- Credential caches, version 4: `05 04`, a header behind its length in 16 bits, the owner, then credentials up to the file's end.
-use Rattle.std.specs.Prelude.{ℕ, zero, suc, ◌==◌, nat_le, if◌then◌else◌, List, [], ◌∷◌, length, Option, Some, None, Result, Ok}
+-- Credential caches, version 4: `05 04`, a header behind its length in 16 bits, the owner, then
+-- credentials up to the file's end.
+use Rattle.std.specs.Prelude.{ℕ, zero, suc, ◌==◌, nat_le, if◌then◌else◌, List, [], ◌∷◌, length}
+use Rattle.std.specs.Prelude.{Option, Some, None, Result, Ok}
 use Rattle.gss_base.specs.Name.{Name}
 use Rattle.gss_base.specs.SameName.{same_name}
 use Rattle.krb_derive.specs.declared.key.Key.{Key}
@@ -25,6 +27,7 @@ typed_at i = do
   octets ← counted_at 4 kind.1
   Ok (tt, octets.1)
 
+-- so many addresses, or entries of authorization data
 unfoldable pub times_typed_at : ℕ → Input → Result (Unit {0} × Input) FileRefusal
 times_typed_at zero i = Ok (tt, i)
 times_typed_at (suc n) i = do
@@ -37,8 +40,8 @@ list_at i = do
   count ← number_at 4 i
   times_typed_at count.0 count.1
 
--- what stands behind the key: 21 octets (four times of 32 bits, one octet, 32 flags), addresses, authorization data, and two tickets,
--- of which the first is answered
+-- what stands behind the key: 21 octets (four times of 32 bits, one octet, 32 flags), addresses,
+-- authorization data, and two tickets, of which the first is answered
 unfoldable pub ticket_at : Input → Result (List ℕ × Input) FileRefusal
 ticket_at i = do
   times ← passed_at 21 i
@@ -52,8 +55,10 @@ ticket_at i = do
 abbrev pub kept_of : Name → Name → Option Key → List ℕ → Next Granted
 kept_of client server None ticket = Other
 kept_of client server (Some session) ticket =
-    if nat_le (length ticket) 60000 then Item (record { client = client; server = server; session = session; ticket = ticket }) else Other
+    if nat_le (length ticket) 60000 then Item
+    (record { client = client; server = server; session = session; ticket = ticket }) else Other
 
+-- a credential: the client, the server, the key, and what stands behind the key
 unfoldable pub credential_at : Input → Result (Next Granted × Input) FileRefusal
 credential_at i = do
   client ← name_at i
@@ -62,6 +67,7 @@ credential_at i = do
   ticket ← ticket_at key.1
   Ok (kept_of client.0 server.0 key.0 ticket.0, ticket.1)
 
+-- the next credential, or the end of the file
 unfoldable pub next_at : Input → Result (Next Granted × Input) FileRefusal
 next_at i = if length i.octets == 0 then Ok (End, i) else credential_at i
 
@@ -77,4 +83,5 @@ ccache_of octets = do
 -- the first credential for this server
 abbrev pub granted_for : Name → List Granted → Option Granted
 granted_for server [] = None
-granted_for server (granted ∷ others) = if same_name granted.server server then Some granted else granted_for server others
+granted_for server (granted ∷ others) =
+    if same_name granted.server server then Some granted else granted_for server others

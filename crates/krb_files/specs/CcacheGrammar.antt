@@ -14,6 +14,7 @@ CacheName = Then (Number 4) (λ kind. Principal 4)
 abbrev pub Typed : Unit {0} → List ℕ → Type 0
 Typed = Then (Number 2) (λ kind. Then (Counted 4) (λ octets. Gives tt))
 
+-- so many addresses, or entries of authorization data
 abbrev pub TimesTyped : ℕ → Unit {0} → List ℕ → Type 0
 TimesTyped zero = Gives tt
 TimesTyped (suc n) = Then Typed (λ one. TimesTyped n)
@@ -22,14 +23,19 @@ TimesTyped (suc n) = Then Typed (λ one. TimesTyped n)
 abbrev pub TypedList : Unit {0} → List ℕ → Type 0
 TypedList = Then (Number 4) TimesTyped
 
--- what stands behind the key: 21 octets of times and flags, addresses, authorization data, the ticket, a second ticket
+-- what stands behind the key: 21 octets of times and flags, addresses, authorization data, the
+-- ticket, a second ticket
 abbrev pub TicketField : List ℕ → List ℕ → Type 0
-TicketField = Then (Passed 21) (λ times. Then TypedList (λ addresses. Then TypedList (λ authorization. Then (Counted 4) (λ ticket. Then (Counted 4) (λ second. Gives ticket)))))
+TicketField = Then (Passed 21) (λ times. Then TypedList (λ addresses. Then TypedList
+    (λ authorization. Then (Counted 4) (λ ticket. Then (Counted 4) (λ second. Gives ticket)))))
 
--- a credential: the client, the server, the key, the ticket; whether it is one to keep is told by its key and its ticket
+-- a credential: the client, the server, the key, the ticket; whether it is one to keep is told by
+-- its key and its ticket
 abbrev pub Credential : Next Granted → List ℕ → Type 0
-Credential = Then CacheName (λ client. Then CacheName (λ server. Then (KeyField 4) (λ key. Then TicketField (λ ticket. Gives (kept_of client server key ticket)))))
+Credential = Then CacheName (λ client. Then CacheName (λ server. Then (KeyField 4)
+    (λ key. Then TicketField (λ ticket. Gives (kept_of client server key ticket)))))
 
+-- the end of the file
 abbrev pub NoOctets : List ℕ → Type 0
 NoOctets octets = octets ≡ []
 

@@ -1,12 +1,15 @@
--- Fields of both files, read from the front: numbers, most significant octet first, and octets behind their count.
-use Rattle.std.specs.Prelude.{◌≡◌, ◌≢◌, ℕ, ◌+◌, ◌-◌, ◌*◌, Bool, false, ◌==◌, ◌&&◌, nat_lt, if◌then◌else◌, List, [], ◌∷◌, length, take, drop, Result, Ok, Err}
+-- Fields of both files, read from the front: numbers, most significant octet first, and octets
+-- behind their count.
+use Rattle.std.specs.Prelude.{◌≡◌, ◌≢◌, ℕ, ◌+◌, ◌-◌, ◌*◌, Bool, false, ◌==◌, ◌&&◌, nat_lt}
+use Rattle.std.specs.Prelude.{if◌then◌else◌, List, [], ◌∷◌, length, take, drop, Result, Ok, Err}
 use Rattle.krb_files.specs.declared.refusal.FileRefusal.{FileRefusal}
 use Rattle.krb_files.specs.declared.refusal.FileWhy.{FileWhy}
 use Rattle.krb_files.specs.declared.refusal.FileWhy.TheVariants.{Magic, Short, Length, NoMemory}
 use Rattle.krb_files.specs.declared.fields.Bounds.{Bounds}
 use Rattle.krb_files.specs.declared.fields.Bounds.TheVariants.{File, Record}
 
--- the octets that are left, the place behind the last of them, and whether a record or the file ends there
+-- the octets that are left, the place behind the last of them, and whether a record or the file
+-- ends there
 pub record Input : Type 0 where
   pub end : ℕ
   pub octets : List ℕ
@@ -20,11 +23,13 @@ place i = i.end - length i.octets
 abbrev pub refusal : FileWhy → ℕ → FileRefusal
 refusal why at = record { at = at; why = why }
 
--- what is answered where the field that begins here isn't whole: the field passes its record, or the file ends inside it
+-- what is answered where the field that begins here isn't whole: the field passes its record, or
+-- the file ends inside it
 abbrev pub cut_by : Bounds → Input → FileRefusal
 cut_by File i = refusal Short i.end
 cut_by Record i = refusal Length (place i)
 
+-- the refusal of a field that begins here and isn't whole
 abbrev pub cut : Input → FileRefusal
 cut i = cut_by i.bounds i
 
@@ -34,7 +39,8 @@ behind size i = record { end = i.end; octets = drop size i.octets; bounds = i.bo
 
 -- the rest of a reading, unless the part before was refused
 infixl 10 ◌>>=◌
-abbrev pub ◌>>=◌ : {A B : Type 0} → Result A FileRefusal → (A → Result B FileRefusal) → Result B FileRefusal
+abbrev pub ◌>>=◌ : {A B : Type 0} → Result A FileRefusal → (A → Result B FileRefusal)
+    → Result B FileRefusal
 (Ok x) >>= next = next x
 (Err e) >>= next = Err e
 
@@ -56,7 +62,8 @@ number_of (octet ∷ octets) = number_behind octet octets
 
 -- so many octets of the field that begins at `field`
 unfoldable pub octets_at : Input → ℕ → Input → Result (List ℕ × Input) FileRefusal
-octets_at field size i = if nat_lt (length i.octets) size then Err (cut field) else Ok (take size i.octets, behind size i)
+octets_at field size i = if nat_lt (length i.octets) size then Err (cut field)
+    else Ok (take size i.octets, behind size i)
 
 -- a number of so many octets
 unfoldable pub number_at : ℕ → Input → Result (ℕ × Input) FileRefusal
@@ -85,10 +92,13 @@ passed_at size i = do
 -- what stands behind the two octets of a format: 05 and its version
 unfoldable pub magic_at : ℕ → List ℕ → Result Input FileRefusal
 magic_at version octets =
-    if is_headed version octets then Ok (record { end = length octets; octets = drop 2 octets; bounds = File }) else Err (refusal Magic 0)
+    if is_headed version octets
+    then Ok (record { end = length octets; octets = drop 2 octets; bounds = File })
+    else Err (refusal Magic 0)
 
 -- the answer of a reading at the front, and what it leaves, want of memory aside
-abbrev pub Reads : {A B : Type 0} → (A → B) → Input → Result A FileRefusal → Result (B × Input) FileRefusal → Type 0
+abbrev pub Reads : {A B : Type 0} → (A → B) → Input → Result A FileRefusal
+    → Result (B × Input) FileRefusal → Type 0
 Reads view left (Ok x) read = read ≡ Ok (view x, left)
 Reads view left (Err e) read = e.why ≢ NoMemory → read ≡ Err e
 

@@ -1,5 +1,7 @@
--- Grammars: which octets spell a value. A grammar speaks of octets alone, of no places and no refusals.
-use Rattle.std.specs.Prelude.{◌≡◌, ℕ, zero, suc, pos, true, List, [], ◌∷◌, ◌++◌, length, Option, option_and_then, is_some, Result, Ok, IfOk, MatchResult}
+-- Grammars: which octets spell a value. A grammar speaks of octets alone, of no places and no
+-- refusals.
+use Rattle.std.specs.Prelude.{◌≡◌, ℕ, zero, suc, pos, true, List, [], ◌∷◌, ◌++◌, length, Option}
+use Rattle.std.specs.Prelude.{option_and_then, is_some, Result, Ok, IfOk, MatchResult}
 use Rattle.std.specs.Str.{is_utf8}
 use Rattle.gss_base.specs.Name.{Name}
 use Rattle.gss_base.specs.Principal.{name_of}
@@ -14,7 +16,8 @@ use Rattle.krb_files.specs.Fields.{number_of}
 use Rattle.krb_files.specs.Names.{are_texts}
 
 -- one value in front, then another, whose grammar may hang on the first
-pub record Then {A B : Type 0} (first : A → List ℕ → Type 0) (second : A → B → List ℕ → Type 0) (b : B) (octets : List ℕ) : Type 0 where
+pub record Then {A B : Type 0} (first : A → List ℕ → Type 0) (second : A → B → List ℕ → Type 0)
+    (b : B) (octets : List ℕ) : Type 0 where
   pub value : A
   pub front : List ℕ
   pub back : List ℕ
@@ -48,33 +51,39 @@ pub record Passed (size : ℕ) (u : Unit {0}) (octets : List ℕ) : Type 0 where
 -- so many texts in a row
 abbrev pub Texts : ℕ → ℕ → List (List ℕ) → List ℕ → Type 0
 Texts size zero = Gives []
-Texts size (suc count) = Then (Counted size) (λ part. Then (Texts size count) (λ parts. Gives (part ∷ parts)))
+Texts size (suc count) =
+    Then (Counted size) (λ part. Then (Texts size count) (λ parts. Gives (part ∷ parts)))
 
 -- the principal of a realm and its components, which are UTF-8
-pub record Named (realm : List ℕ) (parts : List (List ℕ)) (name : Name) (octets : List ℕ) : Type 0 where
-  pub realm_text : is_utf8 realm ≡ true
-  pub part_texts : are_texts parts ≡ true
-  pub named : name_of realm parts ≡ Ok name
-  pub none : octets ≡ []
+pub record Named (realm : List ℕ) (parts : List (List ℕ)) (name : Name) (octets : List ℕ) : Type 0
+  where
+    pub realm_text : is_utf8 realm ≡ true
+    pub part_texts : are_texts parts ≡ true
+    pub named : name_of realm parts ≡ Ok name
+    pub none : octets ≡ []
 
 -- a principal: the count of its components, the realm, the components
 abbrev pub Principal : ℕ → Name → List ℕ → Type 0
-Principal size = Then (Number size) (λ count. Then (Counted size) (λ realm. Then (Texts size count) (λ parts. Named realm parts)))
+Principal size = Then (Number size)
+    (λ count. Then (Counted size) (λ realm. Then (Texts size count) (λ parts. Named realm parts)))
 
 -- the key of a known type, which has the type's length, and none of another type
-pub record IsKey (etype : Option Etype) (bytes : List ℕ) (key : Option Key) (octets : List ℕ) : Type 0 where
+pub record IsKey (etype : Option Etype) (bytes : List ℕ) (key : Option Key) (octets : List ℕ) : Type
+    0 where
   pub value : key ≡ option_and_then (λ known. key_of known bytes) etype
   pub known : is_some key ≡ is_some etype
   pub none : octets ≡ []
 
 -- a key: the number of its type, its octets behind their number
 abbrev pub KeyField : ℕ → Option Key → List ℕ → Type 0
-KeyField size = Then (Number 2) (λ number. Then (Counted size) (λ bytes. IsKey (etype_of (pos number)) bytes))
+KeyField size =
+    Then (Number 2) (λ number. Then (Counted size) (λ bytes. IsKey (etype_of (pos number)) bytes))
 
 -- pieces in a row
 abbrev pub Row : {A : Type 0} → (Next A → List ℕ → Type 0) → List (Next A) → List ℕ → Type 0
 Row piece [] octets = octets ≡ []
-Row piece (next ∷ others) octets = (front : List ℕ) × (back : List ℕ) × piece next front × Row piece others back × (octets ≡ front ++ back)
+Row piece (next ∷ others) octets = (front : List ℕ) × (back : List ℕ) × piece next front
+    × Row piece others back × (octets ≡ front ++ back)
 
 -- the values among pieces
 abbrev pub items : {A : Type 0} → List (Next A) → List A
@@ -84,7 +93,8 @@ items (Other ∷ others) = items others
 items (Item value ∷ others) = value ∷ items others
 
 -- the values among the pieces in front of an end
-pub record Body {A : Type 0} (piece : Next A → List ℕ → Type 0) (end : List ℕ → Type 0) (values : List A) (octets : List ℕ) : Type 0 where
+pub record Body {A : Type 0} (piece : Next A → List ℕ → Type 0) (end : List ℕ → Type 0)
+    (values : List A) (octets : List ℕ) : Type 0 where
   pub pieces : List (Next A)
   pub front : List ℕ
   pub back : List ℕ
@@ -94,6 +104,8 @@ pub record Body {A : Type 0} (piece : Next A → List ℕ → Type 0) (end : Lis
   pub kept : values ≡ items pieces
 
 -- a value is answered exactly where the octets spell it, want of memory aside
-pub record ReadsWhole {A B : Type 0} (view : A → B) (grammar : B → List ℕ → Type 0) (octets : List ℕ) (result : Result A FileRefusal) : Type 0 where
+pub record ReadsWhole {A B : Type 0} (view : A → B) (grammar : B → List ℕ → Type 0)
+    (octets : List ℕ) (result : Result A FileRefusal) : Type 0 where
   pub found : IfOk result (λ x. grammar (view x) octets)
-  pub only : (v : B) → grammar v octets → MatchResult result (λ x. view x ≡ v) (λ e. e.why ≡ NoMemory)
+  pub only : (v : B) → grammar v octets
+      → MatchResult result (λ x. view x ≡ v) (λ e. e.why ≡ NoMemory)

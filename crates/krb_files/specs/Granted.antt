@@ -9,7 +9,8 @@ pub record Granted : Type 0 where
   pub session : Key
   pub ticket : List ℕ
 
--- a credential cache: whose it is, and the credentials of known types with tickets within the limit, in the file's order
+-- a credential cache: whose it is, and the credentials of known types with tickets within the
+-- limit, in the file's order
 pub record Cache : Type 0 where
   pub owner : Name
   pub credentials : List Granted

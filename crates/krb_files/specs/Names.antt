@@ -1,5 +1,6 @@
 -- Principals in both files.
-use Rattle.std.specs.Prelude.{ℕ, zero, suc, Bool, true, ◌&&◌, if◌then◌else◌, List, [], ◌∷◌, Result, Ok, Err}
+use Rattle.std.specs.Prelude.{ℕ, zero, suc, Bool, true, ◌&&◌, if◌then◌else◌, List, [], ◌∷◌, Result}
+use Rattle.std.specs.Prelude.{Ok, Err}
 use Rattle.std.specs.Str.{is_utf8}
 use Rattle.gss_base.specs.Name.{Name}
 use Rattle.gss_base.specs.Principal.{name_of}
@@ -17,6 +18,7 @@ are_texts (part ∷ parts) = is_utf8 part && are_texts parts
 abbrev pub texts_of : ℕ → List (List ℕ) → Result (List (List ℕ)) FileRefusal
 texts_of at parts = if are_texts parts then Ok parts else Err (refusal whys.Name at)
 
+-- the principal, or its refusal at a place
 abbrev pub name_or : ℕ → Result Name NameRefusal → Result Name FileRefusal
 name_or at (Ok name) = Ok name
 name_or at (Err why) = Err (refusal whys.Name at)
@@ -24,7 +26,8 @@ name_or at (Err why) = Err (refusal whys.Name at)
 -- the principal of this realm and these parts, refused at a place where there is none
 unfoldable pub named_at : ℕ → List ℕ → List (List ℕ) → Result Name FileRefusal
 named_at at realm parts =
-    if is_utf8 realm && are_texts parts then name_or at (name_of realm parts) else Err (refusal whys.Name at)
+    if is_utf8 realm && are_texts parts then name_or at (name_of realm parts)
+    else Err (refusal whys.Name at)
 
 -- so many components, each behind a number of so many octets that counts its octets
 unfoldable pub parts_at : ℕ → ℕ → Input → Result (List (List ℕ) × Input) FileRefusal
@@ -34,7 +37,8 @@ parts_at size (suc count) i = do
   parts ← parts_at size count part.1
   Ok (part.0 ∷ parts.0, parts.1)
 
--- the principal that begins at a place, from its count of components on: that count, the realm, the components
+-- the principal that begins at a place, from its count of components on: that count, the realm, the
+-- components
 unfoldable pub principal_at : ℕ → ℕ → Input → Result (Name × Input) FileRefusal
 principal_at size at i = do
   count ← number_at size i

@@ -5,7 +5,8 @@ ghost use Rattle.krb_files.specs.Fields.{Reads, Answers};
 ghost use Rattle.krb_files.specs.Pieces.{all_of};
 ghost use Rattle.krb_files.specs.Grammar.{ReadsWhole};
 ghost use Rattle.krb_files.specs.CcacheGrammar.{SpellsCcache};
-ghost use Rattle.krb_files.specs.Ccache.{name_at, typed_at, times_typed_at, list_at, ticket_at, kept_of, credential_at, next_at, ccache_of, granted_for};
+ghost use Rattle.krb_files.specs.Ccache.{name_at, typed_at, times_typed_at, list_at, ticket_at};
+ghost use Rattle.krb_files.specs.Ccache.{kept_of, credential_at, next_at, ccache_of, granted_for};
 
 use crate::FileRefusal;
 use crate::fields::Fields;
@@ -22,7 +23,7 @@ use std::marker::Model;
 const MOST_TICKET: usize = 60_000;
 
 /// A ticket for a server, of at most 60,000 octets, with the session key of a known type.
-#[derive(Debug, Drop)]
+#[derive(Drop)]
 pub struct Credential {
     pub client: Principal,
     pub server: Principal,
@@ -36,13 +37,14 @@ impl Model for Credential {
 
     ghost Value = { Granted };
 
-    ghost view = { λ c. record { client = c.client; server = c.server; session = c.session; ticket = c.ticket } };
+    ghost view = { λ c.
+        record { client = c.client; server = c.server; session = c.session; ticket = c.ticket } };
 
     ghost invariant = { λ c. length c.ticket ≤ 60000 };
 }
 
 /// The credentials of one principal. Contracts see a `Cache`.
-#[derive(Debug, Drop)]
+#[derive(Drop)]
 pub struct Ccache {
     principal: Principal,
     credentials: Vec<Credential>,

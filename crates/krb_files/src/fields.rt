@@ -3,13 +3,14 @@
 ghost use Rattle.std.specs.Prelude.{◌≡◌, ◌≤◌, length, IfOk};
 ghost use Rattle.krb_files.specs.Keytab.{version_of};
 ghost use Rattle.krb_files.specs.declared.refusal.FileWhy.TheVariants.{Magic};
-ghost use Rattle.krb_files.specs.Fields.{place, refusal, cut, Reads, Answers, magic_at, number_of, octets_at, number_at, counted_at, record_at, passed_at};
+ghost use Rattle.krb_files.specs.Fields.{place, refusal, cut, Reads, Answers, magic_at, number_of};
+ghost use Rattle.krb_files.specs.Fields.{octets_at, number_at, counted_at, record_at, passed_at};
 
 use crate::{FileRefusal, FileWhy};
 use std::marker::Model;
 
 /// What ends where the octets of a reader end.
-#[derive(Clone, Copy, Debug, PartialEq, Eq)]
+#[derive(Clone, Copy)]
 pub enum Bounds {
     /// The file.
     File,

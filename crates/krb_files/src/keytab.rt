@@ -5,7 +5,8 @@ ghost use Rattle.krb_files.specs.Fields.{Reads, Answers};
 ghost use Rattle.krb_files.specs.Pieces.{all_of};
 ghost use Rattle.krb_files.specs.Grammar.{ReadsWhole};
 ghost use Rattle.krb_files.specs.KeytabGrammar.{SpellsKeytab};
-ghost use Rattle.krb_files.specs.Keytab.{has_type, is_for, entry_at, sized_at, piece_at, keytab_of, key_numbered, greater, greatest_number, found, is_served};
+ghost use Rattle.krb_files.specs.Keytab.{has_type, is_for, entry_at, sized_at, piece_at, keytab_of};
+ghost use Rattle.krb_files.specs.Keytab.{key_numbered, greater, greatest_number, found, is_served};
 
 use crate::FileRefusal;
 use crate::fields::Fields;
@@ -18,7 +19,7 @@ use std::alloc::Global;
 use std::marker::Model;
 
 /// One record of a keytab: whose key it is, its number, and the key where its type is known.
-#[derive(Debug, Drop)]
+#[derive(Drop)]
 pub struct Entry {
     name: Principal,
     number: u32,
@@ -26,7 +27,7 @@ pub struct Entry {
 }
 
 /// The keys of a server, by principal, number and type. Contracts see the list of its records.
-#[derive(Debug, Drop)]
+#[derive(Drop)]
 pub struct Keytab {
     entries: Vec<Entry>,
 }

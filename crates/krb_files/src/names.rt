@@ -17,7 +17,8 @@ use std::str;
 /// These octets as a text, where they are one.
 #[tactic(auto, using(crate::proofs::Texts::texts))]
 fn text_of(octets: &[u8]) -> Option<&str>
-    ensures { MatchOption result (is_utf8 octets.now ≡ false) (λ t. (t.now ≡ octets.now) × (is_utf8 octets.now ≡ true)) }
+    ensures { MatchOption result (is_utf8 octets.now ≡ false)
+        (λ t. (t.now ≡ octets.now) × (is_utf8 octets.now ≡ true)) }
 {
     match str::from_utf8(octets) {
         Ok(text) => Some(text),

@@ -1,7 +1,7 @@
 //! What stands in a file one behind the other.
 
 /// What stands next.
-#[derive(Debug, Drop)]
+#[derive(Drop)]
 pub enum Next<T> {
     /// Nothing more.
     End,

@@ -56,7 +56,8 @@ impl fmt::Debug for MicCache {
 impl TokenEnd {
     /// The checksum of both in a row, as this end makes it.
     pub(crate) fn own_checksum(&self, cache: &MicCache, bytes: &[u8], header: &[u8]) -> [u8; 12]
-        ensures { result ≡ checksum_of self.now.key (sign_usage self.now.side) (bytes.now ++ header.now) }
+        ensures { result
+            ≡ checksum_of self.now.key (sign_usage self.now.side) (bytes.now ++ header.now) }
     {
         match cache.keys_of(self) {
             Some(keys) => keys.checksum(bytes, header),
@@ -72,7 +73,8 @@ impl TokenEnd {
         header: &[u8],
         tag: &[u8],
     ) -> bool
-        ensures { result ≡ pointwise nat_eq (checksum_of self.now.key (sign_usage (other_side self.now.side)) (bytes.now ++ header.now)) tag.now }
+        ensures { result ≡ pointwise nat_eq (checksum_of self.now.key
+            (sign_usage (other_side self.now.side)) (bytes.now ++ header.now)) tag.now }
     {
         match cache.keys_of(self) {
             Some(keys) => keys.verify(bytes, header, tag),

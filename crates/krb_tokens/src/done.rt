@@ -5,7 +5,7 @@ use krb_derive::Key;
 use sec_base::Moment;
 
 /// The outcome of a mechanism, at either end.
-#[derive(Clone, Copy, Debug)]
+#[derive(Clone, Copy)]
 pub struct MechDone {
     /// The key of the context.
     pub key: Key,

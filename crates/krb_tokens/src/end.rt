@@ -1,7 +1,9 @@
 //! The end that makes tokens as one side and reads those of the other.
 
 ghost use Rattle.std.specs.Prelude.{◌≡◌, length};
-ghost use Rattle.krb_tokens.specs.End.{other_side, seal_usage, sign_usage, sender_flag, flags_of, is_from_other, is_sealed, has_subkey, is_other_kind, all_filler};
+ghost use Rattle.krb_tokens.specs.End.{other_side, seal_usage, sign_usage, sender_flag, flags_of};
+ghost use Rattle.krb_tokens.specs.End.{is_from_other, is_sealed, has_subkey, is_other_kind};
+ghost use Rattle.krb_tokens.specs.End.{all_filler};
 
 use krb_derive::Key;
 

@@ -20,8 +20,11 @@ pub fn prove_laws()
 /// facing this one could have made: every number, every count of turns, every flag that isn't compared and, where the token is
 /// sealed, every extra count.
 pub fn prove_acceptance(end: &TokenEnd)
-    ensures mics { (token octets : List ℕ) → IsOctets token → (checked_mic end.now token octets ≡ Ok tt) ↔ IsMicOf (facing end.now) octets token }
-    ensures wraps { (sealed : Bool) (token content : List ℕ) → IsOctets token → (unwrapped end.now token ≡ Ok (record { sealed = sealed; content = content })) ↔ IsWrapOf (facing end.now) sealed content token }
+    ensures mics { (token octets : List ℕ) → IsOctets token
+        → (checked_mic end.now token octets ≡ Ok tt) ↔ IsMicOf (facing end.now) octets token }
+    ensures wraps { (sealed : Bool) (token content : List ℕ) → IsOctets token
+        → (unwrapped end.now token ≡ Ok (record { sealed = sealed; content = content }))
+        ↔ IsWrapOf (facing end.now) sealed content token }
 {
     let _keys = SealKeys::of(&end.key, end.side.other().seal_usage());
 }

@@ -32,14 +32,16 @@ impl MicKeys {
 
     /// The checksum of both in a row, as this end makes it.
     pub(crate) fn checksum(&self, bytes: &[u8], header: &[u8]) -> [u8; 12]
-        ensures { result ≡ checksum_of self.now.end.key (sign_usage self.now.end.side) (bytes.now ++ header.now) }
+        ensures { result ≡ checksum_of self.now.end.key (sign_usage self.now.end.side)
+            (bytes.now ++ header.now) }
     {
         self.own.checksum(bytes, header)
     }
 
     /// Whether `tag` is the checksum of both in a row, as the other side makes it.
     pub(crate) fn verify(&self, bytes: &[u8], header: &[u8], tag: &[u8]) -> bool
-        ensures { result ≡ pointwise nat_eq (checksum_of self.now.end.key (sign_usage (other_side self.now.end.side)) (bytes.now ++ header.now)) tag.now }
+        ensures { result ≡ pointwise nat_eq (checksum_of self.now.end.key
+            (sign_usage (other_side self.now.end.side)) (bytes.now ++ header.now)) tag.now }
     {
         self.other.verify(bytes, header, tag)
     }

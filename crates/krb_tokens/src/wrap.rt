@@ -10,11 +10,14 @@
 //! | 8 to 15 | the number, most significant octet first |
 //! | from 16 | the body: sealed, or with a checksum of 12 octets at its end |
 
-ghost use Rattle.std.specs.Prelude.{◌≡◌, ℕ, ◌+◌, ◌<◌, ◌≤◌, true, false, nat_lt, nat_eq, length, take, drop, ◌++◌, slice_index, List, IfOk, Ok, if◌then◌else◌};
+ghost use Rattle.std.specs.Prelude.{◌≡◌, ℕ, ◌+◌, ◌<◌, ◌≤◌, true, false, nat_lt, nat_eq, length};
+ghost use Rattle.std.specs.Prelude.{take, drop, ◌++◌, slice_index, List, IfOk, Ok, if◌then◌else◌};
 ghost use lib.Pointwise.{pointwise};
 ghost use Rattle.sec_base.specs.Answers.{Gives};
 ghost use Rattle.krb_tokens.specs.End.{is_sealed, facing};
-ghost use Rattle.krb_tokens.specs.Wrap.{wrap_header, wrap_of, word_of, body_of, unturned_header, bare_header, unwrapped_signed, unwrapped_plain, unwrapped_sealed, unwrapped, rotated};
+ghost use Rattle.krb_tokens.specs.Wrap.{wrap_header, wrap_of, word_of, body_of, unturned_header};
+ghost use Rattle.krb_tokens.specs.Wrap.{bare_header, unwrapped_signed, unwrapped_plain};
+ghost use Rattle.krb_tokens.specs.Wrap.{unwrapped_sealed, unwrapped, rotated};
 
 use crate::end::{TokenEnd, TokenRefusal, is_other_kind, is_sealed};
 use krb_derive::{OpenRefusal, SealKeys, checksum, open, verify};
@@ -22,7 +25,7 @@ use sec_base::{NoMemory, Octets};
 use std::alloc::Global;
 
 /// What a token held.
-#[derive(Debug, Drop)]
+#[derive(Drop)]
 pub struct Unwrapped {
     pub sealed: bool,
     pub content: Octets,
@@ -37,9 +40,11 @@ fn word_of(token: &[u8], at: usize) -> usize
 }
 
 fn is_too_short(token: &[u8]) -> bool
-    ensures value { result ≡ nat_lt (length token.now) (if is_sealed (slice_index token.now 2) then 60 else 28) }
+    ensures value { result
+        ≡ nat_lt (length token.now) (if is_sealed (slice_index token.now 2) then 60 else 28) }
     ensures enough { result ≡ false → 28 ≤ length token.now }
-    ensures enough_sealed { result ≡ false → is_sealed (slice_index token.now 2) ≡ true → 60 ≤ length token.now }
+    ensures enough_sealed { result ≡ false → is_sealed (slice_index token.now 2) ≡ true
+        → 60 ≤ length token.now }
 {
     if token.len() < 28 {
         return true;
@@ -151,8 +156,10 @@ impl TokenEnd {
     }
 
     fn wrap_signed(&self, alloc: Global, number: u64, bytes: &[u8]) -> Result<Octets, NoMemory>
-        ensures value { IfOk result (λ o. (confounder : List ℕ) → o ≡ wrap_of self.now number false confounder bytes.now) }
-        ensures unwraps { IfOk result (λ o. (rotation : ℕ) → rotation < 65536 → unwrapped (facing self.now) (rotated rotation o) ≡ Ok (record { sealed = false; content = bytes.now })) }
+        ensures value { IfOk result
+            (λ o. (confounder : List ℕ) → o ≡ wrap_of self.now number false confounder bytes.now) }
+        ensures unwraps { IfOk result (λ o. (rotation : ℕ) → rotation < 65536 → unwrapped (facing
+            self.now) (rotated rotation o) ≡ Ok (record { sealed = false; content = bytes.now })) }
     {
         let bare = self.wrap_header(false, 0, number);
         let tag = checksum(&self.key, self.side.seal_usage(), bytes, &bare);
@@ -171,8 +178,10 @@ impl TokenEnd {
         confounder: &[u8; 16],
         bytes: &[u8],
     ) -> Result<Octets, NoMemory>
-        ensures value { IfOk result (λ o. o ≡ wrap_of self.now number true confounder.now bytes.now) }
-        ensures unwraps { IfOk result (λ o. (rotation : ℕ) → rotation < 65536 → unwrapped (facing self.now) (rotated rotation o) ≡ Ok (record { sealed = true; content = bytes.now })) }
+        ensures value { IfOk result
+            (λ o. o ≡ wrap_of self.now number true confounder.now bytes.now) }
+        ensures unwraps { IfOk result (λ o. (rotation : ℕ) → rotation < 65536 → unwrapped (facing
+            self.now) (rotated rotation o) ≡ Ok (record { sealed = true; content = bytes.now })) }
     {
         let header = self.wrap_header(true, 0, number);
         let mut plain = Vec::with_capacity(alloc, bytes.len().saturating_add(16))?;
@@ -195,8 +204,10 @@ impl TokenEnd {
         confounder: &[u8; 16],
         bytes: &[u8],
     ) -> Result<Octets, NoMemory>
-        ensures value { IfOk result (λ o. o ≡ wrap_of self.now number sealed confounder.now bytes.now) }
-        ensures unwraps { IfOk result (λ o. (rotation : ℕ) → rotation < 65536 → unwrapped (facing self.now) (rotated rotation o) ≡ Ok (record { sealed = sealed; content = bytes.now })) }
+        ensures value { IfOk result
+            (λ o. o ≡ wrap_of self.now number sealed confounder.now bytes.now) }
+        ensures unwraps { IfOk result (λ o. (rotation : ℕ) → rotation < 65536 → unwrapped (facing
+            self.now) (rotated rotation o) ≡ Ok (record { sealed = sealed; content = bytes.now })) }
     {
         if sealed {
             self.wrap_sealed(alloc, number, confounder, bytes)
@@ -207,7 +218,8 @@ impl TokenEnd {
 
     fn unwrap_signed(&self, alloc: Global, token: &[u8]) -> Result<Unwrapped, TokenRefusal>
         requires { 28 ≤ length token.now }
-        ensures { Gives TokenRefusal.NoMemory (λ u. u) result (unwrapped_signed self.now token.now) }
+        ensures { Gives TokenRefusal.NoMemory (λ u. u) result
+            (unwrapped_signed self.now token.now) }
     {
         if word_of(token, 4) != 12 {
             return Err(TokenRefusal::ExtraCount);
@@ -232,7 +244,8 @@ impl TokenEnd {
 
     fn unwrap_sealed(&self, alloc: Global, token: &[u8]) -> Result<Unwrapped, TokenRefusal>
         requires { 28 ≤ length token.now }
-        ensures { Gives TokenRefusal.NoMemory (λ u. u) result (unwrapped_sealed self.now token.now) }
+        ensures { Gives TokenRefusal.NoMemory (λ u. u) result
+            (unwrapped_sealed self.now token.now) }
     {
         let body = match body_of(alloc, token) {
             Ok(body) => body,

@@ -16,7 +16,8 @@ use Rattle.accept_book.specs.RecordRule.{stepped, ask_step, record_ruling, call_
 use Rattle.accept_book.specs.declared.book_answer.Negotiated.{Negotiated}
 use Rattle.gss_client.specs.declared.service.Service.{Service}
 use Rattle.gss_client.specs.declared.service.Service.TheVariants as services
-use Rattle.gss_client.specs.Calling.{served_program, number_of, creation_cred, creation_call}
+use Rattle.rpc_msgs.specs.declared.numbers.TheConstants.{PROGRAM, VERSION, NULL}
+use Rattle.gss_client.specs.Calling.{number_of, creation_cred, creation_call}
 use Rattle.gss_client.proofs.CallLengths.{cred-fits, call-fits}
 
 one-token : (token : List ℕ) → length token ≤ 65536 → one_opaque (opaque token) ≡ Ok token
@@ -50,7 +51,7 @@ cred_of service id = creation_cred service (proc_for id) (handle_for id)
 
 -- the call that is heard
 abbrev pub creation_value : Service → ℕ → Option ℕ → List ℕ → CallValue
-creation_value service xid id token = secure_call xid served_program 1 0 (cred_octets (cred_of service id)) (record { flavour = 0; body = [] }) (opaque token)
+creation_value service xid id token = secure_call xid PROGRAM VERSION NULL (cred_octets (cred_of service id)) (record { flavour = 0; body = [] }) (opaque token)
 
 handle-length : (id : ℕ) → length (handle_of id) ≡ 8
 handle-length id = refl
@@ -125,4 +126,4 @@ opaque-fits token few = omega (arith, length-opaque token)
 -- it fits into a record
 pub creation-fits : (service : Service) (xid : ℕ) (id : Option ℕ) (token : List ℕ) → length token ≤ 65536 → length (creation_call service xid (proc_for id) (handle_for id) token) ≤ 131072
 unfolding creation_call
-creation-fits service xid id token few = call-fits xid served_program 1 0 (cred_octets (cred_of service id)) (record { flavour = 0; body = [] }) (opaque token) (short-cred service id) (lit≤ tt) (opaque-fits token few)
+creation-fits service xid id token few = call-fits xid PROGRAM VERSION NULL (cred_octets (cred_of service id)) (record { flavour = 0; body = [] }) (opaque token) (short-cred service id) (lit≤ tt) (opaque-fits token few)

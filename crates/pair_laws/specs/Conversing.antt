@@ -1,4 +1,5 @@
--- A part of a client's talk whose octets to come are the replies of the rule of a record to what it writes, record by record.
+-- A part of a client's talk whose octets to come are the replies of the rule of a record to what it
+-- writes, record by record.
 use Rattle.std.specs.Prelude.{◌≡◌, ◌≤◌, ℕ, List, [], ◌∷◌, ◌++◌, length}
 use Rattle.std.specs.List.{AllByRecursion, flat_map}
 use Rattle.sec_base.specs.Link.{Wire}
@@ -12,7 +13,8 @@ use Rattle.gss_server.specs.Connections.{framed}
 abbrev pub replied : ℕ → List (List ℕ) → List KeptAnswers → List ℕ
 replied width [] kept = []
 replied width (octets ∷ records) [] = []
-replied width (octets ∷ records) (one ∷ kept) = framed (record_ruling octets one width).reply ++ replied width records kept
+replied width (octets ∷ records) (one ∷ kept) =
+    framed (record_ruling octets one width).reply ++ replied width records kept
 
 -- a record within its limit (RFC 5531 section 11 leaves the limit to the receiver)
 abbrev pub IsWithin : List ℕ → Type 0
@@ -28,7 +30,8 @@ pub record Converses {A : Type 0} (width : ℕ) (part : Talking A) (stream : Lis
   pub counted : length kept ≡ length records
   pub heard : stream ≡ replied width records kept ++ rest
 
--- the octets that a call over a link had to come: those that were taken since its start, and those that are still to come
+-- the octets that a call over a link had to come: those that were taken since its start, and those
+-- that are still to come
 pub record IsStream (old new : Wire) (stream : List ℕ) : Type 0 where
   pub took : List ℕ
   pub taken : new.taken ≡ old.taken ++ took

@@ -1,4 +1,5 @@
--- An honest exchange: a session is created by the mechanism that both have in common, against a book, in as many turns as that takes.
+-- An honest exchange: a session is created by the mechanism that both have in common, against a
+-- book, in as many turns as that takes.
 use Rattle.std.specs.Prelude.{◌≡◌, ℕ, ◌<◌, ◌^◌, List, ◌++◌, map, take}
 use Rattle.gss_base.specs.declared.mech.MechKind.{MechKind}
 use Rattle.spnego_core.specs.declared.setup.AcceptSetup.{AcceptSetup}
@@ -13,8 +14,10 @@ use Rattle.pair_laws.specs.Booked.{Around, Booked, IsLeftAlone, id_in}
 abbrev pub occasion_of : KeptAnswers → Occasion
 occasion_of kept = record { now = kept.now; drawn = take 66 kept.draws }
 
--- the facts of a session's start and of an acceptor fit, and the session hears the replies of the acceptor's book
-pub record HonestExchange (setup : AcceptSetup) (width : ℕ) (start : Start) (stream : List ℕ) : Type 0 where
+-- the facts of a session's start and of an acceptor fit, and the session hears the replies of the
+-- acceptor's book
+pub record HonestExchange (setup : AcceptSetup) (width : ℕ) (start : Start) (stream : List ℕ) : Type
+    0 where
   -- the octets to come, and the answers that are kept for the exchange
   pub converses : Converses width (created_from start) stream
   pub answers : List KeptAnswers

@@ -16,10 +16,19 @@ use Rattle.gss_server.specs.Connections.{framed}
 
 -- a session on a context as the server shows it: with its outcome and its handle
 abbrev pub session_on : Lease → Service → ℕ → ℕ → SessionState
-session_on lease service number xid = record { outcome = lease.outcome; service = service; handle = handle_of lease.id; number = number; xid = xid }
+session_on lease service number xid = record {
+  outcome = lease.outcome;
+  service = service;
+  handle =
+      handle_of lease.id;
+  number = number;
+  xid = xid;
+}
 
--- a call of one of the served procedures with its own arguments, which the service protects unless the procedure is 0
-pub record HonestCall (lease : Lease) (service : Service) (number xid procedure : ℕ) (args confounder : List ℕ) : Type 0 where
+-- a call of one of the served procedures with its own arguments, which the service protects unless
+-- the procedure is 0
+pub record HonestCall (lease : Lease) (service : Service) (number xid procedure : ℕ)
+    (args confounder : List ℕ) : Type 0 where
   pub id : lease.id < 2 ^ 64
   pub name : length lease.outcome.initiator ≤ 255
   pub number_left : number ≤ 0x7fffffff
@@ -31,23 +40,37 @@ pub record HonestCall (lease : Lease) (service : Service) (number xid procedure 
   pub block : length confounder ≡ 16
   pub octets : IsOctets (confounder ++ (word number ++ args))
 
--- the server showed the context and admitted the number; it drew 82 octets, 16 of which are a sealed reply's confounder
-pub record IsAdmitted (lease : Lease) (number procedure : ℕ) (args : List ℕ) (kept : KeptAnswers) : Type 0 where
+-- the server showed the context and admitted the number; it drew 82 octets, 16 of which are a
+-- sealed reply's confounder
+pub record IsAdmitted (lease : Lease) (number procedure : ℕ) (args : List ℕ)
+    (kept : KeptAnswers) : Type 0 where
   pub looked : kept.looked ≡ Some (Ok lease)
   pub admitted : Admitted
   pub is_admitted : kept.admitted ≡ Some (Ok admitted)
   pub drawn : length kept.draws ≡ 82
-  pub octets : IsOctets (take 16 (drop 66 kept.draws) ++ (word number ++ result_of procedure args lease.outcome.initiator admitted.posts))
+  pub octets : IsOctets (take 16 (drop 66 kept.draws)
+      ++ (word number ++ result_of procedure args lease.outcome.initiator admitted.posts))
 
--- the call's rule is 23, and where its reply comes next the session takes the service's result from it, and goes on
-pub record IsAnswered (lease : Lease) (service : Service) (number xid procedure : ℕ) (args confounder : List ℕ) (kept : KeptAnswers) (width posts : ℕ) (rest : List ℕ) : Type 0 where
-  pub rule : (record_ruling (data_call (session_on lease service number xid) procedure args confounder) kept width).rule ≡ 23
-  pub result : (calls (session_on lease service number xid) procedure args confounder (framed (record_ruling (data_call (session_on lease service number xid) procedure args confounder) kept width).reply ++ rest)).answer
-      ≡ Ok (session_after (session_on lease service number xid), result_of procedure args lease.outcome.initiator posts)
+-- the call's rule is 23, and where its reply comes next the session takes the service's result from
+-- it, and goes on
+pub record IsAnswered (lease : Lease) (service : Service) (number xid procedure : ℕ)
+    (args confounder : List ℕ) (kept : KeptAnswers) (width posts : ℕ) (rest : List ℕ) : Type 0 where
+  pub rule : (record_ruling (data_call (session_on lease service number xid) procedure args
+      confounder) kept width).rule ≡ 23
+  pub result : (calls (session_on lease service number xid) procedure args confounder (framed
+      (record_ruling (data_call (session_on lease service number xid) procedure args confounder)
+      kept width).reply ++ rest)).answer
+      ≡ Ok (
+        session_after (session_on lease service number xid),
+        result_of procedure args
+            lease.outcome.initiator posts,
+      )
 
 -- every honest call of a context that is shown, and whose number is admitted, is answered
 abbrev pub CallLaw : Lease → Type 0
 CallLaw lease =
-    (service : Service) (number xid procedure : ℕ) (args confounder : List ℕ) (kept : KeptAnswers) (width : ℕ) (rest : List ℕ)
-    → HonestCall lease service number xid procedure args confounder → (a : IsAdmitted lease number procedure args kept)
+    (service : Service) (number xid procedure : ℕ) (args confounder : List ℕ) (kept : KeptAnswers)
+    (width : ℕ) (rest : List ℕ)
+    → HonestCall lease service number xid procedure args confounder
+    → (a : IsAdmitted lease number procedure args kept)
     → IsAnswered lease service number xid procedure args confounder kept width a.admitted.posts rest

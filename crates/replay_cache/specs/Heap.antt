@@ -1,5 +1,5 @@
--- The times of the held marks as they lie in memory: a heap, in which each time is at least that of its parent. The
--- parent of the place k is (k - 1) / 2, and the first place is its own.
+-- The times of the held marks as they lie in memory: a heap, in which each time is at least that of
+-- its parent. The parent of the place k is (k - 1) / 2, and the first place is its own.
 use Rattle.std.specs.Prelude.{◌≡◌, ◌≢◌, ℕ, ◌-◌, ◌/◌, ◌<◌, ◌≤◌, List, length, slice_index_or}
 use Rattle.replay_cache.specs.Tally.{late}
 
@@ -8,20 +8,26 @@ pub record Bag : Type 0 where
   pub room : ℕ
   pub times : List ℕ
 
+-- each time is at least that of its parent
 pub record IsHeap (heap : List ℕ) : Type 0 where
-  pub rises : (k : ℕ) → k < length heap → slice_index_or heap ((k - 1) / 2) 0 ≤ slice_index_or heap k 0
+  pub rises : (k : ℕ) → k < length heap
+      → slice_index_or heap ((k - 1) / 2) 0 ≤ slice_index_or heap k 0
 
 -- a heap but at one place, whose time may be too small for its parent
 pub record IsHeapBelow (heap : List ℕ) (place : ℕ) : Type 0 where
   pub inside : place < length heap
-  pub rises : (k : ℕ) → k < length heap → k ≢ place → slice_index_or heap ((k - 1) / 2) 0 ≤ slice_index_or heap k 0
-  pub over : 0 < place → (k : ℕ) → k < length heap → (k - 1) / 2 ≡ place → slice_index_or heap ((place - 1) / 2) 0 ≤ slice_index_or heap k 0
+  pub rises : (k : ℕ) → k < length heap → k ≢ place
+      → slice_index_or heap ((k - 1) / 2) 0 ≤ slice_index_or heap k 0
+  pub over : 0 < place → (k : ℕ) → k < length heap → (k - 1) / 2 ≡ place
+      → slice_index_or heap ((place - 1) / 2) 0 ≤ slice_index_or heap k 0
 
 -- a heap but at one place, whose time may be too great for its children
 pub record IsHeapAbove (heap : List ℕ) (place : ℕ) : Type 0 where
   pub inside : place < length heap
-  pub rises : (k : ℕ) → k < length heap → (k - 1) / 2 ≢ place → slice_index_or heap ((k - 1) / 2) 0 ≤ slice_index_or heap k 0
-  pub over : 0 < place → (k : ℕ) → k < length heap → (k - 1) / 2 ≡ place → slice_index_or heap ((place - 1) / 2) 0 ≤ slice_index_or heap k 0
+  pub rises : (k : ℕ) → k < length heap → (k - 1) / 2 ≢ place
+      → slice_index_or heap ((k - 1) / 2) 0 ≤ slice_index_or heap k 0
+  pub over : 0 < place → (k : ℕ) → k < length heap → (k - 1) / 2 ≡ place
+      → slice_index_or heap ((place - 1) / 2) 0 ≤ slice_index_or heap k 0
 
 -- two places of a list changed their times
 pub record Exchanged (old new : List ℕ) (a b : ℕ) : Type 0 where
@@ -36,4 +42,5 @@ pub record IsLesser (heap : List ℕ) (place child : ℕ) : Type 0 where
   pub below : (child - 1) / 2 ≡ place
   pub after : place < child
   pub inside : child < length heap
-  pub least : (k : ℕ) → k < length heap → (k - 1) / 2 ≡ place → 0 < k → slice_index_or heap child 0 ≤ slice_index_or heap k 0
+  pub least : (k : ℕ) → k < length heap → (k - 1) / 2 ≡ place → 0 < k
+      → slice_index_or heap child 0 ≤ slice_index_or heap k 0

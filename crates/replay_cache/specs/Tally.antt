@@ -1,6 +1,7 @@
 -- How many elements of a list pass a test.
 use Rattle.std.specs.Prelude.{ℕ, ◌+◌, Bool, if◌then◌else◌, List, [], ◌∷◌, nat_le}
 
+-- how many elements pass the test
 abbrev pub tally : {X : Type 0} → (X → Bool) → List X → ℕ
 tally p [] = 0
 tally p (x ∷ xs) = (if p x then 1 else 0) + tally p xs

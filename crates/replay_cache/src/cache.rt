@@ -1,6 +1,8 @@
 //! A cache as cells in which marks are found by their names, with a heap of their times.
-ghost use Rattle.std.specs.Prelude.{◌≡◌, ℕ, ◌+◌, ◌^◌, ◌<◌, ◌≤◌, List, [], ◌∷◌, ◌++◌, IfOk, IfSome, length, max, Some, None, false, vec_len, slice_index_or};
-ghost use Rattle.replay_cache.specs.Taking.{Holds, cache_verdict, with_taken, kept_of, place_of, is_stale};
+ghost use Rattle.std.specs.Prelude.{◌≡◌, ℕ, ◌+◌, ◌^◌, ◌<◌, ◌≤◌, List, [], ◌∷◌, ◌++◌, IfOk, IfSome};
+ghost use Rattle.std.specs.Prelude.{length, max, Some, None, false, vec_len, slice_index_or};
+ghost use Rattle.replay_cache.specs.Taking.{Holds, cache_verdict, with_taken, kept_of, place_of};
+ghost use Rattle.replay_cache.specs.Taking.{is_stale};
 ghost use Rattle.replay_cache.specs.Cells.{cell_at};
 ghost use Rattle.replay_cache.specs.declared.cache.TakenMark.{TakenMark};
 
@@ -56,9 +58,15 @@ impl Model for Cache {
 
     ghost Value = { Cached };
 
-    ghost view = { λ c. record { capacity = c.capacity; greatest = c.greatest; held = before c.greatest c.cells.items (next_turn c.greatest c.taken) } };
+    ghost view = { λ c. record {
+      capacity = c.capacity;
+      greatest = c.greatest;
+      held =
+          before c.greatest c.cells.items (next_turn c.greatest c.taken);
+    } };
 
-    ghost invariant = { λ c. IsCache c.capacity c.greatest c.taken c.cells.items c.reaches.items c.times };
+    ghost invariant = { λ c. IsCache c.capacity c.greatest c.taken c.cells.items c.reaches.items
+        c.times };
 }
 
 impl Cache {
@@ -100,7 +108,8 @@ impl Cache {
 
     /// What `admit` would say of a mark at the greatest moment. Nothing is taken by it.
     pub fn judge(&self, mark: &Mark) -> CacheVerdict
-        ensures verdict { (taken : List TakenMark) → Holds self.now taken → result ≡ cache_verdict self.now.capacity self.now.greatest taken mark.now }
+        ensures verdict { (taken : List TakenMark) → Holds self.now taken
+            → result ≡ cache_verdict self.now.capacity self.now.greatest taken mark.now }
         ensures room { result ≡ CacheVerdict.Taken → length self.now.held < self.now.capacity }
     {
         self.verdict_on(mark)
@@ -110,8 +119,10 @@ impl Cache {
     pub fn admit(&mut self, now: Moment, mark: Mark, place: u64) -> CacheVerdict
         ensures capacity { self.new.capacity ≡ self.old.capacity }
         ensures greatest { self.new.greatest ≡ max self.old.greatest now }
-        ensures verdict { (taken : List TakenMark) → Holds self.old taken → result ≡ cache_verdict self.old.capacity (max self.old.greatest now) taken mark }
-        ensures holds { (taken : List TakenMark) → Holds self.old taken → Holds self.new (with_taken result taken (record { mark = mark; place = place })) }
+        ensures verdict { (taken : List TakenMark) → Holds self.old taken
+            → result ≡ cache_verdict self.old.capacity (max self.old.greatest now) taken mark }
+        ensures holds { (taken : List TakenMark) → Holds self.old taken
+            → Holds self.new (with_taken result taken (record { mark = mark; place = place })) }
     {
         self.raise(now);
         let verdict = self.verdict_on(&mark);
@@ -139,7 +150,8 @@ impl Cache {
     }
 
     fn verdict_on(&self, mark: &Mark) -> CacheVerdict
-        ensures verdict { (taken : List TakenMark) → Holds self.now taken → result ≡ cache_verdict self.now.capacity self.now.greatest taken mark.now }
+        ensures verdict { (taken : List TakenMark) → Holds self.now taken
+            → result ≡ cache_verdict self.now.capacity self.now.greatest taken mark.now }
         ensures room { result ≡ CacheVerdict.Taken → length self.now.held < self.now.capacity }
         ensures new { result ≡ CacheVerdict.Taken → place_of mark.now self.now.held ≡ None }
         ensures near { result ≡ CacheVerdict.Taken → is_stale self.now.greatest mark.now ≡ false }

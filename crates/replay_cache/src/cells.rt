@@ -1,8 +1,10 @@
 //! The cells of the taken marks, and how a mark is found in them.
-ghost use Rattle.std.specs.Prelude.{◌≡◌, ℕ, ◌+◌, ◌<◌, ◌≤◌, ◌^◌, true, false, length, IfSome, IfNone, Some, None, ◌&&◌, ◌==◌, if◌then◌else◌};
+ghost use Rattle.std.specs.Prelude.{◌≡◌, ℕ, ◌+◌, ◌<◌, ◌≤◌, ◌^◌, true, false, length, IfSome};
+ghost use Rattle.std.specs.Prelude.{IfNone, Some, None, ◌&&◌, ◌==◌, if◌then◌else◌};
 ghost use Rattle.replay_cache.specs.Taking.{same_mark};
 ghost use Rattle.replay_cache.specs.Tally.{tally};
-ghost use Rattle.replay_cache.specs.Cells.{cell_at, mark_in, is_held, has_mark, is_from, home_of, word_of, place_after, steps_to};
+ghost use Rattle.replay_cache.specs.Cells.{cell_at, mark_in, is_held, has_mark, is_from, home_of};
+ghost use Rattle.replay_cache.specs.Cells.{word_of, place_after, steps_to};
 
 use crate::cache::SKEW;
 use gss_base::Mark;
@@ -78,8 +80,10 @@ pub fn find_mark(
     requires bounded { length cells.now ≤ 2 ^ 21 }
     requires home { home < length cells.now }
     requires reach { reach < length cells.now }
-    ensures found { IfSome result (λ p. (p < length cells.now) × (has_mark greatest cells.now mark.now p ≡ true)) }
-    ensures none { IfNone result ((p : ℕ) → p < length cells.now → steps_to (length cells.now) home p ≤ reach → has_mark greatest cells.now mark.now p ≡ false) }
+    ensures found { IfSome result
+        (λ p. (p < length cells.now) × (has_mark greatest cells.now mark.now p ≡ true)) }
+    ensures none { IfNone result ((p : ℕ) → p < length cells.now → steps_to (length cells.now) home
+        p ≤ reach → has_mark greatest cells.now mark.now p ≡ false) }
 {
     for step in 0..reach + 1 {
         let place = place_at(cells.len(), home, step);
@@ -101,7 +105,8 @@ fn need_with(
 ) -> usize
     requires some { 0 < count }
     requires bounded { count ≤ 2 ^ 21 }
-    ensures { result ≡ (if is_held greatest cell.now && (home_of count (mark_in cell.now) == home) then step else needed) }
+    ensures { result ≡ (if is_held greatest cell.now && (home_of count (mark_in cell.now) == home)
+        then step else needed) }
 {
     let who = cell.who;
     let mark = Mark { who, at: cell.at };
@@ -118,7 +123,8 @@ pub fn needed_reach(cells: &[Cell], greatest: Moment, home: usize, reach: usize)
     requires home { home < length cells.now }
     requires reach { reach < length cells.now }
     ensures less { result ≤ reach }
-    ensures covers { (p : ℕ) → p < length cells.now → is_from greatest cells.now home p ≡ true → steps_to (length cells.now) home p ≤ reach → steps_to (length cells.now) home p ≤ result }
+    ensures covers { (p : ℕ) → p < length cells.now → is_from greatest cells.now home p ≡ true
+        → steps_to (length cells.now) home p ≤ reach → steps_to (length cells.now) home p ≤ result }
 {
     let mut needed = 0;
     for step in 0..reach + 1 {
@@ -134,7 +140,8 @@ pub fn free_step(cells: &[Cell], greatest: Moment, home: usize) -> usize
     requires home { home < length cells.now }
     requires some { tally (is_held greatest) cells.now < length cells.now }
     ensures inside { result < length cells.now }
-    ensures free { is_held greatest (cell_at cells.now (place_after (length cells.now) (home + result))) ≡ false }
+    ensures free { is_held greatest
+        (cell_at cells.now (place_after (length cells.now) (home + result))) ≡ false }
 {
     for step in 0..cells.len() {
         let place = place_at(cells.len(), home, step);

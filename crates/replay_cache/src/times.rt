@@ -1,5 +1,6 @@
 //! The times of the held marks as a heap, so that the least is found at once.
-ghost use Rattle.std.specs.Prelude.{◌≡◌, IsTrue, false, ℕ, ◌+◌, ◌-◌, ◌*◌, ◌/◌, ◌<◌, ◌≤◌, List, [], IfOk, length, slice_index_or, vec_len, vec_capacity};
+ghost use Rattle.std.specs.Prelude.{◌≡◌, IsTrue, false, ℕ, ◌+◌, ◌-◌, ◌*◌, ◌/◌, ◌<◌, ◌≤◌, List, []};
+ghost use Rattle.std.specs.Prelude.{IfOk, length, slice_index_or, vec_len, vec_capacity};
 ghost use Rattle.replay_cache.specs.Tally.{late, late_one};
 ghost use Rattle.replay_cache.specs.Heap.{IsHeap, IsHeapBelow, IsHeapAbove, IsLesser, Exchanged};
 
@@ -47,7 +48,8 @@ impl Times {
         requires { length self.old.times < self.old.room }
         ensures room { self.new.room ≡ self.old.room }
         ensures more { length self.new.times ≡ length self.old.times + 1 }
-        ensures counted { (moment : ℕ) → late moment self.new.times ≡ late moment self.old.times + late_one moment at }
+        ensures counted { (moment : ℕ)
+            → late moment self.new.times ≡ late moment self.old.times + late_one moment at }
     {
         self.heap.push_reserved(at);
         let place = self.heap.len() - 1;
@@ -57,7 +59,8 @@ impl Times {
     /// Takes the times before `floor` out of the bag.
     pub fn forget(&mut self, floor: u64)
         ensures room { self.new.room ≡ self.old.room }
-        ensures kept { (moment : ℕ) → floor ≤ moment → late moment self.new.times ≡ late moment self.old.times }
+        ensures kept { (moment : ℕ) → floor ≤ moment
+            → late moment self.new.times ≡ late moment self.old.times }
         ensures late { late floor self.new.times ≡ length self.new.times }
     {
         forget_before(&mut self.heap, floor);
@@ -68,7 +71,8 @@ fn forget_before(heap: &mut Vec<u64>, floor: u64)
     requires { IsHeap heap.old.items }
     ensures heap { IsHeap heap.new.items }
     ensures room { vec_capacity heap.new ≡ vec_capacity heap.old }
-    ensures kept { (moment : ℕ) → floor ≤ moment → late moment heap.new.items ≡ late moment heap.old.items }
+    ensures kept { (moment : ℕ) → floor ≤ moment
+        → late moment heap.new.items ≡ late moment heap.old.items }
     ensures late { late floor heap.new.items ≡ length heap.new.items }
 {
     while is_first_before(heap, floor) {
@@ -91,7 +95,8 @@ fn drop_first(heap: &mut Vec<u64>)
     ensures heap { IsHeap heap.new.items }
     ensures room { vec_capacity heap.new ≡ vec_capacity heap.old }
     ensures less { vec_len heap.new + 1 ≡ vec_len heap.old }
-    ensures counted { (moment : ℕ) → late moment heap.new.items + late_one moment (slice_index_or heap.old.items 0 0) ≡ late moment heap.old.items }
+    ensures counted { (moment : ℕ) → late moment heap.new.items + late_one moment
+        (slice_index_or heap.old.items 0 0) ≡ late moment heap.old.items }
 {
     if let Some(last) = heap.pop() {
         if heap.len() > 0 {
@@ -105,7 +110,8 @@ fn put_first(heap: &mut [u64], at: u64)
     requires heap { IsHeap heap.old }
     requires some { 0 < length heap.old }
     ensures heap { IsHeap heap.new }
-    ensures counted { (moment : ℕ) → late moment heap.new + late_one moment (slice_index_or heap.old 0 0) ≡ late moment heap.old + late_one moment at }
+    ensures counted { (moment : ℕ) → late moment heap.new + late_one moment
+        (slice_index_or heap.old 0 0) ≡ late moment heap.old + late_one moment at }
 {
     heap[0] = at;
     sink(heap);

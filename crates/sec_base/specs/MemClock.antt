@@ -1,8 +1,8 @@
 -- What a clock in memory gives.
 use Rattle.std.specs.Prelude.{ℕ, zero, suc, List, [], ◌∷◌}
 
--- the first `count` moments that are given: those of the list, and then the last of them again and again; `last` is the one
--- given before the list
+-- the first `count` moments that are given: those of the list, and then the last of them again and
+-- again; `last` is the one given before the list
 abbrev pub moments_given : List ℕ → ℕ → ℕ → List ℕ
 moments_given moments last zero = []
 moments_given [] last (suc count) = last ∷ moments_given [] last count

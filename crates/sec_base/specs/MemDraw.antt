@@ -6,6 +6,7 @@ abbrev pub counting : ℕ → ℕ → List ℕ
 counting start zero = []
 counting start (suc count) = (start % 256) ∷ counting (suc start) count
 
--- the first `count` octets that are given: those of the list, and then 0, 1, 2 and so on, modulo 256
+-- the first `count` octets that are given: those of the list, and then 0, 1, 2 and so on, modulo
+-- 256
 abbrev pub octets_given : List ℕ → ℕ → List ℕ
 octets_given octets count = take count octets ++ counting 0 (count - length octets)

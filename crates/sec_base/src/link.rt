@@ -1,6 +1,7 @@
 //! A stream of octets in both directions, as a TCP connection is one.
 
-ghost use Rattle.std.specs.Prelude.{◌≡◌, ℕ, ◌<◌, ◌≤◌, Bool, true, false, length, IsTrue, IfOk, OnErr};
+ghost use Rattle.std.specs.Prelude.{◌≡◌, ℕ, ◌<◌, ◌≤◌, Bool, true, false, length, IsTrue, IfOk};
+ghost use Rattle.std.specs.Prelude.{OnErr};
 ghost use Rattle.sec_base.specs.Answers.{Rose};
 ghost use Rattle.sec_base.specs.Link.{Wire, Reads, Writes};
 
@@ -26,7 +27,8 @@ pub trait Link {
     fn read(&mut self, buf: &mut [u8]) -> Result<usize, LinkFault>
         requires { closed self.old ≡ false }
         ensures count { IfOk result (λ count. count ≤ length buf.old) }
-        ensures told { IsTrue (tells self.old) → Reads (wire self.old) (wire self.new) result buf.new }
+        ensures told { IsTrue (tells self.old)
+            → Reads (wire self.old) (wire self.new) result buf.new }
         ensures tells { tells self.new ≡ tells self.old }
         ensures unclosed { closed self.new ≡ false }
         ensures fault { OnErr result (Rose (faults self.old) (faults self.new)) }
@@ -37,7 +39,8 @@ pub trait Link {
         requires { closed self.old ≡ false }
         ensures count { IfOk result (λ count. count ≤ length buf.now) }
         ensures some { IfOk result (λ count. 0 < length buf.now → 0 < count) }
-        ensures told { IsTrue (tells self.old) → Writes (wire self.old) (wire self.new) result buf.now }
+        ensures told { IsTrue (tells self.old)
+            → Writes (wire self.old) (wire self.new) result buf.now }
         ensures tells { tells self.new ≡ tells self.old }
         ensures unclosed { closed self.new ≡ false }
         ensures fault { OnErr result (Rose (faults self.old) (faults self.new)) }

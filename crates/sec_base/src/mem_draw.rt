@@ -22,9 +22,10 @@ impl MemDraw {
 
     /// The next octet.
     fn next(&mut self) -> u8
-        ensures kept { IsTrue (⟦<MemDraw as Draw>⟧.tells self.new) → IsTrue (⟦<MemDraw as Draw>⟧.tells self.old) }
-        ensures told { IsTrue (⟦<MemDraw as Draw>⟧.tells self.new)
-            → ⟦<MemDraw as Draw>⟧.given self.new ≡ ⟦<MemDraw as Draw>⟧.given self.old ++ result ∷ [] }
+        ensures kept { IsTrue (⟦<MemDraw as Draw>⟧.tells self.new)
+            → IsTrue (⟦<MemDraw as Draw>⟧.tells self.old) }
+        ensures told { IsTrue (⟦<MemDraw as Draw>⟧.tells self.new) → ⟦<MemDraw as Draw>⟧.given
+            self.new ≡ ⟦<MemDraw as Draw>⟧.given self.old ++ result ∷ [] }
     {
         let octet = octet_at(&self.octets, self.count);
         self.count = self.count.saturating_add(1);

@@ -26,7 +26,8 @@ impl MemLink {
     /// much as fits. The calls of `read` and `write` whose numbers, counted from 1, stand in `failing` fail, and so does a write
     /// that finds no memory.
     pub fn new(alloc: Global, input: Vec<u8>, pieces: Vec<usize>, failing: Vec<u64>) -> MemLink
-        ensures wire { ⟦<MemLink as Link>⟧.wire result ≡ record { taken = []; coming = input.items; written = [] } }
+        ensures wire { ⟦<MemLink as Link>⟧.wire result
+            ≡ record { taken = []; coming = input.items; written = [] } }
         ensures closed { ⟦<MemLink as Link>⟧.closed result ≡ false }
         ensures faults { ⟦<MemLink as Link>⟧.faults result ≡ 0 }
     {
@@ -95,7 +96,12 @@ impl Link for MemLink {
 
     ghost tells = { λ _. true };
 
-    ghost wire = { λ l. record { taken = take l.at l.input.items; coming = drop l.at l.input.items; written = l.written.items } };
+    ghost wire = { λ l. record {
+      taken = take l.at l.input.items;
+      coming =
+          drop l.at l.input.items;
+      written = l.written.items;
+    } };
 
     ghost closed = { λ l. l.closed };
 

@@ -1,6 +1,7 @@
 //! Moments of civil time, in microseconds.
 
-ghost use Rattle.std.specs.Prelude.{◌≡◌, ℕ, ◌+◌, ◌*◌, ◌/◌, ◌%◌, ◌<◌, ◌≤◌, ◌&&◌, if◌then◌else◌, nat_le, nat_lt, min, Some, None};
+ghost use Rattle.std.specs.Prelude.{◌≡◌, ℕ, ◌+◌, ◌*◌, ◌/◌, ◌%◌, ◌<◌, ◌≤◌, ◌&&◌, if◌then◌else◌};
+ghost use Rattle.std.specs.Prelude.{nat_le, nat_lt, min, Some, None};
 ghost use Rattle.sec_base.specs.Moment.{greatest_moment};
 
 use std::marker::Model;
@@ -38,7 +39,8 @@ impl Moment {
     /// The moment `secs` seconds and `micros` microseconds after the start of 1970; None past the year 9999, or where
     /// `micros` are a second or more.
     pub fn new(secs: u64, micros: u32) -> Option<Moment>
-        ensures { result ≡ (if nat_le secs 253402300799 && nat_lt micros 1000000 then Some (secs * 1000000 + micros) else None) }
+        ensures { result ≡ (if nat_le secs 253402300799 && nat_lt micros 1000000
+            then Some (secs * 1000000 + micros) else None) }
     {
         if secs <= LAST_SECOND && (micros as u64) < MICROS {
             Some(Moment {

@@ -26,7 +26,8 @@ pub trait Port {
     fn accept(&mut self) -> Result<Option<Self::Link>, PortFault>
         ensures told { IsTrue (tells self.old) → Accepts (links self.old) (links self.new) result }
         ensures tells { tells self.new ≡ tells self.old }
-        ensures unclosed { IfOk result (λ next. IfSome next (λ link. Self.Link.closed link ≡ false)) }
+        ensures unclosed { IfOk result
+            (λ next. IfSome next (λ link. Self.Link.closed link ≡ false)) }
         ensures fault { OnErr result (Rose (faults self.old) (faults self.new)) }
         ensures faults { faults self.old ≤ faults self.new };
 }

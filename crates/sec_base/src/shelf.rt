@@ -44,9 +44,11 @@ pub trait Shelf {
     /// The contents of the file of this name, at most `limit` octets.
     fn load(&mut self, alloc: Global, name: &str, limit: usize) -> Result<Octets, LoadRefusal>
         ensures told { IsTrue (tells self.old) → Loads (files self.old) name.now limit result }
-        ensures asked { IsTrue (tells self.old) → Asks (asked self.old) (asked self.new) name.now result }
+        ensures asked { IsTrue (tells self.old)
+            → Asks (asked self.old) (asked self.new) name.now result }
         ensures files { files self.new ≡ files self.old }
         ensures tells { tells self.new ≡ tells self.old }
-        ensures fault { IsErrOf result LoadRefusal.Fault → Rose (faults self.old) (faults self.new) }
+        ensures fault { IsErrOf result LoadRefusal.Fault
+            → Rose (faults self.old) (faults self.new) }
         ensures faults { faults self.old ≤ faults self.new };
 }

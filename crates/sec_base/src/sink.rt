@@ -20,7 +20,8 @@ pub trait Sink {
 
     /// Appends all of `bytes`; at a fault a front of them was appended.
     fn write(&mut self, bytes: &[u8]) -> Result<(), SinkFault>
-        ensures told { IsTrue (tells self.old) → Appends (written self.old) (written self.new) result bytes.now }
+        ensures told { IsTrue (tells self.old)
+            → Appends (written self.old) (written self.new) result bytes.now }
         ensures tells { tells self.new ≡ tells self.old }
         ensures fault { OnErr result (Rose (faults self.old) (faults self.new)) }
         ensures faults { faults self.old ≤ faults self.new };

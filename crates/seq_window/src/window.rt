@@ -1,5 +1,6 @@
 //! A window as a ring of words with a bit for each number.
-ghost use Rattle.std.specs.Prelude.{◌≡◌, ℕ, ◌+◌, ◌%◌, ◌<◌, ◌≤◌, List, [], ◌∷◌, IfOk, length, slice_index_or};
+ghost use Rattle.std.specs.Prelude.{◌≡◌, ℕ, ◌+◌, ◌%◌, ◌<◌, ◌≤◌, List, [], ◌∷◌, IfOk, length};
+ghost use Rattle.std.specs.Prelude.{slice_index_or};
 ghost use Rattle.seq_window.specs.Marks.{Shows, IsFresh, verdict_of};
 ghost use Rattle.seq_window.specs.Words.{in_words, with_bit};
 
@@ -72,7 +73,8 @@ impl Window {
 
     /// What is to be said of `n`. Nothing is marked by it.
     pub fn judge(&self, n: u32) -> Verdict
-        ensures verdict { (numbers : List ℕ) → Shows self.now numbers → result ≡ verdict_of self.now.width numbers n }
+        ensures verdict { (numbers : List ℕ) → Shows self.now numbers
+            → result ≡ verdict_of self.now.width numbers n }
         ensures fresh { result ≡ Verdict.Fresh → IsFresh self.now n }
     {
         if n > GREATEST_NUMBER {
@@ -151,8 +153,10 @@ fn move_on(words: &mut [u64], last: u32, next: u32)
     requires early { last ≤ 0x80000000 }
     requires small { next ≤ 0x80000000 }
     ensures ring { length words.new ≡ 17 }
-    ensures kept { (b : ℕ) → b ≤ last → next < b + 17 → slice_index_or words.new (b % 17) 0 ≡ slice_index_or words.old (b % 17) 0 }
-    ensures cleared { (b : ℕ) → last < b → b ≤ next → next < b + 17 → slice_index_or words.new (b % 17) 0 ≡ 0 }
+    ensures kept { (b : ℕ) → b ≤ last → next < b + 17
+        → slice_index_or words.new (b % 17) 0 ≡ slice_index_or words.old (b % 17) 0 }
+    ensures cleared { (b : ℕ) → last < b → b ≤ next → next < b + 17
+        → slice_index_or words.new (b % 17) 0 ≡ 0 }
 {
     if next >= WORDS && next - WORDS >= last {
         clear_all(words);

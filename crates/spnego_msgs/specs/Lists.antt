@@ -17,6 +17,8 @@ mech_types = guarded is_count (list_of object_identifier)
 abbrev pub list_octets : List (List ℕ) → List ℕ
 list_octets list = (list_of object_identifier).spell list
 
--- no two lists that have a spelling have the same octets, so a MIC over a list's octets speaks of that list alone
+-- no two lists that have a spelling have the same octets, so a MIC over a list's octets speaks of
+-- that list alone
 abbrev pub OneList : Type 0
-OneList = (xs ys : List (List ℕ)) → (list_of object_identifier).fits xs ≡ true → (list_of object_identifier).fits ys ≡ true → list_octets xs ≡ list_octets ys → xs ≡ ys
+OneList = (xs ys : List (List ℕ)) → (list_of object_identifier).fits xs ≡ true
+    → (list_of object_identifier).fits ys ≡ true → list_octets xs ≡ list_octets ys → xs ≡ ys

@@ -1,5 +1,6 @@
 -- NegTokenInit, RFC 4178 section 4.2.1, in the frame of RFC 2743 section 3.1.
-use Rattle.std.specs.Prelude.{ℕ, Bool, true, false, ◌==◌, ◌&&◌, if◌then◌else◌, List, [], ◌∷◌, Option, Ok}
+use Rattle.std.specs.Prelude.{ℕ, Bool, true, false, ◌==◌, ◌&&◌, if◌then◌else◌, List, [], ◌∷◌}
+use Rattle.std.specs.Prelude.{Option, Ok}
 use Rattle.der_core.specs.declared.refusal.DerWhy.TheVariants.{Value}
 use Rattle.der_core.specs.Format.{Format, Content, place, refused}
 use Rattle.der_core.specs.Element.{element, whole, explicit, plain, any_octets, octet_string}
@@ -9,7 +10,8 @@ use Rattle.spnego_msgs.specs.declared.neg_init.NegInit.{NegInit}
 
 -- whether the octets are the content of 1.3.6.1.5.5.2
 abbrev pub is_spnego : List ℕ → Bool
-is_spnego (a ∷ b ∷ c ∷ d ∷ e ∷ f ∷ []) = (a == 0x2b) && ((b == 6) && ((c == 1) && ((d == 5) && ((e == 5) && (f == 2)))))
+is_spnego (a ∷ b ∷ c ∷ d ∷ e ∷ f ∷ []) =
+    (a == 0x2b) && ((b == 6) && ((c == 1) && ((d == 5) && ((e == 5) && (f == 2)))))
 is_spnego octets = false
 
 -- that content, and nothing to say of it
@@ -20,6 +22,7 @@ spnego_content = record {
   fits = λ nothing. true;
 }
 
+-- the object identifier of SPNEGO
 unfoldable pub spnego_identifier : Format (Unit {0})
 spnego_identifier = element 6 spnego_content
 
@@ -28,7 +31,8 @@ unfoldable pub req_flags : Format (List ℕ)
 req_flags = element 3 (plain any_octets)
 
 -- mechTypes [0], reqFlags [1] OPTIONAL, mechToken [2] OPTIONAL, mechListMIC [3] OPTIONAL
-abbrev pub neg_init_fields : Content (List (List ℕ) × (Option (List ℕ) × (Option (List ℕ) × (Option (List ℕ) × Unit {0}))))
+abbrev pub neg_init_fields : Content
+    (List (List ℕ) × (Option (List ℕ) × (Option (List ℕ) × (Option (List ℕ) × Unit {0}))))
 neg_init_fields =
     with_field (explicit 0xa0 mech_types)
     (with_optional 0xa1 (explicit 0xa1 req_flags)
@@ -45,4 +49,5 @@ neg_init_choice = whole (explicit 0xa0 (element 0x30 (seen
 
 -- the frame with the identifier of SPNEGO, and the token in it
 unfoldable pub neg_init : Content NegInit
-neg_init = whole (element 0x60 (seen (λ v. v.1) (λ t. (tt, t)) (with_field spnego_identifier neg_init_choice)))
+neg_init = whole
+    (element 0x60 (seen (λ v. v.1) (λ t. (tt, t)) (with_field spnego_identifier neg_init_choice)))

@@ -7,7 +7,8 @@ use Rattle.der_core.specs.Element.{element, whole, explicit, octet_string}
 use Rattle.der_core.specs.Fields.{done, with_optional, seen}
 use Rattle.der_core.specs.Values.{object_identifier}
 use Rattle.spnego_msgs.specs.declared.neg_state.NegState.{NegState}
-use Rattle.spnego_msgs.specs.declared.neg_state.NegState.TheVariants.{Completed, Incomplete, Reject, RequestMic}
+use Rattle.spnego_msgs.specs.declared.neg_state.NegState.TheVariants.{Completed, Incomplete, Reject}
+use Rattle.spnego_msgs.specs.declared.neg_state.NegState.TheVariants.{RequestMic}
 use Rattle.spnego_msgs.specs.declared.neg_resp.NegResp.{NegResp}
 
 -- accept-completed, accept-incomplete, reject, request-mic
@@ -17,6 +18,7 @@ state_number Incomplete = 1
 state_number Reject = 2
 state_number RequestMic = 3
 
+-- the state of a number, refused at a place if none has it
 abbrev pub state_named : ℕ → ℕ → Result NegState DerRefusal
 state_named at n =
     if n == 0 then Ok Completed else
@@ -25,11 +27,13 @@ state_named at n =
     if n == 3 then Ok RequestMic else
     refused Value at
 
+-- the state that the content names, which is one octet
 abbrev pub state_of : ℕ → List ℕ → Result NegState DerRefusal
 state_of at [] = refused Value at
 state_of at (n ∷ []) = state_named at n
 state_of at (a ∷ b ∷ os) = refused Value at
 
+-- the content of negState, an ENUMERATED
 abbrev pub state_content : Content NegState
 state_content = record {
   read = λ i. state_of (place i) i.octets;
@@ -41,8 +45,10 @@ state_content = record {
 unfoldable pub neg_state : Format NegState
 neg_state = element 0x0a state_content
 
--- negState [0] OPTIONAL, supportedMech [1] OPTIONAL, responseToken [2] OPTIONAL, mechListMIC [3] OPTIONAL
-abbrev pub neg_resp_fields : Content (Option NegState × (Option (List ℕ) × (Option (List ℕ) × (Option (List ℕ) × Unit {0}))))
+-- negState [0] OPTIONAL, supportedMech [1] OPTIONAL, responseToken [2] OPTIONAL, mechListMIC [3]
+-- OPTIONAL
+abbrev pub neg_resp_fields : Content
+    (Option NegState × (Option (List ℕ) × (Option (List ℕ) × (Option (List ℕ) × Unit {0}))))
 neg_resp_fields =
     with_optional 0xa0 (explicit 0xa0 neg_state)
     (with_optional 0xa1 (explicit 0xa1 object_identifier)

@@ -1,11 +1,13 @@
 //! NegTokenInit, RFC 4178 section 4.2.1.
 
 ghost use Rattle.std.specs.Prelude.{◌≡◌, true, IfOk, OnOk, Ok};
-ghost use Rattle.der_core.specs.Format.{all_of, Answers, Reads, MayRead, MayAnswer, Puts, PutsAll, WritesWhole, place};
+ghost use Rattle.der_core.specs.Format.{all_of, Answers, Reads, MayRead, MayAnswer, Puts, PutsAll};
+ghost use Rattle.der_core.specs.Format.{WritesWhole, place};
 ghost use Rattle.der_core.specs.Element.{explicit};
 ghost use Rattle.der_core.specs.Fields.{optional_at, PutsMaybe};
 ghost use Rattle.spnego_msgs.specs.Lists.{is_count};
-ghost use Rattle.spnego_msgs.specs.NegInit.{is_spnego, spnego_content, spnego_identifier, req_flags, neg_init_fields, neg_init};
+ghost use Rattle.spnego_msgs.specs.NegInit.{is_spnego, spnego_content, spnego_identifier};
+ghost use Rattle.spnego_msgs.specs.NegInit.{req_flags, neg_init_fields, neg_init};
 
 use crate::lists::{list_field, put_list_field};
 use der_core::{DerRefusal, DerWhy, Reader, Writer, optional, put_optional};
@@ -20,7 +22,7 @@ use std::alloc::Global;
 /// | 1 | reqFlags, OPTIONAL, the content of a BIT STRING as it stands |
 /// | 2 | mechToken, OPTIONAL |
 /// | 3 | mechListMIC, OPTIONAL |
-#[derive(Debug, Drop, PartialEq)]
+#[derive(Drop)]
 pub struct NegInit {
     pub list: Items<Oid>,
     pub flags: Option<Octets>,
@@ -94,7 +96,8 @@ fn is_spnego(content: &[u8]) -> bool
 
 /// Reads the flags, where they are there.
 fn optional_flags(alloc: Global, fields: &mut Reader) -> Result<Option<Octets>, DerRefusal>
-    ensures { MayRead (λ v. v) fields.new result (optional_at 0xa1 (explicit 0xa1 req_flags) fields.old) }
+    ensures { MayRead (λ v. v) fields.new result
+        (optional_at 0xa1 (explicit 0xa1 req_flags) fields.old) }
 {
     if !fields.begins(0xa1) {
         return Ok(None);
@@ -135,7 +138,8 @@ pub fn write_init(alloc: Global, v: &NegInit) -> Result<Octets, NoMemory>
 /// Adds the token's fields.
 fn put_init_fields(alloc: Global, fields: &mut Writer, v: &NegInit) -> Result<(), NoMemory>
     requires { is_count v.now.list ≡ true }
-    ensures { OnOk result (PutsAll neg_init_fields (v.now.list, (v.now.flags, (v.now.token, (v.now.mic, tt)))) fields.old fields.new) }
+    ensures { OnOk result (PutsAll neg_init_fields
+        (v.now.list, (v.now.flags, (v.now.token, (v.now.mic, tt)))) fields.old fields.new) }
 {
     put_list_field(alloc, fields, &v.list)?;
     put_optional_flags(alloc, fields, &v.flags)?;

@@ -17,7 +17,7 @@ use std::alloc::Global;
 /// | 1 | supportedMech, OPTIONAL |
 /// | 2 | responseToken, OPTIONAL |
 /// | 3 | mechListMIC, OPTIONAL |
-#[derive(Debug, Drop, PartialEq)]
+#[derive(Drop)]
 pub struct NegResp {
     pub state: Option<NegState>,
     pub mech: Option<Oid>,
@@ -72,7 +72,8 @@ pub fn write_resp(alloc: Global, v: &NegResp) -> Result<Octets, NoMemory>
 
 /// Adds the token's fields.
 fn put_resp_fields(alloc: Global, fields: &mut Writer, v: &NegResp) -> Result<(), NoMemory>
-    ensures { OnOk result (PutsAll neg_resp_fields (v.now.state, (v.now.mech, (v.now.token, (v.now.mic, tt)))) fields.old fields.new) }
+    ensures { OnOk result (PutsAll neg_resp_fields
+        (v.now.state, (v.now.mech, (v.now.token, (v.now.mic, tt)))) fields.old fields.new) }
 {
     put_optional(alloc, fields, 0xa0, &v.state)?;
     put_optional(alloc, fields, 0xa1, &v.mech)?;

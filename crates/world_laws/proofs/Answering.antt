@@ -8,7 +8,8 @@ use Rattle.accept_book.specs.declared.entry.Entry.{Entry}
 use Rattle.accept_book.specs.Answers.{after}
 use Rattle.accept_book.specs.Booking.{BookOf, raised}
 use Rattle.accept_book.specs.RecordShown.{Asked, AskedStep, AskedLook, AskedAdmit, AskedEnd}
-use Rattle.gss_server.specs.Asking.{BookStepped, BookAnswers}
+use Rattle.accept_book.specs.BookAnswers.{BookStepped}
+use Rattle.gss_server.specs.Asking.{BookAnswers}
 use Rattle.world_laws.proofs.Histories.{Fronts, no-front, one-front, same-front, refusal-front, negotiated-front}
 
 -- memory was wanted, or not
@@ -21,8 +22,8 @@ memory-cases answers.NoMemory = inl refl
 stepped-front : (old new : BookOf) (id past : Option ℕ) (token : List ℕ) (now : ℕ) (draws : List ℕ) (answer : Negotiated) → IsPast old.core.table (max old.core.cache.greatest now) past
     → BookStepped old new id token now draws answer → Fronts old.core.history new.core.history
 stepped-front old new id past token now draws answer is_past b = elim (memory-cases answer.answer) [
-  | inl short ↦ subst (Fronts old.core.history) (sym (b.memory short)) (refusal-front id old.core.history)
-  | inr enough ↦ subst (Fronts old.core.history) (sym (b.history past is_past enough)) (negotiated-front old.setup (raised old.core now) id past token now draws)
+  | inl short ↦ subst (Fronts old.core.history) (sym (b.comes.memory short).history) (refusal-front id old.core.history)
+  | inr enough ↦ subst (Fronts old.core.history) (sym (b.comes.outcome past is_past enough).history) (negotiated-front old.setup (raised old.core now) id past token now draws)
 ]
 
 after-front : {R : Type 0} (refusal : Option R) (entry : Entry) (h : List Entry) → Fronts h (after refusal entry h)

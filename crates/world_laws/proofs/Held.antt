@@ -20,7 +20,8 @@ use Rattle.accept_book.specs.RecordShown.{Asked, AskedStep, AskedLook, AskedAdmi
 use Rattle.accept_book.specs.Replays.{SameSlot}
 use Rattle.accept_book.specs.Stepping.{context_of}
 use Rattle.gss_client.specs.Session.{SessionState}
-use Rattle.gss_server.specs.Asking.{BookStepped, BookAnswers}
+use Rattle.accept_book.specs.BookAnswers.{BookStepped}
+use Rattle.gss_server.specs.Asking.{BookAnswers}
 use Rattle.world_laws.specs.declared.event.WorldEvent.{WorldEvent}
 use Rattle.world_laws.specs.declared.event.WorldEvent.TheVariants.{Start, Deliver, Lane, CallBy}
 use Rattle.world_laws.specs.declared.stage.Stage.{Stage}

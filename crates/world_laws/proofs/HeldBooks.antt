@@ -23,7 +23,7 @@ use Rattle.accept_book.specs.BookLaws.{GoodContext, AllGood, BookLaws}
 use Rattle.accept_book.specs.Entering.{id_of}
 use Rattle.accept_book.specs.Found.{step_taken, fixes_of}
 use Rattle.accept_book.specs.Stepping.{Context as Slot, context_of}
-use Rattle.gss_server.specs.Asking.{BookStepped, BookLooked, BookAdmitted, BookEnded}
+use Rattle.accept_book.specs.BookAnswers.{BookStepped, BookLooked, BookAdmitted, BookEnded}
 use Rattle.world_laws.specs.State.{Context, World}
 use Rattle.world_laws.specs.Events.{IsBook}
 use Rattle.world_laws.specs.Lanes.{context_with}
@@ -138,8 +138,8 @@ pub short-passes : (old : World) (id : Option ℕ) (token : List ℕ) (now : ℕ
     → result.answer ≡ answers.NoMemory → Passes (old.fixed ++ []) book
 short-passes old id token now draws result book held stepped short =
     quiet-passes old book held stepped.notes.setup
-    (subst (λ (h : List Entry). Quiet old.book.core.history h) (sym (stepped.memory short)) (quiet-refusal id old.book.core.history))
-    (λ k. refused-stay id k (contexts_of old.book.core.table k) (contexts_of book.core.table k) (stepped.forgotten short k))
+    (subst (λ (h : List Entry). Quiet old.book.core.history h) (sym (stepped.comes.memory short).history) (quiet-refusal id old.book.core.history))
+    (λ k. refused-stay id k (contexts_of old.book.core.table k) (contexts_of book.core.table k) ((stepped.comes.memory short).contexts k))
 
 -- the step that was taken, where one was
 abbrev taken_in : BookOf → Option ℕ → Option ℕ → List ℕ → ℕ → List ℕ → Option Accepted
@@ -151,7 +151,8 @@ added_in book id fixes = option_to_list (option_map (context_with (id_of id book
 pub comes-in : (old : World) (id past : Option ℕ) (token : List ℕ) (now : ℕ) (draws : List ℕ) (result : Negotiated) (book : BookOf) → IsPast old.book.core.table (max old.book.core.cache.greatest now) past
     → BookStepped old.book book id token now draws result → result.answer ≢ answers.NoMemory
     → Comes old.book.setup (raised old.book.core now) id past token now draws book.core.history book.core.table
-comes-in old id past token now draws result book is stepped memory = record { history = stepped.history past is memory; contexts = stepped.contexts past is memory }
+comes-in old id past token now draws result book is stepped memory =
+    let o = stepped.comes.outcome past is memory in record { history = o.history; contexts = o.contexts }
 
 fact-passes : (laws : BookLaws) (old : World) (id past : Option ℕ) (token : List ℕ) (now : ℕ) (draws : List ℕ) (book : BookOf) (fixed : List Context) → Held old → book.setup ≡ old.book.setup
     → Comes old.book.setup (raised old.book.core now) id past token now draws book.core.history book.core.table

@@ -15,7 +15,8 @@ use Rattle.accept_book.specs.Booking.{BookOf, LeasedBy}
 use Rattle.accept_book.specs.History.{Standing, Unknown, Open, Whole, Over, standing}
 use Rattle.accept_book.specs.RecordShown.{Asked, AskedStep, AskedLook, AskedAdmit, AskedEnd}
 use Rattle.accept_book.specs.Stepping.{Context as Slot, context_of}
-use Rattle.gss_server.specs.Asking.{BookLooked, BookAnswers}
+use Rattle.accept_book.specs.BookAnswers.{BookLooked}
+use Rattle.gss_server.specs.Asking.{BookAnswers}
 use Rattle.world_laws.specs.State.{InHand, Context}
 use Rattle.world_laws.specs.Lanes.{in_hand, hand_after}
 use Rattle.world_laws.proofs.HeldFacts.{FixedIn, more-fixed, contexts_of, Slots, HandHolds, Leases}

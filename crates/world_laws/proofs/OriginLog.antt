@@ -24,7 +24,7 @@ use Rattle.accept_book.specs.History.{Standing, Unknown, Open, Whole, Over, stan
 use Rattle.accept_book.specs.Answers.{after, or_refused}
 use Rattle.accept_book.specs.Entering.{id_of, lapsed, started, noted, finished, entered, mark_refused}
 use Rattle.accept_book.specs.Booking.{BookOf, Stands, Outcomes, mark_of, next_of, settled_of, after_refusal, raised, by_mark, by_step, later_step, begun, opened_by, gone_on_by, negotiated}
-use Rattle.gss_server.specs.Asking.{BookStepped}
+use Rattle.accept_book.specs.BookAnswers.{BookStepped}
 use Rattle.world_laws.proofs.Answering.{memory-cases}
 
 -- a call, or an end by a call
@@ -132,8 +132,8 @@ silent-negotiated setup book (Some id) past token now draws = silent-gone (stand
 pub silent-stepped : (old new : BookOf) (id past : Option ℕ) (token : List ℕ) (now : ℕ) (draws : List ℕ) (answer : Negotiated) → IsPast old.core.table (max old.core.cache.greatest now) past
     → BookStepped old new id token now draws answer → Silent old.core.history new.core.history
 silent-stepped old new id past token now draws answer is_past b = elim (memory-cases answer.answer) [
-  | inl short ↦ subst (Silent old.core.history) (sym (b.memory short)) (silent-refusal id old.core.history)
-  | inr enough ↦ subst (Silent old.core.history) (sym (b.history past is_past enough)) (silent-negotiated old.setup (raised old.core now) id past token now draws)
+  | inl short ↦ subst (Silent old.core.history) (sym (b.comes.memory short).history) (silent-refusal id old.core.history)
+  | inr enough ↦ subst (Silent old.core.history) (sym (b.comes.outcome past is_past enough).history) (silent-negotiated old.setup (raised old.core now) id past token now draws)
 ]
 
 -- ---- an admission, and an end

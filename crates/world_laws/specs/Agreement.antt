@@ -23,7 +23,8 @@ use Rattle.accept_book.specs.Stepping.{context_of}
 use Rattle.world_laws.specs.declared.event.WorldEvent.{WorldEvent}
 use Rattle.world_laws.specs.State.{Context, World}
 use Rattle.world_laws.specs.Events.{Run, Begins}
-use Rattle.world_laws.specs.Premises.{Marking, GuardedBasis, OnGuarded, NoForgery, Fresh, Completed, Proved, HasAuth}
+use Rattle.world_laws.specs.Premises.{Marking, GuardedBasis, OnGuarded, NoForgery, Fresh, Completed}
+use Rattle.world_laws.specs.Premises.{Proved, HasAuth}
 
 -- ---- partners
 
@@ -35,17 +36,19 @@ pub record TookRequest (own : InitSetup) (request : Judged) : Type 0 where
   pub stamp : request.stamp ≡ own.stamp
 
 -- the context took the initiator's proof: both have one AuthMessage
-pub record TookProof (w : World) (own : InitSetup) (end : AcceptModel) (text : List ℕ) : Type 0 where
-  pub auth : List ℕ
-  pub taken : HasAuth end text auth
-  pub proved : Proved w own auth
+pub record TookProof (w : World) (own : InitSetup) (end : AcceptModel) (text : List ℕ) : Type 0
+  where
+    pub auth : List ℕ
+    pub taken : HasAuth end text auth
+    pub proved : Proved w own auth
 
+-- the initiator's partner: a context that is built on this took its authenticator or its proof
 abbrev pub Partner : World → InitSetup → Basis → Type 0
 Partner w own (ByRequest request) = TookRequest own request
 Partner w own (ByProof end text) = TookProof w own end text
 
--- a context at this place of what was fixed is the initiator's partner, and they agree: on the mechanism, both names, the key and whose it is, and the
--- hash of the bindings
+-- a context at this place of what was fixed is the initiator's partner, and they agree: on the
+-- mechanism, both names, the key and whose it is, and the hash of the bindings
 pub record HasPartner (w : World) (own : InitSetup) (outcome : Outcome) : Type 0 where
   pub place : ℕ
   pub context : Context
@@ -55,18 +58,23 @@ pub record HasPartner (w : World) (own : InitSetup) (outcome : Outcome) : Type 0
 
 -- ---- by one mechanism
 
--- who completed by this mechanism on a guarded key has a partner of this mechanism, and no second one
-pub record HasOneBy (marking : Marking) (w : World) (own : InitSetup) (outcome : Outcome) : Type 0 where
-  pub has : HasPartner w own outcome
-  pub only : (other : ℕ) (x : Context) → slice_get w.fixed other ≡ Some x → x.fixed.outcome.mech ≡ outcome.mech → Partner w own x.fixed.basis → other ≡ has.place
+-- who completed by this mechanism on a guarded key has a partner of this mechanism, and no second
+-- one
+pub record HasOneBy (marking : Marking) (w : World) (own : InitSetup) (outcome : Outcome) : Type 0
+  where
+    pub has : HasPartner w own outcome
+    pub only : (other : ℕ) (x : Context) → slice_get w.fixed other ≡ Some x
+        → x.fixed.outcome.mech ≡ outcome.mech → Partner w own x.fixed.basis → other ≡ has.place
 
--- a context has an initiator whose authenticator or proof it took; its facts give the context's names and hash
+-- a context has an initiator whose authenticator or proof it took; its facts give the context's
+-- names and hash
 pub record NamesByTicket (own : InitSetup) (outcome : Outcome) : Type 0 where
   pub credential : Granted
   pub is_own : cred_for own.list kinds.Kerberos ≡ Some (creds.Kerberos credential)
   pub initiator : outcome.initiator ≡ label_of credential.client
   pub acceptor : outcome.acceptor ≡ label_of credential.server
 
+-- the same by SCRAM: the initiator is the account's user, and the acceptor has no name
 pub record NamesByAccount (own : InitSetup) (outcome : Outcome) : Type 0 where
   pub user : List ℕ
   pub password : List ℕ
@@ -74,10 +82,12 @@ pub record NamesByAccount (own : InitSetup) (outcome : Outcome) : Type 0 where
   pub initiator : outcome.initiator ≡ user
   pub acceptor : outcome.acceptor ≡ []
 
+-- the outcome's names are those of the initiator's own credential of this mechanism
 abbrev pub NamesBy : MechKind → InitSetup → Outcome → Type 0
 NamesBy kinds.Kerberos own outcome = NamesByTicket own outcome
 NamesBy kinds.Scram own outcome = NamesByAccount own outcome
 
+-- the context is the partner of one initiator alone, whose facts give its names and hash
 pub record HasInitiator (w : World) (context : Context) : Type 0 where
   pub initiator : ℕ
   pub own : InitSetup
@@ -86,32 +96,40 @@ pub record HasInitiator (w : World) (context : Context) : Type 0 where
   pub names : NamesBy context.fixed.outcome.mech own context.fixed.outcome
   pub hash : context.fixed.outcome.hash ≡ hash_of own.bindings
   -- nobody else's
-  pub only : (other : ℕ) (next : InitSetup) → slice_get w.facts other ≡ Some next → Partner w next context.fixed.basis → other ≡ initiator
+  pub only : (other : ℕ) (next : InitSetup) → slice_get w.facts other ≡ Some next
+      → Partner w next context.fixed.basis → other ≡ initiator
 
 -- agreement by one mechanism alone
 pub record AgreementBy (kind : MechKind) (marking : Marking) (w : World) : Type 0 where
-  pub initiators : (i : ℕ) (own : InitSetup) (outcome : Outcome) → Completed w i own outcome → outcome.mech ≡ kind → OnGuarded marking own kind → HasOneBy marking w own outcome
-  pub contexts : (place : ℕ) (x : Context) → slice_get w.fixed place ≡ Some x → x.fixed.outcome.mech ≡ kind → GuardedBasis marking x.fixed.basis → HasInitiator w x
+  pub initiators : (i : ℕ) (own : InitSetup) (outcome : Outcome) → Completed w i own outcome
+      → outcome.mech ≡ kind → OnGuarded marking own kind → HasOneBy marking w own outcome
+  pub contexts : (place : ℕ) (x : Context) → slice_get w.fixed place ≡ Some x
+      → x.fixed.outcome.mech ≡ kind → GuardedBasis marking x.fixed.basis → HasInitiator w x
 
 -- after every run, for every marking
 abbrev pub AgreementLawBy : MechKind → Type 0
-AgreementLawBy kind = (marking : Marking) (old : World) (events : List WorldEvent) (new : World) (run : Run old events new)
-    → Begins old → NoForgery marking old events new run → Fresh marking new → AgreementBy kind marking new
+AgreementLawBy kind = (marking : Marking) (old : World) (events : List WorldEvent) (new : World)
+    (run : Run old events new)
+    → Begins old → NoForgery marking old events new run → Fresh marking new
+    → AgreementBy kind marking new
 
 -- ---- with the negotiation
 
--- it has a partner on a guarded key, and each partner on a guarded key, of whatever mechanism, is this one; the mechanism is the first of the own list
--- that the acceptor offers
-pub record HasOne (marking : Marking) (w : World) (own : InitSetup) (outcome : Outcome) : Type 0 where
-  pub has : HasPartner w own outcome
-  pub guarded : GuardedBasis marking has.context.fixed.basis
-  pub best_is : best w.book.setup.offer (own_list own) ≡ Some outcome.mech
-  pub only : (other : ℕ) (x : Context) → slice_get w.fixed other ≡ Some x → Partner w own x.fixed.basis → GuardedBasis marking x.fixed.basis → other ≡ has.place
+-- it has a partner on a guarded key, and each partner on a guarded key, of whatever mechanism, is
+-- this one; the mechanism is the first of the own list that the acceptor offers
+pub record HasOne (marking : Marking) (w : World) (own : InitSetup) (outcome : Outcome) : Type 0
+  where
+    pub has : HasPartner w own outcome
+    pub guarded : GuardedBasis marking has.context.fixed.basis
+    pub best_is : best w.book.setup.offer (own_list own) ≡ Some outcome.mech
+    pub only : (other : ℕ) (x : Context) → slice_get w.fixed other ≡ Some x
+        → Partner w own x.fixed.basis → GuardedBasis marking x.fixed.basis → other ≡ has.place
 
 -- where the context's initiator completed on a guarded key, both outcomes agree
 pub record Meets (marking : Marking) (w : World) (context : Context) : Type 0 where
   pub has : HasInitiator w context
-  pub agree : (outcome : Outcome) → Completed w has.initiator has.own outcome → OnGuarded marking has.own outcome.mech → outcome ≡ context.fixed.outcome
+  pub agree : (outcome : Outcome) → Completed w has.initiator has.own outcome
+      → OnGuarded marking has.own outcome.mech → outcome ≡ context.fixed.outcome
 
 -- a context was fixed with this id, outcome and end
 pub record FixedAs (w : World) (id : ℕ) (outcome : Outcome) (ends : ℕ) : Type 0 where
@@ -122,17 +140,30 @@ pub record FixedAs (w : World) (id : ℕ) (outcome : Outcome) (ends : ℕ) : Typ
   pub outcome_is : context.fixed.outcome ≡ outcome
   pub ends_is : context.fixed.lasts ≡ ends
 
+-- what holds of initiators that completed on guarded keys, of contexts that are built on such,
+-- and of what stands in the acceptor's log and table
 pub record Agreement (marking : Marking) (w : World) : Type 0 where
-  pub initiators : (i : ℕ) (own : InitSetup) (outcome : Outcome) → Completed w i own outcome → OnGuarded marking own outcome.mech → HasOne marking w own outcome
+  pub initiators : (i : ℕ) (own : InitSetup) (outcome : Outcome) → Completed w i own outcome
+      → OnGuarded marking own outcome.mech → HasOne marking w own outcome
   -- no two share one
-  pub apart : (i j : ℕ) (own other : InitSetup) (outcome last : Outcome) (one : Completed w i own outcome) (on : OnGuarded marking own outcome.mech) (two : Completed w j other last) (also : OnGuarded marking other last.mech)
-      → (initiators i own outcome one on).has.place ≡ (initiators j other last two also).has.place → i ≡ j
-  pub contexts : (place : ℕ) (x : Context) → slice_get w.fixed place ≡ Some x → GuardedBasis marking x.fixed.basis → Meets marking w x
-  -- what the log says was settled was fixed, with the mechanism, the names and the end in the log; and what a complete context has was fixed
-  pub settled : (place id : ℕ) (mech : MechKind) (names : List ℕ) (ends at : ℕ) → entry_at place w.book.core.history ≡ Some (Settled id mech names ends at)
-      → (outcome : Outcome) × FixedAs w id outcome ends × (outcome.mech ≡ mech) × (names_of outcome ≡ names)
-  pub complete : (id : ℕ) (outcome : Outcome) (ends : ℕ) → context_of (slot_at w.book.core.table id) ≡ Some (record { state = Complete outcome; ends = ends }) → FixedAs w id outcome ends
+  pub apart : (i j : ℕ) (own other : InitSetup) (outcome last : Outcome)
+      (one : Completed w i own outcome) (on : OnGuarded marking own outcome.mech)
+      (two : Completed w j other last) (also : OnGuarded marking other last.mech)
+      → (initiators i own outcome one on).has.place ≡ (initiators j other last two also).has.place
+      → i ≡ j
+  pub contexts : (place : ℕ) (x : Context) → slice_get w.fixed place ≡ Some x
+      → GuardedBasis marking x.fixed.basis → Meets marking w x
+  -- what the log says was settled was fixed, with the mechanism, the names and the end in the log;
+  -- and what a complete context has was fixed
+  pub settled : (place id : ℕ) (mech : MechKind) (names : List ℕ) (ends at : ℕ)
+      → entry_at place w.book.core.history ≡ Some (Settled id mech names ends at)
+      → (outcome : Outcome) × FixedAs w id outcome ends × (outcome.mech ≡ mech)
+      × (names_of outcome ≡ names)
+  pub complete : (id : ℕ) (outcome : Outcome) (ends : ℕ) → context_of (slot_at w.book.core.table id)
+      ≡ Some (record { state = Complete outcome; ends = ends }) → FixedAs w id outcome ends
 
+-- agreement holds after every run, for every marking, if nothing is forged and draws are fresh
 abbrev pub AgreementLaw : Type 0
-AgreementLaw = (marking : Marking) (old : World) (events : List WorldEvent) (new : World) (run : Run old events new)
+AgreementLaw = (marking : Marking) (old : World) (events : List WorldEvent) (new : World)
+    (run : Run old events new)
     → Begins old → NoForgery marking old events new run → Fresh marking new → Agreement marking new

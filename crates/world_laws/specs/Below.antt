@@ -7,6 +7,7 @@ use Rattle.spnego_core.specs.InitLaws.{InitLaws}
 use Rattle.spnego_core.specs.AcceptLaws.{AcceptLaws}
 use Rattle.accept_book.specs.BookLaws.{BookLaws}
 
+-- of seals and checksums, of tokens, Kerberos's exchange, SCRAM, both ends of SPNEGO, and the book
 pub record Below : Type 0 where
   pub making : MakingLaws
   pub tokens : TokenLaws

@@ -7,13 +7,15 @@ use Rattle.world_laws.specs.declared.event.Happened.{Happened}
 use Rattle.world_laws.specs.declared.event.Happened.TheVariants.{Nothing}
 use Rattle.world_laws.specs.State.{Context}
 
--- a ticket that an acceptor opened: by which key, and of which client and session key it says that it is
+-- a ticket that an acceptor opened: by which key, and of which client and session key it says that
+-- it is
 pub record Opened : Type 0 where
   pub service : Key
   pub client : Name
   pub session : Key
 
--- the answer, none where memory was wanted; what honest ends handed out and what they found verified; the ticket that was opened, and what was fixed
+-- the answer, none where memory was wanted; what honest ends handed out and what they found
+-- verified; the ticket that was opened, and what was fixed
 pub record Deed : Type 0 where
   pub answer : Option Happened
   pub makes : List MechMaking
@@ -25,5 +27,6 @@ pub record Deed : Type 0 where
 abbrev pub quiet : Option Happened → Deed
 quiet answer = record { answer = answer; makes = []; found = []; opened = None; fixes = None }
 
+-- there was nothing to be done, and nothing was done
 abbrev pub nothing : Deed
 nothing = quiet (Some Nothing)

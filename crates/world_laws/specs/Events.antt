@@ -1,5 +1,6 @@
 -- Events, and runs of them.
-use Rattle.std.specs.Prelude.{◌≡◌, ◌⊎◌, ℕ, ◌≤◌, Bool, true, false, nat_le, List, [], ◌∷◌, length, slice_get, Option, Some, None}
+use Rattle.std.specs.Prelude.{◌≡◌, ◌⊎◌, ℕ, ◌≤◌, Bool, true, false, nat_le, List, [], ◌∷◌, length}
+use Rattle.std.specs.Prelude.{slice_get, Option, Some, None}
 use Rattle.spnego_core.specs.declared.setup.InitSetup.{InitSetup}
 use Rattle.spnego_core.specs.InitMech.{is_own_list}
 use Rattle.accept_book.specs.Booking.{BookOf, by_outcome}
@@ -19,8 +20,10 @@ use Rattle.world_laws.specs.Setups.{Proper}
 
 -- the book's log is legal, and its contexts, marks and counts are what the log says
 abbrev pub IsBook : BookOf → Type 0
-IsBook book = Replays by_outcome book.core.width (posts book.core.history) book.core.history book.core.table book.core.cache
+IsBook book = Replays by_outcome book.core.width (posts book.core.history) book.core.history
+    book.core.table book.core.cache
 
+-- there was nothing to be done, and the world is as it was
 abbrev pub Idles : World → Deed → World → Type 0
 Idles old deed new = (deed ≡ nothing) × (new ≡ old)
 
@@ -30,6 +33,7 @@ Moves old i moved deed new =
     ((deed ≡ did moved) × (new ≡ moved_to old i moved.stage moved.makes))
     ⊎ ((deed ≡ quiet None) × (new ≡ moved_to old i moved.lost []))
 
+-- a start: an initiator that wasn't started starts; else nothing is done
 abbrev pub StartsBy : World → ℕ → Option Stage → Deed → World → Type 0
 StartsBy old i None deed new = Idles old deed new
 StartsBy old i (Some (stages.Ready own)) deed new = Moves old i (starts own) deed new
@@ -38,10 +42,12 @@ StartsBy old i (Some (stages.Stands s)) deed new = Idles old deed new
 StartsBy old i (Some (stages.Left s)) deed new = Idles old deed new
 StartsBy old i (Some stages.Over) deed new = Idles old deed new
 
+-- a reply: an initiator with a creation call out takes these octets; else nothing is done
 abbrev pub DeliversBy : World → ℕ → List ℕ → Option Stage → Deed → World → Type 0
 DeliversBy old i octets None deed new = Idles old deed new
 DeliversBy old i octets (Some (stages.Ready own)) deed new = Idles old deed new
-DeliversBy old i octets (Some (stages.Asks xid end)) deed new = Moves old i (takes xid end octets) deed new
+DeliversBy old i octets (Some (stages.Asks xid end)) deed new =
+    Moves old i (takes xid end octets) deed new
 DeliversBy old i octets (Some (stages.Stands s)) deed new = Idles old deed new
 DeliversBy old i octets (Some (stages.Left s)) deed new = Idles old deed new
 DeliversBy old i octets (Some stages.Over) deed new = Idles old deed new
@@ -51,31 +57,40 @@ abbrev pub CallsWith : Bool → World → ℕ → SessionState → ℕ → List 
 CallsWith true old i s procedure args deed new = Moves old i (calls s procedure args) deed new
 CallsWith false old i s procedure args deed new = Idles old deed new
 
+-- a call: an initiator whose context stands makes it, if a number is left; else nothing is done
 abbrev pub CallsBy : World → ℕ → ℕ → List ℕ → Option Stage → Deed → World → Type 0
 CallsBy old i procedure args None deed new = Idles old deed new
 CallsBy old i procedure args (Some (stages.Ready own)) deed new = Idles old deed new
 CallsBy old i procedure args (Some (stages.Asks xid end)) deed new = Idles old deed new
-CallsBy old i procedure args (Some (stages.Stands s)) deed new = CallsWith (nat_le s.number 0x7fffffff) old i s procedure args deed new
+CallsBy old i procedure args (Some (stages.Stands s)) deed new =
+    CallsWith (nat_le s.number 0x7fffffff) old i s procedure args deed new
 CallsBy old i procedure args (Some (stages.Left s)) deed new = Idles old deed new
 CallsBy old i procedure args (Some stages.Over) deed new = Idles old deed new
 
 -- a lane has a record in hand, or takes this one
-abbrev pub LanesBy : World → ℕ → List ℕ → ℕ → List ℕ → Option (Option InHand) → Deed → World → Type 0
+abbrev pub LanesBy : World → ℕ → List ℕ → ℕ → List ℕ → Option (Option InHand) → Deed → World
+    → Type 0
 LanesBy old lane octets now draws None deed new = Idles old deed new
-LanesBy old lane octets now draws (Some hand) deed new = LaneMoves old lane (in_hand hand octets now draws) deed new
+LanesBy old lane octets now draws (Some hand) deed new =
+    LaneMoves old lane (in_hand hand octets now draws) deed new
 
 -- calls are of served procedures with their own arguments, which fit into a record
 abbrev pub IsProper : WorldEvent → Type 0
 IsProper (Start initiator) = Unit {0}
 IsProper (Deliver initiator octets) = Unit {0}
 IsProper (Lane lane octets now draws) = length draws ≡ 82
-IsProper (CallBy initiator procedure args) = (procedure ≤ 4) × (are_args procedure args ≡ true) × (length args ≤ 65540)
+IsProper (CallBy initiator procedure args) = (procedure ≤ 4) × (are_args procedure args ≡ true)
+    × (length args ≤ 65540)
 
+-- what an event does, by its kind: a start, a reply that comes, a lane's next step, a call
 abbrev pub HappensBy : World → WorldEvent → Deed → World → Type 0
 HappensBy old (Start i) deed new = StartsBy old i (slice_get old.stages i) deed new
-HappensBy old (Deliver i octets) deed new = DeliversBy old i octets (slice_get old.stages i) deed new
-HappensBy old (Lane lane octets now draws) deed new = LanesBy old lane octets now draws (slice_get old.lanes lane) deed new
-HappensBy old (CallBy i procedure args) deed new = CallsBy old i procedure args (slice_get old.stages i) deed new
+HappensBy old (Deliver i octets) deed new =
+    DeliversBy old i octets (slice_get old.stages i) deed new
+HappensBy old (Lane lane octets now draws) deed new =
+    LanesBy old lane octets now draws (slice_get old.lanes lane) deed new
+HappensBy old (CallBy i procedure args) deed new =
+    CallsBy old i procedure args (slice_get old.stages i) deed new
 
 -- an event, and what it did
 pub record Happens (old : World) (event : WorldEvent) (deed : Deed) (new : World) : Type 0 where
@@ -96,11 +111,14 @@ abbrev pub Run : World → List WorldEvent → World → Type 0
 Run old [] new = new ≡ old
 Run old (event ∷ later) new = (next : Next old event) × Run next.world later new
 
--- a world before its first event: nobody was started, nothing is in hand, was fixed or was handed out, and the book has no entry. Each initiator has one
--- or two credentials, of different mechanisms, and is one that can be begun
+-- a world before its first event: nobody was started, nothing is in hand, was fixed or was handed
+-- out, and the book has no entry. Each initiator has one or two credentials, of different
+-- mechanisms, and is one that can be begun
 pub record Begins (w : World) : Type 0 where
-  pub ready : (i : ℕ) (own : InitSetup) → slice_get w.facts i ≡ Some own → (slice_get w.stages i ≡ Some (stages.Ready own)) × (is_own_list own.list ≡ true)
-  pub known : (i : ℕ) (stage : Stage) → slice_get w.stages i ≡ Some stage → (own : InitSetup) × (slice_get w.facts i ≡ Some own) × (stage ≡ stages.Ready own)
+  pub ready : (i : ℕ) (own : InitSetup) → slice_get w.facts i ≡ Some own
+      → (slice_get w.stages i ≡ Some (stages.Ready own)) × (is_own_list own.list ≡ true)
+  pub known : (i : ℕ) (stage : Stage) → slice_get w.stages i ≡ Some stage
+      → (own : InitSetup) × (slice_get w.facts i ≡ Some own) × (stage ≡ stages.Ready own)
   pub idle : (lane : ℕ) (hand : Option InHand) → slice_get w.lanes lane ≡ Some hand → hand ≡ None
   pub unfixed : w.fixed ≡ []
   pub unmade : w.makings ≡ []

@@ -1,5 +1,6 @@
 -- What initiators do: they start, take replies to their creation calls, and call.
-use Rattle.std.specs.Prelude.{ℕ, ◌+◌, ◌*◌, ◌==◌, true, if◌then◌else◌, List, [], ◌∷◌, ◌++◌, map, replicate, take, Option, Some, None, Result, Ok, Err}
+use Rattle.std.specs.Prelude.{ℕ, ◌+◌, ◌*◌, ◌==◌, true, if◌then◌else◌, List, [], ◌∷◌, ◌++◌, map}
+use Rattle.std.specs.Prelude.{replicate, take, Option, Some, None, Result, Ok, Err}
 use Rattle.krb_derive.specs.Making.{Making, check_making}
 use Rattle.krb_tokens.specs.declared.end.Side.TheVariants.{Acceptor}
 use Rattle.krb_tokens.specs.End.{sign_usage}
@@ -25,8 +26,8 @@ use Rattle.world_laws.specs.declared.event.Happened.{Happened}
 use Rattle.world_laws.specs.declared.event.Happened.TheVariants.{Sent, Completed, Refused}
 use Rattle.world_laws.specs.Deeds.{Deed}
 
--- where the initiator is then, and where it is if memory is wanted, in which case nothing else is done; the answer; what is handed out and what was
--- found verified
+-- where the initiator is then, and where it is if memory is wanted, in which case nothing else is
+-- done; the answer; what is handed out and what was found verified
 pub record Moved : Type 0 where
   pub stage : Stage
   pub lost : Stage
@@ -34,14 +35,25 @@ pub record Moved : Type 0 where
   pub makes : List MechMaking
   pub found : List MechMaking
 
+-- what an event did whose initiator moved so: no ticket is opened, and no context is fixed
 abbrev pub did : Moved → Deed
-did moved = record { answer = Some moved.answer; makes = moved.makes; found = moved.found; opened = None; fixes = None }
+did moved = record {
+  answer = Some moved.answer;
+  makes = moved.makes;
+  found = moved.found;
+  opened =
+      None;
+  fixes = None;
+}
 
+-- it refused, and has ended
 abbrev pub refused : Moved
-refused = record { stage = stages.Over; lost = stages.Over; answer = Refused; makes = []; found = [] }
+refused =
+    record { stage = stages.Over; lost = stages.Over; answer = Refused; makes = []; found = [] }
 
 -- ---- it starts: the first creation call has its first token
 
+-- what it does by how its negotiation began: it sends its first creation call, or refused
 abbrev pub started_by : Result Started NegRefusal → Moved
 started_by (Err refusal) = refused
 started_by (Ok started) = record {
@@ -52,6 +64,7 @@ started_by (Ok started) = record {
   found = [];
 }
 
+-- what an initiator does that starts with this setup
 abbrev pub starts : InitSetup → Moved
 starts own = started_by (init_start own)
 
@@ -62,17 +75,21 @@ abbrev pub initiated_by : Result Initiated NegRefusal → Option Initiated
 initiated_by (Err refusal) = None
 initiated_by (Ok taken) = Some taken
 
+-- the same by what the reply granted, whose token the end takes
 abbrev pub initiated_with : InitEnd → Result GrantedValue ClientRefusal → Option Initiated
 initiated_with end (Err refusal) = None
 initiated_with end (Ok granted) = initiated_by (init_step end granted.result.token)
 
+-- the same by the reply's octets, for the creation call of this transaction number
 abbrev pub initiated : ℕ → InitEnd → List ℕ → Option Initiated
 initiated xid end octets = initiated_with end (granted_in xid octets)
 
+-- what a step handed out, nothing where there was none
 abbrev pub handed_out : Option Initiated → List MechMaking
 handed_out None = []
 handed_out (Some taken) = taken.makes
 
+-- what a step found verified, nothing where there was none
 abbrev pub verified : Option Initiated → List MechMaking
 verified None = []
 verified (Some taken) = taken.found
@@ -81,8 +98,11 @@ verified (Some taken) = taken.found
 abbrev pub window_found : Outcome → Result GrantedValue ClientRefusal → List MechMaking
 window_found outcome (Err refusal) = []
 window_found outcome (Ok granted) =
-    typed (check_making outcome.key (sign_usage Acceptor) (word granted.result.window ++ take 16 granted.answer.verf)) ∷ []
+    typed (check_making outcome.key (sign_usage Acceptor)
+    (word granted.result.window ++ take 16 granted.answer.verf)) ∷ []
 
+-- what it does by what the reply leads to: it has ended, makes the next creation call with the
+-- handle that the reply gave, or its context stands and the MIC over the window was found too
 abbrev pub created_by : ℕ → InitEnd → List ℕ → Result Created ClientRefusal → Moved
 created_by xid end octets (Err refusal) = refused
 created_by xid end octets (Ok (created.Going offer)) = record {
@@ -100,6 +120,7 @@ created_by xid end octets (Ok (created.Stands outcome handle)) = record {
   found = verified (initiated xid end octets) ++ window_found outcome (granted_in xid octets);
 }
 
+-- what an initiator does that takes octets as the reply to its call of this transaction number
 abbrev pub takes : ℕ → InitEnd → List ℕ → Moved
 takes xid end octets = created_by xid end octets (creation_step end xid octets)
 
@@ -107,16 +128,20 @@ takes xid end octets = created_by xid end octets (creation_step end xid octets)
 
 -- the MIC over a header: of this procedure of RPCSEC_GSS, service, and procedure
 abbrev pub header_making : SessionState → ℕ → ℕ → ℕ → Making
-header_making s proc service procedure = mic_making (own_end s) (2 * s.number) (header_of s proc service procedure)
+header_making s proc service procedure =
+    mic_making (own_end s) (2 * s.number) (header_of s proc service procedure)
 
--- what a caller may hand out with a number: the headers of its call by each service that protects it, which for procedure 0 may be none; the header of
--- the destruction; the MIC over the number and the arguments, and both sealed
+-- what a caller may hand out with a number: the headers of its call by each service that protects
+-- it, which for procedure 0 may be none; the header of the destruction; the MIC over the number and
+-- the arguments, and both sealed
 abbrev pub call_makings : SessionState → ℕ → List ℕ → List Making
 call_makings s procedure args =
     (if procedure == 0 then header_making s 0 1 procedure ∷ [] else [])
     ++ header_making s 0 2 procedure ∷ header_making s 0 3 procedure ∷ header_making s 3 1 0
-    ∷ mic_making (own_end s) (2 * s.number + 1) (word s.number ++ args) ∷ wrap_making (own_end s) (2 * s.number + 1) true (word s.number ++ args) ∷ []
+    ∷ mic_making (own_end s) (2 * s.number + 1) (word s.number ++ args)
+    ∷ wrap_making (own_end s) (2 * s.number + 1) true (word s.number ++ args) ∷ []
 
+-- what an initiator does that makes its session's next call; if memory is wanted, it has ended
 abbrev pub calls : SessionState → ℕ → List ℕ → Moved
 calls s procedure args = record {
   stage = stages.Stands (session_after s);

@@ -1,5 +1,8 @@
--- What a lane does: it has one record in hand at a time, and each event runs one question to the book, or answers the record.
-use Rattle.std.specs.Prelude.{◌≡◌, ◌⊎◌, ℕ, ◌+◌, ◌*◌, ◌==◌, true, if◌then◌else◌, List, [], ◌∷◌, ◌++◌, map, max, slice_set, take, Option, Some, None, option_map, option_to_list, Result, Ok, Err}
+-- What a lane does: it has one record in hand at a time, and each event runs one question to the
+-- book, or answers the record.
+use Rattle.std.specs.Prelude.{◌≡◌, ◌⊎◌, ℕ, ◌+◌, ◌*◌, ◌==◌, true, if◌then◌else◌, List, [], ◌∷◌, ◌++◌}
+use Rattle.std.specs.Prelude.{map, max, slice_set, take, Option, Some, None, option_map}
+use Rattle.std.specs.Prelude.{option_to_list, Result, Ok, Err}
 use Rattle.gss_base.specs.Name.{Name}
 use Rattle.gss_base.specs.declared.mech.MechKind.{MechKind}
 use Rattle.gss_base.specs.declared.mech.MechKind.TheVariants as kinds
@@ -37,12 +40,15 @@ use Rattle.accept_book.specs.Booking.{BookOf, raised}
 use Rattle.accept_book.specs.Entering.{id_of}
 use Rattle.accept_book.specs.Found.{step_taken, stepped_from, makes_of, found_of, fixes_of}
 use Rattle.accept_book.specs.RecordRule.{record_ruling}
-use Rattle.accept_book.specs.RecordShown.{KeptAnswers, Question, Negotiate, Look, Admit, End, Asked, AskedStep, AskedLook, AskedAdmit, AskedEnd, Ruling, end_of, body_args}
+use Rattle.accept_book.specs.RecordShown.{KeptAnswers, Question, Negotiate, Look, Admit, End, Asked}
+use Rattle.accept_book.specs.RecordShown.{AskedStep, AskedLook, AskedAdmit, AskedEnd, Ruling}
+use Rattle.accept_book.specs.RecordShown.{end_of, body_args}
 use Rattle.accept_book.specs.Served.{result_of}
 use Rattle.gss_server.specs.Answers.{IsDecided, may_want}
 use Rattle.gss_server.specs.Asking.{BookAnswers}
 use Rattle.world_laws.specs.declared.event.Happened.{Happened}
-use Rattle.world_laws.specs.declared.event.Happened.TheVariants.{Sent, Completed, Stepped, Refused, Nothing}
+use Rattle.world_laws.specs.declared.event.Happened.TheVariants.{Sent, Completed, Stepped, Refused}
+use Rattle.world_laws.specs.declared.event.Happened.TheVariants.{Nothing}
 use Rattle.world_laws.specs.Deeds.{Opened, Deed, quiet}
 use Rattle.world_laws.specs.State.{InHand, Context, World}
 
@@ -55,9 +61,21 @@ told_width = 128
 -- a lane without a record takes one, with the moment and the draws; another keeps what it has
 abbrev pub in_hand : Option InHand → List ℕ → ℕ → List ℕ → InHand
 in_hand None octets now draws =
-    record { octets = octets; kept = record { now = now; draws = draws; negotiated = None; looked = None; admitted = None; ended = None } }
+    record {
+      octets = octets;
+      kept = record {
+        now = now;
+        draws = draws;
+        negotiated = None;
+        looked =
+            None;
+        admitted = None;
+        ended = None;
+      };
+    }
 in_hand (Some hand) octets now draws = hand
 
+-- what the rule of a record says of the record in hand, by what the book answered so far
 abbrev pub ruling_of : InHand → Ruling
 ruling_of hand = record_ruling hand.octets hand.kept told_width
 
@@ -70,11 +88,44 @@ question_of (AskedEnd lease seq answer) = End lease seq
 
 -- the answer is kept with the others
 abbrev pub kept_with : KeptAnswers → Asked → KeptAnswers
-kept_with k (AskedStep id token now draws answer) = record { now = k.now; draws = k.draws; negotiated = Some answer; looked = k.looked; admitted = k.admitted; ended = k.ended }
-kept_with k (AskedLook id now answer) = record { now = k.now; draws = k.draws; negotiated = k.negotiated; looked = Some answer; admitted = k.admitted; ended = k.ended }
-kept_with k (AskedAdmit lease seq procedure args answer) = record { now = k.now; draws = k.draws; negotiated = k.negotiated; looked = k.looked; admitted = Some answer; ended = k.ended }
-kept_with k (AskedEnd lease seq answer) = record { now = k.now; draws = k.draws; negotiated = k.negotiated; looked = k.looked; admitted = k.admitted; ended = Some answer }
+kept_with k (AskedStep id token now draws answer) = record {
+  now = k.now;
+  draws =
+      k.draws;
+  negotiated = Some answer;
+  looked = k.looked;
+  admitted = k.admitted;
+  ended = k.ended;
+}
+kept_with k (AskedLook id now answer) = record {
+  now = k.now;
+  draws = k.draws;
+  negotiated =
+      k.negotiated;
+  looked = Some answer;
+  admitted = k.admitted;
+  ended = k.ended;
+}
+kept_with k (AskedAdmit lease seq procedure args answer) = record {
+  now = k.now;
+  draws =
+      k.draws;
+  negotiated = k.negotiated;
+  looked = k.looked;
+  admitted = Some answer;
+  ended = k.ended;
+}
+kept_with k (AskedEnd lease seq answer) = record {
+  now = k.now;
+  draws = k.draws;
+  negotiated =
+      k.negotiated;
+  looked = k.looked;
+  admitted = k.admitted;
+  ended = Some answer;
+}
 
+-- the record in hand after one more question was answered
 abbrev pub hand_after : InHand → Asked → InHand
 hand_after hand asked = record { octets = hand.octets; kept = kept_with hand.kept asked }
 
@@ -85,10 +136,12 @@ abbrev pub cred_with : CallValue → Result CredValue CredRefusal → Option (Ca
 cred_with call (Err refusal) = None
 cred_with call (Ok cred) = Some (call, cred)
 
+-- the same by how the record reads as a call
 abbrev pub secure_call_by : Result CallValue CallRefusal → Option (CallValue × CredValue)
 secure_call_by (Err refusal) = None
 secure_call_by (Ok call) = cred_with call (cred_at call.cred.body)
 
+-- the same of the record's octets, none where no call or no credential can be read
 abbrev pub secure_call_in : List ℕ → Option (CallValue × CredValue)
 secure_call_in octets = secure_call_by (call_at octets)
 
@@ -97,21 +150,27 @@ abbrev pub found_in_checked : TokenEnd → Result (List ℕ × List ℕ) XdrRefu
 found_in_checked end (Ok body) = (checking_mic end body.1 body.0).found
 found_in_checked end (Err refusal) = []
 
+-- the same of a sealed body, as it was read
 abbrev pub found_in_sealed : TokenEnd → Result (List ℕ) XdrRefusal → List Making
 found_in_sealed end (Ok token) = (unwrapping end token).found
 found_in_sealed end (Err refusal) = []
 
+-- the same by the service: 2 is integrity, 3 is privacy (RFC 2203 section 5.3.2)
 abbrev pub found_in_body : TokenEnd → ℕ → List ℕ → List Making
-found_in_body end service body = if service == 2 then found_in_checked end (checked_at body) else if service == 3 then found_in_sealed end (sealed_at body) else []
+found_in_body end service body = if service == 2 then found_in_checked end (checked_at body)
+    else if service == 3 then found_in_sealed end (sealed_at body) else []
 
 -- and in a verifier, over the octets up to the end of the credential
 abbrev pub found_in_header : TokenEnd → List ℕ → CallValue → List Making
 found_in_header end octets call = (checking_mic end call.verf.body (take call.header octets)).found
 
+-- what is found verified in a call that is admitted: in its verifier and in its body
 abbrev pub found_in_call : Lease → List ℕ → Option (CallValue × CredValue) → List Making
 found_in_call lease octets None = []
-found_in_call lease octets (Some said) = found_in_header (end_of lease) octets said.0 ++ found_in_body (end_of lease) said.1.service said.0.args
+found_in_call lease octets (Some said) = found_in_header (end_of lease) octets said.0
+    ++ found_in_body (end_of lease) said.1.service said.0.args
 
+-- what is found verified in a call that ends its context: in its verifier alone
 abbrev pub found_in_end : Lease → List ℕ → Option (CallValue × CredValue) → List Making
 found_in_end lease octets None = []
 found_in_end lease octets (Some said) = found_in_header (end_of lease) octets said.0
@@ -123,34 +182,50 @@ result_makings end service seq result =
     else if service == 3 then wrap_making end (2 * seq + 1) true (word seq ++ result) ∷ []
     else []
 
+-- the same of a call with these arguments, nothing where its body gave none; `posts` is the number
+-- of posts that its admission told
 abbrev pub result_with : Lease → ℕ → CallValue → CredValue → Option (List ℕ) → List Making
 result_with lease posts call cred None = []
 result_with lease posts call cred (Some args) =
-    result_makings (end_of lease) cred.service cred.seq (result_of call.procedure args lease.outcome.initiator posts)
+    result_makings (end_of lease) cred.service cred.seq
+    (result_of call.procedure args lease.outcome.initiator posts)
 
+-- the same of the call in a record, whose arguments are those in its body by its service
 abbrev pub made_for_call : Lease → ℕ → Option (CallValue × CredValue) → List Making
 made_for_call lease posts None = []
-made_for_call lease posts (Some said) = result_with lease posts said.0 said.1 (body_args (end_of lease) said.1 said.0.args)
+made_for_call lease posts (Some said) =
+    result_with lease posts said.0 said.1 (body_args (end_of lease) said.1 said.0.args)
 
--- the step that a token came to, where it was taken: by the book as it stood with the record's moment, and the context that was past
+-- the step that a token came to, where it was taken: by the book as it stood with the record's
+-- moment, and the context that was past
 abbrev pub accepted_in : BookOf → Option ℕ → Option ℕ → List ℕ → ℕ → List ℕ → Option Accepted
-accepted_in book past id token now draws = step_taken book.setup (raised book.core now) id past token now draws
+accepted_in book past id token now draws =
+    step_taken book.setup (raised book.core now) id past token now draws
 
+-- what is handed out with a question's answer: by a token's step, or for an admitted call
 abbrev pub makes_by : BookOf → Option ℕ → InHand → Asked → List MechMaking
-makes_by book past hand (AskedStep id token now draws answer) = makes_of (accepted_in book past id token now draws)
+makes_by book past hand (AskedStep id token now draws answer) =
+    makes_of (accepted_in book past id token now draws)
 makes_by book past hand (AskedLook id now answer) = []
-makes_by book past hand (AskedAdmit lease seq procedure args (Ok admitted)) = map typed (made_for_call lease admitted.posts (secure_call_in hand.octets))
+makes_by book past hand (AskedAdmit lease seq procedure args (Ok admitted)) =
+    map typed (made_for_call lease admitted.posts (secure_call_in hand.octets))
 makes_by book past hand (AskedAdmit lease seq procedure args (Err refusal)) = []
 makes_by book past hand (AskedEnd lease seq answer) = []
 
+-- what a question finds verified: in a token's step, in an admitted call, or in one that ends its
+-- context
 abbrev pub found_by : BookOf → Option ℕ → InHand → Asked → List MechMaking
-found_by book past hand (AskedStep id token now draws answer) = found_of (accepted_in book past id token now draws)
+found_by book past hand (AskedStep id token now draws answer) =
+    found_of (accepted_in book past id token now draws)
 found_by book past hand (AskedLook id now answer) = []
-found_by book past hand (AskedAdmit lease seq procedure args (Ok admitted)) = map typed (found_in_call lease hand.octets (secure_call_in hand.octets))
+found_by book past hand (AskedAdmit lease seq procedure args (Ok admitted)) =
+    map typed (found_in_call lease hand.octets (secure_call_in hand.octets))
 found_by book past hand (AskedAdmit lease seq procedure args (Err refusal)) = []
-found_by book past hand (AskedEnd lease seq (Ok receipt)) = map typed (found_in_end lease hand.octets (secure_call_in hand.octets))
+found_by book past hand (AskedEnd lease seq (Ok receipt)) =
+    map typed (found_in_end lease hand.octets (secure_call_in hand.octets))
 found_by book past hand (AskedEnd lease seq (Err refusal)) = []
 
+-- what was fixed, with the context's id
 abbrev pub context_with : ℕ → Fixed → Context
 context_with id fixed = record { id = id; fixed = fixed }
 
@@ -161,50 +236,64 @@ unless_short (answers.Settled lease token) fixes = fixes
 unless_short (answers.Refused refusal) fixes = fixes
 unless_short answers.NoMemory fixes = None
 
+-- the context that a question fixes, with its id: only a token's step fixes one
 abbrev pub fixes_by : BookOf → Option ℕ → Asked → Option Context
 fixes_by book past (AskedStep id token now draws answer) =
-    option_map (context_with (id_of id book.core.history)) (unless_short answer.answer (fixes_of (accepted_in book past id token now draws)))
+    option_map (context_with (id_of id book.core.history))
+    (unless_short answer.answer (fixes_of (accepted_in book past id token now draws)))
 fixes_by book past (AskedLook id now answer) = None
 fixes_by book past (AskedAdmit lease seq procedure args answer) = None
 fixes_by book past (AskedEnd lease seq answer) = None
 
 -- ---- the ticket that a token's step opens
 
--- the request in a first token, which is Kerberos's where that is chosen and stands first in the list that came
+-- the request in a first token, which is Kerberos's where that is chosen and stands first in the
+-- list that came
 abbrev pub request_in : Option MechKind → Option (List ℕ) → Option (List ℕ)
 request_in (Some kinds.Kerberos) token = token
 request_in (Some kinds.Scram) token = None
 request_in None token = None
 
+-- the same of a NegTokenInit as it was read, by the mechanisms that the acceptor offers
 abbrev pub request_of_init : AcceptSetup → Result NegInit NegRefusal → Option (List ℕ)
 request_of_init setup (Err refusal) = None
-request_of_init setup (Ok init) = if is_first_named init.list kinds.Kerberos then request_in (best setup.offer init.list) init.token else None
+request_of_init setup (Ok init) = if is_first_named init.list kinds.Kerberos
+    then request_in (best setup.offer init.list) init.token else None
 
+-- the mechanism's token in a NegTokenResp, none where it couldn't be read or has none
 abbrev pub token_of_resp : Result NegResp NegRefusal → Option (List ℕ)
 token_of_resp (Err refusal) = None
 token_of_resp (Ok resp) = resp.token
 
+-- the request in a later token, if Kerberos was chosen and waits for its request
 abbrev pub request_of_resp : AcceptMech → Result NegResp NegRefusal → Option (List ℕ)
 request_of_resp mechs.Kerberos resp = token_of_resp resp
 request_of_resp mechs.Scram resp = None
 request_of_resp (mechs.Proof end) resp = None
 
+-- the request in a token, by what is due next to the end that takes it: the first token, one of the
+-- mechanism, or the MIC over the list
 abbrev pub request_of : AcceptSetup → AcceptEnd → List ℕ → Option (List ℕ)
 request_of setup ends.New token = request_of_init setup (init_read token)
 request_of setup (ends.Runs running) token = request_of_resp running.mech (resp_read token)
 request_of setup (ends.Owes owing) token = None
 
+-- the ticket of a request whose authenticator was read too, none of one that was refused before
 abbrev pub opened_of : Result Exchange ApRefusal → Option Opened
 opened_of (Err refusal) = None
-opened_of (Ok x) = Some (record { service = x.service; client = client_granted x.part; session = x.session })
+opened_of (Ok x) =
+    Some (record { service = x.service; client = client_granted x.part; session = x.session })
 
+-- the ticket of the request, where there is one, by a keytab and the acceptor's own name
 abbrev pub opened_in : List Entry → Name → Option (List ℕ) → Option Opened
 opened_in keytab own None = None
 opened_in keytab own (Some token) = opened_of (exchange_of keytab own token)
 
+-- the ticket that a question opens, which a token's step alone may do
 abbrev pub opened_by : BookOf → Asked → Option Opened
 opened_by book (AskedStep id token now draws answer) =
-    opened_in book.setup.keytab book.setup.own (request_of book.setup (stepped_from (raised book.core now) id) token)
+    opened_in book.setup.keytab book.setup.own
+    (request_of book.setup (stepped_from (raised book.core now) id) token)
 opened_by book (AskedLook id now answer) = None
 opened_by book (AskedAdmit lease seq procedure args answer) = None
 opened_by book (AskedEnd lease seq answer) = None
@@ -215,7 +304,8 @@ opened_by book (AskedEnd lease seq answer) = None
 abbrev pub IsAnswer : Ruling → Option Happened → Type 0
 IsAnswer ruling None = may_want ruling ≡ true
 IsAnswer ruling (Some (Sent octets)) = (ruling.reply ≡ Some octets) × IsDecided ruling
-IsAnswer ruling (Some (Stepped rule)) = (ruling.reply ≡ None) × (rule ≡ ruling.rule) × IsDecided ruling
+IsAnswer ruling (Some (Stepped rule)) =
+    (ruling.reply ≡ None) × (rule ≡ ruling.rule) × IsDecided ruling
 IsAnswer ruling (Some (Completed outcome)) = ⊥
 IsAnswer ruling (Some Refused) = ⊥
 IsAnswer ruling (Some Nothing) = ⊥
@@ -225,6 +315,7 @@ abbrev pub if_answered : Option Happened → List MechMaking → List MechMaking
 if_answered None makes = []
 if_answered (Some happened) makes = makes
 
+-- the world after a lane's event: what the lane has in hand, the book, and what the deed adds
 abbrev pub with_lane : World → ℕ → Option InHand → BookOf → Deed → World
 with_lane w lane hand book deed = record {
   facts = w.facts;
@@ -235,16 +326,20 @@ with_lane w lane hand book deed = record {
   makings = w.makings ++ deed.makes;
 }
 
--- the record is answered at once, or memory is wanted before the book is asked: the lane has no record then
-pub record AnswersAtOnce (old : World) (lane : ℕ) (hand : InHand) (deed : Deed) (new : World) : Type 0 where
+-- the record is answered at once, or memory is wanted before the book is asked: the lane has no
+-- record then
+pub record AnswersAtOnce (old : World) (lane : ℕ) (hand : InHand) (deed : Deed) (new : World) : Type
+    0 where
   pub answer : IsAnswer (ruling_of hand) deed.answer
   pub deed_is : deed ≡ quiet deed.answer
   pub new_is : new ≡ with_lane old lane None old.book (quiet deed.answer)
 
--- what follows the question: a further one is due, for which the record stays in hand, or the record is answered
+-- what follows the question: a further one is due, for which the record stays in hand, or the
+-- record is answered
 abbrev pub Follows : InHand → Option Happened → Option InHand → Type 0
 Follows hand answer left =
-    ((question : Question) × ((ruling_of hand).due ≡ Some question) × (answer ≡ Some (Stepped 0)) × (left ≡ Some hand))
+    ((question : Question) × ((ruling_of hand).due ≡ Some question) × (answer ≡ Some (Stepped 0))
+    × (left ≡ Some hand))
     ⊎ (IsAnswer (ruling_of hand) answer × (left ≡ None))
 
 -- the question that is due is asked, and the book answers it by its contract
@@ -262,5 +357,7 @@ pub record Asks (old : World) (lane : ℕ) (hand : InHand) (deed : Deed) (new : 
   pub fixes : deed.fixes ≡ fixes_by old.book past asked
   pub new_is : new ≡ with_lane old lane left new.book deed
 
+-- what a lane does: its record is answered at once, or the question that is due is asked
 abbrev pub LaneMoves : World → ℕ → InHand → Deed → World → Type 0
-LaneMoves old lane hand deed new = AnswersAtOnce old lane hand deed new ⊎ Asks old lane hand deed new
+LaneMoves old lane hand deed new =
+    AnswersAtOnce old lane hand deed new ⊎ Asks old lane hand deed new

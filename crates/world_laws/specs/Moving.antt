@@ -12,6 +12,7 @@ abbrev pub GoesTo : Stage → Happened → Stage → Stage → Result Happened N
 GoesTo stage answer lost left (Ok happened) = (left ≡ stage) × (happened ≡ answer)
 GoesTo stage answer lost left (Err memory) = left ≡ lost
 
+-- the same of what it did: `lost` is where it is if memory was wanted
 abbrev pub Goes : Stage → Happened → Stage → Moves → Type 0
 Goes stage answer lost moves = GoesTo stage answer lost moves.stage moves.happened
 

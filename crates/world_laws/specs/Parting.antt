@@ -6,17 +6,28 @@ use Rattle.world_laws.specs.declared.event.WorldEvent.TheVariants.{Start, Delive
 use Rattle.world_laws.specs.declared.stage.Stage.{Stage}
 use Rattle.world_laws.specs.declared.world.Parts.{Parts}
 use Rattle.world_laws.specs.Lanes.{in_hand}
-use Rattle.world_laws.specs.Passing.{started_from, taken_from, called_from, of_stage, Turns, Desk, LaneTurns}
+use Rattle.world_laws.specs.Passing.{started_from, taken_from, called_from, of_stage, Turns, Desk}
+use Rattle.world_laws.specs.Passing.{LaneTurns}
 
+-- the parts: where each initiator is, and the desk, which is the book and the lanes
 pub record HeldParts : Type 0 where
   pub stages : List Stage
   pub desk : Desk
 
+-- these parts, as the program's `Parts` has them
 abbrev pub parts_of : Parts → HeldParts
-parts_of p = record { stages = p.stages.items; desk = record { book = p.book; lanes = p.lanes.items } }
+parts_of p =
+    record { stages = p.stages.items; desk = record { book = p.book; lanes = p.lanes.items } }
 
+-- an event moves one initiator and leaves the desk, or moves one lane and leaves the initiators
 abbrev pub Passes : WorldEvent → Option Happened → HeldParts → HeldParts → Type 0
-Passes (Start i) answer old new = Turns (of_stage started_from (slice_get old.stages i)) i answer old.stages new.stages × (new.desk ≡ old.desk)
-Passes (Deliver i octets) answer old new = Turns (of_stage (taken_from octets) (slice_get old.stages i)) i answer old.stages new.stages × (new.desk ≡ old.desk)
-Passes (Lane lane octets now draws) answer old new = LaneTurns (slice_get old.desk.lanes lane) lane (in_hand None octets now draws) answer old.desk new.desk × (new.stages ≡ old.stages)
-Passes (CallBy i procedure args) answer old new = Turns (of_stage (called_from procedure args) (slice_get old.stages i)) i answer old.stages new.stages × (new.desk ≡ old.desk)
+Passes (Start i) answer old new = Turns (of_stage started_from (slice_get old.stages i)) i answer
+    old.stages new.stages × (new.desk ≡ old.desk)
+Passes (Deliver i octets) answer old new =
+    Turns (of_stage (taken_from octets) (slice_get old.stages i)) i answer old.stages new.stages
+    × (new.desk ≡ old.desk)
+Passes (Lane lane octets now draws) answer old new = LaneTurns (slice_get old.desk.lanes lane) lane
+    (in_hand None octets now draws) answer old.desk new.desk × (new.stages ≡ old.stages)
+Passes (CallBy i procedure args) answer old new =
+    Turns (of_stage (called_from procedure args) (slice_get old.stages i)) i answer old.stages
+    new.stages × (new.desk ≡ old.desk)

@@ -1,5 +1,6 @@
 -- What an event makes of the parts of a world that a program holds.
-use Rattle.std.specs.Prelude.{◌≡◌, ◌⊎◌, ℕ, Bool, true, false, nat_le, List, slice_set, Option, Some, None}
+use Rattle.std.specs.Prelude.{◌≡◌, ◌⊎◌, ℕ, Bool, true, false, nat_le, List, slice_set, Option, Some}
+use Rattle.std.specs.Prelude.{None}
 use Rattle.accept_book.specs.Booking.{BookOf}
 use Rattle.gss_client.specs.Session.{SessionState}
 use Rattle.world_laws.specs.declared.event.Happened.{Happened}
@@ -13,6 +14,7 @@ use Rattle.world_laws.specs.Turning.{Turned}
 
 -- ---- the move of an initiator by its stage, where the event is for it
 
+-- a start, which is for one that wasn't started
 abbrev pub started_from : Stage → Option Moved
 started_from (stages.Ready own) = Some (starts own)
 started_from (stages.Asks xid end) = None
@@ -20,6 +22,7 @@ started_from (stages.Stands s) = None
 started_from (stages.Left s) = None
 started_from stages.Over = None
 
+-- a reply, which is for one that has a creation call out
 abbrev pub taken_from : List ℕ → Stage → Option Moved
 taken_from octets (stages.Ready own) = None
 taken_from octets (stages.Asks xid end) = Some (takes xid end octets)
@@ -32,30 +35,37 @@ abbrev pub called_with : Bool → SessionState → ℕ → List ℕ → Option M
 called_with true s procedure args = Some (calls s procedure args)
 called_with false s procedure args = None
 
+-- a call, which is for one whose context stands
 abbrev pub called_from : ℕ → List ℕ → Stage → Option Moved
 called_from procedure args (stages.Ready own) = None
 called_from procedure args (stages.Asks xid end) = None
-called_from procedure args (stages.Stands s) = called_with (nat_le s.number 0x7fffffff) s procedure args
+called_from procedure args (stages.Stands s) =
+    called_with (nat_le s.number 0x7fffffff) s procedure args
 called_from procedure args (stages.Left s) = None
 called_from procedure args stages.Over = None
 
 -- it moves so, or memory was wanted; without a move nothing happens
 abbrev pub TurnsTo : Option Moved → Option Happened → Stage → Stage → Type 0
 TurnsTo None answer old new = (answer ≡ Some Nothing) × (new ≡ old)
-TurnsTo (Some moved) answer old new = ((answer ≡ Some moved.answer) × (new ≡ moved.stage)) ⊎ ((answer ≡ None) × (new ≡ moved.lost))
+TurnsTo (Some moved) answer old new =
+    ((answer ≡ Some moved.answer) × (new ≡ moved.stage)) ⊎ ((answer ≡ None) × (new ≡ moved.lost))
 
+-- the same of a call of a session that stands, by whether a number is left for it
 abbrev pub CallsTo : Bool → SessionState → ℕ → List ℕ → Stage → Option Happened → Type 0
-CallsTo left s procedure args new answer = TurnsTo (called_with left s procedure args) answer (stages.Stands s) new
+CallsTo left s procedure args new answer =
+    TurnsTo (called_with left s procedure args) answer (stages.Stands s) new
 
 -- the initiator of a place, where there is one
 abbrev pub of_stage : (Stage → Option Moved) → Option Stage → Option Moved
 of_stage move None = None
 of_stage move (Some stage) = move stage
 
+-- the initiator of this place moves so, or memory was wanted; without a move nothing happens
 abbrev pub Turns : Option Moved → ℕ → Option Happened → List Stage → List Stage → Type 0
 Turns None i answer old new = (answer ≡ Some Nothing) × (new ≡ old)
 Turns (Some moved) i answer old new =
-    ((answer ≡ Some moved.answer) × (new ≡ slice_set old i moved.stage)) ⊎ ((answer ≡ None) × (new ≡ slice_set old i moved.lost))
+    ((answer ≡ Some moved.answer) × (new ≡ slice_set old i moved.stage))
+    ⊎ ((answer ≡ None) × (new ≡ slice_set old i moved.lost))
 
 -- ---- lanes
 
@@ -69,7 +79,9 @@ abbrev pub hand_or : Option InHand → InHand → InHand
 hand_or None taken = taken
 hand_or (Some hand) taken = hand
 
-pub record LaneGoes (before : Option InHand) (lane : ℕ) (taken : InHand) (answer : Option Happened) (old new : Desk) : Type 0 where
+-- a lane's turn, from one desk to the next: the book is there again, and its log is legal
+pub record LaneGoes (before : Option InHand) (lane : ℕ) (taken : InHand) (answer : Option Happened)
+    (old new : Desk) : Type 0 where
   pub book : BookOf
   pub next : BookOf
   pub was : old.book ≡ Some book
@@ -79,6 +91,7 @@ pub record LaneGoes (before : Option InHand) (lane : ℕ) (taken : InHand) (answ
   pub legal : IsBook next
   pub lanes : new.lanes ≡ slice_set old.lanes lane left
 
+-- the same of the lane of a place; where there is none, nothing happens
 abbrev pub LaneTurns : Option (Option InHand) → ℕ → InHand → Option Happened → Desk → Desk → Type 0
 LaneTurns None lane taken answer old new = (answer ≡ Some Nothing) × (new ≡ old)
 LaneTurns (Some before) lane taken answer old new = LaneGoes before lane taken answer old new

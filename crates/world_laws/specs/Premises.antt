@@ -1,5 +1,7 @@
--- What the laws over runs rest on: which keys are guarded, that nothing is forged under them, and that what is drawn is fresh.
-use Rattle.std.specs.Prelude.{◌≡◌, ◌≢◌, ◌⊎◌, ℕ, Bool, true, List, [], ◌∷◌, length, slice_get, Option, Some, None, Ok}
+-- What the laws over runs rest on: which keys are guarded, that nothing is forged under them, and
+-- that what is drawn is fresh.
+use Rattle.std.specs.Prelude.{◌≡◌, ◌≢◌, ◌⊎◌, ℕ, Bool, true, List, [], ◌∷◌, length, slice_get}
+use Rattle.std.specs.Prelude.{Option, Some, None, Ok}
 use Rattle.gss_base.specs.Name.{Name}
 use Rattle.gss_base.specs.declared.mech.MechKind.{MechKind}
 use Rattle.gss_base.specs.declared.mech.MechKind.TheVariants as kinds
@@ -17,7 +19,8 @@ use Rattle.scram_mech.specs.Acceptor.{AcceptModel, auth_with}
 use Rattle.scram_mech.specs.AuthParts.{AuthParts, auth_parts}
 use Rattle.scram_mech.specs.Base64.{encoded}
 use Rattle.scram_mech.specs.Judging.{are_rounds, data_of}
-use Rattle.scram_mech.specs.MechMaking.{TagKey, OfType, OfPassword, MechMaking, AmongMakings, typed, proof_making}
+use Rattle.scram_mech.specs.MechMaking.{TagKey, OfType, OfPassword, MechMaking, AmongMakings, typed}
+use Rattle.scram_mech.specs.MechMaking.{proof_making}
 use Rattle.scram_mech.specs.Secrets.{stored_key, server_key, proof_of}
 use Rattle.scram_mech.specs.ThirdText.{Third, third_of}
 use Rattle.spnego_core.specs.declared.outcome.Outcome.{Outcome}
@@ -39,7 +42,8 @@ use Rattle.world_laws.specs.Events.{Run}
 
 -- ---- the marking, which the reader chooses
 
--- a ticket that was issued: to whom and for whom, under which key of the service, with which session key
+-- a ticket that was issued: to whom and for whom, under which key of the service, with which
+-- session key
 pub record Ticket : Type 0 where
   pub client : Name
   pub server : Name
@@ -52,7 +56,8 @@ pub record Account : Type 0 where
   pub user : List ℕ
   pub password : List ℕ
 
--- all tickets that were issued, of which the marked ones are those whose parties are honest; and the marked users
+-- all tickets that were issued, of which the marked ones are those whose parties are honest; and
+-- the marked users
 pub record Marking : Type 0 where
   pub tickets : List Ticket
   pub accounts : List Account
@@ -78,7 +83,9 @@ pub record GuardedSecret (marking : Marking) (key : List ℕ) : Type 0 where
   pub salt : List ℕ
   pub rounds : ℕ
   pub ranged : are_rounds rounds ≡ true
-  pub is_key : (key ≡ stored_key (record { password = account.password; salt = salt; rounds = rounds })) ⊎ (key ≡ server_key (record { password = account.password; salt = salt; rounds = rounds }))
+  pub is_key : (key
+      ≡ stored_key (record { password = account.password; salt = salt; rounds = rounds }))
+      ⊎ (key ≡ server_key (record { password = account.password; salt = salt; rounds = rounds }))
 
 -- the line is a marked user's, and its rounds may be
 pub record MarkedLine (marking : Marking) (line : Verifier) : Type 0 where
@@ -99,23 +106,28 @@ pub record BuiltKey (marking : Marking) (fixed : List Context) (key : Key) : Typ
   pub guarded : GuardedBasis marking context.fixed.basis
   pub is_key : context.fixed.outcome.key ≡ key
 
+-- a guarded key: a session key of a marked ticket, the key of a context that is built on a guarded
+-- key, or StoredKey or ServerKey of a marked user
 abbrev pub Guarded : Marking → List Context → TagKey → Type 0
 Guarded marking fixed (OfType key) = GuardedSession marking key ⊎ BuiltKey marking fixed key
 Guarded marking fixed (OfPassword key) = GuardedSecret marking key
 
 -- ---- what an initiator is built on
 
--- its credential of a mechanism has the session key of a marked ticket, or is a marked user's name and password
+-- its credential of a mechanism has the session key of a marked ticket, or is a marked user's name
+-- and password
 pub record OnTicket (marking : Marking) (own : InitSetup) : Type 0 where
   pub credential : Granted
   pub is_own : cred_for own.list kinds.Kerberos ≡ Some (creds.Kerberos credential)
   pub guarded : GuardedSession marking credential.session
 
+-- the same by SCRAM: its credential is a marked user's name and password
 pub record OnAccount (marking : Marking) (own : InitSetup) : Type 0 where
   pub account : Account
   pub marked : Listed marking.accounts account
   pub is_own : cred_for own.list kinds.Scram ≡ Some (creds.Scram account.user account.password)
 
+-- the same by the mechanism: what the initiator has for it is guarded
 abbrev pub OnGuarded : Marking → InitSetup → MechKind → Type 0
 OnGuarded marking own kinds.Kerberos = OnTicket marking own
 OnGuarded marking own kinds.Scram = OnAccount marking own
@@ -131,7 +143,8 @@ pub record WasSettled (history : List Entry) (id : ℕ) : Type 0 where
   pub at : ℕ
   pub entry : entry_at place history ≡ Some (Settled id mech names ends at)
 
--- the acceptor's MIC of a word of four octets, under the key of a context that was complete: of every word, with every number
+-- the acceptor's MIC of a word of four octets, under the key of a context that was complete: of
+-- every word, with every number
 pub record IsWordMic (w : World) (making : MechMaking) : Type 0 where
   pub context : Context
   pub listed : Listed w.fixed context
@@ -145,7 +158,8 @@ pub record IsWordMic (w : World) (making : MechMaking) : Type 0 where
 abbrev pub WasMade : World → MechMaking → Type 0
 WasMade w making = AmongMakings w.makings making ⊎ IsWordMic w making
 
--- a ticket that was opened under a key of the acceptor's was issued, with this client and session key
+-- a ticket that was opened under a key of the acceptor's was issued, with this client and session
+-- key
 pub record WasIssued (marking : Marking) (opened : Opened) : Type 0 where
   pub ticket : Ticket
   pub issued : Listed marking.tickets ticket
@@ -153,14 +167,20 @@ pub record WasIssued (marking : Marking) (opened : Opened) : Type 0 where
   pub client : ticket.client ≡ opened.client
   pub session : ticket.session ≡ opened.session
 
--- what an event found verified under a guarded key was handed out before, and a ticket that it opened was issued
+-- what an event found verified under a guarded key was handed out before, and a ticket that it
+-- opened was issued
 pub record Unforged (marking : Marking) (w : World) (deed : Deed) : Type 0 where
-  pub made : (making : MechMaking) → AmongMakings deed.found making → Guarded marking w.fixed making.key → WasMade w making
+  pub made : (making : MechMaking) → AmongMakings deed.found making
+      → Guarded marking w.fixed making.key → WasMade w making
   pub issued : (opened : Opened) → deed.opened ≡ Some opened → WasIssued marking opened
 
-abbrev pub NoForgery : Marking → (old : World) → (events : List WorldEvent) → (new : World) → Run old events new → Type 0
+-- what the events of a run found verified under guarded keys was handed out before, and each
+-- ticket that they opened was issued
+abbrev pub NoForgery : Marking → (old : World) → (events : List WorldEvent) → (new : World)
+    → Run old events new → Type 0
 NoForgery marking old [] new run = Unit {0}
-NoForgery marking old (event ∷ later) new run = Unforged marking old run.0.deed × NoForgery marking run.0.world later new run.1
+NoForgery marking old (event ∷ later) new run =
+    Unforged marking old run.0.deed × NoForgery marking run.0.world later new run.1
 
 -- ---- what is drawn is fresh: said of a world, of all that was used of it up to then
 
@@ -174,6 +194,7 @@ pub record HasAuth (end : AcceptModel) (text auth : List ℕ) : Type 0 where
   pub read : third_of text ≡ Ok third
   pub auth_is : auth ≡ auth_with end third.bare
 
+-- the context is built on a proof over this AuthMessage, which this acceptor's end took
 pub record OnProof (context : Context) (end : AcceptModel) (auth : List ℕ) : Type 0 where
   pub text : List ℕ
   pub basis : context.fixed.basis ≡ ByProof end text
@@ -184,6 +205,7 @@ pub record HasTicket (w : World) (i : ℕ) (own : InitSetup) (credential : Grant
   pub there : slice_get w.facts i ≡ Some own
   pub is_own : cred_for own.list kinds.Kerberos ≡ Some (creds.Kerberos credential)
 
+-- the same of SCRAM: it has this user and password
 pub record HasAccount (w : World) (i : ℕ) (own : InitSetup) (user password : List ℕ) : Type 0 where
   pub there : slice_get w.facts i ≡ Some own
   pub is_own : cred_for own.list kinds.Scram ≡ Some (creds.Scram user password)
@@ -196,6 +218,7 @@ session_in (stages.Stands s) = Some s
 session_in (stages.Left s) = Some s
 session_in stages.Over = None
 
+-- the initiator of this place completed with this outcome; it may have ended since
 pub record Completed (w : World) (i : ℕ) (own : InitSetup) (outcome : Outcome) : Type 0 where
   pub there : slice_get w.facts i ≡ Some own
   pub stage : Stage
@@ -204,7 +227,8 @@ pub record Completed (w : World) (i : ℕ) (own : InitSetup) (outcome : Outcome)
   pub in_session : session_in stage ≡ Some session
   pub outcome_is : session.outcome ≡ outcome
 
--- the initiator handed out a proof over this AuthMessage, which has its name, its nonce and its binding data
+-- the initiator handed out a proof over this AuthMessage, which has its name, its nonce and its
+-- binding data
 pub record Proved (w : World) (own : InitSetup) (auth : List ℕ) : Type 0 where
   pub user : List ℕ
   pub password : List ℕ
@@ -214,10 +238,12 @@ pub record Proved (w : World) (own : InitSetup) (auth : List ℕ) : Type 0 where
   pub name : parts.name ≡ user
   pub nonce : parts.client ≡ encoded (drawn_nonce own.draws)
   pub binding : parts.binding ≡ data_of own.bindings
-  pub handed_out : AmongMakings w.makings (proof_making (stored_key (record { password = password; salt = parts.salt; rounds = parts.rounds })) auth
+  pub handed_out : AmongMakings w.makings (proof_making
+      (stored_key (record { password = password; salt = parts.salt; rounds = parts.rounds })) auth
       (proof_of (record { password = password; salt = parts.salt; rounds = parts.rounds }) auth))
 
--- the key of a SCRAM exchange over this AuthMessage, as the context has it, or the initiator that completed with it
+-- the key of a SCRAM exchange over this AuthMessage, as the context has it, or the initiator that
+-- completed with it
 pub record AtContext (w : World) (key : Key) (auth : List ℕ) : Type 0 where
   pub context : Context
   pub listed : Listed w.fixed context
@@ -225,6 +251,7 @@ pub record AtContext (w : World) (key : Key) (auth : List ℕ) : Type 0 where
   pub on : OnProof context end auth
   pub key_is : context.fixed.outcome.key ≡ key
 
+-- the same at an initiator: it completed by SCRAM, and handed out a proof over this AuthMessage
 pub record AtInitiator (w : World) (key : Key) (auth : List ℕ) : Type 0 where
   pub i : ℕ
   pub own : InitSetup
@@ -234,6 +261,7 @@ pub record AtInitiator (w : World) (key : Key) (auth : List ℕ) : Type 0 where
   pub proved : Proved w own auth
   pub key_is : outcome.key ≡ key
 
+-- the key of a SCRAM exchange over this AuthMessage, at one end or the other
 abbrev pub ProofKey : World → Key → List ℕ → Type 0
 ProofKey w key auth = AtContext w key auth ⊎ AtInitiator w key auth
 
@@ -245,6 +273,7 @@ pub record OfContext (w : World) (key : Key) : Type 0 where
   pub on : OnRequest context request
   pub key_is : context.fixed.outcome.key ≡ key
 
+-- the subkey that an initiator with a ticket draws for its request
 pub record OfRequest (w : World) (key : Key) : Type 0 where
   pub i : ℕ
   pub own : InitSetup
@@ -252,34 +281,60 @@ pub record OfRequest (w : World) (key : Key) : Type 0 where
   pub has : HasTicket w i own credential
   pub key_is : own_subkey credential own.draws ≡ key
 
+-- a subkey that was drawn, by the acceptor or by an initiator
 abbrev pub Subkey : World → Key → Type 0
 Subkey w key = OfContext w key ⊎ OfRequest w key
 
+-- draws, stamps and keys differ where they have to; tickets, users' lines and passwords are what
+-- they are said to be; and no subkey is told to others
 pub record Fresh (marking : Marking) (w : World) : Type 0 where
   -- each ticket that was issued has a session key of its own
-  pub own_key : (s t : Ticket) → Listed marking.tickets s → Listed marking.tickets t → s.session ≡ t.session → s ≡ t
+  pub own_key : (s t : Ticket) → Listed marking.tickets s → Listed marking.tickets t
+      → s.session ≡ t.session → s ≡ t
   -- a credential with that key names the ticket's client and server
-  pub credential : (i : ℕ) (own : InitSetup) (credential : Granted) (t : Ticket) → HasTicket w i own credential → Listed marking.tickets t → t.session ≡ credential.session
+  pub credential : (i : ℕ) (own : InitSetup) (credential : Granted) (t : Ticket)
+      → HasTicket w i own credential → Listed marking.tickets t → t.session ≡ credential.session
       → (t.client ≡ credential.client) × (t.server ≡ credential.server)
   -- and a ticket under a key of the acceptor's own name names the acceptor
-  pub server : (t : Ticket) (number : Option ℕ) (etype : Etype) → Listed marking.tickets t → found w.book.setup.keytab w.book.setup.own number etype ≡ Some t.service → t.server ≡ w.book.setup.own
+  pub server : (t : Ticket) (number : Option ℕ) (etype : Etype) → Listed marking.tickets t
+      → found w.book.setup.keytab w.book.setup.own number etype ≡ Some t.service
+      → t.server ≡ w.book.setup.own
   -- two initiators with one session key have different stamps
-  pub stamps : (i j : ℕ) (own other : InitSetup) (c d : Granted) → HasTicket w i own c → HasTicket w j other d → c.session ≡ d.session → own.stamp ≡ other.stamp → i ≡ j
+  pub stamps : (i j : ℕ) (own other : InitSetup) (c d : Granted) → HasTicket w i own c
+      → HasTicket w j other d → c.session ≡ d.session → own.stamp ≡ other.stamp → i ≡ j
   -- no two subkeys are equal, of contexts and of requests
-  pub subkeys : (i j : ℕ) (x y : Context) (a b : Judged) → slice_get w.fixed i ≡ Some x → slice_get w.fixed j ≡ Some y → OnRequest x a → OnRequest y b → x.fixed.outcome.key ≡ y.fixed.outcome.key → i ≡ j
-  pub own_subkeys : (i j : ℕ) (own other : InitSetup) (c d : Granted) → HasTicket w i own c → HasTicket w j other d → own_subkey c own.draws ≡ own_subkey d other.draws → i ≡ j
-  pub both_subkeys : (i : ℕ) (own : InitSetup) (c : Granted) (x : Context) (a : Judged) → HasTicket w i own c → Listed w.fixed x → OnRequest x a → own_subkey c own.draws ≢ x.fixed.outcome.key
+  pub subkeys : (i j : ℕ) (x y : Context) (a b : Judged)
+      → slice_get w.fixed i ≡ Some x → slice_get w.fixed j ≡ Some y → OnRequest x a → OnRequest y b
+      → x.fixed.outcome.key ≡ y.fixed.outcome.key → i ≡ j
+  pub own_subkeys : (i j : ℕ) (own other : InitSetup) (c d : Granted) → HasTicket w i own c
+      → HasTicket w j other d → own_subkey c own.draws ≡ own_subkey d other.draws → i ≡ j
+  pub both_subkeys : (i : ℕ) (own : InitSetup) (c : Granted) (x : Context) (a : Judged)
+      → HasTicket w i own c → Listed w.fixed x → OnRequest x a
+      → own_subkey c own.draws ≢ x.fixed.outcome.key
   -- no two nonces of SCRAM are equal
-  pub nonces : (i j : ℕ) (own other : InitSetup) (a p b q : List ℕ) → HasAccount w i own a p → HasAccount w j other b q → drawn_nonce own.draws ≡ drawn_nonce other.draws → i ≡ j
-  pub own_nonces : (i j : ℕ) (x y : Context) (end next : AcceptModel) (auth last : List ℕ) → slice_get w.fixed i ≡ Some x → slice_get w.fixed j ≡ Some y
+  pub nonces : (i j : ℕ) (own other : InitSetup) (a p b q : List ℕ) → HasAccount w i own a p
+      → HasAccount w j other b q → drawn_nonce own.draws ≡ drawn_nonce other.draws → i ≡ j
+  pub own_nonces : (i j : ℕ) (x y : Context) (end next : AcceptModel) (auth last : List ℕ)
+      → slice_get w.fixed i ≡ Some x → slice_get w.fixed j ≡ Some y
       → OnProof x end auth → OnProof y next last → end.own ≡ next.own → i ≡ j
-  -- a marked user's line is made from its password, and an initiator that uses this name uses this password
-  pub lines : (account : Account) (line : Verifier) → Listed marking.accounts account → Listed w.book.setup.verifiers line → line.name ≡ account.user
-      → (line.stored ≡ stored_key (record { password = account.password; salt = line.salt; rounds = line.rounds })) × (line.server ≡ server_key (record { password = account.password; salt = line.salt; rounds = line.rounds }))
-  pub passwords : (account : Account) (i : ℕ) (own : InitSetup) (user password : List ℕ) → Listed marking.accounts account → HasAccount w i own user password → user ≡ account.user → password ≡ account.password
-  -- keys of SCRAM exchanges over different AuthMessages differ from each other, and all from drawn subkeys
-  pub proof_keys : (key : Key) (auth last : List ℕ) → ProofKey w key auth → ProofKey w key last → auth ≡ last
+  -- a marked user's line is made from its password, and an initiator that uses this name uses this
+  -- password
+  pub lines : (account : Account) (line : Verifier) → Listed marking.accounts account
+      → Listed w.book.setup.verifiers line → line.name ≡ account.user
+      → (line.stored
+      ≡ stored_key (record { password = account.password; salt = line.salt; rounds = line.rounds }))
+      × (line.server
+      ≡ server_key (record { password = account.password; salt = line.salt; rounds = line.rounds }))
+  pub passwords : (account : Account) (i : ℕ) (own : InitSetup) (user password : List ℕ)
+      → Listed marking.accounts account → HasAccount w i own user password → user ≡ account.user
+      → password ≡ account.password
+  -- keys of SCRAM exchanges over different AuthMessages differ from each other, and all from drawn
+  -- subkeys
+  pub proof_keys : (key : Key) (auth last : List ℕ) → ProofKey w key auth → ProofKey w key last
+      → auth ≡ last
   pub proof_subkeys : (key : Key) (auth : List ℕ) → ProofKey w key auth → Subkey w key → ⊥
-  -- who completed by Kerberos on the key of a context that is built on a guarded key has a guarded session key
-  pub untold : (i : ℕ) (own : InitSetup) (c : Granted) (outcome : Outcome) → HasTicket w i own c → Completed w i own outcome → outcome.mech ≡ kinds.Kerberos
+  -- who completed by Kerberos on the key of a context that is built on a guarded key has a guarded
+  -- session key
+  pub untold : (i : ℕ) (own : InitSetup) (c : Granted) (outcome : Outcome) → HasTicket w i own c
+      → Completed w i own outcome → outcome.mech ≡ kinds.Kerberos
       → BuiltKey marking w.fixed outcome.key → GuardedSession marking c.session

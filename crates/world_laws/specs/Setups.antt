@@ -15,16 +15,22 @@ use Rattle.world_laws.specs.State.{World}
 
 -- the moment, the names, the hash and the subkey of a request have a spelling
 abbrev pub IsSpelled : MechCred → ℕ → List ℕ → Option (List ℕ) → Type 0
-IsSpelled (creds.Kerberos credential) stamp draws bindings = authenticator.fits (authenticator_of credential stamp draws bindings) ≡ true
+IsSpelled (creds.Kerberos credential) stamp draws bindings =
+    authenticator.fits (authenticator_of credential stamp draws bindings) ≡ true
 IsSpelled (creds.Scram user password) stamp draws bindings = Unit {0}
 
+-- an initiator's setup: octets that may be drawn, bindings that may be, a request with a spelling
 pub record IsSetup (own : InitSetup) : Type 0 where
   pub draws : AreOctets 66 66 own.draws
-  pub bound : (application : List ℕ) → own.bindings ≡ Some application → AreOctets 1 32768 application
+  pub bound : (application : List ℕ) → own.bindings ≡ Some application
+      → AreOctets 1 32768 application
   -- the moment, the names, the hash and the subkey of a request have a spelling
-  pub spelled : (credential : Granted) → cred_for own.list kinds.Kerberos ≡ Some (creds.Kerberos credential)
+  pub spelled : (credential : Granted)
+      → cred_for own.list kinds.Kerberos ≡ Some (creds.Kerberos credential)
       → authenticator.fits (authenticator_of credential own.stamp own.draws own.bindings) ≡ true
 
+-- each initiator has such a setup, and each user's line of the acceptor is of its grammar
 pub record Proper (w : World) : Type 0 where
   pub setups : (i : ℕ) (own : InitSetup) → slice_get w.facts i ≡ Some own → IsSetup own
-  pub lines : (place : ℕ) (line : Verifier) → slice_get w.book.setup.verifiers place ≡ Some line → IsLine line
+  pub lines : (place : ℕ) (line : Verifier) → slice_get w.book.setup.verifiers place ≡ Some line
+      → IsLine line

@@ -12,9 +12,16 @@ use Rattle.world_laws.specs.State.{InHand, World}
 
 -- what an initiator with these facts is begun with
 abbrev pub setup_of : InitFacts → InitSetup
-setup_of facts = record { list = facts.list; bindings = facts.bindings; stamp = facts.stamp; draws = facts.draws }
+setup_of facts = record {
+  list = facts.list;
+  bindings = facts.bindings;
+  stamp = facts.stamp;
+  draws =
+      facts.draws;
+}
 
--- all but what was fixed and what was handed out, which no program knows; and the events so far, the first one first
+-- all but what was fixed and what was handed out, which no program knows; and the events so far,
+-- the first one first
 pub record Shown : Type 0 where
   pub facts : List InitSetup
   pub stages : List Stage
@@ -22,6 +29,7 @@ pub record Shown : Type 0 where
   pub lanes : List (Option InHand)
   pub events : List WorldEvent
 
+-- what is shown is this world's: its facts, its stages, its book and its lanes
 pub record Shows (w : World) (shown : Shown) : Type 0 where
   pub facts : shown.facts ≡ w.facts
   pub stages : shown.stages ≡ w.stages
@@ -36,14 +44,17 @@ pub record Ran (shown : Shown) : Type 0 where
   pub run : Run start shown.events now
   pub shows : Shows now shown
 
--- the event happened, with this answer: from every world that shows the old, to one that shows the new
-pub record Follows (event : WorldEvent) (answer : Option Happened) (old : World) (shown : Shown) : Type 0 where
+-- the event happened, with this answer: from every world that shows the old, to one that shows the
+-- new
+pub record Follows (event : WorldEvent) (answer : Option Happened) (old : World)
+    (shown : Shown) : Type 0 where
   pub deed : Deed
   pub new : World
   pub happens : Happens old event deed new
   pub answered : deed.answer ≡ answer
   pub shows : Shows new shown
 
+-- one more event is shown, and it leads from every world that showed the old to a world of the new
 pub record Steps (event : WorldEvent) (answer : Option Happened) (old new : Shown) : Type 0 where
   pub events : new.events ≡ old.events ++ event ∷ []
   pub follows : (w : World) → Shows w old → Follows event answer w new

@@ -7,7 +7,8 @@ use Rattle.accept_book.specs.Booking.{BookOf}
 use Rattle.accept_book.specs.RecordShown.{KeptAnswers}
 use Rattle.world_laws.specs.declared.stage.Stage.{Stage}
 
--- a record in hand: its octets, the moment and the draws that were taken with it, and what the book answered to it so far
+-- a record in hand: its octets, the moment and the draws that were taken with it, and what the book
+-- answered to it so far
 pub record InHand : Type 0 where
   pub octets : List ℕ
   pub kept : KeptAnswers
@@ -17,8 +18,9 @@ pub record Context : Type 0 where
   pub id : ℕ
   pub fixed : Fixed
 
--- the initiators, what each was begun with, and where it is; the book; the lanes; what was fixed of contexts, the newest last, and what was handed out.
--- What was fixed and handed out stays, after the contexts ended too
+-- the initiators, what each was begun with, and where it is; the book; the lanes; what was fixed of
+-- contexts, the newest last, and what was handed out. What was fixed and handed out stays, after
+-- the contexts ended too
 pub record World : Type 0 where
   pub facts : List InitSetup
   pub stages : List Stage

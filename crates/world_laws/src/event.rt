@@ -4,7 +4,7 @@ use sec_base::{Moment, Octets};
 use spnego_core::Outcome;
 
 /// What may happen. Initiators and lanes are counted from 0.
-#[derive(Debug, Drop)]
+#[derive(Drop)]
 pub enum WorldEvent {
     /// An initiator that wasn't started sends its first creation call.
     Start {
@@ -31,7 +31,7 @@ pub enum WorldEvent {
 }
 
 /// What came of an event.
-#[derive(Debug, Drop)]
+#[derive(Drop)]
 pub enum Happened {
     /// A record was handed out: of a call, or of a reply.
     Sent(Octets),

@@ -5,7 +5,7 @@ use sec_base::{Items, Moment};
 use spnego_core::MechCred;
 
 /// What an initiator is begun with, as the world remembers it once the setup is spent.
-#[derive(Debug, Drop)]
+#[derive(Drop)]
 pub struct InitFacts {
     /// The mechanisms, the preferred first.
     pub list: Items<MechCred>,

@@ -26,7 +26,7 @@ const CONTINUE_INIT: u32 = 2;
 const FIRST: u32 = 1;
 
 /// What an initiator did.
-#[derive(Debug, Drop)]
+#[derive(Drop)]
 pub(crate) struct Moves {
     /// Where it is then.
     pub stage: Stage,
@@ -57,7 +57,8 @@ fn lost() -> Moves
 /// It hands out the creation call of this transaction number, whose reply is due.
 fn ask(alloc: Global, xid: u32, proc: u32, offer: Offer) -> Moves
     requires { FitsOffer offer }
-    ensures { Goes (Stage.Asks xid offer.end) (Happened.Sent (creation_call Service.Integrity xid proc offer.handle offer.token)) Stage.Over result }
+    ensures { Goes (Stage.Asks xid offer.end) (Happened.Sent
+        (creation_call Service.Integrity xid proc offer.handle offer.token)) Stage.Over result }
 {
     let Offer { end, handle, token } = offer;
     match creation_call(

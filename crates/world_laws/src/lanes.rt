@@ -31,7 +31,18 @@ impl Model for InHand {
 
     ghost Value = { InHand };
 
-    ghost view = { λ h. record { octets = h.bytes; kept = record { now = h.now; draws = h.draws; negotiated = None; looked = h.looked; admitted = None; ended = None } } };
+    ghost view = { λ h. record {
+      octets = h.bytes;
+      kept = record {
+        now = h.now;
+        draws =
+            h.draws;
+        negotiated = None;
+        looked = h.looked;
+        admitted = None;
+        ended = None;
+      };
+    } };
 }
 
 /// What an event of a lane leaves, and what came of it.

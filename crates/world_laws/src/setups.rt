@@ -21,7 +21,8 @@ fn tell_credential(
     draws: &[u8; 66],
     bindings: Option<&Bindings>,
 ) -> Result<(), NoMemory>
-    ensures { IfOk result (λ _. IsSpelled cred.now stamp draws.now (option_map (λ b. b.now) bindings.entry)) }
+    ensures { IfOk result
+        (λ _. IsSpelled cred.now stamp draws.now (option_map (λ b. b.now) bindings.entry)) }
 {
     match cred {
         MechCred::Kerberos(credential) => {
@@ -33,7 +34,8 @@ fn tell_credential(
 
 /// Does nothing that stays: requests with these credentials have a spelling.
 fn tell_credentials(alloc: Global, own: &InitSetup) -> Result<(), NoMemory>
-    ensures { IfOk result (λ _. (i : ℕ) (cred : MechCredIs) → slice_get own.now.list i ≡ Some cred → IsSpelled cred own.now.stamp own.now.draws own.now.bindings) }
+    ensures { IfOk result (λ _. (i : ℕ) (cred : MechCredIs) → slice_get own.now.list i ≡ Some cred
+        → IsSpelled cred own.now.stamp own.now.draws own.now.bindings) }
 {
     for cred in own.list.as_slice() {
         tell_credential(alloc, cred, own.stamp, &own.draws, own.bindings.as_ref())?;
@@ -64,7 +66,8 @@ fn tell_data(bindings: &Bindings)
 
 /// Does nothing: the bindings, where there are some, may be.
 fn tell_bindings(bindings: Option<&Bindings>)
-    ensures { (application : List ℕ) → option_map (λ b. b.now) bindings.entry ≡ Some application → AreOctets 1 32768 application }
+    ensures { (application : List ℕ) → option_map (λ b. b.now) bindings.entry ≡ Some application
+        → AreOctets 1 32768 application }
 {
     if let Some(bindings) = bindings {
         tell_data(bindings);
@@ -82,7 +85,8 @@ fn tell_setup(alloc: Global, own: &InitSetup) -> Result<(), NoMemory>
 
 /// Does nothing that stays: each setup is one that its types allow.
 pub(crate) fn tell_setups(alloc: Global, setups: &[InitSetup]) -> Result<(), NoMemory>
-    ensures { IfOk result (λ _. (i : ℕ) (own : InitSetupIs) → slice_get setups.now i ≡ Some own → IsSetup own) }
+    ensures { IfOk result
+        (λ _. (i : ℕ) (own : InitSetupIs) → slice_get setups.now i ≡ Some own → IsSetup own) }
 {
     for own in setups {
         tell_setup(alloc, own)?;

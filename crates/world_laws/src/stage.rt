@@ -4,7 +4,7 @@ use gss_client::Session;
 use spnego_core::{InitEnd, InitSetup};
 
 /// Where an initiator is.
-#[derive(Debug, Drop)]
+#[derive(Drop)]
 pub enum Stage {
     /// It wasn't started.
     Ready(InitSetup),

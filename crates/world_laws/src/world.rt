@@ -1,11 +1,14 @@
 //! The world: initiators, an acceptor's book, and the lanes by which records come to it.
 
-ghost use Rattle.std.specs.Prelude.{◌≡◌, ◌⊎◌, ◌≤◌, ℕ, [], ◌++◌, ◌∷◌, true, map, length, nat_le, replicate, slice_get, Option, Some, None, IsSome, IfOk, IsErr, Ok};
+ghost use Rattle.std.specs.Prelude.{◌≡◌, ◌⊎◌, ◌≤◌, ℕ, [], ◌++◌, ◌∷◌, true, map, length, nat_le};
+ghost use Rattle.std.specs.Prelude.{replicate, slice_get, Option, Some, None, IsSome, IfOk, IsErr};
+ghost use Rattle.std.specs.Prelude.{Ok};
 ghost use Rattle.spnego_core.specs.declared.setup.InitSetup.{InitSetup as InitSetupIs};
 ghost use Rattle.spnego_core.specs.InitMech.{is_own_list};
 ghost use Rattle.accept_book.specs.Booking.{BookOf};
 ghost use Rattle.world_laws.specs.Events.{IsBook, IsProper};
-ghost use Rattle.world_laws.specs.Passing.{started_from, taken_from, called_from, of_stage, TurnsTo, CallsTo, Turns, hand_or, LaneTurns};
+ghost use Rattle.world_laws.specs.Passing.{started_from, taken_from, called_from, of_stage};
+ghost use Rattle.world_laws.specs.Passing.{TurnsTo, CallsTo, Turns, hand_or, LaneTurns};
 ghost use Rattle.world_laws.specs.Parting.{parts_of, Passes};
 ghost use Rattle.world_laws.specs.Turning.{happened_of};
 
@@ -61,9 +64,23 @@ impl Model for World {
 
     ghost Value = { Shown };
 
-    ghost view = { λ w. record { facts = map setup_of w.facts.items; stages = w.parts.stages.items; book = w.parts.book; lanes = w.parts.lanes.items; events = w.events.items } };
+    ghost view = { λ w. record {
+      facts = map setup_of w.facts.items;
+      stages = w.parts.stages.items;
+      book = w.parts.book;
+      lanes = w.parts.lanes.items;
+      events = w.events.items;
+    } };
 
-    ghost invariant = { λ w. ∥ Ran (record { facts = map setup_of w.facts.items; stages = w.parts.stages.items; book = w.parts.book; lanes = w.parts.lanes.items; events = w.events.items }) ∥₁ };
+    ghost invariant = { λ w.
+        ∥ Ran (record {
+          facts = map setup_of w.facts.items;
+          stages = w.parts.stages.items;
+          book =
+              w.parts.book;
+          lanes = w.parts.lanes.items;
+          events = w.events.items;
+        }) ∥₁ };
 }
 
 /// An initiator starts, if it wasn't started.
@@ -90,7 +107,8 @@ fn stays(stage: Stage) -> Moves
 
 /// An initiator takes a reply, if a creation call of its own is out.
 fn deliver_from(alloc: Global, stage: Stage, bytes: &[u8]) -> Moves
-    ensures { TurnsTo (taken_from bytes.now stage) (happened_of result.happened) stage result.stage }
+    ensures { TurnsTo (taken_from bytes.now stage) (happened_of result.happened) stage
+        result.stage }
 {
     match stage {
         Stage::Asks { xid, end } => initiators::take(alloc, xid, end, bytes),
@@ -101,7 +119,8 @@ fn deliver_from(alloc: Global, stage: Stage, bytes: &[u8]) -> Moves
 /// The next call of a context, if a number is left.
 fn call_with(alloc: Global, session: Session, procedure: u32, args: &[u8]) -> Moves
     requires { length args.now ≤ 65540 }
-    ensures { CallsTo (nat_le session.number 0x7fffffff) session procedure args.now result.stage (happened_of result.happened) }
+    ensures { CallsTo (nat_le session.number 0x7fffffff) session procedure args.now result.stage
+        (happened_of result.happened) }
 {
     if session.next_number() > 0x7fffffff {
         return stays(Stage::Stands(session));
@@ -112,7 +131,8 @@ fn call_with(alloc: Global, session: Session, procedure: u32, args: &[u8]) -> Mo
 /// An initiator calls, if its context stands and a number is left.
 fn call_from(alloc: Global, stage: Stage, procedure: u32, args: &[u8]) -> Moves
     requires { length args.now ≤ 65540 }
-    ensures { TurnsTo (called_from procedure args.now stage) (happened_of result.happened) stage result.stage }
+    ensures { TurnsTo (called_from procedure args.now stage) (happened_of result.happened) stage
+        result.stage }
 {
     match stage {
         Stage::Stands(session) => call_with(alloc, session, procedure, args),
@@ -123,8 +143,10 @@ fn call_from(alloc: Global, stage: Stage, procedure: u32, args: &[u8]) -> Moves
 /// The initiator of this place starts.
 #[tactic(auto, using(crate::proofs::Turns::turned, crate::proofs::Turns::unturned))]
 fn start(alloc: Global, stages: &mut Vec<Stage>, i: usize) -> Result<Happened, NoMemory>
-    requires { (own : InitSetupIs) → slice_get stages.old.items i ≡ Some (Stage.Ready own) → is_own_list own.list ≡ true }
-    ensures { Turns (of_stage started_from (slice_get stages.old.items i)) i (happened_of result) stages.old.items stages.new.items }
+    requires { (own : InitSetupIs) → slice_get stages.old.items i ≡ Some (Stage.Ready own)
+        → is_own_list own.list ≡ true }
+    ensures { Turns (of_stage started_from (slice_get stages.old.items i)) i (happened_of result)
+        stages.old.items stages.new.items }
 {
     if i >= stages.len() {
         return Ok(Happened::Nothing);
@@ -143,7 +165,8 @@ fn deliver(
     i: usize,
     bytes: &[u8],
 ) -> Result<Happened, NoMemory>
-    ensures { Turns (of_stage (taken_from bytes.now) (slice_get stages.old.items i)) i (happened_of result) stages.old.items stages.new.items }
+    ensures { Turns (of_stage (taken_from bytes.now) (slice_get stages.old.items i)) i
+        (happened_of result) stages.old.items stages.new.items }
 {
     if i >= stages.len() {
         return Ok(Happened::Nothing);
@@ -164,7 +187,8 @@ fn call_by(
     args: &[u8],
 ) -> Result<Happened, NoMemory>
     requires { length args.now ≤ 65540 }
-    ensures { Turns (of_stage (called_from procedure args.now) (slice_get stages.old.items i)) i (happened_of result) stages.old.items stages.new.items }
+    ensures { Turns (of_stage (called_from procedure args.now) (slice_get stages.old.items i)) i
+        (happened_of result) stages.old.items stages.new.items }
 {
     if i >= stages.len() {
         return Ok(Happened::Nothing);
@@ -194,7 +218,9 @@ fn go_on(
     taken: InHand,
 ) -> Result<Happened, NoMemory>
     requires { IsSome book.old }
-    ensures { LaneTurns (slice_get lanes.old.items lane) lane taken (happened_of result) (record { book = book.old; lanes = lanes.old.items }) (record { book = book.new; lanes = lanes.new.items }) }
+    ensures { LaneTurns (slice_get lanes.old.items lane) lane
+        taken (happened_of result) (record { book = book.old; lanes = lanes.old.items })
+        (record { book = book.new; lanes = lanes.new.items }) }
 {
     if lane >= lanes.len() {
         return Ok(Happened::Nothing);
@@ -225,7 +251,8 @@ fn tell_book(book: &Option<Book>)
 /// An event happens.
 fn happen(alloc: Global, parts: &mut Parts, event: WorldEvent) -> Result<Happened, NoMemory>
     requires proper { IsProper event }
-    requires lists { (i : ℕ) (own : InitSetupIs) → slice_get parts.old.stages.items i ≡ Some (Stage.Ready own) → is_own_list own.list ≡ true }
+    requires lists { (i : ℕ) (own : InitSetupIs) → slice_get parts.old.stages.items i
+        ≡ Some (Stage.Ready own) → is_own_list own.list ≡ true }
     requires there { IsSome parts.old.book }
     ensures { Passes event (happened_of result) (parts_of parts.old) (parts_of parts.new) }
 {
@@ -332,9 +359,11 @@ impl World {
     pub fn new(alloc: Global, setup: WorldSetup) -> Result<World, NoMemory>
         requires empty { setup.book.core.history ≡ [] }
         requires facts { map setup_of setup.facts.items ≡ setup.initiators.items }
-        requires lists { (i : ℕ) (own : InitSetupIs) → slice_get setup.initiators.items i ≡ Some own → is_own_list own.list ≡ true }
+        requires lists { (i : ℕ) (own : InitSetupIs) → slice_get setup.initiators.items i ≡ Some own
+            → is_own_list own.list ≡ true }
         ensures facts { IfOk result (λ world. world.facts ≡ setup.initiators.items) }
-        ensures stages { IfOk result (λ world. world.stages ≡ map Stage.Ready setup.initiators.items) }
+        ensures stages { IfOk result
+            (λ world. world.stages ≡ map Stage.Ready setup.initiators.items) }
         ensures book { IfOk result (λ world. world.book ≡ Some setup.book) }
         ensures lanes { IfOk result (λ world. world.lanes ≡ replicate setup.lanes None) }
         ensures events { IfOk result (λ world. world.events ≡ []) }
