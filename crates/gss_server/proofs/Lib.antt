@@ -6,4 +6,4 @@ pub mod OneReading
 pub mod Turning
 pub mod LoopTurns
 pub mod Replying
-pub mod Wanting
+pub mod Takings

@@ -11,9 +11,9 @@ use Rattle.gss_server.specs.declared.answer.Kept.{Kept}
 use Rattle.gss_server.specs.declared.looping.Turned.{Turned}
 use Rattle.gss_server.specs.declared.looping.Turned.TheVariants.{Answered, Rests, Starved}
 use Rattle.gss_server.specs.Answers.{IsDecided, may_want}
-use Rattle.gss_server.specs.Connections.{octets_of, ruling_for, written_for, written_in}
+use Rattle.gss_server.specs.Connections.{octets_of, ruling_for, written_for, written_in, IsExact}
 use Rattle.gss_server.specs.Looping.{IsUnfit, Rest, LoopedTo, Looped, IsWholeAt, Answering, KeptOnly, IsAnsweredBy, Unjudged, IsTurned, HeardMore, Loops}
-use Rattle.gss_server.proofs.Turning.{each-push, octets_of-push, order-push, decided-push}
+use Rattle.gss_server.proofs.Turning.{each-push, octets_of-push, order-push, all-push}
 
 -- what stands behind the records is the rest
 pub behind : {rests : List ℕ → List Kept → Type 0} (width : ℕ) (heard said : List ℕ) (kept : List Kept) (cut : ℕ) → (p : LoopedTo rests width heard said kept cut) → drop cut heard ≡ p.rest
@@ -28,6 +28,7 @@ pub answered-more : (width : ℕ) (heard : List ℕ) (kept kept' : List Kept) (s
 answered-more width heard kept kept' said said' cut cut' octets size p w a =
     let rest_is : p.rest ≡ frame w.cut ++ w.more = sym (behind width heard said kept cut p) ∙ w.begins in
     let kept_is : kept ≡ p.answers = only-answers p.answers p.last kept p.keeps p.stands in
+    let exact : IsExact width (octets_in w.cut) a.one = subst (λ (zs : List ℕ). IsExact width zs a.one) w.heard a.exact in
     let decided : IsDecided (ruling_for width (octets_in w.cut) a.one) = subst (λ (zs : List ℕ). IsDecided (ruling_for width zs a.one)) w.heard a.decided in
     record {
       records = p.records ++ w.cut ∷ [];
@@ -38,7 +39,8 @@ answered-more width heard kept kept' said said' cut cut' octets size p w a =
       spelled = p.spelled ∙ (ap (λ (zs : List ℕ). octets_of p.records ++ zs) rest_is ∙ (sym (append_assoc (octets_of p.records) (frame w.cut) w.more) ∙ ap (λ (zs : List ℕ). zs ++ w.more) (octets_of-push p.records w.cut)));
       place = placed cut cut' size (length (octets_of p.records)) (length (frame w.cut)) (length (octets_of (p.records ++ w.cut ∷ []))) a.place p.place w.long (sym (length-append (octets_of p.records) (frame w.cut)) ∙ ap length (octets_of-push p.records w.cut));
       counted = length-append p.records (w.cut ∷ []) ∙ (ap (λ (n : ℕ). n + 1) p.counted ∙ sym (length-append p.answers (a.one ∷ [])));
-      decided = decided-push width p.records p.answers w.cut a.one p.counted p.decided decided;
+      exact = all-push (IsExact width) p.records p.answers w.cut a.one p.counted p.exact exact;
+      decided = all-push (λ octets k. IsDecided (ruling_for width octets k)) p.records p.answers w.cut a.one p.counted p.decided decided;
       keeps = a.keeps ∙ (ap (λ (ks : List Kept). ks ++ a.one ∷ []) kept_is ∙ sym (append-nil (p.answers ++ a.one ∷ [])));
       replies = a.replied ∙ (ap (λ (zs : List ℕ). zs ++ written_for width octets a.one) p.replies ∙ (ap (λ (zs : List ℕ). written_in width p.records p.answers ++ written_for width zs a.one) w.heard ∙ sym (order-push (written_for width) p.records p.answers w.cut a.one p.counted)));
       stands = refl;
@@ -58,6 +60,7 @@ with-rests width heard said kept cut p r = record {
   spelled = p.spelled;
   place = p.place;
   counted = p.counted;
+  exact = p.exact;
   decided = p.decided;
   keeps = p.keeps;
   replies = p.replies;
@@ -86,6 +89,7 @@ starved-after width heard said kept kept' cut octets size p w k =
       spelled = p.spelled;
       place = p.place;
       counted = p.counted;
+      exact = p.exact;
       decided = p.decided;
       keeps = k.keeps ∙ ap (λ (ks : List Kept). ks ++ k.one ∷ []) kept_is;
       replies = p.replies;
@@ -96,6 +100,7 @@ starved-after width heard said kept kept' cut octets size p w k =
         is_record = w.is_record;
         begins = sym (behind width heard said kept cut p) ∙ w.begins;
         kept = refl;
+        exact = subst (λ (zs : List ℕ). IsExact width zs k.one) w.heard k.exact;
         wanted = subst (λ (zs : List ℕ). may_want (ruling_for width zs k.one) ≡ true) w.heard k.wanted;
       });
     }
@@ -116,6 +121,7 @@ heard-more width heard octets said kept cut p = record {
   spelled = ap (λ (zs : List ℕ). zs ++ octets) p.spelled ∙ append_assoc (octets_of p.records) p.rest octets;
   place = p.place;
   counted = p.counted;
+  exact = p.exact;
   decided = p.decided;
   keeps = p.keeps;
   replies = p.replies;
@@ -134,7 +140,7 @@ all-heard width heard said kept cut h p = rested width heard said kept cut p (in
 
 -- nothing was heard
 pub looped-none : (width : ℕ) → Looped width [] [] [] 0 false
-looped-none width = record { records = []; rest = []; answers = []; last = []; each = tt; spelled = refl; place = refl; counted = refl; decided = tt; keeps = refl; replies = refl; stands = (refl, inl no-octets) }
+looped-none width = record { records = []; rest = []; answers = []; last = []; each = tt; spelled = refl; place = refl; counted = refl; exact = tt; decided = tt; keeps = refl; replies = refl; stands = (refl, inl no-octets) }
 
 -- what became of a whole record
 pub turned-so : (width : ℕ) (heard : List ℕ) (kept kept' : List Kept) (said said' : List ℕ) (cut cut' : ℕ) (octets : List ℕ) (size : ℕ) (result : Turned) → LoopedTo Unjudged width heard said kept cut → IsWholeAt (drop cut heard) octets size → IsAnsweredBy width octets size kept kept' said said' cut cut' result → IsTurned width heard said' kept' cut' result

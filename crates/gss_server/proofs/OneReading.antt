@@ -14,8 +14,7 @@ use Rattle.rpc_msgs.proofs.WordLengths.{length-word}
 use Rattle.gss_server.specs.declared.answer.Kept.{Kept}
 use Rattle.gss_server.specs.declared.connection.ConnEnd.{ConnEnd}
 use Rattle.gss_server.specs.declared.connection.ConnEnd.TheVariants.{Ended, LinkFault, TooLong, TooManyFragments, Torn, Budget, NoMemory}
-use Rattle.gss_server.specs.Connections.{octets_of, HasCause, Ends, IsServedBy, StreamEnds}
-use Rattle.accept_book.specs.RecordShown.{Asked}
+use Rattle.gss_server.specs.Connections.{octets_of, Behind, Counts, Ends, OnWire, StreamEnds}
 
 -- how a stream begins: with nothing, a record that is cut short, too long or in too many fragments, or a whole record and more octets
 data First : Type 0 where
@@ -284,22 +283,22 @@ one-end before (r ∷ rs) (s ∷ ss) xs ys one two e all also p q =
     let m : before + suc (length ss) ≡ suc before + length ss = omega arith in
     one-end (suc before) rs ss xs ys one two more all.1 also.1 (subst (λ (k : ℕ). Shows one xs k) n p) (subst (λ (k : ℕ). Shows two ys k) m q)
 
-caused : (ending : ConnEnd) (rest coming : List ℕ) (count : ℕ) → ending ≢ LinkFault → ending ≢ NoMemory → HasCause ending rest coming count → Shows ending (rest ++ coming) count
+caused : (ending : ConnEnd) (rest coming : List ℕ) (count : ℕ) → ending ≢ LinkFault → ending ≢ NoMemory → Behind ending rest coming → Counts ending count → Shows ending (rest ++ coming) count
 unfolding end_at
-caused Ended rest coming count clear none h = shown Ended (rest ++ coming) count (let e = h.0 in let f = h.1 in rw (e, f) refl, h.2)
-caused LinkFault rest coming count clear none h = absurd (clear refl)
-caused TooLong rest coming count clear none h = at-first count (rest ++ coming) long TooLong h.1 (of-too-long rest coming h.0) refl
-caused TooManyFragments rest coming count clear none h = at-first count (rest ++ coming) many TooManyFragments h.1 (of-too-many rest coming h.0) refl
-caused Torn rest coming count clear none h =
-    at-first count (rest ++ coming) short Torn h.2 (ap (λ (zs : List ℕ). first_of (rest ++ zs)) h.1 ∙ (ap first_of (append-nil rest) ∙ of-torn rest h.0)) refl
-caused Budget rest coming count clear none h = at-budget count (rest ++ coming) h.1
-caused NoMemory rest coming count clear none h = absurd (none refl)
+caused Ended rest coming count clear none h n = shown Ended (rest ++ coming) count (let e = h.0 in let f = h.1 in rw (e, f) refl, n)
+caused LinkFault rest coming count clear none h n = absurd (clear refl)
+caused TooLong rest coming count clear none h n = at-first count (rest ++ coming) long TooLong n (of-too-long rest coming h) refl
+caused TooManyFragments rest coming count clear none h n = at-first count (rest ++ coming) many TooManyFragments n (of-too-many rest coming h) refl
+caused Torn rest coming count clear none h n =
+    at-first count (rest ++ coming) short Torn n (ap (λ (zs : List ℕ). first_of (rest ++ zs)) h.1 ∙ (ap first_of (append-nil rest) ∙ of-torn rest h.0)) refl
+caused Budget rest coming count clear none h n = at-budget count (rest ++ coming) n
+caused NoMemory rest coming count clear none h n = absurd (none refl)
 
 -- a connection that neither failed nor wanted memory has the end of its stream
-pub comes : {gained : List Asked → Type 0} (width : ℕ) {old new : Wire} {kept : List Kept} (ending expected : ConnEnd) → IsServedBy gained width old new kept ending → StreamEnds old new expected → ending ≢ LinkFault → ending ≢ NoMemory → ending ≡ expected
-comes width {old} {new} ending expected s e clear none =
-    let same : octets_of s.records ++ s.rest ≡ e.took = append_cancel_left old.taken (octets_of s.records ++ s.rest) e.took (sym s.went.taken ∙ e.taken) in
-    let stream : octets_of s.records ++ (s.rest ++ new.coming) ≡ octets_of e.records ++ e.rest = sym (append_assoc (octets_of s.records) s.rest new.coming) ∙ (ap (λ (zs : List ℕ). zs ++ new.coming) same ∙ e.stream) in
-    one-end 0 s.records e.records (s.rest ++ new.coming) e.rest ending expected stream s.each e.each
-    (subst (λ (k : ℕ). Shows ending (s.rest ++ new.coming) k) (omega arith) (caused ending s.rest new.coming (length s.records) clear none s.cause))
+pub comes : {width : ℕ} {old new : Wire} {records : List Fragments} {kept : List Kept} (ending expected : ConnEnd) → OnWire width old new records kept ending → Counts ending (length records) → StreamEnds old new expected → ending ≢ LinkFault → ending ≢ NoMemory → ending ≡ expected
+comes {old = old} {new = new} {records = records} ending expected s n e clear none =
+    let same : octets_of records ++ s.rest ≡ e.took = append_cancel_left old.taken (octets_of records ++ s.rest) e.took (sym s.went.taken ∙ e.taken) in
+    let stream : octets_of records ++ (s.rest ++ new.coming) ≡ octets_of e.records ++ e.rest = sym (append_assoc (octets_of records) s.rest new.coming) ∙ (ap (λ (zs : List ℕ). zs ++ new.coming) same ∙ e.stream) in
+    one-end 0 records e.records (s.rest ++ new.coming) e.rest ending expected stream s.each e.each
+    (subst (λ (k : ℕ). Shows ending (s.rest ++ new.coming) k) (omega arith) (caused ending s.rest new.coming (length records) clear none s.behind n))
     (subst (λ (k : ℕ). Shows expected e.rest k) (omega arith) (shown expected e.rest (length e.records) e.ends))

@@ -1,18 +1,51 @@
--- A connection that ends while a reply is written.
-use Rattle.std.proofs.Common.{◌≡◌, ◌++◌, ◌∷◌, [], inr, ℕ, List, Some, Err}
+-- A record whose reply is written, or not.
+use Rattle.std.proofs.Common.{[], refl, sym, inl, inr, ℕ, List, Bool, IsTrue, None, Some, Ok, Err}
+use Rattle.std.proofs.lemmas.List.{append-nil}
 use Rattle.sec_base.specs.Link.{Wire}
 use Rattle.gss_server.specs.declared.answer.Kept.{Kept}
+use Rattle.gss_server.specs.declared.answer.Reply.{Reply}
 use Rattle.gss_server.specs.declared.connection.ConnEnd.{ConnEnd}
 use Rattle.gss_server.specs.declared.connection.ConnEnd.TheVariants.{Ended, LinkFault, TooLong, TooManyFragments, Torn, Budget, NoMemory}
-use Rattle.accept_book.specs.RecordShown.{Asked}
-use Rattle.gss_server.specs.Connections.{ruling_for, written_for, asked_for}
-use Rattle.gss_server.specs.Turns.{Responds, Ruled, Replies}
+use Rattle.accept_book.specs.RecordShown.{Asked, Ruling}
+use Rattle.gss_server.specs.declared.answer.Reply.TheVariants as replies
+use Rattle.gss_server.specs.Answers.{Says, IsReply}
+use Rattle.gss_server.specs.Connections.{framed, ruling_for}
+use Rattle.gss_server.specs.Turns.{Keeps, AnswersBy, Responds, Ruled, Replies}
 
-pub replied : (gained : List Asked → Type 0) (width : ℕ) → (a b : Wire) (before after : List Kept) (octets : List ℕ) (ending : ConnEnd) (one : Kept) → after ≡ before ++ one ∷ [] → Responds {T = Unit {0}} a b (written_for width octets one) (Err ending) → Ruled {T = Unit {0}} (ruling_for width octets one) (Err ending) → gained (asked_for width octets one) → Replies gained width a b octets before after (Some ending)
-replied gained width a b before after octets Ended one e p r g = absurd p
-replied gained width a b before after octets LinkFault one e p r g = (one, p.0, record { kept = e; put = p.1; answered = r; asked = g })
-replied gained width a b before after octets TooLong one e p r g = absurd p
-replied gained width a b before after octets TooManyFragments one e p r g = absurd p
-replied gained width a b before after octets Torn one e p r g = absurd p
-replied gained width a b before after octets Budget one e p r g = absurd p
-replied gained width a b before after octets NoMemory one e p r g = inr (one, p.0, record { kept = e; put = p.1; answered = r; asked = g })
+-- by the ruling of the record
+abbrev ruled-so : {gained : List Asked → Type 0} {width : ℕ} {octets : List ℕ} {kept : List Kept} {One Two : Ruling → Type 0} → (p : Keeps gained One width octets kept) → Two (ruling_for width octets p.one) → Keeps gained Two width octets kept
+ruled-so p r = record { one = p.one; only = p.only; exact = p.exact; ruled = r; asked = p.asked }
+
+pub replied-whole : {told : Bool} {gained : List Asked → Type 0} {width : ℕ} {a b : Wire} {octets : List ℕ} {kept : List Kept} (reply : Reply) → AnswersBy gained width octets reply kept → (IsTrue told → (ruling : Ruling) → IsReply ruling reply → Responds {T = Unit {0}} a b (framed ruling.reply) (Ok tt)) → ((ruling : Ruling) → IsReply ruling reply → Ruled {T = Unit {0}} ruling (Ok tt)) → Replies told gained width a b octets None kept
+replied-whole {width = width} {octets = octets} reply p r q = record {
+  keeps = ruled-so p (q (ruling_for width octets p.one) p.ruled);
+  wire = λ t. r t (ruling_for width octets p.one) p.ruled;
+}
+
+pub replied-so : {told : Bool} {gained : List Asked → Type 0} {width : ℕ} (a b : Wire) {octets : List ℕ} {kept : List Kept} (reply : Reply) (ending : ConnEnd) → AnswersBy gained width octets reply kept → (IsTrue told → (ruling : Ruling) → IsReply ruling reply → Responds {T = Unit {0}} a b (framed ruling.reply) (Err ending)) → ((ruling : Ruling) → IsReply ruling reply → Ruled {T = Unit {0}} ruling (Err ending)) → Replies told gained width a b octets (Some ending) kept
+replied-so {width = width} a b {octets} reply Ended p r q = q (ruling_for width octets p.one) p.ruled
+replied-so {width = width} a b {octets} reply LinkFault p r q = record {
+  keeps = ruled-so p (q (ruling_for width octets p.one) p.ruled);
+  wire = λ t. r t (ruling_for width octets p.one) p.ruled;
+}
+replied-so {width = width} a b {octets} reply TooLong p r q = q (ruling_for width octets p.one) p.ruled
+replied-so {width = width} a b {octets} reply TooManyFragments p r q = q (ruling_for width octets p.one) p.ruled
+replied-so {width = width} a b {octets} reply Torn p r q = q (ruling_for width octets p.one) p.ruled
+replied-so {width = width} a b {octets} reply Budget p r q = q (ruling_for width octets p.one) p.ruled
+replied-so {width = width} a b {octets} reply NoMemory p r q = inr (record {
+  keeps = ruled-so p (q (ruling_for width octets p.one) p.ruled);
+  wire = λ t. r t (ruling_for width octets p.one) p.ruled;
+})
+
+pub no-room : {told : Bool} {gained : List Asked → Type 0} {width : ℕ} {octets : List ℕ} (a : Wire) → gained [] → Replies told gained width a a octets (Some NoMemory) []
+no-room a g = inl (record {
+  none = refl;
+  asked = g;
+  wire = λ t. record { taken = refl; coming = ([], sym (append-nil a.coming)); written = sym (append-nil a.written) };
+})
+
+-- what a layer said is the reply
+pub reply-said : (rule : ℕ) (ruling : Ruling) (reply : Reply) → Says reply rule ruling → IsReply ruling reply
+reply-said rule ruling replies.Silent p = (p.1, p.2)
+reply-said rule ruling (replies.Bytes octets) p = (p.1, p.2)
+reply-said rule ruling replies.NoMemory p = p.1

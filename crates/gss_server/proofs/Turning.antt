@@ -1,5 +1,5 @@
 -- Turn after turn of a connection.
-use Rattle.std.proofs.Common.{◌≡◌, inl, inr, lit<, lit≤, subst, ℕ, ◌+◌, ◌*◌, ◌<◌, ◌≤◌, List, [], ◌∷◌, ◌++◌, length, take, refl, ap, sym, ◌∙◌, arith, append_assoc, map, Bool, Option, Some, None, Err}
+use Rattle.std.proofs.Common.{◌≡◌, ◌≢◌, inl, inr, lit<, lit≤, subst, ℕ, ◌+◌, ◌*◌, ◌<◌, ◌≤◌, List, [], ◌∷◌, ◌++◌, length, take, refl, ap, sym, ◌∙◌, arith, append_assoc, map, Bool, true, false, IsTrue, Option, Some, None, Ok, Err}
 use Rattle.std.specs.List.{AllByRecursion}
 use Rattle.std.proofs.Math.Seq.{take-append-add, take-length}
 use Rattle.std.proofs.lemmas.Grind.{common_steps, flat_map-append}
@@ -17,9 +17,9 @@ use Rattle.gss_server.specs.Telling.{told_of}
 use Rattle.gss_server.specs.Asking.{Asking, IsAsked}
 use Rattle.gss_server.specs.declared.told.Told.{Told}
 use Rattle.gss_server.specs.Answers.{IsDecided}
-use Rattle.gss_server.specs.Connections.{Went, octets_of, in_order, ruling_for, written_for, written_in, asked_for, asked_in, HasCause, IsWritten, IsCounted, AllDecided, LastWanted, IsAnswered, IsServedBy, IsServed}
-use Rattle.gss_server.specs.Serving.{Serving}
-use Rattle.gss_server.specs.Turns.{Receives, Replies, Turns, Serves, ServesInPart, Stops, Wanted}
+use Rattle.gss_server.specs.Connections.{Went, octets_of, in_order, ruling_for, written_for, written_in, asked_for, asked_in, Counts, AllInOrder, IsExact, AllExact, AllDecided, LastWanted, IsAnswered, IsWritten, IsServed}
+use Rattle.gss_server.specs.Serving.{Serving, WentOn}
+use Rattle.gss_server.specs.Turns.{All, InPart, Nothing, Receives, Replies, Turns, Replied, Exchanges, Serves, ReadsTo, Stops, Breaks, Wanted}
 
 pub went-took : {a b : Wire} {xs : List ℕ} → Took a b xs → Went a b xs []
 went-took {a} {b} {xs} t = record {
@@ -52,18 +52,47 @@ went-same {a} {b} w e f = record {
   written = w.written ∙ ap (λ (zs : List ℕ). a.written ++ zs) f;
 }
 
+-- octets that were read are those of a record
+pub read-as : (told : Bool) {a b : Wire} (octets : List ℕ) → (IsTrue told → Receives a b (Ok octets)) → (cut : Fragments) × (octets ≡ octets_in cut) × (IsTrue told → IsRecord cut × Took a b (frame cut))
+read-as true octets r = let p = r refl in (p.0, p.2, λ t. (p.1, p.3))
+read-as false octets r = (record { earlier = []; last = octets }, refl, λ t. absurd cc)
+
 -- a record was read and then answered
-pub turned : (gained : List Asked → Type 0) (width : ℕ) → {a b : Wire} (c : Wire) (before after : List Kept) (cut : Fragments) (result : Option ConnEnd) → IsRecord cut → Took a b (frame cut) → Replies gained width b c (octets_in cut) before after result → Turns gained width a c before after result
-turned gained width c before after cut None r t p = (cut, p.0, record { is_record = r; kept = p.1.kept; went = went-put t p.1.put; answered = p.1.answered; asked = p.1.asked })
-turned gained width c before after cut (Some Ended) r t p = absurd p
-turned gained width c before after cut (Some LinkFault) r t p = inr (cut, p.0, p.1, record { is_record = r; kept = p.2.kept; went = went-put t p.2.put; answered = p.2.answered; asked = p.2.asked })
-turned gained width c before after cut (Some TooLong) r t p = absurd p
-turned gained width c before after cut (Some TooManyFragments) r t p = absurd p
-turned gained width c before after cut (Some Torn) r t p = absurd p
-turned gained width c before after cut (Some Budget) r t p = absurd p
-turned gained width c before after cut (Some NoMemory) r t (inl p) =
-    inl (frame cut, inr (record { cut = cut; is_record = r; spelled = refl }), record { kept = p.kept; went = went-put t p.put; asked = p.asked })
-turned gained width c before after cut (Some NoMemory) r t (inr p) = inr (cut, p.0, p.1, record { is_record = r; kept = p.2.kept; went = went-put t p.2.put; answered = p.2.answered; asked = p.2.asked })
+served-by : {told : Bool} {gained : List Asked → Type 0} {Is : Ruling → Type 0} {Much : List ℕ → List ℕ → Type 0} {width : ℕ} {a b c : Wire} {kept : List Kept} (cut : Fragments) → (IsTrue told → IsRecord cut × Took a b (frame cut)) → Replied told gained Is Much width b c (octets_in cut) kept → Serves told gained Is Much width a c kept
+served-by cut r p = record {
+  cut = cut;
+  keeps = p.keeps;
+  wire = λ t. record { is_record = (r t).0; wrote = (p.wire t).wrote; much = (p.wire t).much; went = went-put (r t).1 (p.wire t).put };
+}
+
+pub turned : (told : Bool) (gained : List Asked → Type 0) (width : ℕ) {a b : Wire} (c : Wire) (kept : List Kept) (cut : Fragments) (result : Option ConnEnd) → (IsTrue told → IsRecord cut × Took a b (frame cut)) → Replies told gained width b c (octets_in cut) result kept → Turns told gained width a c result kept
+turned told gained width c kept cut None r p = served-by cut r p
+turned told gained width c kept cut (Some Ended) r p = absurd p
+turned told gained width c kept cut (Some LinkFault) r p = inr (served-by cut r p)
+turned told gained width c kept cut (Some TooLong) r p = absurd p
+turned told gained width c kept cut (Some TooManyFragments) r p = absurd p
+turned told gained width c kept cut (Some Torn) r p = absurd p
+turned told gained width c kept cut (Some Budget) r p = absurd p
+turned told gained width c kept cut (Some NoMemory) r (inl p) = inl (record {
+  none = p.none;
+  early = λ e. absurd cc;
+  asked = p.asked;
+  wire = λ t. record { octets = frame cut; behind = inr (record { cut = cut; is_record = (r t).0; spelled = refl }); went = went-put (r t).1 (p.wire t) };
+})
+turned told gained width c kept cut (Some NoMemory) r (inr p) = inr (served-by cut r p)
+
+-- no record was read
+reads-to : {a b : Wire} (ending : ConnEnd) → Receives a b (Err ending) → ReadsTo a b ending
+reads-to Ended r = record { octets = []; behind = (refl, r.1); went = went-took r.0 }
+reads-to LinkFault r = record { octets = r.0; behind = r.1; went = went-took r.2 }
+reads-to TooLong r = record { octets = r.0; behind = r.1; went = went-took r.2 }
+reads-to TooManyFragments r = record { octets = r.0; behind = r.1; went = went-took r.2 }
+reads-to Torn r = record { octets = r.0; behind = (r.1, r.3); went = went-took r.2 }
+reads-to Budget r = absurd r
+reads-to NoMemory r = record { octets = r.0; behind = r.1; went = went-took r.2 }
+
+pub unread : {told : Bool} {gained : List Asked → Type 0} {a b : Wire} (ending : ConnEnd) → gained [] → ending ≢ Budget → (IsTrue told → Receives a b (Err ending)) → Stops told gained a b ending []
+unread ending g early r = record { none = refl; early = early; asked = g; wire = λ t. reads-to ending (r t) }
 
 pub each-push : (records : List Fragments) (cut : Fragments) → AllByRecursion IsRecord records → IsRecord cut → AllByRecursion IsRecord (records ++ cut ∷ [])
 each-push [] cut all r = (r, tt)
@@ -80,24 +109,11 @@ order-push each (x ∷ records) [] cut one e = absurd (omega arith)
 order-push {A} each (x ∷ records) (k ∷ kept) cut one e =
     ap (λ (zs : List A). each (octets_in x) k ++ zs) (order-push each records kept cut one (omega arith)) ∙ sym (append_assoc (each (octets_in x) k) (in_order each records kept) (each (octets_in cut) one))
 
--- a record without a kept answer adds nothing
-order-past : {A : Type 0} (each : List ℕ → Kept → List A) (records : List Fragments) (kept : List Kept) (cut : Fragments) → length records ≡ length kept → in_order each (records ++ cut ∷ []) kept ≡ in_order each records kept
-order-past each [] [] cut e = refl
-order-past each [] (k ∷ kept) cut e = absurd (omega arith)
-order-past each (x ∷ records) [] cut e = absurd (omega arith)
-order-past {A} each (x ∷ records) (k ∷ kept) cut e = ap (λ (zs : List A). each (octets_in x) k ++ zs) (order-past each records kept cut (omega arith))
-
-pub decided-push : (width : ℕ) (records : List Fragments) (kept : List Kept) (cut : Fragments) (one : Kept) → length records ≡ length kept → AllDecided width records kept → IsDecided (ruling_for width (octets_in cut) one) → AllDecided width (records ++ cut ∷ []) (kept ++ one ∷ [])
-decided-push width [] [] cut one e all h = (h, tt)
-decided-push width [] (k ∷ kept) cut one e all h = absurd (omega arith)
-decided-push width (x ∷ records) [] cut one e all h = absurd (omega arith)
-decided-push width (x ∷ records) (k ∷ kept) cut one e all h = (all.0, decided-push width records kept cut one (omega arith) all.1 h)
-
-decided-past : (width : ℕ) (records : List Fragments) (kept : List Kept) (cut : Fragments) → length records ≡ length kept → AllDecided width records kept → AllDecided width (records ++ cut ∷ []) kept
-decided-past width [] [] cut e all = tt
-decided-past width [] (k ∷ kept) cut e all = absurd (omega arith)
-decided-past width (x ∷ records) [] cut e all = absurd (omega arith)
-decided-past width (x ∷ records) (k ∷ kept) cut e all = (all.0, decided-past width records kept cut (omega arith) all.1)
+pub all-push : (Each : List ℕ → Kept → Type 0) (records : List Fragments) (kept : List Kept) (cut : Fragments) (one : Kept) → length records ≡ length kept → AllInOrder Each records kept → Each (octets_in cut) one → AllInOrder Each (records ++ cut ∷ []) (kept ++ one ∷ [])
+all-push Each [] [] cut one e all h = (h, tt)
+all-push Each [] (k ∷ kept) cut one e all h = absurd (omega arith)
+all-push Each (x ∷ records) [] cut one e all h = absurd (omega arith)
+all-push Each (x ∷ records) (k ∷ kept) cut one e all h = (all.0, all-push Each records kept cut one (omega arith) all.1 h)
 
 -- what a gate gained before and then is what it gained since: at most two questions a record
 abbrev pub Joins : (List Asked → Type 0) → (List Asked → Type 0) → (List Asked → Type 0) → ℕ → Type 0
@@ -131,190 +147,222 @@ joined {Answers = Answers} {tells = tells} {room = room} {told = told} a b c e h
       };
 }
 
--- no record was read
-pub unread : (gained : List Asked → Type 0) (width : ℕ) (a b : Wire) (kept : List Kept) (ending : ConnEnd) → gained [] → Receives a b (Err ending) → Turns gained width a b kept kept (Some ending)
-unread gained width a b kept Ended g r = (record { kept = refl; went = went-took r.0; asked = g }, r.1)
-unread gained width a b kept LinkFault g r = inl (r.0, r.1, record { kept = refl; went = went-took r.2; asked = g })
-unread gained width a b kept TooLong g r = (r.0, r.1, record { kept = refl; went = went-took r.2; asked = g })
-unread gained width a b kept TooManyFragments g r = (r.0, r.1, record { kept = refl; went = went-took r.2; asked = g })
-unread gained width a b kept Torn g r = (r.0, r.1, record { kept = refl; went = went-took r.2; asked = g }, r.3)
-unread gained width a b kept Budget g r = absurd r
-unread gained width a b kept NoMemory g r = inl (r.0, r.1, record { kept = refl; went = went-took r.2; asked = g })
-
 -- nothing was read
-pub serving-none : {gained : List Asked → Type 0} (width : ℕ) → (w : Wire) → gained [] → Serving gained width w w [] 0
-serving-none width w none = record {
+pub serving-none : {told : Bool} {gained : List Asked → Type 0} {width : ℕ} → (w : Wire) → gained [] → Serving told gained width w w 0 []
+serving-none w none = record {
   records = [];
-  each = tt;
-  went = record { taken = sym (append-nil w.taken); coming = ([], append-nil w.coming); written = sym (append-nil w.written) };
   count = refl;
   counted = refl;
+  exact = tt;
   answered = tt;
   asked = none;
+  wire = λ t. record { each = tt; went = record { taken = sym (append-nil w.taken); coming = ([], append-nil w.coming); written = sym (append-nil w.written) } };
 }
 
-asked-more : {earlier then : List Asked → Type 0} (since : List Asked → Type 0) (width : ℕ) {a b : Wire} {before : List Kept} (after : List Kept) (n : ℕ) (cut : Fragments) (one : Kept) (s : Serving earlier width a b before n) → Joins earlier then since n → after ≡ before ++ one ∷ [] → then (asked_for width (octets_in cut) one) → since (asked_in width (s.records ++ cut ∷ []) after)
-asked-more since width {before = before} after n cut one s joins e t =
-    subst (λ (ks : List Kept). since (asked_in width (s.records ++ cut ∷ []) ks)) (sym e)
-    (subst since (sym (order-push (asked_for width) s.records before cut one s.counted))
-    (joins (asked_in width s.records before) (asked_for width (octets_in cut) one) (omega (arith, few-asked width s.records before, s.count)) s.asked t))
+-- one more answer was kept, by a record that was read
+count-more : {told : Bool} {earlier : List Asked → Type 0} {width : ℕ} {a b : Wire} {before : List Kept} {n : ℕ} (cut : Fragments) (one : Kept) (s : Serving told earlier width a b n before) → length (s.records ++ cut ∷ []) ≡ length (before ++ one ∷ [])
+count-more {before = before} cut one s = length-append s.records (cut ∷ []) ∙ (ap (λ (k : ℕ). k + 1) s.counted ∙ sym (length-append before (one ∷ [])))
 
-decided-more : (width : ℕ) {gained : List Asked → Type 0} {a b : Wire} {before : List Kept} (after : List Kept) {n : ℕ} (cut : Fragments) (one : Kept) (s : Serving gained width a b before n) → after ≡ before ++ one ∷ [] → IsDecided (ruling_for width (octets_in cut) one) → AllDecided width (s.records ++ cut ∷ []) after
-decided-more width {before = before} after cut one s e h =
-    subst (λ (ks : List Kept). AllDecided width (s.records ++ cut ∷ []) ks) (sym e) (decided-push width s.records before cut one s.counted s.answered h)
+exact-more : {told : Bool} {earlier : List Asked → Type 0} {width : ℕ} {a b : Wire} {before : List Kept} {n : ℕ} (cut : Fragments) (one : Kept) (s : Serving told earlier width a b n before) → IsExact width (octets_in cut) one → AllExact width (s.records ++ cut ∷ []) (before ++ one ∷ [])
+exact-more {width = width} {before = before} cut one s h = all-push (IsExact width) s.records before cut one s.counted s.exact h
 
-pub serving-more : {earlier then since : List Asked → Type 0} (width : ℕ) → {a b c : Wire} {before : List Kept} (after : List Kept) (n : ℕ) → Joins earlier then since n → Serving earlier width a b before n → Turns then width b c before after None → Serving since width a c after (n + 1)
-serving-more {since = since} width {before = before} after n joins s t =
-    let cut = t.0 in
-    let one = t.1 in
-    let counts : length (s.records ++ cut ∷ []) ≡ length s.records + 1 = length-append s.records (cut ∷ []) in
-    let keeps : length (before ++ one ∷ []) ≡ length before + 1 = length-append before (one ∷ []) in
-    record {
-      records = s.records ++ cut ∷ [];
-      each = each-push s.records cut s.each t.2.is_record;
-      went = went-same (went-again s.went t.2.went) (octets_of-push s.records cut)
-          (sym (order-push (written_for width) s.records before cut one s.counted) ∙ ap (λ (ks : List Kept). written_in width (s.records ++ cut ∷ []) ks) (sym t.2.kept));
-      count = omega (arith, s.count);
-      counted = counts ∙ (ap (λ (k : ℕ). k + 1) s.counted ∙ (sym keeps ∙ ap (length {A = Kept}) (sym t.2.kept)));
-      answered = decided-more width after cut one s t.2.kept t.2.answered;
-      asked = asked-more since width after n cut one s joins t.2.kept t.2.asked;
-    }
+decided-more : {told : Bool} {earlier : List Asked → Type 0} {width : ℕ} {a b : Wire} {before : List Kept} {n : ℕ} (cut : Fragments) (one : Kept) (s : Serving told earlier width a b n before) → IsDecided (ruling_for width (octets_in cut) one) → AllDecided width (s.records ++ cut ∷ []) (before ++ one ∷ [])
+decided-more {width = width} {before = before} cut one s h = all-push (λ octets k. IsDecided (ruling_for width octets k)) s.records before cut one s.counted s.answered h
 
-front-whole : (xs : List ℕ) → (count : ℕ) × (xs ≡ take count xs)
-front-whole xs = (length xs, sym (take-length xs))
+asked-more : {told : Bool} {earlier then : List Asked → Type 0} (since : List Asked → Type 0) {width : ℕ} {a b : Wire} {before : List Kept} {n : ℕ} (cut : Fragments) (one : Kept) (s : Serving told earlier width a b n before) → Joins earlier then since n → then (asked_for width (octets_in cut) one) → since (asked_in width (s.records ++ cut ∷ []) (before ++ one ∷ []))
+asked-more since {width} {before = before} cut one s joins t =
+    subst since (sym (order-push (asked_for width) s.records before cut one s.counted))
+    (joins (asked_in width s.records before) (asked_for width (octets_in cut) one) (omega (arith, few-asked width s.records before, s.count)) s.asked t)
 
-stop-went : {earlier then : List Asked → Type 0} (width : ℕ) → {a b c : Wire} {before : List Kept} (after : List Kept) {n : ℕ} {octets : List ℕ} (s : Serving earlier width a b before n) → Stops then b c before after octets → Went a c (octets_of s.records ++ octets) (written_in width s.records after)
-stop-went width after s t = went-same (went-again s.went t.went) refl (append-nil _ ∙ ap (λ (ks : List Kept). written_in width s.records ks) (sym t.kept))
+-- and over a link that tells its octets
+each-more : {width : ℕ} {a b c : Wire} {records : List Fragments} {before : List Kept} {Much : List ℕ → List ℕ → Type 0} {cut : Fragments} {due : List ℕ} → WentOn width a b records before → Exchanges Much b c cut due → AllByRecursion IsRecord (records ++ cut ∷ [])
+each-more {records = records} {cut = cut} w x = each-push records cut w.each x.is_record
 
-stop-counted : {earlier then : List Asked → Type 0} (width : ℕ) → {a b c : Wire} {before : List Kept} (after : List Kept) {n : ℕ} {octets : List ℕ} (s : Serving earlier width a b before n) → Stops then b c before after octets → length s.records ≡ length after
-stop-counted width after s t = s.counted ∙ ap (length {A = Kept}) (sym t.kept)
+went-more : {width : ℕ} {a b c : Wire} (records : List Fragments) (before : List Kept) {Much : List ℕ → List ℕ → Type 0} (cut : Fragments) {due : List ℕ} → WentOn width a b records before → (x : Exchanges Much b c cut due) → Went a c (octets_of (records ++ cut ∷ [])) (written_in width records before ++ x.wrote)
+went-more records before cut w x = went-same (went-again w.went x.went) (octets_of-push records cut) refl
 
-stop-decided : {earlier then : List Asked → Type 0} (width : ℕ) → {a b c : Wire} {before : List Kept} (after : List Kept) {n : ℕ} {octets : List ℕ} (s : Serving earlier width a b before n) → Stops then b c before after octets → AllDecided width s.records after
-stop-decided width after s t = subst (λ (ks : List Kept). AllDecided width s.records ks) (sym t.kept) s.answered
+wrote-all : (width : ℕ) (records : List Fragments) (before : List Kept) (cut : Fragments) (one : Kept) (wrote : List ℕ) → length records ≡ length before → wrote ≡ written_for width (octets_in cut) one → written_in width records before ++ wrote ≡ written_in width (records ++ cut ∷ []) (before ++ one ∷ [])
+wrote-all width records before cut one wrote e h =
+    ap (λ (zs : List ℕ). written_in width records before ++ zs) h ∙ sym (order-push (written_for width) records before cut one e)
 
-stop-asked : {earlier then : List Asked → Type 0} (since : List Asked → Type 0) (width : ℕ) → {a b c : Wire} {before : List Kept} (after : List Kept) {n : ℕ} {octets : List ℕ} (s : Serving earlier width a b before n) → Joins earlier then since n → Stops then b c before after octets → since (asked_in width s.records after)
-stop-asked since width {before = before} after s joins t =
-    subst (λ (ks : List Kept). since (asked_in width s.records ks)) (sym t.kept)
-    (subst since (append-nil _) (joins (asked_in width s.records before) [] (omega (arith, few-asked width s.records before, s.count)) s.asked t.asked))
-
--- a record was answered, and a front of what is due to it was written
-part-went : {earlier then : List Asked → Type 0} {Is : Ruling → Type 0} (width : ℕ) → {a b c : Wire} {before : List Kept} (after : List Kept) {n : ℕ} (count : ℕ) {cut : Fragments} {one : Kept} (s : Serving earlier width a b before n) → Serves then Is width b c before after cut one (take count (written_for width (octets_in cut) one)) → Went a c (octets_of (s.records ++ cut ∷ []) ++ []) (written_in width s.records before ++ take count (written_for width (octets_in cut) one))
-part-went width after count {cut = cut} s t = went-same (went-again s.went t.went) (octets_of-push s.records cut ∙ sym (append-nil _)) refl
-
-part-written : {earlier then : List Asked → Type 0} {Is : Ruling → Type 0} (width : ℕ) → {a b c : Wire} {before : List Kept} (after : List Kept) {n : ℕ} (count : ℕ) {cut : Fragments} {one : Kept} (s : Serving earlier width a b before n) → Serves then Is width b c before after cut one (take count (written_for width (octets_in cut) one)) → (m : ℕ) × (written_in width s.records before ++ take count (written_for width (octets_in cut) one) ≡ take m (written_in width (s.records ++ cut ∷ []) after))
-part-written width {before = before} after count {cut = cut} {one = one} s t = (
-  length (written_in width s.records before) + count,
-  sym (take-append-add (written_in width s.records before) (written_for width (octets_in cut) one) count)
-      ∙ (ap (λ (zs : List ℕ). take (length (written_in width s.records before) + count) zs) (sym (order-push (written_for width) s.records before cut one s.counted))
-      ∙ ap (λ (ks : List Kept). take (length (written_in width s.records before) + count) (written_in width (s.records ++ cut ∷ []) ks)) (sym t.kept)),
+wrote-part : (width : ℕ) (records : List Fragments) (before : List Kept) (cut : Fragments) (one : Kept) (wrote : List ℕ) → length records ≡ length before → InPart (written_for width (octets_in cut) one) wrote → InPart (written_in width (records ++ cut ∷ []) (before ++ one ∷ [])) (written_in width records before ++ wrote)
+wrote-part width records before cut one wrote e h = (
+  length (written_in width records before) + h.0,
+  ap (λ (zs : List ℕ). written_in width records before ++ zs) h.1
+      ∙ (sym (take-append-add (written_in width records before) (written_for width (octets_in cut) one) h.0)
+      ∙ ap (λ (zs : List ℕ). take (length (written_in width records before) + h.0) zs) (sym (order-push (written_for width) records before cut one e))),
 )
 
-part-counted : {earlier then : List Asked → Type 0} {Is : Ruling → Type 0} (width : ℕ) → {a b c : Wire} {before : List Kept} (after : List Kept) {n : ℕ} {cut : Fragments} {wrote : List ℕ} {one : Kept} (s : Serving earlier width a b before n) → Serves then Is width b c before after cut one wrote → length (s.records ++ cut ∷ []) ≡ length after
-part-counted width {before = before} after {cut = cut} {one = one} s t =
-    length-append s.records (cut ∷ []) ∙ (ap (λ (k : ℕ). k + 1) s.counted ∙ (sym (length-append before (one ∷ [])) ∙ ap (length {A = Kept}) (sym t.kept)))
+more-on-wire : {told : Bool} {earlier : List Asked → Type 0} {width : ℕ} {a b c : Wire} {before : List Kept} {n : ℕ} (cut : Fragments) (one : Kept) (s : Serving told earlier width a b n before) → IsTrue told → Exchanges All b c cut (written_for width (octets_in cut) one) → WentOn width a c (s.records ++ cut ∷ []) (before ++ one ∷ [])
+more-on-wire {width = width} {before = before} cut one s t x =
+    let w = s.wire t in record {
+      each = each-more w x;
+      went = went-same (went-more s.records before cut w x) refl (wrote-all width s.records before cut one x.wrote s.counted x.much);
+    }
+
+serving-one : {told : Bool} {earlier then since : List Asked → Type 0} {width : ℕ} {a b c : Wire} {before : List Kept} (n : ℕ) → Joins earlier then since n → Serving told earlier width a b n before → {kept : List Kept} (t : Serves told then IsDecided All width b c kept) → Serving told since width a c (n + 1) (before ++ t.keeps.one ∷ [])
+serving-one {since = since} {before = before} n joins s t =
+    let cut = t.cut in
+    let one = t.keeps.one in
+    record {
+      records = s.records ++ cut ∷ [];
+      count = omega (arith, s.count, length-append s.records (cut ∷ []));
+      counted = count-more cut one s;
+      exact = exact-more cut one s t.keeps.exact;
+      answered = decided-more cut one s t.keeps.ruled;
+      asked = asked-more since cut one s joins t.keeps.asked;
+      wire = λ told. more-on-wire cut one s told (t.wire told);
+    }
+
+pub serving-more : {told : Bool} {earlier then since : List Asked → Type 0} {width : ℕ} {a b c : Wire} {before kept : List Kept} (n : ℕ) → Joins earlier then since n → Serving told earlier width a b n before → Turns told then width b c None kept → Serving told since width a c (n + 1) (before ++ kept)
+serving-more {told} {since = since} {width} {a} {c = c} {before} n joins s t =
+    subst (λ (ks : List Kept). Serving told since width a c (n + 1) (before ++ ks)) (sym t.keeps.only) (serving-one n joins s t)
+
+-- a turn that goes on keeps one answer
+pub one-more : {told : Bool} {gained : List Asked → Type 0} {width : ℕ} {a b : Wire} {kept : List Kept} → Turns told gained width a b None kept → length kept ≡ 1
+one-more t = ap (length {A = Kept}) t.keeps.only
+
+-- a connection that ends before it has answered as many records as it may
+counts-early : (ending : ConnEnd) (n m : ℕ) → m ≡ n → n < 65536 → ending ≢ Budget → Counts ending m
+counts-early Ended n m e h early = omega arith
+counts-early LinkFault n m e h early = omega arith
+counts-early TooLong n m e h early = omega arith
+counts-early TooManyFragments n m e h early = omega arith
+counts-early Torn n m e h early = omega arith
+counts-early Budget n m e h early = absurd (early refl)
+counts-early NoMemory n m e h early = omega arith
+
+all-written : (ending : ConnEnd) (width : ℕ) (records : List Fragments) (kept : List Kept) → AllDecided width records kept → IsWritten ending width records kept (written_in width records kept)
+all-written Ended width records kept d = refl
+all-written LinkFault width records kept d = (length (written_in width records kept), sym (take-length (written_in width records kept)))
+all-written TooLong width records kept d = refl
+all-written TooManyFragments width records kept d = refl
+all-written Torn width records kept d = refl
+all-written Budget width records kept d = refl
+all-written NoMemory width records kept d = inl (d, refl)
+
+all-answered : (ending : ConnEnd) (width : ℕ) (records : List Fragments) (kept : List Kept) → AllDecided width records kept → IsAnswered ending width records kept
+all-answered Ended width records kept d = d
+all-answered LinkFault width records kept d = d
+all-answered TooLong width records kept d = d
+all-answered TooManyFragments width records kept d = d
+all-answered Torn width records kept d = d
+all-answered Budget width records kept d = d
+all-answered NoMemory width records kept d = inl d
+
+stopped : {told : Bool} {earlier then since : List Asked → Type 0} {width : ℕ} {a b c : Wire} {before kept : List Kept} (n : ℕ) (ending : ConnEnd) → Joins earlier then since n → n < 65536 → Serving told earlier width a b n before → Stops told then b c ending kept → IsServed told since width a c ending before
+stopped {told} {since = since} {width = width} {a = a} {c = c} {before = before} n ending joins h s t = record {
+  records = s.records;
+  counted = s.counted;
+  counts = counts-early ending n (length s.records) s.count h t.early;
+  exact = s.exact;
+  answered = all-answered ending width s.records before s.answered;
+  asked = subst since (append-nil _) (joins (asked_in width s.records before) [] (omega (arith, few-asked width s.records before, s.count)) s.asked t.asked);
+  wire = λ tells.
+      let w = s.wire tells in
+      let r = t.wire tells in record {
+        rest = r.octets;
+        wrote = written_in width s.records before;
+        each = w.each;
+        went = went-same (went-again w.went r.went) refl (append-nil _);
+        behind = r.behind;
+        replies = all-written ending width s.records before s.answered;
+      };
+}
 
 no-front : IsFront []
 no-front = record { earlier = []; part = []; few = lit≤ tt; size = lit≤ tt; partial = inl (lit< tt); spelled = refl }
 
--- the connection ended with these octets behind its whole records
-stopped : {earlier then since : List Asked → Type 0} (width : ℕ) → {a b c : Wire} {before : List Kept} (after : List Kept) {n : ℕ} {octets : List ℕ} (s : Serving earlier width a b before n) → Joins earlier then since n → Stops then b c before after octets → (ending : ConnEnd) → HasCause ending octets c.coming (length s.records) → IsWritten ending (written_in width s.records after) (written_in width s.records after) → IsCounted ending (length s.records) (length after) → (AllDecided width s.records after → IsAnswered ending width s.records after) → IsServedBy since width a c after ending
-stopped {since = since} width after {octets = octets} s joins t ending cause replies counted answered = record {
-  records = s.records;
-  rest = octets;
-  wrote = written_in width s.records after;
-  each = s.each;
-  went = stop-went width after s t;
-  cause = cause;
-  replies = replies;
-  counted = counted;
-  answered = answered (stop-decided width after s t);
-  asked = stop-asked since width after s joins t;
-}
-
 -- the connection ended while the reply to its last record was written
-broken : {earlier then since : List Asked → Type 0} {Is : Ruling → Type 0} (width : ℕ) → {a b c : Wire} {before : List Kept} (after : List Kept) {n : ℕ} (s : Serving earlier width a b before n) → Joins earlier then since n → (t : ServesInPart then Is width b c before after) → (ending : ConnEnd) → ((coming : List ℕ) (count : ℕ) → HasCause ending [] coming count) → ((due wrote : List ℕ) → (m : ℕ) × (wrote ≡ take m due) → IsWritten ending due wrote) → ((k : ℕ) → IsCounted ending k k) → IsAnswered ending width (s.records ++ t.0 ∷ []) after → IsServedBy since width a c after ending
-broken {since = since} width {c = c} {before = before} after {n} s joins t ending cause written counted answered = record {
-  records = s.records ++ t.0 ∷ [];
-  rest = [];
-  wrote = written_in width s.records before ++ take t.2 (written_for width (octets_in t.0) t.1);
-  each = each-push s.records t.0 s.each t.3.is_record;
-  went = part-went width after t.2 s t.3;
-  cause = cause c.coming (length (s.records ++ t.0 ∷ []));
-  replies = written _ _ (part-written width after t.2 s t.3);
-  counted = subst (λ (k : ℕ). IsCounted ending (length (s.records ++ t.0 ∷ [])) k) (part-counted width after s t.3) (counted (length (s.records ++ t.0 ∷ [])));
-  answered = answered;
-  asked = asked-more since width after n t.0 t.1 s joins t.3.kept t.3.asked;
-}
+faulted : {told : Bool} {earlier then since : List Asked → Type 0} {width : ℕ} {a b c : Wire} {before kept : List Kept} (n : ℕ) → Joins earlier then since n → n < 65536 → Serving told earlier width a b n before → (t : Serves told then IsDecided InPart width b c kept) → IsServed told since width a c LinkFault (before ++ t.keeps.one ∷ [])
+faulted {since = since} {width = width} {before = before} n joins h s t =
+    let cut = t.cut in
+    let one = t.keeps.one in
+    record {
+      records = s.records ++ cut ∷ [];
+      counted = count-more cut one s;
+      counts = omega (arith, s.count, h, length-append s.records (cut ∷ []));
+      exact = exact-more cut one s t.keeps.exact;
+      answered = decided-more cut one s t.keeps.ruled;
+      asked = asked-more since cut one s joins t.keeps.asked;
+      wire = λ tells.
+          let w = s.wire tells in
+          let x = t.wire tells in record {
+            rest = [];
+            wrote = written_in width s.records before ++ x.wrote;
+            each = each-more w x;
+            went = went-same (went-more s.records before cut w x) (sym (append-nil _)) refl;
+            behind = no-front;
+            replies = wrote-part width s.records before cut one x.wrote s.counted x.much;
+          };
+    }
 
--- a record was read for whose answer there was no memory
-unkept : {earlier then since : List Asked → Type 0} (width : ℕ) → {a b c : Wire} {before : List Kept} (after : List Kept) {n : ℕ} (cut : Fragments) (octets : List ℕ) (s : Serving earlier width a b before n) → Joins earlier then since n → IsRecord cut → octets ≡ frame cut → Stops then b c before after octets → IsServedBy since width a c after NoMemory
-unkept {since = since} width {before = before} after cut octets s joins r e t = record {
-  records = s.records ++ cut ∷ [];
-  rest = [];
-  wrote = written_in width s.records before;
-  each = each-push s.records cut s.each r;
-  went = went-same (went-again s.went t.went) (ap (λ (zs : List ℕ). octets_of s.records ++ zs) e ∙ (octets_of-push s.records cut ∙ sym (append-nil _))) (append-nil _);
-  cause = no-front;
-  replies = (
-    length (written_in width s.records before),
-    sym (take-length (written_in width s.records before)) ∙ (ap (λ (zs : List ℕ). take (length (written_in width s.records before)) zs) (sym (order-past (written_for width) s.records before cut s.counted))
-        ∙ ap (λ (ks : List Kept). take (length (written_in width s.records before)) (written_in width (s.records ++ cut ∷ []) ks)) (sym t.kept)),
-  );
-  counted = inr (length-append s.records (cut ∷ []) ∙ ap (λ (k : ℕ). k + 1) (stop-counted width after s t));
-  answered = inl (decided-past width s.records after cut (stop-counted width after s t) (stop-decided width after s t));
-  asked = subst since (sym (order-past (asked_for width) s.records after cut (stop-counted width after s t))) (stop-asked since width after s joins t);
-}
-
-last-wanted : {earlier then : List Asked → Type 0} (width : ℕ) → {a b c : Wire} {before : List Kept} (after : List Kept) {n : ℕ} (s : Serving earlier width a b before n) → (t : ServesInPart then Wanted width b c before after) → LastWanted width (s.records ++ t.0 ∷ []) after
-last-wanted width {before = before} after s t = record {
+abbrev last-wanted : {told : Bool} {earlier then : List Asked → Type 0} {width : ℕ} {a b c : Wire} {before kept : List Kept} {n : ℕ} (s : Serving told earlier width a b n before) → (t : Serves told then Wanted Nothing width b c kept) → LastWanted width (s.records ++ t.cut ∷ []) (before ++ t.keeps.one ∷ [])
+last-wanted {before = before} s t = record {
   earlier = s.records;
-  last = t.0;
+  last = t.cut;
   before = before;
-  one = t.1;
+  one = t.keeps.one;
   cut = refl;
-  keeps = t.3.kept;
+  keeps = refl;
   decided = s.answered;
-  wanted = t.3.answered;
+  wanted = t.keeps.ruled;
 }
 
-pub serving-stop : {earlier then since : List Asked → Type 0} (width : ℕ) → {a b c : Wire} {before : List Kept} (after : List Kept) {n : ℕ} → Joins earlier then since n → Serving earlier width a b before n → n < 65536 → (ending : ConnEnd) → Turns then width b c before after (Some ending) → IsServedBy since width a c after ending
-serving-stop width after joins s h Ended t = stopped width after s joins t.0 Ended (refl, t.1, omega (arith, s.count)) refl (stop-counted width after s t.0) (λ d. d)
-serving-stop width after joins s h LinkFault (inl t) = stopped width after s joins t.2 LinkFault t.1 (front-whole (written_in width s.records after)) (stop-counted width after s t.2) (λ d. d)
-serving-stop width after joins s h LinkFault (inr t) =
-    broken width after s joins t LinkFault (λ coming count. no-front) (λ due wrote p. p) (λ k. refl) (decided-more width after t.0 t.1 s t.3.kept t.3.answered)
-serving-stop width after joins s h TooLong t = stopped width after s joins t.2 TooLong (t.1, omega (arith, s.count)) refl (stop-counted width after s t.2) (λ d. d)
-serving-stop width after joins s h TooManyFragments t = stopped width after s joins t.2 TooManyFragments (t.1, omega (arith, s.count)) refl (stop-counted width after s t.2) (λ d. d)
-serving-stop width after joins s h Torn t = stopped width after s joins t.2 Torn (t.1, t.3, omega (arith, s.count)) refl (stop-counted width after s t.2) (λ d. d)
-serving-stop width after joins s h Budget t = absurd t
-serving-stop width after joins s h NoMemory (inl (octets, inl front, t)) = stopped width after s joins t NoMemory front (front-whole (written_in width s.records after)) (inl (stop-counted width after s t)) (λ d. inl d)
-serving-stop width after joins s h NoMemory (inl (octets, inr w, t)) = unkept width after w.cut octets s joins w.is_record w.spelled t
-serving-stop width after joins s h NoMemory (inr t) = broken width after s joins t NoMemory (λ coming count. no-front) (λ due wrote p. p) (λ k. inl refl) (inr (last-wanted width after s t))
+wanted : {told : Bool} {earlier then since : List Asked → Type 0} {width : ℕ} {a b c : Wire} {before kept : List Kept} (n : ℕ) → Joins earlier then since n → n < 65536 → Serving told earlier width a b n before → (t : Serves told then Wanted Nothing width b c kept) → IsServed told since width a c NoMemory (before ++ t.keeps.one ∷ [])
+wanted {since = since} {width = width} {before = before} n joins h s t =
+    let cut = t.cut in
+    let one = t.keeps.one in
+    record {
+      records = s.records ++ cut ∷ [];
+      counted = count-more cut one s;
+      counts = omega (arith, s.count, h, length-append s.records (cut ∷ []));
+      exact = exact-more cut one s t.keeps.exact;
+      answered = inr (last-wanted s t);
+      asked = asked-more since cut one s joins t.keeps.asked;
+      wire = λ tells.
+          let w = s.wire tells in
+          let x = t.wire tells in record {
+            rest = [];
+            wrote = written_in width s.records before ++ x.wrote;
+            each = each-more w x;
+            went = went-same (went-more s.records before cut w x) (sym (append-nil _)) refl;
+            behind = inl no-front;
+            replies = inr (last-wanted s t, ap (λ (zs : List ℕ). written_in width s.records before ++ zs) x.much ∙ append-nil _);
+          };
+    }
 
-pub serving-full : {gained : List Asked → Type 0} (width : ℕ) → {a b : Wire} {kept : List Kept} → Serving gained width a b kept 65536 → IsServedBy gained width a b kept Budget
-serving-full width {kept = kept} s = record {
+broken : {told : Bool} {earlier then since : List Asked → Type 0} {width : ℕ} {a b c : Wire} {before : List Kept} (kept : List Kept) (n : ℕ) (ending : ConnEnd) → Joins earlier then since n → n < 65536 → Serving told earlier width a b n before → Breaks told then width b c ending kept → IsServed told since width a c ending (before ++ kept)
+broken kept n Ended joins h s t = absurd t
+broken {told} {since = since} {width} {a} {c = c} {before} kept n LinkFault joins h s t =
+    subst (λ (ks : List Kept). IsServed told since width a c LinkFault (before ++ ks)) (sym t.keeps.only) (faulted n joins h s t)
+broken kept n TooLong joins h s t = absurd t
+broken kept n TooManyFragments joins h s t = absurd t
+broken kept n Torn joins h s t = absurd t
+broken kept n Budget joins h s t = absurd t
+broken {told} {since = since} {width} {a} {c = c} {before} kept n NoMemory joins h s t =
+    subst (λ (ks : List Kept). IsServed told since width a c NoMemory (before ++ ks)) (sym t.keeps.only) (wanted n joins h s t)
+
+pub serving-stop : {told : Bool} {earlier then since : List Asked → Type 0} {width : ℕ} {a b c : Wire} {before kept : List Kept} (n : ℕ) (ending : ConnEnd) → Joins earlier then since n → n < 65536 → Serving told earlier width a b n before → Turns told then width b c (Some ending) kept → IsServed told since width a c ending (before ++ kept)
+serving-stop {told} {since = since} {width} {a} {c = c} {before} n ending joins h s (inl t) =
+    subst (λ (ks : List Kept). IsServed told since width a c ending ks) (sym (append-nil before) ∙ ap (λ (ks : List Kept). before ++ ks) (sym t.none)) (stopped n ending joins h s t)
+serving-stop {kept = kept} n ending joins h s (inr t) = broken kept n ending joins h s t
+
+pub serving-full : {told : Bool} {gained : List Asked → Type 0} {width : ℕ} {a b : Wire} {kept : List Kept} → Serving told gained width a b 65536 kept → IsServed told gained width a b Budget kept
+serving-full {width = width} {kept = kept} s = record {
   records = s.records;
-  rest = [];
-  wrote = written_in width s.records kept;
-  each = s.each;
-  went = went-same s.went (sym (append-nil _)) refl;
-  cause = (refl, s.count);
-  replies = refl;
   counted = s.counted;
+  counts = s.count;
+  exact = s.exact;
   answered = s.answered;
   asked = s.asked;
-}
-
--- whatever the gate was asked
-pub served-so : {gained : List Asked → Type 0} (width : ℕ) → {a b : Wire} {kept : List Kept} {ending : ConnEnd} → IsServedBy gained width a b kept ending → IsServed width a b kept ending
-served-so width s = record {
-  records = s.records;
-  rest = s.rest;
-  wrote = s.wrote;
-  each = s.each;
-  went = s.went;
-  cause = s.cause;
-  replies = s.replies;
-  counted = s.counted;
-  answered = s.answered;
-  asked = tt;
+  wire = λ tells.
+      let w = s.wire tells in record {
+        rest = [];
+        wrote = written_in width s.records kept;
+        each = w.each;
+        went = went-same w.went (sym (append-nil _)) refl;
+        behind = refl;
+        replies = refl;
+      };
 }

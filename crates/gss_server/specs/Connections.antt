@@ -1,14 +1,14 @@
 -- What a served connection did, over a link that tells its octets.
-use Rattle.std.specs.Prelude.{◌≡◌, ◌⊎◌, ℕ, ◌+◌, ◌<◌, true, List, [], ◌∷◌, ◌++◌, length, take}
-use Rattle.std.specs.Prelude.{Option, Some, None}
+use Rattle.std.specs.Prelude.{◌≡◌, ◌⊎◌, ℕ, ◌<◌, ◌≤◌, Bool, true, List, [], ◌∷◌, ◌++◌, length, take}
+use Rattle.std.specs.Prelude.{IsTrue, Option, Some, None}
 use Rattle.std.specs.List.{AllByRecursion, flat_map}
 use Rattle.sec_base.specs.Link.{Wire}
 use Rattle.rpc_msgs.specs.Records.{Fragments, octets_in, frame, last_fragment, IsRecord, IsTooLong}
-use Rattle.rpc_msgs.specs.Records.{IsTooMany, IsFront, IsTorn}
+use Rattle.rpc_msgs.specs.Records.{IsTooMany, IsFront, IsTorn, IsWhole}
 use Rattle.accept_book.specs.RecordRule.{record_ruling}
 use Rattle.accept_book.specs.RecordShown.{Ruling, Asked}
 use Rattle.gss_server.specs.Answers.{IsDecided, may_want}
-use Rattle.gss_server.specs.Hearing.{kept_answers}
+use Rattle.gss_server.specs.Hearing.{kept_answers, count_of}
 use Rattle.gss_server.specs.declared.answer.Kept.{Kept}
 use Rattle.gss_server.specs.declared.connection.ConnEnd.{ConnEnd}
 use Rattle.gss_server.specs.declared.connection.ConnEnd.TheVariants.{Ended, LinkFault, TooLong}
@@ -56,44 +56,47 @@ pub record Went (old new : Wire) (took wrote : List ℕ) : Type 0 where
   pub coming : (more : List ℕ) × (old.coming ++ more ≡ took ++ new.coming)
   pub written : new.written ≡ old.written ++ wrote
 
--- why the connection ended, by what was taken behind the whole records, what was still to come, and
--- how many records there were; at a fault and at want of memory what was taken behind them is no
--- whole record
-abbrev pub HasCause : ConnEnd → List ℕ → List ℕ → ℕ → Type 0
-HasCause Ended rest coming count = (rest ≡ []) × (coming ≡ []) × (count < 65536)
-HasCause LinkFault rest coming count = IsFront rest
-HasCause TooLong rest coming count = IsTooLong rest × (count < 65536)
-HasCause TooManyFragments rest coming count = IsTooMany rest × (count < 65536)
-HasCause Torn rest coming count = IsTorn rest × (coming ≡ []) × (count < 65536)
-HasCause Budget rest coming count = (rest ≡ []) × (count ≡ 65536)
-HasCause NoMemory rest coming count = IsFront rest
+-- what was taken behind the whole records at this end, and what was still to come; at a fault and
+-- at want of memory that is no whole record, or one for whose answer there was no room
+abbrev pub Behind : ConnEnd → List ℕ → List ℕ → Type 0
+Behind Ended rest coming = (rest ≡ []) × (coming ≡ [])
+Behind LinkFault rest coming = IsFront rest
+Behind TooLong rest coming = IsTooLong rest
+Behind TooManyFragments rest coming = IsTooMany rest
+Behind Torn rest coming = IsTorn rest × (coming ≡ [])
+Behind Budget rest coming = rest ≡ []
+Behind NoMemory rest coming = IsFront rest ⊎ IsWhole rest
 
--- all replies were written, or a front of them at a fault and at want of memory
-abbrev pub IsWritten : ConnEnd → List ℕ → List ℕ → Type 0
-IsWritten Ended replies wrote = wrote ≡ replies
-IsWritten LinkFault replies wrote = (count : ℕ) × (wrote ≡ take count replies)
-IsWritten TooLong replies wrote = wrote ≡ replies
-IsWritten TooManyFragments replies wrote = wrote ≡ replies
-IsWritten Torn replies wrote = wrote ≡ replies
-IsWritten Budget replies wrote = wrote ≡ replies
-IsWritten NoMemory replies wrote = (count : ℕ) × (wrote ≡ take count replies)
+-- how many records there may have been at this end
+abbrev pub Counts : ConnEnd → ℕ → Type 0
+Counts Ended count = count < 65536
+Counts LinkFault count = count ≤ 65536
+Counts TooLong count = count < 65536
+Counts TooManyFragments count = count < 65536
+Counts Torn count = count < 65536
+Counts Budget count = count ≡ 65536
+Counts NoMemory count = count ≤ 65536
 
--- each record that was read whole has a kept answer; only at want of memory the last may have none
-abbrev pub IsCounted : ConnEnd → ℕ → ℕ → Type 0
-IsCounted Ended records kept = records ≡ kept
-IsCounted LinkFault records kept = records ≡ kept
-IsCounted TooLong records kept = records ≡ kept
-IsCounted TooManyFragments records kept = records ≡ kept
-IsCounted Torn records kept = records ≡ kept
-IsCounted Budget records kept = records ≡ kept
-IsCounted NoMemory records kept = (records ≡ kept) ⊎ (records ≡ kept + 1)
+-- of records with their kept answers, in order
+abbrev pub AllInOrder : (List ℕ → Kept → Type 0) → List Fragments → List Kept → Type 0
+AllInOrder Each [] kept = Unit {0}
+AllInOrder Each (cut ∷ records) [] = Unit {0}
+AllInOrder Each (cut ∷ records) (one ∷ kept) =
+    Each (octets_in cut) one × AllInOrder Each records kept
 
--- a rule decided each record that has a kept answer
+-- each answer that was kept for a record was asked of the gate, and none is missing
+abbrev pub IsExact : ℕ → List ℕ → Kept → Type 0
+IsExact width octets kept = length (asked_for width octets kept)
+    ≡ count_of kept.negotiated kept.looked kept.admitted kept.ended
+
+-- of each record
+abbrev pub AllExact : ℕ → List Fragments → List Kept → Type 0
+AllExact width records kept = AllInOrder (IsExact width) records kept
+
+-- a rule decides each record by its kept answer
 abbrev pub AllDecided : ℕ → List Fragments → List Kept → Type 0
-AllDecided width [] kept = Unit {0}
-AllDecided width (cut ∷ records) [] = Unit {0}
-AllDecided width (cut ∷ records) (one ∷ kept) =
-    IsDecided (ruling_for width (octets_in cut) one) × AllDecided width records kept
+AllDecided width records kept =
+    AllInOrder (λ octets one. IsDecided (ruling_for width octets one)) records kept
 
 -- each but the last, for whose answer memory was wanted
 pub record LastWanted (width : ℕ) (records : List Fragments) (kept : List Kept) : Type 0 where
@@ -106,7 +109,7 @@ pub record LastWanted (width : ℕ) (records : List Fragments) (kept : List Kept
   pub decided : AllDecided width earlier before
   pub wanted : may_want (ruling_for width (octets_in last) one) ≡ true
 
--- a rule decided each record that has a kept answer, at want of memory perhaps all but the last
+-- a rule decided each record, at want of memory perhaps all but the last
 abbrev pub IsAnswered : ConnEnd → ℕ → List Fragments → List Kept → Type 0
 IsAnswered Ended width records kept = AllDecided width records kept
 IsAnswered LinkFault width records kept = AllDecided width records kept
@@ -117,23 +120,44 @@ IsAnswered Budget width records kept = AllDecided width records kept
 IsAnswered NoMemory width records kept =
     AllDecided width records kept ⊎ LastWanted width records kept
 
--- `gained` says what the gate was asked
-pub record IsServedBy (gained : List Asked → Type 0) (width : ℕ) (old new : Wire) (kept : List Kept)
+-- all replies were written, at a fault a front of them; the record for whose answer memory was
+-- wanted has no part of one
+abbrev pub IsWritten : ConnEnd → ℕ → List Fragments → List Kept → List ℕ → Type 0
+IsWritten Ended width records kept wrote = wrote ≡ written_in width records kept
+IsWritten LinkFault width records kept wrote =
+    (count : ℕ) × (wrote ≡ take count (written_in width records kept))
+IsWritten TooLong width records kept wrote = wrote ≡ written_in width records kept
+IsWritten TooManyFragments width records kept wrote = wrote ≡ written_in width records kept
+IsWritten Torn width records kept wrote = wrote ≡ written_in width records kept
+IsWritten Budget width records kept wrote = wrote ≡ written_in width records kept
+IsWritten NoMemory width records kept wrote =
+    (AllDecided width records kept × (wrote ≡ written_in width records kept))
+    ⊎ ((last : LastWanted width records kept)
+    × (wrote ≡ written_in width last.earlier last.before))
+
+-- over a link that tells its octets: these records and a rest were taken, however they were cut
+-- into reads, the end has its cause, and the replies were written
+pub record OnWire (width : ℕ) (old new : Wire) (records : List Fragments) (kept : List Kept)
     (ending : ConnEnd) : Type 0 where
-  pub records : List Fragments
   pub rest : List ℕ
   pub wrote : List ℕ
   pub each : AllByRecursion IsRecord records
   pub went : Went old new (octets_of records ++ rest) wrote
-  pub cause : HasCause ending rest new.coming (length records)
-  pub replies : IsWritten ending (written_in width records kept) wrote
-  pub counted : IsCounted ending (length records) (length kept)
+  pub behind : Behind ending rest new.coming
+  pub replies : IsWritten ending width records kept wrote
+
+-- each record that was read has a kept answer, `gained` says what the gate was asked for them, each
+-- kept answer was asked for, and rules decided; where the link tells its octets, the records are
+-- those of the stream
+pub record IsServed (told : Bool) (gained : List Asked → Type 0) (width : ℕ) (old new : Wire)
+    (ending : ConnEnd) (kept : List Kept) : Type 0 where
+  pub records : List Fragments
+  pub counted : length records ≡ length kept
+  pub counts : Counts ending (length records)
+  pub exact : AllExact width records kept
   pub answered : IsAnswered ending width records kept
   pub asked : gained (asked_in width records kept)
-
--- whatever the gate was asked
-abbrev pub IsServed : ℕ → Wire → Wire → List Kept → ConnEnd → Type 0
-IsServed width old new kept ending = IsServedBy (λ asked. Unit {0}) width old new kept ending
+  pub wire : IsTrue told → OnWire width old new records kept ending
 
 -- the end that a stream has, by what follows its whole records and how many they are
 abbrev pub Ends : ConnEnd → List ℕ → ℕ → Type 0

@@ -2,9 +2,10 @@ pub mod Answers
 pub mod Asking
 pub mod Connections
 pub mod Hearing
-pub mod Kept
+pub mod Keeping
 pub mod Listed
 pub mod Looping
+pub mod Receipts
 pub mod Ruled
 pub mod Serving
 pub mod Steady

@@ -8,7 +8,7 @@ use Rattle.rpc_msgs.specs.Records.{IsTooMany}
 use Rattle.accept_book.specs.RecordShown.{Ruling}
 use Rattle.gss_server.specs.Answers.{IsDecided, may_want}
 use Rattle.gss_server.specs.Connections.{framed, octets_of, ruling_for, written_for, written_in}
-use Rattle.gss_server.specs.Connections.{AllDecided}
+use Rattle.gss_server.specs.Connections.{AllDecided, AllExact, IsExact}
 use Rattle.gss_server.specs.declared.answer.Kept.{Kept}
 use Rattle.gss_server.specs.declared.looping.Next.{Next}
 use Rattle.gss_server.specs.declared.looping.Next.TheVariants as nexts
@@ -30,6 +30,7 @@ pub record IsWanted (width : ℕ) (rest : List ℕ) (last : List Kept) : Type 0 
   pub is_record : IsRecord cut
   pub begins : rest ≡ frame cut ++ more
   pub kept : last ≡ one ∷ []
+  pub exact : IsExact width (octets_in cut) one
   pub wanted : may_want (ruling_for width (octets_in cut) one) ≡ true
 
 -- what stands behind the records that were answered: a front of the next one, or what begins none;
@@ -40,6 +41,7 @@ Rest width true rest last = (last ≡ []) ⊎ IsWanted width rest last
 
 -- what was heard are whole records, cut into fragments somehow, and a rest; what was said are the
 -- replies to the records, in order, each by the answer that was kept of it, which a rule decides
+-- and each part of which was asked of the gate
 pub record LoopedTo (rests : List ℕ → List Kept → Type 0) (width : ℕ) (heard said : List ℕ)
     (kept : List Kept) (cut : ℕ) : Type 0 where
   pub records : List Fragments
@@ -50,6 +52,7 @@ pub record LoopedTo (rests : List ℕ → List Kept → Type 0) (width : ℕ) (h
   pub spelled : heard ≡ octets_of records ++ rest
   pub place : cut ≡ length (octets_of records)
   pub counted : length records ≡ length answers
+  pub exact : AllExact width records answers
   pub decided : AllDecided width records answers
   pub keeps : kept ≡ answers ++ last
   pub replies : said ≡ written_in width records answers
@@ -101,6 +104,7 @@ pub record Answering (width : ℕ) (octets : List ℕ) (size : ℕ) (kept kept' 
     (said said' : List ℕ) (cut cut' : ℕ) : Type 0 where
   pub one : Kept
   pub keeps : kept' ≡ kept ++ one ∷ []
+  pub exact : IsExact width octets one
   pub decided : IsDecided (ruling_for width octets one)
   pub replied : said' ≡ said ++ written_for width octets one
   pub place : cut' ≡ cut + size
@@ -109,6 +113,7 @@ pub record Answering (width : ℕ) (octets : List ℕ) (size : ℕ) (kept kept' 
 pub record KeptOnly (width : ℕ) (octets : List ℕ) (kept kept' : List Kept) : Type 0 where
   pub one : Kept
   pub keeps : kept' ≡ kept ++ one ∷ []
+  pub exact : IsExact width octets one
   pub wanted : may_want (ruling_for width octets one) ≡ true
 
 -- a record was answered, or memory was wanted, nothing was said, and its answer may have been kept

@@ -1,9 +1,9 @@
 -- What serving a connection leaves as it was, and what its clock and draw gave.
-use Rattle.std.specs.Prelude.{◌≡◌, ◌≤◌, false, IsTrue, List}
+use Rattle.std.specs.Prelude.{◌≡◌, ◌≤◌, ◌++◌, ℕ, false, IsTrue, List, map}
+use Rattle.std.specs.List.{flat_map}
 use Rattle.sec_base.specs.declared.clock.Clock as clocks
 use Rattle.sec_base.specs.declared.draw.Draw as draws
 use Rattle.sec_base.specs.declared.link.Link as links
-use Rattle.gss_server.specs.Kept.{Keeps, moments_of, draws_of}
 use Rattle.gss_server.specs.declared.answer.Kept.{Kept}
 use Rattle.gss_server.specs.declared.gate.Gate as gates
 
@@ -18,16 +18,22 @@ pub record GateKept {G : Type 0} (gate : gates.Ghosts G) (old new : G) : Type 0 
   pub tells : gate.tells new ≡ gate.tells old
   pub limits : gate.limits new ≡ gate.limits old
 
--- the kept answers that were added have the moments of a clock, as long as it tells
-pub record Timed {C : Type 0} (clock : clocks.Ghosts C) (old new : C)
-    (before after : List Kept) : Type 0 where
-  pub tells : IsTrue (clock.tells new) → IsTrue (clock.tells old)
-  pub moments : IsTrue (clock.tells new)
-      → Keeps (clock.given old) (clock.given new) before after moments_of
+-- the moments of kept answers, in order
+abbrev pub moments_of : List Kept → List ℕ
+moments_of kept = map (λ one. one.now) kept
 
--- they have the octets of a draw, as long as it tells
-pub record Drawn {D : Type 0} (draw : draws.Ghosts D) (old new : D)
-    (before after : List Kept) : Type 0 where
+-- the octets that were drawn for kept answers, in order
+abbrev pub draws_of : List Kept → List ℕ
+draws_of kept = flat_map (λ one. one.draws) kept
+
+-- a clock gave the moments of these answers, in order, and no others, as long as it tells
+pub record Timed {C : Type 0} (clock : clocks.Ghosts C) (old new : C) (kept : List Kept) : Type
+    0 where
+  pub tells : IsTrue (clock.tells new) → IsTrue (clock.tells old)
+  pub moments : IsTrue (clock.tells new) → clock.given new ≡ clock.given old ++ moments_of kept
+
+-- a draw gave the octets of these answers, in order, and no others, as long as it tells
+pub record Drawn {D : Type 0} (draw : draws.Ghosts D) (old new : D) (kept : List Kept) : Type
+    0 where
   pub tells : IsTrue (draw.tells new) → IsTrue (draw.tells old)
-  pub draws : IsTrue (draw.tells new)
-      → Keeps (draw.given old) (draw.given new) before after draws_of
+  pub draws : IsTrue (draw.tells new) → draw.given new ≡ draw.given old ++ draws_of kept

@@ -1,14 +1,15 @@
 -- What one turn of a connection did: it read a record and wrote its reply, or the connection ended.
-use Rattle.std.specs.Prelude.{◌≡◌, ◌⊎◌, ℕ, true, List, [], ◌∷◌, ◌++◌, take, Option, Some, None}
-use Rattle.std.specs.Prelude.{Result, Ok, Err}
+use Rattle.std.specs.Prelude.{◌≡◌, ◌≢◌, ◌⊎◌, ℕ, Bool, true, IsTrue, List, [], ◌∷◌, take}
+use Rattle.std.specs.Prelude.{Option, Some, None, Result, Ok, Err}
 use Rattle.sec_base.specs.Link.{Wire}
 use Rattle.rpc_msgs.specs.Records.{Fragments, octets_in, frame, IsRecord, IsTooLong, IsTooMany}
 use Rattle.rpc_msgs.specs.Records.{IsFront, IsTorn, IsWhole}
 use Rattle.rpc_msgs.specs.Streams.{Took, Put}
 use Rattle.accept_book.specs.RecordShown.{Ruling, Asked}
-use Rattle.gss_server.specs.Answers.{IsDecided, may_want}
-use Rattle.gss_server.specs.Connections.{Went, ruling_for, written_for, asked_for}
+use Rattle.gss_server.specs.Answers.{IsDecided, IsReply, may_want}
+use Rattle.gss_server.specs.Connections.{Went, Behind, IsExact, ruling_for, written_for, asked_for}
 use Rattle.gss_server.specs.declared.answer.Kept.{Kept}
+use Rattle.gss_server.specs.declared.answer.Reply.{Reply}
 use Rattle.gss_server.specs.declared.connection.ConnEnd.{ConnEnd}
 use Rattle.gss_server.specs.declared.connection.ConnEnd.TheVariants.{Ended, LinkFault, TooLong}
 use Rattle.gss_server.specs.declared.connection.ConnEnd.TheVariants.{TooManyFragments, Torn, Budget}
@@ -28,16 +29,34 @@ Receives old new (Err Budget) = ⊥
 Receives old new (Err NoMemory) = (octets : List ℕ) × (IsFront octets ⊎ IsWhole octets)
     × Took old new octets
 
--- what is due was written, or a front of it at a fault and at want of memory
+-- of what was due this was written: all of it, a front of it, or nothing
+abbrev pub All : List ℕ → List ℕ → Type 0
+All due wrote = wrote ≡ due
+
+-- a front of what was due
+abbrev pub InPart : List ℕ → List ℕ → Type 0
+InPart due wrote = (count : ℕ) × (wrote ≡ take count due)
+
+-- nothing of what was due
+abbrev pub Nothing : List ℕ → List ℕ → Type 0
+Nothing due wrote = wrote ≡ []
+
+-- of what was due, so much was written
+pub record Puts (Much : List ℕ → List ℕ → Type 0) (old new : Wire) (due : List ℕ) : Type 0 where
+  pub wrote : List ℕ
+  pub much : Much due wrote
+  pub put : Put old new wrote
+
+-- what is due was written; a front of it at a fault, and nothing at want of memory
 abbrev pub Responds : {T : Type 0} → Wire → Wire → List ℕ → Result T ConnEnd → Type 0
-Responds old new due (Ok _) = Put old new due
+Responds old new due (Ok _) = Puts All old new due
 Responds old new due (Err Ended) = ⊥
-Responds old new due (Err LinkFault) = (count : ℕ) × Put old new (take count due)
+Responds old new due (Err LinkFault) = Puts InPart old new due
 Responds old new due (Err TooLong) = ⊥
 Responds old new due (Err TooManyFragments) = ⊥
 Responds old new due (Err Torn) = ⊥
 Responds old new due (Err Budget) = ⊥
-Responds old new due (Err NoMemory) = (count : ℕ) × Put old new (take count due)
+Responds old new due (Err NoMemory) = Puts Nothing old new due
 
 -- the ruling of a record whose reply was written, and of one whose reply was not for want of memory
 abbrev pub Ruled : {T : Type 0} → Ruling → Result T ConnEnd → Type 0
@@ -54,81 +73,97 @@ Ruled ruling (Err NoMemory) = may_want ruling ≡ true
 abbrev pub Wanted : Ruling → Type 0
 Wanted ruling = may_want ruling ≡ true
 
--- a record's answer was kept, its ruling is so, the gate was asked what is due, and this was
--- written
-pub record Keeping (gained : List Asked → Type 0) (Is : Ruling → Type 0)
-    (width : ℕ) (old new : Wire) (octets : List ℕ) (before after : List Kept) (one : Kept)
-    (wrote : List ℕ) : Type 0 where
-  pub kept : after ≡ before ++ one ∷ []
-  pub put : Put old new wrote
-  pub answered : Is (ruling_for width octets one)
+-- one answer was kept for a record: its ruling is so, each part of it was asked of the gate, and
+-- nothing else was
+pub record Keeps (gained : List Asked → Type 0) (Is : Ruling → Type 0) (width : ℕ)
+    (octets : List ℕ) (kept : List Kept) : Type 0 where
+  pub one : Kept
+  pub only : kept ≡ one ∷ []
+  pub exact : IsExact width octets one
+  pub ruled : Is (ruling_for width octets one)
   pub asked : gained (asked_for width octets one)
 
--- nothing was kept, written or asked
-pub record Forgets (gained : List Asked → Type 0) (old new : Wire) (before after : List Kept) : Type
-    0 where
-  pub kept : after ≡ before
-  pub put : Put old new []
+-- a record was answered with this reply
+abbrev pub AnswersBy : (List Asked → Type 0) → ℕ → List ℕ → Reply → List Kept → Type 0
+AnswersBy gained width octets reply kept =
+    Keeps gained (λ ruling. IsReply ruling reply) width octets kept
+
+-- a record was answered, and of its reply so much was written
+pub record Replied (told : Bool) (gained : List Asked → Type 0) (Is : Ruling → Type 0)
+    (Much : List ℕ → List ℕ → Type 0) (width : ℕ) (old new : Wire) (octets : List ℕ)
+    (kept : List Kept) : Type 0 where
+  pub keeps : Keeps gained Is width octets kept
+  pub wire : IsTrue told → Puts Much old new (written_for width octets keeps.one)
+
+-- nothing was kept, asked or written
+pub record Forgets (told : Bool) (gained : List Asked → Type 0) (old new : Wire)
+    (kept : List Kept) : Type 0 where
+  pub none : kept ≡ []
   pub asked : gained []
+  pub wire : IsTrue told → Put old new []
 
--- a record was answered, or the connection ended while it was
-abbrev pub Replies : (List Asked → Type 0) → ℕ → Wire → Wire → List ℕ → List Kept → List Kept
-    → Option ConnEnd → Type 0
-Replies gained width old new octets before after None = (one : Kept)
-    × Keeping gained IsDecided width old new octets before after one (written_for width octets one)
-Replies gained width old new octets before after (Some Ended) = ⊥
-Replies gained width old new octets before after (Some LinkFault) =
-    (one : Kept) × (count : ℕ) × Keeping gained IsDecided width old new octets before after one
-    (take count (written_for width octets one))
-Replies gained width old new octets before after (Some TooLong) = ⊥
-Replies gained width old new octets before after (Some TooManyFragments) = ⊥
-Replies gained width old new octets before after (Some Torn) = ⊥
-Replies gained width old new octets before after (Some Budget) = ⊥
-Replies gained width old new octets before after (Some NoMemory) =
-    Forgets gained old new before after ⊎ ((one : Kept) × (count : ℕ) × Keeping gained Wanted width
-    old new octets before after one (take count (written_for width octets one)))
-
--- a record was read and its answer kept, its ruling is so, the gate was asked what is due, and this
--- was written
-pub record Serves (gained : List Asked → Type 0) (Is : Ruling → Type 0) (width : ℕ) (old new : Wire)
-    (before after : List Kept) (cut : Fragments) (one : Kept) (wrote : List ℕ) : Type 0 where
-  pub is_record : IsRecord cut
-  pub kept : after ≡ before ++ one ∷ []
-  pub went : Went old new (frame cut) wrote
-  pub answered : Is (ruling_for width (octets_in cut) one)
-  pub asked : gained (asked_for width (octets_in cut) one)
-
--- a record was read and its answer kept, and a front of what is due to it was written
-abbrev pub ServesInPart : (List Asked → Type 0) → (Ruling → Type 0) → ℕ → Wire → Wire → List Kept
+-- a record was answered, or the connection ended while it was: at a fault with a front of the reply
+-- written, at want of memory with nothing of it
+abbrev pub Replies : Bool → (List Asked → Type 0) → ℕ → Wire → Wire → List ℕ → Option ConnEnd
     → List Kept → Type 0
-ServesInPart gained Is width old new before after =
-    (cut : Fragments) × (one : Kept) × (count : ℕ) × Serves gained Is width old new before after cut
-    one (take count (written_for width (octets_in cut) one))
+Replies told gained width old new octets None kept =
+    Replied told gained IsDecided All width old new octets kept
+Replies told gained width old new octets (Some Ended) kept = ⊥
+Replies told gained width old new octets (Some LinkFault) kept =
+    Replied told gained IsDecided InPart width old new octets kept
+Replies told gained width old new octets (Some TooLong) kept = ⊥
+Replies told gained width old new octets (Some TooManyFragments) kept = ⊥
+Replies told gained width old new octets (Some Torn) kept = ⊥
+Replies told gained width old new octets (Some Budget) kept = ⊥
+Replies told gained width old new octets (Some NoMemory) kept = Forgets told gained old new kept
+    ⊎ Replied told gained Wanted Nothing width old new octets kept
 
--- these octets were read, and nothing was kept, written or asked
-pub record Stops (gained : List Asked → Type 0) (old new : Wire) (before after : List Kept)
-    (octets : List ℕ) : Type 0 where
-  pub kept : after ≡ before
+-- this record was read, and of what is due so much was written
+pub record Exchanges (Much : List ℕ → List ℕ → Type 0) (old new : Wire) (cut : Fragments)
+    (due : List ℕ) : Type 0 where
+  pub is_record : IsRecord cut
+  pub wrote : List ℕ
+  pub much : Much due wrote
+  pub went : Went old new (frame cut) wrote
+
+-- a record was read and answered, and of its reply so much was written
+pub record Serves (told : Bool) (gained : List Asked → Type 0) (Is : Ruling → Type 0)
+    (Much : List ℕ → List ℕ → Type 0) (width : ℕ) (old new : Wire) (kept : List Kept) : Type
+    0 where
+  pub cut : Fragments
+  pub keeps : Keeps gained Is width (octets_in cut) kept
+  pub wire : IsTrue told
+      → Exchanges Much old new cut (written_for width (octets_in cut) keeps.one)
+
+-- octets were read behind which the connection has this end
+pub record ReadsTo (old new : Wire) (ending : ConnEnd) : Type 0 where
+  pub octets : List ℕ
+  pub behind : Behind ending octets new.coming
   pub went : Went old new octets []
-  pub asked : gained []
 
--- what a turn did: a record was read and answered, or the connection ended in it
-abbrev pub Turns : (List Asked → Type 0) → ℕ → Wire → Wire → List Kept → List Kept → Option ConnEnd
+-- no record was read and answered, and nothing was kept, asked or written
+pub record Stops (told : Bool) (gained : List Asked → Type 0) (old new : Wire) (ending : ConnEnd)
+    (kept : List Kept) : Type 0 where
+  pub none : kept ≡ []
+  pub early : ending ≢ Budget
+  pub asked : gained []
+  pub wire : IsTrue told → ReadsTo old new ending
+
+-- the connection ended while a record was answered
+abbrev pub Breaks : Bool → (List Asked → Type 0) → ℕ → Wire → Wire → ConnEnd → List Kept → Type 0
+Breaks told gained width old new Ended kept = ⊥
+Breaks told gained width old new LinkFault kept =
+    Serves told gained IsDecided InPart width old new kept
+Breaks told gained width old new TooLong kept = ⊥
+Breaks told gained width old new TooManyFragments kept = ⊥
+Breaks told gained width old new Torn kept = ⊥
+Breaks told gained width old new Budget kept = ⊥
+Breaks told gained width old new NoMemory kept =
+    Serves told gained Wanted Nothing width old new kept
+
+-- what a turn did: a record was read and answered, or the connection ended before or while it was
+abbrev pub Turns : Bool → (List Asked → Type 0) → ℕ → Wire → Wire → Option ConnEnd → List Kept
     → Type 0
-Turns gained width old new before after None = (cut : Fragments) × (one : Kept) × Serves gained
-    IsDecided width old new before after cut one (written_for width (octets_in cut) one)
-Turns gained width old new before after (Some Ended) =
-    Stops gained old new before after [] × (new.coming ≡ [])
-Turns gained width old new before after (Some LinkFault) =
-    ((octets : List ℕ) × IsFront octets × Stops gained old new before after octets)
-    ⊎ ServesInPart gained IsDecided width old new before after
-Turns gained width old new before after (Some TooLong) =
-    (octets : List ℕ) × IsTooLong octets × Stops gained old new before after octets
-Turns gained width old new before after (Some TooManyFragments) =
-    (octets : List ℕ) × IsTooMany octets × Stops gained old new before after octets
-Turns gained width old new before after (Some Torn) =
-    (octets : List ℕ) × IsTorn octets × Stops gained old new before after octets × (new.coming ≡ [])
-Turns gained width old new before after (Some Budget) = ⊥
-Turns gained width old new before after (Some NoMemory) = ((octets : List ℕ)
-    × (IsFront octets ⊎ IsWhole octets) × Stops gained old new before after octets)
-    ⊎ ServesInPart gained Wanted width old new before after
+Turns told gained width old new None kept = Serves told gained IsDecided All width old new kept
+Turns told gained width old new (Some ending) kept =
+    Stops told gained old new ending kept ⊎ Breaks told gained width old new ending kept

@@ -1,22 +1,20 @@
 //! One connection, from its first record to its end.
 
-ghost use Rattle.std.specs.Prelude.{◌≡◌, ◌≢◌, ◌≤◌, ℕ, List, [], ◌∷◌, ◌++◌, false, true, IsTrue};
-ghost use Rattle.std.specs.Prelude.{IsErrOf, IsOk, Option, Some, length, vec_len, vec_capacity};
-ghost use Rattle.std.specs.Prelude.{◌+◌, ◌<◌};
+ghost use Rattle.std.specs.Prelude.{◌≡◌, ◌≢◌, ◌≤◌, ◌+◌, ◌<◌, ℕ, List, false, true, IsTrue};
+ghost use Rattle.std.specs.Prelude.{IsErrOf, Err, Some, length};
 ghost use Rattle.sec_base.specs.Answers.{Rose};
 ghost use Rattle.accept_book.specs.RecordShown.{Ruling};
 ghost use Rattle.gss_server.specs.Answers.{IsReply, Fits};
-ghost use Rattle.gss_server.specs.Kept.{Keeps, moments_of, draws_of};
-ghost use Rattle.gss_server.specs.Turns.{Receives, Responds, Ruled, Replies, Turns};
-ghost use Rattle.gss_server.specs.Connections.{framed, ruling_for, asked_for, IsServedBy, IsServed};
-ghost use Rattle.gss_server.specs.Connections.{StreamEnds};
-ghost use Rattle.gss_server.specs.Asking.{IsAsked};
+ghost use Rattle.gss_server.specs.Connections.{framed, IsServed, StreamEnds};
+ghost use Rattle.gss_server.specs.Keeping.{Makes};
 ghost use Rattle.gss_server.specs.Ruled.{Questions};
-ghost use Rattle.gss_server.specs.Steady.{LinkKept, GateKept, Timed, Drawn};
+ghost use Rattle.gss_server.specs.Steady.{LinkKept, GateKept};
+ghost use Rattle.gss_server.specs.Turns.{Receives, Responds, Ruled, AnswersBy, Replies, Turns};
 
 use crate::answer::{Kept, Reply};
 use crate::answering::answer_record_by;
 use crate::gate::Gate;
+use crate::keeper::Keeper;
 use crate::saying::end_at;
 use krb_tokens::MicCache;
 use rpc_msgs::{RecordRefusal, next_record, write_record};
@@ -50,79 +48,95 @@ pub enum ConnEnd {
 pub struct Served<L> {
     /// The link, closed.
     pub link: L,
-    /// The answers to its records, in order.
-    pub kept: Vec<Kept>,
+    /// How many records were answered, the one for whose answer memory was wanted among them.
+    pub records: u32,
     pub end: ConnEnd,
 }
 
-/// Serves a connection: answers its records, in order, each before the next is read, and closes the link at its end. The records are
+/// How far a connection is: the keys of the context of the call before, in which those of the next
+/// may be found, and how many records were answered.
+#[derive(Drop)]
+struct Course {
+    keys: MicCache,
+    records: u32,
+}
+
+/// Serves a connection: answers its records, in order, gives each answer to the keeper, and closes the link at its end. The records are
 /// those of the stream, however the link's reads cut it.
-pub fn serve_link<L: Link, G: Gate, C: Clock, D: Draw>(
+pub fn serve_link<L: Link, K: Keeper<Kept>, G: Gate, C: Clock, D: Draw>(
     alloc: Global,
     link: L,
+    keeper: &mut K,
     gate: &mut G,
     clock: &mut C,
     draw: &mut D,
     width: u32,
 ) -> Served<L>
     requires { L.closed link ≡ false }
-    ensures told { IsTrue (L.tells link) → IsServed width (L.wire link) (L.wire result.link)
-        result.kept.items result.end }
-    // The gate was asked what the records ask, in order, each answer one that it may give behind those before; a gate that tells, and has
-    // room for two questions a record, told just these.
-    ensures asked { IsTrue (L.tells link) → IsServedBy
-        (IsAsked G.answers G.tells G.room G.told 131072 gate.old gate.new) width
-        (L.wire link) (L.wire result.link) result.kept.items result.end }
+    // The answers that the keeper was given are those to the records, in order, and each part of one was asked of the gate, in order; a gate that
+    // tells, and has room for two questions a record, told just these. Over a link that tells its octets, the records are those of the stream.
+    ensures served { Makes K.Keeper C.Clock D.Draw keeper.old keeper.new clock.old clock.new
+        draw.old draw.new (λ kept. (result.records ≡ length kept)
+        × IsServed (L.tells link) (Questions G.Gate 131072 gate.old gate.new) width (L.wire link)
+        (L.wire result.link) result.end kept) }
     // The end that the stream has comes, unless the link failed or there was no memory.
     ensures always { IsTrue (L.tells link) → (expected : ConnEnd)
         → StreamEnds (L.wire link) (L.wire result.link) expected
         → result.end ≢ ConnEnd.LinkFault → result.end ≢ ConnEnd.NoMemory → result.end ≡ expected }
     ensures fault { result.end ≡ ConnEnd.LinkFault → Rose (L.faults link) (L.faults result.link) }
-    ensures moments { IsTrue (C.tells clock.new)
-        → Keeps (C.given clock.old) (C.given clock.new) [] result.kept.items moments_of }
-    ensures draws { IsTrue (D.tells draw.new)
-        → Keeps (D.given draw.old) (D.given draw.new) [] result.kept.items draws_of }
-    ensures gate_tells { G.tells gate.new ≡ G.tells gate.old }
-    ensures limits { G.limits gate.new ≡ G.limits gate.old }
-    ensures clock_tells { IsTrue (C.tells clock.new) → IsTrue (C.tells clock.old) }
-    ensures draw_tells { IsTrue (D.tells draw.new) → IsTrue (D.tells draw.old) }
-    ensures bound { vec_len result.kept ≤ 65536 }
+    ensures gate_kept { GateKept G.Gate gate.old gate.new }
+    ensures most { result.records ≤ 65536 }
     ensures closed { L.closed result.link ≡ true }
     ensures tells { L.tells result.link ≡ L.tells link }
     ensures faults { L.faults link ≤ L.faults result.link }
 {
     let mut link = link;
-    let mut kept = Vec::new(alloc);
-    let end = serve(alloc, &mut link, &mut kept, gate, clock, draw, width);
+    let mut course = Course {
+        keys: MicCache::empty(),
+        records: 0,
+    };
+    let end = serve(
+        alloc,
+        &mut link,
+        keeper,
+        gate,
+        clock,
+        draw,
+        width,
+        &mut course,
+    );
     link.close();
-    Served { link, kept, end }
+    Served {
+        link,
+        records: course.records,
+        end,
+    }
 }
 
 /// Answers records up to the end of the connection.
-fn serve<L: Link, G: Gate, C: Clock, D: Draw>(
+fn serve<L: Link, K: Keeper<Kept>, G: Gate, C: Clock, D: Draw>(
     alloc: Global,
     link: &mut L,
-    kept: &mut Vec<Kept>,
+    keeper: &mut K,
     gate: &mut G,
     clock: &mut C,
     draw: &mut D,
     width: u32,
+    course: &mut Course,
 ) -> ConnEnd
     requires unclosed { L.closed link.old ≡ false }
-    requires none { kept.old.items ≡ [] }
-    ensures told { IsTrue (L.tells link.old)
-        → IsServedBy (Questions G.Gate 131072 gate.old gate.new) width (L.wire link.old)
-        (L.wire link.new) kept.new.items result }
+    requires none { course.old.records ≡ 0 }
+    ensures served { Makes K.Keeper C.Clock D.Draw keeper.old keeper.new clock.old clock.new
+        draw.old draw.new (λ kept. (course.new.records ≡ length kept)
+        × IsServed (L.tells link.old) (Questions G.Gate 131072 gate.old gate.new) width
+        (L.wire link.old) (L.wire link.new) result kept) }
     ensures fault { result ≡ ConnEnd.LinkFault → Rose (L.faults link.old) (L.faults link.new) }
-    ensures moments { Timed C.Clock clock.old clock.new [] kept.new.items }
-    ensures draws { Drawn D.Draw draw.old draw.new [] kept.new.items }
     ensures gate_kept { GateKept G.Gate gate.old gate.new }
-    ensures bound { vec_len kept.new ≤ 65536 }
+    ensures most { course.new.records ≤ 65536 }
     ensures link_kept { LinkKept L.Link link.old link.new }
 {
-    let mut keys = MicCache::empty();
     for number in 0..RECORDS {
-        match turn(alloc, link, kept, gate, clock, draw, width, &mut keys) {
+        match turn(alloc, link, keeper, gate, clock, draw, width, course) {
             None => {}
             Some(end) => return end,
         }
@@ -131,24 +145,24 @@ fn serve<L: Link, G: Gate, C: Clock, D: Draw>(
 }
 
 /// Reads a record and answers it; the end of the connection, where it comes.
-fn turn<L: Link, G: Gate, C: Clock, D: Draw>(
+fn turn<L: Link, K: Keeper<Kept>, G: Gate, C: Clock, D: Draw>(
     alloc: Global,
     link: &mut L,
-    kept: &mut Vec<Kept>,
+    keeper: &mut K,
     gate: &mut G,
     clock: &mut C,
     draw: &mut D,
     width: u32,
-    keys: &mut MicCache,
+    course: &mut Course,
 ) -> Option<ConnEnd>
     requires unclosed { L.closed link.old ≡ false }
-    ensures told { IsTrue (L.tells link.old) → Turns (Questions G.Gate 2 gate.old gate.new)
-        width (L.wire link.old) (L.wire link.new) kept.old.items kept.new.items result }
+    requires few { course.old.records < 65536 }
+    ensures turned { Makes K.Keeper C.Clock D.Draw keeper.old keeper.new clock.old clock.new
+        draw.old draw.new (λ kept. (course.new.records ≡ course.old.records + length kept)
+        × Turns (L.tells link.old) (Questions G.Gate 2 gate.old gate.new) width (L.wire link.old)
+        (L.wire link.new) result kept) }
     ensures fault { result ≡ Some ConnEnd.LinkFault → Rose (L.faults link.old) (L.faults link.new) }
-    ensures moments { Timed C.Clock clock.old clock.new kept.old.items kept.new.items }
-    ensures draws { Drawn D.Draw draw.old draw.new kept.old.items kept.new.items }
     ensures gate_kept { GateKept G.Gate gate.old gate.new }
-    ensures count { vec_len kept.new ≤ vec_len kept.old + 1 }
     ensures link_kept { LinkKept L.Link link.old link.new }
 {
     match receive(alloc, link) {
@@ -156,12 +170,12 @@ fn turn<L: Link, G: Gate, C: Clock, D: Draw>(
             alloc,
             link,
             octets.as_slice(),
-            kept,
+            keeper,
             gate,
             clock,
             draw,
             width,
-            keys,
+            course,
         ),
         Err(end) => Some(end),
     }
@@ -171,6 +185,7 @@ fn turn<L: Link, G: Gate, C: Clock, D: Draw>(
 fn receive<L: Link>(alloc: Global, link: &mut L) -> Result<Octets, ConnEnd>
     requires unclosed { L.closed link.old ≡ false }
     ensures told { IsTrue (L.tells link.old) → Receives (L.wire link.old) (L.wire link.new) result }
+    ensures early { result ≢ Err ConnEnd.Budget }
     ensures fault { IsErrOf result ConnEnd.LinkFault
         → Rose (L.faults link.old) (L.faults link.new) }
     ensures link_kept { LinkKept L.Link link.old link.new }
@@ -186,76 +201,70 @@ fn receive<L: Link>(alloc: Global, link: &mut L) -> Result<Octets, ConnEnd>
     }
 }
 
-/// Makes room for the kept answer, answers a record and writes its reply.
-fn reply_to_record<L: Link, G: Gate, C: Clock, D: Draw>(
+/// Has the keeper make room for the answer, answers a record and writes its reply.
+fn reply_to_record<L: Link, K: Keeper<Kept>, G: Gate, C: Clock, D: Draw>(
     alloc: Global,
     link: &mut L,
     octets: &[u8],
-    kept: &mut Vec<Kept>,
+    keeper: &mut K,
     gate: &mut G,
     clock: &mut C,
     draw: &mut D,
     width: u32,
-    keys: &mut MicCache,
+    course: &mut Course,
 ) -> Option<ConnEnd>
     requires unclosed { L.closed link.old ≡ false }
-    ensures told { IsTrue (L.tells link.old) → Replies (Questions G.Gate 2 gate.old gate.new)
-        width (L.wire link.old) (L.wire link.new) octets.now kept.old.items kept.new.items result }
+    requires few { course.old.records < 65536 }
+    ensures replied { Makes K.Keeper C.Clock D.Draw keeper.old keeper.new clock.old clock.new
+        draw.old draw.new (λ kept. (course.new.records ≡ course.old.records + length kept)
+        × Replies (L.tells link.old) (Questions G.Gate 2 gate.old gate.new) width (L.wire link.old)
+        (L.wire link.new) octets.now result kept) }
     ensures fault { result ≡ Some ConnEnd.LinkFault → Rose (L.faults link.old) (L.faults link.new) }
-    ensures moments { Timed C.Clock clock.old clock.new kept.old.items kept.new.items }
-    ensures draws { Drawn D.Draw draw.old draw.new kept.old.items kept.new.items }
     ensures gate_kept { GateKept G.Gate gate.old gate.new }
-    ensures count { vec_len kept.new ≤ vec_len kept.old + 1 }
     ensures link_kept { LinkKept L.Link link.old link.new }
 {
-    if kept.reserve(1).is_err() {
+    if keeper.make_room().is_err() {
         return Some(ConnEnd::NoMemory);
     }
-    let reply = answer(alloc, octets, kept, gate, clock, draw, width, keys);
-    keep_keys(keys, kept);
+    let keys = &mut course.keys;
+    let reply = answer(alloc, octets, keeper, gate, clock, draw, width, keys);
+    course.records += 1;
     match respond(link, &reply) {
         Ok(()) => None,
         Err(end) => Some(end),
     }
 }
 
-/// Answers a record with the next moment and draws, and keeps the answer.
-pub(crate) fn answer<G: Gate, C: Clock, D: Draw>(
+/// Answers a record with the next moment and draws, and gives the answer to the keeper.
+pub(crate) fn answer<K: Keeper<Kept>, G: Gate, C: Clock, D: Draw>(
     alloc: Global,
     octets: &[u8],
-    kept: &mut Vec<Kept>,
+    keeper: &mut K,
     gate: &mut G,
     clock: &mut C,
     draw: &mut D,
     width: u32,
-    keys: &MicCache,
+    keys: &mut MicCache,
 ) -> Reply
-    requires room { vec_len kept.old + 1 ≤ vec_capacity kept.old }
-    ensures reply { (one : Kept) × (kept.new.items ≡ kept.old.items ++ one ∷ [])
-        × IsReply (ruling_for width octets.now one) result
-        × Questions G.Gate 2 gate.old gate.new (asked_for width octets.now one) }
+    requires ready { K.ready keeper.old }
+    ensures answered { Makes K.Keeper C.Clock D.Draw keeper.old keeper.new clock.old clock.new
+        draw.old draw.new (AnswersBy (Questions G.Gate 2 gate.old gate.new) width octets.now
+        result) }
     ensures fits { Fits result }
-    ensures moments { Timed C.Clock clock.old clock.new kept.old.items kept.new.items }
-    ensures draws { Drawn D.Draw draw.old draw.new kept.old.items kept.new.items }
     ensures gate_kept { GateKept G.Gate gate.old gate.new }
 {
     let now = clock.now();
     let mut draws = [0; 82];
     draw.fill(&mut draws);
     let answered = answer_record_by(alloc, gate, octets, now, &draws, width, keys);
-    let _ = kept.push(answered.kept);
+    keep_keys(keys, &answered.kept);
+    keeper.keep(answered.kept);
     answered.reply
 }
 
-/// Keeps the keys of the context of the last call, which is likely to be that of the next.
-fn keep_keys(keys: &mut MicCache, kept: &[Kept]) {
-    if let Some(
-        Kept {
-            looked: Some(Ok(lease)),
-            ..
-        },
-    ) = kept.last()
-    {
+/// Keeps the keys of the context of a call, which is likely to be that of the next.
+fn keep_keys(keys: &mut MicCache, kept: &Kept) {
+    if let Some(Ok(lease)) = &kept.looked {
         keys.keep(&end_at(lease));
     }
 }

@@ -6,6 +6,7 @@ ghost use Rattle.gss_server.specs.Looping.{Looped, Loops};
 
 use crate::answer::Kept;
 use crate::gate::Gate;
+use crate::keeper::KeepAll;
 use crate::looping::Looping;
 use sec_base::{Draw, Link, LinkFault, MemClock, NoMemory};
 use std::alloc::Global;
@@ -22,7 +23,7 @@ pub struct LoopLink<G, Q> {
     faults: u64,
     closed: bool,
     ghost within: { at ≤ vec_len inner.said },
-    ghost looped: { ∥ Looped inner.width inner.heard.items inner.said.items inner.kept.items
+    ghost looped: { ∥ Looped inner.width inner.heard.items inner.said.items inner.kept.all.items
         inner.cut (nat_lt 0 faults) ∥₁ },
 }
 
@@ -42,7 +43,7 @@ impl<G: Gate, Q: Draw> LoopLink<G, Q> {
         ensures width { IfOk result (λ link. link.inner.width ≡ width) }
         ensures gate { IfOk result (λ link. link.inner.gate ≡ gate) }
         ensures draws { IfOk result (λ link. link.inner.draws ≡ draws) }
-        ensures kept { IfOk result (λ link. link.inner.kept.items ≡ []) }
+        ensures kept { IfOk result (λ link. link.inner.kept.all.items ≡ []) }
     {
         let inner = Looping {
             gate,
@@ -52,7 +53,7 @@ impl<G: Gate, Q: Draw> LoopLink<G, Q> {
             heard: Vec::new(alloc),
             cut: 0,
             said: Vec::new(alloc),
-            kept: Vec::new(alloc),
+            kept: KeepAll::new(alloc),
         };
         Ok(LoopLink {
             alloc,
@@ -79,18 +80,18 @@ impl<G: Gate, Q: Draw> LoopLink<G, Q> {
 
     /// What was kept of the answers so far.
     pub fn kept(&self) -> &[Kept]
-        ensures kept { result.now ≡ self.now.inner.kept.items }
+        ensures kept { result.now ≡ self.now.inner.kept.all.items }
         ensures looped { ∥ Loops self.now.inner.width (⟦<LoopLink<G, Q> as Link>⟧.wire self.now)
             result.now (nat_lt 0 (⟦<LoopLink<G, Q> as Link>⟧.faults self.now)) ∥₁ }
     {
-        self.inner.kept.as_slice()
+        self.inner.kept.all.as_slice()
     }
 
     /// The gate, the draw, and what was kept of the answers.
     pub fn into_parts(self) -> (G, Q, Vec<Kept>)
         ensures gate { result.0 ≡ self.inner.gate }
         ensures draws { result.1 ≡ self.inner.draws }
-        ensures kept { result.2.items ≡ self.inner.kept.items }
+        ensures kept { result.2.items ≡ self.inner.kept.all.items }
         ensures looped { ∥ Loops self.inner.width (⟦<LoopLink<G, Q> as Link>⟧.wire self)
             result.2.items (nat_lt 0 (⟦<LoopLink<G, Q> as Link>⟧.faults self)) ∥₁ }
     {
@@ -101,7 +102,7 @@ impl<G: Gate, Q: Draw> LoopLink<G, Q> {
             kept,
             ..
         } = inner;
-        (gate, draws, kept)
+        (gate, draws, kept.all)
     }
 }
 

@@ -11,6 +11,7 @@ ghost use Rattle.gss_server.specs.Looping.{LoopedTo, IsTurned, Looped, HeardMore
 use crate::answer::{Kept, Reply};
 use crate::connection::answer;
 use crate::gate::Gate;
+use crate::keeper::{KeepAll, Keeper};
 use krb_tokens::MicCache;
 use rpc_msgs::{RecordRefusal, next_record, write_record};
 use sec_base::{Draw, MemClock, MemLink, NoMemory, Octets};
@@ -27,7 +28,7 @@ pub(crate) struct Looping<G, Q> {
     pub heard: Vec<u8>,
     pub cut: usize,
     pub said: Vec<u8>,
-    pub kept: Vec<Kept>,
+    pub kept: KeepAll<Kept>,
     ghost within: { cut ≤ vec_len heard },
 }
 
@@ -112,13 +113,13 @@ impl<G: Gate, Q: Draw> Looping<G, Q> {
     /// Answers a record that has so many octets in the stream.
     fn answer(&mut self, alloc: Global, octets: &[u8], size: usize) -> Turned
         requires within { self.old.cut + size ≤ vec_len self.old.heard }
-        ensures answered { IsAnsweredBy self.old.width octets.now size self.old.kept.items
-            self.new.kept.items self.old.said.items self.new.said.items self.old.cut self.new.cut
-            result }
+        ensures answered { IsAnsweredBy self.old.width octets.now size self.old.kept.all.items
+            self.new.kept.all.items self.old.said.items self.new.said.items self.old.cut
+            self.new.cut result }
         ensures heard { self.new.heard ≡ self.old.heard }
         ensures width { self.new.width ≡ self.old.width }
     {
-        if self.kept.reserve(1).is_err() {
+        if self.kept.make_room().is_err() {
             return Turned::Starved;
         }
         let reply = answer(
@@ -129,7 +130,7 @@ impl<G: Gate, Q: Draw> Looping<G, Q> {
             &mut self.moments,
             &mut self.draws,
             self.width,
-            &MicCache::empty(),
+            &mut MicCache::empty(),
         );
         match say(alloc, &mut self.said, &reply) {
             Turned::Answered => {
@@ -144,8 +145,8 @@ impl<G: Gate, Q: Draw> Looping<G, Q> {
     /// Answers the next record, where it is whole.
     fn turn(&mut self, alloc: Global) -> Turned
         ensures looped { LoopedTo Unjudged self.old.width self.old.heard.items self.old.said.items
-            self.old.kept.items self.old.cut → IsTurned self.new.width self.new.heard.items
-            self.new.said.items self.new.kept.items self.new.cut result }
+            self.old.kept.all.items self.old.cut → IsTurned self.new.width self.new.heard.items
+            self.new.said.items self.new.kept.all.items self.new.cut result }
         ensures further { result ≡ Turned.Answered → self.old.cut < self.new.cut }
         ensures said { (more : List ℕ) × (self.new.said.items ≡ self.old.said.items ++ more) }
         ensures heard { self.new.heard ≡ self.old.heard }
@@ -162,8 +163,8 @@ impl<G: Gate, Q: Draw> Looping<G, Q> {
     /// Answers all whole records; false where there was no memory for one.
     fn hear(&mut self, alloc: Global) -> bool
         ensures looped { LoopedTo Unjudged self.old.width self.old.heard.items self.old.said.items
-            self.old.kept.items self.old.cut → Looped self.new.width self.new.heard.items
-            self.new.said.items self.new.kept.items self.new.cut (not result) }
+            self.old.kept.all.items self.old.cut → Looped self.new.width self.new.heard.items
+            self.new.said.items self.new.kept.all.items self.new.cut (not result) }
         ensures said { (more : List ℕ) × (self.new.said.items ≡ self.old.said.items ++ more) }
         ensures heard { self.new.heard ≡ self.old.heard }
         ensures width { self.new.width ≡ self.old.width }
@@ -181,8 +182,8 @@ impl<G: Gate, Q: Draw> Looping<G, Q> {
     /// Hears these octets behind those that it heard, and answers; false where there was no memory.
     pub(crate) fn take(&mut self, alloc: Global, buf: &[u8]) -> bool
         ensures looped { Looped self.old.width self.old.heard.items self.old.said.items
-            self.old.kept.items self.old.cut false → Looped self.new.width self.new.heard.items
-            self.new.said.items self.new.kept.items self.new.cut (not result) }
+            self.old.kept.all.items self.old.cut false → Looped self.new.width self.new.heard.items
+            self.new.said.items self.new.kept.all.items self.new.cut (not result) }
         ensures said { (more : List ℕ) × (self.new.said.items ≡ self.old.said.items ++ more) }
         ensures heard { HeardMore buf.now self.old.heard.items self.new.heard.items result }
         ensures width { self.new.width ≡ self.old.width }

@@ -5,7 +5,7 @@ ghost use Rattle.std.specs.Prelude.{◌≡◌, ◌≤◌, ◌<◌, IfSome, false
 use crate::entries;
 use crate::records::{MOST, next};
 use accept_book::{Book, Limits};
-use gss_server::{answer_record, serve_link};
+use gss_server::{KeepNothing, answer_record, serve_link};
 use sec_base::{Clock, Draw, Link, MemClock, MemDraw, MemLink, Moment};
 use std::alloc::Global;
 use table_rows::{Cells, Said};
@@ -137,7 +137,7 @@ fn serve(alloc: Global, desk: &mut Desk, link: MemLink, said: &mut Said, ends: &
         draw,
         width,
     } = desk;
-    let served = serve_link(alloc, link, gate, clock, draw, *width);
+    let served = serve_link(alloc, link, &mut KeepNothing, gate, clock, draw, *width);
     said.octets(served.link.written());
     said.join("/");
     ends.form(&served.end);

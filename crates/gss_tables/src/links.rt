@@ -1,6 +1,6 @@
 //! A connection over a link that gives its octets in pieces, and whose calls may fail; the gate has no answer.
 
-use gss_server::{ListGate, Served, serve_link};
+use gss_server::{KeepAll, Kept, ListGate, Served, serve_link};
 use sec_base::{MemDraw, MemLink, Moment};
 use std::alloc::Global;
 use table_rows::{Cells, Said};
@@ -15,11 +15,11 @@ fn pieces(cells: &mut Cells<'_>, size: usize, count: usize) -> Vec<usize> {
     pieces
 }
 
-/// Says what is written on a connection, its end, how many records were answered, and how many of the link's calls failed.
-fn say(said: &mut Said, served: &Served<MemLink>) {
+/// Says what is written on a connection, its end, how many answers were kept, and how many of the link's calls failed.
+fn say(said: &mut Said, served: &Served<MemLink>, kept: &[Kept]) {
     said.octets(served.link.written());
     said.form(&served.end);
-    said.number(served.kept.len() as u64);
+    said.number(kept.len() as u64);
     said.number(served.link.faults());
 }
 
@@ -35,8 +35,9 @@ fn serve(
     let link = MemLink::new(alloc, input, pieces, failing);
     let mut clock = clock(alloc, Moment::start());
     let mut draw = MemDraw::new(Vec::new(alloc));
-    let served = serve_link(alloc, link, gate, &mut clock, &mut draw, 128);
-    say(said, &served);
+    let mut keeper = KeepAll::new(alloc);
+    let served = serve_link(alloc, link, &mut keeper, gate, &mut clock, &mut draw, 128);
+    say(said, &served, keeper.all.as_slice());
 }
 
 /// By the cells size of a read, numbers of failing calls and stream, what a connection comes to.

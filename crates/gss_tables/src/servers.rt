@@ -5,6 +5,7 @@ ghost use Rattle.sec_base.specs.MemPort.{none_closed};
 ghost use Rattle.std.specs.List.{AllByRecursion};
 ghost use Rattle.server_command.specs.Desks.{IsFresh};
 
+use gss_server::{KeepNothing, KeepReceipts};
 use sec_base::{Link, MemClock, MemDraw, MemLink, MemPort, MemShelf, Moment, Text};
 use server_command::{Desk, run_server};
 use std::alloc::Global;
@@ -12,7 +13,7 @@ use table_rows::{Cells, Said};
 use table_setting::{Devices, Files, numbers, words};
 
 /// A desk in memory.
-type MemDesk = Desk<MemPort<MemLink>, MemClock, MemDraw>;
+type MemDesk = Desk<MemPort<MemLink>, MemClock, MemDraw, KeepReceipts, KeepNothing>;
 
 /// One link with this stream; none where there is no memory for it.
 fn links(alloc: Global, input: Vec<u8>) -> Vec<MemLink>
@@ -30,12 +31,13 @@ fn links(alloc: Global, input: Vec<u8>) -> Vec<MemLink>
 fn desk(alloc: Global, input: Vec<u8>, failing: Vec<u64>) -> MemDesk
     ensures { IsFresh result }
 {
-    Desk {
-        port: MemPort::new(links(alloc, input), failing),
-        clock: MemClock::new(Vec::new(alloc)),
-        draw: MemDraw::new(Vec::new(alloc)),
-        served: Vec::new(alloc),
-    }
+    Desk::new(
+        MemPort::new(links(alloc, input), failing),
+        MemClock::new(Vec::new(alloc)),
+        MemDraw::new(Vec::new(alloc)),
+        KeepReceipts::new(alloc),
+        KeepNothing,
+    )
 }
 
 /// Two desks with a stream each, of whose second port the calls of these numbers fail; None where there is no memory for them.

@@ -5,6 +5,7 @@ ghost use Rattle.std.specs.Prelude.{IfOk, IfSome};
 ghost use Rattle.std.specs.List.{AllByRecursion};
 ghost use Rattle.server_command.specs.Desks.{IsFresh};
 
+use gss_server::{KeepNothing, KeepReceipts};
 use sec_base::{Clock, Port, Text};
 use server_command::{Desk, address_of, run_server};
 use std::process::ExitCode;
@@ -28,41 +29,39 @@ fn main(rt: HostRuntime) -> ExitCode {
     ExitCode::from(status)
 }
 
-/// A desk over a port, with the system's clock and random octets of its own; None where the system gives no seed.
-fn desk<P: Port + Drop>(
-    rt: HostRuntime,
-    port: P,
-) -> Option<Desk<P, SystemClock<HostRuntime>, RandDraw>>
+/// A desk with the system's clock and random octets of its own. Of the answers it keeps the receipts of
+/// the log's entries, and nothing of a connection that ended.
+type SystemDesk<P> = Desk<P, SystemClock<HostRuntime>, RandDraw, KeepReceipts, KeepNothing>;
+
+/// A desk over a port; None where the system gives no seed.
+fn desk<P: Port + Drop>(rt: HostRuntime, port: P) -> Option<SystemDesk<P>>
     ensures { IfSome result IsFresh }
 {
     let draw = match RandDraw::new(&rt) {
         Ok(draw) => draw,
         Err(_) => return None,
     };
-    Some(Desk {
+    Some(Desk::new(
         port,
-        clock: SystemClock::new(rt),
+        SystemClock::new(rt),
         draw,
-        served: Vec::new(rt.alloc()),
-    })
+        KeepReceipts::new(rt.alloc()),
+        KeepNothing,
+    ))
 }
 
 /// A desk at a TCP listener.
 fn desk_at<'a>(
     rt: HostRuntime,
     door: &'a TcpDoor<'a, HostRuntime>,
-) -> Option<Desk<BufferedPort<TcpPort<'a, HostRuntime>>, SystemClock<HostRuntime>, RandDraw>>
+) -> Option<SystemDesk<BufferedPort<TcpPort<'a, HostRuntime>>>>
     ensures { IfSome result IsFresh }
 {
     desk(rt, BufferedPort::new(rt.alloc(), TcpPort::at(door)))
 }
 
 /// Runs the server over desks.
-fn run<P: Port + Drop>(
-    rt: HostRuntime,
-    words: &[Text],
-    desks: Vec<Desk<P, SystemClock<HostRuntime>, RandDraw>>,
-) -> u8
+fn run<P: Port + Drop>(rt: HostRuntime, words: &[Text], desks: Vec<SystemDesk<P>>) -> u8
 where
     P::Link: Drop,
     requires { AllByRecursion IsFresh desks.items }
@@ -100,10 +99,7 @@ fn over_standard_streams(rt: HostRuntime, words: &[Text]) -> u8 {
 fn desks_at<'a>(
     rt: HostRuntime,
     door: &'a TcpDoor<'a, HostRuntime>,
-) -> Result<
-    Vec<Desk<BufferedPort<TcpPort<'a, HostRuntime>>, SystemClock<HostRuntime>, RandDraw>>,
-    u8,
->
+) -> Result<Vec<SystemDesk<BufferedPort<TcpPort<'a, HostRuntime>>>>, u8>
     ensures { IfOk result (λ desks. AllByRecursion IsFresh desks.items) }
 {
     let Some(first) = desk_at(rt, door) else {

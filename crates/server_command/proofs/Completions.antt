@@ -1,5 +1,5 @@
 -- A run whose words and files are valid, and where no count rose, serves all connections.
-use Rattle.std.proofs.Common.{arith, ◌≡◌, ◌≢◌, ◌<◌, ◌≤◌, ℕ, ◌+◌, ◌-◌, Bool, true, List, length, slice_get, Option, Some, None, Result, Ok, Err, refl, sym, ap, ◌∙◌, subst}
+use Rattle.std.proofs.Common.{arith, ◌≡◌, ◌≢◌, ◌≤◌, ℕ, Bool, true, List, Option, Some, None, Result, Ok, Err, refl, sym, ◌∙◌, subst}
 use Rattle.sec_base.specs.Answers.{Gives, Rose}
 use Rattle.sec_base.specs.declared.shelf.NamedFile.{NamedFile}
 use Rattle.gss_base.specs.Name.{Name}
@@ -9,15 +9,14 @@ use Rattle.scram_mech.specs.declared.verifiers.Verifier.{Verifier}
 use Rattle.cli_base.specs.Files.{LoadsFile, file_in}
 use Rattle.cli_base.specs.declared.files.FileStop.{FileStop}
 use Rattle.cli_base.specs.declared.files.FileStop.TheVariants as stops
-use Rattle.server_command.specs.Desks.{Ran, is_begun}
+use Rattle.server_command.specs.Desks.{is_begun}
 use Rattle.server_command.specs.Keys.{AreKeys, BehindKeytab, FromShelf, keytab_in, verifiers_in, keys_with, no_keys}
 use Rattle.server_command.specs.Runs.{EndsBy, Begins, AreValidFiles, AreValid, IsValid}
 use Rattle.server_command.specs.declared.ending.RunEnd.{RunEnd}
-use Rattle.server_command.specs.declared.ending.RunEnd.TheVariants.{Usage, CannotLoad, Bad, NoKey, PortFault, NoMemory, Served}
+use Rattle.server_command.specs.declared.ending.RunEnd.TheVariants.{NoMemory, Served}
 use Rattle.server_command.specs.declared.keys.Keys.{Keys}
 use Rattle.server_command.specs.declared.options.Files.{Files}
 use Rattle.server_command.specs.declared.options.Options.{Options}
-use Rattle.server_command.proofs.DeskRuns.{some-at}
 
 -- keys that are due are there, want of memory aside
 due-there : (keys : Result Keys RunEnd) (end : RunEnd) (due : Keys) → Gives NoMemory (λ k. k) keys (Ok due) → EndsBy keys end → end ≢ NoMemory → is_begun end ≡ true
@@ -91,27 +90,8 @@ by-keys tells files before after faults faults' None name keys end valid steady 
 by-keys tells files before after faults faults' (Some named) name keys end valid steady are ends other =
     by-files tells files before are.between after faults are.counted faults' named name are.keytab keys end valid steady are.read are.behind are.grows ends other
 
--- desks were served and no port failed
-all-served : {A : Type 0} {Base Done Failed : A → A → Type 0} (end : RunEnd) (olds news : List A) → length news ≡ length olds → is_begun end ≡ true → ((desk : ℕ) → end ≡ PortFault desk → (0 < desk) × (desk ≤ length olds))
-    → ((i : ℕ) (a b : A) → slice_get olds i ≡ Some a → slice_get news i ≡ Some b → Ran Base Done Failed end i a b)
-    → ((i : ℕ) (a b : A) → slice_get olds i ≡ Some a → slice_get news i ≡ Some b → Failed a b → ⊥) → end ≡ Served
-all-served Usage olds news same begun named ran steady = cc
-all-served (CannotLoad file) olds news same begun named ran steady = cc
-all-served (Bad file at) olds news same begun named ran steady = cc
-all-served NoKey olds news same begun named ran steady = cc
-all-served NoMemory olds news same begun named ran steady = cc
-all-served Served olds news same begun named ran steady = refl
-all-served (PortFault desk) olds news same begun named ran steady =
-    let some : 0 < desk = (named desk refl).0 in
-    let most : desk ≤ length olds = (named desk refl).1 in
-    let old = some-at olds (desk - 1) (omega arith) in
-    let new = some-at news (desk - 1) (omega arith) in
-    let place : desk ≡ desk - 1 + 1 = omega arith in
-    absurd (steady (desk - 1) old.0 new.0 old.1 new.1 ((ran (desk - 1) old.0 new.0 old.1 new.1).failed (ap PortFault place)))
-
-pub completed : {A : Type 0} {Base Done Failed : A → A → Type 0} (tells : Bool) (files : List NamedFile) (before after : List (List ℕ)) (faults faults' : ℕ) (options : Options) (end : RunEnd) (olds news : List A) → Begins tells files before after faults faults' options end
-    → IsValid tells files options → (Rose faults faults' → ⊥) → length news ≡ length olds → ((desk : ℕ) → end ≡ PortFault desk → (0 < desk) × (desk ≤ length olds))
-    → ((i : ℕ) (a b : A) → slice_get olds i ≡ Some a → slice_get news i ≡ Some b → Ran Base Done Failed end i a b)
-    → ((i : ℕ) (a b : A) → slice_get olds i ≡ Some a → slice_get news i ≡ Some b → Failed a b → ⊥) → end ≢ NoMemory → end ≡ Served
-completed tells files before after faults faults' options end olds news begins valid steady same named ran ports other =
-    all-served end olds news same (by-keys tells files before after faults faults' options.files options.name begins.keys end valid steady begins.given begins.ends other) named ran ports
+-- a run that has its keys, in which no desk failed, serves all connections
+pub completed : (tells : Bool) (files : List NamedFile) (before after : List (List ℕ)) (faults faults' : ℕ) (options : Options) (end : RunEnd) → Begins tells files before after faults faults' options end
+    → IsValid tells files options → (Rose faults faults' → ⊥) → (is_begun end ≡ true → end ≡ Served) → end ≢ NoMemory → end ≡ Served
+completed tells files before after faults faults' options end begins valid steady served other =
+    served (by-keys tells files before after faults faults' options.files options.name begins.keys end valid steady begins.given begins.ends other)

@@ -4,5 +4,4 @@ pub mod InTurn
 pub mod KeyNames
 pub mod NoKeys
 pub mod Numbers
-pub mod ServedLinks
 pub mod StatusLines

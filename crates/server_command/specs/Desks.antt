@@ -1,107 +1,145 @@
 -- What a desk did: it served the links of its port, in order.
-use Rattle.std.specs.Prelude.{◌≡◌, ◌≢◌, ◌⊎◌, ℕ, ◌+◌, ◌<◌, ◌≤◌, Bool, true, false, List, [], ◌∷◌}
-use Rattle.std.specs.Prelude.{◌++◌, IsTrue, vec_len, sum_by, slice_get, Some}
+use Rattle.std.specs.Prelude.{◌≡◌, ◌≢◌, ◌⊎◌, ℕ, ◌+◌, ◌*◌, ◌<◌, ◌≤◌, Bool, true, false, IsTrue}
+use Rattle.std.specs.Prelude.{List, [], ◌∷◌, ◌++◌, length, map, sum_by}
 use Rattle.std.specs.List.{AllByRecursion, flat_map}
 use Rattle.sec_base.specs.Answers.{Rose}
-use Rattle.sec_base.specs.Link.{Wire}
-use Rattle.sec_base.specs.declared.port.Port as port
-use Rattle.sec_base.specs.declared.link.Link as link
-use Rattle.sec_base.specs.declared.clock.Clock as clock
-use Rattle.sec_base.specs.declared.draw.Draw as draw
+use Rattle.sec_base.specs.declared.port.Port as ports
+use Rattle.sec_base.specs.declared.link.Link as links
+use Rattle.sec_base.specs.declared.clock.Clock as clocks
+use Rattle.sec_base.specs.declared.draw.Draw as draws
+use Rattle.accept_book.specs.RecordShown.{Asked}
+use Rattle.gss_server.specs.Asking.{Asking}
 use Rattle.gss_server.specs.Connections.{IsServed, StreamEnds}
-use Rattle.gss_server.specs.Kept.{moments_of, draws_of}
+use Rattle.gss_server.specs.Keeping.{Given}
+use Rattle.gss_server.specs.Steady.{Timed, Drawn}
+use Rattle.gss_server.specs.declared.answer.Kept.{Kept}
 use Rattle.gss_server.specs.declared.connection.ConnEnd.{ConnEnd}
-use Rattle.gss_server.specs.declared.connection.ConnEnd.TheVariants.{LinkFault, NoMemory}
+use Rattle.gss_server.specs.declared.connection.ConnEnd.TheVariants as conns
 use Rattle.gss_server.specs.declared.connection.Served.{Served}
+use Rattle.gss_server.specs.declared.keeper.Keeper as keepers
 use Rattle.server_command.specs.declared.desk.Desk.{Desk}
 use Rattle.server_command.specs.declared.desk.DeskEnd.{DeskEnd}
 use Rattle.server_command.specs.declared.desk.DeskEnd.TheVariants as ends
 use Rattle.server_command.specs.declared.ending.RunEnd.{RunEnd}
 use Rattle.server_command.specs.declared.ending.RunEnd.TheVariants as whole
 
--- a link was served to its end, as the connection's own contract says
-pub record ServedLink {L : Type 0} (width : ℕ) (tells : L → Bool) (wire : L → Wire) (faults : L → ℕ)
-    (link : L) (served : Served L) : Type 0 where
-  pub told : IsTrue (tells link)
-      → IsServed width (wire link) (wire served.link) served.kept.items served.end
-  pub always : IsTrue (tells link) → (expected : ConnEnd)
-      → StreamEnds (wire link) (wire served.link) expected → served.end ≢ LinkFault
-      → served.end ≢ NoMemory → served.end ≡ expected
-  pub fault : served.end ≡ LinkFault → Rose (faults link) (faults served.link)
+-- ---- one link
 
--- each of these links was served to its end, in order
-abbrev pub AllServed : {L : Type 0} → ℕ → (L → Bool) → (L → Wire) → (L → ℕ) → List L
-    → List (Served L) → Type 0
-AllServed width tells wire faults [] [] = Unit {0}
-AllServed width tells wire faults [] (one ∷ more) = ⊥
-AllServed width tells wire faults (link ∷ links) [] = ⊥
-AllServed width tells wire faults (link ∷ links) (one ∷ more) =
-    ServedLink width tells wire faults link one × AllServed width tells wire faults links more
+-- a link that was served, with the answers to its records
+pub record ServedOf (L : Type 0) : Type 0 where
+  pub served : Served L
+  pub answers : List Kept
 
--- the first links that were to come were served, in order, and the others are still to come
-pub record ServedInOrder {L : Type 0} (width : ℕ) (tells : L → Bool) (wire : L → Wire)
-    (faults : L → ℕ) (before after : List L) (served : List (Served L)) : Type 0 where
-  pub links : List L
-  pub split : before ≡ links ++ after
-  pub each : AllServed width tells wire faults links served
+-- a link was served to its end, from one state of the gate to another, as the connection's own
+-- contract says; the gate gave the answers, also where the link doesn't tell its octets
+pub record ServedLink {S L : Type 0} (Answers : S → Asked → S → Type 0) (width : ℕ)
+    (link : links.Ghosts L) (before : S) (old : L) (one : ServedOf L) (after : S) : Type 0 where
+  pub served : IsServed (link.tells old) (λ asked. Asking Answers before asked after) width
+      (link.wire old) (link.wire one.served.link) one.served.end one.answers
+  pub counted : one.served.records ≡ length one.answers
+  pub most : one.served.records ≤ 65536
+  pub always : IsTrue (link.tells old) → (expected : ConnEnd)
+      → StreamEnds (link.wire old) (link.wire one.served.link) expected
+      → one.served.end ≢ conns.LinkFault → one.served.end ≢ conns.NoMemory
+      → one.served.end ≡ expected
+  pub fault : one.served.end ≡ conns.LinkFault
+      → Rose (link.faults old) (link.faults one.served.link)
+  pub closed : link.closed one.served.link ≡ true
+
+-- links were served one after the other, each from the state of the gate that the one before left
+abbrev pub LinksServed : {S L : Type 0} → (S → Asked → S → Type 0) → ℕ → links.Ghosts L → S
+    → List L → List (ServedOf L) → S → Type 0
+LinksServed Answers width link before [] [] after = after ≡ before
+LinksServed Answers width link before [] (one ∷ more) after = ⊥
+LinksServed Answers width link before (old ∷ olds) [] after = ⊥
+LinksServed {S} Answers width link before (old ∷ olds) (one ∷ more) after =
+    (middle : S) × ServedLink Answers width link before old one middle
+    × LinksServed Answers width link middle olds more after
+
+-- the links as they were served, in order
+abbrev pub links_in : {L : Type 0} → List (ServedOf L) → List (Served L)
+links_in served = map (λ one. one.served) served
+
+-- the answers to the records of all connections, in order
+abbrev pub answers_in : {L : Type 0} → List (ServedOf L) → List Kept
+answers_in served = flat_map (λ one. one.answers) served
 
 -- no connection ended for want of memory
-abbrev pub NoneWanted : {L : Type 0} → List (Served L) → Type 0
-NoneWanted served = AllByRecursion (λ one. one.end ≢ NoMemory) served
+abbrev pub NoneWanted : {L : Type 0} → List (ServedOf L) → Type 0
+NoneWanted served = AllByRecursion (λ one. one.served.end ≢ conns.NoMemory) served
 
--- how many records the connections had
-abbrev pub records_of : {L : Type 0} → List (Served L) → ℕ
-records_of served = sum_by (λ one. vec_len one.kept) served
-
--- each connection had at most 65,536 records
-abbrev pub AllWithin : {L : Type 0} → List (Served L) → Type 0
-AllWithin served = AllByRecursion (λ one. vec_len one.kept ≤ 65536) served
-
--- the moments that the kept answers of connections hold, in order, and the octets that were drawn
--- for them
-abbrev pub moments_in : {L : Type 0} → List (Served L) → List ℕ
-moments_in served = flat_map (λ one. moments_of one.kept.items) served
-
--- the octets that were drawn for the kept answers of connections, in order
-abbrev pub draws_in : {L : Type 0} → List (Served L) → List ℕ
-draws_in served = flat_map (λ one. draws_of one.kept.items) served
+-- a connection ended for want of memory
+abbrev pub is_starved : ConnEnd → Bool
+is_starved conns.Ended = false
+is_starved conns.LinkFault = false
+is_starved conns.TooLong = false
+is_starved conns.TooManyFragments = false
+is_starved conns.Torn = false
+is_starved conns.Budget = false
+is_starved conns.NoMemory = true
 
 -- ---- one desk
 
--- it has served no link yet
-abbrev pub IsFresh : {P C D L : Type 0} → Desk P C D L → Type 0
-IsFresh desk = desk.served.items ≡ []
+-- it has served nothing yet
+pub record IsFresh {P C D K M : Type 0} (desk : Desk P C D K M) : Type 0 where
+  pub connections : desk.connections ≡ 0
+  pub records : desk.records ≡ 0
 
--- it served the first links of its port, in order, and at most so many; what its clock and its draw
--- gave meanwhile is what the kept answers of its connections hold
-pub record DeskServed {P C D L : Type 0} (width connections : ℕ) (port_tells : P → Bool)
-    (links : P → List L) (tells : L → Bool) (wire : L → Wire)
-    (faults : L → ℕ) (clock_tells : C → Bool) (clock_given : C → List ℕ) (draw_tells : D → Bool)
-    (draw_given : D → List ℕ) (old new : Desk P C D L) : Type 0 where
-  pub order : IsTrue (port_tells old.port)
-      → ServedInOrder width tells wire faults (links old.port) (links new.port) new.served.items
-  pub most : vec_len new.served ≤ connections
-  pub within : AllWithin new.served.items
-  pub moments : IsTrue (clock_tells new.clock)
-      → clock_given new.clock ≡ clock_given old.clock ++ moments_in new.served.items
-  pub draws : IsTrue (draw_tells new.draw)
-      → draw_given new.draw ≡ draw_given old.draw ++ draws_in new.served.items
+-- it served these links: its keepers were given the answers and the links, its clock and its draw
+-- gave what the answers hold and nothing else, and it counted them
+pub record DeskGave {P C D K M L Q R : Type 0} (clock : clocks.Ghosts C) (draw : draws.Ghosts D)
+    (keeper : keepers.Ghosts K Kept Q) (kept : keepers.Ghosts M (Served L) R)
+    (old new : Desk P C D K M) (served : List (ServedOf L)) : Type 0 where
+  pub answers : Given keeper old.keeper new.keeper (answers_in served)
+  pub links : Given kept old.links new.links (links_in served)
+  pub timed : Timed clock old.clock new.clock (answers_in served)
+  pub drawn : Drawn draw old.draw new.draw (answers_in served)
+  pub connections : new.connections ≡ old.connections + length served
+  pub records : new.records ≡ old.records + length (answers_in served)
 
--- it is done: all links of its port were served, or so many, and none ended for want of memory
-pub record DeskDone {P C D L : Type 0} (connections : ℕ) (port_tells : P → Bool)
-    (links : P → List L) (old new : Desk P C D L) : Type 0 where
-  pub all : IsTrue (port_tells old.port)
-      → (links new.port ≡ []) ⊎ (vec_len new.served ≡ connections)
-  pub none_wanted : NoneWanted new.served.items
+-- one more link was served, to this end
+pub record DeskAdds {S P C D K M L Q R : Type 0} (Answers : S → Asked → S → Type 0) (width : ℕ)
+    (link : links.Ghosts L) (clock : clocks.Ghosts C) (draw : draws.Ghosts D)
+    (keeper : keepers.Ghosts K Kept Q) (kept : keepers.Ghosts M (Served L) R) (before : S)
+    (old : Desk P C D K M) (one : L) (end : ConnEnd) (new : Desk P C D K M)
+    (after : S) : Type 0 where
+  pub served : ServedOf L
+  pub ended : served.served.end ≡ end
+  pub each : ServedLink Answers width link before one served after
+  pub gave : DeskGave clock draw keeper kept old new (served ∷ [])
 
--- its port failed
-abbrev pub DeskFailed : {P C D L : Type 0} → (P → ℕ) → Desk P C D L → Desk P C D L → Type 0
-DeskFailed faults old new = Rose (faults old.port) (faults new.port)
+-- the first links of its port were served, in order, and the others are still to come
+pub record DeskWent {S P C D K M L Q R : Type 0} (Answers : S → Asked → S → Type 0) (width : ℕ)
+    (port : ports.Ghosts P L) (link : links.Ghosts L) (clock : clocks.Ghosts C)
+    (draw : draws.Ghosts D) (keeper : keepers.Ghosts K Kept Q)
+    (kept : keepers.Ghosts M (Served L) R) (before : S) (old new : Desk P C D K M)
+    (after : S) : Type 0 where
+  pub links : List L
+  pub served : List (ServedOf L)
+  pub each : LinksServed Answers width link before links served after
+  pub split : IsTrue (port.tells old.port)
+      → port.links old.port ≡ links ++ port.links new.port
+  pub gave : DeskGave clock draw keeper kept old new served
+
+-- it served the first links of its port, at most so many. Where it is done, these are all of them
+-- or so many, and none ended for want of memory; where its port failed, the port's count of faults
+-- rose
+pub record DeskServed {S P C D K M L Q R : Type 0} (Answers : S → Asked → S → Type 0)
+    (width most : ℕ) (port : ports.Ghosts P L) (link : links.Ghosts L) (clock : clocks.Ghosts C)
+    (draw : draws.Ghosts D) (keeper : keepers.Ghosts K Kept Q)
+    (kept : keepers.Ghosts M (Served L) R) (before : S) (old : Desk P C D K M) (end : DeskEnd)
+    (new : Desk P C D K M) (after : S) : Type 0 where
+  pub went : DeskWent Answers width port link clock draw keeper kept before old new after
+  pub few : new.connections ≤ most
+  pub done : end ≡ ends.Done → IsTrue (port.tells old.port)
+      → (port.links new.port ≡ []) ⊎ (new.connections ≡ most)
+  pub none_wanted : end ≡ ends.Done → NoneWanted went.served
+  pub failed : end ≡ ends.PortFault → Rose (port.faults old.port) (port.faults new.port)
 
 -- so few connections and records that they can be counted
-pub record IsSmall {P C D L : Type 0} (desk : Desk P C D L) : Type 0 where
-  pub few : vec_len desk.served ≤ 1000000
-  pub within : AllWithin desk.served.items
+pub record IsSmall {P C D K M : Type 0} (desk : Desk P C D K M) : Type 0 where
+  pub few : desk.connections ≤ 1000000
+  pub within : desk.records ≤ 65536 * desk.connections
 
 -- ---- several desks, one after the other
 
@@ -127,41 +165,42 @@ joined whole.Served desk ends.Done = whole.Served
 joined whole.Served desk ends.PortFault = whole.PortFault desk
 joined whole.Served desk ends.NoMemory = whole.NoMemory
 
--- the desk, counted from 0, stands before the one that failed
-abbrev pub IsBefore : ℕ → RunEnd → Type 0
-IsBefore i (whole.PortFault desk) = i + 1 < desk
-IsBefore i whole.NoMemory = ⊥
-IsBefore i whole.Usage = ⊥
-IsBefore i (whole.CannotLoad file) = ⊥
-IsBefore i (whole.Bad file at) = ⊥
-IsBefore i whole.NoKey = ⊥
-IsBefore i whole.Served = Unit {0}
+-- the end of a run behind desks of these ends, of which the first has this number
+abbrev pub end_behind : RunEnd → ℕ → List DeskEnd → RunEnd
+end_behind before number [] = before
+end_behind before number (end ∷ ends) = end_behind (joined before number end) (number + 1) ends
 
--- what a desk came to in a run of this end: the desks before the one that failed are done
-pub record Ran {A : Type 0} (Base Done Failed : A → A → Type 0) (end : RunEnd) (i : ℕ)
-    (old new : A) : Type 0 where
-  pub base : Base old new
-  pub done : IsBefore i end → Done old new
-  pub failed : end ≡ whole.PortFault (i + 1) → Failed old new
+-- one after the other, each from the state that the one before left, to its end
+abbrev pub InTurn : {S A : Type 0} → (S → A → DeskEnd → A → S → Type 0) → S → List A
+    → List DeskEnd → List A → S → Type 0
+InTurn One before [] [] [] after = after ≡ before
+InTurn One before [] [] (new ∷ news) after = ⊥
+InTurn One before [] (end ∷ ends) news after = ⊥
+InTurn One before (old ∷ olds) [] news after = ⊥
+InTurn One before (old ∷ olds) (end ∷ ends) [] after = ⊥
+InTurn {S} One before (old ∷ olds) (end ∷ ends) (new ∷ news) after =
+    (middle : S) × One before old end new middle × InTurn One middle olds ends news after
 
--- each desk of a run of this end, before and after, with windows of this width and at most so many
--- connections
-abbrev pub DesksRan : {P C D L : Type 0} → ℕ → ℕ → port.Ghosts P L → link.Ghosts L → clock.Ghosts C
-    → draw.Ghosts D → RunEnd → List (Desk P C D L) → List (Desk P C D L) → Type 0
-DesksRan {P} {C} {D} {L} width connections ports links clocks draws end olds news =
-    (i : ℕ) (old new : Desk P C D L) → slice_get olds i ≡ Some old → slice_get news i ≡ Some new
-    → Ran (DeskServed width connections ports.tells ports.links
-    links.tells links.wire links.faults clocks.tells clocks.given draws.tells draws.given)
-    (DeskDone connections ports.tells ports.links) (DeskFailed ports.faults) end i old new
+-- the desks of a run served the links of their ports, one desk after the other, and the run's end
+-- is that of the first desk that failed; desks are counted from 1
+pub record DesksServed {S P C D K M L Q R : Type 0} (Answers : S → Asked → S → Type 0)
+    (width most : ℕ) (port : ports.Ghosts P L) (link : links.Ghosts L) (clock : clocks.Ghosts C)
+    (draw : draws.Ghosts D) (keeper : keepers.Ghosts K Kept Q)
+    (kept : keepers.Ghosts M (Served L) R) (before : S) (olds : List (Desk P C D K M))
+    (end : RunEnd) (news : List (Desk P C D K M)) (after : S) : Type 0 where
+  pub ends : List DeskEnd
+  pub each : InTurn (DeskServed Answers width most port link clock draw keeper kept) before olds
+      ends news after
+  pub ended : end ≡ end_behind whole.Served 1 ends
 
 -- a run that fails at a port's fault names a desk of so many, counted from 1
 abbrev pub NamesADesk : RunEnd → ℕ → Type 0
 NamesADesk end count = (desk : ℕ) → end ≡ whole.PortFault desk → (0 < desk) × (desk ≤ count)
 
--- how many connections, and how many records, the desks have
-abbrev pub all_connections : {P C D L : Type 0} → List (Desk P C D L) → ℕ
-all_connections desks = sum_by (λ desk. vec_len desk.served) desks
+-- how many connections the desks had
+abbrev pub all_connections : {P C D K M : Type 0} → List (Desk P C D K M) → ℕ
+all_connections desks = sum_by (λ desk. desk.connections) desks
 
 -- how many records the connections of all desks had
-abbrev pub all_records : {P C D L : Type 0} → List (Desk P C D L) → ℕ
-all_records desks = sum_by (λ desk. records_of desk.served.items) desks
+abbrev pub all_records : {P C D K M : Type 0} → List (Desk P C D K M) → ℕ
+all_records desks = sum_by (λ desk. desk.records) desks

@@ -82,7 +82,7 @@ pub record HasLimits (options : Options) (log : LogOf) : Type 0 where
 
 -- what a run's line counts: the connections and the records of its desks, and the entries of its
 -- log
-abbrev pub counts_of : {P C D L : Type 0} → List (Desk P C D L) → LogOf → Counts
+abbrev pub counts_of : {P C D K M : Type 0} → List (Desk P C D K M) → LogOf → Counts
 counts_of desks log = record {
   connections = all_connections desks;
   records =

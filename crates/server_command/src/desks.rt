@@ -1,16 +1,13 @@
 //! Several desks, one after the other.
 
-ghost use Rattle.std.specs.Prelude.{◌≡◌, ◌≢◌, ◌<◌, ◌≤◌, ◌*◌, ℕ, true, IsTrue, Some, length};
-ghost use Rattle.std.specs.Prelude.{slice_get};
+ghost use Rattle.std.specs.Prelude.{◌≡◌, ◌≢◌, true, length};
 ghost use Rattle.std.specs.List.{AllByRecursion};
-ghost use Rattle.server_command.specs.Through.{DesksAsked};
-ghost use Rattle.server_command.specs.Desks.{IsFresh, IsSmall, DesksRan, NamesADesk, joined};
-ghost use Rattle.server_command.specs.Desks.{is_begun, AllWithin, records_of, all_connections};
-ghost use Rattle.server_command.specs.Desks.{all_records};
+ghost use Rattle.server_command.specs.Desks.{IsFresh, IsSmall, DesksServed, NamesADesk, joined};
+ghost use Rattle.server_command.specs.Desks.{is_begun, all_connections, all_records};
 
 use crate::desk::{Desk, DeskEnd, serve_desk};
 use crate::ending::RunEnd;
-use gss_server::{Gate, Served};
+use gss_server::{Gate, Keeper, Kept, Served};
 use sec_base::{Clock, Draw, Port};
 use std::alloc::Global;
 
@@ -30,9 +27,16 @@ fn joined(before: RunEnd, desk: usize, end: DeskEnd) -> RunEnd
 
 /// Serves the desks, one after the other, each at most `connections` links with windows of this width. A desk that fails stops, and
 /// the next go on.
-pub(crate) fn serve_desks<P: Port, G: Gate, C: Clock, D: Draw>(
+pub(crate) fn serve_desks<
+    P: Port,
+    G: Gate,
+    C: Clock,
+    D: Draw,
+    K: Keeper<Kept>,
+    S: Keeper<Served<P::Link>>,
+>(
     alloc: Global,
-    desks: &mut [Desk<P, C, D>],
+    desks: &mut [Desk<P, C, D, K, S>],
     gate: &mut G,
     connections: u32,
     width: u32,
@@ -40,14 +44,12 @@ pub(crate) fn serve_desks<P: Port, G: Gate, C: Clock, D: Draw>(
 where
     P::Link: Drop,
     requires { AllByRecursion IsFresh desks.old }
-    ensures ran { DesksRan width connections P.Port P.Link.Link C.Clock D.Draw result desks.old
-        desks.new }
+    ensures served { DesksServed G.answers width connections P.Port P.Link.Link C.Clock D.Draw
+        K.Keeper S.Keeper gate.old desks.old result desks.new gate.new }
     ensures named { NamesADesk result (length desks.old) }
     ensures begun { result ≢ RunEnd.NoMemory → is_begun result ≡ true }
     ensures count { length desks.new ≡ length desks.old }
     ensures limits { G.limits gate.new ≡ G.limits gate.old }
-    ensures asked { DesksAsked G.answers width P.Port P.Link.Link gate.old desks.old desks.new
-        gate.new }
 {
     let mut end = RunEnd::Served;
     let mut number = 0;
@@ -59,40 +61,26 @@ where
     end
 }
 
-/// How many connections the desks have.
-pub(crate) fn count_connections<P: Port, C, D>(desks: &[Desk<P, C, D>]) -> u128
+/// How many connections the desks had.
+pub(crate) fn count_connections<P, C, D, K, S>(desks: &[Desk<P, C, D, K, S>]) -> u128
     requires { AllByRecursion IsSmall desks.now }
     ensures { result ≡ all_connections desks.now }
 {
     let mut connections = 0u128;
     for desk in desks {
-        connections += desk.served.len() as u128;
+        connections += desk.connections as u128;
     }
     connections
 }
 
-/// How many records the desks have.
-pub(crate) fn count_records<P: Port, C, D>(desks: &[Desk<P, C, D>]) -> u128
+/// How many records the desks had.
+pub(crate) fn count_records<P, C, D, K, S>(desks: &[Desk<P, C, D, K, S>]) -> u128
     requires { AllByRecursion IsSmall desks.now }
     ensures { result ≡ all_records desks.now }
 {
     let mut records = 0u128;
     for desk in desks {
-        records += count_kept(desk.served.as_slice()) as u128;
-    }
-    records
-}
-
-/// How many records the connections had.
-fn count_kept<L>(served: &[Served<L>]) -> u64
-    requires count { length served.now ≤ 1000000 }
-    requires within { AllWithin served.now }
-    ensures value { result ≡ records_of served.now }
-    ensures most { result ≤ 65536 * length served.now }
-{
-    let mut records = 0;
-    for connection in served {
-        records += connection.kept.len() as u64;
+        records += desk.records as u128;
     }
     records
 }

@@ -1,6 +1,6 @@
 //! The run of the server.
 
-ghost use Rattle.std.specs.Prelude.{◌≡◌, ◌≢◌, ◌⊎◌, ◌<◌, ◌≤◌, ◌++◌, ◌∷◌, ℕ, List, [], take, true};
+ghost use Rattle.std.specs.Prelude.{◌≡◌, ◌≢◌, ◌⊎◌, ◌<◌, ◌≤◌, ◌++◌, ◌∷◌, ℕ, List, [], true};
 ghost use Rattle.std.specs.Prelude.{false, IsTrue, IfOk, Some, Ok, Err, Option, length, vec_len};
 ghost use Rattle.std.specs.Prelude.{reverse, slice_get};
 ghost use Rattle.std.specs.List.{AllByRecursion};
@@ -10,11 +10,11 @@ ghost use Rattle.accept_book.specs.Legal.{Legal};
 ghost use Rattle.accept_book.specs.Booking.{BookOf};
 ghost use Rattle.gss_base.specs.declared.mech.MechKind.TheVariants as kinds;
 ghost use Rattle.gss_base.specs.Principal.{text_form};
-ghost use Rattle.server_command.specs.Desks.{IsFresh, IsSmall, DesksRan, NamesADesk, is_begun};
+ghost use Rattle.server_command.specs.Desks.{IsFresh, IsSmall, DesksServed, NamesADesk, is_begun};
 ghost use Rattle.server_command.specs.Lines.{status_of, line_of};
 ghost use Rattle.server_command.specs.Options.{options_of, IsRanged};
 ghost use Rattle.gss_server.specs.Asking.{BookAnswers};
-ghost use Rattle.server_command.specs.Through.{DesksAsked, IsOpened, IsLogOf, OneBook};
+ghost use Rattle.server_command.specs.Through.{IsOpened, IsLogOf, OneBook, NoBook};
 ghost use Rattle.server_command.specs.Runs.{files_of, names_of, name_of, counts_of, RunBegins};
 ghost use Rattle.server_command.specs.Runs.{HasLimits, HasValid, AsksAtMost, no_log};
 ghost use Rattle.server_command.specs.Keys.{KeysFrom};
@@ -26,6 +26,7 @@ use crate::keys::{Keys, keys_given};
 use crate::options::{Files, Options, WordsRefusal, read_options};
 use accept_book::{Book, Limits, Log};
 use gss_base::{MechKind, Principal};
+use gss_server::{Keeper, Kept, Served};
 use sec_base::{Clock, Draw, Items, Moment, NoMemory, Port, Shelf, Sink, Text};
 use spnego_core::AcceptSetup;
 use std::alloc::Global;
@@ -89,10 +90,10 @@ fn open_book(alloc: Global, options: Options, keys: Keys, start: Moment) -> Resu
 }
 
 /// Serves the desks with a book.
-fn run_book<P: Port, C: Clock, D: Draw>(
+fn run_book<P: Port, C: Clock, D: Draw, K: Keeper<Kept>, S: Keeper<Served<P::Link>>>(
     alloc: Global,
     book: Book,
-    desks: &mut Vec<Desk<P, C, D>>,
+    desks: &mut Vec<Desk<P, C, D, K, S>>,
     connections: u32,
     width: u32,
 ) -> Course
@@ -100,15 +101,14 @@ where
     P::Link: Drop,
     requires fresh { AllByRecursion IsFresh desks.old.items }
     requires connections { connections ≤ 1000000 }
-    ensures ran { DesksRan width connections P.Port P.Link.Link C.Clock D.Draw result.end
-        desks.old.items desks.new.items }
+    ensures served { (last : BookOf) × DesksServed BookAnswers width connections P.Port P.Link.Link
+        C.Clock D.Draw K.Keeper S.Keeper book desks.old.items result.end desks.new.items last
+        × IsLogOf last result.log }
     ensures count { vec_len desks.new ≡ vec_len desks.old }
     ensures named { NamesADesk result.end (vec_len desks.old) }
     ensures begun { result.end ≢ RunEnd.NoMemory → is_begun result.end ≡ true }
     ensures small { AllByRecursion IsSmall desks.new.items }
     ensures legal { Legal result.log.width (reverse result.log.entries) }
-    ensures asked { (last : BookOf) × DesksAsked BookAnswers width P.Port P.Link.Link book
-        desks.old.items desks.new.items last × IsLogOf last result.log }
     ensures width { result.log.width ≡ book.core.width }
     ensures limit { result.log.limit ≡ book.core.limit }
     ensures contexts { result.log.contexts ≡ book.core.table.limit }
@@ -123,27 +123,27 @@ where
 }
 
 /// Opens the book and serves the desks.
-fn run_desks<P: Port, C: Clock, D: Draw>(
+fn run_desks<P: Port, C: Clock, D: Draw, K: Keeper<Kept>, S: Keeper<Served<P::Link>>>(
     alloc: Global,
     options: Options,
     keys: Keys,
-    desks: &mut Vec<Desk<P, C, D>>,
+    desks: &mut Vec<Desk<P, C, D, K, S>>,
     start: Moment,
 ) -> Course
 where
     P::Link: Drop,
     requires fresh { AllByRecursion IsFresh desks.old.items }
     requires ranged { IsRanged options }
-    ensures ran { DesksRan options.window options.connections P.Port P.Link.Link C.Clock D.Draw
-        result.end desks.old.items desks.new.items }
     ensures count { vec_len desks.new ≡ vec_len desks.old }
     ensures named { NamesADesk result.end (vec_len desks.old) }
     ensures begun { result.end ≢ RunEnd.NoMemory → is_begun result.end ≡ true }
     ensures small { AllByRecursion IsSmall desks.new.items }
     ensures legal { Legal result.log.width (reverse result.log.entries) }
     ensures limits { is_begun result.end ≡ true → HasLimits options result.log }
-    ensures booked { ((result.end ≡ RunEnd.NoMemory) × (desks.new.items ≡ desks.old.items))
-        ⊎ OneBook options keys start P.Port P.Link.Link desks.old.items desks.new.items result.log }
+    ensures booked { ((result.end ≡ RunEnd.NoMemory)
+        × NoBook desks.old.items desks.new.items result.log)
+        ⊎ OneBook options keys start P.Port P.Link.Link C.Clock D.Draw K.Keeper S.Keeper
+        desks.old.items result.end desks.new.items result.log }
 {
     let connections = options.connections;
     let width = options.window;
@@ -157,9 +157,9 @@ where
 }
 
 /// Says how a run ended that had its keys.
-fn finish<P: Port, C, D, O: Sink>(
+fn finish<P, C, D, K, S, O: Sink>(
     alloc: Global,
-    desks: &[Desk<P, C, D>],
+    desks: &[Desk<P, C, D, K, S>],
     course: Course,
     err: &mut O,
 ) -> ServerEnd
@@ -231,11 +231,19 @@ fn refused<O: Sink>(alloc: Global, end: RunEnd, err: &mut O) -> ServerEnd
 }
 
 /// Runs the server with these options.
-fn run_with<F: Shelf, P: Port, C: Clock, D: Draw, O: Sink>(
+fn run_with<
+    F: Shelf,
+    P: Port,
+    C: Clock,
+    D: Draw,
+    K: Keeper<Kept>,
+    S: Keeper<Served<P::Link>>,
+    O: Sink,
+>(
     alloc: Global,
     options: Options,
     shelf: &mut F,
-    desks: &mut Vec<Desk<P, C, D>>,
+    desks: &mut Vec<Desk<P, C, D, K, S>>,
     start: Moment,
     err: &mut O,
 ) -> ServerEnd
@@ -244,8 +252,6 @@ where
     requires fresh { AllByRecursion IsFresh desks.old.items }
     requires ranged { IsRanged options }
     ensures begins { RunBegins F.Shelf shelf.old shelf.new options result.end }
-    ensures ran { DesksRan options.window options.connections P.Port P.Link.Link C.Clock D.Draw
-        result.end desks.old.items desks.new.items }
     ensures legal { Legal result.log.width (reverse result.log.entries) }
     ensures limits { is_begun result.end ≡ true → HasLimits options result.log }
     ensures status { result.status ≢ 6 → result.status ≢ 8 → result.status ≡ status_of result.end }
@@ -259,10 +265,11 @@ where
     ensures idle { is_begun result.end ≡ false → result.end ≢ RunEnd.NoMemory
         → desks.new.items ≡ desks.old.items }
     ensures named_files { AsksAtMost F.Shelf shelf.old shelf.new (names_of options.files) }
-    ensures booked { ((is_begun result.end ≡ false) × (desks.new.items ≡ desks.old.items))
+    ensures booked { ((is_begun result.end ≡ false)
+        × NoBook desks.old.items desks.new.items result.log)
         ⊎ ((keys : Keys) × KeysFrom F.Shelf shelf.old shelf.new options.files options.name (Ok keys)
-        × OneBook options keys start P.Port P.Link.Link desks.old.items desks.new.items
-        result.log) }
+        × OneBook options keys start P.Port P.Link.Link C.Clock D.Draw K.Keeper S.Keeper
+        desks.old.items result.end desks.new.items result.log) }
 {
     match keys_given(alloc, shelf, &options.files, &options.name) {
         Ok(keys) => {
@@ -275,11 +282,19 @@ where
 
 /// Runs the server over its desks, one after the other, and says on `err` how it ended. The words are
 /// `ADDRESS [--keytab FILE --verifiers FILE --name PRINCIPAL] [--bind TEXT] [--window N] [--connections N] [--contexts N] [--marks N] [--log N]`.
-pub fn run_server<F: Shelf, P: Port, C: Clock, D: Draw, O: Sink>(
+pub fn run_server<
+    F: Shelf,
+    P: Port,
+    C: Clock,
+    D: Draw,
+    K: Keeper<Kept>,
+    S: Keeper<Served<P::Link>>,
+    O: Sink,
+>(
     alloc: Global,
     words: &[Text],
     shelf: &mut F,
-    desks: &mut Vec<Desk<P, C, D>>,
+    desks: &mut Vec<Desk<P, C, D, K, S>>,
     start: Moment,
     out: &mut O,
     err: &mut O,
@@ -299,7 +314,7 @@ where
     ensures always_usage { options_of words.now ≡ Err WordsRefusal.Usage
         → result.end ≢ RunEnd.NoMemory → result.end ≡ RunEnd.Usage }
     ensures unasked { (refusal : WordsRefusal) → options_of words.now ≡ Err refusal
-        → desks.new.items ≡ desks.old.items }
+        → NoBook desks.old.items desks.new.items result.log }
     // Where no desk was served, the desks stay as they were; and at most the files that the words name are asked for, each once.
     ensures idle { is_begun result.end ≡ false → result.end ≢ RunEnd.NoMemory
         → desks.new.items ≡ desks.old.items }
@@ -309,10 +324,6 @@ where
     // Words in the command: the run ends by what keytab and verifiers come to.
     ensures begins { (options : Options) → options_of words.now ≡ Ok options
         → result.end ≢ RunEnd.NoMemory → RunBegins F.Shelf shelf.old shelf.new options result.end }
-    // Each desk served the first links of its port, in order; where it is done, all of them or as many as the words say.
-    ensures ran { (options : Options) → options_of words.now ≡ Ok options
-        → DesksRan options.window options.connections P.Port P.Link.Link C.Clock D.Draw result.end
-        desks.old.items desks.new.items }
     // There are as many desks as there were, and the line of a failed port names one of them.
     ensures count { vec_len desks.new ≡ vec_len desks.old }
     ensures named { NamesADesk result.end (vec_len desks.old) }
@@ -327,11 +338,14 @@ where
     ensures limits { (options : Options) → options_of words.now ≡ Ok options
         → is_begun result.end ≡ true → HasLimits options result.log }
     // One book, of the setup that words, keytab and verifiers give, gave all answers to the desks, in their order, from its opening to the log that
-    // is returned; or no desk was served.
+    // is returned. Each desk served the first links of its port, in order; where it is done, all of them or as many as the words say. Or no book
+    // was opened: then the desks are as they were, and the log is empty and has no limits.
     ensures booked { (options : Options) → options_of words.now ≡ Ok options
-        → ((is_begun result.end ≡ false) × (desks.new.items ≡ desks.old.items)) ⊎ ((keys : Keys)
-        × KeysFrom F.Shelf shelf.old shelf.new options.files options.name (Ok keys) × OneBook
-        options keys start P.Port P.Link.Link desks.old.items desks.new.items result.log) }
+        → ((is_begun result.end ≡ false) × NoBook desks.old.items desks.new.items result.log)
+        ⊎ ((keys : Keys)
+        × KeysFrom F.Shelf shelf.old shelf.new options.files options.name (Ok keys)
+        × OneBook options keys start P.Port P.Link.Link C.Clock D.Draw K.Keeper S.Keeper
+        desks.old.items result.end desks.new.items result.log) }
 {
     match read_options(alloc, words) {
         Ok(options) => run_with(alloc, options, shelf, desks, start, err),

@@ -1,25 +1,21 @@
-use Rattle.std.proofs.Common.{◌∙◌, ◌++◌, ap, ◌∷◌, [], List}
-use Rattle.gss_server.specs.declared.answer.Kept.{Kept}
-use Rattle.gss_server.specs.Connections.{ruling_for}
-use Rattle.gss_server.proofs.Replying.{replied}
+use Rattle.std.proofs.Common.{ap, arith, length}
+use Rattle.gss_server.proofs.KeptInARow.{makes-none, makes-so, makes-after}
+use Rattle.gss_server.proofs.Replying.{replied-whole, replied-so, no-room}
+use Rattle.gss_server.proofs.Turning.{asked-none}
 use Rattle.gss_server.proofs.connection.reply_to_record.Goals as goal
 
-pub returns-in-Ok-clause-told : goal.returns-in-Ok-clause-told
-returns-in-Ok-clause-told g c = λ t.
-    let r = c.answer-reply.ensures.reply in
-    let ruling = ruling_for c.args.width c.args.octets.now r.0 in (
-      r.0,
-      record {
-        kept = ◌∙◌ {A = List Kept} r.1 (ap (λ (ks : List Kept). ks ++ r.0 ∷ []) c.reserve.ensures.items);
-        put = c.in-Ok.ensures.told t ruling r.2;
-        answered = c.in-Ok.ensures.ruled ruling r.2;
-        asked = r.3;
-      },
-    )
+pub returns-in-Ok-clause-replied : goal.returns-in-Ok-clause-replied
+returns-in-Ok-clause-replied g c =
+    makes-after c.make_room.ensures.same
+    (makes-so c.answer-reply.ensures.answered
+    (λ xs p. (omega (arith, ap length p.only), replied-whole c.answer-reply.result p c.in-Ok.ensures.told c.in-Ok.ensures.ruled)))
 
-pub returns-clause-told : goal.returns-clause-told
-returns-clause-told g c = λ t.
-    let r = c.answer-reply.ensures.reply in
-    let ruling = ruling_for c.args.width c.args.octets.now r.0 in
-    replied _ c.args.width _ _ _ _ c.args.octets.now c.in-Err.end r.0 (◌∙◌ {A = List Kept} r.1 (ap (λ (ks : List Kept). ks ++ r.0 ∷ []) c.reserve.ensures.items))
-    (c.in-Err.ensures.told t ruling r.2) (c.in-Err.ensures.ruled ruling r.2) r.3
+pub returns-clause-replied : goal.returns-clause-replied
+returns-clause-replied g c =
+    makes-after c.make_room.ensures.same
+    (makes-so c.answer-reply.ensures.answered
+    (λ xs p. (omega (arith, ap length p.only), replied-so _ _ c.answer-reply.result c.in-Err.end p c.in-Err.ensures.told c.in-Err.ensures.ruled)))
+
+pub returns-then-is_err-clause-replied : goal.returns-then-is_err-clause-replied
+returns-then-is_err-clause-replied g c =
+    makes-none c.make_room.ensures.same (omega arith, no-room (g.L.Link.wire c.args.link.now) (asked-none _ _ _ _ 2 _))

@@ -1,14 +1,16 @@
-use Rattle.std.proofs.Common.{◌≡◌, ◌∙◌, IsTrue}
+use Rattle.std.proofs.Common.{◌≡◌, ◌∙◌, refl, ap, inl, Err, arith}
 use Rattle.rpc_msgs.specs.Records.{octets_in}
-use Rattle.gss_server.proofs.Turning.{asked-none, turned, unread}
+use Rattle.gss_server.proofs.KeptInARow.{makes-none, makes-so}
+use Rattle.gss_server.proofs.Turning.{asked-none, read-as, turned, unread}
 use Rattle.gss_server.proofs.connection.turn.Goals as goal
 
-pub returns-in-Ok-clause-told : goal.returns-in-Ok-clause-told
-returns-in-Ok-clause-told g c = λ t.
-    let tells : IsTrue (g.L.Link.tells c.receive.new.link) = rw c.in-Ok.ensures.link_kept.tells t in
-    let read = c.in-Ok.ensures.told t in
-    let octets : c.as_slice.result.now ≡ octets_in read.0 = c.as_slice.ensures ∙ read.2 in
-    turned _ c.args.width _ _ _ read.0 c.reply_to_record.result read.1 read.3 (rw octets at c.reply_to_record.ensures.told tells)
+pub returns-in-Ok-clause-turned : goal.returns-in-Ok-clause-turned
+returns-in-Ok-clause-turned g c =
+    let read = read-as (g.L.Link.tells c.args.link.now) c.in-Ok.octets c.in-Ok.ensures.told in
+    let octets : c.as_slice.result.now ≡ octets_in read.0 = c.as_slice.ensures ∙ read.1 in
+    makes-so c.reply_to_record.ensures.replied
+    (λ xs p. (p.0, turned _ _ c.args.width _ xs read.0 c.reply_to_record.result read.2 (rw (c.in-Ok.ensures.link_kept.tells, octets) at p.1)))
 
-pub returns-in-Err-clause-told : goal.returns-in-Err-clause-told
-returns-in-Err-clause-told g c = λ t. unread _ c.args.width _ _ _ c.in-Err.end (asked-none _ _ _ _ 2 _) (c.in-Err.ensures.told t)
+pub returns-in-Err-clause-turned : goal.returns-in-Err-clause-turned
+returns-in-Err-clause-turned g c =
+    makes-none refl (omega arith, inl (unread c.in-Err.end (asked-none _ _ _ _ 2 _) (λ e. c.in-Err.ensures.early (ap Err e)) c.in-Err.ensures.told))
