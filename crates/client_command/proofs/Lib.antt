@@ -3,3 +3,4 @@ pub mod Ended
 pub mod Password
 pub mod Saying
 pub mod Spoken
+pub mod Arguments

@@ -1,22 +1,40 @@
 -- A session that was held is the talk of its plan.
-use Rattle.std.proofs.Common.{◌≡◌, ◌≢◌, ◌⊎◌, inl, inr, ℕ, Bool, IsTrue, List, [], ◌∷◌, ◌++◌, append_assoc, length, Option, None, refl, sym, ap, ◌∙◌}
+use Rattle.std.proofs.Common.{◌≡◌, ◌≢◌, ◌⊎◌, inl, inr, ℕ, Bool, true, false, IsTrue, List, [], ◌∷◌, ◌++◌, append_assoc, length, Option, None, refl, sym, ap, ◌∙◌}
 use Rattle.std.proofs.lemmas.List.{append-nil}
 use Rattle.sec_base.specs.Link.{Wire}
 use Rattle.spnego_core.specs.declared.setup.MechCred.{MechCred}
 use Rattle.spnego_core.specs.declared.outcome.Outcome.{Outcome}
 use Rattle.gss_client.specs.Conversing.{Talked, IsTalkFront}
 use Rattle.gss_client.specs.declared.conversation.Parting.{Parting}
-use Rattle.client_command.specs.Endings.{end_of}
+use Rattle.gss_client.specs.declared.conversation.Parting.TheVariants as partings
+use Rattle.gss_client.specs.declared.refusal.ClientRefusal.{ClientRefusal}
+use Rattle.gss_client.specs.declared.refusal.ClientRefusal.TheVariants as refusals
+use Rattle.client_command.specs.Endings.{end_of, end_of_refusal, is_parted}
 use Rattle.client_command.specs.Runs.{start_of, planned, IsWhole, Drew, Spoke, EndsSo, Reports}
 use Rattle.client_command.specs.declared.ending.RunEnd.{RunEnd}
 use Rattle.client_command.specs.declared.ending.RunEnd.TheVariants.{LinkFault, NoMemory}
 use Rattle.client_command.specs.declared.words.Plan.{Plan}
 
+not-parted : (refusal : ClientRefusal) → is_parted (end_of_refusal refusal) ≡ true → ⊥
+not-parted refusals.LinkFault e = cc
+not-parted refusals.PeerEnded e = cc
+not-parted (refusals.Refused denial) e = cc
+not-parted (refusals.Negotiation refusal) e = cc
+not-parted (refusals.BadReply why) e = cc
+not-parted refusals.NoMemory e = cc
+
+-- a run whose end is parted wasn't refused
+unrefused : (parting : Parting) → is_parted (end_of parting) ≡ true → (refusal : ClientRefusal) → parting ≢ partings.Refused refusal
+unrefused partings.Finished parted refusal e = cc
+unrefused partings.Spent parted refusal e = cc
+unrefused partings.Foreign parted refusal e = cc
+unrefused (partings.Refused other) parted refusal e = not-parted other parted
+
 pub held : {clock draw : Bool} {moments moments' given mid given' : List ℕ} (plan : Plan) (creds : List MechCred) (stamp : ℕ) (draws : List ℕ) {old new : Wire} {outcome : Option Outcome} {results : List (List ℕ)} {parting : Parting}
     → (IsTrue clock → moments' ≡ moments ++ stamp ∷ []) → length draws ≡ 66 → (IsTrue draw → mid ≡ given ++ draws)
     → Talked draw mid given' (start_of plan creds stamp draws) plan.times plan.procedure plan.args old new outcome results parting
     → Spoke clock moments moments' draw given given' plan creds old new outcome results (end_of parting)
-held {clock} {draw} {moments} {moments'} {given} {mid} {given'} plan creds stamp draws moment size octets t = record {
+held {clock} {draw} {moments} {moments'} {given} {mid} {given'} plan creds stamp draws {parting = parting} moment size octets t = record {
   stamp = stamp;
   draws = draws;
   confounders = t.drawn;
@@ -31,7 +49,8 @@ held {clock} {draw} {moments} {moments'} {given} {mid} {given'} plan creds stamp
   front = t.front;
   whole = λ link memory later.
       let w = t.whole (λ e. link (ap end_of e)) (λ e. memory (ap end_of e)) later in
-      record { written = w.written; outcome_is = w.outcome_is; results_are = w.results_are; ends = ap end_of (sym w.parts) };
+      record { written = w.written; outcome_is = w.outcome_is; results_are = w.results_are; ends = ap end_of (sym w.parts); undrawn_is = w.undrawn_is };
+  heard = λ parted later. t.heard (unrefused parting parted) later;
 }
 
 -- what is returned of it
@@ -49,6 +68,7 @@ returned {clock} {draw} {moments} {moments'} {given} {given'} {plan} {creds} {ol
   went = s.went;
   front = λ later. record { written = (s.front later).written; outcome_is = inl refl; results_are = ((planned plan creds s.stamp s.draws (s.confounders ++ later) (s.took ++ new.coming)).results, refl) };
   whole = λ link memory later. absurd (memory refl);
+  heard = λ parted later. let bad : false ≡ true = parted in cc;
 })))
 
 -- a run that held its session ends as the talk does

@@ -54,6 +54,23 @@ is_begun Foreign = true
 is_begun Spent = true
 is_begun Finished = true
 
+-- the ends of a session whose context was destroyed, or whose result was none of the procedure's:
+-- nothing was refused
+abbrev pub is_parted : RunEnd → Bool
+is_parted Usage = false
+is_parted (CannotLoad file) = false
+is_parted (Bad file at) = false
+is_parted NoCredential = false
+is_parted NoMemory = false
+is_parted LinkFault = false
+is_parted PeerEnded = false
+is_parted (Refused denial) = false
+is_parted (Negotiation refusal) = false
+is_parted (BadReply why) = false
+is_parted Foreign = true
+is_parted Spent = true
+is_parted Finished = true
+
 -- ---- statuses
 
 -- the exit status of a run that ends so, 0 if all calls were answered

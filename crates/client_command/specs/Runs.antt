@@ -1,6 +1,6 @@
 -- The run of the client.
-use Rattle.std.specs.Prelude.{◌≡◌, ◌≢◌, ◌⊎◌, ℕ, Bool, IsTrue, List, [], ◌∷◌, ◌++◌, length, Option}
-use Rattle.std.specs.Prelude.{Some, None, Result, Ok, Err}
+use Rattle.std.specs.Prelude.{◌≡◌, ◌≢◌, ◌⊎◌, ℕ, Bool, true, IsTrue, List, [], ◌∷◌, ◌++◌, length}
+use Rattle.std.specs.Prelude.{Option, Some, None, Result, Ok, Err}
 use Rattle.sec_base.specs.Link.{Wire}
 use Rattle.sec_base.specs.declared.shelf.NamedFile.{NamedFile}
 use Rattle.gss_base.specs.Principal.{text_form}
@@ -15,8 +15,8 @@ use Rattle.gss_client.specs.declared.procedure.Procedure.{Procedure}
 use Rattle.gss_client.specs.declared.procedure.Procedure.TheVariants.{Null}
 use Rattle.gss_client.specs.declared.start.Start.{Start}
 use Rattle.client_command.specs.Credentials.{creds_from}
-use Rattle.client_command.specs.Endings.{Named, end_of}
-use Rattle.client_command.specs.Words.{words_of}
+use Rattle.client_command.specs.Endings.{Named, end_of, is_parted}
+use Rattle.client_command.specs.Words.{words_of, IsRanged}
 use Rattle.client_command.specs.declared.ending.RunEnd.{RunEnd}
 use Rattle.client_command.specs.declared.ending.RunEnd.TheVariants.{LinkFault, NoMemory}
 use Rattle.client_command.specs.declared.words.ClientWords.{ClientWords}
@@ -72,13 +72,15 @@ abbrev pub planned : Plan → List MechCred → ℕ → List ℕ → List ℕ �
 planned plan creds stamp draws confounders stream =
     talk (start_of plan creds stamp draws) plan.times plan.procedure plan.args confounders stream
 
--- this is what a talk wrote, agreed on and was answered, and the run ends as it did
+-- this is what a talk wrote, agreed on and was answered, the run ends as it did, and these of the
+-- random octets weren't drawn
 pub record IsWhole (wrote : List ℕ) (outcome : Option Outcome) (results : List (List ℕ))
-    (end : RunEnd) (t : Talk) : Type 0 where
+    (end : RunEnd) (undrawn : List ℕ) (t : Talk) : Type 0 where
   pub written : t.written ≡ wrote
   pub outcome_is : t.outcome ≡ outcome
   pub results_are : t.results ≡ results
   pub ends : end ≡ end_of t.parting
+  pub undrawn_is : t.undrawn ≡ undrawn
 
 -- what the clock and the source of random octets gave: one moment, 66 octets, and the calls'
 -- confounders
@@ -89,8 +91,10 @@ pub record Drew (clock : Bool) (moments moments' : List ℕ) (draw : Bool) (give
   pub octets : IsTrue draw → given' ≡ given ++ (draws ++ confounders)
 
 -- the run held the session of its plan over a link that tells its octets: what it wrote, agreed on
--- and was answered is its talk's, and it ends as the talk does; after a fault of the link or want
--- of memory these are fronts of the talk's
+-- and was answered is its talk's, it ends as the talk does, and it drew what the talk draws: 16
+-- octets for each call, whatever the service, and no more. After a fault of the link or want of
+-- memory what it wrote and was answered are fronts of the talk's. Once the context was destroyed,
+-- it took no octet more than it heard.
 pub record Spoke (clock : Bool) (moments moments' : List ℕ) (draw : Bool) (given given' : List ℕ)
     (plan : Plan) (creds : List MechCred) (old new : Wire) (outcome : Option Outcome)
     (results : List (List ℕ)) (end : RunEnd) : Type 0 where
@@ -104,7 +108,10 @@ pub record Spoke (clock : Bool) (moments moments' : List ℕ) (draw : Bool) (giv
   pub front : (later : List ℕ) → IsTalkFront wrote outcome results
       (planned plan creds stamp draws (confounders ++ later) (took ++ new.coming))
   pub whole : end ≢ LinkFault → end ≢ NoMemory → (later : List ℕ) → IsWhole wrote outcome results
-      end (planned plan creds stamp draws (confounders ++ later) (took ++ new.coming))
+      end later (planned plan creds stamp draws (confounders ++ later) (took ++ new.coming))
+  pub heard : is_parted end ≡ true → (later : List ℕ)
+      → (planned plan creds stamp draws (confounders ++ later) (took ++ new.coming)).rest
+      ≡ new.coming
 
 -- the talk of the plan by what the devices gave ends so
 abbrev pub EndsSo : Bool → List ℕ → List ℕ → Bool → List ℕ → List ℕ → Plan → List MechCred → Wire
@@ -115,13 +122,14 @@ EndsSo clock moments moments' draw given given' plan creds old new parting =
     → new.taken ≡ old.taken ++ took
     → (planned plan creds stamp draws confounders (took ++ new.coming)).parting ≡ parting
 
--- the credentials are those of the files that the words name, where the shelf tells them, and the
--- session was held
+-- the credentials are those of the files that the words name, where the shelf tells them, the plan
+-- is within its limits, and the session was held
 pub record HasHeld (asked : ClientWords) (shelf : Bool) (files : List NamedFile) (clock : Bool)
     (moments moments' : List ℕ) (draw : Bool) (given given' : List ℕ) (old new : Wire)
     (outcome : Option Outcome) (results : List (List ℕ)) (end : RunEnd) : Type 0 where
   pub creds : List MechCred
   pub found : IsTrue shelf → creds_from files asked.sources ≡ Ok creds
+  pub ranged : IsRanged asked.plan
   pub spoke : Spoke clock moments moments' draw given given' asked.plan creds old new outcome
       results end
 

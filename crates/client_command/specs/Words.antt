@@ -1,8 +1,8 @@
 -- The words of the client, `ADDRESS COMMAND [ARG] [options]`: which are in its command, and what
 -- they ask for.
-use Rattle.std.specs.Prelude.{ℕ, ◌≤◌, Bool, true, false, ◌&&◌, ◌||◌, not, nat_eq, nat_lt, List, []}
-use Rattle.std.specs.Prelude.{◌∷◌, length, slice_get, codes, Option, Some, None, is_some, Result}
-use Rattle.std.specs.Prelude.{Ok, Err, if◌then◌else◌}
+use Rattle.std.specs.Prelude.{◌≡◌, ℕ, ◌<◌, ◌≤◌, Bool, true, false, ◌&&◌, ◌||◌, not, nat_eq, nat_lt}
+use Rattle.std.specs.Prelude.{List, [], ◌∷◌, length, slice_get, slice_index, codes, Option, Some}
+use Rattle.std.specs.Prelude.{None, is_some, Result, Ok, Err, if◌then◌else◌}
 use lib.Pointwise.{pointwise}
 use Rattle.gss_base.specs.Name.{Name}
 use Rattle.gss_base.specs.Signs.{parsed}
@@ -222,9 +222,28 @@ words_of words = do
   plan ← plan_of words
   Ok (record { sources = sources; plan = plan })
 
+-- octets in XDR, at most 65,536 of them
+pub record IsData (args : List ℕ) : Type 0 where
+  pub octets : List ℕ
+  pub few : length octets ≤ 65536
+  pub spelled : args ≡ opaque octets
+
+-- a procedure's argument: octets for ECHO and POST, nothing for the others
+abbrev pub IsArgument : Procedure → List ℕ → Type 0
+IsArgument Null args = args ≡ []
+IsArgument Echo args = IsData args
+IsArgument Whoami args = args ≡ []
+IsArgument Post args = IsData args
+IsArgument Count args = args ≡ []
+
+-- each number is an octet
+abbrev pub AreOctets : List ℕ → Type 0
+AreOctets octets = (i : ℕ) → slice_index octets i < 256
+
 -- the limits of what words ask for
 pub record IsRanged (plan : Plan) : Type 0 where
   pub args : length plan.args ≤ 65540
+  pub octets : AreOctets plan.args
   pub some : 1 ≤ plan.times
   pub times : plan.times ≤ 1000
   pub least : 1 ≤ plan.first

@@ -12,7 +12,7 @@ ghost use Rattle.client_command.specs.Words.{data_by, asked_by, asked_in, number
 ghost use Rattle.client_command.specs.Words.{name_by, server_given, mechs_by, are_equipped};
 ghost use Rattle.client_command.specs.Words.{equipped, usual, mechs_given, is_given, has_krb5};
 ghost use Rattle.client_command.specs.Words.{has_scram, sources_of, service_by, service_given};
-ghost use Rattle.client_command.specs.Words.{plan_of, words_of, IsRanged};
+ghost use Rattle.client_command.specs.Words.{plan_of, words_of, AreOctets, IsRanged};
 
 use cli_base::{are_words, count_plain, first_word, number_in, plain, value_of};
 use gss_base::{Bindings, NameRefusal, Principal};
@@ -435,6 +435,13 @@ fn service_given(words: &[Text]) -> Result<Service, WordsRefusal>
     }
 }
 
+/// Does nothing: these are octets.
+fn tell_octets(octets: &[u8])
+    ensures { AreOctets octets.now }
+{
+    let _count = octets.len();
+}
+
 /// What is called and how, by the command and its options.
 #[tactic(auto, unfolding(crate::specs::Words::plan_of))]
 fn plan_of(alloc: Global, words: &[Text]) -> Result<Plan, WordsRefusal>
@@ -442,6 +449,7 @@ fn plan_of(alloc: Global, words: &[Text]) -> Result<Plan, WordsRefusal>
     ensures range { IfOk result IsRanged }
 {
     let asked = asked_in(alloc, words)?;
+    tell_octets(asked.args.as_slice());
     let bindings = bindings_given(alloc, words)?;
     let service = service_given(words)?;
     let times = number_given(words, "--times", 1, 1000, 1)?;

@@ -1,5 +1,5 @@
 -- An honest call is answered, and its result taken.
-use Rattle.std.proofs.Common.{◌≡◌, inl, inr, ℕ, ◌+◌, ◌*◌, ◌≤◌, ◌<◌, ◌^◌, lit<, lit≤, true, refl, ap, sym, ◌∙◌, arith, List, ◌++◌, length, take, drop, Option, Some, Ok}
+use Rattle.std.proofs.Common.{◌≡◌, inl, inr, ℕ, ◌+◌, ◌*◌, ◌≤◌, ◌<◌, ◌^◌, lit<, lit≤, true, refl, ap, sym, subst, ◌∙◌, arith, List, ◌++◌, length, take, drop, Option, Some, Ok, append-nil}
 use Rattle.std.specs.Prelude.{◌==◌}
 use Rattle.std.proofs.lemmas.Bool.{eqb-true}
 use Rattle.std.proofs.lemmas.Bool.Decides.{nat_tests}
@@ -41,6 +41,7 @@ use Rattle.gss_client.specs.Calling.{number_of, own_end, header_of, verifier_of,
 use Rattle.gss_client.specs.Judging.{answer_in, verified_in, numbered, checked_result, sealed_result, body_result, call_result, result_taken}
 use Rattle.gss_client.specs.Session.{SessionState, session_after}
 use Rattle.gss_client.specs.Talk.{calls}
+use Rattle.gss_client.specs.Talking.{said}
 use Rattle.gss_client.proofs.CallLengths.{cred-fits, length-wrap_of}
 use Rattle.gss_server.specs.Connections.{framed}
 use Rattle.gss_server.proofs.BodyLengths.{sealed-fits, checked-fits, result-fits}
@@ -52,7 +53,7 @@ use Rattle.pair_laws.proofs.Ruling.{few-services}
 
 -- ---- the call
 
-long-databody : (n : ℕ) (args : List ℕ) → length args ≤ 65540 → length (word n ++ args) ≤ 65544
+pub long-databody : (n : ℕ) (args : List ℕ) → length args ≤ 65540 → length (word n ++ args) ≤ 65544
 long-databody n args few = omega (arith, length-append (word n) args, length-word n)
 
 carries : (s : SessionState) (args confounder : List ℕ) (service : Service) → s.number ≤ 0x7fffffff → length args ≤ 65540 → length confounder ≡ 16 → IsOctets (confounder ++ (word s.number ++ args)) → Carries (own_end s) (number_of service) s.number args (body_of s args confounder service)
@@ -71,7 +72,7 @@ carries s args confounder services.Privacy few size block octets =
       },
     ))
 
-is-made : (s : SessionState) (procedure : ℕ) (args confounder : List ℕ) → data_call s procedure args confounder ≡ made_call (own_end s) (2 * s.number) s.xid procedure (record { proc = 0; seq = s.number; service = number_of s.service; context = s.handle }) (body_of s args confounder s.service)
+pub is-made : (s : SessionState) (procedure : ℕ) (args confounder : List ℕ) → data_call s procedure args confounder ≡ made_call (own_end s) (2 * s.number) s.xid procedure (record { proc = 0; seq = s.number; service = number_of s.service; context = s.handle }) (body_of s args confounder s.service)
 unfolding data_call signed_call verifier_of header_of
 is-made s procedure args confounder = refl
 
@@ -80,15 +81,15 @@ weak services.None procedure h e = h refl
 weak services.Integrity procedure h e = absurd (omega arith)
 weak services.Privacy procedure h e = absurd (omega arith)
 
-handle-length : (id : ℕ) → length (handle_of id) ≡ 8
+pub handle-length : (id : ℕ) → length (handle_of id) ≡ 8
 handle-length id = refl
 
-id-again : (id : ℕ) → id < 2 ^ 64 → handle_id (handle_of id) ≡ Some id
+pub id-again : (id : ℕ) → id < 2 ^ 64 → handle_id (handle_of id) ≡ Some id
 id-again id h = ap Some (from_be_bytes-to_be_bytes_8 id h)
 
 -- ---- what is heard
 
-abbrev data_cred : Lease → Service → ℕ → CredValue
+abbrev pub data_cred : Lease → Service → ℕ → CredValue
 data_cred lease service number = record { proc = 0; seq = number; service = number_of service; context = handle_of lease.id }
 
 abbrev made_value : TokenEnd → ℕ → ℕ → ℕ → CredValue → List ℕ → CallValue
@@ -127,7 +128,7 @@ heard-cred octets end n procedure args call cred h e f = ok_is {E = CredRefusal}
 
 -- ---- the reply
 
-eqb-same : (n : ℕ) → (n == n) ≡ true
+pub eqb-same : (n : ℕ) → (n == n) ≡ true
 eqb-same n = grind (arith, nat_tests)
 
 -- the number and the result behind it
@@ -178,14 +179,34 @@ result-read keys lease service n xid confounder result for h x few block octets 
     let good : checked_mic (token_end lease.outcome Initiator) (mic_of (end_of lease) (2 * n) (word n)) (word n) ≡ Ok tt = mic-taken (end_of lease) (2 * n) (word n) in
     rw (reply-reads lease service n xid confounder result x) (rw (eqb-same xid) (rw (good) (rw (body-read keys lease service n confounder result for h few block octets) refl)))
 
-taken : (s : SessionState) (procedure : ℕ) (args confounder reply rest result : List ℕ) → length reply ≤ 131072 → result_taken s reply ≡ Ok (session_after s, result) → (calls s procedure args confounder (last_fragment reply ++ rest)).answer ≡ Ok (session_after s, result)
+taken : (s : SessionState) (procedure : ℕ) (args confounder reply rest result : List ℕ) → length reply ≤ 131072 → result_taken s reply ≡ Ok (session_after s, result) → calls s procedure args confounder (last_fragment reply ++ rest) ≡ said (last_fragment (data_call s procedure args confounder)) (Ok (session_after s, result)) rest
 unfolding calls
-taken s procedure args confounder reply rest result few judged = rw (exchanged (data_call s procedure args confounder) reply rest few, judged) refl
+taken s procedure args confounder reply rest result few judged = rw (exchanged (data_call s procedure args confounder) reply rest few, judged, append-nil (last_fragment (data_call s procedure args confounder))) refl
 
 -- ---- both
 
 drawn-block : (draws : List ℕ) → length draws ≡ 82 → length (take 16 (drop 66 draws)) ≡ 16
 drawn-block draws h = omega (arith, length-take 16 (drop 66 draws), length-drop 66 draws)
+
+-- the call that the session makes is honest
+pub record MadeHonest (lease : Lease) (service : Service) (number xid procedure : ℕ) (args confounder : List ℕ) : Type 0 where
+  pub honest : Honest (data_call (session_on lease service number xid) procedure args confounder) (caller_of lease) number procedure args
+  pub handle : handle_id honest.cred.context ≡ Some lease.id
+
+pub call-honest : (lease : Lease) (service : Service) (number xid procedure : ℕ) (args confounder : List ℕ) → HonestCall lease service number xid procedure args confounder → MadeHonest lease service number xid procedure args confounder
+call-honest lease service number xid procedure args confounder h =
+    let s : SessionState = session_on lease service number xid in
+    let body : List ℕ = body_of s args confounder service in
+    let made : List ℕ = made_call (own_end s) (2 * number) xid procedure (data_cred lease service number) body in
+    let honest : Honest made (caller_of lease) number procedure args =
+    made-honest (own_end s) (2 * number) xid number procedure (number_of service) (handle_of lease.id) args body (omega (arith, h.number_left)) h.xid_fits (omega (arith, h.number_left)) h.served (weak service procedure h.protected) (handle-length lease.id) h.proper
+    (carries s args confounder service h.number_left h.size h.block h.octets) in
+    let call : CallValue = made_value (own_end s) (2 * number) xid procedure (data_cred lease service number) body in
+    let same_call : call ≡ honest.call = heard-call made (caller_of lease) number procedure args call honest (made-read (own_end s) (2 * number) xid procedure lease service number body h.xid_fits h.served) in
+    let same_cred : data_cred lease service number ≡ honest.cred = heard-cred made (caller_of lease) number procedure args call (data_cred lease service number) honest same_call (cred-read lease service number (omega (arith, h.number_left))) in
+    let m : (x : Honest made (caller_of lease) number procedure args) × (handle_id x.cred.context ≡ Some lease.id) = (honest, ap (λ (c : CredValue). handle_id c.context) (sym same_cred) ∙ id-again lease.id h.id) in
+    let n = subst (λ (zs : List ℕ). (x : Honest zs (caller_of lease) number procedure args) × (handle_id x.cred.context ≡ Some lease.id)) (sym (is-made s procedure args confounder)) m in
+    record { honest = n.0; handle = n.1 }
 
 pub answered : (keys : SealKeys) (lease : Lease) → HonestLaw lease → ForSealing keys lease.outcome.key 22 → (service : Service) (number xid procedure : ℕ) (args confounder : List ℕ) (kept : KeptAnswers) (width : ℕ) (rest : List ℕ) → HonestCall lease service number xid procedure args confounder
     → (a : IsAdmitted lease number procedure args kept) → IsAnswered lease service number xid procedure args confounder kept width a.admitted.posts rest
@@ -214,7 +235,7 @@ answered keys lease law for service number xid procedure args confounder kept wi
     let octets : List ℕ = reply_octets (replying lease service number xid block result) in
     record {
       rule = ap (λ (zs : List ℕ). (record_ruling zs kept width).rule) same ∙ rule;
-      result = ap (λ (zs : List ℕ). (calls s procedure args confounder (framed (record_ruling zs kept width).reply ++ rest)).answer) same
-          ∙ (ap (λ (r : Option (List ℕ)). (calls s procedure args confounder (framed r ++ rest)).answer) reply
+      result = ap (λ (zs : List ℕ). calls s procedure args confounder (framed (record_ruling zs kept width).reply ++ rest)) same
+          ∙ (ap (λ (r : Option (List ℕ)). calls s procedure args confounder (framed r ++ rest)) reply
           ∙ taken s procedure args confounder octets rest result (replying-fits lease service number xid block result few size) (result-read keys lease service number xid block result for (omega (arith, h.number_left)) h.xid_fits few size a.octets));
     }

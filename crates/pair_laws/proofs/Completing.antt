@@ -35,6 +35,8 @@ use Rattle.accept_book.specs.Entering.{id_of}
 use Rattle.accept_book.specs.Booking.{Changed, Outcomes, negotiated, raised, answer_with, token_size, later_step}
 use Rattle.accept_book.specs.RecordShown.{KeptAnswers, Ruling, AskedStep, asking, handle_of}
 use Rattle.accept_book.specs.RecordRule.{stepped, record_ruling}
+use Rattle.accept_book.specs.Replays.{Accepting}
+use Rattle.accept_book.specs.declared.book_answer.Lease.{Lease}
 use Rattle.accept_book.specs.declared.book_answer.NegAnswer.{NegAnswer}
 use Rattle.accept_book.specs.declared.book_answer.Negotiated.{Negotiated}
 use Rattle.gss_client.specs.declared.creation.Offer.{Offer}
@@ -53,23 +55,24 @@ use Rattle.gss_server.specs.Connections.{framed}
 use Rattle.pair_laws.specs.Conversing.{replied, IsWithin, IsStream}
 use Rattle.pair_laws.specs.Booked.{Around, end_in, IsBooked, Booked, IsLeftAlone}
 use Rattle.pair_laws.specs.Honest.{occasion_of, HonestExchange}
-use Rattle.pair_laws.specs.Laws.{IsSettled, Settles, Completes, CameTo}
-use Rattle.pair_laws.proofs.Settling.{Came, Negotiates, ComesTo, book-came, goes-after, own_id, Awaits, next-awaits}
+use Rattle.pair_laws.specs.Live.{lease_on, IsWhole}
+use Rattle.pair_laws.specs.Laws.{IsSettled, Settles, IsBehind, Completes, CameTo}
+use Rattle.pair_laws.proofs.Settling.{Came, Negotiates, ComesTo, book-came, goes-after, done-after, own_id, Awaits, next-awaits}
 use Rattle.pair_laws.proofs.Ruling.{proc_for, handle_for, IsId, creation_shown, asked-step, creation-fits}
 use Rattle.pair_laws.proofs.Granting.{granting, creation-stands, granting-fits, going, creation-goes, going-fits}
 use Rattle.pair_laws.proofs.Creating.{next-first, creates-front, created-is, established, continued}
 
 -- ---- the records that are written
 
-framed-some : (octets more : List ℕ) → last_fragment octets ++ more ≡ [] → ⊥
+pub framed-some : (octets more : List ℕ) → last_fragment octets ++ more ≡ [] → ⊥
 framed-some octets more e =
     let all : length (last_fragment octets ++ more) ≡ 4 + length octets + length more = length-append (last_fragment octets) more ∙ (ap (λ (n : ℕ). n + length more) (length-append (word (2 ^ 31 + length octets)) octets ∙ ap (λ (n : ℕ). n + length octets) (length-word (2 ^ 31 + length octets)))) in
     omega (arith, ap length e)
 
-same-record : (a b x y : List ℕ) → length a ≤ 131072 → length b ≤ 131072 → last_fragment a ++ x ≡ last_fragment b ++ y → whole a x ≡ whole b y
+pub same-record : (a b x y : List ℕ) → length a ≤ 131072 → length b ≤ 131072 → last_fragment a ++ x ≡ last_fragment b ++ y → whole a x ≡ whole b y
 same-record a b x y h k e = sym (next-first a x h) ∙ (ap next_of e ∙ next-first b y k)
 
-abbrev octets_heard : Heard → List ℕ
+abbrev pub octets_heard : Heard → List ℕ
 octets_heard (whole octets rest) = octets
 octets_heard other = []
 
@@ -108,6 +111,7 @@ record Turned (setup : AcceptSetup) (service : Service) (width xid : ℕ) (id : 
       ≡ asking (AskedStep id token kept.now (take 66 kept.draws) answer) (stepped (creation_shown service xid id token kept width) (answer_with (id_of id book.before.history) step))
   size : token_size (answer_with (id_of id book.before.history) step) ≤ 65536
   goes_on : (end : AcceptEnd) (reply : List ℕ) → step ≡ steps.More end reply → Negotiates (id_of id book.before.history) book.after end
+  done : (outcome : Outcome) (lasts : ℕ) (reply : List ℕ) → step ≡ steps.Done outcome lasts reply → IsWhole book.after (lease_on (id_of id book.before.history) outcome lasts)
 
 turned-by : (setup : AcceptSetup) (service : Service) (width xid : ℕ) (id : Option ℕ) (end : AcceptEnd) (token : List ℕ) (kept : KeptAnswers) (book : Around) (step : AcceptStep) → xid < 2 ^ 32 → IsId id → length token ≤ 65536 → ComesTo id book.before end
     → answered_on setup (occasion_of kept) end token ≡ Ok step → IsBooked setup width (creation_call service xid (proc_for id) (handle_for id) token) kept book → Turned setup service width xid id token kept book step
@@ -127,6 +131,9 @@ turned-by setup service width xid id end token kept book step fits is_id few com
       goes_on = λ next reply e.
           goes-after setup book.before book.after id a.past end next reply kept.now (negotiated setup (raised book.before kept.now) id a.past token kept.now drawn) comes
           (subst (λ (s : AcceptStep). Came (raised book.before kept.now) id a.past s (negotiated setup (raised book.before kept.now) id a.past token kept.now drawn)) e came) a.history a.contexts;
+      done = λ outcome lasts reply e.
+          done-after book.before book.after id a.past outcome lasts reply kept.now (negotiated setup (raised book.before kept.now) id a.past token kept.now drawn)
+          (subst (λ (s : AcceptStep). Came (raised book.before kept.now) id a.past s (negotiated setup (raised book.before kept.now) id a.past token kept.now drawn)) e came) a.history a.contexts;
     }
 
 -- ---- the exchange, turn by turn
@@ -135,18 +142,22 @@ next-xid : (xid : ℕ) → xid + 1 < 2 ^ 32 → xid_after xid ≡ xid + 1
 next-xid xid h = omega (arith)
 
 -- what comes of a creation from some turn on
-record Stood (service : Service) (first xid : ℕ) (width id : ℕ) (outcome : Outcome) (part : Said SessionState) (records : List (List ℕ)) (answers : List KeptAnswers) : Type 0 where
-  settles : Settles width id outcome records answers
-  session : part.answer ≡ Ok (begun service first (xid + length answers) outcome (handle_of id))
+record Stood (service : Service) (first xid : ℕ) (width id : ℕ) (outcome : Outcome) (part : Said SessionState) (records : List (List ℕ)) (answers : List KeptAnswers) (books : List Around) (rest : List ℕ) : Type 0 where
+  lasts : ℕ
+  settles : Settles width (lease_on id outcome lasts) records answers
+  core : Accepting AcceptEnd Outcome
+  behind : IsBehind answers books core
+  whole : IsWhole core (lease_on id outcome lasts)
+  session : part ≡ said (flat_map last_fragment records) (Ok (begun service first (xid + length answers) outcome (handle_of id))) rest
 
-settles-last : (width id : ℕ) (outcome : Outcome) (octets : List ℕ) (records : List (List ℕ)) (one : KeptAnswers) → records ≡ [] → IsSettled width id outcome octets one → Settles width id outcome (octets ∷ records) (one ∷ [])
-settles-last width id outcome octets records one none s = subst (λ (rs : List (List ℕ)). Settles width id outcome (octets ∷ rs) (one ∷ [])) (sym none) s
+settles-last : (width : ℕ) (lease : Lease) (octets : List ℕ) (records : List (List ℕ)) (one : KeptAnswers) → records ≡ [] → IsSettled width lease octets one → Settles width lease (octets ∷ records) (one ∷ [])
+settles-last width lease octets records one none s = subst (λ (rs : List (List ℕ)). Settles width lease (octets ∷ rs) (one ∷ [])) (sym none) s
 
-settles-more : (width id : ℕ) (outcome : Outcome) (octets : List ℕ) (records : List (List ℕ)) (one two : KeptAnswers) (more : List KeptAnswers) → (record_ruling octets one width).rule ≡ 21 → Settles width id outcome records (two ∷ more) → Settles width id outcome (octets ∷ records) (one ∷ two ∷ more)
-settles-more width id outcome octets [] one two more rule s = absurd s
-settles-more width id outcome octets (next ∷ records) one two more rule s = (rule, s)
+settles-more : (width : ℕ) (lease : Lease) (octets : List ℕ) (records : List (List ℕ)) (one two : KeptAnswers) (more : List KeptAnswers) → (record_ruling octets one width).rule ≡ 21 → Settles width lease records (two ∷ more) → Settles width lease (octets ∷ records) (one ∷ two ∷ more)
+settles-more width lease octets [] one two more rule s = absurd s
+settles-more width lease octets (next ∷ records) one two more rule s = (rule, s)
 
-same-behind : (a xs ys : List ℕ) → a ++ xs ≡ a ++ ys → xs ≡ ys
+pub same-behind : (a xs ys : List ℕ) → a ++ xs ≡ a ++ ys → xs ≡ ys
 same-behind a xs ys e = sym (drop-append_seam a xs) ∙ (ap (λ (us : List ℕ). drop (length a) us) e ∙ drop-append_seam a ys)
 
 own-id : (id : Option ℕ) (book : Around) (books : List Around) → own_id id (book ∷ books) ≡ id_of id book.before.history
@@ -161,12 +172,12 @@ front-record left service first xid proc offer stream octets records few small w
     let f = creates-front left service first xid proc offer stream in
     ap octets_heard (same-record octets call (flat_map last_fragment records) f.more few small (sym written ∙ f.same))
 
-last-turn : (setup : AcceptSetup) (width left : ℕ) (service : Service) (first xid : ℕ) (id : Option ℕ) (acceptor : AcceptEnd) (initiator : InitEnd) (token : List ℕ) (one : KeptAnswers) (book : Around) (octets : List ℕ) (records : List (List ℕ)) (others : List KeptAnswers) (rest stream : List ℕ) (outcome : Outcome)
+last-turn : (setup : AcceptSetup) (width left : ℕ) (service : Service) (first xid : ℕ) (id : Option ℕ) (acceptor : AcceptEnd) (initiator : InitEnd) (token : List ℕ) (one : KeptAnswers) (book : Around) (books : List Around) (octets : List ℕ) (records : List (List ℕ)) (others : List KeptAnswers) (rest stream : List ℕ) (outcome : Outcome)
     → 0 < width → width < 2 ^ 32 → xid + 1 < 2 ^ 32 → IsId id → length token ≤ 65536 → length octets ≤ 131072 → ComesTo id book.before acceptor → IsDone setup (occasion_of one) acceptor initiator token outcome → IsBooked setup width octets one book
     → (creates (suc left) service first xid (proc_for id) (record { end = initiator; handle = handle_for id; token = token }) stream).written ≡ flat_map last_fragment (octets ∷ records)
     → stream ≡ replied width (octets ∷ records) (one ∷ others) ++ rest
-    → Stood service first xid width (id_of id book.before.history) outcome (creates (suc left) service first xid (proc_for id) (record { end = initiator; handle = handle_for id; token = token }) stream) (octets ∷ records) (one ∷ [])
-last-turn setup width left service first xid id acceptor initiator token one book octets records others rest stream outcome some wide xids is_id few within comes done b written heard =
+    → Stood service first xid width (id_of id book.before.history) outcome (creates (suc left) service first xid (proc_for id) (record { end = initiator; handle = handle_for id; token = token }) stream) (octets ∷ records) (one ∷ []) (book ∷ books) rest
+last-turn setup width left service first xid id acceptor initiator token one book books octets records others rest stream outcome some wide xids is_id few within comes done b written heard =
     let offer : Offer = record { end = initiator; handle = handle_for id; token = token } in
     let call : List ℕ = creation_call service xid (proc_for id) (handle_for id) token in
     let own : ℕ = id_of id book.before.history in
@@ -185,16 +196,26 @@ last-turn setup width left service first xid id acceptor initiator token one boo
     (creation-stands xid initiator outcome own width done.reply fits some wide t.size done.initiates) in
     let whole : last_fragment call ≡ last_fragment call ++ flat_map last_fragment records =
     sym (ap (λ (s : Said SessionState). s.written) all) ∙ (written ∙ ap (λ (o : List ℕ). last_fragment o ++ flat_map last_fragment records) is_call) in
+    let none : records ≡ [] = none-behind call records whole in
+    let same : (creates (suc left) service first xid (proc_for id) offer stream).written ≡ last_fragment call = ap (λ (s : Said SessionState). s.written) all in
+    let wrote : last_fragment call ≡ flat_map last_fragment (octets ∷ records) = sym same ∙ written in
+    let left_is : behind ≡ rest = ap (λ (rs : List (List ℕ)). replied width rs others ++ rest) none in
     record {
-      settles = settles-last width own outcome octets records one (none-behind call records whole) (record {
+      lasts = done.lasts;
+      settles = settles-last width (lease_on own outcome done.lasts) octets records one none (record {
         answer = t.answer;
         is_kept = t.is_kept;
-        lasts = done.lasts;
         token = done.reply;
         settled = t.is;
         rule = ap (λ (o : List ℕ). (record_ruling o one width).rule) is_call ∙ ap (λ (r : Ruling). r.rule) t.ruled;
       });
-      session = ap (λ (s : Said SessionState). s.answer) all ∙ ap (λ (n : ℕ). Ok (begun service first n outcome (handle_of own))) (next-xid xid xids);
+      core = book.after;
+      behind = refl;
+      whole = t.done outcome done.lasts done.reply refl;
+      session = all
+          ∙ (ap (λ (ws : List ℕ). said ws (Ok (begun service first (xid_after xid) outcome (handle_of own))) behind) wrote
+          ∙ (ap (λ (zs : List ℕ). said (flat_map last_fragment (octets ∷ records)) (Ok (begun service first (xid_after xid) outcome (handle_of own))) zs) left_is
+          ∙ ap (λ (n : ℕ). said (flat_map last_fragment (octets ∷ records)) (Ok (begun service first n outcome (handle_of own))) rest) (next-xid xid xids)));
     }
 
 turns-on : (setup : AcceptSetup) (width left : ℕ) (service : Service) (first xid : ℕ) (id : Option ℕ) (acceptor : AcceptEnd) (initiator : InitEnd) (token : List ℕ) (answers : List KeptAnswers) (books : List Around) (records : List (List ℕ)) (later : List KeptAnswers) (rest stream : List ℕ) (outcome : Outcome)
@@ -202,14 +223,14 @@ turns-on : (setup : AcceptSetup) (width left : ℕ) (service : Service) (first x
     → exchange.Completes setup (map occasion_of answers) acceptor initiator token outcome → Booked setup width records answers books
     → (creates left service first xid (proc_for id) (record { end = initiator; handle = handle_for id; token = token }) stream).written ≡ flat_map last_fragment records
     → stream ≡ replied width records (answers ++ later) ++ rest
-    → Stood service first xid width (own_id id books) outcome (creates left service first xid (proc_for id) (record { end = initiator; handle = handle_for id; token = token }) stream) records answers
+    → Stood service first xid width (own_id id books) outcome (creates left service first xid (proc_for id) (record { end = initiator; handle = handle_for id; token = token }) stream) records answers books rest
 turns-on setup width left service first xid id acceptor initiator token [] books records later rest stream outcome some wide xids turns ids is_id few within awaits alone c b written heard = absurd c
 turns-on setup width zero service first xid id acceptor initiator token (one ∷ more) books records later rest stream outcome some wide xids turns ids is_id few within awaits alone c b written heard = absurd (omega (arith, turns))
 turns-on setup width (suc left) service first xid id acceptor initiator token (one ∷ more) books [] later rest stream outcome some wide xids turns ids is_id few within awaits alone c b written heard = absurd b
 turns-on setup width (suc left) service first xid id acceptor initiator token (one ∷ more) [] (octets ∷ records) later rest stream outcome some wide xids turns ids is_id few within awaits alone c b written heard = absurd b
 turns-on setup width (suc left) service first xid id acceptor initiator token (one ∷ []) (book ∷ books) (octets ∷ records) later rest stream outcome some wide xids turns ids is_id few within awaits alone c b written heard =
-    subst (λ (n : ℕ). Stood service first xid width n outcome (creates (suc left) service first xid (proc_for id) (record { end = initiator; handle = handle_for id; token = token }) stream) (octets ∷ records) (one ∷ [])) (sym (own-id id book books))
-    (last-turn setup width left service first xid id acceptor initiator token one book octets records later rest stream outcome some wide (omega (arith, xids)) is_id few within.0 awaits c b.0 written heard)
+    subst (λ (n : ℕ). Stood service first xid width n outcome (creates (suc left) service first xid (proc_for id) (record { end = initiator; handle = handle_for id; token = token }) stream) (octets ∷ records) (one ∷ []) (book ∷ books) rest) (sym (own-id id book books))
+    (last-turn setup width left service first xid id acceptor initiator token one book books octets records later rest stream outcome some wide (omega (arith, xids)) is_id few within.0 awaits c b.0 written heard)
 turns-on setup width (suc left) service first xid id acceptor initiator token (one ∷ two ∷ more) (book ∷ books) (octets ∷ records) later rest stream outcome some wide xids turns ids is_id few within awaits alone c b written heard =
     let offer : Offer = record { end = initiator; handle = handle_for id; token = token } in
     let call : List ℕ = creation_call service xid (proc_for id) (handle_for id) token in
@@ -237,9 +258,17 @@ turns-on setup width (suc left) service first xid id acceptor initiator token (o
     let n = next-awaits own g.acceptor_after book books (t.goes_on g.acceptor_after g.reply refl) (subst (λ (i : ℕ). IsLeftAlone i (book ∷ books)) own_is alone) in
     let s = turns-on setup width left service first (xid + 1) (Some own) g.acceptor_after g.initiator_after g.further (two ∷ more) books records later rest behind outcome some wide (omega (arith, xids)) (omega (arith, turns))
     (subst (λ (i : ℕ). i < 2 ^ 64) own_is ids) (subst (λ (i : ℕ). i < 2 ^ 64) own_is ids) g.short within.1 n.0 n.1 c.1 b.1 (same-behind (last_fragment call) _ _ whole) refl in
-    subst (λ (i : ℕ). Stood service first xid width i outcome (creates (suc left) service first xid (proc_for id) offer stream) (octets ∷ records) (one ∷ two ∷ more)) (sym own_is) (record {
-      settles = settles-more width own outcome octets records one two more (ap (λ (o : List ℕ). (record_ruling o one width).rule) is_call ∙ ap (λ (r : Ruling). r.rule) t.ruled) s.settles;
-      session = ap (λ (s : Said SessionState). s.answer) all_next ∙ (s.session ∙ ap (λ (n : ℕ). Ok (begun service first n outcome (handle_of own))) (omega arith));
+    let answered : Result SessionState ClientRefusal = Ok (begun service first ((xid + 1) + length (two ∷ more)) outcome (handle_of own)) in
+    subst (λ (i : ℕ). Stood service first xid width i outcome (creates (suc left) service first xid (proc_for id) offer stream) (octets ∷ records) (one ∷ two ∷ more) (book ∷ books) rest) (sym own_is) (record {
+      lasts = s.lasts;
+      settles = settles-more width (lease_on own outcome s.lasts) octets records one two more (ap (λ (o : List ℕ). (record_ruling o one width).rule) is_call ∙ ap (λ (r : Ruling). r.rule) t.ruled) s.settles;
+      core = s.core;
+      behind = s.behind;
+      whole = s.whole;
+      session = all_next
+          ∙ (ap (λ (p : Said SessionState). after (last_fragment call) p) s.session
+          ∙ (ap (λ (o : List ℕ). said (last_fragment o ++ flat_map last_fragment records) answered rest) (sym is_call)
+          ∙ ap (λ (n : ℕ). said (last_fragment octets ++ flat_map last_fragment records) (Ok (begun service first n outcome (handle_of own))) rest) (omega arith)));
     })
 
 -- an initiator sends four tokens at most
@@ -268,6 +297,9 @@ length-map : (answers : List KeptAnswers) → length (map occasion_of answers) �
 length-map [] = refl
 length-map (one ∷ more) = omega (arith, length-map more)
 
+pub few-answers : (setup : AcceptSetup) (width : ℕ) (start : Start) (stream : List ℕ) → (x : HonestExchange setup width start stream) → length x.answers ≤ 4
+few-answers setup width start stream x = omega (arith, length-map x.answers, x.pair.counted, tokens-few setup start.setup x.kind)
+
 pub completes : (setup : AcceptSetup) (width : ℕ) (start : Start) (stream : List ℕ) → (x : HonestExchange setup width start stream) → Completes setup width start stream x
 completes setup width start stream x =
     let a = exchanges setup start.setup x.kind (map occasion_of x.answers) x.pair in
@@ -276,16 +308,20 @@ completes setup width start stream x =
     let left : ℕ = replies_left started.end in
     let is : created_from start stream ≡ creates left start.service start.first 1 1 offer stream = created-is start started stream x.pair.starts in
     let four : left ≡ 4 = opens-four start.setup started x.pair.starts in
-    let few : length x.answers ≤ 4 = omega (arith, length-map x.answers, x.pair.counted, tokens-few setup start.setup x.kind) in
+    let few : length x.answers ≤ 4 = few-answers setup width start stream x in
     let turns : length x.answers ≤ left = omega (arith, few, four) in
     let heard : stream ≡ replied width x.converses.records (x.answers ++ x.later) ++ x.converses.rest = x.converses.heard ∙ ap (λ (ks : List KeptAnswers). replied width x.converses.records ks ++ x.converses.rest) x.kept in
     let s = turns-on setup width left start.service start.first 1 None ends.New started.end started.token x.answers x.books x.converses.records x.later x.converses.rest stream a.outcome x.some_width x.width_fits (omega (arith, few)) turns x.number tt x.pair.short x.converses.within (first-awaits x.books) x.left_alone a.completes x.booked
     (sym (ap (λ (s : Said SessionState). s.written) is) ∙ x.converses.written) heard in
     record {
       outcome = a.outcome;
+      lasts = s.lasts;
       mech = a.mech;
       settles = s.settles;
-      session = ap (λ (s : Said SessionState). s.answer) is ∙ s.session;
+      core = s.core;
+      behind = s.behind;
+      whole = s.whole;
+      session = is ∙ s.session;
     }
 
 -- ---- over a link

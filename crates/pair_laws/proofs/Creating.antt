@@ -32,11 +32,11 @@ pub record Fronts {A : Type 0} (front : List ℕ) (s : Said A) : Type 0 where
   pub more : List ℕ
   pub same : s.written ≡ front ++ more
 
-goes-front : {A B : Type 0} (front written rest : List ℕ) (next : A → Talking B) (answer : Result A ClientRefusal) (more : List ℕ) → written ≡ front ++ more → Fronts front (goes_on written rest next answer)
+pub goes-front : {A B : Type 0} (front written rest : List ℕ) (next : A → Talking B) (answer : Result A ClientRefusal) (more : List ℕ) → written ≡ front ++ more → Fronts front (goes_on written rest next answer)
 goes-front front written rest next (Ok x) more e = record { more = more ++ (next x rest).written; same = ap (λ (zs : List ℕ). zs ++ (next x rest).written) e ∙ append_assoc front more (next x rest).written }
 goes-front front written rest next (Err refusal) more e = record { more = more; same = e }
 
-exchange-front : (call stream : List ℕ) → Fronts (last_fragment call) (exchanges call stream)
+pub exchange-front : (call stream : List ℕ) → Fronts (last_fragment call) (exchanges call stream)
 unfolding exchanges
 exchange-front call stream = record { more = (listens stream).written; same = refl }
 

@@ -3,6 +3,7 @@ use Rattle.std.proofs.Common.{◌≡◌, ◌⊎◌, inl, inr, ℕ, ◌+◌, ◌<
 use Rattle.std.specs.Prelude.{nat_lt, nat_le, ◌&&◌, ◌==◌, is_none, is_some, max}
 use Rattle.std.proofs.lemmas.Bool.Decides.{nat_tests}
 use Rattle.gss_base.specs.declared.mark.Mark.{Mark}
+use Rattle.gss_base.specs.declared.mech.MechKind.{MechKind}
 use Rattle.spnego_core.specs.declared.setup.AcceptSetup.{AcceptSetup}
 use Rattle.spnego_core.specs.declared.accept_end.AcceptEnd.{AcceptEnd}
 use Rattle.spnego_core.specs.declared.accept_end.AcceptEnd.TheVariants as ends
@@ -16,16 +17,19 @@ use Rattle.spnego_core.specs.Exchange.{passed, passed_of}
 use Rattle.replay_cache.specs.Taking.{cache_verdict}
 use Rattle.replay_cache.specs.declared.cache.CacheVerdict.TheVariants.{Taken}
 use Rattle.context_table.specs.declared.slot.Slot.{Slot}
-use Rattle.context_table.specs.declared.slot.SlotState.TheVariants.{Negotiating}
-use Rattle.context_table.specs.Places.{slot_at, live_of, state_of}
+use Rattle.context_table.specs.declared.slot.SlotState.{SlotState}
+use Rattle.context_table.specs.declared.slot.SlotState.TheVariants.{Negotiating, Complete}
+use Rattle.context_table.specs.Slots.{HasState}
+use Rattle.context_table.specs.Places.{slot_at, live_of, state_of, HasValue}
 use Rattle.accept_book.specs.declared.entry.Entry.{Entry}
 use Rattle.accept_book.specs.declared.answer.Next.TheVariants as nexts
-use Rattle.accept_book.specs.History.{Open, opened, taken_of, standing}
+use Rattle.accept_book.specs.History.{Open, Whole, opened, taken_of, standing}
 use Rattle.accept_book.specs.Entering.{id_of, entered}
 use Rattle.accept_book.specs.Replays.{Accepting}
 use Rattle.accept_book.specs.Stepping.{Context, context_of, context_after, until_of}
-use Rattle.accept_book.specs.Booking.{Stands, Change, Becomes, Changed, Outcomes, raised, lapsed_by, next_of, answer_with, mark_of, settled_of, taken, by_step, later_step, negotiated}
+use Rattle.accept_book.specs.Booking.{Stands, Change, Becomes, Changed, Outcomes, raised, lapsed_by, next_of, answer_with, mark_of, settled_of, taken, by_step, later_step, negotiated, names_of}
 use Rattle.pair_laws.specs.Booked.{Around, end_in, IsLeftAlone, id_in}
+use Rattle.pair_laws.specs.Live.{lease_on, IsWhole}
 
 -- ---- a step whose mark is new
 
@@ -149,6 +153,34 @@ goes-after setup before after id past old end reply now o comes came history con
       stands = ap (λ (h : List Entry). standing own h) (history ∙ ap (λ (x : Outcomes). x.history) came.is) ∙ s.1;
       ends = until;
       context = changes own ∙ rw (same-id own) refl;
+    }
+
+-- ---- the context behind the last step
+
+settled-stands : (id past : Option ℕ) (mark : Option Mark) (place : Bool) (now : ℕ) (mech : MechKind) (names : List ℕ) (value : Outcome) (ends : ℕ) (h : List Entry)
+    → standing (id_of id h) (entered {N = AcceptEnd} {S = Outcome} id place past mark (nexts.Settled mech names value ends) now h) ≡ Whole mech names ends
+settled-stands None past mark place now mech names value ends h = rw (same-id (opened h + 1)) refl
+settled-stands (Some id) past mark place now mech names value ends h = rw (same-id id) refl
+
+value-in : (slot : Option (Slot AcceptEnd Outcome)) (value : Outcome) (ends : ℕ) → context_of slot ≡ Some (record { state = Complete value; ends = ends }) → HasValue slot value ends
+value-in None value ends e = absurd cc
+value-in (Some slot) value ends e =
+    let same = some-context (record { state = slot.state; ends = slot.ends }) (record { state = Complete value; ends = ends }) e in
+    let is : slot.state ≡ Complete value = ap (λ (c : Context AcceptEnd Outcome). c.state) same in
+    (subst (λ (s : SlotState AcceptEnd Outcome). HasState s value) (sym is) refl, ap (λ (c : Context AcceptEnd Outcome). c.ends) same)
+
+-- the context that the step settled, in a book that stands as its call left it
+pub done-after : (before after : Accepting AcceptEnd Outcome) (id past : Option ℕ) (outcome : Outcome) (lasts : ℕ) (reply : List ℕ) (now : ℕ) (o : Outcomes)
+    → Came (raised before now) id past (steps.Done outcome lasts reply) o → after.history ≡ o.history → Changed before.table o.change after.table → IsWhole after (lease_on (id_of id before.history) outcome lasts)
+done-after before after id past outcome lasts reply now o came history contexts =
+    let own : ℕ = id_of id before.history in
+    let place : Bool = nat_lt (live_of before.table) before.table.limit in
+    let greatest : ℕ = max before.cache.greatest now in
+    let change : o.change ≡ Becomes (lapsed_by id place past) own (record { state = Complete outcome; ends = lasts }) = ap (λ (x : Outcomes). x.change) came.is in
+    let changes : Changed before.table (Becomes (lapsed_by id place past) own (record { state = Complete outcome; ends = lasts })) after.table = subst (λ (c : Change). Changed before.table c after.table) change contexts in
+    record {
+      stands = ap (λ (h : List Entry). standing own h) (history ∙ ap (λ (x : Outcomes). x.history) came.is) ∙ settled-stands id past came.mark place greatest outcome.mech (names_of outcome) outcome lasts before.history;
+      value = value-in (slot_at after.table own) outcome lasts (changes own ∙ rw (same-id own) refl);
     }
 
 -- the id of an exchange's context

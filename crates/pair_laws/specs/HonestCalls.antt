@@ -1,6 +1,7 @@
 -- An honest call: a session calls over a context that its server shows, and whose number it admits.
 use Rattle.std.specs.Prelude.{◌≡◌, ℕ, ◌<◌, ◌≤◌, ◌^◌, true, List, ◌++◌, length, take, drop, Some, Ok}
 use Rattle.rpc_msgs.specs.Words.{word}
+use Rattle.rpc_msgs.specs.Records.{last_fragment}
 use Rattle.accept_book.specs.Honest.{IsOctets}
 use Rattle.accept_book.specs.Served.{are_args, result_of}
 use Rattle.accept_book.specs.RecordShown.{KeptAnswers, handle_of}
@@ -12,6 +13,7 @@ use Rattle.gss_client.specs.declared.service.Service.TheVariants as services
 use Rattle.gss_client.specs.Calling.{data_call}
 use Rattle.gss_client.specs.Session.{SessionState, session_after}
 use Rattle.gss_client.specs.Talk.{calls}
+use Rattle.gss_client.specs.Talking.{said}
 use Rattle.gss_server.specs.Connections.{framed}
 
 -- a session on a context as the server shows it: with its outcome and its handle
@@ -52,19 +54,21 @@ pub record IsAdmitted (lease : Lease) (number procedure : ℕ) (args : List ℕ)
       ++ (word number ++ result_of procedure args lease.outcome.initiator admitted.posts))
 
 -- the call's rule is 23, and where its reply comes next the session takes the service's result from
--- it, and goes on
+-- it, goes on, and leaves the rest of the stream
 pub record IsAnswered (lease : Lease) (service : Service) (number xid procedure : ℕ)
     (args confounder : List ℕ) (kept : KeptAnswers) (width posts : ℕ) (rest : List ℕ) : Type 0 where
   pub rule : (record_ruling (data_call (session_on lease service number xid) procedure args
       confounder) kept width).rule ≡ 23
-  pub result : (calls (session_on lease service number xid) procedure args confounder (framed
+  pub result : calls (session_on lease service number xid) procedure args confounder (framed
       (record_ruling (data_call (session_on lease service number xid) procedure args confounder)
-      kept width).reply ++ rest)).answer
-      ≡ Ok (
+      kept width).reply ++ rest)
+      ≡ said
+      (last_fragment (data_call (session_on lease service number xid) procedure args confounder))
+      (Ok (
         session_after (session_on lease service number xid),
         result_of procedure args
             lease.outcome.initiator posts,
-      )
+      )) rest
 
 -- every honest call of a context that is shown, and whose number is admitted, is answered
 abbrev pub CallLaw : Lease → Type 0

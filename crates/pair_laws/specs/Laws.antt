@@ -1,10 +1,15 @@
 -- The completeness of the pair.
 use Rattle.std.specs.Prelude.{◌≡◌, ◌⊎◌, ℕ, ◌+◌, List, [], ◌∷◌, length, Some, Result, Ok, Err}
+use Rattle.std.specs.List.{flat_map}
 use Rattle.sec_base.specs.Link.{Wire}
+use Rattle.rpc_msgs.specs.Records.{last_fragment}
 use Rattle.spnego_core.specs.declared.setup.AcceptSetup.{AcceptSetup}
+use Rattle.spnego_core.specs.declared.accept_end.AcceptEnd.{AcceptEnd}
 use Rattle.spnego_core.specs.declared.outcome.Outcome.{Outcome}
+use Rattle.accept_book.specs.Replays.{Accepting}
 use Rattle.accept_book.specs.RecordShown.{KeptAnswers, handle_of}
 use Rattle.accept_book.specs.RecordRule.{record_ruling}
+use Rattle.accept_book.specs.declared.book_answer.Lease.{Lease}
 use Rattle.accept_book.specs.declared.book_answer.Negotiated.{Negotiated}
 use Rattle.accept_book.specs.declared.book_answer.NegAnswer.TheVariants.{Settled}
 use Rattle.gss_client.specs.declared.start.Start.{Start}
@@ -13,41 +18,53 @@ use Rattle.gss_client.specs.declared.refusal.ClientRefusal.TheVariants.{LinkFaul
 use Rattle.gss_client.specs.Exchanging.{Talks}
 use Rattle.gss_client.specs.Session.{SessionState}
 use Rattle.gss_client.specs.Talk.{begun, created_from}
+use Rattle.gss_client.specs.Talking.{said}
 use Rattle.pair_laws.specs.Conversing.{IsStream}
-use Rattle.pair_laws.specs.Booked.{id_in}
+use Rattle.pair_laws.specs.Booked.{Around, id_in}
+use Rattle.pair_laws.specs.Live.{lease_on, IsWhole}
 use Rattle.pair_laws.specs.Honest.{HonestExchange}
 
--- the record was answered by the rule of a context that is complete, and the book settled it with
--- this outcome
-pub record IsSettled (width id : ℕ) (outcome : Outcome) (octets : List ℕ)
-    (kept : KeptAnswers) : Type 0 where
-  pub answer : Negotiated
-  pub is_kept : kept.negotiated ≡ Some answer
-  pub lasts : ℕ
-  pub token : List ℕ
-  pub settled : answer.answer ≡ Settled (record { id = id; outcome = outcome; ends = lasts }) token
-  pub rule : (record_ruling octets kept width).rule ≡ 22
+-- the record was answered by the rule of a context that is complete, and the book settled it so
+pub record IsSettled (width : ℕ) (lease : Lease) (octets : List ℕ) (kept : KeptAnswers) : Type 0
+  where
+    pub answer : Negotiated
+    pub is_kept : kept.negotiated ≡ Some answer
+    pub token : List ℕ
+    pub settled : answer.answer ≡ Settled lease token
+    pub rule : (record_ruling octets kept width).rule ≡ 22
 
 -- each record but the last was answered by the rule of a context that goes on, and with the last
 -- the context was settled; there are as many answers as records
-abbrev pub Settles : ℕ → ℕ → Outcome → List (List ℕ) → List KeptAnswers → Type 0
-Settles width id outcome [] kept = ⊥
-Settles width id outcome (octets ∷ records) [] = ⊥
-Settles width id outcome (last ∷ []) (one ∷ []) = IsSettled width id outcome last one
-Settles width id outcome (last ∷ []) (one ∷ two ∷ kept) = ⊥
-Settles width id outcome (octets ∷ next ∷ records) (one ∷ kept) =
-    ((record_ruling octets one width).rule ≡ 21) × Settles width id outcome (next ∷ records) kept
+abbrev pub Settles : ℕ → Lease → List (List ℕ) → List KeptAnswers → Type 0
+Settles width lease [] kept = ⊥
+Settles width lease (octets ∷ records) [] = ⊥
+Settles width lease (last ∷ []) (one ∷ []) = IsSettled width lease last one
+Settles width lease (last ∷ []) (one ∷ two ∷ kept) = ⊥
+Settles width lease (octets ∷ next ∷ records) (one ∷ kept) =
+    ((record_ruling octets one width).rule ≡ 21) × Settles width lease (next ∷ records) kept
+
+-- this is the book as the last of these answers left it
+abbrev pub IsBehind : List KeptAnswers → List Around → Accepting AcceptEnd Outcome → Type 0
+IsBehind [] books core = ⊥
+IsBehind (one ∷ answers) [] core = ⊥
+IsBehind (last ∷ []) (book ∷ books) core = core ≡ book.after
+IsBehind (one ∷ two ∷ answers) (book ∷ books) core = IsBehind (two ∷ answers) books core
 
 -- both ends are done with one outcome, by the chosen mechanism: the book settled its next context
--- with it, and the session stands on it, with the context's handle; its records are those of the
--- creation, and its transaction number is the next
+-- with it, and has it so; the session stands on it, with the context's handle; its records are
+-- those of the creation, its transaction number is the next, and the rest of the stream is left
 pub record Completes (setup : AcceptSetup) (width : ℕ) (start : Start) (stream : List ℕ)
     (x : HonestExchange setup width start stream) : Type 0 where
   pub outcome : Outcome
+  pub lasts : ℕ
   pub mech : outcome.mech ≡ x.kind
-  pub settles : Settles width (id_in x.books) outcome x.converses.records x.answers
-  pub session : (created_from start stream).answer ≡ Ok
-      (begun start.service start.first (1 + length x.answers) outcome (handle_of (id_in x.books)))
+  pub settles : Settles width (lease_on (id_in x.books) outcome lasts) x.converses.records x.answers
+  pub core : Accepting AcceptEnd Outcome
+  pub behind : IsBehind x.answers x.books core
+  pub whole : IsWhole core (lease_on (id_in x.books) outcome lasts)
+  pub session : created_from start stream ≡ said (flat_map last_fragment x.converses.records)
+      (Ok (begun start.service start.first (1 + length x.answers) outcome
+      (handle_of (id_in x.books)))) x.converses.rest
 
 -- what came of a creation: the session, or the link's fault or want of memory
 abbrev pub CameTo : Result SessionState ClientRefusal → SessionState → Type 0

@@ -1,5 +1,11 @@
 pub mod Conversing
 pub mod Booked
+pub mod Live
 pub mod Honest
 pub mod HonestCalls
+pub mod Ending
+pub mod Turns
 pub mod Laws
+pub mod Running
+pub mod Meeting
+pub mod ClientRun

@@ -10,6 +10,7 @@ pub returns-in-Ok-clause-spoke : goal.returns-in-Ok-clause-spoke
 returns-in-Ok-clause-spoke g c = λ begun t. record {
   creds = c.in-Ok.creds;
   found = c.in-Ok.ensures.found;
+  ranged = c.requires.range;
   spoke = returned c.speak-talk.result.parting (c.speak-talk.ensures.told t) c.report.ensures.kept;
 }
 
@@ -17,6 +18,7 @@ pub returns-in-Ok-clause-wanting : goal.returns-in-Ok-clause-wanting
 returns-in-Ok-clause-wanting g c = λ e t. inr (record {
   creds = c.in-Ok.creds;
   found = c.in-Ok.ensures.found;
+  ranged = c.requires.range;
   spoke = returned c.speak-talk.result.parting (c.speak-talk.ensures.told t) c.report.ensures.kept;
 })
 

@@ -1,0 +1,188 @@
+-- A context is destroyed, and the session hears that.
+use Rattle.std.proofs.Common.{◌≡◌, ℕ, ◌*◌, ◌≤◌, ◌<◌, ◌^◌, lit<, lit≤, true, refl, ap, ◌∙◌, arith, List, [], ◌∷◌, ◌++◌, length, take, subst, Option, Some, None, Result, Ok, append-nil}
+use Rattle.std.proofs.Math.Seq.{take-append_seam}
+use Rattle.std.proofs.lemmas.Nat.{from_be_bytes-to_be_bytes_8}
+use Rattle.rpc_msgs.specs.Words.{word}
+use Rattle.rpc_msgs.specs.Auths.{auth_octets}
+use Rattle.rpc_msgs.specs.Calls.{CallValue, secure_call, call_at}
+use Rattle.rpc_msgs.proofs.CallLaws.{call-only}
+use Rattle.rpc_msgs.specs.Replies.{ReplyValue, accepted, reply_octets}
+use Rattle.rpc_msgs.specs.ReplyReading.{reply_at}
+use Rattle.rpc_msgs.specs.Records.{last_fragment}
+use Rattle.rpc_msgs.proofs.ReplyLaws.{reply-only}
+use Rattle.rpcsec_msgs.specs.Cred.{CredValue, cred_octets, cred_at}
+use Rattle.rpcsec_msgs.proofs.CredLaws.{cred-only}
+use Rattle.krb_tokens.specs.declared.end.Side.TheVariants.{Initiator}
+use Rattle.krb_tokens.specs.Mic.{mic_of, checked_mic}
+use Rattle.krb_tokens.proofs.Taken.{mic-taken}
+use Rattle.spnego_core.specs.Outcome.{token_end}
+use Rattle.accept_book.specs.Honest.{caller_of}
+use Rattle.accept_book.specs.RecordShown.{KeptAnswers, Shown, Ruling, AskedLook, AskedEnd, asking, handle_of, end_of, is_verified}
+use Rattle.accept_book.specs.RecordRule.{record_ruling, call_ruling, destroy_ruling, ask_look, looked_ruling, ask_end, ended_ruling}
+use Rattle.accept_book.specs.Answers.{receipt_of}
+use Rattle.accept_book.specs.Booking.{BookOf}
+use Rattle.accept_book.specs.declared.answer.AdmitRefusal.{AdmitRefusal}
+use Rattle.accept_book.specs.declared.answer.LookRefusal.{LookRefusal}
+use Rattle.accept_book.specs.declared.entry.Entry.{Entry}
+use Rattle.accept_book.specs.declared.entry.Entry.TheVariants.{Ended}
+use Rattle.accept_book.specs.declared.entry.EndCause.TheVariants.{Destroyed}
+use Rattle.accept_book.specs.declared.entry.Receipt.{Receipt}
+use Rattle.context_table.specs.Places.{slot_at}
+use Rattle.gss_server.specs.Answers.{IsDecided}
+use Rattle.gss_server.specs.Asking.{Asking, BookAnswers}
+use Rattle.pair_laws.specs.Live.{IsLiveAt}
+use Rattle.pair_laws.specs.Turns.{IsAnsweredBy, IsEndTurn}
+use Rattle.pair_laws.proofs.Living.{seen, over}
+use Rattle.accept_book.specs.declared.book_answer.Lease.{Lease}
+use Rattle.gss_client.specs.declared.service.Service.{Service}
+use Rattle.gss_client.specs.Calling.{header_of, verifier_of, signed_call, destroy_call}
+use Rattle.gss_client.specs.Judging.{answer_in, verified_in, destroyed_in}
+use Rattle.gss_client.specs.Session.{SessionState}
+use Rattle.gss_client.specs.Talk.{destroys}
+use Rattle.gss_client.specs.Talking.{said}
+use Rattle.gss_client.proofs.CallLengths.{cred-fits, call-fits}
+use Rattle.gss_server.proofs.ReplyLengths.{accepted-fits}
+use Rattle.pair_laws.specs.HonestCalls.{session_on}
+use Rattle.pair_laws.specs.Ending.{HonestEnd, IsTaken, IsDestroyed}
+use Rattle.pair_laws.proofs.Answered.{handle-length, eqb-same}
+use Rattle.pair_laws.proofs.Granting.{mic-size}
+use Rattle.pair_laws.proofs.Creating.{exchanged}
+
+-- ---- the call
+
+abbrev end_cred : Lease → ℕ → CredValue
+end_cred lease number = record { proc = 3; seq = number; service = 1; context = handle_of lease.id }
+
+abbrev front_of : Lease → Service → ℕ → ℕ → List ℕ
+front_of lease service number xid = header_of (session_on lease service number xid) 3 1 0
+
+abbrev call_of : Lease → Service → ℕ → ℕ → CallValue
+call_of lease service number xid = secure_call xid 0x20004753 1 0 (cred_octets (end_cred lease number)) (record { flavour = 6; body = mic_of (caller_of lease) (2 * number) (front_of lease service number xid) }) []
+
+end-read : (lease : Lease) (service : Service) (number xid : ℕ) → number ≤ 0x80000000 → xid < 2 ^ 32 → call_at (destroy_call (session_on lease service number xid)) ≡ Ok (call_of lease service number xid)
+unfolding destroy_call signed_call verifier_of header_of
+end-read lease service number xid few x = call-only (call_of lease service number xid) (record {
+  xid = x;
+  program = lit< tt;
+  version = lit< tt;
+  procedure = lit< tt;
+  cred = record { flavour = lit< tt; body = cred-fits (end_cred lease number) (omega (arith, handle-length lease.id)) };
+  verf = record { flavour = lit< tt; body = omega (arith, mic-size (caller_of lease) (2 * number) (front_of lease service number xid)) };
+  header = refl;
+})
+
+pub end-fits : (lease : Lease) (service : Service) (number xid : ℕ) → length (destroy_call (session_on lease service number xid)) ≤ 131072
+unfolding destroy_call signed_call verifier_of header_of
+end-fits lease service number xid =
+    call-fits xid 0x20004753 1 0 (cred_octets (end_cred lease number)) (call_of lease service number xid).verf [] (cred-fits (end_cred lease number) (omega (arith, handle-length lease.id))) (omega (arith, mic-size (caller_of lease) (2 * number) (front_of lease service number xid))) (omega arith)
+
+end-cred : (lease : Lease) (number : ℕ) → number ≤ 0x80000000 → cred_at (cred_octets (end_cred lease number)) ≡ Ok (end_cred lease number)
+end-cred lease number h =
+    cred-only (end_cred lease number) (record { proc = lit≤ tt; seq = omega (arith, h); service = lit< tt; served = refl; context = omega (arith, handle-length lease.id) })
+
+abbrev shown : Lease → Service → ℕ → ℕ → KeptAnswers → ℕ → Shown
+shown lease service number xid kept width = record { record_octets = destroy_call (session_on lease service number xid); call = call_of lease service number xid; now = kept.now; draws = kept.draws; width = width }
+
+end-verified : (lease : Lease) (service : Service) (number xid : ℕ) (kept : KeptAnswers) (width : ℕ) → is_verified (shown lease service number xid kept width) lease ≡ true
+unfolding is_verified destroy_call signed_call verifier_of header_of
+end-verified lease service number xid kept width =
+    let front = front_of lease service number xid in
+    let seam : take (length front) (front ++ (auth_octets (call_of lease service number xid).verf ++ [])) ≡ front = take-append_seam front (auth_octets (call_of lease service number xid).verf ++ []) in
+    let good : checked_mic (end_of lease) (mic_of (caller_of lease) (2 * number) front) front ≡ Ok tt = mic-taken (caller_of lease) (2 * number) front in
+    rw (seam, good) refl
+
+-- ---- the reply
+
+abbrev replying : Lease → ℕ → ℕ → ReplyValue
+replying lease number xid = accepted xid 6 (mic_of (end_of lease) (2 * number) (word number)) 0 0 0 []
+
+end-rule : (lease : Lease) (service : Service) (number xid : ℕ) (kept : KeptAnswers) (width : ℕ) (rest : List ℕ) → HonestEnd lease number xid → (t : IsTaken lease kept)
+    → record_ruling (destroy_call (session_on lease service number xid)) kept width
+    ≡ record { rule = 24; reply = Some (reply_octets (replying lease number xid)); asked = AskedLook lease.id kept.now (Ok lease) ∷ AskedEnd lease number (Ok t.receipt) ∷ []; due = None }
+unfolding record_ruling call_ruling destroy_ruling
+end-rule lease service number xid kept width rest h t =
+    rw (end-read lease service number xid h.number_fits h.xid_fits) (rw (end-cred lease number h.number_fits) (rw (from_be_bytes-to_be_bytes_8 lease.id h.id, t.looked) (rw (end-verified lease service number xid kept width, t.ended) refl)))
+
+replying-reads : (lease : Lease) (number xid : ℕ) → xid < 2 ^ 32 → reply_at (reply_octets (replying lease number xid)) ≡ Ok (replying lease number xid)
+replying-reads lease number xid h =
+    reply-only (replying lease number xid) (omega (arith, mic-size (end_of lease) (2 * number) (word number)), (λ other. absurd (other refl)), (λ other. refl), (λ other. refl)) (h, lit< tt, lit< tt, lit< tt, lit< tt)
+
+end-judged : (lease : Lease) (number xid : ℕ) → xid < 2 ^ 32 → destroyed_in lease.outcome number xid (reply_octets (replying lease number xid)) ≡ Ok tt
+unfolding destroyed_in verified_in answer_in
+end-judged lease number xid h =
+    let good : checked_mic (token_end lease.outcome Initiator) (mic_of (end_of lease) (2 * number) (word number)) (word number) ≡ Ok tt = mic-taken (end_of lease) (2 * number) (word number) in
+    rw (replying-reads lease number xid h) (rw (eqb-same xid) (rw good refl))
+
+replying-fits : (lease : Lease) (number xid : ℕ) → length (reply_octets (replying lease number xid)) ≤ 131072
+replying-fits lease number xid = accepted-fits xid 6 (mic_of (end_of lease) (2 * number) (word number)) 0 0 0 [] (omega (arith, mic-size (end_of lease) (2 * number) (word number))) (omega arith)
+
+end-heard : (s : SessionState) (reply rest : List ℕ) → length reply ≤ 131072 → destroyed_in s.outcome s.number s.xid reply ≡ Ok tt → destroys s (last_fragment reply ++ rest) ≡ said (last_fragment (destroy_call s)) (Ok tt) rest
+unfolding destroys
+end-heard s reply rest few judged = rw (exchanged (destroy_call s) reply rest few, judged, append-nil (last_fragment (destroy_call s))) refl
+
+pub ended : (lease : Lease) (service : Service) (number xid : ℕ) (kept : KeptAnswers) (width : ℕ) (rest : List ℕ) → HonestEnd lease number xid → (t : IsTaken lease kept) → IsDestroyed lease service number xid kept width t.receipt rest
+ended lease service number xid kept width rest h t =
+    let r = end-rule lease service number xid kept width rest h t in record {
+      rule = rw r refl;
+      asked = rw r refl;
+      result = rw r (end-heard (session_on lease service number xid) (reply_octets (replying lease number xid)) rest (replying-fits lease number xid) (end-judged lease number xid h.xid_fits));
+    }
+
+-- ---- over a book
+
+-- it asks for its context first
+end-looks : (lease : Lease) (service : Service) (number xid : ℕ) (kept : KeptAnswers) (width : ℕ) → HonestEnd lease number xid
+    → record_ruling (destroy_call (session_on lease service number xid)) kept width ≡ ask_look (shown lease service number xid kept width) (end_cred lease number) lease.id kept.admitted kept.ended kept.looked
+unfolding record_ruling call_ruling
+end-looks lease service number xid kept width h =
+    rw (end-read lease service number xid h.number_fits h.xid_fits) (rw (end-cred lease number h.number_fits) (rw (from_be_bytes-to_be_bytes_8 lease.id h.id) refl))
+
+-- and then for its end
+end-asks : (lease : Lease) (service : Service) (number xid : ℕ) (kept : KeptAnswers) (width : ℕ) → HonestEnd lease number xid → kept.looked ≡ Some (Ok lease)
+    → record_ruling (destroy_call (session_on lease service number xid)) kept width
+    ≡ asking (AskedLook lease.id kept.now (Ok lease)) (ask_end (shown lease service number xid kept width) (end_cred lease number) lease kept.ended)
+unfolding destroy_ruling
+end-asks lease service number xid kept width h look =
+    end-looks lease service number xid kept width h
+    ∙ ap (λ a. ask_look (shown lease service number xid kept width) (end_cred lease number) lease.id kept.admitted kept.ended a) look
+    ∙ rw (end-verified lease service number xid kept width) refl
+
+pub end-turn : (lease : Lease) (service : Service) (next xid : ℕ) (kept : KeptAnswers) (width : ℕ) (old new : BookOf) → HonestEnd lease next xid
+    → IsAnsweredBy width lease.ends (destroy_call (session_on lease service next xid)) kept old new → IsLiveAt old lease next → IsEndTurn old new lease next kept
+end-turn lease service next xid kept width old new h by live = by-look kept.looked refl
+  where
+    s : Shown
+    s = shown lease service next xid kept width
+
+    cred : CredValue
+    cred = end_cred lease next
+
+    first : record_ruling (destroy_call (session_on lease service next xid)) kept width ≡ ask_look s cred lease.id kept.admitted kept.ended kept.looked
+    first = end-looks lease service next xid kept width h
+
+    by-end : kept.looked ≡ Some (Ok lease) → (answer : Option (Result Receipt AdmitRefusal)) → kept.ended ≡ answer → IsEndTurn old new lease next kept
+    by-end look None e =
+        let r = end-asks lease service next xid kept width h look in
+        let d : IsDecided (asking (AskedLook lease.id kept.now (Ok lease)) (ask_end s cred lease None)) = subst IsDecided (r ∙ ap (λ a. asking (AskedLook lease.id kept.now (Ok lease)) (ask_end s cred lease a)) e) by.decided in
+        absurd (omega (arith, d))
+    by-end look (Some answer) e =
+        let r = end-asks lease service next xid kept width h look ∙ ap (λ a. asking (AskedLook lease.id kept.now (Ok lease)) (ask_end s cred lease a)) e in
+        let c : Asking BookAnswers old (AskedLook lease.id kept.now (Ok lease) ∷ AskedEnd lease next answer ∷ (ended_ruling s cred lease answer).asked) new = subst (λ (x : Ruling). Asking BookAnswers old x.asked new) r by.asked in
+        let v = seen old c.0 lease kept.now (Ok lease) next c.1 by.lasting live in
+        let roomy : length c.0.core.history < c.0.core.limit = rw (v.history, c.1.looked.limit) by.room in
+        let k = over c.0 c.2.0 lease next answer c.2.1 v.live h.number_fits roomy in
+        let same : new ≡ c.2.0 = subst (λ a. Asking BookAnswers c.2.0 (ended_ruling s cred lease a).asked new) k.answer c.2.2 in record {
+          looked = look;
+          ended_is = e ∙ ap Some (k.answer ∙ ap (λ (hs : List Entry). Ok (receipt_of hs (Ended lease.id (Destroyed next)))) v.history);
+          gone = ap (λ (b : BookOf). slot_at b.core.table lease.id) same ∙ k.gone;
+          history = ap (λ (b : BookOf). b.core.history) same ∙ (k.history ∙ ap (λ (hs : List Entry). Ended lease.id (Destroyed next) ∷ hs) v.history);
+        }
+
+    by-look : (answer : Option (Result Lease LookRefusal)) → kept.looked ≡ answer → IsEndTurn old new lease next kept
+    by-look None e =
+        let d : IsDecided (ask_look s cred lease.id kept.admitted kept.ended None) = subst IsDecided (first ∙ ap (λ a. ask_look s cred lease.id kept.admitted kept.ended a) e) by.decided in
+        absurd (omega (arith, d))
+    by-look (Some answer) e =
+        let c : Asking BookAnswers old (asking (AskedLook lease.id kept.now answer) (looked_ruling s cred kept.admitted kept.ended answer)).asked new = subst (λ (r : Ruling). Asking BookAnswers old r.asked new) (first ∙ ap (λ a. ask_look s cred lease.id kept.admitted kept.ended a) e) by.asked in
+        let v = seen old c.0 lease kept.now answer next c.1 by.lasting live in
+        by-end (e ∙ ap Some v.shown) kept.ended refl

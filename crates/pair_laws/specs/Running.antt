@@ -1,0 +1,186 @@
+-- A session's run against an acceptor's book: calls of one procedure, and the end of the context,
+-- over the book that created it.
+use Rattle.std.specs.Prelude.{◌≡◌, ℕ, zero, suc, ◌+◌, ◌-◌, ◌*◌, ◌<◌, ◌≤◌, nat_le, true, List, []}
+use Rattle.std.specs.Prelude.{◌∷◌, ◌++◌, length, drop, if◌then◌else◌, Some, None}
+use Rattle.std.specs.List.{flat_map}
+use Rattle.std.specs.Str.{is_utf8}
+use Rattle.sha1.specs.Sha1.{sha1}
+use Rattle.krb_derive.specs.declared.key.Key.{Key}
+use Rattle.rpc_msgs.specs.Records.{last_fragment}
+use Rattle.seq_window.specs.Marks.{greatest}
+use Rattle.context_table.specs.Places.{slot_at}
+use Rattle.spnego_core.specs.declared.setup.AcceptSetup.{AcceptSetup}
+use Rattle.spnego_core.specs.declared.accept_end.AcceptEnd.{AcceptEnd}
+use Rattle.spnego_core.specs.declared.outcome.Outcome.{Outcome}
+use Rattle.accept_book.specs.Booking.{BookOf}
+use Rattle.accept_book.specs.History.{standing, numbers, posts}
+use Rattle.accept_book.specs.Honest.{IsOctets}
+use Rattle.accept_book.specs.RecordShown.{KeptAnswers}
+use Rattle.accept_book.specs.RecordRule.{record_ruling}
+use Rattle.accept_book.specs.Replays.{Accepting}
+use Rattle.accept_book.specs.Served.{are_args, result_of}
+use Rattle.accept_book.specs.declared.book_answer.Lease.{Lease}
+use Rattle.accept_book.specs.declared.entry.Entry.TheVariants.{Call, Ended}
+use Rattle.accept_book.specs.declared.entry.EndCause.TheVariants.{Destroyed}
+use Rattle.gss_client.specs.declared.conversation.Parting.{Parting}
+use Rattle.gss_client.specs.declared.conversation.Parting.TheVariants.{Finished, Spent}
+use Rattle.gss_client.specs.declared.procedure.Procedure.{Procedure}
+use Rattle.gss_client.specs.declared.service.Service.{Service}
+use Rattle.gss_client.specs.declared.service.Service.TheVariants as services
+use Rattle.gss_client.specs.declared.start.Start.{Start}
+use Rattle.gss_client.specs.Conversation.{converses, talk}
+use Rattle.gss_client.specs.Procedure.{procedure_number}
+use Rattle.gss_server.specs.Connections.{framed}
+use Rattle.pair_laws.specs.Booked.{id_in}
+use Rattle.pair_laws.specs.Honest.{HonestExchange}
+use Rattle.pair_laws.specs.HonestCalls.{session_on}
+use Rattle.pair_laws.specs.Laws.{Completes}
+use Rattle.pair_laws.specs.Live.{lease_on}
+use Rattle.pair_laws.specs.Turns.{IsAnsweredBy}
+
+-- ---- what the server does
+
+-- a record of the session, what was kept of its answer, and the book as it was asked and as it is
+-- afterwards
+pub record Turn : Type 0 where
+  pub octets : List ℕ
+  pub kept : KeptAnswers
+  pub before : BookOf
+  pub after : BookOf
+
+-- what the session writes in a turn
+abbrev pub sent_in : Turn → List ℕ
+sent_in turn = last_fragment turn.octets
+
+-- what it hears
+abbrev pub heard_in : ℕ → Turn → List ℕ
+heard_in width turn = framed (record_ruling turn.octets turn.kept width).reply
+
+-- the context of an id is in both books the same, and no number was called of it meanwhile
+pub record IsUntouched (id : ℕ) (old new : Accepting AcceptEnd Outcome) : Type 0 where
+  pub stands : standing id new.history ≡ standing id old.history
+  pub called : numbers id new.history ≡ numbers id old.history
+  pub slot : slot_at new.table id ≡ slot_at old.table id
+
+-- the record is within its limit, and is answered by a book that has the context as it was; 82
+-- octets were drawn for it
+pub record IsServed (width : ℕ) (lease : Lease) (core : Accepting AcceptEnd Outcome)
+    (turn : Turn) : Type 0 where
+  pub within : length turn.octets ≤ 131072
+  pub untouched : IsUntouched lease.id core turn.before.core
+  pub wide : 0 < turn.before.core.width
+  pub answered : IsAnsweredBy width lease.ends turn.octets turn.kept turn.before turn.after
+  pub drawn : length turn.kept.draws ≡ 82
+  pub octets : IsOctets turn.kept.draws
+
+-- the same of each of these turns, one after the other
+abbrev pub Serves : ℕ → Lease → Accepting AcceptEnd Outcome → List Turn → Type 0
+Serves width lease core [] = Unit {0}
+Serves width lease core (turn ∷ turns) =
+    IsServed width lease core turn × Serves width lease turn.after.core turns
+
+-- ---- what the session asks for
+
+-- a name's text has at most 255 octets, and is UTF-8
+pub record IsName (name : List ℕ) : Type 0 where
+  pub size : length name ≤ 255
+  pub text : is_utf8 name ≡ true
+  pub octets : IsOctets name
+
+-- calls from a number on, of a procedure with its own arguments, which the service protects unless
+-- the procedure is 0, and with random octets
+pub record IsPlan (service : Service) (first : ℕ) (procedure : Procedure)
+    (args confounders : List ℕ) : Type 0 where
+  pub first_fits : first ≤ 0x80000000
+  pub proper : are_args (procedure_number procedure) args ≡ true
+  pub protected : service ≡ services.None → procedure_number procedure ≡ 0
+  pub size : length args ≤ 65540
+  pub args_octets : IsOctets args
+  pub octets : IsOctets confounders
+
+-- behind its creation a session writes records and hears the replies to them, from the book that
+-- settled its context, of which no number from the first on was called yet
+pub record HonestRun (setup : AcceptSetup) (width : ℕ) (start : Start) (stream : List ℕ)
+    (x : HonestExchange setup width start stream) (c : Completes setup width start stream x)
+    (times : ℕ) (procedure : Procedure) (args confounders : List ℕ) : Type 0 where
+  pub turns : List Turn
+  pub rest : List ℕ
+  pub written : (converses times procedure args
+      (session_on (lease_on (id_in x.books) c.outcome c.lasts) start.service start.first
+      (1 + length x.answers)) confounders x.converses.rest).written ≡ flat_map sent_in turns
+  pub heard : x.converses.rest ≡ flat_map (heard_in width) turns ++ rest
+  pub served : Serves width (lease_on (id_in x.books) c.outcome c.lasts) c.core turns
+  pub unused : greatest (numbers (id_in x.books) c.core.history) < start.first
+  pub plan : IsPlan start.service start.first procedure args confounders
+  pub enough : 16 * times ≤ length confounders
+  pub name : IsName c.outcome.initiator
+
+-- ---- what comes of it
+
+-- how many calls are made: so many, or as many as numbers are left
+abbrev pub calls_made : ℕ → ℕ → ℕ
+calls_made first times = if nat_le (first + times) 0x80000000 then times else 0x80000000 - first
+
+-- how the session parts: all calls were made, or the numbers are spent
+abbrev pub parting_of : ℕ → ℕ → Parting
+parting_of first times = if nat_le (first + times) 0x80000000 then Finished else Spent
+
+-- the service's results of so many calls, each by the posts that the log has with it
+abbrev pub results_of : ℕ → ℕ → List ℕ → List ℕ → List Turn → List (List ℕ)
+results_of zero procedure args name turns = []
+results_of (suc made) procedure args name [] = []
+results_of (suc made) procedure args name (turn ∷ turns) =
+    result_of procedure args name (posts turn.after.core.history)
+    ∷ results_of made procedure args name turns
+
+-- a call was answered by rule 23, and the log has it
+pub record IsLogged (width : ℕ) (lease : Lease) (number procedure : ℕ) (args : List ℕ)
+    (turn : Turn) : Type 0 where
+  pub rule : (record_ruling turn.octets turn.kept width).rule ≡ 23
+  pub history : turn.after.core.history
+      ≡ Call lease.id number procedure (sha1 args) ∷ turn.before.core.history
+
+-- the destruction was answered by rule 24, the log has the end, and the context is gone
+pub record IsGone (width : ℕ) (lease : Lease) (number : ℕ) (turn : Turn) : Type 0 where
+  pub rule : (record_ruling turn.octets turn.kept width).rule ≡ 24
+  pub history : turn.after.core.history
+      ≡ Ended lease.id (Destroyed number) ∷ turn.before.core.history
+  pub gone : slot_at turn.after.core.table lease.id ≡ None
+
+-- so many calls from a number on, each with the next one, and then the destruction
+abbrev pub Logged : ℕ → Lease → ℕ → List ℕ → ℕ → ℕ → List Turn → Type 0
+Logged width lease procedure args zero number [] = ⊥
+Logged width lease procedure args zero number (last ∷ []) = IsGone width lease number last
+Logged width lease procedure args zero number (turn ∷ next ∷ turns) = ⊥
+Logged width lease procedure args (suc made) number [] = ⊥
+Logged width lease procedure args (suc made) number (turn ∷ turns) =
+    IsLogged width lease number procedure args turn
+    × Logged width lease procedure args made (number + 1) turns
+
+-- the session agrees on the outcome, is answered the service's results, parts with all calls made
+-- or its numbers spent, and leaves the rest of the stream and of the random octets; the book has
+-- each call in its log, and has destroyed the context
+pub record Runs (setup : AcceptSetup) (width : ℕ) (start : Start) (stream : List ℕ)
+    (x : HonestExchange setup width start stream) (c : Completes setup width start stream x)
+    (times : ℕ) (procedure : Procedure) (args confounders : List ℕ)
+    (r : HonestRun setup width start stream x c times procedure args confounders) : Type 0 where
+  pub session : talk start times procedure args confounders stream ≡ record {
+    written = flat_map last_fragment x.converses.records ++ flat_map sent_in r.turns;
+    outcome = Some c.outcome;
+    results = results_of (calls_made start.first times) (procedure_number procedure) args
+        c.outcome.initiator r.turns;
+    parting = parting_of start.first times;
+    undrawn = drop (16 * calls_made start.first times) confounders;
+    rest = r.rest;
+  }
+  pub logged : Logged width (lease_on (id_in x.books) c.outcome c.lasts)
+      (procedure_number procedure) args (calls_made start.first times) start.first r.turns
+
+-- every honest run on this key is complete
+abbrev pub RunLaw : Key → Type 0
+RunLaw key =
+    (setup : AcceptSetup) (width : ℕ) (start : Start) (stream : List ℕ)
+    (x : HonestExchange setup width start stream) (c : Completes setup width start stream x)
+    (times : ℕ) (procedure : Procedure) (args confounders : List ℕ) → c.outcome.key ≡ key
+    → (r : HonestRun setup width start stream x c times procedure args confounders)
+    → Runs setup width start stream x c times procedure args confounders r
