@@ -52,6 +52,7 @@ empty-facts setup c none = record {
   slots = λ id context lasting e. absurd (none-some context (sym (none id) ∙ e));
   live = λ place x context there. absurd (none-some x there);
   opened_id = λ place x there. absurd (none-some x there);
+  opened_at = λ place x there. absurd (none-some x there);
   ids = λ i j x y there. absurd (none-some x there);
   auths = λ place x request there. absurd (none-some x there);
   settled = λ place id mech names ends at e. absurd (none-some (Settled id mech names ends at) e);

@@ -18,7 +18,7 @@ use Rattle.accept_book.specs.History.{opened, entry_at}
 use Rattle.accept_book.specs.Stepping.{Context as Slot, context_of}
 use Rattle.world_laws.specs.State.{InHand, Context, World}
 use Rattle.world_laws.specs.Events.{IsBook}
-use Rattle.world_laws.proofs.Invariants.{FixedAs, HasAuthEntry, Held}
+use Rattle.world_laws.proofs.Invariants.{FixedAs, WasOpened, HasAuthEntry, Held}
 use Rattle.world_laws.proofs.HeldLists.{get-more}
 
 -- a context was fixed with this id, outcome and end
@@ -81,6 +81,7 @@ pub record Facts (setup : AcceptSetup) (h : List Entry) (c : Contexts) (fixed : 
   pub slots : Slots c fixed
   pub live : Live c fixed
   pub opened_id : (place : ℕ) (x : Context) → slice_get fixed place ≡ Some x → x.id ≤ opened h
+  pub opened_at : (place : ℕ) (x : Context) → slice_get fixed place ≡ Some x → WasOpened h x.id
   pub ids : (i j : ℕ) (x y : Context) → slice_get fixed i ≡ Some x → slice_get fixed j ≡ Some y → x.id ≡ y.id → i ≡ j
   pub auths : (place : ℕ) (x : Context) (request : Judged) → slice_get fixed place ≡ Some x → x.fixed.basis ≡ ByRequest request → AuthIn h x request
   pub settled : AllSettled h fixed
@@ -115,6 +116,7 @@ facts-of w held = record {
   slots = λ id context lasting e f. in-fixed w id lasting.outcome lasting.ends (held.slots id context lasting e f);
   live = held.live;
   opened_id = held.opened_id;
+  opened_at = held.opened_at;
   ids = held.ids;
   auths = λ place x request e f. in-auth w x request (held.auths place x request e f);
   settled = λ place id mech names ends at e.
@@ -133,6 +135,7 @@ held-from w book good facts leases = record {
   slots = λ id context lasting e f. as-fixed w id lasting.outcome lasting.ends (facts.slots id context lasting e f);
   live = facts.live;
   opened_id = facts.opened_id;
+  opened_at = facts.opened_at;
   ids = facts.ids;
   auths = λ place x request e f. as-auth w x request (facts.auths place x request e f);
   settled = λ place id mech names ends at e.

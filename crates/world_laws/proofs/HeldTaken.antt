@@ -34,6 +34,7 @@ use Rattle.world_laws.proofs.HeldHistory.{Grows, Quiet, grows-one, grows-then, a
 use Rattle.world_laws.proofs.HeldTold.{Told, told}
 use Rattle.world_laws.proofs.HeldTurns.{Turned, turned-same, turned-if, slots-turned, facts-turned, Adds, slots-added, facts-added}
 use Rattle.world_laws.proofs.HeldSteps.{AllSame, Comes, own-turned, own-absent, other-turned}
+use Rattle.world_laws.proofs.HeldOpened.{slot-opened}
 
 -- ---- what is settled
 
@@ -214,6 +215,7 @@ adds laws wide broad posted cache setup book id past token now draws h table f f
       within =
           let lt = lives-opened by_outcome broad posted h table cache (id_of id book.history) replays (some-slot (slot_at table (id_of id book.history)) _ own) in
           omega (arith, lt);
+      opens = slot-opened broad h (slot_at table (id_of id book.history)) (id_of id book.history) (record { outcome = f.outcome; ends = f.lasts }) replays.legal (replays.slots (id_of id book.history)) own;
       grows = grown book.history h (contexts_of table) settles;
       auth = λ request basis.
           auth-in setup (stepped_from book id) now draws fc.accepted f book.history (negotiated setup book id past token now draws).history h (id_of id book.history) book.greatest request

@@ -10,11 +10,12 @@ use Rattle.spnego_core.specs.declared.setup.AcceptSetup.{AcceptSetup}
 use Rattle.spnego_core.specs.AcceptMech.{ByRequest}
 use Rattle.spnego_core.specs.Choice.{best}
 use Rattle.accept_book.specs.declared.entry.Entry.{Entry}
-use Rattle.accept_book.specs.declared.entry.Entry.TheVariants.{Auth}
+use Rattle.accept_book.specs.declared.entry.Entry.TheVariants.{Opened, Auth}
 use Rattle.accept_book.specs.BookLaws.{Lasting, fixed_in}
 use Rattle.accept_book.specs.History.{opened}
 use Rattle.accept_book.specs.Stepping.{Context as Slot}
 use Rattle.world_laws.specs.State.{Context}
+use Rattle.world_laws.proofs.Invariants.{WasOpened}
 use Rattle.world_laws.proofs.HeldLists.{get-last, get-cases}
 use Rattle.world_laws.proofs.HeldHistory.{Grows}
 use Rattle.world_laws.proofs.HeldFacts.{FixedIn, AuthIn, more-fixed, Contexts, Slots, Live, AllSettled, Facts}
@@ -72,6 +73,9 @@ slots-turned h c d fixed slots turned = λ id context lasting e f. slot-turned h
 auth-grown : (h new : List Entry) (x : Context) (request : Judged) → Grows h new → AuthIn h x request → AuthIn new x request
 auth-grown h new x request grows a = record { place = a.place; at = a.at; entry = grows.kept a.place (Auth x.id (judged_mark request) a.at) a.entry }
 
+pub opened-grown : (h new : List Entry) (id : ℕ) → Grows h new → WasOpened h id → WasOpened new id
+opened-grown h new id grows o = record { place = o.place; at = o.at; entry = grows.kept o.place (Opened id o.at) o.entry }
+
 -- nothing is fixed
 pub facts-turned : (setup : AcceptSetup) (h new : List Entry) (c d : Contexts) (fixed : List Context) → Facts setup h c fixed → Grows h new → ((id : ℕ) → Turned h id (c id) (d id))
     → AllSettled new fixed → Facts setup new d fixed
@@ -79,6 +83,7 @@ facts-turned setup h new c d fixed facts grows turned settled = record {
   slots = slots-turned h c d fixed facts.slots turned;
   live = λ place x context there e. live-turned h c d fixed place x context facts.live (facts.opened_id place x there) (turned x.id) there e;
   opened_id = λ place x there. let below = facts.opened_id place x there in let more = grows.more in omega (arith, below, more);
+  opened_at = λ place x there. opened-grown h new x.id grows (facts.opened_at place x there);
   ids = facts.ids;
   auths = λ place x request there basis. auth-grown h new x request grows (facts.auths place x request there basis);
   settled = settled;
@@ -93,6 +98,7 @@ pub record Adds (setup : AcceptSetup) (h new : List Entry) (c d : Contexts) (fix
   pub own : fixed_in (d x.id) ≡ Some (record { outcome = x.fixed.outcome; ends = x.fixed.lasts })
   pub absent : (place : ℕ) (y : Context) → slice_get fixed place ≡ Some y → y.id ≢ x.id
   pub within : x.id ≤ opened new
+  pub opens : WasOpened new x.id
   pub grows : Grows h new
   pub auth : (request : Judged) → x.fixed.basis ≡ ByRequest request → AuthIn new x request
   pub best_is : best setup.offer x.fixed.received ≡ Some x.fixed.outcome.mech
@@ -133,6 +139,13 @@ within-added setup h new c d fixed x facts adds place y there = elim (get-cases 
   | inr last ↦ subst (λ (z : Context). z.id ≤ opened new) (sym last.1) adds.within
 ]
 
+opened-added : (setup : AcceptSetup) (h new : List Entry) (c d : Contexts) (fixed : List Context) (x : Context) → Facts setup h c fixed → Adds setup h new c d fixed x
+    → (place : ℕ) (y : Context) → slice_get (fixed ++ x ∷ []) place ≡ Some y → WasOpened new y.id
+opened-added setup h new c d fixed x facts adds place y there = elim (get-cases fixed x place y there) [
+  | inl old ↦ opened-grown h new y.id adds.grows (facts.opened_at place y old)
+  | inr last ↦ subst (λ (z : Context). WasOpened new z.id) (sym last.1) adds.opens
+]
+
 ids-added : (setup : AcceptSetup) (h new : List Entry) (c d : Contexts) (fixed : List Context) (x : Context) → Facts setup h c fixed → Adds setup h new c d fixed x
     → (i j : ℕ) (y z : Context) → slice_get (fixed ++ x ∷ []) i ≡ Some y → slice_get (fixed ++ x ∷ []) j ≡ Some z → y.id ≡ z.id → i ≡ j
 ids-added setup h new c d fixed x facts adds i j y z a b same = go (get-cases fixed x i y a) (get-cases fixed x j z b)
@@ -163,6 +176,7 @@ facts-added setup h new c d fixed x facts adds settled = record {
   slots = slots-added setup h new c d fixed x facts.slots adds;
   live = live-added setup h new c d fixed x facts adds;
   opened_id = within-added setup h new c d fixed x facts adds;
+  opened_at = opened-added setup h new c d fixed x facts adds;
   ids = ids-added setup h new c d fixed x facts adds;
   auths = auths-added setup h new c d fixed x facts adds;
   settled = settled;

@@ -1,5 +1,5 @@
 -- Who holds the key of a context that is built on a guarded key is its partner; and what the setups are stays.
-use Rattle.std.proofs.Common.{◌≡◌, inl, inr, ℕ, refl, sym, ap, ◌∙◌, subst, List, Some, slice_get}
+use Rattle.std.proofs.Common.{◌≡◌, inr, ℕ, refl, sym, ap, ◌∙◌, subst, List, Some, slice_get}
 use Rattle.gss_base.specs.declared.mech.MechKind.TheVariants as kinds
 use Rattle.scram_mech.specs.Acceptor.{auth_with}
 use Rattle.spnego_core.specs.declared.outcome.Outcome.{Outcome}
@@ -7,7 +7,7 @@ use Rattle.spnego_core.specs.declared.setup.AcceptSetup.{AcceptSetup}
 use Rattle.spnego_core.specs.declared.setup.InitSetup.{InitSetup}
 use Rattle.spnego_core.specs.AcceptMech.{Basis, ByRequest, ByProof}
 use Rattle.world_laws.specs.State.{Context, World}
-use Rattle.world_laws.specs.Premises.{Marking, GuardedBasis, BuiltKey, OnTicket, Fresh, HasAuth, Completed, Proved}
+use Rattle.world_laws.specs.Premises.{Marking, GuardedBasis, BuiltKey, OnTicket, Fresh, HasAuth, Completed, Proved, AtInitiator}
 use Rattle.world_laws.specs.Agreement.{Partner}
 use Rattle.world_laws.specs.Setups.{Proper}
 use Rattle.world_laws.proofs.Invariants.{KrbDone, Below, Kept}
@@ -34,12 +34,12 @@ same-place marking w own outcome on a place x there same =
     subst (λ (z : Context). Partner w own z.fixed.basis) context mine
 
 answered-by : (laws : Below) (marking : Marking) (w : World) → Proper w → Fresh marking w → Kept marking w → (own : InitSetup) (outcome : Outcome) (on : OnTicket marking own) (a : Answers w own on.credential outcome) (place : ℕ) (x : Context) → slice_get w.fixed place ≡ Some x
-    → x.fixed.outcome.key ≡ outcome.key → (b : Basis) → x.fixed.basis ≡ b → Partner w own x.fixed.basis
-answered-by laws marking w proper fresh kept own outcome on a place x there key (ByRequest request) basis =
+    → GuardedBasis marking x.fixed.basis → x.fixed.outcome.key ≡ outcome.key → (b : Basis) → x.fixed.basis ≡ b → Partner w own x.fixed.basis
+answered-by laws marking w proper fresh kept own outcome on a place x there guarded key (ByRequest request) basis =
     same-place marking w own outcome on a place x there
     (fresh.subkeys place a.place x a.context request a.request there a.there (record { basis = basis }) (record { basis = a.basis }) (key ∙ ap (λ (o : Outcome). o.key) a.agree))
-answered-by laws marking w proper fresh kept own outcome on a place x there key (ByProof end text) basis =
-    not-mixed laws marking w proper fresh kept a.place place a.context x a.there there a.request a.basis end text basis (sym (key ∙ ap (λ (o : Outcome). o.key) a.agree))
+answered-by laws marking w proper fresh kept own outcome on a place x there guarded key (ByProof end text) basis =
+    not-mixed laws marking w proper fresh kept a.place place a.context x a.there there (inr guarded) a.request a.basis end text basis (sym (key ∙ ap (λ (o : Outcome). o.key) a.agree))
 
 pub krb-holds : (laws : Below) (marking : Marking) (w : World) → Proper w → Fresh marking w → Kept marking w → (i : ℕ) (own : InitSetup) (outcome : Outcome) → Completed w i own outcome → outcome.mech ≡ kinds.Kerberos
     → (place : ℕ) (x : Context) → slice_get w.fixed place ≡ Some x → GuardedBasis marking x.fixed.basis → x.fixed.outcome.key ≡ outcome.key → Partner w own x.fixed.basis
@@ -50,7 +50,7 @@ krb-holds laws marking w proper fresh kept i own outcome completed mech place x 
 
     with : (d : KrbDone marking w own outcome) (on : OnTicket marking own) → Partner w own x.fixed.basis
     with d on =
-        answered-by laws marking w proper fresh kept own outcome on (krb-answers laws.exchange laws.scram marking w proper fresh kept.owning kept.found i own outcome completed.there d on) place x there key x.fixed.basis refl
+        answered-by laws marking w proper fresh kept own outcome on (krb-answers laws.exchange laws.scram marking w proper fresh kept.owning kept.found i own outcome completed.there d on) place x there guarded key x.fixed.basis refl
 
     by : KrbDone marking w own outcome → Partner w own x.fixed.basis
     by d = with d (record {
@@ -61,20 +61,17 @@ krb-holds laws marking w proper fresh kept i own outcome completed mech place x 
 
 -- ---- who completed by SCRAM, and handed its proof out
 
-proof-holds : (laws : Below) (marking : Marking) (w : World) → Proper w → Fresh marking w → Kept marking w → (i : ℕ) (own : InitSetup) (outcome : Outcome) (auth : List ℕ) → Completed w i own outcome → outcome.mech ≡ kinds.Scram → Proved w own auth
-    → (place : ℕ) (x : Context) → slice_get w.fixed place ≡ Some x → x.fixed.outcome.key ≡ outcome.key → (b : Basis) → x.fixed.basis ≡ b → Partner w own b
-proof-holds laws marking w proper fresh kept i own outcome auth completed mech proved place x there key (ByRequest request) basis =
-    absurd (fresh.proof_subkeys outcome.key auth (inr (record { i = i; own = own; outcome = outcome; completed = completed; by_proof = mech; proved = proved; key_is = refl }))
-    (inl (record { context = x; listed = record { place = place; there = there }; request = request; on = record { basis = basis }; key_is = key })))
-proof-holds laws marking w proper fresh kept i own outcome auth completed mech proved place x there key (ByProof end text) basis =
+proof-holds : (laws : Below) (marking : Marking) (w : World) → Proper w → Fresh marking w → Kept marking w → (own : InitSetup) (auth : List ℕ) → Proved w own auth → (place : ℕ) (x : Context) → slice_get w.fixed place ≡ Some x → GuardedBasis marking x.fixed.basis
+    → AtInitiator w x.fixed.outcome.key auth → (b : Basis) → x.fixed.basis ≡ b → Partner w own b
+proof-holds laws marking w proper fresh kept own auth proved place x there guarded at (ByRequest request) basis = absurd (fresh.own_proofs x request auth (record { place = place; there = there }) guarded (record { basis = basis }) at)
+proof-holds laws marking w proper fresh kept own auth proved place x there guarded at (ByProof end text) basis =
     let t : Taken w x end text = taken laws.scram marking w proper x end text (kept.found.proofs place x end text there basis) in
     let said : HasAuth end text (auth_with end t.third.bare) = record { third = t.third; read = t.read; auth_is = refl } in
-    let same : auth_with end t.third.bare ≡ auth = fresh.proof_keys outcome.key (auth_with end t.third.bare) auth
-    (inl (record { context = x; listed = record { place = place; there = there }; end = end; on = record { text = text; basis = basis; has_auth = said }; key_is = key }))
-    (inr (record { i = i; own = own; outcome = outcome; completed = completed; by_proof = mech; proved = proved; key_is = refl })) in
+    let same : auth_with end t.third.bare ≡ auth = fresh.proof_keys x end (auth_with end t.third.bare) auth (record { place = place; there = there }) guarded (record { text = text; basis = basis; has_auth = said }) at in
     record { auth = auth; taken = subst (λ (os : List ℕ). HasAuth end text os) same said; proved = proved }
 
 pub scram-holds : (laws : Below) (marking : Marking) (w : World) → Proper w → Fresh marking w → Kept marking w → (i : ℕ) (own : InitSetup) (outcome : Outcome) (auth : List ℕ) → Completed w i own outcome → outcome.mech ≡ kinds.Scram → Proved w own auth
-    → (place : ℕ) (x : Context) → slice_get w.fixed place ≡ Some x → x.fixed.outcome.key ≡ outcome.key → Partner w own x.fixed.basis
-scram-holds laws marking w proper fresh kept i own outcome auth completed mech proved place x there key =
-    proof-holds laws marking w proper fresh kept i own outcome auth completed mech proved place x there key x.fixed.basis refl
+    → (place : ℕ) (x : Context) → slice_get w.fixed place ≡ Some x → GuardedBasis marking x.fixed.basis → x.fixed.outcome.key ≡ outcome.key → Partner w own x.fixed.basis
+scram-holds laws marking w proper fresh kept i own outcome auth completed mech proved place x there guarded key =
+    proof-holds laws marking w proper fresh kept own auth proved place x there guarded
+    (record { i = i; own = own; outcome = outcome; completed = completed; by_proof = mech; proved = proved; key_is = sym key }) x.fixed.basis refl

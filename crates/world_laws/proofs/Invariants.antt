@@ -10,7 +10,7 @@ use Rattle.ap_exchange.specs.declared.judged.Judged.{Judged}
 use Rattle.ap_exchange.specs.declared.request.ApInit.{ApInit}
 use Rattle.ap_exchange.specs.Draws.{drawn_nonce}
 use Rattle.ap_exchange.specs.Answer.{answer_done, answer_making}
-use Rattle.ap_exchange.specs.Judging.{client_granted, judged_mark}
+use Rattle.ap_exchange.specs.Judging.{client_granted}
 use Rattle.ap_exchange.specs.Keys.{authenticator_usage}
 use Rattle.ap_exchange.specs.Laws.{JudgesBy}
 use Rattle.ap_exchange.specs.Reply.{reply_taken, reply_found}
@@ -32,7 +32,7 @@ use Rattle.spnego_core.specs.ListMic.{is_list_mic, mic_making, mic_found}
 use Rattle.spnego_core.specs.Outcome.{outcome_of}
 use Rattle.context_table.specs.Places.{slot_at}
 use Rattle.accept_book.specs.declared.book_answer.Lease.{Lease}
-use Rattle.accept_book.specs.declared.entry.Entry.TheVariants.{Auth, Settled}
+use Rattle.accept_book.specs.declared.entry.Entry.TheVariants.{Settled}
 use Rattle.accept_book.specs.Booking.{names_of}
 use Rattle.accept_book.specs.BookLaws.{AllGood, Lasting, fixed_in}
 use Rattle.accept_book.specs.History.{opened, entry_at}
@@ -43,7 +43,7 @@ use Rattle.spnego_core.specs.declared.accept_end.AcceptEnd.{AcceptEnd}
 use Rattle.gss_client.specs.Session.{SessionState}
 use Rattle.world_laws.specs.declared.stage.Stage.{Stage}
 use Rattle.world_laws.specs.declared.stage.Stage.TheVariants as stages
-pub use Rattle.world_laws.specs.Agreement.{FixedAs}
+pub use Rattle.world_laws.specs.Agreement.{FixedAs, WasOpened, HasAuthEntry}
 pub use Rattle.world_laws.specs.Below.{Below}
 use Rattle.world_laws.specs.State.{InHand, Context, World}
 use Rattle.world_laws.specs.Initiators.{call_makings}
@@ -62,12 +62,6 @@ pub record Known (w : World) : Type 0 where
 
 -- ---- contexts
 
--- the log has the authenticator of the request that the context is on
-pub record HasAuthEntry (w : World) (context : Context) (request : Judged) : Type 0 where
-  pub place : ℕ
-  pub at : ℕ
-  pub entry : entry_at place w.book.core.history ≡ Some (Auth context.id (judged_mark request) at)
-
 pub record Held (w : World) : Type 0 where
   pub book : IsBook w.book
   pub good : AllGood w.book.setup w.book.core.table
@@ -78,6 +72,7 @@ pub record Held (w : World) : Type 0 where
       → fixed_in (Some context) ≡ Some (record { outcome = x.fixed.outcome; ends = x.fixed.lasts })
   -- its id was opened, and is its own
   pub opened_id : (place : ℕ) (x : Context) → slice_get w.fixed place ≡ Some x → x.id ≤ opened w.book.core.history
+  pub opened_at : (place : ℕ) (x : Context) → slice_get w.fixed place ≡ Some x → WasOpened w.book.core.history x.id
   pub ids : (i j : ℕ) (x y : Context) → slice_get w.fixed i ≡ Some x → slice_get w.fixed j ≡ Some y → x.id ≡ y.id → i ≡ j
   pub auths : (place : ℕ) (x : Context) (request : Judged) → slice_get w.fixed place ≡ Some x → x.fixed.basis ≡ ByRequest request → HasAuthEntry w x request
   -- a context that was settled was fixed, with the names in the log

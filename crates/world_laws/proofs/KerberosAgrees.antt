@@ -9,15 +9,17 @@ use Rattle.ap_exchange.specs.declared.judged.Judged.{Judged}
 use Rattle.ap_exchange.specs.Judging.{judged_mark}
 use Rattle.ap_exchange.specs.Request.{label_of}
 use Rattle.scram_mech.specs.Acceptor.{AcceptModel}
+use Rattle.scram_mech.specs.MechMaking.{AmongMakings}
 use Rattle.spnego_core.specs.declared.outcome.Outcome.{Outcome}
 use Rattle.spnego_core.specs.declared.setup.InitSetup.{InitSetup}
 use Rattle.spnego_core.specs.AcceptMech.{Basis, ByRequest, ByProof}
 use Rattle.world_laws.specs.State.{Context, World}
 use Rattle.world_laws.specs.Premises.{Marking, GuardedSession, GuardedBasis, OnTicket, Fresh, HasTicket, Completed}
-use Rattle.world_laws.specs.Agreement.{TookRequest, Partner, HasOneBy, NamesBy, HasInitiator, AgreementBy}
+use Rattle.world_laws.specs.Agreement.{TookRequest, Partner, HandedOut, NamesBy, HasInitiator}
+use Rattle.world_laws.specs.OneMechanism.{HasOneBy, AgreementBy}
 use Rattle.world_laws.specs.Setups.{Proper}
-use Rattle.world_laws.proofs.Invariants.{KrbFixed, ScramFixed, KrbDone, MechFinished, Below, Kept}
-use Rattle.world_laws.proofs.Kerberos.{same-cred, Asked, asked, Answers, krb-answers, one-request, asked-mark}
+use Rattle.world_laws.proofs.Invariants.{MadeRequest, KrbFixed, ScramFixed, KrbDone, MechFinished, Below, Kept}
+use Rattle.world_laws.proofs.Kerberos.{same-own, same-cred, Asked, asked, Answers, krb-answers, one-request, asked-mark}
 
 other-kind : {A : Type 0} → kinds.Kerberos ≡ kinds.Scram → A
 other-kind e = absurd cc
@@ -77,12 +79,14 @@ krb-initiators laws marking w proper fresh kept i own outcome completed mech on 
 
 -- ---- a context's initiator
 
-request-initiator : (marking : Marking) (w : World) → Fresh marking w → (x : Context) (request : Judged) → KrbFixed marking w x request → x.fixed.basis ≡ ByRequest request → x.fixed.outcome.mech ≡ kinds.Kerberos → Asked w request → HasInitiator w x
-request-initiator marking w fresh x request f basis mech a = record {
+request-initiator : (marking : Marking) (w : World) → Fresh marking w → Kept marking w → (x : Context) (request : Judged) → KrbFixed marking w x request → x.fixed.basis ≡ ByRequest request → x.fixed.outcome.mech ≡ kinds.Kerberos → Asked w request → HasInitiator w x
+request-initiator marking w fresh kept x request f basis mech a = record {
   initiator = a.i;
   own = a.own;
   there = a.has.there;
+  ran = λ setup ready. kept.once.unasked a.i setup a.making ready a.among (subst (λ (z : InitSetup). MadeRequest z a.making) (same-own w a.i a.own setup a.has.there (kept.known.ready a.i setup ready)) a.made);
   partner = subst (λ (b : Basis). Partner w a.own b) (sym basis) (record { credential = a.credential; is_own = a.has.is_own; session = a.session; stamp = a.stamp });
+  handed_out = subst (λ (b : Basis). HandedOut w a.own b) (sym basis) (record { credential = a.made.credential; is_own = a.made.is_own; handed_out = subst (AmongMakings w.makings) a.made.made a.among });
   names = subst (λ (k : MechKind). NamesBy k a.own x.fixed.outcome) (sym mech) (record {
     credential = a.credential;
     is_own = a.has.is_own;
@@ -101,7 +105,7 @@ pub krb-initiator : (laws : Below) (marking : Marking) (w : World) → Proper w 
     → (b : Basis) → x.fixed.basis ≡ b → GuardedBasis marking b → HasInitiator w x
 krb-initiator laws marking w proper fresh kept place x there mech (ByRequest request) basis guarded =
     let f : KrbFixed marking w x request = kept.found.requests place x request there basis in
-    request-initiator marking w fresh x request f basis mech (asked laws.scram marking w proper fresh kept.owning x request f guarded)
+    request-initiator marking w fresh kept x request f basis mech (asked laws.scram marking w proper fresh kept.owning x request f guarded)
 krb-initiator laws marking w proper fresh kept place x there mech (ByProof end text) basis guarded = other-kind (sym mech ∙ scram-is marking w x end text (kept.found.proofs place x end text there basis))
 
 pub agreement-kerberos : (laws : Below) (marking : Marking) (w : World) → Proper w → Fresh marking w → Kept marking w → AgreementBy kinds.Kerberos marking w

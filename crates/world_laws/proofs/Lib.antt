@@ -3,6 +3,7 @@ pub mod Freshness
 pub mod HeldLists
 pub mod HeldFacts
 pub mod HeldHistory
+pub mod HeldOpened
 pub mod HeldTold
 pub mod HeldTurns
 pub mod HeldDue
@@ -55,6 +56,7 @@ pub mod Bests
 pub mod ListMics
 pub mod Negotiated
 pub mod Built
+pub mod Booked
 pub mod Holders
 pub mod Running
 pub mod OriginReading
@@ -71,6 +73,14 @@ pub mod OriginWaiting
 pub mod OriginHolder
 pub mod OriginTraced
 pub mod Origin
+pub mod Undecided
+pub mod Arriving
+pub mod Quiet
+pub mod Headlines
+pub mod MetTokens
+pub mod MetRecords
+pub mod MetEvents
+pub mod MetWhole
 pub mod Told
 pub mod Beginning
 pub mod Stepping

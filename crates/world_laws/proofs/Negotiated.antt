@@ -18,6 +18,7 @@ use Rattle.world_laws.specs.Agreement.{TookRequest, TookProof, Partner, HasIniti
 use Rattle.world_laws.specs.Setups.{Proper}
 use Rattle.world_laws.proofs.Invariants.{MadeRequest, KrbFixed, SawList, MayAsk, Below, Kept}
 use Rattle.world_laws.proofs.Apart.{own-list}
+use Rattle.world_laws.proofs.Booked.{books}
 use Rattle.world_laws.proofs.Bests.{best-first, best-among}
 use Rattle.world_laws.proofs.Kerberos.{same-own, same-context, Asked, asked, Answers, krb-answers}
 use Rattle.world_laws.proofs.KerberosAgrees.{scram-is, krb-done, krb-only, krb-initiator}
@@ -33,40 +34,39 @@ on-proof laws marking w proper kept i x there end text basis =
     let t : Taken w x end text = taken laws.scram marking w proper x end text (kept.found.proofs i x end text there basis) in
     (auth_with end t.third.bare, record { text = text; basis = basis; has_auth = record { third = t.third; read = t.read; auth_is = refl } })
 
-pub not-mixed : {A : Type 0} (laws : Below) (marking : Marking) (w : World) → Proper w → Fresh marking w → Kept marking w → (i j : ℕ) (x y : Context) → slice_get w.fixed i ≡ Some x → slice_get w.fixed j ≡ Some y → (request : Judged) → x.fixed.basis ≡ ByRequest request
-    → (end : AcceptModel) (text : List ℕ) → y.fixed.basis ≡ ByProof end text → x.fixed.outcome.key ≡ y.fixed.outcome.key → A
-not-mixed laws marking w proper fresh kept i j x y there on_it request basis end text also same =
+pub not-mixed : {A : Type 0} (laws : Below) (marking : Marking) (w : World) → Proper w → Fresh marking w → Kept marking w → (i j : ℕ) (x y : Context) → slice_get w.fixed i ≡ Some x → slice_get w.fixed j ≡ Some y → GuardedBasis marking x.fixed.basis ⊎ GuardedBasis marking y.fixed.basis
+    → (request : Judged) → x.fixed.basis ≡ ByRequest request → (end : AcceptModel) (text : List ℕ) → y.fixed.basis ≡ ByProof end text → x.fixed.outcome.key ≡ y.fixed.outcome.key → A
+not-mixed laws marking w proper fresh kept i j x y there on_it guarded request basis end text also same =
     let p = on-proof laws marking w proper kept j y on_it end text also in
-    absurd (fresh.proof_subkeys y.fixed.outcome.key p.0 (inl (record { context = y; listed = record { place = j; there = on_it }; end = end; on = p.1; key_is = refl }))
-    (inl (record { context = x; listed = record { place = i; there = there }; request = request; on = record { basis = basis }; key_is = same })))
+    absurd (fresh.proof_subkeys x y request end p.0 (record { place = i; there = there }) (record { place = j; there = on_it }) (record { basis = basis }) p.1 guarded same)
 
-by-bases : (laws : Below) (marking : Marking) (w : World) → Proper w → Fresh marking w → Kept marking w → (i j : ℕ) (x y : Context) → slice_get w.fixed i ≡ Some x → slice_get w.fixed j ≡ Some y → x.fixed.outcome.key ≡ y.fixed.outcome.key
+by-bases : (laws : Below) (marking : Marking) (w : World) → Proper w → Fresh marking w → Kept marking w → (i j : ℕ) (x y : Context) → slice_get w.fixed i ≡ Some x → slice_get w.fixed j ≡ Some y → GuardedBasis marking y.fixed.basis → x.fixed.outcome.key ≡ y.fixed.outcome.key
     → (b c : Basis) → x.fixed.basis ≡ b → y.fixed.basis ≡ c → x.fixed.outcome.mech ≡ y.fixed.outcome.mech
-by-bases laws marking w proper fresh kept i j x y there on_it same (ByRequest r) (ByRequest s) basis also =
+by-bases laws marking w proper fresh kept i j x y there on_it guarded same (ByRequest r) (ByRequest s) basis also =
     krb-is marking w x r (kept.found.requests i x r there basis) ∙ sym (krb-is marking w y s (kept.found.requests j y s on_it also))
-by-bases laws marking w proper fresh kept i j x y there on_it same (ByRequest r) (ByProof end text) basis also = not-mixed laws marking w proper fresh kept i j x y there on_it r basis end text also same
-by-bases laws marking w proper fresh kept i j x y there on_it same (ByProof end text) (ByRequest s) basis also = not-mixed laws marking w proper fresh kept j i y x on_it there s also end text basis (sym same)
-by-bases laws marking w proper fresh kept i j x y there on_it same (ByProof end text) (ByProof next other) basis also =
+by-bases laws marking w proper fresh kept i j x y there on_it guarded same (ByRequest r) (ByProof end text) basis also = not-mixed laws marking w proper fresh kept i j x y there on_it (inr guarded) r basis end text also same
+by-bases laws marking w proper fresh kept i j x y there on_it guarded same (ByProof end text) (ByRequest s) basis also = not-mixed laws marking w proper fresh kept j i y x on_it there (inl guarded) s also end text basis (sym same)
+by-bases laws marking w proper fresh kept i j x y there on_it guarded same (ByProof end text) (ByProof next other) basis also =
     scram-is marking w x end text (kept.found.proofs i x end text there basis) ∙ sym (scram-is marking w y next other (kept.found.proofs j y next other on_it also))
 
 -- ---- the mechanism is the best of the own list
 
-saw-best : (laws : Below) (marking : Marking) (w : World) → Proper w → Fresh marking w → Kept marking w → (own : InitSetup) (outcome : Outcome) (place : ℕ) (x : Context) → slice_get w.fixed place ≡ Some x → outcome ≡ x.fixed.outcome
+saw-best : (laws : Below) (marking : Marking) (w : World) → Proper w → Fresh marking w → Kept marking w → (own : InitSetup) (outcome : Outcome) (place : ℕ) (x : Context) → slice_get w.fixed place ≡ Some x → GuardedBasis marking x.fixed.basis → outcome ≡ x.fixed.outcome
     → CameSo w (own_list own) outcome.key → best w.book.setup.offer (own_list own) ≡ Some outcome.mech
-saw-best laws marking w proper fresh kept own outcome place x there agree c =
+saw-best laws marking w proper fresh kept own outcome place x there guarded agree c =
     let mine : best w.book.setup.offer c.context.fixed.received ≡ Some c.context.fixed.outcome.mech = kept.held.best_is c.place c.context c.there in
     let key : c.context.fixed.outcome.key ≡ x.fixed.outcome.key = c.key_is ∙ ap (λ (o : Outcome). o.key) agree in
     let mech : c.context.fixed.outcome.mech ≡ outcome.mech =
-    by-bases laws marking w proper fresh kept c.place place c.context x c.there there key c.context.fixed.basis x.fixed.basis refl refl ∙ ap (λ (o : Outcome). o.mech) (sym agree) in
+    by-bases laws marking w proper fresh kept c.place place c.context x c.there there guarded key c.context.fixed.basis x.fixed.basis refl refl ∙ ap (λ (o : Outcome). o.mech) (sym agree) in
     ap (λ (list : List (List ℕ)). best w.book.setup.offer list) (sym c.received) ∙ (mine ∙ ap Some mech)
 
 best-is : (laws : Below) (marking : Marking) (w : World) → Proper w → Fresh marking w → Kept marking w → (i : ℕ) (own : InitSetup) (outcome : Outcome) → slice_get w.facts i ≡ Some own → OnGuarded marking own outcome.mech
-    → (place : ℕ) (x : Context) → slice_get w.fixed place ≡ Some x → outcome ≡ x.fixed.outcome → Covered own outcome.mech false ⊎ SawList marking w own outcome → best w.book.setup.offer (own_list own) ≡ Some outcome.mech
-best-is laws marking w proper fresh kept i own outcome there on place x on_it agree (inl (inl first)) =
+    → (place : ℕ) (x : Context) → slice_get w.fixed place ≡ Some x → GuardedBasis marking x.fixed.basis → outcome ≡ x.fixed.outcome → Covered own outcome.mech false ⊎ SawList marking w own outcome → best w.book.setup.offer (own_list own) ≡ Some outcome.mech
+best-is laws marking w proper fresh kept i own outcome there on place x on_it guarded agree (inl (inl first)) =
     best-first w.book.setup.offer own.list outcome.mech first (best-among w.book.setup.offer x.fixed.received outcome.mech (kept.held.best_is place x on_it ∙ ap (λ (o : Outcome). Some o.mech) (sym agree)))
-best-is laws marking w proper fresh kept i own outcome there on place x on_it agree (inl (inr never)) = absurd cc
-best-is laws marking w proper fresh kept i own outcome there on place x on_it agree (inr saw) =
-    saw-best laws marking w proper fresh kept own outcome place x on_it agree
+best-is laws marking w proper fresh kept i own outcome there on place x on_it guarded agree (inl (inr never)) = absurd cc
+best-is laws marking w proper fresh kept i own outcome there on place x on_it guarded agree (inr saw) =
+    saw-best laws marking w proper fresh kept own outcome place x on_it guarded agree
     (came-so laws.tokens laws.scram w outcome (own_list own) saw.mic kept.owning (own-list own (kept.known.sized i own there)) saw.right (saw.handed_out on))
 
 -- ---- a partner of the other mechanism
@@ -119,6 +119,12 @@ scram-across laws marking w proper fresh kept i own outcome completed mech is a 
 
 -- ---- one partner
 
+krb-guarded : (marking : Marking) (w : World) (own : InitSetup) (outcome : Outcome) (on : OnTicket marking own) (a : Answers w own on.credential outcome) → GuardedBasis marking a.context.fixed.basis
+krb-guarded marking w own outcome on a = subst (λ (b : Basis). GuardedBasis marking b) (sym a.basis) (subst (λ (k : Key). GuardedSession marking k) (sym a.session) on.guarded)
+
+scram-guarded : (marking : Marking) (w : World) (own : InitSetup) (outcome : Outcome) (a : ScramAnswers marking w own outcome) → GuardedBasis marking a.context.fixed.basis
+scram-guarded marking w own outcome a = subst (λ (b : Basis). GuardedBasis marking b) (sym a.basis) a.marked
+
 krb-one : (laws : Below) (marking : Marking) (w : World) → Proper w → Fresh marking w → Kept marking w → (i : ℕ) (own : InitSetup) (outcome : Outcome) → Completed w i own outcome → OnGuarded marking own outcome.mech → outcome.mech ≡ kinds.Kerberos → (on : OnTicket marking own) → Answers w own on.credential outcome → HasOne marking w own outcome
 krb-one laws marking w proper fresh kept i own outcome completed guarded mech on a = record {
   has = record {
@@ -128,8 +134,8 @@ krb-one laws marking w proper fresh kept i own outcome completed guarded mech on
     partner = subst (λ (b : Basis). Partner w own b) (sym a.basis) (record { credential = on.credential; is_own = on.is_own; session = a.session; stamp = a.stamp });
     agree = a.agree;
   };
-  guarded = subst (λ (b : Basis). GuardedBasis marking b) (sym a.basis) (subst (λ (k : Key). GuardedSession marking k) (sym a.session) on.guarded);
-  best_is = best-is laws marking w proper fresh kept i own outcome completed.there guarded a.place a.context a.there a.agree (kept.found.covered i own outcome completed);
+  guarded = krb-guarded marking w own outcome on a;
+  best_is = best-is laws marking w proper fresh kept i own outcome completed.there guarded a.place a.context a.there (krb-guarded marking w own outcome on a) a.agree (kept.found.covered i own outcome completed);
   only = λ other y on_it took built. krb-across laws marking w proper fresh kept i own outcome completed mech on a other y on_it y.fixed.basis refl took;
 }
 
@@ -142,7 +148,7 @@ scram-one laws marking w proper fresh kept i own outcome completed mech is a = r
     partner = subst (λ (b : Basis). Partner w own b) (sym a.basis) (record { auth = a.auth; taken = a.taken; proved = a.proved });
     agree = a.agree;
   };
-  guarded = subst (λ (b : Basis). GuardedBasis marking b) (sym a.basis) a.marked;
+  guarded = scram-guarded marking w own outcome a;
   best_is = is;
   only = λ other y on_it took built. scram-across laws marking w proper fresh kept i own outcome completed mech is a other y on_it y.fixed.basis refl took built;
 }
@@ -154,7 +160,7 @@ one-by laws marking w proper fresh kept i own outcome completed guarded kinds.Ke
 one-by laws marking w proper fresh kept i own outcome completed guarded kinds.Scram mech on =
     let a : ScramAnswers marking w own outcome = scram-answers laws.scram marking w proper fresh kept.owning kept.found i own outcome completed.there (scram-done marking w own outcome (kept.found.completed i own outcome completed) mech) on in
     scram-one laws marking w proper fresh kept i own outcome completed mech
-    (best-is laws marking w proper fresh kept i own outcome completed.there guarded a.place a.context a.there a.agree (kept.found.covered i own outcome completed)) a
+    (best-is laws marking w proper fresh kept i own outcome completed.there guarded a.place a.context a.there (scram-guarded marking w own outcome a) a.agree (kept.found.covered i own outcome completed)) a
 
 pub has-one : (laws : Below) (marking : Marking) (w : World) → Proper w → Fresh marking w → Kept marking w → (i : ℕ) (own : InitSetup) (outcome : Outcome) → Completed w i own outcome → OnGuarded marking own outcome.mech → HasOne marking w own outcome
 has-one laws marking w proper fresh kept i own outcome completed guarded = one-by laws marking w proper fresh kept i own outcome completed guarded outcome.mech refl guarded
@@ -180,20 +186,16 @@ meets laws marking w proper fresh kept place x there guarded h = record {
   agree = λ outcome completed on. meets-by marking w place x there guarded h.own outcome h.partner (has-one laws marking w proper fresh kept h.initiator h.own outcome completed on);
 }
 
--- the initiator of a partner on a guarded key is the one
-apart-by : (laws : Below) (marking : Marking) (w : World) → Proper w → Fresh marking w → Kept marking w → (i j : ℕ) (own other : InitSetup) (outcome last : Outcome) → slice_get w.facts i ≡ Some own → slice_get w.facts j ≡ Some other
-    → (one : HasOne marking w own outcome) (two : HasOne marking w other last) → one.has.place ≡ two.has.place → i ≡ j
-apart-by laws marking w proper fresh kept i j own other outcome last there next one two same =
-    let h : HasInitiator w one.has.context = has-initiator laws marking w proper fresh kept one.has.place one.has.context one.has.there one.guarded in
-    let context : two.has.context ≡ one.has.context = same-context w one.has.place two.has.context one.has.context (subst (λ (n : ℕ). slice_get w.fixed n ≡ Some two.has.context) (sym same) two.has.there) one.has.there in
-    h.only i own there one.has.partner ∙ sym (h.only j other next (subst (λ (z : Context). Partner w other z.fixed.basis) context two.has.partner))
+-- the partners of a context on a guarded key are one
+apart-by : (w : World) (x : Context) (i j : ℕ) (own other : InitSetup) → slice_get w.facts i ≡ Some own → slice_get w.facts j ≡ Some other → Partner w own x.fixed.basis → Partner w other x.fixed.basis → HasInitiator w x → i ≡ j
+apart-by w x i j own other there next first second h = h.only i own there first ∙ sym (h.only j other next second)
 
 pub agreement : (laws : Below) (marking : Marking) (w : World) → Proper w → Fresh marking w → Kept marking w → Agreement marking w
 agreement laws marking w proper fresh kept = record {
   initiators = λ i own outcome completed guarded. has-one laws marking w proper fresh kept i own outcome completed guarded;
-  apart = λ i j own other outcome last one on two also. apart-by laws marking w proper fresh kept i j own other outcome last one.there two.there
-      (has-one laws marking w proper fresh kept i own outcome one on) (has-one laws marking w proper fresh kept j other last two also);
+  apart = λ i j own other place x there next on_it guarded first second. apart-by w x i j own other there next first second (has-initiator laws marking w proper fresh kept place x on_it guarded);
   contexts = λ place x there guarded. meets laws marking w proper fresh kept place x there guarded (has-initiator laws marking w proper fresh kept place x there guarded);
+  books = λ place x there. books laws marking w kept place x there;
   settled = kept.held.settled;
   complete = λ id outcome ends is. kept.held.slots id (record { state = Complete outcome; ends = ends }) (record { outcome = outcome; ends = ends }) is refl;
 }

@@ -78,6 +78,9 @@ carried-run laws marking called old (event ∷ later) new run forged c =
 came-from : (old : World) (events : List WorldEvent) (new : World) (run : Run old events new) (x : Context) (number : ℕ) (means : ℕ → List ℕ → Type 0) → Traced (and_run no-call old events new run) new x number means → CameFrom old events new run x number means
 came-from old events new run x number means t = record {
   has = t.has;
+  outcome = t.outcome;
+  completed = t.completed;
+  key_is = t.key_is;
   procedure = t.procedure;
   args = t.args;
   called = elim t.was [ inl none ↦ absurd none | inr call ↦ call ];

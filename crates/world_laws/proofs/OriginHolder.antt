@@ -45,7 +45,7 @@ partner-by laws marking w proper fresh kept proofs place x there guarded j own o
 partner-by laws marking w proper fresh kept proofs place x there guarded j own outcome completed key (inr d) =
     let mech : outcome.mech ≡ kinds.Scram = ap (λ (o : Outcome). o.mech) d.outcome_is in
     let p : ProvedOver w own = proved-over laws w proper j own completed.there (completed-proof w j own outcome proofs completed mech) in
-    scram-holds laws marking w proper fresh kept j own outcome p.auth completed mech p.proved place x there (sym key)
+    scram-holds laws marking w proper fresh kept j own outcome p.auth completed mech p.proved place x there guarded (sym key)
 
 pub partner-of : (laws : Below) (marking : Marking) (w : World) → Proper w → Fresh marking w → Kept marking w → Proofs w → (place : ℕ) (x : Context) → slice_get w.fixed place ≡ Some x → GuardedBasis marking x.fixed.basis
     → (j : ℕ) (own : InitSetup) (outcome : Outcome) → Completed w j own outcome → outcome.key ≡ x.fixed.outcome.key → Partner w own x.fixed.basis

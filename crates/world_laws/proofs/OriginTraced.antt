@@ -117,6 +117,9 @@ sealed-call called tokens w lease cred body args calls three c made = by (tokens
 -- the context's initiator called so
 pub record Traced (called : Called) (w : World) (context : Context) (number : ℕ) (means : ℕ → List ℕ → Type 0) : Type 0 where
   pub has : HasInitiator w context
+  pub outcome : Outcome
+  pub completed : Completed w has.initiator has.own outcome
+  pub key_is : outcome.key ≡ context.fixed.outcome.key
   pub procedure : ℕ
   pub args : List ℕ
   pub was : called has.initiator number procedure args
@@ -125,6 +128,17 @@ pub record Traced (called : Called) (w : World) (context : Context) (number : �
 -- who completed with this key is the initiator
 abbrev pub Holds : World → Key → ℕ → Type 0
 Holds w key initiator = (j : ℕ) (own : InitSetup) (outcome : Outcome) → Completed w j own outcome → outcome.key ≡ key → j ≡ initiator
+
+-- the initiator at one place is that at another
+completed-as : (w : World) (i j : ℕ) (own other : InitSetup) (outcome : Outcome) → i ≡ j → slice_get w.facts j ≡ Some other → Completed w i own outcome → Completed w j other outcome
+completed-as w i j own other outcome same there c = record {
+  there = there;
+  stage = c.stage;
+  stands = subst (λ (k : ℕ). slice_get w.stages k ≡ Some c.stage) same c.stands;
+  session = c.session;
+  in_session = c.in_session;
+  outcome_is = c.outcome_is;
+}
 
 called-by : (called : Called) (i j n m p : ℕ) (a : List ℕ) → i ≡ j → n ≡ m → called i n p a → called j m p a
 called-by called i j n m p a e f c = subst (λ k. called j k p a) f (subst (λ k. called k n p a) e c)
@@ -168,9 +182,9 @@ context-made marking w id lease found place x held b there id_is =
     same-context w place b.context x (subst (λ (k : ℕ). slice_get w.fixed k ≡ Some b.context) same b.there) there
 
 call-by : (called : Called) (tokens : TokenLaws) (marking : Marking) (w : World) (seq procedure : ℕ) (digest : List ℕ) (x : Context) (octets : List ℕ) (kept : KeptAnswers) (lease : Lease) → Calls called w → (has : HasInitiator w x)
-    → Holds w lease.outcome.key has.initiator → (due : Admitting octets kept told_width lease seq procedure digest) → (due.cred.proc == 0) ≡ true
+    → Holds w lease.outcome.key has.initiator → x.fixed.outcome.key ≡ lease.outcome.key → (due : Admitting octets kept told_width lease seq procedure digest) → (due.cred.proc == 0) ≡ true
     → ((m : MechMaking) → AmongMakings (map typed (found_in_call lease octets (secure_call_in octets))) m → WasMade w m) → Traced called w x seq (Means procedure digest)
-call-by called tokens marking w seq procedure digest x octets kept lease calls has holds due of_data made =
+call-by called tokens marking w seq procedure digest x octets kept lease calls has holds key due of_data made =
     by (header-call called tokens w lease octets kept due.call due.cred calls due.read due.cred_read due.verified (λ m a. made m (in-call-header lease octets due.call due.cred m is a)))
   where
     is : secure_call_in octets ≡ Some (due.call, due.cred)
@@ -183,6 +197,9 @@ call-by called tokens marking w seq procedure digest x octets kept lease calls h
         (λ m a. made m (in-call-body lease octets due.call due.cred m is a)) (body-by (end_of lease) due.cred due.call.args due.args due.args_are) in
         record {
           has = has;
+          outcome = h.session.outcome;
+          completed = completed-as w h.i has.initiator h.own has.own h.session.outcome (holds h.i h.own h.session.outcome h.completed h.key_is) has.there h.completed;
+          key_is = h.key_is ∙ sym key;
           procedure = h.procedure;
           args = h.args;
           was = called-by called h.i has.initiator h.session.number seq h.procedure h.args (holds h.i h.own h.session.outcome h.completed h.key_is) (h.number_is ∙ sym due.seq_is) h.was;
@@ -194,7 +211,7 @@ pub call-traced : (called : Called) (tokens : TokenLaws) (marking : Marking) (w 
 call-traced called tokens marking w id seq procedure digest place x held calls c there id_is guarded has holds =
     let same : c.backed.context ≡ x = context-made marking w id c.lease (found_in_call c.lease c.octets (secure_call_in c.octets)) place x held c.backed there id_is in
     let key : x.fixed.outcome.key ≡ c.lease.outcome.key = sym (ap (λ (z : Context). z.fixed.outcome.key) same) ∙ ap (λ (o : Outcome). o.key) c.backed.outcome_is in
-    call-by called tokens marking w seq procedure digest x c.octets c.kept c.lease calls has (subst (λ k. Holds w k has.initiator) key holds) c.due c.of_data
+    call-by called tokens marking w seq procedure digest x c.octets c.kept c.lease calls has (subst (λ k. Holds w k has.initiator) key holds) key c.due c.of_data
     (c.backed.made (subst (λ (z : Context). GuardedBasis marking z.fixed.basis) (sym same) guarded))
 
 pub end-traced : (called : Called) (tokens : TokenLaws) (marking : Marking) (w : World) (id seq : ℕ) (place : ℕ) (x : Context) → Held w → Calls called w → EndBacked marking w id seq
@@ -209,6 +226,9 @@ end-traced called tokens marking w id seq place x held calls c there id_is guard
     by : c.backed.context ≡ x → x.fixed.outcome.key ≡ c.lease.outcome.key → HeaderFrom called w c.lease.outcome.key c.due.call c.due.cred → Traced called w x seq (λ procedure args. Unit {0})
     by same key h = record {
       has = has;
+      outcome = h.session.outcome;
+      completed = completed-as w h.i has.initiator h.own has.own h.session.outcome (holds h.i h.own h.session.outcome h.completed (h.key_is ∙ sym key)) has.there h.completed;
+      key_is = h.key_is ∙ sym key;
       procedure = h.procedure;
       args = h.args;
       was = called-by called h.i has.initiator h.session.number seq h.procedure h.args (holds h.i h.own h.session.outcome h.completed (h.key_is ∙ sym key)) (h.number_is ∙ sym c.due.seq_is) h.was;

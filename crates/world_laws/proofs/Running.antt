@@ -2,7 +2,8 @@
 use Rattle.std.proofs.Common.{sym, subst, List, [], ◌∷◌}
 use Rattle.gss_base.specs.declared.mech.MechKind.TheVariants as kinds
 use Rattle.world_laws.specs.declared.event.WorldEvent.{WorldEvent}
-use Rattle.world_laws.specs.Agreement.{AgreementLawBy, AgreementLaw}
+use Rattle.world_laws.specs.Agreement.{AgreementLaw}
+use Rattle.world_laws.specs.OneMechanism.{AgreementLawBy}
 use Rattle.world_laws.specs.Deeds.{Deed}
 use Rattle.world_laws.specs.Events.{Happens, Run, Begins}
 use Rattle.world_laws.specs.Premises.{Marking, Unforged, NoForgery, Fresh}

@@ -17,7 +17,8 @@ use Rattle.spnego_core.specs.declared.setup.InitSetup.{InitSetup}
 use Rattle.spnego_core.specs.AcceptMech.{Basis, ByRequest, ByProof}
 use Rattle.world_laws.specs.State.{Context, World}
 use Rattle.world_laws.specs.Premises.{Marking, GuardedBasis, OnAccount, Fresh, HasAuth, Completed, Proved}
-use Rattle.world_laws.specs.Agreement.{TookProof, Partner, HasOneBy, NamesBy, HasInitiator, AgreementBy}
+use Rattle.world_laws.specs.Agreement.{TookProof, Partner, HandedOut, NamesBy, HasInitiator}
+use Rattle.world_laws.specs.OneMechanism.{HasOneBy, AgreementBy}
 use Rattle.world_laws.specs.Setups.{Proper}
 use Rattle.world_laws.proofs.Invariants.{MadeProof, KrbFixed, ScramFixed, ScramDone, MechFinished, Owning, Below, Kept}
 use Rattle.world_laws.proofs.Apart.{split-front, split-back}
@@ -120,12 +121,14 @@ scram-initiators laws marking w proper fresh kept i own outcome completed mech o
 
 -- ---- a context's initiator
 
-proof-initiator : (marking : Marking) (w : World) → Proper w → Fresh marking w → (x : Context) (end : AcceptModel) (text : List ℕ) → x.fixed.basis ≡ ByProof end text → x.fixed.outcome.mech ≡ kinds.Scram → Taken w x end text → ScramAsked w x end text → HasInitiator w x
-proof-initiator marking w proper fresh x end text basis mech t q = record {
+proof-initiator : (marking : Marking) (w : World) → Proper w → Fresh marking w → Kept marking w → (x : Context) (end : AcceptModel) (text : List ℕ) → x.fixed.basis ≡ ByProof end text → x.fixed.outcome.mech ≡ kinds.Scram → Taken w x end text → ScramAsked w x end text → HasInitiator w x
+proof-initiator marking w proper fresh kept x end text basis mech t q = record {
   initiator = q.i;
   own = q.own;
   there = q.has.there;
+  ran = λ setup ready. kept.once.unproved q.i setup q.making ready q.among (subst (λ (z : InitSetup). MadeProof z q.making) (same-own w q.i q.own setup q.has.there (kept.known.ready q.i setup ready)) q.made);
   partner = subst (λ (b : Basis). Partner w q.own b) (sym basis) (record { auth = q.auth; taken = q.taken; proved = q.proved });
+  handed_out = subst (λ (b : Basis). HandedOut w q.own b) (sym basis) (q.auth, q.proved);
   names = subst (λ (k : MechKind). NamesBy k q.own x.fixed.outcome) (sym mech) (record {
     user = q.user;
     password = q.password;
@@ -150,7 +153,7 @@ scram-initiator laws marking w proper fresh kept place x there mech (ByRequest r
 scram-initiator laws marking w proper fresh kept place x there mech (ByProof end text) basis guarded =
     let f : ScramFixed marking w x end text = kept.found.proofs place x end text there basis in
     let t : Taken w x end text = taken laws.scram marking w proper x end text f in
-    proof-initiator marking w proper fresh x end text basis mech t (scram-asked laws.scram marking w proper fresh kept.owning x end text f t guarded)
+    proof-initiator marking w proper fresh kept x end text basis mech t (scram-asked laws.scram marking w proper fresh kept.owning x end text f t guarded)
 
 pub agreement-scram : (laws : Below) (marking : Marking) (w : World) → Proper w → Fresh marking w → Kept marking w → AgreementBy kinds.Scram marking w
 agreement-scram laws marking w proper fresh kept = record {

@@ -98,7 +98,7 @@ guarded-line marking w fresh line listed m = record {
   salt = line.salt;
   rounds = line.rounds;
   ranged = m.ranged;
-  is_key = inl (fresh.lines m.account line m.marked listed m.named).0;
+  is_key = inl (fresh.lines m.account line m.marked listed m.named);
 }
 
 pub same-third : (text : List ℕ) (a b : Third) → third_of text ≡ Ok a → third_of text ≡ Ok b → a ≡ b

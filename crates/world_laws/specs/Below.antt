@@ -1,4 +1,5 @@
 -- The laws of the crates below that hold of the world.
+-- It isn't needed to read the headline.
 use Rattle.krb_derive.specs.Laws.{Laws as MakingLaws}
 use Rattle.krb_tokens.specs.Laws.{Laws as TokenLaws}
 use Rattle.ap_exchange.specs.Laws.{Laws as ExchangeLaws}

@@ -24,7 +24,7 @@ use Rattle.world_laws.specs.declared.stage.Stage.{Stage}
 use Rattle.world_laws.specs.declared.stage.Stage.TheVariants as stages
 use Rattle.world_laws.specs.declared.event.Happened.{Happened}
 use Rattle.world_laws.specs.declared.event.Happened.TheVariants.{Sent, Completed, Refused}
-use Rattle.world_laws.specs.Deeds.{Deed}
+use Rattle.world_laws.specs.Deeds.{Deed, quiet}
 
 -- where the initiator is then, and where it is if memory is wanted, in which case nothing else is
 -- done; the answer; what is handed out and what was found verified
@@ -37,14 +37,8 @@ pub record Moved : Type 0 where
 
 -- what an event did whose initiator moved so: no ticket is opened, and no context is fixed
 abbrev pub did : Moved → Deed
-did moved = record {
-  answer = Some moved.answer;
-  makes = moved.makes;
-  found = moved.found;
-  opened =
-      None;
-  fixes = None;
-}
+did moved =
+    record (quiet (Some moved.answer)) { makes = moved.makes; found = moved.found }
 
 -- it refused, and has ended
 abbrev pub refused : Moved

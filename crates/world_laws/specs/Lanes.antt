@@ -88,42 +88,10 @@ question_of (AskedEnd lease seq answer) = End lease seq
 
 -- the answer is kept with the others
 abbrev pub kept_with : KeptAnswers → Asked → KeptAnswers
-kept_with k (AskedStep id token now draws answer) = record {
-  now = k.now;
-  draws =
-      k.draws;
-  negotiated = Some answer;
-  looked = k.looked;
-  admitted = k.admitted;
-  ended = k.ended;
-}
-kept_with k (AskedLook id now answer) = record {
-  now = k.now;
-  draws = k.draws;
-  negotiated =
-      k.negotiated;
-  looked = Some answer;
-  admitted = k.admitted;
-  ended = k.ended;
-}
-kept_with k (AskedAdmit lease seq procedure args answer) = record {
-  now = k.now;
-  draws =
-      k.draws;
-  negotiated = k.negotiated;
-  looked = k.looked;
-  admitted = Some answer;
-  ended = k.ended;
-}
-kept_with k (AskedEnd lease seq answer) = record {
-  now = k.now;
-  draws = k.draws;
-  negotiated =
-      k.negotiated;
-  looked = k.looked;
-  admitted = k.admitted;
-  ended = Some answer;
-}
+kept_with k (AskedStep id token now draws answer) = record k { negotiated = Some answer }
+kept_with k (AskedLook id now answer) = record k { looked = Some answer }
+kept_with k (AskedAdmit lease seq procedure args answer) = record k { admitted = Some answer }
+kept_with k (AskedEnd lease seq answer) = record k { ended = Some answer }
 
 -- the record in hand after one more question was answered
 abbrev pub hand_after : InHand → Asked → InHand
@@ -317,9 +285,7 @@ if_answered (Some happened) makes = makes
 
 -- the world after a lane's event: what the lane has in hand, the book, and what the deed adds
 abbrev pub with_lane : World → ℕ → Option InHand → BookOf → Deed → World
-with_lane w lane hand book deed = record {
-  facts = w.facts;
-  stages = w.stages;
+with_lane w lane hand book deed = record w {
   book = book;
   lanes = slice_set w.lanes lane hand;
   fixed = w.fixed ++ option_to_list deed.fixes;

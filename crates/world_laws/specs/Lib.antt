@@ -6,7 +6,9 @@ pub mod Setups
 pub mod Events
 pub mod Premises
 pub mod Agreement
+pub mod OneMechanism
 pub mod Origin
+pub mod Headline
 pub mod Moving
 pub mod Turning
 pub mod Passing
@@ -14,3 +16,4 @@ pub mod Showing
 pub mod Parting
 pub mod Below
 pub mod Promised
+pub mod Meeting

@@ -1,4 +1,5 @@
 -- What an initiator did, beside what it is said to do.
+-- It isn't needed to read the headline.
 use Rattle.std.specs.Prelude.{◌≡◌, Result, Ok, Err}
 use Rattle.sec_base.specs.declared.memory.NoMemory.{NoMemory}
 use Rattle.world_laws.specs.declared.event.Happened.{Happened}

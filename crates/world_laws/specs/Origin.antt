@@ -2,6 +2,7 @@
 -- the end of a context.
 use Rattle.std.specs.Prelude.{◌≡◌, ◌≢◌, ◌⊎◌, ℕ, true, nat_le, List, [], ◌∷◌, slice_get, Some, None}
 use Rattle.sha1.specs.Sha1.{sha1}
+use Rattle.spnego_core.specs.declared.outcome.Outcome.{Outcome}
 use Rattle.gss_client.specs.Session.{SessionState}
 use Rattle.accept_book.specs.declared.entry.EndCause.TheVariants.{Destroyed}
 use Rattle.accept_book.specs.declared.entry.Entry.TheVariants.{Call, Ended}
@@ -12,7 +13,7 @@ use Rattle.world_laws.specs.declared.stage.Stage.TheVariants.{Stands}
 use Rattle.world_laws.specs.Deeds.{Deed}
 use Rattle.world_laws.specs.State.{Context, World}
 use Rattle.world_laws.specs.Events.{Run, Begins}
-use Rattle.world_laws.specs.Premises.{Marking, Listed, GuardedBasis, NoForgery, Fresh}
+use Rattle.world_laws.specs.Premises.{Marking, Listed, GuardedBasis, NoForgery, Fresh, Completed}
 use Rattle.world_laws.specs.Agreement.{HasInitiator}
 
 -- the event is a call of this initiator with this number, procedure and arguments, and its record
@@ -34,11 +35,14 @@ WasCalled old (event ∷ later) new run i number procedure args =
     IsCall old event run.0.deed i number procedure args
     ⊎ WasCalled run.0.world later new run.1 i number procedure args
 
--- the context's initiator called with this number; where a call is meant, with this procedure and
--- arguments of this digest
+-- the context's initiator, which completed with the context's key, called with this number; where a
+-- call is meant, with this procedure and arguments of this digest
 pub record CameFrom (old : World) (events : List WorldEvent) (new : World) (run : Run old events
     new) (context : Context) (number : ℕ) (means : ℕ → List ℕ → Type 0) : Type 0 where
   pub has : HasInitiator new context
+  pub outcome : Outcome
+  pub completed : Completed new has.initiator has.own outcome
+  pub key_is : outcome.key ≡ context.fixed.outcome.key
   pub procedure : ℕ
   pub args : List ℕ
   pub called : WasCalled old events new run has.initiator number procedure args

@@ -1,4 +1,5 @@
 -- What an event makes of all the parts of a world that a program holds.
+-- It isn't needed to read the headline.
 use Rattle.std.specs.Prelude.{◌≡◌, List, slice_get, Option, None}
 use Rattle.world_laws.specs.declared.event.Happened.{Happened}
 use Rattle.world_laws.specs.declared.event.WorldEvent.{WorldEvent}

@@ -1,4 +1,5 @@
 -- What an event makes of the parts of a world that a program holds.
+-- It isn't needed to read the headline.
 use Rattle.std.specs.Prelude.{◌≡◌, ◌⊎◌, ℕ, Bool, true, false, nat_le, List, slice_set, Option, Some}
 use Rattle.std.specs.Prelude.{None}
 use Rattle.accept_book.specs.Booking.{BookOf}

@@ -13,7 +13,6 @@ use Rattle.krb_tokens.specs.declared.end.Side.TheVariants.{Acceptor}
 use Rattle.krb_tokens.specs.Makings.{mic_making}
 use Rattle.ap_exchange.specs.declared.judged.Judged.{Judged}
 use Rattle.ap_exchange.specs.Draws.{drawn_nonce}
-use Rattle.ap_exchange.specs.Request.{own_subkey}
 use Rattle.scram_mech.specs.declared.verifiers.Verifier.{Verifier}
 use Rattle.scram_mech.specs.Acceptor.{AcceptModel, auth_with}
 use Rattle.scram_mech.specs.AuthParts.{AuthParts, auth_parts}
@@ -242,16 +241,8 @@ pub record Proved (w : World) (own : InitSetup) (auth : List ℕ) : Type 0 where
       (stored_key (record { password = password; salt = parts.salt; rounds = parts.rounds })) auth
       (proof_of (record { password = password; salt = parts.salt; rounds = parts.rounds }) auth))
 
--- the key of a SCRAM exchange over this AuthMessage, as the context has it, or the initiator that
--- completed with it
-pub record AtContext (w : World) (key : Key) (auth : List ℕ) : Type 0 where
-  pub context : Context
-  pub listed : Listed w.fixed context
-  pub end : AcceptModel
-  pub on : OnProof context end auth
-  pub key_is : context.fixed.outcome.key ≡ key
-
--- the same at an initiator: it completed by SCRAM, and handed out a proof over this AuthMessage
+-- the initiator of this place completed by SCRAM with this key, and handed out a proof over this
+-- AuthMessage
 pub record AtInitiator (w : World) (key : Key) (auth : List ℕ) : Type 0 where
   pub i : ℕ
   pub own : InitSetup
@@ -261,37 +252,10 @@ pub record AtInitiator (w : World) (key : Key) (auth : List ℕ) : Type 0 where
   pub proved : Proved w own auth
   pub key_is : outcome.key ≡ key
 
--- the key of a SCRAM exchange over this AuthMessage, at one end or the other
-abbrev pub ProofKey : World → Key → List ℕ → Type 0
-ProofKey w key auth = AtContext w key auth ⊎ AtInitiator w key auth
-
--- a subkey that was drawn, for a context on a request or for a request
-pub record OfContext (w : World) (key : Key) : Type 0 where
-  pub context : Context
-  pub listed : Listed w.fixed context
-  pub request : Judged
-  pub on : OnRequest context request
-  pub key_is : context.fixed.outcome.key ≡ key
-
--- the subkey that an initiator with a ticket draws for its request
-pub record OfRequest (w : World) (key : Key) : Type 0 where
-  pub i : ℕ
-  pub own : InitSetup
-  pub credential : Granted
-  pub has : HasTicket w i own credential
-  pub key_is : own_subkey credential own.draws ≡ key
-
--- a subkey that was drawn, by the acceptor or by an initiator
-abbrev pub Subkey : World → Key → Type 0
-Subkey w key = OfContext w key ⊎ OfRequest w key
-
--- draws, stamps and keys differ where they have to; tickets, users' lines and passwords are what
--- they are said to be; and no subkey is told to others
+-- draws, stamps and keys differ where they have to; tickets and users' lines are what they are said
+-- to be; and no subkey is told to others
 pub record Fresh (marking : Marking) (w : World) : Type 0 where
-  -- each ticket that was issued has a session key of its own
-  pub own_key : (s t : Ticket) → Listed marking.tickets s → Listed marking.tickets t
-      → s.session ≡ t.session → s ≡ t
-  -- a credential with that key names the ticket's client and server
+  -- a credential with an issued ticket's session key names the ticket's client and server
   pub credential : (i : ℕ) (own : InitSetup) (credential : Granted) (t : Ticket)
       → HasTicket w i own credential → Listed marking.tickets t → t.session ≡ credential.session
       → (t.client ≡ credential.client) × (t.server ≡ credential.server)
@@ -302,37 +266,34 @@ pub record Fresh (marking : Marking) (w : World) : Type 0 where
   -- two initiators with one session key have different stamps
   pub stamps : (i j : ℕ) (own other : InitSetup) (c d : Granted) → HasTicket w i own c
       → HasTicket w j other d → c.session ≡ d.session → own.stamp ≡ other.stamp → i ≡ j
-  -- no two subkeys are equal, of contexts and of requests
+  -- no two subkeys are equal, of contexts on requests
   pub subkeys : (i j : ℕ) (x y : Context) (a b : Judged)
       → slice_get w.fixed i ≡ Some x → slice_get w.fixed j ≡ Some y → OnRequest x a → OnRequest y b
       → x.fixed.outcome.key ≡ y.fixed.outcome.key → i ≡ j
-  pub own_subkeys : (i j : ℕ) (own other : InitSetup) (c d : Granted) → HasTicket w i own c
-      → HasTicket w j other d → own_subkey c own.draws ≡ own_subkey d other.draws → i ≡ j
-  pub both_subkeys : (i : ℕ) (own : InitSetup) (c : Granted) (x : Context) (a : Judged)
-      → HasTicket w i own c → Listed w.fixed x → OnRequest x a
-      → own_subkey c own.draws ≢ x.fixed.outcome.key
-  -- no two nonces of SCRAM are equal
+  -- no two nonces of SCRAM are equal, of initiators and of acceptors
   pub nonces : (i j : ℕ) (own other : InitSetup) (a p b q : List ℕ) → HasAccount w i own a p
       → HasAccount w j other b q → drawn_nonce own.draws ≡ drawn_nonce other.draws → i ≡ j
   pub own_nonces : (i j : ℕ) (x y : Context) (end next : AcceptModel) (auth last : List ℕ)
       → slice_get w.fixed i ≡ Some x → slice_get w.fixed j ≡ Some y
       → OnProof x end auth → OnProof y next last → end.own ≡ next.own → i ≡ j
-  -- a marked user's line is made from its password, and an initiator that uses this name uses this
-  -- password
+  -- a marked user's line has the StoredKey of its password
   pub lines : (account : Account) (line : Verifier) → Listed marking.accounts account
-      → Listed w.book.setup.verifiers line → line.name ≡ account.user
-      → (line.stored
-      ≡ stored_key (record { password = account.password; salt = line.salt; rounds = line.rounds }))
-      × (line.server
-      ≡ server_key (record { password = account.password; salt = line.salt; rounds = line.rounds }))
-  pub passwords : (account : Account) (i : ℕ) (own : InitSetup) (user password : List ℕ)
-      → Listed marking.accounts account → HasAccount w i own user password → user ≡ account.user
-      → password ≡ account.password
-  -- keys of SCRAM exchanges over different AuthMessages differ from each other, and all from drawn
-  -- subkeys
-  pub proof_keys : (key : Key) (auth last : List ℕ) → ProofKey w key auth → ProofKey w key last
-      → auth ≡ last
-  pub proof_subkeys : (key : Key) (auth : List ℕ) → ProofKey w key auth → Subkey w key → ⊥
+      → Listed w.book.setup.verifiers line → line.name ≡ account.user → line.stored
+      ≡ stored_key (record { password = account.password; salt = line.salt; rounds = line.rounds })
+  -- an initiator that completed by SCRAM on the key of a context on a marked user's line has the
+  -- context's AuthMessage
+  pub proof_keys : (x : Context) (end : AcceptModel) (auth last : List ℕ) → Listed w.fixed x
+      → GuardedBasis marking x.fixed.basis → OnProof x end auth
+      → AtInitiator w x.fixed.outcome.key last → auth ≡ last
+  -- and the key of a SCRAM exchange is no subkey that was drawn, where a context on either is on a
+  -- guarded key: of a context, or of an initiator that completed by SCRAM
+  pub proof_subkeys : (x y : Context) (request : Judged) (end : AcceptModel) (auth : List ℕ)
+      → Listed w.fixed x → Listed w.fixed y → OnRequest x request → OnProof y end auth
+      → GuardedBasis marking x.fixed.basis ⊎ GuardedBasis marking y.fixed.basis
+      → x.fixed.outcome.key ≢ y.fixed.outcome.key
+  pub own_proofs : (x : Context) (request : Judged) (last : List ℕ) → Listed w.fixed x
+      → GuardedBasis marking x.fixed.basis → OnRequest x request
+      → AtInitiator w x.fixed.outcome.key last → ⊥
   -- who completed by Kerberos on the key of a context that is built on a guarded key has a guarded
   -- session key
   pub untold : (i : ℕ) (own : InitSetup) (c : Granted) (outcome : Outcome) → HasTicket w i own c

@@ -1,4 +1,5 @@
 -- What is promised of a world by what it shows: of every run that its events can have been.
+-- It isn't needed to read the headline.
 use Rattle.world_laws.specs.Agreement.{Agreement}
 use Rattle.world_laws.specs.Events.{Run, Begins}
 use Rattle.world_laws.specs.Origin.{Origin}

@@ -1,4 +1,5 @@
 -- What a world shows of itself, and that it came of a run.
+-- It isn't needed to read the headline.
 use Rattle.std.specs.Prelude.{◌≡◌, List, [], ◌∷◌, ◌++◌, Option, Some}
 use Rattle.spnego_core.specs.declared.setup.InitSetup.{InitSetup}
 use Rattle.accept_book.specs.Booking.{BookOf}

@@ -31,11 +31,5 @@ pub record World : Type 0 where
 
 -- an initiator is elsewhere, and this was handed out
 abbrev pub moved_to : World → ℕ → Stage → List MechMaking → World
-moved_to w i stage makes = record {
-  facts = w.facts;
-  stages = slice_set w.stages i stage;
-  book = w.book;
-  lanes = w.lanes;
-  fixed = w.fixed;
-  makings = w.makings ++ makes;
-}
+moved_to w i stage makes =
+    record w { stages = slice_set w.stages i stage; makings = w.makings ++ makes }

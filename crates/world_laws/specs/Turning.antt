@@ -1,4 +1,5 @@
 -- One turn of a lane: how a book answers one question of a record, and what comes of the record.
+-- It isn't needed to read the headline.
 use Rattle.std.specs.Prelude.{◌≡◌, ◌⊎◌, ℕ, Bool, true, false, max, Option, Some, None, Result, Ok}
 use Rattle.std.specs.Prelude.{Err}
 use Rattle.context_table.specs.Places.{IsPast}

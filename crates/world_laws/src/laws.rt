@@ -1,8 +1,10 @@
 //! What holds after every run of a world.
 
 ghost use Rattle.gss_base.specs.declared.mech.MechKind.TheVariants as kinds;
-ghost use Rattle.world_laws.specs.Agreement.{AgreementLawBy, AgreementLaw};
+ghost use Rattle.world_laws.specs.Agreement.{AgreementLaw};
+ghost use Rattle.world_laws.specs.OneMechanism.{AgreementLawBy};
 ghost use Rattle.world_laws.specs.Below.{Below};
+ghost use Rattle.world_laws.specs.Headline.{Headline};
 ghost use Rattle.world_laws.specs.Origin.{OriginLaw};
 
 use accept_book::laws::prove_book_laws;
@@ -40,6 +42,14 @@ pub fn prove_agreement()
 /// procedure, and the digest of its arguments.
 pub fn prove_origin()
     ensures { OriginLaw }
+{
+    tell_below();
+}
+
+/// Does nothing; its contract holds the headline: agreement and origin, at each point of a run; that no number of a context and no authenticator
+/// stands twice in the log; that an honest call that comes first is taken; and that what is refused asks nothing of the premises.
+pub fn prove_headline()
+    ensures { Headline }
 {
     tell_below();
 }

@@ -6,6 +6,7 @@ mod facts;
 mod initiators;
 mod lanes;
 mod laws;
+mod meeting;
 mod setups;
 mod stage;
 mod turn;
@@ -13,5 +14,6 @@ mod world;
 
 pub use event::{Happened, WorldEvent};
 pub use facts::InitFacts;
-pub use laws::{prove_agreement, prove_origin};
+pub use laws::{prove_agreement, prove_headline, prove_origin};
+pub use meeting::meet;
 pub use world::{World, WorldSetup};

@@ -96,13 +96,18 @@ fn login(alloc: Global, user: &str, password: &str) -> Result<MechCred, NoMemory
 
 /// What an initiator is begun with, and the same as the world remembers it.
 #[derive(Drop)]
-struct Begun {
-    own: InitSetup,
-    facts: InitFacts,
+pub struct Begun {
+    pub own: InitSetup,
+    pub facts: InitFacts,
 }
 
 /// An initiator with this list at this moment, whose random octets are all this one.
-fn begin(alloc: Global, list: Items<MechCred>, stamp: Moment, draw: u8) -> Result<Begun, NoMemory>
+pub fn begin(
+    alloc: Global,
+    list: Items<MechCred>,
+    stamp: Moment,
+    draw: u8,
+) -> Result<Begun, NoMemory>
     requires { is_own_list list ≡ true }
     ensures same { IfOk result (λ begun. setup_of begun.facts ≡ begun.own) }
     ensures own { IfOk result (λ begun. is_own_list begun.own.list ≡ true) }
@@ -125,7 +130,7 @@ fn begin(alloc: Global, list: Items<MechCred>, stamp: Moment, draw: u8) -> Resul
 }
 
 /// A book without contexts, of this acceptor.
-fn book(alloc: Global, setup: AcceptSetup, start: Moment) -> Result<Book, NoMemory>
+pub fn book(alloc: Global, setup: AcceptSetup, start: Moment) -> Result<Book, NoMemory>
     ensures { IfOk result (λ book. book.core.history ≡ []) }
 {
     let limits = Limits {
@@ -255,7 +260,7 @@ fn begun_over(
 }
 
 /// The list of the setting's initiator with these letters.
-fn list_of(alloc: Global, setting: &Setting, letters: &str) -> Option<Items<MechCred>>
+pub fn list_of(alloc: Global, setting: &Setting, letters: &str) -> Option<Items<MechCred>>
     ensures { IfSome result (λ list. is_own_list list ≡ true) }
 {
     match setting.initiator(alloc, letters) {

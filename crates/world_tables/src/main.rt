@@ -2,6 +2,7 @@
 #![tactic(auto)]
 
 mod begun;
+mod meetings;
 mod worlds;
 
 use std::{fs, io};
@@ -25,6 +26,22 @@ impl Rows for Runs<'_> {
     }
 }
 
+/// The table of exchanges that are carried as they are, over its setting.
+#[derive(Drop)]
+struct Exchanges<'a> {
+    setting: &'a Setting,
+}
+
+impl Rows for Exchanges<'_> {
+    fn are_named(&self) -> bool {
+        true
+    }
+
+    fn answer(&self, cells: &mut Cells<'_>, said: &mut Said) {
+        meetings::answer(self.setting, cells, said);
+    }
+}
+
 fn main(rt: HostRuntime) -> io::Result<()> {
     let text = fs::read_to_string(&rt, "setting.txt")?;
     let Some(setting) = Setting::read(rt.alloc(), text.as_str()) else {
@@ -37,7 +54,13 @@ fn main(rt: HostRuntime) -> io::Result<()> {
     };
     let text = fs::read_to_string(&rt, "worlds.txt")?;
     match compared(rt.alloc(), &rows, "worlds.txt", text.as_str()) {
+        Some(line) => println!(rt; "{line}")?,
+        None => println!(rt; "worlds.txt: no memory")?,
+    }
+    let rows = Exchanges { setting: &setting };
+    let text = fs::read_to_string(&rt, "meetings.txt")?;
+    match compared(rt.alloc(), &rows, "meetings.txt", text.as_str()) {
         Some(line) => println!(rt; "{line}"),
-        None => println!(rt; "worlds.txt: no memory"),
+        None => println!(rt; "meetings.txt: no memory"),
     }
 }

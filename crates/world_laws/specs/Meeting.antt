@@ -1,0 +1,89 @@
+-- That the premises can be met: one exchange by Kerberos, whose records are carried as they are.
+use Rattle.std.specs.Prelude.{◌≡◌, ℕ, ◌+◌, ◌<◌, ◌≤◌, Bool, true, false, max, List, [], ◌∷◌}
+use Rattle.std.specs.Prelude.{length, take, Option, Some, None}
+use Rattle.gss_base.specs.declared.mech.MechKind.TheVariants as kinds
+use Rattle.krb_files.specs.Granted.{Granted}
+use Rattle.ap_exchange.specs.Request.{request_token}
+use Rattle.ap_exchange.specs.Judging.{judged_mark}
+use Rattle.ap_exchange.specs.Laws.{honest_judged}
+use Rattle.replay_cache.specs.Taking.{cache_verdict}
+use Rattle.replay_cache.specs.declared.cache.CacheVerdict.TheVariants.{Taken}
+use Rattle.spnego_core.specs.declared.outcome.Outcome.{Outcome}
+use Rattle.spnego_core.specs.declared.setup.InitSetup.{InitSetup}
+use Rattle.spnego_core.specs.declared.setup.MechCred.{MechCred}
+use Rattle.spnego_core.specs.declared.setup.MechCred.TheVariants as creds
+use Rattle.spnego_core.specs.Choice.{is_first}
+use Rattle.spnego_core.specs.Exchange.{TicketFits}
+use Rattle.spnego_core.specs.Initiating.{first_sent}
+use Rattle.spnego_core.specs.Sizes.{IsShort}
+use Rattle.spnego_core.specs.Tokens.{init_octets}
+use Rattle.context_table.specs.Places.{live_of}
+use Rattle.accept_book.specs.Booking.{BookOf}
+use Rattle.accept_book.specs.History.{taken_of}
+use Rattle.world_laws.specs.declared.event.Happened.{Happened}
+use Rattle.world_laws.specs.declared.event.Happened.TheVariants.{Sent, Completed, Stepped, Refused}
+use Rattle.world_laws.specs.declared.event.Happened.TheVariants.{Nothing}
+use Rattle.world_laws.specs.Events.{Run, Begins}
+use Rattle.world_laws.specs.Premises.{Marking, Listed, GuardedBasis, OnGuarded, WasSettled}
+use Rattle.world_laws.specs.Premises.{NoForgery, Fresh, Completed as CompletedWith}
+use Rattle.world_laws.specs.Showing.{Shown, Shows}
+use Rattle.world_laws.specs.State.{Context, World}
+
+-- what it begins with: one initiator with a ticket, and maybe a second credential, and an acceptor,
+-- both of whose first choice is Kerberos. The facts of both fit (`TicketFits`), the first token has
+-- at most 65,536 octets, and there is room: a lane, and places in the book's log and table, and for
+-- the request's mark
+pub record Meeting (book : BookOf) (initiators : List InitSetup) (lanes now : ℕ)
+    (draws : List ℕ) : Type 0 where
+  pub credential : Granted
+  pub rest : List MechCred
+  pub own : InitSetup
+  pub one : initiators ≡ own ∷ []
+  pub list : own.list ≡ creds.Kerberos credential ∷ rest
+  pub first : is_first book.setup.offer kinds.Kerberos ≡ true
+  pub fits : TicketFits book.setup own credential (record { now = now; drawn = take 66 draws })
+  pub short : IsShort (init_octets (first_sent own (request_token credential own.stamp own.draws
+      own.bindings)))
+  pub lane : 0 < lanes
+  pub log : length book.core.history + 4 ≤ book.core.limit
+  pub table : live_of book.core.table < book.core.table.limit
+  pub mark : cache_verdict book.core.cache.capacity (max book.core.cache.greatest now)
+      (taken_of book.core.history)
+      (judged_mark (honest_judged credential own.stamp own.bindings fits.fit.part)) ≡ Taken
+
+-- a run that meets the premises, and in which both ends completed on a guarded key, with one
+-- outcome, and the log says that the context was settled
+pub record IsMet (shown : Shown) : Type 0 where
+  pub marking : Marking
+  pub start : World
+  pub now : World
+  pub run : Run start shown.events now
+  pub begins : Begins start
+  pub shows : Shows now shown
+  pub unforged : NoForgery marking start shown.events now run
+  pub fresh : Fresh marking now
+  pub own : InitSetup
+  pub outcome : Outcome
+  pub completed : CompletedWith now 0 own outcome
+  pub guarded : OnGuarded marking own outcome.mech
+  pub context : Context
+  pub listed : Listed now.fixed context
+  pub on : GuardedBasis marking context.fixed.basis
+  pub agree : context.fixed.outcome ≡ outcome
+  pub settled : WasSettled now.book.core.history context.id
+
+-- the record that was handed out, where one was
+abbrev pub sent_in : Happened → Option (List ℕ)
+sent_in (Sent octets) = Some octets
+sent_in (Completed outcome) = None
+sent_in (Stepped rule) = None
+sent_in Refused = None
+sent_in Nothing = None
+
+-- the initiator's context stands
+abbrev pub completed_in : Happened → Bool
+completed_in (Sent octets) = false
+completed_in (Completed outcome) = true
+completed_in (Stepped rule) = false
+completed_in Refused = false
+completed_in Nothing = false
