@@ -67,9 +67,9 @@ def listens(port, server):
 
 
 @contextlib.contextmanager
-def running(command, port, environment=None):
+def running(command, port, environment=None, errors=None):
     """Runs a server while the block lasts, and gives it once it listens, or None where it doesn't."""
-    server = subprocess.Popen(command, env=environment)
+    server = subprocess.Popen(command, env=environment, stderr=errors)
     try:
         yield server if listens(port, server) else None
     finally:
