@@ -11,3 +11,4 @@ pub mod Changes
 pub mod Founds
 pub mod Fixings
 pub mod Comings
+pub mod Reasons

@@ -1,15 +1,17 @@
 -- What holds of a book over its tokens: what a step finds, hands out and fixes, and where that
 -- stands afterwards.
-use Rattle.std.specs.Prelude.{◌≡◌, ◌≢◌, ◌⊎◌, ℕ, ◌≤◌, List, [], ◌∷◌, length, Option, None, Some}
-use Rattle.std.specs.Prelude.{IfSome, Ok}
+use Rattle.std.specs.Prelude.{◌≡◌, ◌≢◌, ◌⊎◌, ℕ, ◌≤◌, false, List, [], ◌∷◌, length, Option, None}
+use Rattle.std.specs.Prelude.{Some, IfSome, Ok}
 use mathlib.Core.Logic.{inl, inr}
 use Rattle.gss_base.specs.declared.mark.Mark.{Mark}
 use Rattle.ap_exchange.specs.Judging.{judged_mark}
 use Rattle.spnego_core.specs.declared.outcome.Outcome.{Outcome}
+use Rattle.spnego_core.specs.declared.refusal.NegRefusal.{NegRefusal}
 use Rattle.spnego_core.specs.declared.setup.AcceptSetup.{AcceptSetup}
 use Rattle.spnego_core.specs.declared.accept_end.AcceptEnd.{AcceptEnd}
 use Rattle.spnego_core.specs.declared.accept_end.AcceptEnd.TheVariants as ends
 use Rattle.spnego_core.specs.Accepting.{Fixed, Accepted, accept_step}
+use Rattle.spnego_core.specs.Reasons.{neg_wants_memory}
 use Rattle.spnego_core.specs.AcceptLaws.{GoodAccept, ByKerberos, ByScram, Fixes, Stands as StandsBy}
 use Rattle.context_table.specs.declared.slot.SlotState.{SlotState}
 use Rattle.context_table.specs.declared.slot.SlotState.TheVariants.{Negotiating, Held, Complete}
@@ -18,6 +20,7 @@ use Rattle.accept_book.specs.declared.entry.Entry.{Entry}
 use Rattle.accept_book.specs.declared.entry.Entry.TheVariants.{Auth, Settled}
 use Rattle.accept_book.specs.declared.book_answer.Lease.{Lease}
 use Rattle.accept_book.specs.declared.book_answer.BookRefusal.{BookRefusal}
+use Rattle.accept_book.specs.declared.book_answer.BookRefusal.TheVariants as refusals
 use Rattle.accept_book.specs.declared.book_answer.NegAnswer.TheVariants as answers
 use Rattle.accept_book.specs.History.{standing, taken_of, entry_at, IsOpen, Unknown}
 use Rattle.accept_book.specs.Legal.{Legal}
@@ -192,3 +195,9 @@ pub record BookLaws : Type 0 where
       ≡ answers.Settled lease last → Completes setup book id past token now draws lease
   -- of the id of a first token nothing was known
   pub first : (width : ℕ) (h : List Entry) → Legal width h → standing (id_of None h) h ≡ Unknown
+  -- no token is refused by an end for want of memory, and no such refusal holds it: that is an
+  -- answer of its own
+  pub reasons : (setup : AcceptSetup) (book : Stands) (id past : Option ℕ) (token : List ℕ)
+      (now : ℕ) (draws : List ℕ) (refusal : NegRefusal)
+      → (negotiated setup book id past token now draws).answer
+      ≡ answers.Refused (refusals.Neg refusal) → neg_wants_memory refusal ≡ false

@@ -27,7 +27,7 @@ pub enum BookRefusal {
     LogFull,
     /// A first token, the table at its limit, and no context past its end.
     TableFull,
-    /// The end refuses the token. Want of memory is never in it: that is an answer of its own.
+    /// The end refuses the token. Want of memory is never in it (`prove_book_laws`): that is an answer of its own.
     Neg(NegRefusal),
     /// The time of the request and the greatest moment differ by more than 300 seconds.
     Stale { greatest: Moment },

@@ -49,7 +49,7 @@ impl Log {
     }
 
     /// A log without entries, with memory for as many as its limit.
-    pub fn open(alloc: Global, limits: &Limits) -> Result<Log, NoMemory>
+    pub(crate) fn open(alloc: Global, limits: &Limits) -> Result<Log, NoMemory>
         ensures { IfOk result (λ log. log ≡ record {
           entries = [];
           width = limits.now.width;
@@ -70,7 +70,7 @@ impl Log {
     }
 
     /// Adds an entry at the end.
-    pub fn add(&mut self, entry: Entry)
+    pub(crate) fn add(&mut self, entry: Entry)
         requires { length self.old.entries < self.old.limit }
         ensures { self.new ≡ record self.old { entries = self.old.entries ++ entry ∷ [] } }
     {

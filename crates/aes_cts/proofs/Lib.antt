@@ -3,6 +3,7 @@ pub mod Entries
 pub mod Octets
 pub mod Shapes
 pub mod Coefficients
+pub mod Inverses
 pub mod Inversion
 pub mod Rounds
 pub mod Expansion

@@ -3,6 +3,7 @@
 
 mod columns;
 mod key;
+pub mod laws;
 mod schedule;
 mod stealing;
 mod tables;

@@ -5,3 +5,6 @@ pub mod Started
 pub mod Passed
 pub mod Found
 pub mod Honest
+pub mod DerReasons
+pub mod MessageReasons
+pub mod Reasons

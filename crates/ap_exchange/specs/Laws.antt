@@ -1,6 +1,7 @@
 -- What holds of both ends' definitions: what was found verified where an end goes on, and that two
 -- ends whose facts fit agree.
-use Rattle.std.specs.Prelude.{◌≡◌, ℕ, ◌+◌, true, List, [], ◌∷◌, length, Option, Some, Ok}
+use Rattle.std.specs.Prelude.{◌≡◌, ℕ, ◌+◌, true, false, List, [], ◌∷◌, length, Option, Some, Ok}
+use Rattle.std.specs.Prelude.{Err}
 use Rattle.gss_base.specs.Name.{Name}
 use Rattle.gss_base.specs.Bindings.{hash_of}
 use Rattle.der_core.specs.Format.{all_of}
@@ -20,10 +21,13 @@ use Rattle.krb_files.specs.Keytab.{found}
 use Rattle.krb_files.specs.Granted.{Granted}
 use Rattle.krb_tokens.specs.declared.done.MechDone.{MechDone}
 use Rattle.ap_exchange.specs.declared.judged.Judged.{Judged}
+use Rattle.ap_exchange.specs.declared.refusal.ApRefusal.{ApRefusal}
 use Rattle.ap_exchange.specs.declared.request.ApInit.{ApInit}
+use Rattle.ap_exchange.specs.Reasons.{ap_wants_memory}
 use Rattle.ap_exchange.specs.Keys.{ticket_usage, authenticator_usage, reply_usage, known_key}
 use Rattle.ap_exchange.specs.Keys.{subkey_in}
-use Rattle.ap_exchange.specs.Request.{label_of, waiting, request_token, RequestFits}
+use Rattle.ap_exchange.specs.Request.{label_of, waiting, request_of, request_token}
+use Rattle.ap_exchange.specs.Request.{RequestFits}
 use Rattle.ap_exchange.specs.Exchange.{name_in_realm, Exchange, exchange_of, judge_found}
 use Rattle.ap_exchange.specs.Judging.{client_granted, client_said, hash_carried, is_bound, is_near}
 use Rattle.ap_exchange.specs.Judging.{is_begun, is_lasting, end_of, judged_as, judged}
@@ -140,3 +144,14 @@ pub record Laws : Type 0 where
       (answer_token (honest_judged credential stamp bindings part) drawn) ≡ Ok done)
       × Agrees done (answer_done (honest_judged credential stamp bindings part) drawn)
       × (done.subkey ≡ true)
+  -- a request and a reply are refused for a reason: neither is want of memory, nor holds it
+  pub judged_reasons : (keytab : List Entry) (own : Name) (now : ℕ) (bindings : Option (List ℕ))
+      (token : List ℕ) (refusal : ApRefusal)
+      → judged keytab own now bindings token ≡ Err refusal → ap_wants_memory refusal ≡ false
+  pub taken_reasons : (end : ApInit) (token : List ℕ) (refusal : ApRefusal)
+      → reply_taken end token ≡ Err refusal → ap_wants_memory refusal ≡ false
+  -- the same where an initiator's ticket is none
+  pub request_reasons : (credential : Granted) (stamp : ℕ) (draws : List ℕ)
+      (bindings : Option (List ℕ)) (refusal : ApRefusal)
+      → request_of credential stamp draws bindings ≡ Err refusal
+      → ap_wants_memory refusal ≡ false

@@ -9,5 +9,6 @@ pub mod Judging
 pub mod Answer
 pub mod Reply
 pub mod SealedTicket
+pub mod Reasons
 pub mod Laws
 pub mod Numbers

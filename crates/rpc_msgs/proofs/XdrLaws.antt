@@ -6,7 +6,7 @@ use Rattle.std.proofs.lemmas.Nat.{be_bytes_4, from_be_bytes-to_be_bytes_4}
 use Rattle.std.proofs.lemmas.List.{length-append, get_or-append-add}
 use Rattle.std.proofs.lemmas.Grind.{common_steps}
 use Rattle.rpc_msgs.specs.Words.{word, opaque, padding_length}
-use Rattle.rpc_msgs.specs.Xdr.{Input, ◌>>=◌, refusal, behind, place, octets_at, word_at, zeros_in, opaque_at}
+use Rattle.rpc_msgs.specs.Xdr.{Input, ◌>>=◌, refusal, behind, place, octets_at, word_at, zeros_in, opaque_at, Reads, IsRead}
 use Rattle.rpc_msgs.specs.declared.xdr_reader.XdrRefusal.{XdrRefusal}
 use Rattle.rpc_msgs.specs.declared.xdr_reader.XdrWhy.TheVariants.{Short, TooLong, Padding}
 use Rattle.rpc_msgs.proofs.WordLengths.{length-word}
@@ -178,3 +178,22 @@ opaque-spelled limit n end octets v one two three all h e f g =
     let b : two ≡ replicate (padding_length n) 0 ++ three = z.0 in
     let whole_of : octets ≡ (word n ++ (v ++ replicate (padding_length n) 0)) ++ three = three-in-a-row octets (word n) one v two (replicate (padding_length n) 0) three e a b in
     (omega arith, whole_of ∙ ap (λ (m : ℕ). (word m ++ (v ++ replicate (padding_length m) 0)) ++ three) (sym size))
+
+-- a reading whose answer is this value and what stands behind it took them
+pub is_read : {A B E : Type 0} (view : A → B) (old new : Input) (result : Result A E) (answer : Result (B × Input) E) (value : B) (back : List ℕ) → Reads view new result answer → answer ≡ Ok (value, record { octets = back; end = old.end }) → IsRead view old new result value back
+is_read {A} {B} {E} view old new (Ok x) answer value back read is =
+    let was : B × Input = (view x, new) in
+    let due : B × Input = (value, record { octets = back; end = old.end }) in
+    let same : was ≡ due = ok_is {E = E} was due (sym read ∙ is) in
+    (ap (λ p. p.0) same, ap (λ p. p.1) same)
+is_read view old new (Err e) answer value back read is = absurd cc
+
+pub word-read : {A : Type 0} (view : A → ℕ) (old new : Input) (result : Result A XdrRefusal) → Reads view new result (word_at old) → (number : ℕ) (back : List ℕ) → number < 2 ^ 32 → old.octets ≡ word number ++ back → IsRead view old new result number back
+word-read view old new result read number back small e =
+    let is : word_at old ≡ Ok (number, record { octets = back; end = old.end }) = ap (λ (octets : List ℕ). word_at (record { octets = octets; end = old.end })) e ∙ word_law.only number back old.end small in
+    is_read view old new result (word_at old) number back read is
+
+pub opaque-read : {A : Type 0} (view : A → List ℕ) (limit : ℕ) → limit < 2 ^ 32 → (old new : Input) (result : Result A XdrRefusal) → Reads view new result (opaque_at limit old) → (octets back : List ℕ) → length octets ≤ limit → old.octets ≡ opaque octets ++ back → IsRead view old new result octets back
+opaque-read view limit fits old new result read octets back within e =
+    let is : opaque_at limit old ≡ Ok (octets, record { octets = back; end = old.end }) = ap (λ (all : List ℕ). opaque_at limit (record { octets = all; end = old.end })) e ∙ (opaque_law limit fits).only octets back old.end within in
+    is_read view old new result (opaque_at limit old) octets back read is

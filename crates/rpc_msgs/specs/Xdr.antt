@@ -77,6 +77,12 @@ abbrev pub Reads : {A B E : Type 0} → (A → B) → Input → Result A E → R
 Reads view left (Ok x) answer = answer ≡ Ok (view x, left)
 Reads view left (Err e) answer = answer ≡ Err e
 
+-- this value was read, and this is left behind it
+abbrev pub IsRead : {A B E : Type 0} → (A → B) → Input → Input → Result A E → B → List ℕ → Type 0
+IsRead view old new (Ok x) value back = (view x ≡ value)
+    × (new ≡ record { octets = back; end = old.end })
+IsRead view old new (Err e) value back = ⊥
+
 -- the answer of a reading that takes memory: want of it may come instead
 abbrev pub MayAnswer : {A B : Type 0} → (A → B) → Result A XdrRefusal → Result B XdrRefusal → Type 0
 MayAnswer view (Ok x) answer = answer ≡ Ok (view x)

@@ -1,10 +1,10 @@
 //! Reading XDR, RFC 4506.
 
-ghost use Rattle.std.specs.Prelude.{◌≡◌, ◌≤◌, ◌++◌, length, IfOk, OnErr};
+ghost use Rattle.std.specs.Prelude.{◌≡◌, ◌≤◌, ◌<◌, ◌^◌, ◌++◌, ℕ, List, length, IfOk, OnErr};
 ghost use Rattle.std.specs.Int.{w32, from_be_bytes};
 ghost use Rattle.rpc_msgs.specs.Words.{word, opaque, padding_length};
 ghost use Rattle.rpc_msgs.specs.Xdr.{Input, whole, place, octets_at, word_at, zeros_in, opaque_at};
-ghost use Rattle.rpc_msgs.specs.Xdr.{end_at, Answers, Reads};
+ghost use Rattle.rpc_msgs.specs.Xdr.{end_at, Answers, Reads, IsRead};
 
 use sec_base::NoMemory;
 use std::marker::Model;
@@ -90,6 +90,9 @@ impl<'a> XdrReader<'a> {
         ensures read { Reads (λ v. v) self.new result (word_at self.old) }
         ensures unmoved { OnErr result (self.new ≡ self.old) }
         ensures spelled { IfOk result (λ v. self.old.octets ≡ word v ++ self.new.octets) }
+        ensures only { (number : ℕ) (back : List ℕ) → number < 2 ^ 32
+            → self.old.octets ≡ word number ++ back
+            → IsRead (λ v. v) self.old self.new result number back }
     {
         let (number, left) = word_in(self.left, self.end)?;
         self.left = left;
@@ -102,6 +105,9 @@ impl<'a> XdrReader<'a> {
         ensures unmoved { OnErr result (self.new ≡ self.old) }
         ensures spelled { IfOk result
             (λ v. (length v.now ≤ limit) × (self.old.octets ≡ opaque v.now ++ self.new.octets)) }
+        ensures only { (octets back : List ℕ) → length octets ≤ limit
+            → self.old.octets ≡ opaque octets ++ back
+            → IsRead (λ v. v.now) self.old self.new result octets back }
     {
         let (octets, left) = opaque_in(self.left, self.end, limit)?;
         self.left = left;

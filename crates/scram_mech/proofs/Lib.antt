@@ -29,3 +29,4 @@ pub mod OnlyTexts
 pub mod RefusedTexts
 pub mod RefusedFiles
 pub mod Lengths
+pub mod Reasons

@@ -8,6 +8,7 @@ use Rattle.scram_mech.specs.Signs.{is_printable}
 use Rattle.scram_mech.specs.Judging.{is_extended, are_rounds, data_of, carried, is_bound, unframed}
 use Rattle.scram_mech.specs.Base64.{encoded}
 use Rattle.scram_mech.specs.declared.refusal.ScramRefusal.TheVariants.{Text, PeerError}
+use Rattle.scram_mech.specs.Reasons.{StepReasons}
 use Rattle.scram_mech.specs.Formats.{values_of}
 use Rattle.scram_mech.specs.Places.{LongestFront}
 use Rattle.scram_mech.specs.FirstText.{First, first_format, first_of}
@@ -225,3 +226,5 @@ pub record Laws : Type 0 where
       → LongestOf IsThird text at
   pub final_refused : (text : List ℕ) (at : ℕ) → final_of text ≡ Err (Text at)
       → LongestOf IsFinal text at
+  -- no step is refused for want of memory
+  pub reasons : StepReasons

@@ -24,6 +24,7 @@ pub mod Grammar
 pub mod VerifierFile
 pub mod FilePlaces
 pub mod GrammarPlaces
+pub mod Reasons
 pub mod Laws
 pub mod AuthParts
 pub mod Numbers

@@ -1,6 +1,6 @@
 -- What a clock and a source of octets in memory give, one value after the other.
-use Rattle.std.proofs.Common.{◌≡◌, ℕ, zero, suc, ◌+◌, ◌-◌, ◌<◌, ◌≤◌, ◌%◌, List, [], ◌∷◌, ◌++◌, length, get_or, refl, ap, ◌∙◌, arith, append_assoc}
-use Rattle.std.proofs.lemmas.List.{take_all}
+use Rattle.std.proofs.Common.{◌≡◌, ℕ, zero, suc, ◌+◌, ◌-◌, ◌<◌, ◌≤◌, ◌%◌, List, [], ◌∷◌, ◌++◌, length, get_or, refl, ap, ◌∙◌, arith, append_assoc, sym, take}
+use Rattle.std.proofs.lemmas.List.{take_all, length-append}
 use Rattle.std.proofs.lemmas.Grind.{common_steps}
 use Rattle.sec_base.specs.MemDraw.{counting, octets_given}
 use Rattle.sec_base.specs.MemClock.{moments_given, moment_after}
@@ -17,6 +17,18 @@ octets_given-past octets count h =
     let e : count + 1 - length octets ≡ suc (count - length octets) = omega arith in
     let more : length octets ≤ count + 1 = omega arith in
     rw (e, take_all (count + 1) octets more, take_all count octets h, counting-push 0 (count - length octets), append_assoc) (grind (arith, common_steps))
+
+counting-length : (start count : ℕ) → length (counting start count) ≡ count
+counting-length start zero = refl
+counting-length start (suc count) = ap suc (counting-length (suc start) count)
+
+octets_given-length : (octets : List ℕ) (count : ℕ) → length (octets_given octets count) ≡ count
+octets_given-length octets count =
+    rw (length-append (take count octets) (counting 0 (count - length octets)), counting-length 0 (count - length octets)) (grind (arith, common_steps))
+
+-- what is given is told by how much it is
+pub octets_given-front : (octets : List ℕ) (count : ℕ) → octets_given octets count ≡ octets_given octets (length (octets_given octets count))
+octets_given-front octets count = ap (λ (n : ℕ). octets_given octets n) (sym (octets_given-length octets count))
 
 pub moments_given-push : (moments : List ℕ) (last count : ℕ) → moments_given moments last (suc count) ≡ moments_given moments last count ++ moment_after moments last count ∷ []
 moments_given-push [] last zero = refl

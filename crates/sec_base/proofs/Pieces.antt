@@ -14,3 +14,7 @@ given-coming input copied at count e =
 
 pub given-ended : (input : List ℕ) (at : ℕ) → length input - at ≡ 0 → drop at input ≡ []
 given-ended input at h = grind (arith, common_steps)
+
+-- the pieces behind the next one
+pub pieces-behind : (pieces : List ℕ) (number : ℕ) → drop (number + 1) pieces ≡ drop 1 (drop number pieces)
+pieces-behind pieces number = sym (drop-drop 1 number pieces)

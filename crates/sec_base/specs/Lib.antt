@@ -1,12 +1,15 @@
 pub mod Answers
+pub mod Failures
 pub mod Link
 pub mod MemClock
 pub mod MemDraw
+pub mod MemLink
 pub mod MemPort
 pub mod Moment
 pub mod Oid
 pub mod OidCells
 pub mod Padded
+pub mod Pieces
 pub mod Port
 pub mod Shelf
 pub mod Sink

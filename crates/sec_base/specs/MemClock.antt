@@ -1,5 +1,10 @@
 -- What a clock in memory gives.
 use Rattle.std.specs.Prelude.{ℕ, zero, suc, List, [], ◌∷◌}
+use Rattle.sec_base.specs.declared.mem_clock.MemClock.{MemClock}
+
+-- the moments that a clock was made with
+abbrev pub stated_moments : MemClock → List ℕ
+stated_moments clock = clock.moments.items
 
 -- the first `count` moments that are given: those of the list, and then the last of them again and
 -- again; `last` is the one given before the list

@@ -1,5 +1,10 @@
 -- What a source of octets in memory gives.
 use Rattle.std.specs.Prelude.{ℕ, zero, suc, ◌-◌, ◌%◌, List, [], ◌∷◌, ◌++◌, length, take}
+use Rattle.sec_base.specs.declared.mem_draw.MemDraw.{MemDraw}
+
+-- the octets that a source was made with
+abbrev pub stated_octets : MemDraw → List ℕ
+stated_octets draw = draw.octets.items
 
 -- `count` octets that count upwards from `start`, modulo 256
 abbrev pub counting : ℕ → ℕ → List ℕ

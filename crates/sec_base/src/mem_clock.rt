@@ -1,7 +1,7 @@
 //! A clock in memory.
 
-ghost use Rattle.std.specs.Prelude.{◌≡◌, [], length};
-ghost use Rattle.sec_base.specs.MemClock.{moment_after};
+ghost use Rattle.std.specs.Prelude.{◌≡◌, [], ◌++◌, ◌∷◌, IsTrue, length};
+ghost use Rattle.sec_base.specs.MemClock.{moment_after, moments_given, stated_moments};
 
 use crate::clock::Clock;
 use crate::moment::Moment;
@@ -16,14 +16,18 @@ pub struct MemClock {
 
 impl MemClock {
     pub fn new(moments: Vec<Moment>) -> MemClock
-        ensures { ⟦<MemClock as Clock>⟧.given result ≡ [] }
+        ensures given { ⟦<MemClock as Clock>⟧.given result ≡ [] }
+        ensures tells { IsTrue (⟦<MemClock as Clock>⟧.tells result) }
+        ensures stated { stated_moments result ≡ moments.items }
     {
         MemClock { moments, count: 0 }
     }
 
     /// How many moments were given.
     pub fn count(&self) -> u64
-        ensures { result ≡ length (⟦<MemClock as Clock>⟧.given self.now) }
+        ensures count { result ≡ length (⟦<MemClock as Clock>⟧.given self.now) }
+        ensures given { ⟦<MemClock as Clock>⟧.given self.now
+            ≡ moments_given (stated_moments self.now) 0 result }
     {
         self.count
     }
@@ -44,13 +48,22 @@ fn moment_at(moments: &[Moment], count: u64) -> Moment
 
 impl Clock for MemClock {
     ghost use Rattle.std.specs.Prelude.{nat_lt, ◌^◌, ◌-◌};
-    ghost use Rattle.sec_base.specs.MemClock.{moments_given};
 
     ghost tells = { λ c. nat_lt c.count (2 ^ 64 - 1) };
 
     ghost given = { λ c. moments_given c.moments.items 0 c.count };
 
-    fn now(&mut self) -> Moment {
+    fn now(&mut self) -> Moment
+        ensures kept { IsTrue (⟦<MemClock as Clock>⟧.tells self.new)
+            → IsTrue (⟦<MemClock as Clock>⟧.tells self.old) }
+        ensures told { IsTrue (⟦<MemClock as Clock>⟧.tells self.new)
+            → ⟦<MemClock as Clock>⟧.given self.new
+            ≡ ⟦<MemClock as Clock>⟧.given self.old ++ result ∷ [] }
+        ensures stated { stated_moments self.new ≡ stated_moments self.old }
+        ensures next { result
+            ≡ moment_after (stated_moments self.old) 0
+            (length (⟦<MemClock as Clock>⟧.given self.old)) }
+    {
         let moment = moment_at(&self.moments, self.count);
         self.count = self.count.saturating_add(1);
         moment

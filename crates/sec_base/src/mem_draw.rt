@@ -1,7 +1,7 @@
 //! A source of octets in memory.
 
-ghost use Rattle.std.specs.Prelude.{◌≡◌, ◌+◌, ◌++◌, ◌∷◌, [], IsTrue};
-ghost use Rattle.sec_base.specs.MemDraw.{octets_given};
+ghost use Rattle.std.specs.Prelude.{◌≡◌, ◌+◌, ◌++◌, ◌∷◌, [], IsTrue, length};
+ghost use Rattle.sec_base.specs.MemDraw.{octets_given, stated_octets};
 
 use crate::draw::Draw;
 
@@ -15,7 +15,9 @@ pub struct MemDraw {
 
 impl MemDraw {
     pub fn new(octets: Vec<u8>) -> MemDraw
-        ensures { ⟦<MemDraw as Draw>⟧.given result ≡ [] }
+        ensures given { ⟦<MemDraw as Draw>⟧.given result ≡ [] }
+        ensures tells { IsTrue (⟦<MemDraw as Draw>⟧.tells result) }
+        ensures stated { stated_octets result ≡ octets.items }
     {
         MemDraw { octets, count: 0 }
     }
@@ -26,6 +28,7 @@ impl MemDraw {
             → IsTrue (⟦<MemDraw as Draw>⟧.tells self.old) }
         ensures told { IsTrue (⟦<MemDraw as Draw>⟧.tells self.new) → ⟦<MemDraw as Draw>⟧.given
             self.new ≡ ⟦<MemDraw as Draw>⟧.given self.old ++ result ∷ [] }
+        ensures stated { stated_octets self.new ≡ stated_octets self.old }
     {
         let octet = octet_at(&self.octets, self.count);
         self.count = self.count.saturating_add(1);
@@ -47,13 +50,22 @@ fn octet_at(octets: &[u8], count: u64) -> u8
 
 impl Draw for MemDraw {
     ghost use Rattle.std.specs.Prelude.{nat_lt, ◌^◌, ◌-◌};
-    ghost use Rattle.sec_base.specs.MemDraw.{octets_given};
 
     ghost tells = { λ d. nat_lt d.count (2 ^ 64 - 1) };
 
     ghost given = { λ d. octets_given d.octets.items d.count };
 
-    fn fill(&mut self, out: &mut [u8]) {
+    fn fill(&mut self, out: &mut [u8])
+        ensures kept { IsTrue (⟦<MemDraw as Draw>⟧.tells self.new)
+            → IsTrue (⟦<MemDraw as Draw>⟧.tells self.old) }
+        ensures told { IsTrue (⟦<MemDraw as Draw>⟧.tells self.new)
+            → ⟦<MemDraw as Draw>⟧.given self.new
+            ≡ ⟦<MemDraw as Draw>⟧.given self.old ++ out.new }
+        ensures stated { stated_octets self.new ≡ stated_octets self.old }
+        ensures front { ⟦<MemDraw as Draw>⟧.given self.new
+            ≡ octets_given (stated_octets self.new)
+            (length (⟦<MemDraw as Draw>⟧.given self.new)) }
+    {
         for octet in out.iter_mut() {
             *octet = self.next();
         }

@@ -1,6 +1,10 @@
 //! A link in memory.
 
 ghost use Rattle.std.specs.Prelude.{◌≡◌, ℕ, ◌+◌, ◌≤◌, ◌<◌, [], false, length, take, drop, vec_len};
+ghost use Rattle.std.specs.Prelude.{◌↔◌, IsTrue, IsErr, IfOk, OnOk, OnErr, min};
+ghost use Rattle.sec_base.specs.Answers.{Rose};
+ghost use Rattle.sec_base.specs.Link.{Reads, Writes};
+ghost use Rattle.sec_base.specs.Pieces.{piece_of};
 
 use crate::failing::Failing;
 use crate::link::{Link, LinkFault};
@@ -21,6 +25,8 @@ pub struct MemLink {
 
 impl MemLink {
     ghost use Rattle.std.specs.Prelude.{◌≡◌, [], false};
+    ghost use Rattle.sec_base.specs.Failures.{failures_from, link_failures};
+    ghost use Rattle.sec_base.specs.MemLink.{coming_pieces};
 
     /// A link over this input. Its reads give pieces of the sizes in `pieces`, one octet at least, in this order, and then as
     /// much as fits. The calls of `read` and `write` whose numbers, counted from 1, stand in `failing` fail, and so does a write
@@ -30,6 +36,9 @@ impl MemLink {
             ≡ record { taken = []; coming = input.items; written = [] } }
         ensures closed { ⟦<MemLink as Link>⟧.closed result ≡ false }
         ensures faults { ⟦<MemLink as Link>⟧.faults result ≡ 0 }
+        ensures tells { IsTrue (⟦<MemLink as Link>⟧.tells result) }
+        ensures pieces { coming_pieces result ≡ pieces.items }
+        ensures failing { link_failures result ≡ failures_from failing.items }
     {
         MemLink {
             input,
@@ -73,11 +82,25 @@ impl MemLink {
 
 /// How many octets the read of this number gives, of those that there are and fit.
 fn piece(pieces: &[usize], number: usize, most: usize) -> usize
+    ensures piece { result ≡ piece_of (drop number pieces.now) most }
     ensures most { result ≤ most }
     ensures some { 0 < most → 0 < result }
 {
-    let size = pieces.get(number).copied().unwrap_or(most);
-    size.max(1).min(most)
+    match pieces.get(number) {
+        Some(size) => (*size).max(1).min(most),
+        None => most,
+    }
+}
+
+/// The number of the read after this one, which stays where there is no further piece.
+fn number_after(pieces: &[usize], number: usize) -> usize
+    ensures { drop result pieces.now ≡ drop 1 (drop number pieces.now) }
+{
+    if number < pieces.len() {
+        number + 1
+    } else {
+        number
+    }
 }
 
 /// Copies the `count` octets from `at` on to the front of `buf`.
@@ -91,6 +114,8 @@ fn copy_out(input: &[u8], at: usize, count: usize, buf: &mut [u8])
 
 impl Link for MemLink {
     ghost use Rattle.std.specs.Prelude.{true, take, drop};
+    ghost use Rattle.sec_base.specs.Failures.{link_failures, fails_next, one_more};
+    ghost use Rattle.sec_base.specs.MemLink.{coming_pieces};
 
     ghost faults = { λ l. l.failing.faults };
 
@@ -105,20 +130,54 @@ impl Link for MemLink {
 
     ghost closed = { λ l. l.closed };
 
-    fn read(&mut self, buf: &mut [u8]) -> Result<usize, LinkFault> {
+    fn read(&mut self, buf: &mut [u8]) -> Result<usize, LinkFault>
+        requires { ⟦<MemLink as Link>⟧.closed self.old ≡ false }
+        ensures count { IfOk result (λ count. count ≤ length buf.old) }
+        ensures told { IsTrue (⟦<MemLink as Link>⟧.tells self.old)
+            → Reads (⟦<MemLink as Link>⟧.wire self.old)
+            (⟦<MemLink as Link>⟧.wire self.new) result buf.new }
+        ensures tells { ⟦<MemLink as Link>⟧.tells self.new ≡ ⟦<MemLink as Link>⟧.tells self.old }
+        ensures unclosed { ⟦<MemLink as Link>⟧.closed self.new ≡ false }
+        ensures fault { OnErr result
+            (Rose (⟦<MemLink as Link>⟧.faults self.old) (⟦<MemLink as Link>⟧.faults self.new)) }
+        ensures faults { ⟦<MemLink as Link>⟧.faults self.old ≤ ⟦<MemLink as Link>⟧.faults self.new }
+        // a read fails exactly where it is to, and else gives the next piece
+        ensures fails { IsErr result ↔ IsTrue (fails_next (link_failures self.old)) }
+        ensures counted { link_failures self.new ≡ one_more (link_failures self.old) }
+        ensures piece { IfOk result (λ count. count ≡ piece_of (coming_pieces self.old)
+            (min (length buf.old) (length (⟦<MemLink as Link>⟧.wire self.old).coming))) }
+        ensures pieces { OnOk result (coming_pieces self.new ≡ drop 1 (coming_pieces self.old)) }
+        ensures stays { OnErr result (coming_pieces self.new ≡ coming_pieces self.old) }
+    {
         if self.failing.fails() {
             self.failing.fault();
             return Err(LinkFault);
         }
         let most = buf.len().min(self.input.len() - self.at);
         let count = piece(&self.pieces, self.reads, most);
-        self.reads = self.reads.saturating_add(1);
+        self.reads = number_after(&self.pieces, self.reads);
         copy_out(&self.input, self.at, count, buf);
         self.at += count;
         Ok(count)
     }
 
-    fn write(&mut self, buf: &[u8]) -> Result<usize, LinkFault> {
+    fn write(&mut self, buf: &[u8]) -> Result<usize, LinkFault>
+        requires { ⟦<MemLink as Link>⟧.closed self.old ≡ false }
+        ensures count { IfOk result (λ count. count ≤ length buf.now) }
+        ensures some { IfOk result (λ count. 0 < length buf.now → 0 < count) }
+        ensures told { IsTrue (⟦<MemLink as Link>⟧.tells self.old)
+            → Writes (⟦<MemLink as Link>⟧.wire self.old)
+            (⟦<MemLink as Link>⟧.wire self.new) result buf.now }
+        ensures tells { ⟦<MemLink as Link>⟧.tells self.new ≡ ⟦<MemLink as Link>⟧.tells self.old }
+        ensures unclosed { ⟦<MemLink as Link>⟧.closed self.new ≡ false }
+        ensures fault { OnErr result
+            (Rose (⟦<MemLink as Link>⟧.faults self.old) (⟦<MemLink as Link>⟧.faults self.new)) }
+        ensures faults { ⟦<MemLink as Link>⟧.faults self.old ≤ ⟦<MemLink as Link>⟧.faults self.new }
+        // a write fails where it is to, and else at want of memory alone
+        ensures fails { IsTrue (fails_next (link_failures self.old)) → IsErr result }
+        ensures counted { link_failures self.new ≡ one_more (link_failures self.old) }
+        ensures pieces { coming_pieces self.new ≡ coming_pieces self.old }
+    {
         if self.failing.fails() {
             self.failing.fault();
             return Err(LinkFault);
@@ -132,7 +191,14 @@ impl Link for MemLink {
         }
     }
 
-    fn close(&mut self) {
+    fn close(&mut self)
+        ensures told { ⟦<MemLink as Link>⟧.wire self.new ≡ ⟦<MemLink as Link>⟧.wire self.old }
+        ensures tells { ⟦<MemLink as Link>⟧.tells self.new ≡ ⟦<MemLink as Link>⟧.tells self.old }
+        ensures closed { ⟦<MemLink as Link>⟧.closed self.new ≡ true }
+        ensures faults { ⟦<MemLink as Link>⟧.faults self.old ≤ ⟦<MemLink as Link>⟧.faults self.new }
+        ensures failing { link_failures self.new ≡ link_failures self.old }
+        ensures pieces { coming_pieces self.new ≡ coming_pieces self.old }
+    {
         self.closed = true;
     }
 }

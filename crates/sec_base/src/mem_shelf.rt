@@ -1,8 +1,9 @@
 //! A shelf in memory.
 
-ghost use Rattle.std.specs.Prelude.{◌≡◌, [], Some, None};
+ghost use Rattle.std.specs.Prelude.{◌≡◌, ◌≤◌, [], Some, None, IsTrue, IsErr, IsErrOf};
 ghost use Rattle.std.specs.Option.{option_map};
-ghost use Rattle.sec_base.specs.Shelf.{content_of, Copies};
+ghost use Rattle.sec_base.specs.Answers.{Rose};
+ghost use Rattle.sec_base.specs.Shelf.{content_of, Copies, Loads, Asks};
 
 use crate::failing::Failing;
 use crate::octets::Octets;
@@ -19,12 +20,16 @@ pub struct MemShelf {
 }
 
 impl MemShelf {
+    ghost use Rattle.sec_base.specs.Failures.{failures_from, shelf_failures};
+
     /// A shelf of these files; of two with one name the first is given. The calls whose numbers, counted from 1, stand in `failing`
     /// fail.
     pub fn new(alloc: Global, files: Vec<NamedFile>, failing: Vec<u64>) -> MemShelf
         ensures files { ⟦<MemShelf as Shelf>⟧.files result ≡ files.items }
         ensures asked { ⟦<MemShelf as Shelf>⟧.asked result ≡ [] }
         ensures faults { ⟦<MemShelf as Shelf>⟧.faults result ≡ 0 }
+        ensures tells { IsTrue (⟦<MemShelf as Shelf>⟧.tells result) }
+        ensures failing { shelf_failures result ≡ failures_from failing.items }
     {
         MemShelf {
             files,
@@ -62,6 +67,7 @@ fn find<'a>(files: &'a [NamedFile], name: &str) -> Option<&'a [u8]>
 
 impl Shelf for MemShelf {
     ghost use Rattle.std.specs.Prelude.{true};
+    ghost use Rattle.sec_base.specs.Failures.{shelf_failures, fails_next, one_more};
 
     ghost faults = { λ s. s.failing.faults };
 
@@ -71,14 +77,32 @@ impl Shelf for MemShelf {
 
     ghost asked = { λ s. s.asked.items };
 
-    fn load(&mut self, alloc: Global, name: &str, limit: usize) -> Result<Octets, LoadRefusal> {
+    fn load(&mut self, alloc: Global, name: &str, limit: usize) -> Result<Octets, LoadRefusal>
+        ensures told { IsTrue (⟦<MemShelf as Shelf>⟧.tells self.old)
+            → Loads (⟦<MemShelf as Shelf>⟧.files self.old) name.now limit result }
+        ensures asked { IsTrue (⟦<MemShelf as Shelf>⟧.tells self.old)
+            → Asks (⟦<MemShelf as Shelf>⟧.asked self.old)
+            (⟦<MemShelf as Shelf>⟧.asked self.new) name.now result }
+        ensures files { ⟦<MemShelf as Shelf>⟧.files self.new
+            ≡ ⟦<MemShelf as Shelf>⟧.files self.old }
+        ensures tells { ⟦<MemShelf as Shelf>⟧.tells self.new
+            ≡ ⟦<MemShelf as Shelf>⟧.tells self.old }
+        ensures fault { IsErrOf result LoadRefusal.Fault
+            → Rose (⟦<MemShelf as Shelf>⟧.faults self.old) (⟦<MemShelf as Shelf>⟧.faults self.new) }
+        ensures faults { ⟦<MemShelf as Shelf>⟧.faults self.old
+            ≤ ⟦<MemShelf as Shelf>⟧.faults self.new }
+        // a call fails where it is to
+        ensures fails { IsTrue (fails_next (shelf_failures self.old)) → IsErr result }
+        ensures counted { shelf_failures self.new ≡ one_more (shelf_failures self.old) }
+    {
+        let fails = self.failing.fails();
         let Ok(asked) = Text::of(alloc, name) else {
             return Err(LoadRefusal::NoMemory);
         };
         if self.asked.push(asked).is_err() {
             return Err(LoadRefusal::NoMemory);
         }
-        if self.failing.fails() {
+        if fails {
             self.failing.fault();
             return Err(LoadRefusal::Fault);
         }

@@ -11,3 +11,6 @@ pub mod Spelled
 pub mod Turns
 pub mod MechRounds
 pub mod Exchanges
+pub mod MechReasons
+pub mod AcceptReasons
+pub mod InitReasons

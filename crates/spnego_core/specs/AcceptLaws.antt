@@ -1,6 +1,6 @@
 -- What holds of an acceptor over its steps.
 use Rattle.std.specs.Prelude.{◌≡◌, ◌⊎◌, ℕ, true, false, List, [], map, slice_get, Option, Some}
-use Rattle.std.specs.Prelude.{None, Result, Ok}
+use Rattle.std.specs.Prelude.{None, Ok, Err}
 use Rattle.gss_base.specs.declared.mech.MechKind.{MechKind}
 use Rattle.gss_base.specs.declared.mech.MechKind.TheVariants as kinds
 use Rattle.krb_tokens.specs.declared.end.Side.TheVariants.{Acceptor}
@@ -14,6 +14,7 @@ use Rattle.scram_mech.specs.FirstText.{First, first_of}
 use Rattle.scram_mech.specs.MechMaking.{MechMaking, AmongMakings, typed}
 use Rattle.scram_mech.specs.Acceptor.{AcceptModel, AcceptFinished, accept_finished}
 use Rattle.spnego_core.specs.declared.outcome.Outcome.{Outcome}
+use Rattle.spnego_core.specs.declared.refusal.NegRefusal.{NegRefusal}
 use Rattle.spnego_core.specs.declared.setup.AcceptSetup.{AcceptSetup}
 use Rattle.spnego_core.specs.declared.accept_mech.AcceptMech.{AcceptMech}
 use Rattle.spnego_core.specs.declared.accept_mech.AcceptMech.TheVariants as mechs
@@ -30,7 +31,8 @@ use Rattle.spnego_core.specs.declared.accept_end.AcceptStep.TheVariants as steps
 use Rattle.spnego_core.specs.Outcome.{outcome_of}
 use Rattle.spnego_core.specs.ListMic.{is_list_mic, mic_making, mic_found}
 use Rattle.spnego_core.specs.Choice.{best, is_mic_due}
-use Rattle.spnego_core.specs.AcceptMech.{Basis, ByRequest, ByProof}
+use Rattle.spnego_core.specs.AcceptMech.{ByRequest, ByProof}
+use Rattle.spnego_core.specs.Reasons.{neg_wants_memory}
 use Rattle.spnego_core.specs.Accepting.{Fixed, Accepted, gone_on, accept_step}
 
 -- ---- what an end knows
@@ -217,3 +219,7 @@ pub record AcceptLaws : Type 0 where
       (taken : Accepted)
       → GoodAccept setup old → accept_step setup old token now draws ≡ Ok taken
       → AcceptLaw setup old now draws taken
+  -- no step is refused for want of memory, and no refusal holds it
+  pub reasons : (setup : AcceptSetup) (old : AcceptEnd) (token : List ℕ) (now : ℕ) (draws : List ℕ)
+      (refusal : NegRefusal)
+      → accept_step setup old token now draws ≡ Err refusal → neg_wants_memory refusal ≡ false

@@ -1,6 +1,6 @@
 -- What holds of an initiator over its steps.
-use Rattle.std.specs.Prelude.{◌≡◌, ◌⊎◌, ℕ, Bool, true, false, List, map, Option, Some, None, Result}
-use Rattle.std.specs.Prelude.{Ok}
+use Rattle.std.specs.Prelude.{◌≡◌, ◌⊎◌, ℕ, Bool, true, false, List, map, Option, Some, None}
+use Rattle.std.specs.Prelude.{Ok, Err}
 use Rattle.gss_base.specs.declared.mech.MechKind.{MechKind}
 use Rattle.gss_base.specs.declared.mech.MechKind.TheVariants as kinds
 use Rattle.krb_tokens.specs.declared.done.MechDone.{MechDone}
@@ -29,7 +29,8 @@ use Rattle.spnego_core.specs.declared.init_end.InitStep.TheVariants as steps
 use Rattle.spnego_core.specs.Outcome.{outcome_of}
 use Rattle.spnego_core.specs.ListMic.{is_list_mic, mic_making, mic_found}
 use Rattle.spnego_core.specs.Choice.{is_first}
-use Rattle.spnego_core.specs.InitMech.{kinds_of, is_own_list, cred_for}
+use Rattle.spnego_core.specs.InitMech.{kinds_of, cred_for}
+use Rattle.spnego_core.specs.Reasons.{neg_wants_memory}
 use Rattle.spnego_core.specs.Initiating.{Started, Initiated, own_list, init_start, init_step}
 
 -- ---- what an end knows
@@ -265,3 +266,8 @@ pub record InitLaws : Type 0 where
       → StartLaw own started
   pub steps : (old : InitEnd) (token : List ℕ) (taken : Initiated) → GoodInit old
       → init_step old token ≡ Ok taken → InitLaw old taken
+  -- no start and no step is refused for want of memory, and no refusal holds it
+  pub start_reasons : (own : InitSetup) (refusal : NegRefusal) → init_start own ≡ Err refusal
+      → neg_wants_memory refusal ≡ false
+  pub step_reasons : (old : InitEnd) (token : List ℕ) (refusal : NegRefusal)
+      → init_step old token ≡ Err refusal → neg_wants_memory refusal ≡ false

@@ -7,6 +7,7 @@ pub mod AcceptMech
 pub mod Accepting
 pub mod InitMech
 pub mod Initiating
+pub mod Reasons
 pub mod InitLaws
 pub mod AcceptLaws
 pub mod Sizes

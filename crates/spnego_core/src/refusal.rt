@@ -15,7 +15,7 @@ use sec_base::NoMemory;
 /// Why a mechanism refuses.
 #[derive(Clone, Copy, Debug, PartialEq, Eq)]
 pub enum MechRefusal {
-    /// Kerberos's exchange. Want of memory is never in it: that is the end's own answer.
+    /// Kerberos's exchange. Want of memory is never in it (`prove_init_laws`, `prove_accept_laws`): that is the end's own answer.
     Ap(ApRefusal),
     /// SCRAM's exchange. Want of memory is never in it.
     Scram(ScramRefusal),

@@ -1,7 +1,7 @@
 //! Standard streams that were closed before the program began.
 
 ghost use Rattle.std.specs.Prelude.{pos, ◌<ℤ◌, IfSome};
-ghost use Rattle.std.specs.Fd.{file_raw_fd};
+ghost use Rattle.system_devices.specs.Devices.{number_above};
 
 use std::fs::File;
 use std::os::fd::AsRawFd;
@@ -26,7 +26,7 @@ impl HeldStreams {
     /// Opens the empty file until it has a number past those of the standard streams: the system gives each file the lowest number that
     /// is free. None where it can't be opened.
     pub fn hold<R: Files<File = File>>(rt: &R) -> Option<HeldStreams>
-        ensures { IfSome result (λ held. pos 2 <ℤ file_raw_fd held.above) }
+        ensures { IfSome result (λ held. pos 2 <ℤ number_above held) }
     {
         let mut below = [None, None, None];
         for at in 0..4 {

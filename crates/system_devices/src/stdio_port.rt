@@ -1,6 +1,10 @@
 //! Standard input and output as one connection.
 
-ghost use Rattle.std.specs.Prelude.{◌≡◌, false};
+ghost use Rattle.std.specs.Prelude.{◌≡◌, ◌≤◌, true, false, Ok, None, IsTrue, IsSome, IsOkAnd, IfOk};
+ghost use Rattle.std.specs.Prelude.{IfSome, OnErr};
+ghost use Rattle.sec_base.specs.Answers.{Rose};
+ghost use Rattle.sec_base.specs.Port.{Accepts};
+ghost use Rattle.system_devices.specs.Devices.{is_given};
 
 use sec_base::{Link, LinkFault, Port, PortFault};
 use std::io::{Read, Stdin, Stdout, Write};
@@ -61,7 +65,7 @@ pub struct StdioPort {
 impl StdioPort {
     /// The port whose link was not given yet.
     pub fn new(input: Stdin, output: Stdout) -> StdioPort
-        ensures { result.given ≡ false }
+        ensures { is_given result ≡ false }
     {
         StdioPort {
             input,
@@ -82,7 +86,23 @@ impl Port for StdioPort {
 
     ghost links = { λ _. [] };
 
-    fn accept(&mut self) -> Result<Option<StdioLink>, PortFault> {
+    fn accept(&mut self) -> Result<Option<StdioLink>, PortFault>
+        ensures told { IsTrue (⟦<StdioPort as Port>⟧.tells self.old)
+            → Accepts (⟦<StdioPort as Port>⟧.links self.old)
+            (⟦<StdioPort as Port>⟧.links self.new) result }
+        ensures tells { ⟦<StdioPort as Port>⟧.tells self.new
+            ≡ ⟦<StdioPort as Port>⟧.tells self.old }
+        ensures unclosed { IfOk result
+            (λ next. IfSome next (λ link. ⟦<StdioLink as Link>⟧.closed link ≡ false)) }
+        ensures fault { OnErr result
+            (Rose (⟦<StdioPort as Port>⟧.faults self.old) (⟦<StdioPort as Port>⟧.faults self.new)) }
+        ensures faults { ⟦<StdioPort as Port>⟧.faults self.old
+            ≤ ⟦<StdioPort as Port>⟧.faults self.new }
+        // the one link is given once
+        ensures one { is_given self.old ≡ false → IsOkAnd result (λ next. IsSome next) }
+        ensures none { is_given self.old ≡ true → result ≡ Ok None }
+        ensures given { is_given self.new ≡ true }
+    {
         if self.given {
             return Ok(None);
         }

@@ -1,6 +1,7 @@
 //! The system's clock.
 
-ghost use Rattle.std.specs.Prelude.{◌≡◌};
+ghost use Rattle.std.specs.Prelude.{◌≡◌, ◌++◌, ◌∷◌, [], IsTrue};
+ghost use Rattle.system_devices.specs.Devices.{last_given};
 
 use sec_base::{Clock, Moment};
 use std::rt::Clock as SystemTimeSource;
@@ -17,7 +18,7 @@ pub struct SystemClock<R: SystemTimeSource + Drop> {
 impl<R: SystemTimeSource + Drop> SystemClock<R> {
     /// The clock that gave no moment yet.
     pub fn new(rt: R) -> SystemClock<R>
-        ensures { result.last ≡ 0 }
+        ensures { last_given result ≡ 0 }
     {
         SystemClock {
             rt,
@@ -34,13 +35,20 @@ fn reading<R: SystemTimeSource>(rt: &R) -> Option<Moment> {
 }
 
 impl<R: SystemTimeSource + Drop> Clock for SystemClock<R> {
-    ghost use Rattle.std.specs.Prelude.{false, []};
+    ghost use Rattle.std.specs.Prelude.{false};
 
     ghost tells = { λ _. false };
 
     ghost given = { λ _. [] };
 
-    fn now(&mut self) -> Moment {
+    fn now(&mut self) -> Moment
+        ensures kept { IsTrue (⟦<SystemClock<R> as Clock>⟧.tells self.new)
+            → IsTrue (⟦<SystemClock<R> as Clock>⟧.tells self.old) }
+        ensures told { IsTrue (⟦<SystemClock<R> as Clock>⟧.tells self.new)
+            → ⟦<SystemClock<R> as Clock>⟧.given self.new
+            ≡ ⟦<SystemClock<R> as Clock>⟧.given self.old ++ result ∷ [] }
+        ensures last { result ≡ last_given self.new }
+    {
         if let Some(moment) = reading(&self.rt) {
             self.last = moment;
         }

@@ -1,6 +1,7 @@
 //! Where TCP connections come in.
 
 ghost use Rattle.std.specs.Prelude.{◌≡◌};
+ghost use Rattle.system_devices.specs.Devices.{door_address};
 
 use crate::tcp_link::TcpLink;
 use sec_base::{Link, Port, PortFault};
@@ -18,7 +19,7 @@ pub struct TcpDoor<'a, R: Drop> {
 impl<'a, R: Net<Stream = TcpStream, Listener = TcpListener> + Drop> TcpDoor<'a, R> {
     /// The listener at `address`, a host and a port with a colon between them, which doesn't listen yet.
     pub fn at(rt: R, address: &'a str) -> TcpDoor<'a, R>
-        ensures { result.address.now ≡ address.now }
+        ensures { door_address result ≡ address.now }
     {
         TcpDoor {
             rt,

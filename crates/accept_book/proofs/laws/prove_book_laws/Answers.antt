@@ -1,5 +1,6 @@
 use Rattle.accept_book.proofs.Founds.{refused_is}
 use Rattle.accept_book.proofs.Fixings.{good_steps, good_without, takes, untaken, fixes, fixes_none, completes, first_unknown}
+use Rattle.accept_book.proofs.Reasons.{reasons}
 use Rattle.accept_book.proofs.laws.prove_book_laws.Goals as goal
 
 pub returns : goal.returns
@@ -13,4 +14,5 @@ returns c = record {
   fixes_none = fixes_none c.prove_accept_laws.ensures;
   completes = completes c.prove_accept_laws.ensures;
   first = first_unknown;
+  reasons = reasons c.prove_accept_laws.ensures;
 }

@@ -13,6 +13,7 @@ use Rattle.scram_mech.proofs.FoundTexts.{first-found, second-found, third-found,
 use Rattle.scram_mech.proofs.OnlyTexts.{first-only, second-only, third-only, final-only, error-only}
 use Rattle.scram_mech.proofs.RefusedTexts.{first-refused, second-refused, third-refused, final-refused}
 use Rattle.scram_mech.proofs.RefusedFiles.{file-bad_line, file-named_twice}
+use Rattle.scram_mech.proofs.Reasons.{step-reasons}
 use Rattle.scram_mech.proofs.laws.prove_laws.Goals as goal
 
 pub returns : goal.returns
@@ -50,4 +51,5 @@ returns c = record {
   second_refused = second-refused;
   third_refused = third-refused;
   final_refused = final-refused;
+  reasons = step-reasons;
 }

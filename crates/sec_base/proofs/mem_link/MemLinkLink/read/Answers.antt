@@ -6,7 +6,7 @@ pub returns-clause-told : goal.returns-clause-told
 returns-clause-told c = λ t.
     let input = c.args.self.now.input.items in
     let at = c.args.self.now.at in
-    let held : c.deref-2.result.now ≡ input = c.deref-2.ensures.value in
+    let held : c.deref-3.result.now ≡ input = c.deref-3.ensures.value in
     let copied : take c.piece-count.result c.copy_out.new.buf ≡ take c.piece-count.result (drop at input) = c.copy_out.ensures ∙ ap (λ (xs : List ℕ). take c.piece-count.result (drop at xs)) held in
     record {
       taken = given-taken input _ at c.piece-count.result copied;
