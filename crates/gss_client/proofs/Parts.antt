@@ -4,7 +4,7 @@ use Rattle.std.proofs.lemmas.List.{append-nil, take-append-drop}
 use Rattle.sec_base.specs.Link.{Wire}
 use Rattle.sec_base.specs.Answers.{Gives}
 use Rattle.rpc_msgs.specs.Records.{last_fragment, IsTooLong, IsTooMany, IsTorn, Fragments, octets_in, frame, IsRecord}
-use Rattle.rpc_msgs.specs.Streams.{Took, Put}
+use Rattle.sec_base.specs.Streams.{Took, Put}
 use Rattle.gss_client.specs.declared.refusal.ClientRefusal.{ClientRefusal}
 use Rattle.gss_client.specs.declared.refusal.ClientRefusal.TheVariants.{LinkFault, PeerEnded, BadReply, NoMemory}
 use Rattle.gss_client.specs.declared.refusal.ReplyWhy.TheVariants.{Record}

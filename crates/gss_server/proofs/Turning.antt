@@ -6,7 +6,7 @@ use Rattle.std.proofs.lemmas.Grind.{common_steps, flat_map-append}
 use Rattle.std.proofs.lemmas.List.{length-append, append-nil, length-map, map-append}
 use Rattle.sec_base.specs.Link.{Wire}
 use Rattle.rpc_msgs.specs.Records.{Fragments, octets_in, frame, IsRecord, IsFront}
-use Rattle.rpc_msgs.specs.Streams.{Took, Put}
+use Rattle.sec_base.specs.Streams.{Took, Put}
 use Rattle.gss_server.specs.declared.answer.Kept.{Kept}
 use Rattle.gss_server.specs.declared.connection.ConnEnd.{ConnEnd}
 use Rattle.gss_server.specs.declared.connection.ConnEnd.TheVariants.{Ended, LinkFault, TooLong, TooManyFragments, Torn, Budget, NoMemory}

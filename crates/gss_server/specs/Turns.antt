@@ -4,7 +4,7 @@ use Rattle.std.specs.Prelude.{Option, Some, None, Result, Ok, Err}
 use Rattle.sec_base.specs.Link.{Wire}
 use Rattle.rpc_msgs.specs.Records.{Fragments, octets_in, frame, IsRecord, IsTooLong, IsTooMany}
 use Rattle.rpc_msgs.specs.Records.{IsFront, IsTorn, IsWhole}
-use Rattle.rpc_msgs.specs.Streams.{Took, Put}
+use Rattle.sec_base.specs.Streams.{Took, Put}
 use Rattle.accept_book.specs.RecordShown.{Ruling, Asked}
 use Rattle.gss_server.specs.Answers.{IsDecided, IsReply, may_want}
 use Rattle.gss_server.specs.Connections.{Went, Behind, IsExact, ruling_for, written_for, asked_for}

@@ -5,7 +5,7 @@ use Rattle.sec_base.specs.Link.{Wire}
 use Rattle.rpc_msgs.specs.Fragments.{Grows, TakesPiece, TakesContent}
 use Rattle.rpc_msgs.specs.declared.record.RecordRefusal.{RecordRefusal}
 use Rattle.rpc_msgs.specs.declared.record.RecordRefusal.TheVariants.{LinkFault, TooLong, TooManyFragments, Torn, NoMemory}
-use Rattle.rpc_msgs.proofs.InARow.{took-again}
+use Rattle.sec_base.proofs.InARow.{took-again}
 
 grows-again : {a b c : Wire} {xs ys zs part more : List ℕ} → Grows a b xs ys part → Grows b c ys zs more → Grows a c xs zs (part ++ more)
 grows-again {xs = xs} {part = part} {more = more} first then = record {

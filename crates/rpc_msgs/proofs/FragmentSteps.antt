@@ -11,7 +11,7 @@ use Rattle.rpc_msgs.specs.declared.record.Fragment.{Fragment}
 use Rattle.rpc_msgs.specs.declared.record.Fragment.TheVariants.{More, Last, End}
 use Rattle.rpc_msgs.specs.declared.record.RecordRefusal.{RecordRefusal}
 use Rattle.rpc_msgs.specs.declared.record.RecordRefusal.TheVariants.{LinkFault, TooLong, TooManyFragments, Torn, NoMemory}
-use Rattle.rpc_msgs.proofs.InARow.{took-again, took-same}
+use Rattle.sec_base.proofs.InARow.{took-again, took-same}
 use Rattle.rpc_msgs.proofs.WordLengths.{length-word}
 
 pub frames-push : (earlier : List (List ℕ)) (part : List ℕ) → frames earlier ++ more_fragment part ≡ frames (earlier ++ part ∷ [])

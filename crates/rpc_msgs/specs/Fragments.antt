@@ -2,7 +2,7 @@
 use Rattle.std.specs.Prelude.{◌≡◌, ℕ, ◌+◌, ◌%◌, ◌<◌, ◌≤◌, ◌^◌, Bool, true, false, List, [], ◌++◌}
 use Rattle.std.specs.Prelude.{length, Option, Some, None, Result, Ok, Err}
 use Rattle.sec_base.specs.Link.{Wire}
-use Rattle.rpc_msgs.specs.Streams.{Took}
+use Rattle.sec_base.specs.Streams.{Took}
 use Rattle.rpc_msgs.specs.Words.{word}
 use Rattle.rpc_msgs.specs.Records.{more_fragment, last_fragment, frames, joined, IsPartial}
 use Rattle.rpc_msgs.specs.declared.record.Fragment.{Fragment}

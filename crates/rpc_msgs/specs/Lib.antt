@@ -4,6 +4,5 @@ pub mod Fragments
 pub mod Records
 pub mod Replies
 pub mod ReplyReading
-pub mod Streams
 pub mod Words
 pub mod Xdr

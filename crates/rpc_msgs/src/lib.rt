@@ -7,7 +7,6 @@ pub mod numbers;
 mod record;
 mod reply;
 mod reply_reading;
-mod transfer;
 mod xdr_reader;
 mod xdr_writer;
 

@@ -6,11 +6,11 @@ ghost use Rattle.sec_base.specs.Answers.{Rose};
 ghost use Rattle.rpc_msgs.specs.Fragments.{TakesFragment, TakesHeader, TakesAnnounced};
 ghost use Rattle.rpc_msgs.specs.Fragments.{TakesContent, TakesPiece};
 ghost use Rattle.rpc_msgs.specs.Records.{TakesRecord, last_fragment};
-ghost use Rattle.rpc_msgs.specs.Streams.{Sends};
+ghost use Rattle.sec_base.specs.Streams.{Sends};
 ghost use Rattle.rpc_msgs.specs.Words.{word};
 
-use crate::transfer::{fill, send};
 use crate::xdr_reader::word_of;
+use sec_base::transfer::{fill, send};
 use sec_base::{Link, LinkFault, Octets};
 use std::alloc::Global;
 

@@ -1,4 +1,5 @@
 pub mod Cells
 pub mod GivenInMemory
+pub mod InARow
 pub mod Pieces
 pub mod Shelves

@@ -13,3 +13,4 @@ pub mod Pieces
 pub mod Port
 pub mod Shelf
 pub mod Sink
+pub mod Streams

@@ -21,6 +21,7 @@ mod port;
 mod shelf;
 mod sink;
 mod text;
+pub mod transfer;
 
 pub use clock::Clock;
 pub use draw::Draw;

@@ -1,31 +1,27 @@
-//! Links that read ahead, for those whose reads are calls of the system.
+//! Links that read ahead and write behind, for those whose reads and writes are calls of the system.
 
-ghost use Rattle.std.specs.Prelude.{◌≡◌, ◌≤◌, false, length, IfOk, OnErr};
+ghost use Rattle.std.specs.Prelude.{◌≡◌, ◌<◌, ◌≤◌, true, false, [], length, take, IsTrue, IfOk};
+ghost use Rattle.std.specs.Prelude.{OnErr};
 ghost use Rattle.sec_base.specs.Answers.{Rose};
+ghost use Rattle.system_devices.specs.Behind.{held, unwritten, Queues};
+ghost use Rattle.sec_base.specs.Streams.{Sends};
 
 use crate::ahead::{Ahead, ROOM};
+use crate::behind::Behind;
 use sec_base::{Link, LinkFault, Port, PortFault};
 use std::alloc::Global;
 
 /// A link that reads ahead, as many octets as are there and fit into 4,096, where fewer are wanted; where as many are wanted and none
-/// wait, they are read to where they are wanted. Where there was no memory for those 4,096, and once it is closed, it keeps none. It
-/// tells nothing of its octets.
+/// wait, they are read to where they are wanted. It writes behind: up to 8,192 octets wait until the link below is read, or closed, so
+/// that the replies to calls that came together go out together. Where there was no memory for either, and once it is closed, it keeps
+/// none. A write that fails late is answered by the call that it was late for. It tells nothing of its octets.
 #[derive(Drop)]
-pub struct Buffered<L> {
+pub struct Buffered<L: Link> {
     link: L,
     ahead: Option<Ahead>,
-}
-
-impl<L: Link> Buffered<L> {
-    /// A link over `link`, of which nothing was read ahead.
-    pub fn over(alloc: Global, link: L) -> Buffered<L>
-        ensures { result.link ≡ link }
-    {
-        Buffered {
-            link,
-            ahead: Ahead::none(alloc),
-        }
-    }
+    behind: Option<Behind>,
+    may_wait: bool,
+    ghost unclosed: { may_wait ≡ true → L.closed link ≡ false },
 }
 
 /// Gives the octets that wait, and reads ahead before where none do.
@@ -45,6 +41,70 @@ fn read_by<L: Link>(ahead: &mut Ahead, link: &mut L, buf: &mut [u8]) -> Result<u
     Ok(ahead.move_to(buf))
 }
 
+/// Has octets wait behind the others. Where there is no room for them, the others are written first, and so are they where they are more
+/// than may wait.
+fn write_by<L: Link>(behind: &mut Behind, link: &mut L, buf: &[u8]) -> Result<usize, LinkFault>
+    requires { L.closed link.old ≡ false }
+    ensures count { IfOk result (λ count. count ≤ length buf.now) }
+    ensures some { IfOk result (λ count. 0 < length buf.now → 0 < count) }
+    ensures in_order { IsTrue (L.tells link.old) → IfOk result
+        (λ count. Queues (L.wire link.old) (L.wire link.new) (unwritten behind.old)
+        (unwritten behind.new) (take count buf.now)) }
+    ensures unclosed { L.closed link.new ≡ false }
+    ensures fault { OnErr result (Rose (L.faults link.old) (L.faults link.new)) }
+    ensures faults { L.faults link.old ≤ L.faults link.new }
+{
+    if behind.has_room(buf) {
+        behind.keep(buf);
+        return Ok(buf.len());
+    }
+    behind.flush(link)?;
+    if behind.has_room(buf) {
+        behind.keep(buf);
+        return Ok(buf.len());
+    }
+    link.write(buf)
+}
+
+impl<L: Link> Buffered<L> {
+    /// A link over `link`, of which nothing was read ahead, and for which nothing waits.
+    pub fn over(alloc: Global, link: L) -> Buffered<L>
+        ensures { result.link ≡ link }
+    {
+        Buffered {
+            link,
+            ahead: Ahead::none(alloc),
+            behind: Behind::none(alloc),
+            may_wait: false,
+        }
+    }
+
+    /// Whether the next read asks the link below.
+    fn is_drained(&self) -> bool {
+        match &self.ahead {
+            Some(ahead) => ahead.is_empty(),
+            None => true,
+        }
+    }
+
+    /// Writes what waits.
+    fn flush(&mut self) -> Result<(), LinkFault>
+        requires { L.closed self.old.link ≡ false }
+        ensures none { held self.new.behind ≡ [] }
+        ensures told { IsTrue (L.tells self.old.link)
+            → Sends (L.wire self.old.link) (L.wire self.new.link) result (held self.old.behind) }
+        ensures unclosed { L.closed self.new.link ≡ false }
+        ensures fault { OnErr result (Rose (L.faults self.old.link) (L.faults self.new.link)) }
+        ensures faults { L.faults self.old.link ≤ L.faults self.new.link }
+    {
+        self.may_wait = false;
+        match &mut self.behind {
+            Some(behind) => behind.flush(&mut self.link),
+            None => Ok(()),
+        }
+    }
+}
+
 impl<L: Link> Link for Buffered<L> {
     ghost use Rattle.std.specs.Prelude.{false, []};
 
@@ -57,6 +117,9 @@ impl<L: Link> Link for Buffered<L> {
     ghost closed = { λ b. L.closed b.link };
 
     fn read(&mut self, buf: &mut [u8]) -> Result<usize, LinkFault> {
+        if self.may_wait && self.is_drained() {
+            self.flush()?;
+        }
         match &mut self.ahead {
             Some(ahead) if buf.len() < ROOM || !ahead.is_empty() => {
                 read_by(ahead, &mut self.link, buf)
@@ -66,16 +129,25 @@ impl<L: Link> Link for Buffered<L> {
     }
 
     fn write(&mut self, buf: &[u8]) -> Result<usize, LinkFault> {
-        self.link.write(buf)
+        self.may_wait = true;
+        match &mut self.behind {
+            Some(behind) => write_by(behind, &mut self.link, buf),
+            None => self.link.write(buf),
+        }
     }
 
     fn close(&mut self) {
+        if self.may_wait {
+            let _ = self.flush();
+        }
+        self.may_wait = false;
         self.ahead = None;
+        self.behind = None;
         self.link.close();
     }
 }
 
-/// A port whose links read ahead.
+/// A port whose links read ahead and write behind.
 #[derive(Drop)]
 pub struct BufferedPort<P> {
     port: P,

@@ -3,6 +3,7 @@
 #![tactic(auto)]
 
 mod ahead;
+mod behind;
 mod buffered;
 mod dialed_link;
 mod file_shelf;

@@ -2,12 +2,12 @@
 
 ghost use Rattle.std.specs.Prelude.{◌≡◌, ◌≤◌, false, length, IsTrue, IfOk, OnErr};
 ghost use Rattle.sec_base.specs.Answers.{Rose};
-ghost use Rattle.rpc_msgs.specs.Streams.{Fills, Sends};
+ghost use Rattle.sec_base.specs.Streams.{Fills, Sends};
 
-use sec_base::{Link, LinkFault};
+use crate::link::{Link, LinkFault};
 
 /// Fills `buf`, or its front with all octets up to the end of input. Answers how many octets that are.
-pub(crate) fn fill<L: Link>(link: &mut L, buf: &mut [u8]) -> Result<usize, LinkFault>
+pub fn fill<L: Link>(link: &mut L, buf: &mut [u8]) -> Result<usize, LinkFault>
     requires { L.closed link.old ≡ false }
     ensures count { IfOk result (λ count. count ≤ length buf.old) }
     ensures told { IsTrue (L.tells link.old)
@@ -29,7 +29,7 @@ pub(crate) fn fill<L: Link>(link: &mut L, buf: &mut [u8]) -> Result<usize, LinkF
 }
 
 /// Writes all of `octets`.
-pub(crate) fn send<L: Link>(link: &mut L, octets: &[u8]) -> Result<(), LinkFault>
+pub fn send<L: Link>(link: &mut L, octets: &[u8]) -> Result<(), LinkFault>
     requires { L.closed link.old ≡ false }
     ensures told { IsTrue (L.tells link.old)
         → Sends (L.wire link.old) (L.wire link.new) result octets.now }

@@ -1,7 +1,7 @@
 use Rattle.std.proofs.Common.{arith, sym, ◌≤◌, length, IsTrue, ◌∙◌}
 use Rattle.std.proofs.lemmas.Grind.{common_steps}
-use Rattle.rpc_msgs.proofs.InARow.{took-again, took-same, gave-took, take-put_mid-add}
-use Rattle.rpc_msgs.proofs.transfer.fill.Goals as goal
+use Rattle.sec_base.proofs.InARow.{took-again, took-same, gave-took, take-put_mid-add}
+use Rattle.sec_base.proofs.transfer.fill.Goals as goal
 
 pub loop-at-preserved : goal.loop-at-preserved
 loop-at-preserved g c =

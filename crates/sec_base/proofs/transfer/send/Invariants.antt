@@ -1,6 +1,6 @@
 use Rattle.std.proofs.Common.{◌≡◌, ◌≤◌, ◌-◌, false, IsTrue, length, take}
-use Rattle.rpc_msgs.specs.Streams.{Put}
-use Rattle.rpc_msgs.proofs.transfer.send.Given as goal
+use Rattle.sec_base.specs.Streams.{Put}
+use Rattle.sec_base.proofs.transfer.send.Given as goal
 
 abbrev pub invariant-loop-at : goal.invariant-loop-at
 invariant-loop-at g l = record {

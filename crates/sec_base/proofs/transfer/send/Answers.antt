@@ -1,7 +1,7 @@
 use Rattle.std.proofs.Common.{arith, sym, ◌+◌, IsTrue, ◌∙◌}
 use Rattle.std.proofs.lemmas.Grind.{common_steps}
-use Rattle.rpc_msgs.proofs.InARow.{put-again, put-same, sent-put, take-piece}
-use Rattle.rpc_msgs.proofs.transfer.send.Goals as goal
+use Rattle.sec_base.proofs.InARow.{put-again, put-same, sent-put, take-piece}
+use Rattle.sec_base.proofs.transfer.send.Goals as goal
 
 pub loop-at-preserved : goal.loop-at-preserved
 loop-at-preserved g c = record {
