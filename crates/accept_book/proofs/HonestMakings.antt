@@ -13,11 +13,11 @@ use Rattle.rpcsec_msgs.proofs.CredLaws.{cred-only}
 use Rattle.krb_tokens.specs.declared.end.Side.{Side}
 use Rattle.krb_tokens.specs.declared.end.Side.TheVariants.{Initiator, Acceptor}
 use Rattle.krb_tokens.specs.declared.end.TokenEnd.{TokenEnd}
-use Rattle.krb_tokens.specs.End.{is_sealed, flags_of, sign_usage}
+use Rattle.krb_tokens.specs.End.{is_sealed, flags_of}
 use Rattle.krb_tokens.specs.Mic.{mic_header, mic_of}
 use Rattle.krb_tokens.specs.Wrap.{turned_right, wrap_header, sealed_body, wrap_of}
 use Rattle.krb_tokens.specs.Tokens.{HasFlags, IsMicOf, mic_header_with, IsWrapOf, wrap_header_with}
-use Rattle.krb_tokens.proofs.Taken.{length-checksum_of}
+use Rattle.rpcsec_bodies.proofs.Lengths.{mic-size}
 use Rattle.accept_book.specs.Served.{are_args}
 use Rattle.accept_book.specs.Honest.{IsOctets, Carries, Honest, data_header, made_call}
 
@@ -69,10 +69,6 @@ sealed-made end number confounder content h block small = record {
   made = record { confounder = confounder; filling = []; octets = rw (append-nil content) small; block = block; count = refl; sealed = rw (append-nil content) refl };
   spelled = ap (λ (zs : List ℕ). wrap_header end true 0 0 number ++ zs) (sym (unturned (sealed_body end number confounder content)));
 }
-
-mic-size : (end : TokenEnd) (number : ℕ) (octets : List ℕ) → length (mic_of end number octets) ≡ 28
-unfolding mic_of mic_header
-mic-size end number octets = omega (arith, length-checksum_of end.key (sign_usage end.side) (octets ++ mic_header end number))
 
 served : (end : TokenEnd) (service n : ℕ) (args body : List ℕ) → Carries end service n args body → (is_service 0 service ≡ true)
 served end service n args body (inl b) = let s = b.0 in rw s refl

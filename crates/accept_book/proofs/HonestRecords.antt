@@ -1,13 +1,10 @@
 -- An honest record is answered by the admission of its number.
-use Rattle.std.proofs.Common.{◌≡◌, ◌<◌, ◌≤◌, ◌+◌, ◌^◌, inl, inr, ℕ, Bool, true, false, refl, ap, ◌∙◌, arith, List, [], ◌++◌, length, take, drop, Some, Result, Ok, Err, is_ok}
+use Rattle.std.proofs.Common.{◌≡◌, ◌<◌, ◌+◌, ◌^◌, inl, inr, ℕ, Bool, true, false, refl, ap, ◌∙◌, arith, List, [], ◌++◌, length, take, Some, Result, Ok, Err, is_ok}
 use Rattle.std.specs.Prelude.{◌==◌, ◌&&◌, not, nat_lt}
-use Rattle.std.specs.Int.{w32, from_be_bytes}
 use Rattle.std.proofs.lemmas.Bool.Decides.{nat_tests}
 use Rattle.std.proofs.lemmas.List.{length-append}
-use Rattle.std.proofs.lemmas.Nat.{from_be_bytes-to_be_bytes_4}
 use Rattle.rpc_msgs.specs.Words.{word}
 use Rattle.rpc_msgs.specs.Calls.{CallValue}
-use Rattle.rpc_msgs.proofs.WordLengths.{length-word}
 use Rattle.rpcsec_msgs.specs.Cred.{CredValue}
 use Rattle.rpcsec_msgs.specs.Bodies.{IsLong, checked_at, sealed_at}
 use Rattle.rpcsec_msgs.proofs.BodyLaws.{sealed-only, checked-only}
@@ -22,35 +19,19 @@ use Rattle.krb_tokens.specs.Tokens.{IsMicOf, mic_header_with}
 use Rattle.krb_tokens.proofs.Accepted.{mic-all}
 use Rattle.krb_tokens.proofs.AcceptedWraps.{wrap-all}
 use Rattle.krb_tokens.proofs.Taken.{length-checksum_of}
+use Rattle.rpcsec_bodies.specs.declared.service.Service.TheVariants as services
+use Rattle.rpcsec_bodies.specs.Opening.{unprotected}
+use Rattle.rpcsec_bodies.proofs.Taken.{checked-read, sealed-read}
 use Rattle.accept_book.specs.Served.{are_args}
 use Rattle.accept_book.specs.declared.answer.AdmitRefusal.{AdmitRefusal}
 use Rattle.accept_book.specs.declared.answer.AdmitRefusal.TheVariants.{Gone, AboveMax, Below, Repeat, LogFull}
 use Rattle.accept_book.specs.declared.book_answer.Lease.{Lease}
 use Rattle.accept_book.specs.declared.entry.Admitted.{Admitted}
-use Rattle.accept_book.specs.RecordShown.{KeptAnswers, AskedLook, asking, Shown, handle_id, end_of, is_verified, numbered, checked_args, sealed_args, body_args}
+use Rattle.accept_book.specs.RecordShown.{KeptAnswers, AskedLook, asking, Shown, handle_id, end_of, is_verified, taken_args, body_args}
 use Rattle.accept_book.specs.RecordRule.{unadmitted, admitted_ruling, ask_admit, data_ruling, call_ruling, record_ruling}
 use Rattle.accept_book.specs.Honest.{caller_of, ByIntegrity, ByPrivacy, Carries, Honest, rule_of_refusal, HonestRuled}
 
 -- ---- the body
-
-number-first : (n : ℕ) (args : List ℕ) → n < 2 ^ 32 → from_be_bytes w32 (take 4 (word n ++ args)) ≡ n
-unfolding word
-number-first n args h = from_be_bytes-to_be_bytes_4 n h
-
-args-behind : (n : ℕ) (args : List ℕ) → drop 4 (word n ++ args) ≡ args
-unfolding word
-args-behind n args = refl
-
-four-there : (n : ℕ) (args : List ℕ) → nat_lt (length (word n ++ args)) 4 ≡ false
-four-there n args =
-    let size : length (word n ++ args) ≡ 4 + length args = length-append (word n) args ∙ ap (λ (k : ℕ). k + length args) (length-word n) in
-    let more : 4 ≤ length (word n ++ args) = omega (arith, size) in grind (arith, nat_tests)
-
-eqb-same : (n : ℕ) → (n == n) ≡ true
-eqb-same n = grind (arith, nat_tests)
-
-carried : (n : ℕ) (args : List ℕ) → n < 2 ^ 32 → numbered n (word n ++ args) ≡ Some args
-carried n args h = rw (four-there n args, number-first n args h, eqb-same n, args-behind n args) refl
 
 header-long : (flags number : ℕ) → length (mic_header_with flags number) ≡ 16
 unfolding mic_header_with
@@ -60,23 +41,23 @@ mic-long : (end : TokenEnd) (octets tag : List ℕ) → IsMicOf end octets tag �
 mic-long end octets tag m =
     omega (arith, ap (length {A = ℕ}) m.spelled, length-append (mic_header_with m.flags m.number) (checksum_of end.key (sign_usage end.side) (octets ++ mic_header_with m.flags m.number)), header-long m.flags m.number, length-checksum_of end.key (sign_usage end.side) (octets ++ mic_header_with m.flags m.number))
 
-checked-carried : (lease : Lease) (n : ℕ) (args body : List ℕ) → n < 2 ^ 32 → ByIntegrity (caller_of lease) n args body → checked_args (end_of lease) n (checked_at body) ≡ Some args
+checked-carried : (lease : Lease) (n : ℕ) (args body : List ℕ) → n < 2 ^ 32 → ByIntegrity (caller_of lease) n args body → unprotected (end_of lease) services.Integrity n body ≡ Ok args
 checked-carried lease n args body h b =
     let read : checked_at body ≡ Ok (word n ++ args, b.tag) = ap checked_at b.spelled ∙ checked-only (word n ++ args) b.tag b.long (mic-long (caller_of lease) (word n ++ args) b.tag b.mic) in
     let good : checked_mic (end_of lease) b.tag (word n ++ args) ≡ Ok tt = mic-all (end_of lease) b.tag (word n ++ args) b.mic in
-    rw (read, good) (carried n args h)
+    checked-read (end_of lease) n args body b.tag h read good
 
-sealed-carried : (keys : SealKeys) (lease : Lease) (n : ℕ) (args body : List ℕ) → ForSealing keys lease.outcome.key 24 → n < 2 ^ 32 → ByPrivacy (caller_of lease) n args body → sealed_args (end_of lease) n (sealed_at body) ≡ Some args
+sealed-carried : (keys : SealKeys) (lease : Lease) (n : ℕ) (args body : List ℕ) → ForSealing keys lease.outcome.key 24 → n < 2 ^ 32 → ByPrivacy (caller_of lease) n args body → unprotected (end_of lease) services.Privacy n body ≡ Ok args
 sealed-carried keys lease n args body kept h b =
     let read : sealed_at body ≡ Ok b.token = ap sealed_at b.spelled ∙ sealed-only b.token b.long in
     let good : unwrapped (end_of lease) b.token ≡ Ok (record { sealed = true; content = word n ++ args }) = wrap-all keys (end_of lease) true b.token (word n ++ args) kept b.sealed in
-    rw (read, good) (carried n args h)
+    sealed-read (end_of lease) n args body b.token h read good
 
 body-carried : (keys : SealKeys) (lease : Lease) (cred : CredValue) (n : ℕ) (args body : List ℕ) → ForSealing keys lease.outcome.key 24 → n < 2 ^ 32 → cred.seq ≡ n → Carries (caller_of lease) cred.service n args body → body_args (end_of lease) cred body ≡ Some args
-unfolding body_args
+unfolding body_args unprotected
 body-carried keys lease cred n args body kept h e (inl b) = let s = b.0 in let same = b.1 in rw (s, same) refl
-body-carried keys lease cred n args body kept h e (inr (inl b)) = let s = b.0 in rw (s, e) (checked-carried lease n args body h b.1)
-body-carried keys lease cred n args body kept h e (inr (inr b)) = let s = b.0 in rw (s, e) (sealed-carried keys lease n args body kept h b.1)
+body-carried keys lease cred n args body kept h e (inr (inl b)) = let s = b.0 in rw (s, e) (ap taken_args (checked-carried lease n args body h b.1))
+body-carried keys lease cred n args body kept h e (inr (inr b)) = let s = b.0 in rw (s, e) (ap taken_args (sealed-carried keys lease n args body kept h b.1))
 
 -- ---- the ruling
 

@@ -1,25 +1,23 @@
 -- What a call says, and the replies to it: the parts of which the rule of a record is made.
-use Rattle.std.specs.Prelude.{ℕ, ◌+◌, ◌*◌, Bool, true, false, not, ◌==◌, ◌&&◌, nat_lt, List, []}
-use Rattle.std.specs.Prelude.{◌∷◌, ◌++◌, length, take, drop, is_ok, Option, Some, None}
+use Rattle.std.specs.Prelude.{ℕ, ◌*◌, Bool, false, not, ◌==◌, ◌&&◌, nat_lt, List, []}
+use Rattle.std.specs.Prelude.{◌∷◌, length, take, is_ok, Option, Some, None}
 use Rattle.std.specs.Prelude.{if◌then◌else◌, Result, Ok, Err}
 use Rattle.std.specs.Int.{w32, w64, from_be_bytes, to_be_bytes}
 use Rattle.gss_base.specs.declared.status.TheConstants.{COMPLETE, CONTINUE_NEEDED}
-use Rattle.rpc_msgs.specs.Words.{word, opaque}
+use Rattle.rpc_msgs.specs.Words.{word}
 use Rattle.rpc_msgs.specs.Calls.{CallValue}
 use Rattle.rpc_msgs.specs.Replies.{accepted, auth_error, reply_octets}
-use Rattle.rpc_msgs.specs.declared.xdr_reader.XdrRefusal.{XdrRefusal}
 use Rattle.rpc_msgs.specs.declared.numbers.TheConstants.{SUCCESS, AUTH_NONE, RPCSEC_GSS}
 use Rattle.rpcsec_msgs.specs.Cred.{CredValue}
-use Rattle.rpcsec_msgs.specs.declared.numbers.TheConstants.{RPCSEC_GSS_VERS_1, RPC_GSS_SVC_NONE}
-use Rattle.rpcsec_msgs.specs.declared.numbers.TheConstants.{RPC_GSS_SVC_INTEGRITY}
+use Rattle.rpcsec_msgs.specs.declared.numbers.TheConstants.{RPCSEC_GSS_VERS_1}
 use Rattle.rpcsec_msgs.specs.InitRes.{init_res_octets}
-use Rattle.rpcsec_msgs.specs.Bodies.{checked_at, checked_octets, sealed_at}
+use Rattle.rpcsec_bodies.specs.declared.refusal.BodyRefusal.{BodyRefusal}
+use Rattle.rpcsec_bodies.specs.Opening.{unprotected}
+use Rattle.rpcsec_bodies.specs.Protection.{protected}
+use Rattle.rpcsec_bodies.specs.Service.{service_of}
 use Rattle.krb_tokens.specs.Mic.{mic_of, checked_mic}
-use Rattle.krb_tokens.specs.Wrap.{wrap_of, unwrapped}
 use Rattle.krb_tokens.specs.declared.end.Side.TheVariants.{Acceptor}
 use Rattle.krb_tokens.specs.declared.end.TokenEnd.{TokenEnd}
-use Rattle.krb_tokens.specs.declared.end.TokenRefusal.{TokenRefusal}
-use Rattle.krb_tokens.specs.declared.wrap.Unwrapped.{Unwrapped}
 use Rattle.spnego_core.specs.Outcome.{token_end}
 use Rattle.accept_book.specs.Statuses.{major_status, book_error, book_number}
 use Rattle.accept_book.specs.declared.answer.AdmitRefusal.{AdmitRefusal}
@@ -129,43 +127,19 @@ unfoldable pub is_verified : Shown → Lease → Bool
 is_verified s lease = s.call.verf.flavour == RPCSEC_GSS
     && is_ok (checked_mic (end_of lease) s.call.verf.body (take s.call.header s.record_octets))
 
--- a databody is the call's number and the arguments
-abbrev pub numbered : ℕ → List ℕ → Option (List ℕ)
-numbered seq databody =
-    if nat_lt (length databody) 4 then None else if from_be_bytes w32 (take 4 databody) == seq
-    then Some (drop 4 databody) else None
-
--- the arguments of a body with a MIC, if the MIC verifies and the body has the call's number
--- (RFC 2203 section 5.3.2.2)
-abbrev pub checked_args : TokenEnd → ℕ → Result (List ℕ × List ℕ) XdrRefusal → Option (List ℕ)
-checked_args end seq (Ok body) =
-    if is_ok (checked_mic end body.1 body.0) then numbered seq body.0 else None
-checked_args end seq (Err refusal) = None
-
--- the arguments of an unwrapped token, if it was sealed and has the call's number
-abbrev pub unsealed_args : ℕ → Result Unwrapped TokenRefusal → Option (List ℕ)
-unsealed_args seq (Ok body) = if body.sealed then numbered seq body.content else None
-unsealed_args seq (Err refusal) = None
-
--- the arguments of a sealed body, if its token unwraps and has the call's number
--- (RFC 2203 section 5.3.2.3)
-abbrev pub sealed_args : TokenEnd → ℕ → Result (List ℕ) XdrRefusal → Option (List ℕ)
-sealed_args end seq (Ok token) = unsealed_args seq (unwrapped end token)
-sealed_args end seq (Err refusal) = None
+-- the arguments of a body that was taken
+abbrev pub taken_args : Result (List ℕ) BodyRefusal → Option (List ℕ)
+taken_args (Ok args) = Some args
+taken_args (Err refusal) = None
 
 -- the arguments that a body carries by its service (RFC 2203 section 5.3.2)
 unfoldable pub body_args : TokenEnd → CredValue → List ℕ → Option (List ℕ)
-body_args end cred body =
-    if cred.service == RPC_GSS_SVC_NONE then Some body else if cred.service == RPC_GSS_SVC_INTEGRITY
-    then checked_args end cred.seq (checked_at body) else sealed_args end cred.seq (sealed_at body)
+body_args end cred body = taken_args (unprotected end (service_of cred.service) cred.seq body)
 
 -- the body of a reply with a result, by the call's service
 unfoldable pub result_body : TokenEnd → CredValue → List ℕ → List ℕ → List ℕ
 result_body end cred confounder result =
-    if cred.service == RPC_GSS_SVC_NONE then result
-    else if cred.service == RPC_GSS_SVC_INTEGRITY then checked_octets (word cred.seq ++ result)
-    (mic_of end (2 * cred.seq + 1) (word cred.seq ++ result))
-    else opaque (wrap_of end (2 * cred.seq + 1) true confounder (word cred.seq ++ result))
+    protected end (service_of cred.service) cred.seq confounder result
 
 -- ---- replies
 

@@ -10,8 +10,8 @@ use Rattle.gss_base.specs.declared.principal.NameRefusal.{NameRefusal}
 use Rattle.gss_client.specs.declared.procedure.Procedure.{Procedure}
 use Rattle.gss_client.specs.declared.procedure.Procedure.TheVariants.{Null, Echo, Whoami, Post}
 use Rattle.gss_client.specs.declared.procedure.Procedure.TheVariants.{Count}
-use Rattle.gss_client.specs.declared.service.Service.{Service}
-use Rattle.gss_client.specs.declared.service.Service.TheVariants as services
+use Rattle.rpcsec_bodies.specs.declared.service.Service.{Service}
+use Rattle.rpcsec_bodies.specs.declared.service.Service.TheVariants as services
 use Rattle.cli_base.specs.Numbers.{number_in}
 use Rattle.cli_base.specs.Words.{are_words, value_of, first_word, plain_of}
 use Rattle.hex.specs.Hex.{decode_of}

@@ -11,39 +11,11 @@ ghost use Rattle.client_command.specs.Endings.{is_begun};
 use crate::ending::RunEnd;
 use crate::files::{cache_given, password_given};
 use crate::words::{Mechs, Sources};
-use gss_base::{NameRefusal, Principal};
-use krb_files::{Ccache, Credential};
-use sec_base::{Items, NoMemory, Octets, Shelf, Text};
+use gss_base::Principal;
+use krb_files::Ccache;
+use sec_base::{Items, NoMemory, Shelf, Text};
 use spnego_core::MechCred;
 use std::alloc::Global;
-
-/// A copy of a name.
-fn copy_name(alloc: Global, name: &Principal) -> Result<Principal, NoMemory>
-    ensures { IfOk result (λ copy. copy ≡ name.now) }
-{
-    let label = name.label();
-    match Principal::parse(alloc, label.text()) {
-        Ok(copy) => Ok(copy),
-        Err(NameRefusal::NoMemory) => Err(NoMemory),
-        Err(_) => unreachable!(),
-    }
-}
-
-/// A copy of a credential.
-fn copy_credential(alloc: Global, credential: &Credential) -> Result<Credential, NoMemory>
-    ensures { IfOk result (λ copy. copy ≡ credential.now) }
-{
-    let client = copy_name(alloc, &credential.client)?;
-    let server = copy_name(alloc, &credential.server)?;
-    let session = credential.session;
-    let ticket = Octets::of(alloc, credential.ticket.as_slice())?;
-    Ok(Credential {
-        client,
-        server,
-        session,
-        ticket,
-    })
-}
 
 /// Kerberos's credential for this server in a cache.
 fn ticket_in(alloc: Global, cache: &Ccache, server: &Principal) -> Result<MechCred, RunEnd>
@@ -53,7 +25,7 @@ fn ticket_in(alloc: Global, cache: &Ccache, server: &Principal) -> Result<MechCr
     ensures stop { IfErr result (λ end. end ≢ RunEnd.NoMemory → end ≡ RunEnd.NoCredential) }
 {
     match cache.find(server) {
-        Some(credential) => match copy_credential(alloc, credential) {
+        Some(credential) => match credential.copied(alloc) {
             Ok(copy) => Ok(MechCred::Kerberos(copy)),
             Err(NoMemory) => Err(RunEnd::NoMemory),
         },

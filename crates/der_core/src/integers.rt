@@ -38,6 +38,8 @@ impl<'a> Reader<'a> {
         self.next_natural(low, high)
     }
 
+    /// What `int32` answers.
+    /// It stands apart, so that its definition is unfolded here alone, and the other clauses are proved from what is said here.
     #[tactic(auto, unfolding(crate::specs::Integer::int32))]
     fn next_int32(&mut self) -> Result<i32, DerRefusal>
         ensures exact { Reads (λ n. n) self.new result (int32.read self.old) }
@@ -51,6 +53,8 @@ impl<'a> Reader<'a> {
         Ok(value)
     }
 
+    /// What `uint32` and `natural` answer.
+    /// It stands apart, so that its definition is unfolded here alone, and the other clauses are proved from what is said here.
     #[tactic(auto, unfolding(crate::specs::Integer::natural))]
     fn next_natural(&mut self, low: u32, high: u32) -> Result<u32, DerRefusal>
         ensures exact { Reads (λ n. n) self.new result ((natural low high).read self.old) }

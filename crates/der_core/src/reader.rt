@@ -92,6 +92,8 @@ impl<'a> Reader<'a> {
         self.next_raw(tag)
     }
 
+    /// What `raw` answers.
+    /// It stands apart, so that the other clauses are proved from what is said here.
     fn next_raw(&mut self, tag: u8) -> Result<&'a [u8], DerRefusal>
         ensures exact { Reads (λ o. o.now) self.new result ((raw_element tag).read self.old) }
         ensures stays { OnErr result (self.new ≡ self.old) }
@@ -106,6 +108,7 @@ impl<'a> Reader<'a> {
     }
 
     /// What `tlv` gives.
+    /// It stands apart, so that its definition is unfolded here alone, and the other clauses are proved from what is said here.
     #[tactic(auto, unfolding(crate::specs::Header::tlv_at))]
     pub(crate) fn element(&mut self, tag: u8) -> Result<Reader<'a>, DerRefusal>
         ensures exact { Reads (λ r. r) self.new result (tlv_at tag self.old) }

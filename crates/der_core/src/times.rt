@@ -26,6 +26,8 @@ impl<'a> Reader<'a> {
         self.next_time()
     }
 
+    /// What `time` answers.
+    /// It stands apart, so that its definition is unfolded here alone, and the other clauses are proved from what is said here.
     #[tactic(auto, unfolding(crate::specs::Time::time))]
     fn next_time(&mut self) -> Result<Moment, DerRefusal>
         ensures exact { Reads (λ m. m) self.new result (time.read self.old) }

@@ -32,6 +32,8 @@ pub fn unframe(bytes: &[u8]) -> Result<(Oid, &[u8]), DerRefusal>
     unframed(bytes)
 }
 
+/// What `unframe` answers.
+/// It stands apart, so that its definition is unfolded here alone, and the other clauses are proved from what is said here.
 #[tactic(auto, unfolding(crate::specs::Frame::framed))]
 fn unframed(bytes: &[u8]) -> Result<(Oid, &[u8]), DerRefusal>
     ensures { Answers (λ p. (p.0, p.1.now)) result (framed.read (all_of bytes.now)) }

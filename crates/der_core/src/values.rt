@@ -56,6 +56,8 @@ impl<'a> Reader<'a> {
         self.next_flags()
     }
 
+    /// What `octets` answers.
+    /// It stands apart, so that its definition is unfolded here alone, and the other clauses are proved from what is said here.
     #[tactic(auto, unfolding(crate::specs::Element::octet_string))]
     fn next_octets(&mut self) -> Result<&'a [u8], DerRefusal>
         ensures exact { Reads (λ o. o.now) self.new result (octet_string.read self.old) }
@@ -68,6 +70,8 @@ impl<'a> Reader<'a> {
         Ok(content.rest())
     }
 
+    /// What `text` answers.
+    /// It stands apart, so that its definition is unfolded here alone, and the other clauses are proved from what is said here.
     #[tactic(auto, unfolding(crate::specs::Values::text))]
     fn next_text(&mut self) -> Result<&'a str, DerRefusal>
         ensures exact { Reads (λ o. o.now) self.new result (text.read self.old) }
@@ -85,6 +89,8 @@ impl<'a> Reader<'a> {
         }
     }
 
+    /// What `oid` answers.
+    /// It stands apart, so that its definition is unfolded here alone, and the other clauses are proved from what is said here.
     #[tactic(auto, unfolding(crate::specs::Values::object_identifier))]
     fn next_oid(&mut self) -> Result<Oid, DerRefusal>
         ensures exact { Reads (λ o. o) self.new result (object_identifier.read self.old) }
@@ -102,6 +108,8 @@ impl<'a> Reader<'a> {
         }
     }
 
+    /// What `small` answers.
+    /// It stands apart, so that its definition is unfolded here alone, and the other clauses are proved from what is said here.
     #[tactic(auto, unfolding(crate::specs::Values::small))]
     fn next_small(&mut self) -> Result<u8, DerRefusal>
         ensures exact { Reads (λ n. n) self.new result (small.read self.old) }
@@ -115,6 +123,8 @@ impl<'a> Reader<'a> {
         Ok(value)
     }
 
+    /// What `flags` answers.
+    /// It stands apart, so that its definition is unfolded here alone, and the other clauses are proved from what is said here.
     #[tactic(auto, unfolding(crate::specs::Values::flags))]
     fn next_flags(&mut self) -> Result<u32, DerRefusal>
         ensures exact { Reads (λ n. n) self.new result (flags.read self.old) }

@@ -6,8 +6,9 @@ use Rattle.files_command.specs.declared.refusal.NoFile.{NoFile}
 
 -- the line of status 2, which says what the words may be
 abbrev pub usage_line : List ℕ
-usage_line = codes
-    "usage: gss_files keytab PRINCIPAL KVNO TYPE KEYHEX | ccache CLIENT SERVER KVNO TYPE KEYHEX HOURS | verifier USER PASSWORD SALTHEX ROUNDS\n"
+usage_line = codes "usage: gss_files keytab PRINCIPAL KVNO TYPE KEYHEX"
+    ++ (codes " | ccache CLIENT SERVER KVNO TYPE KEYHEX HOURS"
+    ++ codes " | verifier USER PASSWORD SALTHEX ROUNDS\n")
 
 -- a file that is due was written
 abbrev pub Whole : List ℕ → List ℕ → Result (List ℕ) NoFile → Type 0

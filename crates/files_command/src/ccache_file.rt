@@ -70,6 +70,7 @@ fn put_credential(out: &mut Vec<u8>, times: Times, credential: &Credential) -> R
 }
 
 /// The octets of a cache of this credential.
+/// It stands apart, so that its definition is unfolded here alone, and the other clauses are proved from what is said here.
 #[tactic(auto, unfolding(crate::specs::CcacheFile::ccache_file))]
 fn ccache_octets(alloc: Global, times: Times, credential: &Credential) -> Result<Octets, NoMemory>
     ensures written { IfOk result (λ o. o ≡ ccache_file times credential.now) }

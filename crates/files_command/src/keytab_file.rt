@@ -36,6 +36,7 @@ fn write_record(alloc: Global, service: &ServiceKey) -> Result<Vec<u8>, NoMemory
 }
 
 /// The octets of a keytab of this key.
+/// It stands apart, so that its definition is unfolded here alone, and the other clauses are proved from what is said here.
 #[tactic(auto, unfolding(crate::specs::KeytabFile::keytab_file))]
 fn keytab_octets(alloc: Global, service: &ServiceKey) -> Result<Octets, NoMemory>
     ensures written { IfOk result (λ o. o ≡ keytab_file service.now) }

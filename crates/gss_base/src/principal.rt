@@ -255,6 +255,20 @@ impl Principal {
         named_by(alloc, text)
     }
 
+    /// A copy of it.
+    pub fn copied(&self, alloc: Global) -> Result<Principal, NoMemory>
+        ensures { IfOk result (λ copy. copy ≡ self.now) }
+    {
+        let label = self.label;
+        let realm = Text::of(alloc, self.realm.as_str())?;
+        let parts = Items::of(copies(alloc, self.parts.as_slice())?);
+        Ok(Principal {
+            realm,
+            parts,
+            label,
+        })
+    }
+
     /// The text form.
     pub fn label(&self) -> Label
         ensures value { result ≡ text_form self.now.realm self.now.parts }
@@ -289,6 +303,7 @@ impl PartialEq for Principal {
 }
 
 /// The principal that a text names.
+/// It stands apart, so that the other clauses are proved from what is said here.
 fn named_by(alloc: Global, text: &str) -> Result<Principal, NameRefusal>
     ensures exact { Gives NameRefusal.NoMemory (λ p. p) result (parsed text.now) }
 {

@@ -13,7 +13,7 @@ use Rattle.gss_client.specs.declared.creation.Offer.{Offer}
 use Rattle.gss_client.specs.declared.refusal.ClientRefusal.{ClientRefusal}
 use Rattle.gss_client.specs.declared.refusal.ClientRefusal.TheVariants.{BadReply}
 use Rattle.gss_client.specs.declared.refusal.ReplyWhy.TheVariants.{Verifier, Steps, Width}
-use Rattle.gss_client.specs.declared.service.Service.{Service}
+use Rattle.rpcsec_bodies.specs.declared.service.Service.{Service}
 use Rattle.gss_client.specs.Calling.{creation_call}
 use Rattle.gss_client.specs.Judging.{◌>>=◌, due, GrantedValue, granted_in, negotiated, is_verified, by_step, creation_step}
 use Rattle.gss_client.specs.Laws.{CountLaw}

@@ -2,17 +2,14 @@
 use Rattle.std.specs.Prelude.{◌==◌, nat_le, not}
 use Rattle.std.proofs.Common.{◌≡◌, length, ◌≢◌, ℕ, Bool, true, false, List, sym, ◌∙◌, Result, Ok, Err, IsErrOf}
 use Rattle.sec_base.specs.Answers.{Gives}
-use Rattle.krb_tokens.specs.declared.end.TokenEnd.{TokenEnd}
 use Rattle.rpc_msgs.specs.Replies.{ReplyValue, accepted, mismatch, auth_error}
 use Rattle.rpc_msgs.specs.ReplyReading.{reply_at}
-use Rattle.rpc_msgs.specs.Xdr.{Input, whole, word_at}
 use Rattle.rpc_msgs.specs.declared.reply_reading.ReplyRefusal.{ReplyRefusal}
 use Rattle.rpc_msgs.specs.declared.xdr_reader.XdrRefusal.{XdrRefusal}
 use Rattle.krb_tokens.specs.declared.end.Side.TheVariants.{Initiator}
-use Rattle.krb_tokens.specs.declared.wrap.Unwrapped.{Unwrapped}
-use Rattle.krb_tokens.specs.Mic.{checked_mic}
-use Rattle.krb_tokens.specs.Wrap.{unwrapped}
-use Rattle.rpcsec_msgs.specs.Bodies.{checked_at, sealed_at}
+use Rattle.rpcsec_bodies.specs.declared.refusal.BodyRefusal.{BodyRefusal}
+use Rattle.rpcsec_bodies.specs.declared.refusal.BodyRefusal.TheVariants as bodies
+use Rattle.rpcsec_bodies.specs.Opening.{unprotected}
 use Rattle.rpcsec_msgs.specs.InitRes.{init_res_at}
 use Rattle.spnego_core.specs.Initiating.{init_step, step_of}
 use Rattle.spnego_core.specs.Outcome.{token_end}
@@ -26,14 +23,13 @@ use Rattle.spnego_core.specs.declared.refusal.NegRefusal.{NegRefusal}
 use Rattle.gss_client.specs.declared.creation.Created.{Created}
 use Rattle.gss_client.specs.declared.refusal.ClientRefusal.{ClientRefusal}
 use Rattle.gss_client.specs.declared.refusal.ClientRefusal.TheVariants.{LinkFault, NoMemory}
-use Rattle.gss_client.specs.declared.service.Service.{Service}
-use Rattle.gss_client.specs.declared.service.Service.TheVariants as services
+use Rattle.rpcsec_bodies.specs.declared.service.Service.{Service}
 use Rattle.gss_client.specs.declared.refusal.ClientRefusal.TheVariants.{Refused, Negotiation, BadReply}
 use Rattle.gss_client.specs.declared.refusal.Denial.TheVariants.{Rpc, Auth, Accept, Gss}
 use Rattle.gss_client.specs.declared.refusal.Denial.{Denial}
 use Rattle.gss_client.specs.declared.refusal.ReplyWhy.{ReplyWhy}
 use Rattle.gss_client.specs.declared.refusal.ReplyWhy.TheVariants.{Form, Xid, Verifier, Steps, Width, Body, Number}
-use Rattle.gss_client.specs.Judging.{AnswerValue, GrantedValue, ◌>>=◌, due, xid_of, place_of, formed, granted, answer_in, is_verified, placed, granted_in, negotiated, by_step, creation_step, verified_in, or_body, or_number, numbered, checked_result, sealed_result, body_result, call_result, destroyed_in}
+use Rattle.gss_client.specs.Judging.{AnswerValue, GrantedValue, ◌>>=◌, due, xid_of, place_of, formed, granted, answer_in, is_verified, placed, granted_in, negotiated, by_step, creation_step, verified_in, or_refused, call_result, destroyed_in}
 
 NoFault : {A : Type 0} → Result A ClientRefusal → Type 0
 NoFault (Ok x) = Unit {0}
@@ -111,30 +107,16 @@ unfolding verified_in
 verified-clear outcome number xid octets =
     follow _ _ (answer-clear xid octets) (λ (answer : AnswerValue). follow _ _ (due-clear (BadReply Verifier) (is_verified outcome answer number) (bad Verifier)) (λ proved. follow _ _ (due-clear (Refused (Accept answer.stat)) (answer.stat == 0) (denied (Accept answer.stat))) (λ success. fine answer)))
 
-or_body-clear : {A E : Type 0} (r : Result A E) → NoFault (or_body r)
+or_refused-clear : (r : Result (List ℕ) BodyRefusal) → NoFault (or_refused r)
 unfolding NoFault
-or_body-clear (Ok x) = tt
-or_body-clear (Err e) = bad Body
-
-or_number-clear : (r : Result (ℕ × Input) XdrRefusal) → NoFault (or_number r)
-unfolding NoFault
-or_number-clear (Ok x) = tt
-or_number-clear (Err e) = bad Number
-
-numbered-clear : (number : ℕ) (databody : List ℕ) → NoFault (numbered number databody)
-unfolding numbered
-numbered-clear number databody = follow _ _ (or_number-clear (word_at (whole databody))) (λ (seq : ℕ × Input). follow _ _ (due-clear (BadReply Number) (seq.0 == number) (bad Number)) (λ own. fine seq.1.octets))
-
-body-clear : (end : TokenEnd) (number : ℕ) (body : List ℕ) (service : Service) → NoFault (body_result end number body service)
-unfolding body_result checked_result sealed_result
-body-clear end number body services.None = fine body
-body-clear end number body services.Integrity = follow _ _ (or_body-clear (checked_at body)) (λ (parts : List ℕ × List ℕ). follow _ _ (or_body-clear (checked_mic end parts.1 parts.0)) (λ proved. numbered-clear number parts.0))
-body-clear end number body services.Privacy =
-    follow _ _ (or_body-clear (sealed_at body)) (λ token. follow _ _ (or_body-clear (unwrapped end token)) (λ (content : Unwrapped). follow _ _ (due-clear (BadReply Body) content.sealed (bad Body)) (λ secret. numbered-clear number content.content)))
+or_refused-clear (Ok x) = tt
+or_refused-clear (Err bodies.Protection) = bad Body
+or_refused-clear (Err bodies.Number) = bad Number
+or_refused-clear (Err bodies.NoMemory) = λ e. cc
 
 call-clear : (outcome : Outcome) (service : Service) (number xid : ℕ) (octets : List ℕ) → NoFault (call_result outcome service number xid octets)
 unfolding call_result
-call-clear outcome service number xid octets = follow _ _ (verified-clear outcome number xid octets) (λ (answer : AnswerValue). body-clear (token_end outcome Initiator) number answer.result service)
+call-clear outcome service number xid octets = follow _ _ (verified-clear outcome number xid octets) (λ (answer : AnswerValue). or_refused-clear (unprotected (token_end outcome Initiator) service number answer.result))
 
 destroyed-clear : (outcome : Outcome) (number xid : ℕ) (octets : List ℕ) → NoFault (destroyed_in outcome number xid octets)
 unfolding destroyed_in

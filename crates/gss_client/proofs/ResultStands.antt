@@ -1,27 +1,23 @@
 -- A result stands in its reply.
 use Rattle.std.specs.Prelude.{◌==◌, ◌&&◌, is_ok}
-use Rattle.std.proofs.Common.{◌≡◌, ℕ, Bool, true, false, List, length, refl, ap, sym, ◌∙◌, subst, eqb-true, Result, Ok, Err}
+use Rattle.std.proofs.Common.{◌≡◌, ℕ, Bool, true, false, List, length, refl, ap, ◌∙◌, subst, eqb-true, Result, Ok, Err}
 use Rattle.krb_tokens.specs.declared.end.Side.TheVariants.{Initiator}
-use Rattle.krb_tokens.specs.declared.end.TokenEnd.{TokenEnd}
 use Rattle.krb_tokens.specs.Mic.{checked_mic}
-use Rattle.krb_tokens.specs.Wrap.{unwrapped}
 use Rattle.rpc_msgs.specs.Replies.{ReplyValue, accepted, mismatch, auth_error}
 use Rattle.rpc_msgs.specs.ReplyReading.{reply_at}
 use Rattle.rpc_msgs.specs.Words.{word}
-use Rattle.rpc_msgs.specs.Xdr.{Input, whole, word_at}
 use Rattle.rpc_msgs.specs.declared.reply_reading.ReplyRefusal.{ReplyRefusal}
-use Rattle.rpc_msgs.specs.declared.xdr_reader.XdrRefusal.{XdrRefusal}
-use Rattle.rpcsec_msgs.specs.Bodies.{checked_at, sealed_at}
+use Rattle.rpcsec_bodies.specs.declared.refusal.BodyRefusal.{BodyRefusal}
+use Rattle.rpcsec_bodies.specs.declared.refusal.BodyRefusal.TheVariants as bodies
+use Rattle.rpcsec_bodies.proofs.Taken.{held-by}
 use Rattle.spnego_core.specs.Outcome.{token_end}
 use Rattle.spnego_core.specs.declared.outcome.Outcome.{Outcome}
 use Rattle.gss_client.specs.declared.refusal.ClientRefusal.{ClientRefusal}
 use Rattle.gss_client.specs.declared.refusal.ClientRefusal.TheVariants.{Refused, BadReply}
 use Rattle.gss_client.specs.declared.refusal.Denial.TheVariants.{Accept}
-use Rattle.gss_client.specs.declared.refusal.ReplyWhy.TheVariants.{Xid, Verifier, Body, Number}
-use Rattle.gss_client.specs.declared.service.Service.{Service}
-use Rattle.gss_client.specs.declared.service.Service.TheVariants as services
-use Rattle.gss_client.specs.Judging.{AnswerValue, ◌>>=◌, due, xid_of, formed, granted, answer_in, is_verified, succeeded, verified_in, or_body, or_number, numbered, checked_result, sealed_result, body_result, call_result, result_taken}
-use Rattle.gss_client.specs.Laws.{IsNumbered, IsCheckedBody, IsSealedBody, IsBody, StandsIn, ResultLaw}
+use Rattle.gss_client.specs.declared.refusal.ReplyWhy.TheVariants.{Xid, Verifier}
+use Rattle.gss_client.specs.Judging.{AnswerValue, ◌>>=◌, due, xid_of, formed, granted, answer_in, is_verified, succeeded, verified_in, or_refused, call_result, result_taken}
+use Rattle.gss_client.specs.Laws.{StandsIn, ResultLaw}
 use Rattle.gss_client.specs.Session.{SessionState, session_after}
 
 -- what was taken by a chain of rules
@@ -42,13 +38,12 @@ formed-is : (r : Result ReplyValue ReplyRefusal) (reply : ReplyValue) → formed
 formed-is (Ok x) reply e = cc
 formed-is (Err d) reply e = cc
 
-body-is : {A E : Type 0} (r : Result A E) (x : A) → or_body r ≡ Ok x → r ≡ Ok x
-body-is (Ok y) x e = cc
-body-is (Err d) x e = cc
-
-number-is : (r : Result (ℕ × Input) XdrRefusal) (x : ℕ × Input) → or_number r ≡ Ok x → r ≡ Ok x
-number-is (Ok y) x e = cc
-number-is (Err d) x e = cc
+-- the body that a result was taken from
+content-is : (r : Result (List ℕ) BodyRefusal) (x : List ℕ) → or_refused r ≡ Ok x → r ≡ Ok x
+content-is (Ok y) x e = cc
+content-is (Err bodies.Protection) x e = cc
+content-is (Err bodies.Number) x e = cc
+content-is (Err bodies.NoMemory) x e = cc
 
 ok-is : {E : Type 0} (r : Result (Unit {0}) E) → is_ok r ≡ true → r ≡ Ok tt
 ok-is (Ok u) e = refl
@@ -57,54 +52,6 @@ ok-is (Err d) e = cc
 and-both : (a b : Bool) → (a && b) ≡ true → (a ≡ true) × (b ≡ true)
 and-both true b e = (refl, e)
 and-both false b e = cc
-
--- ---- the body
-
-numbered-is : (number : ℕ) (databody result : List ℕ) → numbered number databody ≡ Ok result → IsNumbered number databody result
-unfolding numbered
-numbered-is number databody result e =
-    let p = both (or_number (word_at (whole databody))) _ result e in
-    let q = both (due (BadReply Number) (p.value.0 == number)) _ result p.second in
-    let same : p.value.0 ≡ number = eqb-true _ _ (held (BadReply Number) _ q.value q.first) in
-    record {
-      rest = p.value.1;
-      read = number-is _ p.value p.first ∙ ap (λ (n : ℕ). Ok (n, p.value.1)) same;
-      result_is = let f : p.value.1.octets ≡ result = cc in sym f;
-    }
-
-checked-is : (end : TokenEnd) (number : ℕ) (body result : List ℕ) → checked_result end number body ≡ Ok result → IsCheckedBody end number body result
-unfolding checked_result
-checked-is end number body result e =
-    let p = both (or_body (checked_at body)) _ result e in
-    let q = both (or_body (checked_mic end p.value.1 p.value.0)) _ result p.second in
-    record {
-      databody = p.value.0;
-      mic = p.value.1;
-      split = body-is _ p.value p.first;
-      proved = body-is _ tt q.first;
-      numbered = numbered-is number p.value.0 result q.second;
-    }
-
-sealed-is : (end : TokenEnd) (number : ℕ) (body result : List ℕ) → sealed_result end number body ≡ Ok result → IsSealedBody end number body result
-unfolding sealed_result
-sealed-is end number body result e =
-    let p = both (or_body (sealed_at body)) _ result e in
-    let q = both (or_body (unwrapped end p.value)) _ result p.second in
-    let r = both (due (BadReply Body) q.value.sealed) _ result q.second in
-    let sealed : q.value.sealed ≡ true = held (BadReply Body) _ r.value r.first in
-    record {
-      token = p.value;
-      databody = q.value.content;
-      split = body-is _ p.value p.first;
-      opened = body-is _ q.value q.first ∙ ap (λ (b : Bool). Ok (record { sealed = b; content = q.value.content })) sealed;
-      numbered = numbered-is number q.value.content result r.second;
-    }
-
-held-by : (end : TokenEnd) (number : ℕ) (body result : List ℕ) (service : Service) → body_result end number body service ≡ Ok result → IsBody end number body result service
-unfolding body_result
-held-by end number body result services.None e = let f : body ≡ result = cc in sym f
-held-by end number body result services.Integrity e = checked-is end number body result e
-held-by end number body result services.Privacy e = sealed-is end number body result e
 
 -- ---- the reply
 
@@ -162,7 +109,7 @@ stands-in s octets result e =
       body = p.value.result;
       reply = v.granted.reply ∙ (ap (λ (n : ℕ). Ok (accepted s.xid n p.value.verf p.value.stat v.granted.low v.granted.high p.value.result)) v.flavour ∙ ap (λ (n : ℕ). Ok (accepted s.xid 6 p.value.verf n v.granted.low v.granted.high p.value.result)) v.stat);
       proved = v.proved;
-      held = held-by (token_end s.outcome Initiator) s.number p.value.result result s.service p.second;
+      held = held-by (token_end s.outcome Initiator) s.service s.number p.value.result result (content-is _ result p.second);
     }
 
 pub result-law : ResultLaw

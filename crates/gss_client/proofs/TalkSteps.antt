@@ -7,7 +7,7 @@ use Rattle.gss_client.specs.declared.creation.Created.TheVariants as created
 use Rattle.gss_client.specs.declared.creation.Offer.{Offer}
 use Rattle.gss_client.specs.declared.refusal.ClientRefusal.{ClientRefusal}
 use Rattle.gss_client.specs.declared.refusal.ClientRefusal.TheVariants.{Negotiation, NoMemory}
-use Rattle.gss_client.specs.declared.service.Service.{Service}
+use Rattle.rpcsec_bodies.specs.declared.service.Service.{Service}
 use Rattle.gss_client.specs.declared.start.Start.{Start}
 use Rattle.gss_client.specs.Rank.{replies_left}
 use Rattle.spnego_core.specs.declared.init_end.InitEnd.{InitEnd}

@@ -1,30 +1,22 @@
 -- The calls of a client, RFC 2203 sections 5.2.2 and 5.3.1: the program that is served, its
 -- version, RPCSEC_GSS's credential and verifier.
-use Rattle.std.specs.Prelude.{ℕ, ◌+◌, ◌*◌, true, List, [], ◌++◌}
+use Rattle.std.specs.Prelude.{ℕ, ◌*◌, List, []}
 use Rattle.krb_tokens.specs.declared.end.Side.TheVariants.{Initiator}
 use Rattle.krb_tokens.specs.declared.end.TokenEnd.{TokenEnd}
 use Rattle.krb_tokens.specs.Mic.{mic_of}
-use Rattle.krb_tokens.specs.Wrap.{wrap_of}
-use Rattle.rpc_msgs.specs.Words.{word, opaque}
+use Rattle.rpc_msgs.specs.Words.{opaque}
 use Rattle.rpc_msgs.specs.Auths.{AuthValue}
 use Rattle.rpc_msgs.specs.Calls.{header_octets, call_octets, secure_call}
 use Rattle.rpc_msgs.specs.declared.numbers.TheConstants.{AUTH_NONE, RPCSEC_GSS, PROGRAM, VERSION}
 use Rattle.rpc_msgs.specs.declared.numbers.TheConstants.{NULL}
-use Rattle.rpcsec_msgs.specs.Bodies.{checked_octets}
+use Rattle.rpcsec_bodies.specs.declared.service.Service.{Service}
+use Rattle.rpcsec_bodies.specs.Protection.{protected}
+use Rattle.rpcsec_bodies.specs.Service.{number_of}
 use Rattle.rpcsec_msgs.specs.Cred.{CredValue, cred_octets}
 use Rattle.rpcsec_msgs.specs.declared.numbers.TheConstants.{RPCSEC_GSS_DATA, RPCSEC_GSS_DESTROY}
-use Rattle.rpcsec_msgs.specs.declared.numbers.TheConstants.{RPC_GSS_SVC_NONE, RPC_GSS_SVC_INTEGRITY}
-use Rattle.rpcsec_msgs.specs.declared.numbers.TheConstants.{RPC_GSS_SVC_PRIVACY}
+use Rattle.rpcsec_msgs.specs.declared.numbers.TheConstants.{RPC_GSS_SVC_NONE}
 use Rattle.spnego_core.specs.Outcome.{token_end}
-use Rattle.gss_client.specs.declared.service.Service.{Service}
-use Rattle.gss_client.specs.declared.service.Service.TheVariants as services
 use Rattle.gss_client.specs.Session.{SessionState}
-
--- the services (section 5)
-abbrev pub number_of : Service → ℕ
-number_of services.None = RPC_GSS_SVC_NONE
-number_of services.Integrity = RPC_GSS_SVC_INTEGRITY
-number_of services.Privacy = RPC_GSS_SVC_PRIVACY
 
 -- creation is procedure 1 at first and 2 afterwards (section 5.2.2); such a call has number 0, the
 -- session's service, and no verifier
@@ -69,12 +61,8 @@ signed_call s proc service procedure body =
     (verifier_of s proc service procedure) body)
 
 -- the arguments as the service sends them (section 5.3.2)
-unfoldable pub body_of : SessionState → List ℕ → List ℕ → Service → List ℕ
-body_of s args confounder services.None = args
-body_of s args confounder services.Integrity = checked_octets (word s.number ++ args)
-    (mic_of (own_end s) (2 * s.number + 1) (word s.number ++ args))
-body_of s args confounder services.Privacy =
-    opaque (wrap_of (own_end s) (2 * s.number + 1) true confounder (word s.number ++ args))
+abbrev pub body_of : SessionState → List ℕ → List ℕ → Service → List ℕ
+body_of s args confounder service = protected (own_end s) service s.number confounder args
 
 -- a call of a context, and the call that destroys it, which has no arguments and is the program's
 -- procedure NULL

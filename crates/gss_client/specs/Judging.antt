@@ -5,15 +5,16 @@ use Rattle.gss_base.specs.declared.status.TheConstants.{COMPLETE, CONTINUE_NEEDE
 use Rattle.krb_tokens.specs.declared.end.Side.TheVariants.{Initiator}
 use Rattle.krb_tokens.specs.declared.end.TokenEnd.{TokenEnd}
 use Rattle.krb_tokens.specs.Mic.{checked_mic}
-use Rattle.krb_tokens.specs.Wrap.{unwrapped}
 use Rattle.rpc_msgs.specs.Words.{word}
-use Rattle.rpc_msgs.specs.Xdr.{Input, whole, word_at}
 use Rattle.rpc_msgs.specs.declared.numbers.TheConstants.{SUCCESS, RPCSEC_GSS}
 use Rattle.rpc_msgs.specs.Replies.{ReplyValue, accepted, mismatch, auth_error}
 use Rattle.rpc_msgs.specs.ReplyReading.{reply_at}
 use Rattle.rpc_msgs.specs.declared.reply_reading.ReplyRefusal.{ReplyRefusal}
 use Rattle.rpc_msgs.specs.declared.xdr_reader.XdrRefusal.{XdrRefusal}
-use Rattle.rpcsec_msgs.specs.Bodies.{checked_at, sealed_at}
+use Rattle.rpcsec_bodies.specs.declared.refusal.BodyRefusal.{BodyRefusal}
+use Rattle.rpcsec_bodies.specs.declared.refusal.BodyRefusal.TheVariants as bodies
+use Rattle.rpcsec_bodies.specs.declared.service.Service.{Service}
+use Rattle.rpcsec_bodies.specs.Opening.{unprotected}
 use Rattle.rpcsec_msgs.specs.InitRes.{init_res_at}
 use Rattle.rpcsec_msgs.specs.declared.init_res.InitRes.{InitRes}
 use Rattle.spnego_core.specs.declared.init_end.InitEnd.{InitEnd}
@@ -29,13 +30,11 @@ use Rattle.gss_client.specs.declared.creation.Created.{Created}
 use Rattle.gss_client.specs.declared.creation.Created.TheVariants as created
 use Rattle.gss_client.specs.declared.refusal.ClientRefusal.{ClientRefusal}
 use Rattle.gss_client.specs.declared.refusal.ClientRefusal.TheVariants.{Refused, Negotiation}
-use Rattle.gss_client.specs.declared.refusal.ClientRefusal.TheVariants.{BadReply}
+use Rattle.gss_client.specs.declared.refusal.ClientRefusal.TheVariants.{BadReply, NoMemory}
 use Rattle.gss_client.specs.declared.refusal.Denial.TheVariants.{Rpc, Auth, Accept, Gss}
 use Rattle.gss_client.specs.declared.refusal.ReplyWhy.TheVariants.{Form, Xid, Verifier, Steps}
 use Rattle.gss_client.specs.declared.refusal.ReplyWhy.TheVariants.{Width, Body, Number}
 use Rattle.gss_client.specs.Session.{SessionState, session_after}
-use Rattle.gss_client.specs.declared.service.Service.{Service}
-use Rattle.gss_client.specs.declared.service.Service.TheVariants as services
 
 -- the rules that follow, unless one before applied
 infixl 10 ◌>>=◌
@@ -179,43 +178,16 @@ verified_in outcome number xid octets = do
   success ← succeeded answer
   Ok answer
 
--- C14
-abbrev pub or_body : {A E : Type 0} → Result A E → Result A ClientRefusal
-or_body (Ok x) = Ok x
-or_body (Err e) = Err (BadReply Body)
-
--- C15: a databody is the call's number and the result
-abbrev pub or_number : Result (ℕ × Input) XdrRefusal → Result (ℕ × Input) ClientRefusal
-or_number (Ok seq) = Ok seq
-or_number (Err refusal) = Err (BadReply Number)
-
--- C15: the result in a databody that has the call's number
-unfoldable pub numbered : ℕ → List ℕ → Result (List ℕ) ClientRefusal
-numbered number databody = do
-  seq ← or_number (word_at (whole databody))
-  own ← due (BadReply Number) (seq.0 == number)
-  Ok seq.1.octets
-
--- the result in a body by integrity: the databody, and the acceptor's MIC over it
-unfoldable pub checked_result : TokenEnd → ℕ → List ℕ → Result (List ℕ) ClientRefusal
-checked_result end number body = do
-  parts ← or_body (checked_at body)
-  proved ← or_body (checked_mic end parts.1 parts.0)
-  numbered number parts.0
-
--- the result in a body by privacy: the databody, sealed by the acceptor
-unfoldable pub sealed_result : TokenEnd → ℕ → List ℕ → Result (List ℕ) ClientRefusal
-sealed_result end number body = do
-  token ← or_body (sealed_at body)
-  content ← or_body (unwrapped end token)
-  secret ← due (BadReply Body) content.sealed
-  numbered number content.content
+-- C14, C15: what is wrong with the body
+abbrev pub or_refused : Result (List ℕ) BodyRefusal → Result (List ℕ) ClientRefusal
+or_refused (Ok result) = Ok result
+or_refused (Err bodies.Protection) = Err (BadReply Body)
+or_refused (Err bodies.Number) = Err (BadReply Number)
+or_refused (Err bodies.NoMemory) = Err NoMemory
 
 -- C14, C15: the result in the body of a reply, by the service of the call
-unfoldable pub body_result : TokenEnd → ℕ → List ℕ → Service → Result (List ℕ) ClientRefusal
-body_result end number body services.None = Ok body
-body_result end number body services.Integrity = checked_result end number body
-body_result end number body services.Privacy = sealed_result end number body
+abbrev pub body_result : TokenEnd → ℕ → List ℕ → Service → Result (List ℕ) ClientRefusal
+body_result end number body service = or_refused (unprotected end service number body)
 
 -- C2 to C4, C12 to C15: the result in the reply to the call of this number and transaction
 -- number (RFC 2203 section 5.3.3)

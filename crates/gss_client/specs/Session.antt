@@ -1,7 +1,7 @@
 -- A session: a context that stands, and where its calls are.
 use Rattle.std.specs.Prelude.{ℕ, ◌+◌, ◌%◌, ◌^◌, List}
 use Rattle.spnego_core.specs.declared.outcome.Outcome.{Outcome}
-use Rattle.gss_client.specs.declared.service.Service.{Service}
+use Rattle.rpcsec_bodies.specs.declared.service.Service.{Service}
 
 -- what was agreed; how calls are protected; the server's handle; the number of the next call, and
 -- its transaction number

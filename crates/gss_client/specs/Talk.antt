@@ -11,7 +11,7 @@ use Rattle.gss_client.specs.declared.creation.Created.TheVariants as created
 use Rattle.gss_client.specs.declared.creation.Offer.{Offer}
 use Rattle.gss_client.specs.declared.refusal.ClientRefusal.TheVariants.{Negotiation, BadReply}
 use Rattle.gss_client.specs.declared.refusal.ReplyWhy.TheVariants.{Steps}
-use Rattle.gss_client.specs.declared.service.Service.{Service}
+use Rattle.rpcsec_bodies.specs.declared.service.Service.{Service}
 use Rattle.gss_client.specs.declared.start.Start.{Start}
 use Rattle.gss_client.specs.Calling.{creation_call, data_call, destroy_call}
 use Rattle.gss_client.specs.Judging.{creation_step, result_taken, destroyed_in}

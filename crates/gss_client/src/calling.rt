@@ -1,23 +1,20 @@
-//! The calls of a client, RFC 2203 sections 5.2.2, 5.3.1 and 5.3.2.
+//! The calls of a client, RFC 2203 sections 5.2.2 and 5.3.1.
 
-ghost use Rattle.std.specs.Prelude.{◌≡◌, ◌≤◌, ◌+◌, ◌++◌, true, length, IfOk};
+ghost use Rattle.std.specs.Prelude.{◌≡◌, ◌≤◌, length, IfOk};
 ghost use Rattle.rpc_msgs.specs.Calls.{call_octets, secure_call};
-ghost use Rattle.rpcsec_msgs.specs.Bodies.{checked_octets};
-ghost use Rattle.krb_tokens.specs.Mic.{mic_of};
-ghost use Rattle.krb_tokens.specs.Wrap.{wrap_of};
-ghost use Rattle.rpc_msgs.specs.Words.{word, opaque};
+ghost use Rattle.rpc_msgs.specs.Words.{opaque};
 ghost use Rattle.rpcsec_msgs.specs.Cred.{cred_octets};
-ghost use Rattle.gss_client.specs.Calling.{creation_call, signed_call, body_of, data_call};
+ghost use Rattle.gss_client.specs.Calling.{creation_call, signed_call, data_call};
 ghost use Rattle.gss_client.specs.Calling.{destroy_call};
 ghost use Rattle.gss_client.specs.Exchanging.{IsHandle};
 
-use crate::service::Service;
 use crate::session::Session;
-use krb_tokens::{MicCache, Side, TokenEnd};
+use krb_tokens::Side;
 use rpc_msgs::numbers::{AUTH_NONE, NULL, PROGRAM, RPCSEC_GSS, VERSION};
 use rpc_msgs::{XdrWriter, write_call, write_header};
+use rpcsec_bodies::{Service, protect};
 use rpcsec_msgs::numbers::{RPC_GSS_SVC_NONE, RPCSEC_GSS_DATA, RPCSEC_GSS_DESTROY};
-use rpcsec_msgs::{GssCred, join_checked, join_sealed, write_cred};
+use rpcsec_msgs::{GssCred, write_cred};
 use sec_base::{NoMemory, Octets};
 use std::alloc::Global;
 
@@ -142,79 +139,6 @@ fn signed_call(
     )
 }
 
-/// A databody: the number of the call and its arguments.
-fn databody(alloc: Global, number: u32, args: &[u8]) -> Result<Octets, NoMemory>
-    ensures value { IfOk result (λ o. o ≡ word number ++ args.now) }
-    ensures size { IfOk result (λ o. length o ≡ 4 + length args.now) }
-{
-    let mut out = XdrWriter::new(alloc);
-    out.word(number)?;
-    out.octets(args)?;
-    Ok(out.finish())
-}
-
-/// The arguments as the service sends them.
-#[tactic(auto, unfolding(crate::specs::Calling::body_of))]
-fn body_of(
-    alloc: Global,
-    session: &Session,
-    args: &[u8],
-    confounder: &[u8; 16],
-) -> Result<Octets, NoMemory>
-    requires { length args.now ≤ 65540 }
-    ensures value { IfOk result
-        (λ o. o ≡ body_of session.now args.now confounder.now session.now.service) }
-    ensures size { IfOk result (λ o. length o ≤ 130000) }
-{
-    let end = session.outcome.token_end(Side::Initiator);
-    let number = 2 * session.number as u64 + 1;
-    match session.service {
-        Service::None => Octets::of(alloc, args),
-        Service::Integrity => {
-            let body = databody(alloc, session.number, args)?;
-            sign_body(alloc, &end, &session.keys, number, body.as_slice())
-        }
-        Service::Privacy => {
-            let body = databody(alloc, session.number, args)?;
-            seal_body(alloc, &end, number, confounder, body.as_slice())
-        }
-    }
-}
-
-/// A body by integrity: the databody and its MIC.
-fn sign_body(
-    alloc: Global,
-    end: &TokenEnd,
-    keys: &MicCache,
-    number: u64,
-    databody: &[u8],
-) -> Result<Octets, NoMemory>
-    requires { length databody.now ≤ 65544 }
-    ensures value { IfOk result
-        (λ body. body ≡ checked_octets databody.now (mic_of end.now number databody.now)) }
-    ensures size { IfOk result (λ body. length body ≤ 130000) }
-{
-    let tag = end.make_mic_by(keys, number, databody);
-    join_checked(alloc, databody, &tag)
-}
-
-/// A body by privacy: the sealed databody.
-fn seal_body(
-    alloc: Global,
-    end: &TokenEnd,
-    number: u64,
-    confounder: &[u8; 16],
-    databody: &[u8],
-) -> Result<Octets, NoMemory>
-    requires { length databody.now ≤ 65544 }
-    ensures value { IfOk result
-        (λ body. body ≡ opaque (wrap_of end.now number true confounder.now databody.now)) }
-    ensures size { IfOk result (λ body. length body ≤ 130000) }
-{
-    let token = end.wrap(alloc, number, true, confounder, databody)?;
-    join_sealed(alloc, token.as_slice())
-}
-
 /// The call of a procedure.
 #[tactic(auto, unfolding(crate::specs::Calling::data_call))]
 pub(crate) fn data_call(
@@ -228,7 +152,15 @@ pub(crate) fn data_call(
     ensures value { IfOk result (λ o. o ≡ data_call session.now procedure args.now confounder.now) }
     ensures size { IfOk result (λ o. length o ≤ 131072) }
 {
-    let body = body_of(alloc, session, args, confounder)?;
+    let body = protect(
+        alloc,
+        &session.outcome.token_end(Side::Initiator),
+        &session.keys,
+        session.service,
+        session.number,
+        confounder,
+        args,
+    )?;
     signed_call(
         alloc,
         session,

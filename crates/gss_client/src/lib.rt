@@ -11,7 +11,6 @@ mod laws;
 mod procedure;
 mod refusal;
 mod results;
-mod service;
 mod session;
 mod start;
 
@@ -21,6 +20,6 @@ pub use creation::{Created, Offer, creation_step};
 pub use laws::{prove_count_law, prove_result_law};
 pub use procedure::{Procedure, opaque_alone};
 pub use refusal::{ClientRefusal, Denial, ReplyWhy};
-pub use service::Service;
+pub use rpcsec_bodies::Service;
 pub use session::{Session, xid_after};
 pub use start::Start;

@@ -1,6 +1,6 @@
 //! What a session is begun with.
 
-use crate::service::Service;
+use rpcsec_bodies::Service;
 use spnego_core::InitSetup;
 
 /// What a session is begun with.

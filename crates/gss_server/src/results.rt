@@ -1,11 +1,7 @@
-//! The results of calls of a context, RFC 2203 section 5.3.3.2, in the bodies of section 5.3.2.
+//! The results of calls of a context, RFC 2203 section 5.3.3.2.
 
-ghost use Rattle.std.specs.Prelude.{◌≡◌, ◌≤◌, ◌+◌, ◌++◌, true, take, drop, OnOk, IfOk, length};
-ghost use Rattle.rpc_msgs.specs.Words.{word, opaque};
-ghost use Rattle.rpcsec_msgs.specs.Bodies.{checked_octets};
+ghost use Rattle.std.specs.Prelude.{◌≡◌, ◌≤◌, ◌++◌, take, drop, OnOk, IfOk, length};
 ghost use Rattle.rpcsec_msgs.specs.Cred.{cred_value};
-ghost use Rattle.krb_tokens.specs.Mic.{mic_of};
-ghost use Rattle.krb_tokens.specs.Wrap.{wrap_of};
 ghost use Rattle.accept_book.specs.RecordShown.{by, end_of, result_body};
 ghost use Rattle.accept_book.specs.RecordRule.{result_reply};
 ghost use Rattle.accept_book.specs.Served.{result_of};
@@ -15,11 +11,10 @@ ghost use Rattle.gss_server.specs.Hearing.{shown};
 use crate::heard::Heard;
 use crate::saying::{Said, end_at, say_no_memory, say_signed};
 use accept_book::{Lease, Rule};
-use krb_tokens::{MicCache, TokenEnd};
 use rpc_msgs::XdrWriter;
 use rpc_msgs::numbers::{ECHO, NULL, SUCCESS, WHOAMI};
-use rpcsec_msgs::numbers::{RPC_GSS_SVC_INTEGRITY, RPC_GSS_SVC_NONE};
-use rpcsec_msgs::{GssCred, join_checked, join_sealed};
+use rpcsec_bodies::{Service, protect};
+use rpcsec_msgs::GssCred;
 use sec_base::{NoMemory, Octets};
 use std::alloc::Global;
 
@@ -70,51 +65,15 @@ fn make_body(
     ensures size { IfOk result (λ body. length body ≤ 130000) }
 {
     let result = result_octets(alloc, heard.call.procedure, args, lease, posts)?;
-    if cred.service == RPC_GSS_SVC_NONE {
-        return Ok(result);
-    }
-    let databody = numbered(alloc, cred.seq, result.as_slice())?;
-    let end = end_at(lease);
-    let number = 2 * cred.seq as u64 + 1;
-    if cred.service == RPC_GSS_SVC_INTEGRITY {
-        return sign_body(alloc, &end, heard.keys, number, databody.as_slice());
-    }
-    seal_body(alloc, &end, number, &heard.draws, databody.as_slice())
-}
-
-/// A body by privacy: the sealed databody.
-fn seal_body(
-    alloc: Global,
-    end: &TokenEnd,
-    number: u64,
-    draws: &[u8; 82],
-    databody: &[u8],
-) -> Result<Octets, NoMemory>
-    requires { length databody.now ≤ 65544 }
-    ensures value { IfOk result (λ body. body
-        ≡ opaque (wrap_of end.now number true (take 16 (drop 66 draws.now)) databody.now)) }
-    ensures size { IfOk result (λ body. length body ≤ 130000) }
-{
-    let confounder = confounder_of(draws);
-    let token = end.wrap(alloc, number, true, &confounder, databody)?;
-    join_sealed(alloc, token.as_slice())
-}
-
-/// A body by integrity: the databody and its MIC.
-fn sign_body(
-    alloc: Global,
-    end: &TokenEnd,
-    keys: &MicCache,
-    number: u64,
-    databody: &[u8],
-) -> Result<Octets, NoMemory>
-    requires { length databody.now ≤ 65544 }
-    ensures value { IfOk result (λ body. body
-        ≡ checked_octets databody.now (mic_of end.now number databody.now)) }
-    ensures size { IfOk result (λ body. length body ≤ 130000) }
-{
-    let tag = end.make_mic_by(keys, number, databody);
-    join_checked(alloc, databody, &tag)
+    protect(
+        alloc,
+        &end_at(lease),
+        heard.keys,
+        Service::of(cred.service),
+        cred.seq,
+        &confounder_of(&heard.draws),
+        result.as_slice(),
+    )
 }
 
 /// The confounder of a sealed reply.
@@ -124,17 +83,6 @@ fn confounder_of(draws: &[u8; 82]) -> [u8; 16]
     let mut confounder = [0; 16];
     confounder.copy_from_slice(&draws[66..82]);
     confounder
-}
-
-/// A databody: the number of the call and what follows it.
-fn numbered(alloc: Global, seq: u32, octets: &[u8]) -> Result<Octets, NoMemory>
-    ensures value { IfOk result (λ databody. databody ≡ word seq ++ octets.now) }
-    ensures size { IfOk result (λ databody. length databody ≡ 4 + length octets.now) }
-{
-    let mut out = XdrWriter::new(alloc);
-    out.word(seq)?;
-    out.octets(octets)?;
-    Ok(out.finish())
 }
 
 /// The result of a procedure.

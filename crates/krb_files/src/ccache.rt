@@ -43,6 +43,24 @@ impl Model for Credential {
     ghost invariant = { λ c. length c.ticket ≤ 60000 };
 }
 
+impl Credential {
+    /// A copy of it.
+    pub fn copied(&self, alloc: Global) -> Result<Credential, NoMemory>
+        ensures { IfOk result (λ copy. copy ≡ self.now) }
+    {
+        let client = self.client.copied(alloc)?;
+        let server = self.server.copied(alloc)?;
+        let session = self.session;
+        let ticket = Octets::of(alloc, self.ticket.as_slice())?;
+        Ok(Credential {
+            client,
+            server,
+            session,
+            ticket,
+        })
+    }
+}
+
 /// The credentials of one principal. Contracts see a `Cache`.
 #[derive(Drop)]
 pub struct Ccache {
@@ -176,6 +194,7 @@ fn credentials(alloc: Global, fields: &mut Fields) -> Result<Vec<Credential>, Fi
 }
 
 /// What `read_ccache` answers.
+/// It stands apart, so that its definition is unfolded here alone, and the other clauses are proved from what is said here.
 #[tactic(auto, unfolding(crate::specs::Ccache::ccache_of))]
 fn ccache_in(alloc: Global, bytes: &[u8]) -> Result<Ccache, FileRefusal>
     ensures { Answers (λ c. c) result (ccache_of bytes.now) }

@@ -105,6 +105,7 @@ fn entries(alloc: Global, fields: &mut Fields) -> Result<Vec<Entry>, FileRefusal
 }
 
 /// What `read_keytab` answers.
+/// It stands apart, so that its definition is unfolded here alone, and the other clauses are proved from what is said here.
 #[tactic(auto, unfolding(crate::specs::Keytab::keytab_of))]
 fn keytab_in(alloc: Global, bytes: &[u8]) -> Result<Keytab, FileRefusal>
     ensures { Answers (λ k. k) result (keytab_of bytes.now) }

@@ -5,4 +5,4 @@ mod mac;
 mod stretch;
 
 pub use mac::Hmac;
-pub use stretch::hi;
+pub use stretch::{add_to, hi};

@@ -3,7 +3,7 @@ use Rattle.std.proofs.Common.{◌≡◌, inl, inr, ℕ, ◌+◌, ◌*◌, ◌≤
 use Rattle.std.specs.Prelude.{◌==◌}
 use Rattle.std.proofs.lemmas.Bool.{eqb-true}
 use Rattle.std.proofs.lemmas.Bool.Decides.{nat_tests}
-use Rattle.std.proofs.lemmas.List.{length-append, length-take, length-drop}
+use Rattle.std.proofs.lemmas.List.{length-take, length-drop}
 use Rattle.std.proofs.lemmas.Nat.{from_be_bytes-to_be_bytes_8}
 use Rattle.rpc_msgs.specs.Words.{word, opaque}
 use Rattle.rpc_msgs.specs.Calls.{CallValue, secure_call, call_at}
@@ -13,8 +13,7 @@ use Rattle.rpc_msgs.specs.Replies.{ReplyValue, accepted, reply_octets}
 use Rattle.rpc_msgs.specs.ReplyReading.{reply_at}
 use Rattle.rpc_msgs.specs.Records.{last_fragment}
 use Rattle.rpc_msgs.proofs.ReplyLaws.{reply-only}
-use Rattle.rpc_msgs.proofs.WordLengths.{length-word}
-use Rattle.rpc_msgs.proofs.XdrLaws.{ok_is, word_law}
+use Rattle.rpc_msgs.proofs.XdrLaws.{ok_is}
 use Rattle.rpcsec_msgs.specs.Bodies.{checked_at, checked_octets, sealed_at}
 use Rattle.rpcsec_msgs.specs.Cred.{CredValue, is_service, cred_octets, cred_at}
 use Rattle.rpcsec_msgs.specs.declared.cred.CredRefusal.{CredRefusal}
@@ -35,29 +34,30 @@ use Rattle.accept_book.specs.RecordShown.{KeptAnswers, handle_of, handle_id, end
 use Rattle.accept_book.specs.RecordRule.{record_ruling}
 use Rattle.accept_book.specs.declared.book_answer.Lease.{Lease}
 use Rattle.accept_book.proofs.HonestMakings.{mic-made, sealed-made, made-honest}
-use Rattle.gss_client.specs.declared.service.Service.{Service}
-use Rattle.gss_client.specs.declared.service.Service.TheVariants as services
-use Rattle.gss_client.specs.Calling.{number_of, own_end, header_of, verifier_of, signed_call, body_of, data_call}
-use Rattle.gss_client.specs.Judging.{answer_in, verified_in, numbered, checked_result, sealed_result, body_result, call_result, result_taken}
+use Rattle.rpcsec_bodies.specs.declared.service.Service.{Service}
+use Rattle.rpcsec_bodies.specs.declared.service.Service.TheVariants as services
+use Rattle.rpcsec_bodies.specs.Opening.{unprotected}
+use Rattle.rpcsec_bodies.specs.Protection.{protected}
+use Rattle.rpcsec_bodies.specs.Service.{number_of}
+use Rattle.rpcsec_bodies.proofs.Lengths.{length-wrap_of, long-databody, mic-size, protected-fits}
+use Rattle.rpcsec_bodies.proofs.Taken.{checked-read, sealed-read}
+use Rattle.gss_client.specs.Calling.{own_end, header_of, verifier_of, signed_call, body_of, data_call}
+use Rattle.gss_client.specs.Judging.{answer_in, verified_in, or_refused, body_result, call_result, result_taken}
 use Rattle.gss_client.specs.Session.{SessionState, session_after}
 use Rattle.gss_client.specs.Talk.{calls}
 use Rattle.gss_client.specs.Talking.{said}
-use Rattle.gss_client.proofs.CallLengths.{cred-fits, length-wrap_of}
+use Rattle.gss_client.proofs.CallLengths.{cred-fits}
 use Rattle.gss_server.specs.Connections.{framed}
-use Rattle.gss_server.proofs.BodyLengths.{sealed-fits, checked-fits, result-fits}
+use Rattle.gss_server.proofs.BodyLengths.{result-fits}
 use Rattle.gss_server.proofs.ReplyLengths.{accepted-fits}
 use Rattle.pair_laws.specs.HonestCalls.{session_on, HonestCall, IsAdmitted, IsAnswered}
-use Rattle.pair_laws.proofs.Granting.{mic-size}
 use Rattle.pair_laws.proofs.Creating.{exchanged}
 use Rattle.pair_laws.proofs.Ruling.{few-services}
 
 -- ---- the call
 
-pub long-databody : (n : ℕ) (args : List ℕ) → length args ≤ 65540 → length (word n ++ args) ≤ 65544
-long-databody n args few = omega (arith, length-append (word n) args, length-word n)
-
 carries : (s : SessionState) (args confounder : List ℕ) (service : Service) → s.number ≤ 0x7fffffff → length args ≤ 65540 → length confounder ≡ 16 → IsOctets (confounder ++ (word s.number ++ args)) → Carries (own_end s) (number_of service) s.number args (body_of s args confounder service)
-unfolding body_of
+unfolding protected
 carries s args confounder services.None few size block octets = inl (refl, refl)
 carries s args confounder services.Integrity few size block octets =
     inr (inl (refl, record { tag = _; mic = mic-made (own_end s) (2 * s.number + 1) (word s.number ++ args) (omega arith); long = omega (arith, long-databody s.number args size); spelled = refl }))
@@ -131,33 +131,27 @@ heard-cred octets end n procedure args call cred h e f = ok_is {E = CredRefusal}
 pub eqb-same : (n : ℕ) → (n == n) ≡ true
 eqb-same n = grind (arith, nat_tests)
 
--- the number and the result behind it
-number-read : (n : ℕ) (result : List ℕ) → n < 2 ^ 32 → numbered n (word n ++ result) ≡ Ok result
-unfolding numbered
-number-read n result h = rw (word_law.only n result (length (word n ++ result)) h, eqb-same n) refl
-
 body-read : (keys : SealKeys) (lease : Lease) (service : Service) (n : ℕ) (confounder result : List ℕ) → ForSealing keys lease.outcome.key 22 → n < 2 ^ 32 → length result ≤ 65540 → length confounder ≡ 16 → IsOctets (confounder ++ (word n ++ result))
     → body_result (token_end lease.outcome Initiator) n (result_body (end_of lease) (data_cred lease service n) confounder result) service ≡ Ok result
-unfolding body_result result_body checked_result sealed_result
+unfolding result_body protected unprotected
 body-read keys lease services.None n confounder result for h few block octets = refl
 body-read keys lease services.Integrity n confounder result for h few block octets =
     let mic : List ℕ = mic_of (end_of lease) (2 * n + 1) (word n ++ result) in
     let split : checked_at (checked_octets (word n ++ result) mic) ≡ Ok (word n ++ result, mic) = checked-only (word n ++ result) mic (omega (arith, long-databody n result few)) (omega (arith, mic-size (end_of lease) (2 * n + 1) (word n ++ result))) in
     let good : checked_mic (token_end lease.outcome Initiator) mic (word n ++ result) ≡ Ok tt = mic-taken (end_of lease) (2 * n + 1) (word n ++ result) in
-    rw (split) (rw (good) (number-read n result h))
+    ap or_refused (checked-read (token_end lease.outcome Initiator) n result (checked_octets (word n ++ result) mic) mic h split good)
 body-read keys lease services.Privacy n confounder result for h few block octets =
     let token : List ℕ = wrap_of (end_of lease) (2 * n + 1) true confounder (word n ++ result) in
     let split : sealed_at (opaque token) ≡ Ok token = sealed-only token (omega (arith, long-databody n result few, length-wrap_of (end_of lease) (2 * n + 1) confounder (word n ++ result) block)) in
     let good : unwrapped (token_end lease.outcome Initiator) token ≡ Ok (record { sealed = true; content = word n ++ result }) =
     wrap-all keys (token_end lease.outcome Initiator) true token (word n ++ result) for (sealed-made (end_of lease) (2 * n + 1) confounder (word n ++ result) (omega (arith, h)) block octets) in
-    rw (split) (rw (good) (number-read n result h))
+    ap or_refused (sealed-read (token_end lease.outcome Initiator) n result (opaque token) token h split good)
 
 body-fits : (lease : Lease) (service : Service) (n : ℕ) (confounder result : List ℕ) → length result ≤ 65540 → length confounder ≡ 16 → length (result_body (end_of lease) (data_cred lease service n) confounder result) ≤ 130000
 unfolding result_body
-body-fits lease services.None n confounder result few block = omega (arith, few)
-body-fits lease services.Integrity n confounder result few block =
-    checked-fits (word n ++ result) (mic_of (end_of lease) (2 * n + 1) (word n ++ result)) (mic-size (end_of lease) (2 * n + 1) (word n ++ result)) (long-databody n result few)
-body-fits lease services.Privacy n confounder result few block = sealed-fits (end_of lease) (2 * n + 1) confounder (word n ++ result) block (long-databody n result few)
+body-fits lease services.None n confounder result few block = protected-fits (end_of lease) services.None n confounder result few block
+body-fits lease services.Integrity n confounder result few block = protected-fits (end_of lease) services.Integrity n confounder result few block
+body-fits lease services.Privacy n confounder result few block = protected-fits (end_of lease) services.Privacy n confounder result few block
 
 abbrev replying : Lease → Service → ℕ → ℕ → List ℕ → List ℕ → ReplyValue
 replying lease service n xid confounder result = accepted xid 6 (mic_of (end_of lease) (2 * n) (word n)) 0 0 0 (result_body (end_of lease) (data_cred lease service n) confounder result)

@@ -7,7 +7,7 @@ use Rattle.gss_client.specs.declared.creation.Created.{Created}
 use Rattle.gss_client.specs.declared.creation.Created.TheVariants as created
 use Rattle.gss_client.specs.declared.creation.Offer.{Offer}
 use Rattle.gss_client.specs.declared.refusal.ClientRefusal.{ClientRefusal}
-use Rattle.gss_client.specs.declared.service.Service.{Service}
+use Rattle.rpcsec_bodies.specs.declared.service.Service.{Service}
 use Rattle.gss_client.specs.declared.start.Start.{Start}
 use Rattle.gss_client.specs.Calling.{creation_call}
 use Rattle.gss_client.specs.Hearing.{whole, next_of}

@@ -34,7 +34,7 @@ use Rattle.pair_laws.specs.Live.{IsLiveAt}
 use Rattle.pair_laws.specs.Turns.{IsAnsweredBy, IsEndTurn}
 use Rattle.pair_laws.proofs.Living.{seen, over}
 use Rattle.accept_book.specs.declared.book_answer.Lease.{Lease}
-use Rattle.gss_client.specs.declared.service.Service.{Service}
+use Rattle.rpcsec_bodies.specs.declared.service.Service.{Service}
 use Rattle.gss_client.specs.Calling.{header_of, verifier_of, signed_call, destroy_call}
 use Rattle.gss_client.specs.Judging.{answer_in, verified_in, destroyed_in}
 use Rattle.gss_client.specs.Session.{SessionState}
@@ -45,7 +45,7 @@ use Rattle.gss_server.proofs.ReplyLengths.{accepted-fits}
 use Rattle.pair_laws.specs.HonestCalls.{session_on}
 use Rattle.pair_laws.specs.Ending.{HonestEnd, IsTaken, IsDestroyed}
 use Rattle.pair_laws.proofs.Answered.{handle-length, eqb-same}
-use Rattle.pair_laws.proofs.Granting.{mic-size}
+use Rattle.rpcsec_bodies.proofs.Lengths.{mic-size}
 use Rattle.pair_laws.proofs.Creating.{exchanged}
 
 -- ---- the call

@@ -1,5 +1,5 @@
 -- The replies that a creation has are granted: a context that goes on, and one that is settled, on which the session stands.
-use Rattle.std.proofs.Common.{◌≡◌, ℕ, ◌≤◌, ◌<◌, ◌^◌, lit<, lit≤, nat_le, true, false, refl, arith, List, [], ◌++◌, length, Ok}
+use Rattle.std.proofs.Common.{◌≡◌, ℕ, ◌≤◌, ◌<◌, ◌^◌, lit<, lit≤, nat_le, true, false, refl, arith, List, [], length, Ok}
 use Rattle.std.specs.Prelude.{◌==◌}
 use Rattle.std.proofs.lemmas.Bool.Decides.{nat_tests}
 use Rattle.rpc_msgs.specs.Words.{word}
@@ -10,15 +10,14 @@ use Rattle.rpcsec_msgs.specs.InitRes.{init_res_octets, IsInitRes}
 use Rattle.rpcsec_msgs.specs.declared.init_res.InitRes.{InitRes}
 use Rattle.rpcsec_msgs.proofs.InitResLaws.{init_res-only}
 use Rattle.krb_tokens.specs.declared.end.Side.TheVariants.{Initiator, Acceptor}
-use Rattle.krb_tokens.specs.declared.end.TokenEnd.{TokenEnd}
-use Rattle.krb_tokens.specs.End.{sign_usage}
-use Rattle.krb_tokens.specs.Mic.{mic_header, mic_of, checked_mic}
-use Rattle.krb_tokens.proofs.Taken.{length-checksum_of, mic-taken}
+use Rattle.krb_tokens.specs.Mic.{mic_of, checked_mic}
+use Rattle.krb_tokens.proofs.Taken.{mic-taken}
 use Rattle.spnego_core.specs.declared.init_end.InitEnd.{InitEnd}
 use Rattle.spnego_core.specs.declared.init_end.InitStep.TheVariants as steps
 use Rattle.spnego_core.specs.declared.outcome.Outcome.{Outcome}
 use Rattle.spnego_core.specs.Initiating.{init_step, step_of}
 use Rattle.spnego_core.specs.Outcome.{token_end}
+use Rattle.rpcsec_bodies.proofs.Lengths.{mic-size}
 use Rattle.accept_book.specs.RecordShown.{handle_of}
 use Rattle.gss_client.specs.declared.creation.Created.TheVariants as created
 use Rattle.gss_client.specs.Judging.{answer_in, granted_in, GrantedValue, by_step, creation_step}
@@ -66,10 +65,6 @@ window_mic outcome width = mic_of (token_end outcome Acceptor) 1 (word width)
 
 abbrev pub granting : ℕ → Outcome → ℕ → ℕ → List ℕ → ReplyValue
 granting xid outcome id width token = reply_with xid 6 (window_mic outcome width) (result_with id width token)
-
-pub mic-size : (end : TokenEnd) (number : ℕ) (octets : List ℕ) → length (mic_of end number octets) ≡ 28
-unfolding mic_of mic_header
-mic-size end number octets = omega (arith, length-checksum_of end.key (sign_usage end.side) (octets ++ mic_header end number))
 
 stands : (xid : ℕ) (outcome : Outcome) (id width : ℕ) (token : List ℕ) → 0 < width → by_step (granted_with xid 6 (window_mic outcome width) (result_with id width token)) (steps.Done outcome) ≡ Ok (created.Stands outcome (handle_of id))
 unfolding by_step

@@ -14,10 +14,11 @@ use Rattle.accept_book.specs.Served.{one_opaque}
 use Rattle.accept_book.specs.RecordShown.{KeptAnswers, AskedStep, asking, Shown, Ruling, handle_of, handle_id}
 use Rattle.accept_book.specs.RecordRule.{stepped, ask_step, record_ruling, call_ruling, creation_ruling}
 use Rattle.accept_book.specs.declared.book_answer.Negotiated.{Negotiated}
-use Rattle.gss_client.specs.declared.service.Service.{Service}
-use Rattle.gss_client.specs.declared.service.Service.TheVariants as services
+use Rattle.rpcsec_bodies.specs.declared.service.Service.{Service}
+use Rattle.rpcsec_bodies.specs.declared.service.Service.TheVariants as services
 use Rattle.rpc_msgs.specs.declared.numbers.TheConstants.{PROGRAM, VERSION, NULL}
-use Rattle.gss_client.specs.Calling.{number_of, creation_cred, creation_call}
+use Rattle.rpcsec_bodies.specs.Service.{number_of}
+use Rattle.gss_client.specs.Calling.{creation_cred, creation_call}
 use Rattle.gss_client.proofs.CallLengths.{cred-fits, call-fits}
 
 one-token : (token : List ℕ) → length token ≤ 65536 → one_opaque (opaque token) ≡ Ok token

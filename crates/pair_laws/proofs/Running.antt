@@ -42,8 +42,8 @@ use Rattle.gss_client.specs.declared.conversation.Parting.TheVariants.{Finished,
 use Rattle.gss_client.specs.declared.procedure.Procedure.{Procedure}
 use Rattle.gss_client.specs.declared.procedure.Procedure.TheVariants as procedures
 use Rattle.gss_client.specs.declared.refusal.ClientRefusal.{ClientRefusal}
-use Rattle.gss_client.specs.declared.service.Service.{Service}
-use Rattle.gss_client.specs.declared.service.Service.TheVariants as services
+use Rattle.rpcsec_bodies.specs.declared.service.Service.{Service}
+use Rattle.rpcsec_bodies.specs.declared.service.Service.TheVariants as services
 use Rattle.gss_client.specs.declared.start.Start.{Start}
 use Rattle.gss_client.specs.Calling.{own_end, body_of, data_call, destroy_call}
 use Rattle.gss_client.specs.Conversation.{Conversed, conversed, behind, leaves, goes_on, converses, talk, by_creation}
@@ -54,7 +54,7 @@ use Rattle.gss_client.specs.Talk.{calls, destroys}
 use Rattle.gss_client.specs.Talking.{Said, said, judges, exchanges}
 use Rattle.gss_client.proofs.CallLengths.{cred-fits, call-fits}
 use Rattle.gss_server.specs.Connections.{framed}
-use Rattle.gss_server.proofs.BodyLengths.{sealed-fits, checked-fits}
+use Rattle.rpcsec_bodies.proofs.Lengths.{mic-size, protected-fits}
 use Rattle.krb_tokens.specs.Mic.{mic_of}
 use Rattle.pair_laws.specs.Booked.{id_in}
 use Rattle.pair_laws.specs.Honest.{HonestExchange}
@@ -64,12 +64,11 @@ use Rattle.pair_laws.specs.Laws.{Completes}
 use Rattle.pair_laws.specs.Live.{lease_on, IsWhole, IsLiveAt}
 use Rattle.pair_laws.specs.Turns.{IsAnsweredBy}
 use Rattle.pair_laws.specs.Running.{Turn, sent_in, heard_in, IsUntouched, Serves, IsName, IsPlan, HonestRun, calls_made, parting_of, results_of, IsGone, Logged, Runs}
-use Rattle.pair_laws.proofs.Answered.{long-databody, is-made, data_cred, handle-length, call-honest, answered}
+use Rattle.pair_laws.proofs.Answered.{is-made, data_cred, handle-length, call-honest, answered}
 use Rattle.pair_laws.proofs.CallTurns.{call-turn}
 use Rattle.pair_laws.proofs.Completing.{framed-some, same-record, octets_heard, same-behind, few-answers}
 use Rattle.pair_laws.proofs.Creating.{goes-front, exchange-front}
 use Rattle.pair_laws.proofs.Ended.{ended, end-turn, end-fits}
-use Rattle.pair_laws.proofs.Granting.{mic-size}
 
 -- ---- octets
 
@@ -159,11 +158,7 @@ more-due n left h = by-cases (nat_le (n + suc left) 0x80000000) refl
 -- ---- how long a call is
 
 body-call : (s : SessionState) (args confounder : List ℕ) (service : Service) → length args ≤ 65540 → length confounder ≡ 16 → length (body_of s args confounder service) ≤ 130000
-unfolding body_of
-body-call s args confounder services.None few block = omega (arith, few)
-body-call s args confounder services.Integrity few block =
-    checked-fits (word s.number ++ args) (mic_of (own_end s) (2 * s.number + 1) (word s.number ++ args)) (mic-size (own_end s) (2 * s.number + 1) (word s.number ++ args)) (long-databody s.number args few)
-body-call s args confounder services.Privacy few block = sealed-fits (own_end s) (2 * s.number + 1) confounder (word s.number ++ args) block (long-databody s.number args few)
+body-call s args confounder service few block = protected-fits (own_end s) service s.number confounder args few block
 
 data-fits : (lease : Lease) (service : Service) (number xid procedure : ℕ) (args confounder : List ℕ) → length args ≤ 65540 → length confounder ≡ 16 → length (data_call (session_on lease service number xid) procedure args confounder) ≤ 131072
 data-fits lease service number xid procedure args confounder few block =

@@ -9,7 +9,7 @@ use Rattle.spnego_core.specs.declared.setup.MechCred.{MechCred}
 use Rattle.spnego_core.specs.declared.outcome.Outcome.{Outcome}
 use Rattle.accept_book.specs.History.{numbers}
 use Rattle.accept_book.specs.Honest.{IsOctets}
-use Rattle.gss_client.specs.declared.service.Service.TheVariants as services
+use Rattle.rpcsec_bodies.specs.declared.service.Service.TheVariants as services
 use Rattle.gss_client.specs.declared.start.Start.{Start}
 use Rattle.gss_client.specs.Exchanging.{Went}
 use Rattle.gss_client.specs.Procedure.{procedure_number}

@@ -25,8 +25,8 @@ use Rattle.accept_book.specs.declared.entry.EndCause.TheVariants.{Destroyed}
 use Rattle.gss_client.specs.declared.conversation.Parting.{Parting}
 use Rattle.gss_client.specs.declared.conversation.Parting.TheVariants.{Finished, Spent}
 use Rattle.gss_client.specs.declared.procedure.Procedure.{Procedure}
-use Rattle.gss_client.specs.declared.service.Service.{Service}
-use Rattle.gss_client.specs.declared.service.Service.TheVariants as services
+use Rattle.rpcsec_bodies.specs.declared.service.Service.{Service}
+use Rattle.rpcsec_bodies.specs.declared.service.Service.TheVariants as services
 use Rattle.gss_client.specs.declared.start.Start.{Start}
 use Rattle.gss_client.specs.Conversation.{converses, talk}
 use Rattle.gss_client.specs.Procedure.{procedure_number}

@@ -51,6 +51,7 @@ pub fn read_call(bytes: &[u8]) -> Result<Call<'_>, CallRefusal>
 }
 
 /// What `read_call` answers.
+/// It stands apart, so that its definition is unfolded here alone, and the other clauses are proved from what is said here.
 #[tactic(auto, unfolding(crate::specs::Calls::call_at))]
 fn call_in(bytes: &[u8]) -> Result<Call<'_>, CallRefusal>
     ensures { Answers call_value result (call_at bytes.now) }

@@ -34,6 +34,7 @@ pub fn read_reply(bytes: &[u8]) -> Result<Reply<'_>, ReplyRefusal>
 }
 
 /// What `read_reply` answers.
+/// It stands apart, so that its definition is unfolded here alone, and the other clauses are proved from what is said here.
 #[tactic(auto, unfolding(crate::specs::ReplyReading::reply_at))]
 fn reply_in(bytes: &[u8]) -> Result<Reply<'_>, ReplyRefusal>
     ensures { Answers reply_value result (reply_at bytes.now) }

@@ -21,6 +21,7 @@ pub fn split_checked(bytes: &[u8]) -> Result<(&[u8], &[u8]), XdrRefusal>
 }
 
 /// What `split_checked` answers.
+/// It stands apart, so that its definition is unfolded here alone, and the other clauses are proved from what is said here.
 #[tactic(auto, unfolding(crate::specs::Bodies::checked_at))]
 fn checked_in(bytes: &[u8]) -> Result<(&[u8], &[u8]), XdrRefusal>
     ensures { Answers (λ p. (p.0.now, p.1.now)) result (checked_at bytes.now) }
@@ -55,6 +56,7 @@ pub fn split_sealed(bytes: &[u8]) -> Result<&[u8], XdrRefusal>
 }
 
 /// What `split_sealed` answers.
+/// It stands apart, so that its definition is unfolded here alone, and the other clauses are proved from what is said here.
 #[tactic(auto, unfolding(crate::specs::Bodies::sealed_at))]
 fn sealed_in(bytes: &[u8]) -> Result<&[u8], XdrRefusal>
     ensures { Answers (λ token. token.now) result (sealed_at bytes.now) }

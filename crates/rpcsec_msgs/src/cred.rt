@@ -48,6 +48,7 @@ pub fn read_cred(body: &[u8]) -> Result<GssCred<'_>, CredRefusal>
 }
 
 /// What `read_cred` answers.
+/// It stands apart, so that its definition is unfolded here alone, and the other clauses are proved from what is said here.
 #[tactic(auto, unfolding(crate::specs::Cred::cred_at))]
 fn cred_in(body: &[u8]) -> Result<GssCred<'_>, CredRefusal>
     ensures { Answers cred_value result (cred_at body.now) }

@@ -44,6 +44,7 @@ pub fn read_init_res(alloc: Global, bytes: &[u8]) -> Result<InitRes, XdrRefusal>
 }
 
 /// What `read_init_res` answers.
+/// It stands apart, so that its definition is unfolded here alone, and the other clauses are proved from what is said here.
 #[tactic(auto, unfolding(crate::specs::InitRes::init_res_at))]
 fn init_res_in(alloc: Global, bytes: &[u8]) -> Result<InitRes, XdrRefusal>
     ensures { MayAnswer (λ v. v) result (init_res_at bytes.now) }

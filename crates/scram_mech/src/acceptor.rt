@@ -134,6 +134,8 @@ impl ScramAccept {
         self.finished(alloc, text, bindings, now)
     }
 
+    /// What `finish` answers.
+    /// It stands apart, so that its definition is unfolded here alone, and the other clauses are proved from what is said here.
     #[tactic(auto, unfolding(crate::specs::Acceptor::accept_finished, crate::specs::Secrets::signature_of, crate::specs::Secrets::context_key))]
     fn finished(
         &self,

@@ -2,14 +2,13 @@
 
 ghost use Rattle.std.specs.Prelude.{◌≡◌, ◌≤◌, ◌++◌, length, codes, IfOk, OnOk};
 ghost use Rattle.mac_sha1.specs.Mac.{hmac};
-ghost use Rattle.mac_sha1.specs.Hi.{add_octets};
 ghost use Rattle.scram_mech.specs.Secrets.{Secret, client_key, stored_key, server_key};
 ghost use Rattle.scram_mech.specs.Secrets.{auth_message, masked, key_of_client};
 ghost use Rattle.scram_mech.specs.Judging.{same};
 
 use crate::texts::put;
 use krb_derive::Key;
-use mac_sha1::{Hmac, hi};
+use mac_sha1::{Hmac, add_to, hi};
 use sec_base::{NoMemory, Octets};
 use sha1::Sha1;
 use std::alloc::Global;
@@ -79,14 +78,6 @@ fn put_after_comma(message: &mut Vec<u8>, text: &[u8]) -> Result<(), NoMemory>
     put(message, b",")?;
     put(message, text)?;
     Ok(())
-}
-
-fn add_to(sums: &mut [u8; 20], octets: &[u8; 20])
-    ensures { sums.new ≡ add_octets sums.old octets.now }
-{
-    'each: for i in 0..20 {
-        sums[i] ^= octets[i];
-    }
 }
 
 /// A key masked by the code of an AuthMessage under the stored key; a mask over a mask takes it off.

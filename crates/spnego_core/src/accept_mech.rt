@@ -63,6 +63,8 @@ fn request_answered(
     request_told(alloc, request, draws)
 }
 
+/// What `request_answered` answers.
+/// It stands apart, so that the other clauses are proved from what is said here.
 fn request_told(
     alloc: Global,
     request: Judged,

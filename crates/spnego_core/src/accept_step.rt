@@ -170,6 +170,7 @@ fn closes(alloc: Global, owing: Owing, resp: NegResp) -> Result<AcceptStep, NegR
 }
 
 /// What follows the initiator's next token.
+/// It stands apart, so that the other clauses are proved from what is said here.
 fn stepped(
     alloc: Global,
     setup: &AcceptSetup,

@@ -42,6 +42,8 @@ pub fn read_init(alloc: Global, bytes: &[u8]) -> Result<NegInit, DerRefusal>
     neg_init_of(alloc, bytes)
 }
 
+/// What `read_init` answers.
+/// It stands apart, so that its definition is unfolded here alone, and the other clauses are proved from what is said here.
 #[tactic(auto, unfolding(crate::specs::NegInit::neg_init))]
 fn neg_init_of(alloc: Global, bytes: &[u8]) -> Result<NegInit, DerRefusal>
     ensures { MayAnswer (λ t. t) result (neg_init.read (all_of bytes.now)) }

@@ -34,6 +34,8 @@ pub fn read_resp(alloc: Global, bytes: &[u8]) -> Result<NegResp, DerRefusal>
     neg_resp_of(alloc, bytes)
 }
 
+/// What `read_resp` answers.
+/// It stands apart, so that its definition is unfolded here alone, and the other clauses are proved from what is said here.
 #[tactic(auto, unfolding(crate::specs::NegResp::neg_resp))]
 fn neg_resp_of(alloc: Global, bytes: &[u8]) -> Result<NegResp, DerRefusal>
     ensures { MayAnswer (λ t. t) result (neg_resp.read (all_of bytes.now)) }

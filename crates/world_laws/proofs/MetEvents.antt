@@ -43,7 +43,7 @@ use Rattle.accept_book.specs.RecordRule.{stepped, ask_step, record_ruling}
 use Rattle.gss_client.specs.declared.creation.Created.{Created}
 use Rattle.gss_client.specs.declared.creation.Created.TheVariants as created
 use Rattle.gss_client.specs.declared.refusal.ClientRefusal.{ClientRefusal}
-use Rattle.gss_client.specs.declared.service.Service.TheVariants.{Integrity}
+use Rattle.rpcsec_bodies.specs.declared.service.Service.TheVariants.{Integrity}
 use Rattle.gss_client.specs.Judging.{granted_in, creation_step}
 use Rattle.gss_client.specs.Session.{SessionState, xid_after}
 use Rattle.gss_client.specs.Talk.{begun}

@@ -33,7 +33,7 @@ use Rattle.accept_book.specs.Served.{one_opaque}
 use Rattle.accept_book.specs.RecordShown.{KeptAnswers, Shown, handle_of}
 use Rattle.accept_book.specs.RecordRule.{ask_step, record_ruling, call_ruling, creation_ruling}
 use Rattle.gss_client.specs.declared.creation.Created.TheVariants as created
-use Rattle.gss_client.specs.declared.service.Service.TheVariants.{Integrity}
+use Rattle.rpcsec_bodies.specs.declared.service.Service.TheVariants.{Integrity}
 use Rattle.gss_client.specs.Calling.{creation_cred, creation_call}
 use Rattle.gss_client.specs.Judging.{answer_in, granted_in, GrantedValue, by_step, creation_step}
 use Rattle.gss_client.proofs.CallLengths.{cred-fits}

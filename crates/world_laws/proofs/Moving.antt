@@ -14,7 +14,7 @@ use Rattle.gss_client.specs.declared.creation.Offer.{Offer}
 use Rattle.gss_client.specs.declared.refusal.ClientRefusal.{ClientRefusal}
 use Rattle.gss_client.specs.declared.refusal.ClientRefusal.TheVariants.{BadReply}
 use Rattle.gss_client.specs.declared.refusal.ReplyWhy.TheVariants.{Verifier, Steps, Width}
-use Rattle.gss_client.specs.declared.service.Service.TheVariants.{Integrity}
+use Rattle.rpcsec_bodies.specs.declared.service.Service.TheVariants.{Integrity}
 use Rattle.gss_client.specs.Judging.{◌>>=◌, due, is_verified, GrantedValue, granted_in, negotiated, by_step, creation_step}
 use Rattle.gss_client.specs.Session.{xid_after}
 use Rattle.gss_client.specs.Talk.{begun}

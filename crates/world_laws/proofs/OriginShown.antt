@@ -1,5 +1,5 @@
 -- What a call's makings are, and what a body carries.
-use Rattle.std.proofs.Common.{◌≡◌, ◌⊎◌, inl, inr, ℕ, ◌+◌, ◌-◌, ◌*◌, ◌≤◌, Bool, true, false, cond, refl, sym, ◌∙◌, ap, arith, List, [], ◌∷◌, ◌++◌, length, take, drop, map, Some, None, Result, Ok, Err, is_ok, nat_lt}
+use Rattle.std.proofs.Common.{◌≡◌, ◌⊎◌, inl, inr, ℕ, ◌+◌, ◌-◌, ◌*◌, ◌≤◌, Bool, true, false, cond, refl, sym, ◌∙◌, ap, arith, List, [], ◌∷◌, ◌++◌, length, take, drop, map, Some, None, Result, Ok, Err, nat_lt}
 use Rattle.std.specs.Prelude.{◌==◌, if◌then◌else◌}
 use Rattle.std.specs.Int.{w32, from_be_bytes}
 use Rattle.std.proofs.lemmas.Bool.{eqb-true}
@@ -9,17 +9,22 @@ use Rattle.std.proofs.lemmas.Option.{none-some, same_Some}
 use Rattle.std.proofs.Math.Seq.{take-append_seam, drop-append_seam}
 use Rattle.krb_derive.specs.Making.{Making}
 use Rattle.krb_tokens.specs.declared.end.TokenEnd.{TokenEnd}
-use Rattle.krb_tokens.specs.declared.end.TokenRefusal.{TokenRefusal}
-use Rattle.krb_tokens.specs.declared.wrap.Unwrapped.{Unwrapped}
-use Rattle.krb_tokens.specs.Mic.{checked_mic}
-use Rattle.krb_tokens.specs.Wrap.{wrap_header, unwrapped, word_of}
+use Rattle.krb_tokens.specs.Wrap.{wrap_header, word_of}
 use Rattle.krb_tokens.specs.Makings.{mic_making, wrap_making, content_of}
 use Rattle.rpc_msgs.specs.Words.{word}
 use Rattle.rpc_msgs.specs.declared.xdr_reader.XdrRefusal.{XdrRefusal}
-use Rattle.rpcsec_msgs.specs.Bodies.{checked_at, sealed_at}
+use Rattle.rpc_msgs.specs.declared.xdr_reader.XdrWhy.TheVariants.{Short}
+use Rattle.rpc_msgs.specs.Xdr.{Input, whole, behind, refusal, octets_at, word_at}
+use Rattle.rpc_msgs.proofs.XdrLaws.{ok_is}
+use Rattle.rpcsec_bodies.specs.Carried.{IsNumbered, IsCheckedBody, IsSealedBody, IsBody}
+use Rattle.rpcsec_bodies.specs.Opening.{unprotected}
+use Rattle.rpcsec_bodies.specs.Service.{service_of}
+use Rattle.rpcsec_bodies.specs.declared.refusal.BodyRefusal.{BodyRefusal}
+use Rattle.rpcsec_bodies.specs.declared.service.Service.TheVariants as services
+use Rattle.rpcsec_bodies.proofs.Taken.{held-by}
 use Rattle.rpcsec_msgs.specs.Cred.{CredValue}
 use Rattle.scram_mech.specs.MechMaking.{MechMaking, AmongMakings, typed}
-use Rattle.accept_book.specs.RecordShown.{numbered, checked_args, unsealed_args, sealed_args, body_args}
+use Rattle.accept_book.specs.RecordShown.{taken_args, body_args}
 use Rattle.gss_client.specs.Calling.{own_end}
 use Rattle.gss_client.specs.Session.{SessionState}
 use Rattle.world_laws.specs.Initiators.{header_making, call_makings}
@@ -145,64 +150,39 @@ pub record NumberedBy (seq : ℕ) (databody args : List ℕ) : Type 0 where
   pub number : from_be_bytes w32 (take 4 databody) ≡ seq
   pub args_is : args ≡ drop 4 databody
 
-pub numbered-by : (seq : ℕ) (databody args : List ℕ) → numbered seq databody ≡ Some args → NumberedBy seq databody args
-numbered-by seq databody args e = by (nat_lt (length databody) 4) (from_be_bytes w32 (take 4 databody) == seq) refl refl e
+-- the number in front of octets, where there are four
+abbrev word_by : Bool → List ℕ → Result (ℕ × Input) XdrRefusal
+word_by true databody = Err (refusal Short (length databody))
+word_by false databody = Ok (from_be_bytes w32 (take 4 databody), behind 4 (whole databody))
+
+word-by : (databody : List ℕ) (b : Bool) → nat_lt (length databody) 4 ≡ b → word_at (whole databody) ≡ word_by b databody
+unfolding word_at octets_at
+word-by databody true e = rw e refl
+word-by databody false e = rw e refl
+
+pub numbered-by : (seq : ℕ) (databody args : List ℕ) → IsNumbered seq databody args → NumberedBy seq databody args
+numbered-by seq databody args n = by (nat_lt (length databody) 4) refl (sym (word-by databody (nat_lt (length databody) 4) refl) ∙ n.read)
   where
-    by : (b c : Bool) → nat_lt (length databody) 4 ≡ b → (from_be_bytes w32 (take 4 databody) == seq) ≡ c → (if b then None else if c then Some (drop 4 databody) else None) ≡ Some args → NumberedBy seq databody args
-    by true c p q f = absurd (none-some args f)
-    by false true p q f = record { long = grind (arith, nat_tests); number = eqb-true (from_be_bytes w32 (take 4 databody)) seq q; args_is = sym (same_Some (drop 4 databody) args f) }
-    by false false p q f = absurd (none-some args f)
-
--- by integrity: its octets under their MIC
-pub record CheckedBody (end : TokenEnd) (seq : ℕ) (body args : List ℕ) : Type 0 where
-  pub octets : List ℕ
-  pub mic : List ℕ
-  pub read : checked_at body ≡ Ok (octets, mic)
-  pub right : checked_mic end mic octets ≡ Ok tt
-  pub carries : numbered seq octets ≡ Some args
-
-is-ok : (r : Result (Unit {0}) TokenRefusal) → is_ok r ≡ true → r ≡ Ok tt
-is-ok (Ok done) e = refl
-is-ok (Err refusal) e = absurd cc
-
-checked-by : (end : TokenEnd) (seq : ℕ) (body args : List ℕ) (r : Result (List ℕ × List ℕ) XdrRefusal) → checked_at body ≡ r → checked_args end seq r ≡ Some args → CheckedBody end seq body args
-checked-by end seq body args (Err refusal) e f = absurd (none-some args f)
-checked-by end seq body args (Ok read) e f = by (is_ok (checked_mic end read.1 read.0)) refl f
-  where
-    by : (b : Bool) → is_ok (checked_mic end read.1 read.0) ≡ b → (if b then numbered seq read.0 else None) ≡ Some args → CheckedBody end seq body args
-    by true ok g = record { octets = read.0; mic = read.1; read = e; right = is-ok (checked_mic end read.1 read.0) ok; carries = g }
-    by false ok g = absurd (none-some args g)
-
--- by privacy: what it opens to
-pub record SealedBody (end : TokenEnd) (seq : ℕ) (body args : List ℕ) : Type 0 where
-  pub token : List ℕ
-  pub content : List ℕ
-  pub read : sealed_at body ≡ Ok token
-  pub opens : unwrapped end token ≡ Ok (record { sealed = true; content = content })
-  pub carries : numbered seq content ≡ Some args
-
-sealed-by : (end : TokenEnd) (seq : ℕ) (body args : List ℕ) (r : Result (List ℕ) XdrRefusal) → sealed_at body ≡ r → sealed_args end seq r ≡ Some args → SealedBody end seq body args
-sealed-by end seq body args (Err refusal) e f = absurd (none-some args f)
-sealed-by end seq body args (Ok token) e f = by (unwrapped end token) refl f
-  where
-    open-by : (sealed : Bool) (content : List ℕ) → unwrapped end token ≡ Ok (record { sealed = sealed; content = content }) → (if sealed then numbered seq content else None) ≡ Some args → SealedBody end seq body args
-    open-by true content o g = record { token = token; content = content; read = e; opens = o; carries = g }
-    open-by false content o g = absurd (none-some args g)
-
-    by : (r : Result Unwrapped TokenRefusal) → unwrapped end token ≡ r → unsealed_args seq r ≡ Some args → SealedBody end seq body args
-    by (Err refusal) o g = absurd (none-some args g)
-    by (Ok value) o g = open-by value.sealed value.content o g
+    by : (b : Bool) → nat_lt (length databody) 4 ≡ b → word_by b databody ≡ Ok (seq, n.rest) → NumberedBy seq databody args
+    by true p f = cc
+    by false p f =
+        let same = ok_is {E = XdrRefusal} (from_be_bytes w32 (take 4 databody), behind 4 (whole databody)) (seq, n.rest) f in
+        record { long = grind (arith, nat_tests); number = ap (λ (x : ℕ × Input). x.0) same; args_is = n.content_is ∙ sym (ap (λ (x : ℕ × Input). x.1.octets) same) }
 
 abbrev pub BodyBy : TokenEnd → CredValue → List ℕ → List ℕ → Type 0
 BodyBy end cred body args =
-    ((cred.service ≡ 1) × (body ≡ args)) ⊎ (((cred.service ≡ 2) × CheckedBody end cred.seq body args) ⊎ (((cred.service == 1) ≡ false) × ((cred.service == 2) ≡ false) × SealedBody end cred.seq body args))
+    ((cred.service ≡ 1) × (body ≡ args)) ⊎ (((cred.service ≡ 2) × IsCheckedBody end cred.seq body args) ⊎ (((cred.service == 1) ≡ false) × ((cred.service == 2) ≡ false) × IsSealedBody end cred.seq body args))
+
+taken-is : (r : Result (List ℕ) BodyRefusal) (args : List ℕ) → taken_args r ≡ Some args → r ≡ Ok args
+taken-is (Ok x) args e = ap (λ (o : List ℕ). Ok o) (same_Some x args e)
+taken-is (Err refusal) args e = absurd (none-some args e)
 
 pub body-by : (end : TokenEnd) (cred : CredValue) (body args : List ℕ) → body_args end cred body ≡ Some args → BodyBy end cred body args
 unfolding body_args
-body-by end cred body args e = by (cred.service == 1) (cred.service == 2) refl refl e
+body-by end cred body args e =
+    by (cred.service == 1) (cred.service == 2) refl refl (held-by end (service_of cred.service) cred.seq body args (taken-is (unprotected end (service_of cred.service) cred.seq body) args e))
   where
-    by : (b c : Bool) → (cred.service == 1) ≡ b → (cred.service == 2) ≡ c
-        → (if b then Some body else if c then checked_args end cred.seq (checked_at body) else sealed_args end cred.seq (sealed_at body)) ≡ Some args → BodyBy end cred body args
-    by true c p q f = inl (eqb-true cred.service 1 p, same_Some body args f)
-    by false true p q f = inr (inl (eqb-true cred.service 2 q, checked-by end cred.seq body args (checked_at body) refl f))
-    by false false p q f = inr (inr (p, q, sealed-by end cred.seq body args (sealed_at body) refl f))
+    by : (b c : Bool) → (cred.service == 1) ≡ b → (cred.service == 2) ≡ c → IsBody end (if b then services.None else if c then services.Integrity else services.Privacy) cred.seq body args → BodyBy end cred body args
+    by true c p q f = inl (eqb-true cred.service 1 p, sym f)
+    by false true p q f = inr (inl (eqb-true cred.service 2 q, f))
+    by false false p q f = inr (inr (p, q, f))

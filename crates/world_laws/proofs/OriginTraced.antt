@@ -30,7 +30,8 @@ use Rattle.world_laws.proofs.Kerberos.{same-context}
 use Rattle.world_laws.proofs.Due.{shown, Admitting}
 use Rattle.world_laws.proofs.OriginReading.{told}
 use Rattle.world_laws.proofs.OriginWords.{args-short}
-use Rattle.world_laws.proofs.OriginShown.{CheckedBody, SealedBody, BodyBy, body-by, NumberedBy, numbered-by}
+use Rattle.rpcsec_bodies.specs.Carried.{IsCheckedBody, IsSealedBody}
+use Rattle.world_laws.proofs.OriginShown.{BodyBy, body-by, NumberedBy, numbered-by}
 use Rattle.world_laws.proofs.OriginCalls.{Called, Fitting, Calls}
 use Rattle.world_laws.proofs.OriginMatching.{HeaderFrom, header-from, BodyFrom, checked-from, sealed-from}
 use Rattle.world_laws.proofs.OriginEvidence.{Backed, CallBacked, EndBacked}
@@ -94,23 +95,23 @@ header-call called tokens w lease octets kept call cred calls read cred_read ver
 
 -- ---- the body
 
-checked-call : (called : Called) (tokens : TokenLaws) (w : World) (lease : Lease) (procedure : ℕ) (cred : CredValue) (body args : List ℕ) → Calls called w → are_args procedure args ≡ true → cred.service ≡ 2 → CheckedBody (end_of lease) cred.seq body args
+checked-call : (called : Called) (tokens : TokenLaws) (w : World) (lease : Lease) (procedure : ℕ) (cred : CredValue) (body args : List ℕ) → Calls called w → are_args procedure args ≡ true → cred.service ≡ 2 → IsCheckedBody (end_of lease) cred.seq body args
     → ((m : MechMaking) → AmongMakings (map typed (found_in_body (end_of lease) cred.service body)) m → WasMade w m) → BodyFrom called w lease.outcome.key cred.seq args
-checked-call called tokens w lease procedure cred body args calls proper two c made = by (tokens.mic (end_of lease) c.mic c.octets c.right)
+checked-call called tokens w lease procedure cred body args calls proper two c made = by (tokens.mic (end_of lease) c.mic c.databody c.proved)
   where
-    by : ShownByMic (end_of lease) c.mic c.octets → BodyFrom called w lease.outcome.key cred.seq args
-    by s = checked-from called tokens w lease.outcome.key cred.seq c.octets s.header args calls (args-short procedure args proper) (numbered-by cred.seq c.octets args c.carries) s.long
-        (made (typed (check_making lease.outcome.key 25 (c.octets ++ s.header))) (one-among (found_in_body (end_of lease) cred.service body) (check_making lease.outcome.key 25 (c.octets ++ s.header))
-        (checked-found (end_of lease) cred.service body c.octets c.mic two c.read ∙ s.found)))
+    by : ShownByMic (end_of lease) c.mic c.databody → BodyFrom called w lease.outcome.key cred.seq args
+    by s = checked-from called tokens w lease.outcome.key cred.seq c.databody s.header args calls (args-short procedure args proper) (numbered-by cred.seq c.databody args c.numbered) s.long
+        (made (typed (check_making lease.outcome.key 25 (c.databody ++ s.header))) (one-among (found_in_body (end_of lease) cred.service body) (check_making lease.outcome.key 25 (c.databody ++ s.header))
+        (checked-found (end_of lease) cred.service body c.databody c.mic two c.split ∙ s.found)))
 
-sealed-call : (called : Called) (tokens : TokenLaws) (w : World) (lease : Lease) (cred : CredValue) (body args : List ℕ) → Calls called w → cred.service ≡ 3 → SealedBody (end_of lease) cred.seq body args
+sealed-call : (called : Called) (tokens : TokenLaws) (w : World) (lease : Lease) (cred : CredValue) (body args : List ℕ) → Calls called w → cred.service ≡ 3 → IsSealedBody (end_of lease) cred.seq body args
     → ((m : MechMaking) → AmongMakings (map typed (found_in_body (end_of lease) cred.service body)) m → WasMade w m) → BodyFrom called w lease.outcome.key cred.seq args
-sealed-call called tokens w lease cred body args calls three c made = by (tokens.sealed (end_of lease) c.token c.content c.opens)
+sealed-call called tokens w lease cred body args calls three c made = by (tokens.sealed (end_of lease) c.token c.databody c.opened)
   where
-    by : ShownBySealed (end_of lease) c.token c.content → BodyFrom called w lease.outcome.key cred.seq args
-    by s = sealed-from called tokens w lease.outcome.key cred.seq s.plain args calls (subst (λ content. NumberedBy cred.seq content args) s.held (numbered-by cred.seq c.content args c.carries))
+    by : ShownBySealed (end_of lease) c.token c.databody → BodyFrom called w lease.outcome.key cred.seq args
+    by s = sealed-from called tokens w lease.outcome.key cred.seq s.plain args calls (subst (λ content. NumberedBy cred.seq content args) s.held (numbered-by cred.seq c.databody args c.numbered))
         (made (typed (sealed_making lease.outcome.key 24 s.plain)) (one-among (found_in_body (end_of lease) cred.service body) (sealed_making lease.outcome.key 24 s.plain)
-        (sealed-found (end_of lease) cred.service body c.token three c.read ∙ s.found)))
+        (sealed-found (end_of lease) cred.service body c.token three c.split ∙ s.found)))
 
 -- ---- who made it
 

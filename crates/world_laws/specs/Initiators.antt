@@ -15,7 +15,7 @@ use Rattle.spnego_core.specs.Initiating.{Started, Initiated, init_start, init_st
 use Rattle.gss_client.specs.declared.creation.Created.{Created}
 use Rattle.gss_client.specs.declared.creation.Created.TheVariants as created
 use Rattle.gss_client.specs.declared.refusal.ClientRefusal.{ClientRefusal}
-use Rattle.gss_client.specs.declared.service.Service.TheVariants.{Integrity}
+use Rattle.rpcsec_bodies.specs.declared.service.Service.TheVariants.{Integrity}
 use Rattle.gss_client.specs.Calling.{creation_call, header_of, data_call, own_end}
 use Rattle.gss_client.specs.Judging.{GrantedValue, granted_in, creation_step}
 use Rattle.gss_client.specs.Session.{SessionState, session_after, xid_after}

@@ -6,52 +6,18 @@ ghost use Rattle.spnego_core.specs.InitMech.{is_own_list};
 ghost use Rattle.world_laws.specs.Showing.{setup_of};
 
 use accept_book::{Book, Limits};
-use gss_base::{NameRefusal, Principal};
-use krb_files::Credential;
-use sec_base::{Items, Moment, NoMemory, Octets, Text};
+use sec_base::{Items, Moment, NoMemory, Text};
 use spnego_core::{AcceptSetup, InitSetup, MechCred};
 use std::alloc::Global;
 use table_setting::Setting;
 use world_laws::{InitFacts, World, WorldSetup};
-
-/// A copy of a name.
-fn copied_name(alloc: Global, name: &Principal) -> Result<Principal, NoMemory>
-    ensures { IfOk result (λ copy. copy ≡ name.now) }
-{
-    let label = name.label();
-    match Principal::parse(alloc, label.text()) {
-        Ok(copy) => Ok(copy),
-        Err(NameRefusal::NoMemory) => Err(NoMemory),
-        Err(_) => unreachable!(),
-    }
-}
-
-/// A copy of a credential of Kerberos.
-fn copied_credential(alloc: Global, credential: &Credential) -> Result<Credential, NoMemory>
-    ensures { IfOk result (λ copy. copy ≡ credential.now) }
-{
-    let session = credential.session;
-    match (
-        copied_name(alloc, &credential.client),
-        copied_name(alloc, &credential.server),
-        Octets::of(alloc, credential.ticket.as_slice()),
-    ) {
-        (Ok(client), Ok(server), Ok(ticket)) => Ok(Credential {
-            client,
-            server,
-            session,
-            ticket,
-        }),
-        _ => Err(NoMemory),
-    }
-}
 
 /// A copy of a credential.
 fn copied(alloc: Global, cred: &MechCred) -> Result<MechCred, NoMemory>
     ensures { IfOk result (λ copy. copy ≡ cred.now) }
 {
     match cred {
-        MechCred::Kerberos(credential) => match copied_credential(alloc, credential) {
+        MechCred::Kerberos(credential) => match credential.copied(alloc) {
             Ok(copy) => Ok(MechCred::Kerberos(copy)),
             Err(no_memory) => Err(no_memory),
         },

@@ -1,4 +1,5 @@
-use Rattle.gss_client.proofs.CallLengths.{call-fits, sized}
+use Rattle.rpcsec_bodies.proofs.Lengths.{sized}
+use Rattle.gss_client.proofs.CallLengths.{call-fits}
 use Rattle.gss_client.proofs.calling.call.Goals as goal
 
 pub returns-clause-size : goal.returns-clause-size

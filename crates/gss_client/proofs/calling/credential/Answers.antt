@@ -1,4 +1,5 @@
-use Rattle.gss_client.proofs.CallLengths.{cred-fits, sized}
+use Rattle.rpcsec_bodies.proofs.Lengths.{sized}
+use Rattle.gss_client.proofs.CallLengths.{cred-fits}
 use Rattle.gss_client.proofs.calling.credential.Goals as goal
 
 pub returns-clause-size : goal.returns-clause-size

@@ -1,6 +1,7 @@
 use Rattle.std.proofs.Common.{ap, arith, length, ℕ}
 use Rattle.rpcsec_msgs.specs.declared.init_res.InitRes.{InitRes}
-use Rattle.gss_server.proofs.BodyLengths.{sized, init-fits, handle-size}
+use Rattle.rpcsec_bodies.proofs.Lengths.{sized}
+use Rattle.gss_server.proofs.BodyLengths.{init-fits, handle-size}
 use Rattle.gss_server.proofs.creating.result_octets.Goals as goal
 
 pub returns-clause-size : goal.returns-clause-size

@@ -1,6 +1,6 @@
 use Rattle.std.proofs.Common.{arith}
-use Rattle.gss_client.proofs.CallLengths.{checked-fits, sized}
-use Rattle.gss_client.proofs.calling.sign_body.Goals as goal
+use Rattle.rpcsec_bodies.proofs.Lengths.{checked-fits, sized}
+use Rattle.rpcsec_bodies.proofs.protection.sign_body.Goals as goal
 
 pub returns-clause-size : goal.returns-clause-size
 returns-clause-size c =

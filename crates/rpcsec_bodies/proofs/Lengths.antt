@@ -1,0 +1,63 @@
+-- How long bodies are.
+use Rattle.std.proofs.Common.{◌≡◌, ℕ, ◌+◌, ◌*◌, ◌≤◌, Bool, true, List, ◌++◌, length, ap, ◌∙◌, refl, arith, Result, Ok, Err, IfOk}
+use Rattle.std.proofs.lemmas.List.{length-append}
+use Rattle.rpc_msgs.specs.Words.{word, opaque}
+use Rattle.rpc_msgs.proofs.WordLengths.{length-word, length-opaque}
+use Rattle.rpcsec_msgs.specs.Bodies.{checked_octets}
+use Rattle.aes_cts.proofs.Restored.{length-cts_encrypted}
+use Rattle.krb_derive.proofs.Opened.{length-tag_of}
+use Rattle.krb_derive.specs.declared.key.Key.{Key}
+use Rattle.krb_derive.specs.Sealing.{seal_of, tag_of}
+use Rattle.krb_derive.specs.Derivation.{derived}
+use Rattle.krb_derive.specs.declared.derivation.Part.TheVariants.{Encrypt, Integrity}
+use Rattle.krb_derive.specs.Key.{key_octets}
+use Rattle.aes_cts.specs.Stealing.{cts_encrypted}
+use Rattle.krb_tokens.specs.End.{seal_usage, sign_usage}
+use Rattle.krb_tokens.specs.Mic.{mic_of, mic_header}
+use Rattle.krb_tokens.specs.Wrap.{wrap_header, sealed_body, wrap_of}
+use Rattle.krb_tokens.specs.declared.end.TokenEnd.{TokenEnd}
+use Rattle.krb_tokens.proofs.Taken.{length-checksum_of}
+use Rattle.rpcsec_bodies.specs.Protection.{protected}
+use Rattle.rpcsec_bodies.specs.declared.service.Service.{Service}
+use Rattle.rpcsec_bodies.specs.declared.service.Service.TheVariants as services
+
+length-seal_of : (key : Key) (usage : ℕ) (confounder octets : List ℕ) → length confounder ≡ 16 → length (seal_of key usage confounder octets) ≡ 28 + length octets
+unfolding seal_of
+length-seal_of key usage confounder octets size =
+    let plain : length (confounder ++ octets) ≡ 16 + length octets = length-append confounder octets ∙ ap (λ (n : ℕ). n + length octets) size in
+    length-append (cts_encrypted (key_octets (derived key usage Encrypt)) (confounder ++ octets)) (tag_of (derived key usage Integrity) (confounder ++ octets))
+    ∙ omega (arith, length-cts_encrypted (key_octets (derived key usage Encrypt)) (confounder ++ octets) (omega arith), length-tag_of (derived key usage Integrity) (confounder ++ octets))
+
+length-wrap_header : (end : TokenEnd) (sealed : Bool) (extra rotation number : ℕ) → length (wrap_header end sealed extra rotation number) ≡ 16
+unfolding wrap_header
+length-wrap_header end sealed extra rotation number = refl
+
+pub length-wrap_of : (end : TokenEnd) (number : ℕ) (confounder octets : List ℕ) → length confounder ≡ 16 → length (wrap_of end number true confounder octets) ≡ 60 + length octets
+unfolding wrap_of sealed_body
+length-wrap_of end number confounder octets size =
+    length-append (wrap_header end true 0 0 number) (seal_of end.key (seal_usage end.side) confounder (octets ++ wrap_header end true 0 0 number))
+    ∙ omega (arith, length-wrap_header end true 0 0 number, length-seal_of end.key (seal_usage end.side) confounder (octets ++ wrap_header end true 0 0 number) size, length-append octets (wrap_header end true 0 0 number))
+
+pub sealed-fits : (end : TokenEnd) (number : ℕ) (confounder octets : List ℕ) → length confounder ≡ 16 → length octets ≤ 65544 → length (opaque (wrap_of end number true confounder octets)) ≤ 130000
+sealed-fits end number confounder octets size few = omega (arith, length-opaque (wrap_of end number true confounder octets), length-wrap_of end number confounder octets size)
+
+pub checked-fits : (octets tag : List ℕ) → length tag ≡ 28 → length octets ≤ 65544 → length (checked_octets octets tag) ≤ 130000
+checked-fits octets tag size few = omega (arith, length-append (opaque octets) (opaque tag), length-opaque octets, length-opaque tag)
+
+pub sized : {E : Type 0} (r : Result (List ℕ) E) (xs : List ℕ) (n : ℕ) → IfOk r (λ o. o ≡ xs) → length xs ≤ n → IfOk r (λ o. length o ≤ n)
+sized (Ok o) xs n e h = omega (arith, ap length e)
+sized (Err d) xs n e h = tt
+
+pub mic-size : (end : TokenEnd) (number : ℕ) (octets : List ℕ) → length (mic_of end number octets) ≡ 28
+unfolding mic_of mic_header
+mic-size end number octets = omega (arith, length-checksum_of end.key (sign_usage end.side) (octets ++ mic_header end number))
+
+pub long-databody : (seq : ℕ) (content : List ℕ) → length content ≤ 65540 → length (word seq ++ content) ≤ 65544
+long-databody seq content few = omega (arith, length-append (word seq) content, length-word seq)
+
+pub protected-fits : (end : TokenEnd) (service : Service) (seq : ℕ) (confounder content : List ℕ) → length content ≤ 65540 → length confounder ≡ 16 → length (protected end service seq confounder content) ≤ 130000
+unfolding protected
+protected-fits end services.None seq confounder content few block = omega (arith, few)
+protected-fits end services.Integrity seq confounder content few block =
+    checked-fits (word seq ++ content) (mic_of end (2 * seq + 1) (word seq ++ content)) (mic-size end (2 * seq + 1) (word seq ++ content)) (long-databody seq content few)
+protected-fits end services.Privacy seq confounder content few block = sealed-fits end (2 * seq + 1) confounder (word seq ++ content) block (long-databody seq content few)

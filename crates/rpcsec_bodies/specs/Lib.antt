@@ -1,0 +1,4 @@
+pub mod Carried
+pub mod Opening
+pub mod Protection
+pub mod Service
