@@ -84,10 +84,11 @@ AllInOrder Each (cut ∷ records) [] = Unit {0}
 AllInOrder Each (cut ∷ records) (one ∷ kept) =
     Each (octets_in cut) one × AllInOrder Each records kept
 
--- each answer that was kept for a record was asked of the gate, and none is missing
+-- each answer that was kept for a record was asked of the gate, and none is missing; 82 octets were
+-- drawn for it
 abbrev pub IsExact : ℕ → List ℕ → Kept → Type 0
-IsExact width octets kept = length (asked_for width octets kept)
-    ≡ count_of kept.negotiated kept.looked kept.admitted kept.ended
+IsExact width octets kept = (length (asked_for width octets kept)
+    ≡ count_of kept.negotiated kept.looked kept.admitted kept.ended) × (length kept.draws ≡ 82)
 
 -- of each record
 abbrev pub AllExact : ℕ → List Fragments → List Kept → Type 0

@@ -206,6 +206,7 @@ pub(crate) fn answer_record_by<G: Gate>(
         (record_ruling bytes.now (kept_answers result.kept) width) }
     ensures now { result.kept.now ≡ now }
     ensures draws { result.kept.draws ≡ draws.now }
+    ensures drawn { length result.kept.draws ≡ 82 }
 {
     let Asks {
         negotiated,

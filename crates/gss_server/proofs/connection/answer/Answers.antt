@@ -20,7 +20,7 @@ returns-clause-answered g c =
       holds = record {
         one = one;
         only = refl;
-        exact = said.ruled.exact;
+        exact = (said.ruled.exact, said.drawn);
         ruled = reply-said _ _ c.answer_record_by-answered.result.reply said.ruled.says;
         asked = said.ruled.asked;
       };

@@ -1,0 +1,9 @@
+pub mod Widths
+pub mod Turns
+pub mod Runs
+pub mod Windows
+pub mod Comes
+pub mod Canon
+pub mod Chains
+pub mod Openings
+pub mod Desks

@@ -1,0 +1,58 @@
+-- What an opened book answered, and its log, are a run of the world.
+use Rattle.std.proofs.Common.{◌≡◌, ◌∙◌, ℕ, refl, sym, subst, arith, []}
+use Rattle.accept_book.specs.Booking.{BookOf}
+use Rattle.server_command.specs.Through.{IsOpened}
+use Rattle.server_command.specs.declared.keys.Keys.{Keys}
+use Rattle.server_command.specs.declared.options.Options.{Options}
+use Rattle.world_laws.specs.Events.{IsBook}
+use Rattle.server_laws.specs.Served.{AllAnswered, LegalAnswers}
+use Rattle.server_laws.specs.ServerRun.{opened_book, OpenedLaw, BookRunLaw}
+use Rattle.server_laws.proofs.Canon.{book_as, Agrees, is-book}
+use Rattle.server_laws.proofs.Chains.{legal-all, all-goes}
+use Rattle.server_laws.proofs.Runs.{all-served}
+
+-- ---- the opened book
+
+pub opened : OpenedLaw
+opened options keys start = record {
+  legal = tt;
+  slots = λ id. tt;
+  count = refl;
+  width = refl;
+  past = omega arith;
+  marks = record { kept = refl };
+}
+
+opened-agrees : (options : Options) (keys : Keys) (start : ℕ) (book : BookOf) → IsOpened options keys start book → Agrees book.core
+opened-agrees options keys start book o = record {
+  each = λ id. rw (o.history, o.empty) tt;
+  past = rw o.history (omega arith);
+}
+
+opened-is : (options : Options) (keys : Keys) (start : ℕ) (book : BookOf) → IsOpened options keys start book → book_as book ≡ opened_book options keys start
+opened-is options keys start book o = λ i.
+    let empty : BookOf = record {
+      setup = record { own = o.own i; keytab = o.keytab i; verifiers = o.verifiers i; bindings = o.bindings i; offer = o.offer i };
+      core = record {
+        history = o.history i;
+        limit = o.limit i;
+        width = o.width i;
+        table = record { limit = o.contexts i; width = o.width i; slots = o.empty i };
+        cache = record { capacity = o.marks i; greatest = o.greatest i; held = [] };
+      };
+    } in
+    book_as empty
+
+-- ---- its run
+
+pub book-run : BookRunLaw
+book-run options keys start first last width hands opens answered end w lane meanwhile is free =
+    let same : w.book ≡ book_as first = is ∙ sym (opened-is options keys start first opens) in
+    let agrees = opened-agrees options keys start first opens in
+    let begin : IsBook (book_as first) = is-book first (legal-all width hands first last answered end) agrees in
+    record {
+      book = book_as last;
+      logged = refl;
+      runs = all-served w lane width meanwhile hands (book_as last) (subst IsBook (sym same) begin) free
+          (subst (λ (b : BookOf). AllAnswered LegalAnswers width hands b (book_as last)) (sym same) (all-goes width hands first last answered end agrees));
+    }

@@ -1,0 +1,52 @@
+-- Records that a book answered in a row are a run of the world.
+use Rattle.std.proofs.Common.{◌≡◌, ◌∙◌, ℕ, refl, ap, sym, subst, List, [], ◌∷◌, ◌++◌, slice_get, Some, None}
+use Rattle.accept_book.specs.Booking.{BookOf}
+use Rattle.accept_book.specs.RecordShown.{Asked}
+use Rattle.gss_server.specs.Asking.{Asking}
+use Rattle.world_laws.specs.declared.event.WorldEvent.{WorldEvent}
+use Rattle.world_laws.specs.Events.{IsBook, Run}
+use Rattle.world_laws.specs.State.{InHand, World}
+use Rattle.server_laws.specs.Served.{LegalAnswers, Answered, AllAnswered, Serves, ServedLaw, Meanwhile, IsRun, AllServedLaw, ruling_at}
+use Rattle.server_laws.proofs.Turns.{serves}
+
+run-join : (a b c : World) (front later : List WorldEvent) → Run a front b → Run b later c → Run a (front ++ later) c
+run-join a b c [] later first second = subst (λ (w : World). Run w later c) first second
+run-join a b c (event ∷ front) later first second = (first.0, run-join first.0.world b c front later first.1 second)
+
+-- a book stays legal
+legal-after : (old new : BookOf) (asked : List Asked) → IsBook old → Asking LegalAnswers old asked new → IsBook new
+legal-after old new [] legal answers = subst IsBook (sym answers) legal
+legal-after old new (one ∷ more) legal answers = legal-after answers.0 new more answers.1.1 answers.2
+
+moved-answered : (a b : BookOf) (width : ℕ) (hand : InHand) (new : BookOf) → a ≡ b → Answered LegalAnswers width hand b new → Answered LegalAnswers width hand a new
+moved-answered a b width hand new same answered = subst (λ (old : BookOf). Answered LegalAnswers width hand old new) (sym same) answered
+
+-- a record is served, and then the others are
+more-run : (w : World) (lane : ℕ) (meanwhile : (w : World) → Meanwhile w) (hand : InHand) (more : List InHand) (middle book : BookOf) (t : Serves lane hand (meanwhile w).next middle)
+    → IsRun lane meanwhile more t.next book → IsRun lane meanwhile (hand ∷ more) w book
+more-run w lane meanwhile hand more middle book t r =
+    let m = meanwhile w in record {
+      events = m.events ++ (t.events ++ r.events);
+      next = r.next;
+      run = run-join w m.next r.next m.events (t.events ++ r.events) m.run (run-join m.next t.next r.next t.events r.events t.run r.run);
+      serves = (middle, t, r.serves);
+      booked = r.booked;
+    }
+
+first-turn : (w : World) (lane width : ℕ) (m : Meanwhile w) (hand : InHand) (middle : BookOf) → IsBook w.book → slice_get w.lanes lane ≡ Some None → Answered LegalAnswers width hand w.book middle
+    → Serves lane hand m.next middle
+first-turn w lane width m hand middle legal free answered =
+    serves m.next lane width hand middle (subst IsBook (sym m.book) legal) (ap (λ xs. slice_get xs lane) m.lanes ∙ free)
+    (moved-answered m.next.book w.book width hand middle m.book answered)
+
+pub all-served : AllServedLaw
+all-served w lane width meanwhile [] book legal free answered =
+    let m = meanwhile w in record { events = m.events; next = m.next; run = m.run; serves = refl; booked = m.book ∙ sym answered }
+all-served w lane width meanwhile (hand ∷ more) book legal free answered =
+    let t = first-turn w lane width (meanwhile w) hand answered.0 legal free answered.1 in
+    more-run w lane meanwhile hand more answered.0 book t
+    (all-served t.next lane width meanwhile more book (subst IsBook (sym t.booked) (legal-after w.book answered.0 (ruling_at width hand).asked legal answered.1.asked))
+    (ap (λ xs. slice_get xs lane) (t.lanes ∙ (meanwhile w).lanes) ∙ free) (subst (λ (old : BookOf). AllAnswered LegalAnswers width more old book) (sym t.booked) answered.2))
+
+pub served : ServedLaw
+served w lane width hand book legal free answered = serves w lane width hand book legal free answered

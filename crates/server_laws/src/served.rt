@@ -1,0 +1,20 @@
+//! What a server did, as the world sees it.
+
+ghost use Rattle.server_laws.specs.Served.{ServedLaw, AllServedLaw};
+ghost use Rattle.server_laws.specs.ServerRun.{OpenedLaw, BookRunLaw, ServerIsRun};
+
+use gss_server::{Keeper, Kept, Served};
+use sec_base::{Clock, Draw, Port};
+
+/// Does nothing; its contract holds that records which a book answered are events of a lane of the world, whatever width its replies tell.
+pub fn prove_served()
+    ensures record { ServedLaw }
+    ensures records { AllServedLaw }
+{}
+
+/// Does nothing; its contract holds that the log which a run of the server returns is that of a run of the world, from the book that it opened.
+pub fn prove_server_run<P: Port, C: Clock, D: Draw, K: Keeper<Kept>, S: Keeper<Served<P::Link>>>()
+    ensures opened { OpenedLaw }
+    ensures book { BookRunLaw }
+    ensures run { ServerIsRun P.Port P.Link.Link C.Clock D.Draw K.Keeper S.Keeper }
+{}
