@@ -119,22 +119,22 @@ append-none : (xs : List MechMaking) → xs ++ [] ≡ xs
 append-none [] = refl
 append-none (x ∷ xs) = ap (λ (l : List MechMaking). x ∷ l) (append-none xs)
 
-takes-found : (laws : Below) (marking : Marking) (old : World) (i xid : ℕ) (end : InitEnd) (octets : List ℕ) (r : Result Created ClientRefusal) → Built marking old → slice_get old.facts i ≡ Some (own_of end) → GoodInit end → EndFound marking old end
-    → Behind xid end octets r → Verified marking old (created_by xid end octets r).found → StageFound marking old i (created_by xid end octets r).stage
-takes-found laws marking old i xid end octets (Err refusal) built there good f s found = over-found marking old i
-takes-found laws marking old i xid end octets (Ok (created.Going offer)) built there good f s found =
+takes-found : (laws : Below) (marking : Marking) (old : World) (i first xid : ℕ) (end : InitEnd) (octets : List ℕ) (r : Result Created ClientRefusal) → Built marking old → slice_get old.facts i ≡ Some (own_of end) → GoodInit end → EndFound marking old end
+    → Behind xid end octets r → Verified marking old (created_by first xid end octets r).found → StageFound marking old i (created_by first xid end octets r).stage
+takes-found laws marking old i first xid end octets (Err refusal) built there good f s found = over-found marking old i
+takes-found laws marking old i first xid end octets (Ok (created.Going offer)) built there good f s found =
     asks-found marking old i _ offer.end (going marking old xid end offer.end octets offer.token s (laws.init.steps end s.token s.taken good s.steps)
     (step-of laws marking old i xid end octets (steps.More offer.end offer.token) built there f s (laws.init.steps end s.token s.taken good s.steps)
     (verified-in marking old [] (initiated xid end octets) s.taken s.is (subst (Verified marking old) (sym (append-none (verified (initiated xid end octets)))) found))))
-takes-found laws marking old i xid end octets (Ok (created.Stands outcome handle)) built there good f s found =
+takes-found laws marking old i first xid end octets (Ok (created.Stands outcome handle)) built there good f s found =
     stands-found marking old i _ (standing marking old i xid end octets outcome s (laws.init.steps end s.token s.taken good s.steps) there
     (step-of laws marking old i xid end octets (steps.Done outcome) built there f s (laws.init.steps end s.token s.taken good s.steps)
     (verified-in marking old (window_found outcome (granted_in xid octets)) (initiated xid end octets) s.taken s.is found)))
 
-takes-lost : (marking : Marking) (old : World) (i xid : ℕ) (end : InitEnd) (octets : List ℕ) (r : Result Created ClientRefusal) → StageFound marking old i (created_by xid end octets r).lost
-takes-lost marking old i xid end octets (Err refusal) = over-found marking old i
-takes-lost marking old i xid end octets (Ok (created.Going offer)) = over-found marking old i
-takes-lost marking old i xid end octets (Ok (created.Stands outcome handle)) = over-found marking old i
+takes-lost : (marking : Marking) (old : World) (i first xid : ℕ) (end : InitEnd) (octets : List ℕ) (r : Result Created ClientRefusal) → StageFound marking old i (created_by first xid end octets r).lost
+takes-lost marking old i first xid end octets (Err refusal) = over-found marking old i
+takes-lost marking old i first xid end octets (Ok (created.Going offer)) = over-found marking old i
+takes-lost marking old i first xid end octets (Ok (created.Stands outcome handle)) = over-found marking old i
 
 -- ---- it moves
 
@@ -146,10 +146,10 @@ pub record MoveFound (marking : Marking) (old : World) (i : ℕ) (moved : Moved)
 starting : (laws : Below) (marking : Marking) (old : World) (i : ℕ) (own : InitSetup) → MoveFound marking old i (starts own)
 starting laws marking old i own = record { did = λ found. starts-found laws marking old i own (init_start own) refl; lost = starts-lost marking old i (init_start own) }
 
-taking : (laws : Below) (marking : Marking) (old : World) (i xid : ℕ) (end : InitEnd) (octets : List ℕ) → Built marking old → slice_get old.facts i ≡ Some (own_of end) → GoodInit end → EndFound marking old end → MoveFound marking old i (takes xid end octets)
-taking laws marking old i xid end octets built there good f = record {
-  did = λ found. takes-found laws marking old i xid end octets (creation_step end xid octets) built there good f (behind xid end octets) found;
-  lost = takes-lost marking old i xid end octets (creation_step end xid octets);
+taking : (laws : Below) (marking : Marking) (old : World) (i first xid : ℕ) (end : InitEnd) (octets : List ℕ) → Built marking old → slice_get old.facts i ≡ Some (own_of end) → GoodInit end → EndFound marking old end → MoveFound marking old i (takes first xid end octets)
+taking laws marking old i first xid end octets built there good f = record {
+  did = λ found. takes-found laws marking old i first xid end octets (creation_step end xid octets) built there good f (behind xid end octets) found;
+  lost = takes-lost marking old i first xid end octets (creation_step end xid octets);
 }
 
 calling : (marking : Marking) (old : World) (i : ℕ) (s : SessionState) (procedure : ℕ) (args : List ℕ) → ((own : InitSetup) → slice_get old.facts i ≡ Some own → OutcomeFound marking old own s.outcome) → MoveFound marking old i (calls s procedure args)
@@ -157,8 +157,8 @@ calling marking old i s procedure args f = record { did = λ found. stands-found
 
 pub move-found : (laws : Below) (marking : Marking) (old : World) (i : ℕ) (moved : Moved) → Known old → Founds marking old → Built marking old → Move old i moved → MoveFound marking old i moved
 move-found laws marking old i moved known f built (Starting own there is) = subst (MoveFound marking old i) (sym is) (starting laws marking old i own)
-move-found laws marking old i moved known f built (Taking xid end octets there is) =
-    subst (MoveFound marking old i) (sym is) (taking laws marking old i xid end octets built (known.asks i xid end there).0 (known.asks i xid end there).1 (f.asks i xid end there))
+move-found laws marking old i moved known f built (Taking first xid end octets there is) =
+    subst (MoveFound marking old i) (sym is) (taking laws marking old i first xid end octets built (known.asks i xid end there).0 (known.asks i xid end there).1 (f.asks i xid end there))
 move-found laws marking old i moved known f built (Calling s procedure args there left served proper is) =
     subst (MoveFound marking old i) (sym is) (calling marking old i s procedure args (λ own facts. f.completed i own s.outcome (record {
       there = facts;

@@ -96,7 +96,7 @@ move-sessions : (w : World) (i : ℕ) (moved : Moved) → Move w i moved → (j 
     → StandsAt (slice_set w.stages i moved.stage) j outcome × StandsAt (slice_set w.stages i moved.lost) j outcome
 move-sessions w i moved (Starting own there is) j outcome s =
     (stands-fresh w.stages i j (stages.Ready own) moved.stage outcome there refl s, stands-fresh w.stages i j (stages.Ready own) moved.lost outcome there refl s)
-move-sessions w i moved (Taking xid end octets there is) j outcome s =
+move-sessions w i moved (Taking first xid end octets there is) j outcome s =
     (stands-fresh w.stages i j (stages.Asks xid end) moved.stage outcome there refl s, stands-fresh w.stages i j (stages.Asks xid end) moved.lost outcome there refl s)
 move-sessions w i moved (Calling session procedure args there left served proper is) j outcome s = subst
     (λ (m : Moved). StandsAt (slice_set w.stages i m.stage) j outcome × StandsAt (slice_set w.stages i m.lost) j outcome) (sym is) (
@@ -216,7 +216,7 @@ completed-stays old new i own outcome g c =
 fronts-on : (a b c : List Entry) → Fronts a b → Fronts b c → Fronts a c
 fronts-on a b c f g = record { more = g.more ++ f.more; is = g.is ∙ (ap (λ (h : List Entry). g.more ++ h) f.is ∙ sym (append_assoc g.more f.more a)) }
 
-grows-on : (a b c : World) → Grows a b → Grows b c → Grows a c
+pub grows-on : (a b c : World) → Grows a b → Grows b c → Grows a c
 grows-on a b c f g = record {
   facts = g.facts ∙ f.facts;
   setup = g.setup ∙ f.setup;

@@ -17,7 +17,7 @@ use Rattle.world_laws.specs.Events.{Idles, Moves, StartsBy, DeliversBy, CallsBy,
 -- an initiator's move, from where it is
 pub data Move (w : World) (i : ℕ) (moved : Moved) : Type 0 where
   Starting : (own : InitSetup) → slice_get w.stages i ≡ Some (stages.Ready own) → moved ≡ starts own → Move w i moved
-  Taking : (xid : ℕ) (end : InitEnd) (octets : List ℕ) → slice_get w.stages i ≡ Some (stages.Asks xid end) → moved ≡ takes xid end octets → Move w i moved
+  Taking : (first xid : ℕ) (end : InitEnd) (octets : List ℕ) → slice_get w.stages i ≡ Some (stages.Asks xid end) → moved ≡ takes first xid end octets → Move w i moved
   Calling : (s : SessionState) (procedure : ℕ) (args : List ℕ) → slice_get w.stages i ≡ Some (stages.Stands s) → nat_le s.number 0x7fffffff ≡ true → procedure ≤ 4 → are_args procedure args ≡ true
       → moved ≡ calls s procedure args → Move w i moved
 
@@ -34,13 +34,13 @@ started old i (Some (stages.Stands s)) deed new there did = Idling did
 started old i (Some (stages.Left s)) deed new there did = Idling did
 started old i (Some stages.Over) deed new there did = Idling did
 
-delivered : (old : World) (i : ℕ) (octets : List ℕ) (stage : Option Stage) (deed : Deed) (new : World) → slice_get old.stages i ≡ stage → DeliversBy old i octets stage deed new → Came old deed new
-delivered old i octets None deed new there did = Idling did
-delivered old i octets (Some (stages.Ready own)) deed new there did = Idling did
-delivered old i octets (Some (stages.Asks xid end)) deed new there did = Moving i (takes xid end octets) (Taking xid end octets there refl) did
-delivered old i octets (Some (stages.Stands s)) deed new there did = Idling did
-delivered old i octets (Some (stages.Left s)) deed new there did = Idling did
-delivered old i octets (Some stages.Over) deed new there did = Idling did
+delivered : (old : World) (i : ℕ) (octets : List ℕ) (first : ℕ) (stage : Option Stage) (deed : Deed) (new : World) → slice_get old.stages i ≡ stage → DeliversBy old i octets first stage deed new → Came old deed new
+delivered old i octets first None deed new there did = Idling did
+delivered old i octets first (Some (stages.Ready own)) deed new there did = Idling did
+delivered old i octets first (Some (stages.Asks xid end)) deed new there did = Moving i (takes first xid end octets) (Taking first xid end octets there refl) did
+delivered old i octets first (Some (stages.Stands s)) deed new there did = Idling did
+delivered old i octets first (Some (stages.Left s)) deed new there did = Idling did
+delivered old i octets first (Some stages.Over) deed new there did = Idling did
 
 numbered : (old : World) (i : ℕ) (s : SessionState) (procedure : ℕ) (args : List ℕ) (deed : Deed) (new : World) (b : Bool) → slice_get old.stages i ≡ Some (stages.Stands s) → procedure ≤ 4 → are_args procedure args ≡ true
     → nat_le s.number 0x7fffffff ≡ b → CallsBy old i procedure args (Some (stages.Stands s)) deed new → Came old deed new
@@ -63,6 +63,6 @@ in-lane old lane octets now draws (Some hand) deed new there did = Laning lane h
 
 pub came : (old : World) (event : WorldEvent) (deed : Deed) (new : World) → Happens old event deed new → Came old deed new
 came old (Start i) deed new h = started old i (slice_get old.stages i) deed new refl h.did
-came old (Deliver i octets) deed new h = delivered old i octets (slice_get old.stages i) deed new refl h.did
+came old (Deliver i octets first) deed new h = delivered old i octets first (slice_get old.stages i) deed new refl h.did
 came old (Lane lane octets now draws) deed new h = in-lane old lane octets now draws (slice_get old.lanes lane) deed new refl h.did
 came old (CallBy i procedure args) deed new h = called old i procedure args (slice_get old.stages i) deed new refl h.proper.0 h.proper.1 h.did

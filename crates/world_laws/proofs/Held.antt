@@ -156,13 +156,13 @@ start-held old i (Some (stages.Stands s)) deed new held did = idles-held old dee
 start-held old i (Some (stages.Left s)) deed new held did = idles-held old deed new held did
 start-held old i (Some stages.Over) deed new held did = idles-held old deed new held did
 
-deliver-held : (old : World) (i : ℕ) (octets : List ℕ) (stage : Option Stage) (deed : Deed) (new : World) → Held old → DeliversBy old i octets stage deed new → Held new
-deliver-held old i octets None deed new held did = idles-held old deed new held did
-deliver-held old i octets (Some (stages.Ready own)) deed new held did = idles-held old deed new held did
-deliver-held old i octets (Some (stages.Asks xid end)) deed new held did = moved-held old i _ deed new held did
-deliver-held old i octets (Some (stages.Stands s)) deed new held did = idles-held old deed new held did
-deliver-held old i octets (Some (stages.Left s)) deed new held did = idles-held old deed new held did
-deliver-held old i octets (Some stages.Over) deed new held did = idles-held old deed new held did
+deliver-held : (old : World) (i : ℕ) (octets : List ℕ) (first : ℕ) (stage : Option Stage) (deed : Deed) (new : World) → Held old → DeliversBy old i octets first stage deed new → Held new
+deliver-held old i octets first None deed new held did = idles-held old deed new held did
+deliver-held old i octets first (Some (stages.Ready own)) deed new held did = idles-held old deed new held did
+deliver-held old i octets first (Some (stages.Asks xid end)) deed new held did = moved-held old i _ deed new held did
+deliver-held old i octets first (Some (stages.Stands s)) deed new held did = idles-held old deed new held did
+deliver-held old i octets first (Some (stages.Left s)) deed new held did = idles-held old deed new held did
+deliver-held old i octets first (Some stages.Over) deed new held did = idles-held old deed new held did
 
 with-held : (left : Bool) (old : World) (i : ℕ) (s : SessionState) (procedure : ℕ) (args : List ℕ) (deed : Deed) (new : World) → Held old → CallsWith left old i s procedure args deed new → Held new
 with-held true old i s procedure args deed new held did = moved-held old i (calls s procedure args) deed new held did
@@ -186,7 +186,7 @@ lanes-held laws old lane octets now draws (Some hand) deed new held there is did
 
 event-held : (laws : BookLaws) (old : World) (event : WorldEvent) (deed : Deed) (new : World) → Held old → HappensBy old event deed new → IsBook new.book → Held new
 event-held laws old (Start i) deed new held did is = start-held old i (slice_get old.stages i) deed new held did
-event-held laws old (Deliver i octets) deed new held did is = deliver-held old i octets (slice_get old.stages i) deed new held did
+event-held laws old (Deliver i octets first) deed new held did is = deliver-held old i octets first (slice_get old.stages i) deed new held did
 event-held laws old (Lane lane octets now draws) deed new held did is = lanes-held laws old lane octets now draws (slice_get old.lanes lane) deed new held refl is did
 event-held laws old (CallBy i procedure args) deed new held did is = call-held old i procedure args (slice_get old.stages i) deed new held did
 

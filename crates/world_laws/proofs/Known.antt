@@ -73,18 +73,18 @@ move-known laws w i moved k (Starting own there is) = subst (λ (m : Moved). Kno
   | inl e ↦ subst (λ (m : Moved). KnownStage w.facts i m.stage × KnownStage w.facts i m.lost) (sym e) (tt, tt)
   | inr by ↦ starting-known laws w i own there k by
 ])
-move-known laws w i moved k (Taking xid end octets there is) = subst (λ (m : Moved). KnownStage w.facts i m.stage × KnownStage w.facts i m.lost) (sym is) (elim (takes-by xid end octets) [
+move-known laws w i moved k (Taking first xid end octets there is) = subst (λ (m : Moved). KnownStage w.facts i m.stage × KnownStage w.facts i m.lost) (sym is) (elim (takes-by first xid end octets) [
   | inl e ↦ subst (λ (m : Moved). KnownStage w.facts i m.stage × KnownStage w.facts i m.lost) (sym e) (tt, tt)
   | inr more ↦ elim more [
-    | inl by ↦ going-known laws w i xid end octets (takes xid end octets) there k by
-    | inr by ↦ stood-known w i xid end octets (takes xid end octets) by
+    | inl by ↦ going-known laws w i xid end octets (takes first xid end octets) there k by
+    | inr by ↦ stood-known w i xid end octets (takes first xid end octets) by
   ]
 ])
 move-known laws w i moved k (Calling s procedure args there left served proper is) = subst (λ (m : Moved). KnownStage w.facts i m.stage × KnownStage w.facts i m.lost) (sym is) (tt, tt)
 
 move-there : (w : World) (i : ℕ) (moved : Moved) → Move w i moved → (stage : Stage) × (slice_get w.stages i ≡ Some stage)
 move-there w i moved (Starting own there is) = (_, there)
-move-there w i moved (Taking xid end octets there is) = (_, there)
+move-there w i moved (Taking first xid end octets there is) = (_, there)
 move-there w i moved (Calling s procedure args there left served proper is) = (_, there)
 
 -- ---- a step

@@ -79,7 +79,12 @@ pub mod Quiet
 pub mod Headlines
 pub mod MetTokens
 pub mod MetRecords
-pub mod MetEvents
+pub mod MetCalled
+mod MetCalls
+mod MetEvents
+mod MetRules
+pub mod MetLater
+mod MetSpoken
 pub mod MetWhole
 pub mod Told
 pub mod Beginning

@@ -1,5 +1,5 @@
 -- One exchange, event by event: the initiator starts, its record comes to a lane, and the reply to the initiator.
-use Rattle.std.proofs.Common.{◌≡◌, ◌≢◌, inl, inr, ℕ, ◌+◌, ◌<◌, ◌≤◌, false, lit<, refl, sym, ap, ◌∙◌, subst, arith, nat_lt, nat_le, List, [], ◌∷◌, ◌++◌, length, take, slice_get, slice_set, option_map, option_to_list, Option, Some, None, Result, Ok}
+use Rattle.std.proofs.Common.{◌≡◌, ◌≢◌, inl, inr, ℕ, ◌+◌, ◌<◌, ◌≤◌, true, false, lit<, refl, sym, ap, ◌∙◌, subst, arith, nat_lt, nat_le, List, [], ◌∷◌, ◌++◌, length, take, slice_get, slice_set, option_map, option_to_list, Option, Some, None, Result, Ok}
 use Rattle.std.specs.Prelude.{max}
 use Rattle.std.proofs.lemmas.Bool.Decides.{nat_tests}
 use Rattle.std.proofs.lemmas.Option.{none-some, same_Some}
@@ -35,9 +35,9 @@ use Rattle.accept_book.specs.declared.entry.Entry.{Entry}
 use Rattle.accept_book.specs.declared.entry.Entry.TheVariants.{Settled}
 use Rattle.accept_book.specs.Booking.{BookOf, Outcomes, raised, names_of, negotiated}
 use Rattle.accept_book.specs.BookAnswers.{BookStepped}
-use Rattle.accept_book.specs.Entering.{noted, started}
+use Rattle.accept_book.specs.Entering.{lapsed, noted, started}
 use Rattle.accept_book.specs.Found.{step_taken, makes_of, found_of, fixes_of}
-use Rattle.accept_book.specs.History.{opened, taken_of}
+use Rattle.accept_book.specs.History.{numbers, opened, taken_of}
 use Rattle.accept_book.specs.RecordShown.{KeptAnswers, Question, Negotiate, Look, Admit, End, Asked, AskedStep, AskedLook, AskedAdmit, AskedEnd, Ruling, handle_of}
 use Rattle.accept_book.specs.RecordRule.{stepped, ask_step, record_ruling}
 use Rattle.gss_client.specs.declared.creation.Created.{Created}
@@ -61,6 +61,7 @@ use Rattle.world_laws.specs.Events.{Moves, LanesBy, Happens}
 use Rattle.world_laws.proofs.Due.{stepped-due}
 use Rattle.world_laws.proofs.MetRecords.{call_with, shown_with, asks-step, reply_with, granted-is, creation-stands, window-is}
 use Rattle.world_laws.proofs.MetTokens.{own_with, Both, exchanges, end_with, token_with, started_with, begins, best-is, judged_with, outcome_with, reply_to, accepted_with, steps-to, initiated_with as step_with, reply-short, takes-reply}
+use Rattle.world_laws.proofs.Slices.{set-same}
 use Rattle.world_laws.proofs.Undecided.{undecided, unanswered}
 
 -- what the exchange has
@@ -76,6 +77,7 @@ pub record Case : Type 0 where
   pub lanes : List (Option InHand)
   pub idle : slice_get lanes 0 ≡ Some None
   pub both : Both book.setup now (take 66 drawn) credential rest stamp draws bindings
+  pub empty : book.core.history ≡ []
   pub log : length book.core.history + 4 ≤ book.core.limit
   pub table : live_of book.core.table < book.core.table.limit
   pub mark : cache_verdict book.core.cache.capacity (max book.core.cache.greatest now) (taken_of book.core.history) (judged_mark (judged_with credential stamp bindings book.setup now both.fits.fit)) ≡ Taken
@@ -167,6 +169,12 @@ pub record CameTo (c : Case) (outcomes : Outcomes) : Type 0 where
   pub earlier : List Entry
   pub at : ℕ
   pub history : outcomes.history ≡ Settled (id_in c) kinds.Kerberos (names_of (outcome_of c)) (judged_of c).ends at ∷ earlier
+  pub uncalled : numbers (id_in c) earlier ≡ []
+  pub few : length earlier ≡ 2
+
+-- no context lapsed for it
+none-lapsed : (c : Case) (past : Option ℕ) → lapsed (nat_lt (live_of c.book.core.table) c.book.core.table.limit) past c.book.core.history ≡ []
+none-lapsed c past = let roomy : nat_lt (live_of c.book.core.table) c.book.core.table.limit ≡ true = (let few = c.table in grind (arith, nat_tests)) in rw roomy c.empty
 
 came-to : (c : Case) (past : Option ℕ) → CameTo c (negotiated c.book.setup (raised c.book.core c.now) None past (token_of c) c.now (take 66 c.drawn))
 came-to c past = rw (room c, place c, accepts c, c.mark) (record {
@@ -174,6 +182,8 @@ came-to c past = rw (room c, place c, accepts c, c.mark) (record {
   earlier = noted (Some (judged_mark (judged_of c))) (id_in c) (max c.book.core.cache.greatest c.now) (started None (nat_lt (live_of c.book.core.table) c.book.core.table.limit) past (max c.book.core.cache.greatest c.now) c.book.core.history);
   at = max c.book.core.cache.greatest c.now;
   history = refl;
+  uncalled = ap (numbers (id_in c)) (none-lapsed c past);
+  few = omega (arith, ap (length {A = Entry}) (none-lapsed c past));
 })
 
 -- the answer to the question
@@ -225,6 +235,10 @@ pub record Answers (c : Case) (deed : Deed) (new : World) : Type 0 where
   pub earlier : List Entry
   pub at : ℕ
   pub history : book.core.history ≡ Settled (id_in c) kinds.Kerberos (names_of (outcome_of c)) (judged_of c).ends at ∷ earlier
+  pub idle : slice_get lanes 0 ≡ Some None
+  pub limit : book.core.limit ≡ c.book.core.limit
+  pub uncalled : numbers (id_in c) earlier ≡ []
+  pub few : length earlier ≡ 2
 
 -- a reply that is due, where something was answered
 sent-by : (r : Ruling) (octets : List ℕ) → r.reply ≡ Some octets → (happened : Happened) → IsAnswer r (Some happened) → happened ≡ Sent octets
@@ -242,14 +256,16 @@ after-is : (c : Case) (answer : Negotiated) → record_ruling (call_with (token_
 after-is c answer = asks-step (token_of c) (kept_after c answer) told_width c.both.short
 
 -- what follows, by what the book answered
-record Said (c : Case) (answer : Negotiated) (happened : Happened) : Type 0 where
+record Said (c : Case) (answer : Negotiated) (happened : Happened) (left : Option InHand) : Type 0 where
+  nothing : left ≡ None
   remembered : answer.answer ≢ answers.NoMemory
   sent : answer.answer ≡ settled_answer c → happened ≡ Sent (reply_of c)
 
-said-by : (c : Case) (answer : Negotiated) (happened : Happened) (left : Option InHand) → Follows (record { octets = call_with (token_of c); kept = kept_after c answer }) (Some happened) left → Said c answer happened
+said-by : (c : Case) (answer : Negotiated) (happened : Happened) (left : Option InHand) → Follows (record { octets = call_with (token_of c); kept = kept_after c answer }) (Some happened) left → Said c answer happened left
 said-by c answer happened left (inl more) =
     absurd (none-some more.0 (sym (stepped-due (shown_with (token_of c) (kept_after c answer) told_width) answer.answer) ∙ (sym (ap (λ (r : Ruling). r.due) (after-is c answer)) ∙ more.1)))
 said-by c answer happened left (inr said) = record {
+  nothing = said.1;
   remembered = λ short. (let zero : (record_ruling (call_with (token_of c)) (kept_after c answer) told_width).rule ≡ 0 = ap (λ (r : Ruling). r.rule) (after-is c answer) ∙ ap (λ (a : NegAnswer). (stepped (shown_with (token_of c) (kept_after c answer) told_width) a).rule) short in
       none-some happened (sym (unanswered (record_ruling (call_with (token_of c)) (kept_after c answer) told_width) (Some happened) zero said.0)));
   sent = λ is. sent-by (record_ruling (call_with (token_of c)) (kept_after c answer) told_width) (reply_of c)
@@ -274,7 +290,7 @@ answered-by : (c : Case) (happened : Happened) (deed : Deed) (new : World) (past
     → deed.fixes ≡ fixes_by c.book past (AskedStep None (token_of c) c.now (take 66 c.drawn) answer)
     → new ≡ with_lane (second_world c) 0 left new.book deed → Answers c deed new
 answered-by c happened deed new past left answer some late stepped follows makes found opened fixes new_is =
-    let said : Said c answer happened = said-by c answer happened left (subst (λ (a : Option Happened). Follows (record { octets = call_with (token_of c); kept = kept_after c answer }) a left) some follows) in
+    let said : Said c answer happened left = said-by c answer happened left (subst (λ (a : Option Happened). Follows (record { octets = call_with (token_of c); kept = kept_after c answer }) a left) some follows) in
     let o = stepped.comes.outcome past late said.remembered in
     let came : CameTo c (negotiated c.book.setup (raised c.book.core c.now) None past (token_of c) c.now (take 66 c.drawn)) = came-to c past in
     let is : answer.answer ≡ settled_answer c = o.answer ∙ came.answer in
@@ -308,6 +324,10 @@ answered-by c happened deed new past left answer some late stepped follows makes
       earlier = came.earlier;
       at = came.at;
       history = o.history ∙ came.history;
+      idle = set-same c.lanes 0 left None c.idle ∙ ap Some said.nothing;
+      limit = stepped.notes.limit;
+      uncalled = came.uncalled;
+      few = came.few;
     }
 
 answers-by : (c : Case) (happened : Happened) (deed : Deed) (new : World) → deed.answer ≡ Some happened → LaneMoves (second_world c) 0 (hand_of c) deed new → Answers c deed new
@@ -360,8 +380,8 @@ created-is c = creation-stands (end_of c) (outcome_of c) (id_in c) told_width (r
 initiated-is : (c : Case) → initiated 1 (end_of c) (reply_of c) ≡ Some (step_with (judged_of c) (take 66 c.drawn))
 initiated-is c = ap (initiated_with (end_of c)) (granted-is (outcome_of c) (id_in c) told_width (reply_to (judged_of c) (take 66 c.drawn)) (lit< tt) (short-so c)) ∙ ap initiated_by (takes-so c)
 
-stands-by : (c : Case) (book : BookOf) (lanes : List (Option InHand)) (deed : Deed) (new : World) → deed.answer ≢ None → Moves (third_world c book lanes) 0 (takes 1 (end_of c) (reply_of c)) deed new → Stands c book lanes deed new
-stands-by c book lanes deed new some moves = by (subst (λ (r : Result Created ClientRefusal). Moves (third_world c book lanes) 0 (created_by 1 (end_of c) (reply_of c) r) deed new) (created-is c) moves)
+stands-by : (c : Case) (book : BookOf) (lanes : List (Option InHand)) (deed : Deed) (new : World) → deed.answer ≢ None → Moves (third_world c book lanes) 0 (takes 1 1 (end_of c) (reply_of c)) deed new → Stands c book lanes deed new
+stands-by c book lanes deed new some moves = by (subst (λ (r : Result Created ClientRefusal). Moves (third_world c book lanes) 0 (created_by 1 1 (end_of c) (reply_of c) r) deed new) (created-is c) moves)
   where
     none : handed_out (initiated 1 (end_of c) (reply_of c)) ≡ []
     none = ap handed_out (initiated-is c)
@@ -370,7 +390,7 @@ stands-by c book lanes deed new some moves = by (subst (λ (r : Result Created C
     found = ap (λ (i : Option Initiated). verified i ++ window_found (outcome_of c) (granted_in 1 (reply_of c))) (initiated-is c)
         ∙ ap (λ (ms : List MechMaking). answer_of c ∷ ms) (window-is (outcome_of c) (id_in c) told_width (reply_to (judged_of c) (take 66 c.drawn)) (lit< tt) (short-so c))
 
-    by : Moves (third_world c book lanes) 0 (created_by 1 (end_of c) (reply_of c) (Ok (created.Stands (outcome_of c) (handle_of (id_in c))))) deed new → Stands c book lanes deed new
+    by : Moves (third_world c book lanes) 0 (created_by 1 1 (end_of c) (reply_of c) (Ok (created.Stands (outcome_of c) (handle_of (id_in c))))) deed new → Stands c book lanes deed new
     by (inl m) = record {
       answer = ap (λ (d : Deed). d.answer) m.0;
       found = ap (λ (d : Deed). d.found) m.0 ∙ found;
@@ -386,5 +406,5 @@ stands-by c book lanes deed new some moves = by (subst (λ (r : Result Created C
     }
     by (inr m) = absurd (some (ap (λ (d : Deed). d.answer) m.0))
 
-pub stands-so : (c : Case) (book : BookOf) (lanes : List (Option InHand)) (deed : Deed) (new : World) → Happens (third_world c book lanes) (Deliver 0 (reply_of c)) deed new → deed.answer ≢ None → Stands c book lanes deed new
+pub stands-so : (c : Case) (book : BookOf) (lanes : List (Option InHand)) (deed : Deed) (new : World) → Happens (third_world c book lanes) (Deliver 0 (reply_of c) 1) deed new → deed.answer ≢ None → Stands c book lanes deed new
 stands-so c book lanes deed new h some = stands-by c book lanes deed new some h.did

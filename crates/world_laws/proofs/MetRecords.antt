@@ -104,7 +104,7 @@ granted_with outcome id width token = record {
   result = result_with id width token;
 }
 
-mic-size : (end : TokenEnd) (number : ℕ) (octets : List ℕ) → length (mic_of end number octets) ≡ 28
+pub mic-size : (end : TokenEnd) (number : ℕ) (octets : List ℕ) → length (mic_of end number octets) ≡ 28
 unfolding mic_of mic_header
 mic-size end number octets = omega (arith, length-checksum_of end.key (sign_usage end.side) (octets ++ mic_header end number))
 

@@ -1,7 +1,9 @@
 -- That the premises can be met: of one exchange by Kerberos, nothing is forged, all is fresh, and both ends complete.
-use Rattle.std.proofs.Common.{◌≡◌, inl, inr, ℕ, zero, suc, ◌<◌, true, false, refl, sym, ap, ◌∙◌, subst, arith, List, [], ◌∷◌, ◌++◌, length, map, replicate, take, slice_get, Option, Some, None}
+use Rattle.std.proofs.Common.{◌≡◌, inl, inr, ℕ, zero, suc, ◌+◌, ◌<◌, true, refl, sym, ap, ◌∙◌, subst, arith, List, [], ◌∷◌, length, map, replicate, take, slice_get, Option, Some, None}
+use Rattle.std.proofs.lemmas.Bool.{eq-eqb}
 use Rattle.std.proofs.lemmas.List.{length-take-le}
 use Rattle.std.proofs.lemmas.Option.{none-some, same_Some}
+use Rattle.gss_base.specs.declared.mech.MechKind.{MechKind}
 use Rattle.gss_base.specs.declared.mech.MechKind.TheVariants as kinds
 use Rattle.krb_files.specs.Granted.{Granted}
 use Rattle.ap_exchange.specs.Judging.{client_granted}
@@ -21,6 +23,7 @@ use Rattle.gss_client.specs.Session.{SessionState}
 use Rattle.accept_book.specs.declared.entry.Entry.{Entry}
 use Rattle.accept_book.specs.declared.entry.Entry.TheVariants.{Settled}
 use Rattle.accept_book.specs.Booking.{BookOf, names_of}
+use Rattle.accept_book.specs.History.{Whole, standing, numbers, opened}
 use Rattle.world_laws.specs.declared.event.Happened.{Happened}
 use Rattle.world_laws.specs.declared.event.Happened.TheVariants.{Sent, Completed}
 use Rattle.world_laws.specs.declared.event.WorldEvent.{WorldEvent}
@@ -30,9 +33,9 @@ use Rattle.world_laws.specs.declared.stage.Stage.TheVariants as stages
 use Rattle.world_laws.specs.Deeds.{Opened, Deed}
 use Rattle.world_laws.specs.State.{InHand, Context, World}
 use Rattle.world_laws.specs.Lanes.{told_width}
-use Rattle.world_laws.specs.Events.{Happens, Run, Begins}
-use Rattle.world_laws.specs.Meeting.{Meeting, IsMet, sent_in, completed_in}
-use Rattle.world_laws.specs.Premises.{Ticket, Marking, Listed, GuardedSession, WasMade, WasIssued, WasSettled, Unforged, NoForgery, OnProof, HasTicket, session_in, Completed as CompletedWith, Fresh}
+use Rattle.world_laws.specs.Events.{Run, Begins}
+use Rattle.world_laws.specs.Meeting.{AtStart, Meeting, IsMet, Rests, IsCarried, sent_in, completed_in}
+use Rattle.world_laws.specs.Premises.{Ticket, Marking, Listed, GuardedSession, WasMade, WasIssued, WasSettled, Unforged, OnProof, HasTicket, session_in, Completed as CompletedWith, Fresh}
 use Rattle.world_laws.specs.Setups.{IsSetup}
 use Rattle.world_laws.specs.Showing.{Shown, Shows, Ran, Follows, Steps}
 use Rattle.world_laws.proofs.HeldHistory.{at-head}
@@ -40,6 +43,7 @@ use Rattle.world_laws.proofs.Kerberos.{same-cred, not-both}
 use Rattle.world_laws.proofs.MetRecords.{call_with}
 use Rattle.world_laws.proofs.MetTokens.{own_with, Both}
 use Rattle.world_laws.proofs.MetEvents as events
+use Rattle.world_laws.proofs.MetSpoken.{Walked, Past, steps-on}
 
 -- ---- the marking: the initiator's ticket, whose parties are honest
 
@@ -166,14 +170,17 @@ reply-forged c book lanes deed new settled s = record {
 
 -- ---- the run
 
+-- a run so far, in which nothing was forged
+abbrev PastOf : events.Case → Shown → World → Type 0
+PastOf c shown now = Past (marking_of c) (events.first_world c) shown now
+
 -- what is known before the first event
 pub record Ready (shown : Shown) (now : ℕ) (draws : List ℕ) : Type 0 where
   pub c : events.Case
   pub begins : Begins (events.first_world c)
-  pub shows : Shows (events.first_world c) shown
   pub now_is : c.now ≡ now
   pub drawn_is : c.drawn ≡ draws
-  pub nothing : shown.events ≡ []
+  pub past : PastOf c shown (events.first_world c)
 
 abbrev pub first_event : WorldEvent
 first_event = Start 0
@@ -182,128 +189,106 @@ abbrev pub second_event : events.Case → WorldEvent
 second_event c = Lane 0 (call_with (events.token_of c)) c.now c.drawn
 
 abbrev pub third_event : events.Case → WorldEvent
-third_event c = Deliver 0 (events.reply_of c)
+third_event c = Deliver 0 (events.reply_of c) 1
 
 -- after the first event
 pub record Started (c : events.Case) (happened : Happened) (shown : Shown) : Type 0 where
   pub sent : happened ≡ Sent (call_with (events.token_of c))
-  pub deed : Deed
-  pub happens : Happens (events.first_world c) first_event deed (events.second_world c)
-  pub unforged : Unforged (marking_of c) (events.first_world c) deed
-  pub shows : Shows (events.second_world c) shown
+  pub past : PastOf c shown (events.second_world c)
 
-pub started : (c : events.Case) (happened : Happened) (old shown : Shown) → Shows (events.first_world c) old → Steps first_event (Some happened) old shown → Started c happened shown
-started c happened old shown shows steps = by (steps.follows (events.first_world c) shows)
+pub started : (c : events.Case) (happened : Happened) (old shown : Shown) → PastOf c old (events.first_world c) → Steps first_event (Some happened) old shown → Started c happened shown
+started c happened old shown past steps = by (steps.follows (events.first_world c) past.shows)
   where
     with : (f : Follows first_event (Some happened) (events.first_world c) shown) → events.Starts c f.deed f.new → Started c happened shown
     with f s = record {
       sent = same_Some happened (Sent (call_with (events.token_of c))) (sym f.answered ∙ s.answer);
-      deed = f.deed;
-      happens = subst (λ (w : World). Happens (events.first_world c) first_event f.deed w) s.new_is f.happens;
-      unforged = none-forged (marking_of c) (events.first_world c) f.deed s.found s.opened;
-      shows = subst (λ (w : World). Shows w shown) s.new_is f.shows;
+      past = steps-on (marking_of c) (events.first_world c) first_event happened (events.first_world c) (events.second_world c) old shown past steps f s.new_is (none-forged (marking_of c) (events.first_world c) f.deed s.found s.opened);
     }
 
     by : Follows first_event (Some happened) (events.first_world c) shown → Started c happened shown
     by f = with f (events.starts-so c f.deed f.new f.happens (λ e. none-some happened (sym e ∙ f.answered)))
 
--- after the second
+-- after the second, from when on the book's log has the context
 pub record Replied (c : events.Case) (happened : Happened) (shown : Shown) : Type 0 where
   pub sent : happened ≡ Sent (events.reply_of c)
   pub deed : Deed
-  pub book : BookOf
-  pub lanes : List (Option InHand)
-  pub happens : Happens (events.second_world c) (second_event c) deed (events.third_world c book lanes)
-  pub unforged : Unforged (marking_of c) (events.second_world c) deed
-  pub setup : book.setup ≡ c.book.setup
-  pub settled : WasSettled book.core.history (events.id_in c)
-  pub shows : Shows (events.third_world c book lanes) shown
+  pub new : World
+  pub answers : events.Answers c deed new
+  pub past : PastOf c shown (events.third_world c answers.book answers.lanes)
 
-pub replied : (c : events.Case) (happened : Happened) (old shown : Shown) → Shows (events.second_world c) old → Steps (second_event c) (Some happened) old shown → Replied c happened shown
-replied c happened old shown shows steps = by (steps.follows (events.second_world c) shows)
+pub replied : (c : events.Case) (happened : Happened) (old shown : Shown) → PastOf c old (events.second_world c) → Steps (second_event c) (Some happened) old shown → Replied c happened shown
+replied c happened old shown past steps = by (steps.follows (events.second_world c) past.shows)
   where
     with : (f : Follows (second_event c) (Some happened) (events.second_world c) shown) → events.Answers c f.deed f.new → Replied c happened shown
     with f a = record {
       sent = same_Some happened (Sent (events.reply_of c)) (sym f.answered ∙ a.answer);
       deed = f.deed;
-      book = a.book;
-      lanes = a.lanes;
-      happens = subst (λ (w : World). Happens (events.second_world c) (second_event c) f.deed w) a.new_is f.happens;
-      unforged = request-forged c f.deed f.new a;
-      setup = a.setup;
-      settled = was-settled c a.book.core.history a.earlier a.at a.history;
-      shows = subst (λ (w : World). Shows w shown) a.new_is f.shows;
+      new = f.new;
+      answers = a;
+      past = steps-on (marking_of c) (events.first_world c) (second_event c) happened (events.second_world c) (events.third_world c a.book a.lanes) old shown past steps f a.new_is (request-forged c f.deed f.new a);
     }
 
     by : Follows (second_event c) (Some happened) (events.second_world c) shown → Replied c happened shown
     by f = with f (events.answers-so c happened f.deed f.new f.happens f.answered)
 
+abbrev settled-in : (c : events.Case) (b : Happened) (shown : Shown) → (r : Replied c b shown) → WasSettled r.answers.book.core.history (events.id_in c)
+settled-in c b shown r = was-settled c r.answers.book.core.history r.answers.earlier r.answers.at r.answers.history
+
 -- after the third
 pub record Stood (c : events.Case) (book : BookOf) (lanes : List (Option InHand)) (happened : Happened) (shown : Shown) : Type 0 where
   pub completed : happened ≡ Completed (events.outcome_of c)
-  pub deed : Deed
-  pub happens : Happens (events.third_world c book lanes) (third_event c) deed (last c book lanes)
-  pub unforged : Unforged (marking_of c) (events.third_world c book lanes) deed
-  pub shows : Shows (last c book lanes) shown
+  pub past : PastOf c shown (last c book lanes)
 
-pub stood : (c : events.Case) (book : BookOf) (lanes : List (Option InHand)) (happened : Happened) (old shown : Shown) → WasSettled book.core.history (events.id_in c) → Shows (events.third_world c book lanes) old → Steps (third_event c) (Some happened) old shown
-    → Stood c book lanes happened shown
-stood c book lanes happened old shown settled shows steps = by (steps.follows (events.third_world c book lanes) shows)
+pub stood : (c : events.Case) (book : BookOf) (lanes : List (Option InHand)) (happened : Happened) (old shown : Shown) → WasSettled book.core.history (events.id_in c) → PastOf c old (events.third_world c book lanes)
+    → Steps (third_event c) (Some happened) old shown → Stood c book lanes happened shown
+stood c book lanes happened old shown settled past steps = by (steps.follows (events.third_world c book lanes) past.shows)
   where
     with : (f : Follows (third_event c) (Some happened) (events.third_world c book lanes) shown) → events.Stands c book lanes f.deed f.new → Stood c book lanes happened shown
     with f s = record {
       completed = same_Some happened (Completed (events.outcome_of c)) (sym f.answered ∙ s.answer);
-      deed = f.deed;
-      happens = subst (λ (w : World). Happens (events.third_world c book lanes) (third_event c) f.deed w) s.new_is f.happens;
-      unforged = reply-forged c book lanes f.deed f.new settled s;
-      shows = subst (λ (w : World). Shows w shown) s.new_is f.shows;
+      past = steps-on (marking_of c) (events.first_world c) (third_event c) happened (events.third_world c book lanes) (last c book lanes) old shown past steps f s.new_is (reply-forged c book lanes f.deed f.new settled s);
     }
 
     by : Follows (third_event c) (Some happened) (events.third_world c book lanes) shown → Stood c book lanes happened shown
     by f = with f (events.stands-so c book lanes f.deed f.new f.happens (λ e. none-some happened (sym e ∙ f.answered)))
 
--- all three
-abbrev events_of : events.Case → List WorldEvent
-events_of c = first_event ∷ second_event c ∷ third_event c ∷ []
+-- ---- how it left the world
 
--- a run, in which nothing was forged
-abbrev Honest : events.Case → BookOf → List (Option InHand) → List WorldEvent → Type 0
-Honest c book lanes es = (run : Run (events.first_world c) es (last c book lanes)) × NoForgery (marking_of c) (events.first_world c) es (last c book lanes) run
+abbrev met : (c : events.Case) (b d : Happened) (two shown : Shown) → Begins (events.first_world c) → (r : Replied c b two) → Stood c r.answers.book r.answers.lanes d shown → IsMet shown
+met c b d two shown begins r t = record {
+  marking = marking_of c;
+  start = events.first_world c;
+  now = last c r.answers.book r.answers.lanes;
+  run = t.past.walked.run;
+  begins = begins;
+  shows = t.past.shows;
+  unforged = t.past.walked.unforged;
+  fresh = fresh-so c r.answers.book r.answers.lanes r.answers.setup;
+  own = events.own_of c;
+  outcome = events.outcome_of c;
+  completed = record { there = refl; stage = events.session_of c; stands = refl; session = events.session_with c; in_session = refl; outcome_is = refl };
+  guarded = record { credential = c.credential; is_own = refl; guarded = guarded-session c };
+  context = events.context_with c;
+  listed = record { place = 0; there = refl };
+  on = guarded-session c;
+  agree = refl;
+  settled = settled-in c b two r;
+}
 
-honest : (c : events.Case) (a b d : Happened) (one two shown : Shown) → Started c a one → (r : Replied c b two) → Stood c r.book r.lanes d shown → Honest c r.book r.lanes (events_of c)
-honest c a b d one two shown s r t = (
-  (
-    record { deed = s.deed; world = events.second_world c; happens = s.happens },
-    (
-      record { deed = r.deed; world = events.third_world c r.book r.lanes; happens = r.happens },
-      (record { deed = t.deed; world = last c r.book r.lanes; happens = t.happens }, refl),
-    ),
-  ),
-  (s.unforged, (r.unforged, (t.unforged, tt))),
-)
+stands-whole : (id : ℕ) (mech : MechKind) (names : List ℕ) (ends at : ℕ) (h : List Entry) → standing id (Settled id mech names ends at ∷ h) ≡ Whole mech names ends
+stands-whole id mech names ends at h = rw (eq-eqb id id refl) refl
 
-pub met : (c : events.Case) → Begins (events.first_world c) → (a b d : Happened) (one two shown : Shown) → shown.events ≡ first_event ∷ second_event c ∷ third_event c ∷ [] → Started c a one → (r : Replied c b two) → Stood c r.book r.lanes d shown → IsMet shown
-met c begins a b d one two shown are s r t =
-    let h : Honest c r.book r.lanes shown.events = subst (Honest c r.book r.lanes) (sym are) (honest c a b d one two shown s r t) in
-    record {
-      marking = marking_of c;
-      start = events.first_world c;
-      now = last c r.book r.lanes;
-      run = h.0;
-      begins = begins;
-      shows = t.shows;
-      unforged = h.1;
-      fresh = fresh-so c r.book r.lanes r.setup;
-      own = events.own_of c;
-      outcome = events.outcome_of c;
-      completed = record { there = refl; stage = events.session_of c; stands = refl; session = events.session_with c; in_session = refl; outcome_is = refl };
-      guarded = record { credential = c.credential; is_own = refl; guarded = guarded-session c };
-      context = events.context_with c;
-      listed = record { place = 0; there = refl };
-      on = guarded-session c;
-      agree = refl;
-      settled = r.settled;
-    }
+rests : (c : events.Case) (b d : Happened) (two shown : Shown) → (r : Replied c b two) → Rests (last c r.answers.book r.answers.lanes) (events.own_of c) (events.outcome_of c) (events.context_with c)
+rests c b d two shown r = record {
+  facts = refl;
+  stands = refl;
+  idle = r.answers.idle;
+  fixed = refl;
+  first = ap (λ (h : List Entry). opened h + 1) c.empty;
+  whole = ap (standing (events.id_in c)) r.answers.history ∙ stands-whole (events.id_in c) kinds.Kerberos (names_of (events.outcome_of c)) (events.judged_of c).ends r.answers.at r.answers.earlier;
+  uncalled = ap (numbers (events.id_in c)) r.answers.history ∙ r.answers.uncalled;
+  place = omega (arith, ap (length {A = Entry}) r.answers.history, r.answers.few, c.log, r.answers.limit);
+}
 
 -- ---- before the first event
 
@@ -325,8 +310,8 @@ idle-lane : (lanes : ℕ) → 0 < lanes → ◌≡◌ {A = Option (Option InHand
 idle-lane zero some = absurd (omega (arith, some))
 idle-lane (suc lanes) some = refl
 
-abbrev case-of : (book : BookOf) (initiators : List InitSetup) (lanes now : ℕ) (draws : List ℕ) (m : Meeting book initiators lanes now draws) → is_own_list m.own.list ≡ true → IsSetup m.own → length draws ≡ 82 → events.Case
-case-of book initiators lanes now draws m is_list setup long = record {
+abbrev case-of : (book : BookOf) (initiators : List InitSetup) (lanes now : ℕ) (draws : List ℕ) (m : Meeting book initiators lanes now draws) → is_own_list m.own.list ≡ true → IsSetup m.own → length draws ≡ 82 → book.core.history ≡ [] → events.Case
+case-of book initiators lanes now draws m is_list setup long empty = record {
   book = book;
   credential = m.credential;
   rest = m.rest;
@@ -338,6 +323,7 @@ case-of book initiators lanes now draws m is_list setup long = record {
   lanes = replicate lanes None;
   idle = idle-lane lanes m.lane;
   both = both-of book initiators lanes now draws m is_list setup long;
+  empty = empty;
   log = m.log;
   table = m.table;
   mark = m.mark;
@@ -347,48 +333,49 @@ first-is : (w : World) (facts : List InitSetup) (ready : List Stage) (book : Boo
     → w ≡ record { facts = facts; stages = ready; book = book; lanes = lanes; fixed = []; makings = [] }
 first-is w facts ready book lanes a b c d e f = λ i. record { facts = a i; stages = b i; book = c i; lanes = d i; fixed = e i; makings = f i }
 
-pub ready-so : (shown : Shown) (initiators : List InitSetup) (book : BookOf) (lanes now : ℕ) (draws : List ℕ) → shown.facts ≡ initiators → shown.stages ≡ map stages.Ready initiators → shown.book ≡ Some book → shown.lanes ≡ replicate lanes None → shown.events ≡ [] → length draws ≡ 82
-    → Meeting book initiators lanes now draws → Ran shown → Ready shown now draws
-ready-so shown initiators book lanes now draws facts_are stages_are book_is lanes_are nothing long m r =
-    let same : r.now ≡ r.start = subst (λ (es : List WorldEvent). Run r.start es r.now) nothing r.run in
+pub ready-so : (shown : Shown) (book : BookOf) (lanes now : ℕ) (draws : List ℕ) → AtStart shown book lanes → length draws ≡ 82 → Meeting book shown.facts lanes now draws → Ran shown → Ready shown now draws
+ready-so shown book lanes now draws start long m r =
+    let same : r.now ≡ r.start = subst (λ (es : List WorldEvent). Run r.start es r.now) start.nothing r.run in
     let begun : Begins r.now = subst Begins (sym same) r.begins in
-    let facts : r.now.facts ≡ m.own ∷ [] = sym r.shows.facts ∙ (facts_are ∙ m.one) in
+    let facts : r.now.facts ≡ m.own ∷ [] = sym r.shows.facts ∙ m.one in
     let there : slice_get r.now.facts 0 ≡ Some m.own = ap (λ (fs : List InitSetup). slice_get fs 0) facts in
     let mine : m.own ≡ own_with m.credential m.rest m.own.stamp m.own.draws m.own.bindings = own-is m.own m.credential m.rest m.list in
     let is_list : is_own_list m.own.list ≡ true = (begun.ready 0 m.own there).1 in
     let setup : IsSetup m.own = begun.proper.setups 0 m.own there in
-    let first : r.now ≡ events.first_world (case-of book initiators lanes now draws m is_list setup long) =
+    let first : r.now ≡ events.first_world (case-of book shown.facts lanes now draws m is_list setup long start.empty) =
     first-is r.now (own_with m.credential m.rest m.own.stamp m.own.draws m.own.bindings ∷ []) (stages.Ready (own_with m.credential m.rest m.own.stamp m.own.draws m.own.bindings) ∷ []) book (replicate lanes None)
     (facts ∙ ap (λ (o : InitSetup). o ∷ []) mine)
-    (sym r.shows.stages ∙ (stages_are ∙ (ap (map stages.Ready) m.one ∙ ap (λ (o : InitSetup). stages.Ready o ∷ []) mine)))
-    (sym (same_Some book r.now.book (sym book_is ∙ r.shows.book))) (sym r.shows.lanes ∙ lanes_are) begun.unfixed begun.unmade in
+    (sym r.shows.stages ∙ (start.ready ∙ (ap (map stages.Ready) m.one ∙ ap (λ (o : InitSetup). stages.Ready o ∷ []) mine)))
+    (sym (same_Some book r.now.book (sym start.book_is ∙ r.shows.book))) (sym r.shows.lanes ∙ start.idle) begun.unfixed begun.unmade in
     record {
-      c = case-of book initiators lanes now draws m is_list setup long;
+      c = case-of book shown.facts lanes now draws m is_list setup long start.empty;
       begins = subst Begins first begun;
-      shows = subst (λ (w : World). Shows w shown) first r.shows;
       now_is = refl;
       drawn_is = refl;
-      nothing = nothing;
+      past = record {
+        walked = subst (λ (es : List WorldEvent). Walked (marking_of (case-of book shown.facts lanes now draws m is_list setup long start.empty)) (events.first_world (case-of book shown.facts lanes now draws m is_list setup long start.empty)) es (events.first_world (case-of book shown.facts lanes now draws m is_list setup long start.empty))) (sym start.nothing) (record { run = refl; unforged = tt });
+        shows = subst (λ (w : World). Shows w shown) first r.shows;
+      };
     }
 
 -- ---- as a program sees it
 
 pub first-step : (begin one : Shown) (now : ℕ) (draws : List ℕ) (r : Ready begin now draws) (a : Happened) → Steps first_event (Some a) begin one → Started r.c a one
-first-step begin one now draws r a steps = started r.c a begin one r.shows steps
+first-step begin one now draws r a steps = started r.c a begin one r.past steps
 
 record-is : (octets call : List ℕ) (a : Happened) → a ≡ Sent call → sent_in a ≡ Some octets → octets ≡ call
 record-is octets call a is e = same_Some octets call (sym e ∙ ap sent_in is)
 
 pub second-step : (begin one two : Shown) (now : ℕ) (draws : List ℕ) (r : Ready begin now draws) (a b : Happened) (octets : List ℕ) → Started r.c a one → sent_in a ≡ Some octets → Steps (Lane 0 octets now draws) (Some b) one two → Replied r.c b two
 second-step begin one two now draws r a b octets s sent steps =
-    replied r.c b one two s.shows
+    replied r.c b one two s.past
     (subst (λ (e : WorldEvent). Steps e (Some b) one two) (λ i. Lane 0 (record-is octets (call_with (events.token_of r.c)) a s.sent sent i) (sym r.now_is i) (sym r.drawn_is i)) steps)
 
-pub third-step : (begin one two three : Shown) (now : ℕ) (draws : List ℕ) (r : Ready begin now draws) (a b d : Happened) (octets reply : List ℕ) → (s : Started r.c a one) → (p : Replied r.c b two) → sent_in b ≡ Some reply → Steps (Deliver 0 reply) (Some d) two three
-    → Stood r.c p.book p.lanes d three
-third-step begin one two three now draws r a b d octets reply s p sent steps =
-    stood r.c p.book p.lanes d two three p.settled p.shows
-    (subst (λ (e : WorldEvent). Steps e (Some d) two three) (ap (λ (os : List ℕ). Deliver 0 os) (record-is reply (events.reply_of r.c) b p.sent sent)) steps)
+pub third-step : (begin two three : Shown) (now : ℕ) (draws : List ℕ) (r : Ready begin now draws) (b d : Happened) (reply : List ℕ) → (p : Replied r.c b two) → sent_in b ≡ Some reply → Steps (Deliver 0 reply 1) (Some d) two three
+    → Stood r.c p.answers.book p.answers.lanes d three
+third-step begin two three now draws r b d reply p sent steps =
+    stood r.c p.answers.book p.answers.lanes d two three (settled-in r.c b two p) p.past
+    (subst (λ (e : WorldEvent). Steps e (Some d) two three) (ap (λ (os : List ℕ). Deliver 0 os 1) (record-is reply (events.reply_of r.c) b p.sent sent)) steps)
 
 -- each goes on
 pub no-first : (c : events.Case) (a : Happened) (one : Shown) → Started c a one → sent_in a ≡ None → ⊥
@@ -397,12 +384,8 @@ no-first c a one s e = none-some (call_with (events.token_of c)) (sym e ∙ ap s
 pub no-second : (c : events.Case) (b : Happened) (two : Shown) → Replied c b two → sent_in b ≡ None → ⊥
 no-second c b two p e = none-some (events.reply_of c) (sym e ∙ ap sent_in p.sent)
 
-pub no-third : (c : events.Case) (book : BookOf) (lanes : List (Option InHand)) (d : Happened) (three : Shown) → Stood c book lanes d three → completed_in d ≡ false → ⊥
-no-third c book lanes d three t e = absurd (let clash : false ≡ true = sym e ∙ ap completed_in t.completed in cc)
+pub is-completed : (c : events.Case) (book : BookOf) (lanes : List (Option InHand)) (d : Happened) (three : Shown) → Stood c book lanes d three → completed_in d ≡ true
+is-completed c book lanes d three t = ap completed_in t.completed
 
-pub all-met : (begin one two three : Shown) (now : ℕ) (draws : List ℕ) (r : Ready begin now draws) (a b d : Happened) (octets reply : List ℕ) → sent_in a ≡ Some octets → sent_in b ≡ Some reply
-    → Steps first_event (Some a) begin one → Steps (Lane 0 octets now draws) (Some b) one two → Steps (Deliver 0 reply) (Some d) two three → (s : Started r.c a one) → (p : Replied r.c b two) → Stood r.c p.book p.lanes d three → IsMet three
-all-met begin one two three now draws r a b d octets reply sent said first second third s p t =
-    met r.c r.begins a b d one two three
-    (third.events ∙ (ap (λ (es : List WorldEvent). es ++ Deliver 0 reply ∷ []) (second.events ∙ ap (λ (es : List WorldEvent). es ++ Lane 0 octets now draws ∷ []) (first.events ∙ ap (λ (es : List WorldEvent). es ++ first_event ∷ []) r.nothing))
-    ∙ (λ i. first_event ∷ Lane 0 (record-is octets (call_with (events.token_of r.c)) a s.sent sent i) (sym r.now_is i) (sym r.drawn_is i) ∷ Deliver 0 (record-is reply (events.reply_of r.c) b p.sent said i) ∷ []))) s p t
+pub carried : (begin two three : Shown) (now : ℕ) (draws : List ℕ) (r : Ready begin now draws) (b d : Happened) → (p : Replied r.c b two) → Stood r.c p.answers.book p.answers.lanes d three → IsCarried three
+carried begin two three now draws r b d p t = record { met = met r.c b d two three r.begins p t; rests = rests r.c b d two three p }

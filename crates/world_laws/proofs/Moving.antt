@@ -105,23 +105,25 @@ pub record Went (xid : ℕ) (end : InitEnd) (octets : List ℕ) (moved : Moved) 
 
 -- its context stands
 pub record Stood (xid : ℕ) (end : InitEnd) (octets : List ℕ) (moved : Moved) : Type 0 where
+  pub first : ℕ
   pub outcome : Outcome
   pub handle : List ℕ
   pub by : SteppedBy end xid octets (creations.Stands outcome handle)
-  pub stage : moved.stage ≡ stages.Stands (begun Integrity 1 (xid_after xid) outcome handle)
+  pub stage : moved.stage ≡ stages.Stands (begun Integrity first (xid_after xid) outcome handle)
   pub lost : moved.lost ≡ stages.Over
   pub makes : moved.makes ≡ by.taken.makes
   pub found : moved.found ≡ by.taken.found ++ window_found outcome (granted_in xid octets)
 
-take-by : (xid : ℕ) (end : InitEnd) (octets : List ℕ) (what : Result Created ClientRefusal) → creation_step end xid octets ≡ what
-    → (created_by xid end octets what ≡ refused) ⊎ (Went xid end octets (created_by xid end octets what) ⊎ Stood xid end octets (created_by xid end octets what))
-take-by xid end octets (Err refusal) e = inl refl
-take-by xid end octets (Ok (creations.Going offer)) e =
+take-by : (first xid : ℕ) (end : InitEnd) (octets : List ℕ) (what : Result Created ClientRefusal) → creation_step end xid octets ≡ what
+    → (created_by first xid end octets what ≡ refused) ⊎ (Went xid end octets (created_by first xid end octets what) ⊎ Stood xid end octets (created_by first xid end octets what))
+take-by first xid end octets (Err refusal) e = inl refl
+take-by first xid end octets (Ok (creations.Going offer)) e =
     let by = stepped-by end xid octets (creations.Going offer) e in
     inr (inl (record { offer = offer; by = by; stage = refl; lost = refl; makes = ap handed_out by.initiated_is; found = ap verified by.initiated_is }))
-take-by xid end octets (Ok (creations.Stands outcome handle)) e =
+take-by first xid end octets (Ok (creations.Stands outcome handle)) e =
     let by = stepped-by end xid octets (creations.Stands outcome handle) e in
     inr (inr (record {
+      first = first;
       outcome = outcome;
       handle = handle;
       by = by;
@@ -131,5 +133,5 @@ take-by xid end octets (Ok (creations.Stands outcome handle)) e =
       found = ap (λ (o : Option Initiated). verified o ++ window_found outcome (granted_in xid octets)) by.initiated_is;
     }))
 
-pub takes-by : (xid : ℕ) (end : InitEnd) (octets : List ℕ) → (takes xid end octets ≡ refused) ⊎ (Went xid end octets (takes xid end octets) ⊎ Stood xid end octets (takes xid end octets))
-takes-by xid end octets = take-by xid end octets (creation_step end xid octets) refl
+pub takes-by : (first xid : ℕ) (end : InitEnd) (octets : List ℕ) → (takes first xid end octets ≡ refused) ⊎ (Went xid end octets (takes first xid end octets) ⊎ Stood xid end octets (takes first xid end octets))
+takes-by first xid end octets = take-by first xid end octets (creation_step end xid octets) refl

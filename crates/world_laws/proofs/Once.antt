@@ -230,15 +230,15 @@ move-comes laws w i moved k h (Starting own there is) =
         lost = over-comes own w.makings (starts own).lost by.lost (h.ones i own here);
       }
     ])
-move-comes laws w i moved k h (Taking xid end octets there is) =
+move-comes laws w i moved k h (Taking first xid end octets there is) =
     let here = (k.asks i xid end there).0 in
     let ones = h.ones i (own_of end) here in
     let once = h.at i (own_of end) (stages.Asks xid end) here there in
-    subst (MoveComes w i) (sym is) (elim (takes-by xid end octets) [
-      | inl e ↦ refused-comes w i (own_of end) (takes xid end octets) here ones e
+    subst (MoveComes w i) (sym is) (elim (takes-by first xid end octets) [
+      | inl e ↦ refused-comes w i (own_of end) (takes first xid end octets) here ones e
       | inr more ↦ elim more [
-        | inl by ↦ went-comes laws w i xid end octets (takes xid end octets) k there ones once by
-        | inr by ↦ stood-comes laws w i xid end octets (takes xid end octets) k there ones once by
+        | inl by ↦ went-comes laws w i xid end octets (takes first xid end octets) k there ones once by
+        | inr by ↦ stood-comes laws w i xid end octets (takes first xid end octets) k there ones once by
       ]
     ])
 move-comes laws w i moved k h (Calling s procedure args there left served proper is) =

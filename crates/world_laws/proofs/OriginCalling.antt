@@ -56,9 +56,9 @@ step-uncalled laws end taken sized law = λ m a. elim (law.made m a) [
   ]
 ]
 
-takes-uncalled : (laws : Below) (w : World) (i xid : ℕ) (end : InitEnd) (octets : List ℕ) → Known w → slice_get w.stages i ≡ Some (stages.Asks xid end) → AllUncalled (takes xid end octets).makes
-takes-uncalled laws w i xid end octets k there = elim (takes-by xid end octets) [
-  | inl e ↦ none-uncalled (takes xid end octets).makes (ap (λ (v : Moved). v.makes) e)
+takes-uncalled : (laws : Below) (w : World) (i first xid : ℕ) (end : InitEnd) (octets : List ℕ) → Known w → slice_get w.stages i ≡ Some (stages.Asks xid end) → AllUncalled (takes first xid end octets).makes
+takes-uncalled laws w i first xid end octets k there = elim (takes-by first xid end octets) [
+  | inl e ↦ none-uncalled (takes first xid end octets).makes (ap (λ (v : Moved). v.makes) e)
   | inr more ↦ elim more [
     | inl by ↦ subst AllUncalled (sym by.makes) (step-uncalled laws end by.by.taken (k.sized i (own_of end) (k.asks i xid end there).0) (taken-law laws w i xid end by.by.granted.result.token by.by.taken k there by.by.step_is))
     | inr by ↦ subst AllUncalled (sym by.makes) (step-uncalled laws end by.by.taken (k.sized i (own_of end) (k.asks i xid end there).0) (taken-law laws w i xid end by.by.granted.result.token by.by.taken k there by.by.step_is))
@@ -105,14 +105,14 @@ now-started called laws old i (Some (stages.Stands s)) deed new did = now-idle c
 now-started called laws old i (Some (stages.Left s)) deed new did = now-idle called old deed new did
 now-started called laws old i (Some stages.Over) deed new did = now-idle called old deed new did
 
-now-delivered : (called : Called) (laws : Below) (old : World) (i : ℕ) (octets : List ℕ) (stage : Option Stage) (deed : Deed) (new : World) → Known old → slice_get old.stages i ≡ stage
-    → DeliversBy old i octets stage deed new → Now called old new
-now-delivered called laws old i octets None deed new k there did = now-idle called old deed new did
-now-delivered called laws old i octets (Some (stages.Ready own)) deed new k there did = now-idle called old deed new did
-now-delivered called laws old i octets (Some (stages.Asks xid end)) deed new k there did = now-uncalled called old i (takes xid end octets) deed new (takes-uncalled laws old i xid end octets k there) did
-now-delivered called laws old i octets (Some (stages.Stands s)) deed new k there did = now-idle called old deed new did
-now-delivered called laws old i octets (Some (stages.Left s)) deed new k there did = now-idle called old deed new did
-now-delivered called laws old i octets (Some stages.Over) deed new k there did = now-idle called old deed new did
+now-delivered : (called : Called) (laws : Below) (old : World) (i : ℕ) (octets : List ℕ) (first : ℕ) (stage : Option Stage) (deed : Deed) (new : World) → Known old → slice_get old.stages i ≡ stage
+    → DeliversBy old i octets first stage deed new → Now called old new
+now-delivered called laws old i octets first None deed new k there did = now-idle called old deed new did
+now-delivered called laws old i octets first (Some (stages.Ready own)) deed new k there did = now-idle called old deed new did
+now-delivered called laws old i octets first (Some (stages.Asks xid end)) deed new k there did = now-uncalled called old i (takes first xid end octets) deed new (takes-uncalled laws old i first xid end octets k there) did
+now-delivered called laws old i octets first (Some (stages.Stands s)) deed new k there did = now-idle called old deed new did
+now-delivered called laws old i octets first (Some (stages.Left s)) deed new k there did = now-idle called old deed new did
+now-delivered called laws old i octets first (Some stages.Over) deed new k there did = now-idle called old deed new did
 
 now-laned : (called : Called) (laws : Below) (old : World) (lane : ℕ) (held : Option InHand) (octets : List ℕ) (now : ℕ) (draws : List ℕ) (deed : Deed) (new : World) → Held old → Grows old new → slice_get old.lanes lane ≡ Some held
     → LaneMoves old lane (in_hand held octets now draws) deed new → Now called old new
@@ -176,7 +176,7 @@ now-calls called laws old i procedure args (Some stages.Over) deed new k g there
 
 now-made : (called : Called) (laws : Below) (old : World) (event : WorldEvent) (deed : Deed) (new : World) → Known old → Held old → Grows old new → HappensBy old event deed new → Now (and_now called old event deed) old new
 now-made called laws old (Start i) deed new k h g did = now-started _ laws old i (slice_get old.stages i) deed new did
-now-made called laws old (Deliver i octets) deed new k h g did = now-delivered _ laws old i octets (slice_get old.stages i) deed new k refl did
+now-made called laws old (Deliver i octets first) deed new k h g did = now-delivered _ laws old i octets first (slice_get old.stages i) deed new k refl did
 now-made called laws old (Lane lane octets now draws) deed new k h g did = now-lane _ laws old lane octets now draws (slice_get old.lanes lane) deed new h g refl did
 now-made called laws old (CallBy i procedure args) deed new k h g did = now-calls called laws old i procedure args (slice_get old.stages i) deed new k g refl did
 

@@ -142,8 +142,8 @@ past-set places i before next there on j number past = elim (cases_eq i j) [
 move-past : (old : World) (i : ℕ) (moved : Moved) (deed : Deed) (new : World) → Move old i moved → Moves old i moved deed new → (j number : ℕ) → IsPast (slice_get old.stages j) number → IsPast (slice_get new.stages j) number
 move-past old i moved deed new (Starting own there is) (inl m) j number past = subst (λ (w : World). IsPast (slice_get w.stages j) number) (sym m.1) (past-set old.stages i (stages.Ready own) moved.stage there (λ n p. absurd p) j number past)
 move-past old i moved deed new (Starting own there is) (inr m) j number past = subst (λ (w : World). IsPast (slice_get w.stages j) number) (sym m.1) (past-set old.stages i (stages.Ready own) moved.lost there (λ n p. absurd p) j number past)
-move-past old i moved deed new (Taking xid end octets there is) (inl m) j number past = subst (λ (w : World). IsPast (slice_get w.stages j) number) (sym m.1) (past-set old.stages i (stages.Asks xid end) moved.stage there (λ n p. absurd p) j number past)
-move-past old i moved deed new (Taking xid end octets there is) (inr m) j number past = subst (λ (w : World). IsPast (slice_get w.stages j) number) (sym m.1) (past-set old.stages i (stages.Asks xid end) moved.lost there (λ n p. absurd p) j number past)
+move-past old i moved deed new (Taking first xid end octets there is) (inl m) j number past = subst (λ (w : World). IsPast (slice_get w.stages j) number) (sym m.1) (past-set old.stages i (stages.Asks xid end) moved.stage there (λ n p. absurd p) j number past)
+move-past old i moved deed new (Taking first xid end octets there is) (inr m) j number past = subst (λ (w : World). IsPast (slice_get w.stages j) number) (sym m.1) (past-set old.stages i (stages.Asks xid end) moved.lost there (λ n p. absurd p) j number past)
 move-past old i moved deed new (Calling s procedure args there left served proper is) (inl m) j number past = subst (λ (w : World). IsPast (slice_get w.stages j) number) (sym m.1)
     (past-set old.stages i (stages.Stands s) moved.stage there (λ n p. subst (λ (v : Moved). IsPast (Some v.stage) n) (sym is) (omega (arith, p))) j number past)
 move-past old i moved deed new (Calling s procedure args there left served proper is) (inr m) j number past = subst (λ (w : World). IsPast (slice_get w.stages j) number) (sym m.1)

@@ -131,11 +131,11 @@ mover laws w i moved k (Starting own there is) = subst (Mover w i) (sym is) (eli
   | inl e ↦ refused-mover w i own (starts own) (k.ready i own there) e
   | inr by ↦ start-mover laws w i own (starts own) (k.ready i own there) by
 ])
-mover laws w i moved k (Taking xid end octets there is) = subst (Mover w i) (sym is) (elim (takes-by xid end octets) [
-  | inl e ↦ refused-mover w i (own_of end) (takes xid end octets) (k.asks i xid end there).0 e
+mover laws w i moved k (Taking first xid end octets there is) = subst (Mover w i) (sym is) (elim (takes-by first xid end octets) [
+  | inl e ↦ refused-mover w i (own_of end) (takes first xid end octets) (k.asks i xid end there).0 e
   | inr more ↦ elim more [
-    | inl by ↦ step-mover w i end by.by.taken (takes xid end octets) (k.asks i xid end there).0 (taken-law laws w i xid end by.by.granted.result.token by.by.taken k there by.by.step_is) by.makes
-    | inr by ↦ step-mover w i end by.by.taken (takes xid end octets) (k.asks i xid end there).0 (taken-law laws w i xid end by.by.granted.result.token by.by.taken k there by.by.step_is) by.makes
+    | inl by ↦ step-mover w i end by.by.taken (takes first xid end octets) (k.asks i xid end there).0 (taken-law laws w i xid end by.by.granted.result.token by.by.taken k there by.by.step_is) by.makes
+    | inr by ↦ step-mover w i end by.by.taken (takes first xid end octets) (k.asks i xid end there).0 (taken-law laws w i xid end by.by.granted.result.token by.by.taken k there by.by.step_is) by.makes
   ]
 ])
 mover laws w i moved k (Calling s procedure args there left served proper is) =

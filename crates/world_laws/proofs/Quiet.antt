@@ -28,7 +28,7 @@ pub record FindsNone (deed : Deed) : Type 0 where
   pub found : deed.found ≡ []
   pub opened : deed.opened ≡ None
 
-unforged : (marking : Marking) (w : World) (deed : Deed) → FindsNone deed → Unforged marking w deed
+pub unforged : (marking : Marking) (w : World) (deed : Deed) → FindsNone deed → Unforged marking w deed
 unforged marking w deed none = record {
   made = λ making among guarded. absurd (subst (λ (ms : List MechMaking). AmongMakings ms making) none.found among);
   issued = λ opened is. absurd (none-some opened (sym none.opened ∙ is));
@@ -57,20 +57,20 @@ start-none old i (Some stages.Over) deed new d = idles-none old deed new d
 
 -- ---- a reply that is refused
 
-created-none : (xid : ℕ) (end : InitEnd) (octets : List ℕ) (what : Result Created ClientRefusal) → (created_by xid end octets what).answer ≡ Refused → (created_by xid end octets what).found ≡ []
-created-none xid end octets (Err refusal) e = refl
-created-none xid end octets (Ok (created.Going offer)) e = absurd cc
-created-none xid end octets (Ok (created.Stands outcome handle)) e = absurd cc
+created-none : (first xid : ℕ) (end : InitEnd) (octets : List ℕ) (what : Result Created ClientRefusal) → (created_by first xid end octets what).answer ≡ Refused → (created_by first xid end octets what).found ≡ []
+created-none first xid end octets (Err refusal) e = refl
+created-none first xid end octets (Ok (created.Going offer)) e = absurd cc
+created-none first xid end octets (Ok (created.Stands outcome handle)) e = absurd cc
 
-reply-none : (old : World) (i : ℕ) (octets : List ℕ) (stage : Option Stage) (deed : Deed) (new : World) → deed.answer ≡ Some Refused → DeliversBy old i octets stage deed new → FindsNone deed
-reply-none old i octets None deed new refused d = idles-none old deed new d
-reply-none old i octets (Some (stages.Ready own)) deed new refused d = idles-none old deed new d
-reply-none old i octets (Some (stages.Asks xid end)) deed new refused d =
-    moves-none old i (takes xid end octets) deed new
-    (λ e. created-none xid end octets (creation_step end xid octets) (same_Some (takes xid end octets).answer Refused (sym (ap (λ (x : Deed). x.answer) e) ∙ refused))) d
-reply-none old i octets (Some (stages.Stands s)) deed new refused d = idles-none old deed new d
-reply-none old i octets (Some (stages.Left s)) deed new refused d = idles-none old deed new d
-reply-none old i octets (Some stages.Over) deed new refused d = idles-none old deed new d
+reply-none : (old : World) (i : ℕ) (octets : List ℕ) (first : ℕ) (stage : Option Stage) (deed : Deed) (new : World) → deed.answer ≡ Some Refused → DeliversBy old i octets first stage deed new → FindsNone deed
+reply-none old i octets first None deed new refused d = idles-none old deed new d
+reply-none old i octets first (Some (stages.Ready own)) deed new refused d = idles-none old deed new d
+reply-none old i octets first (Some (stages.Asks xid end)) deed new refused d =
+    moves-none old i (takes first xid end octets) deed new
+    (λ e. created-none first xid end octets (creation_step end xid octets) (same_Some (takes first xid end octets).answer Refused (sym (ap (λ (x : Deed). x.answer) e) ∙ refused))) d
+reply-none old i octets first (Some (stages.Stands s)) deed new refused d = idles-none old deed new d
+reply-none old i octets first (Some (stages.Left s)) deed new refused d = idles-none old deed new d
+reply-none old i octets first (Some stages.Over) deed new refused d = idles-none old deed new d
 
 -- ---- a call
 
@@ -90,7 +90,7 @@ call-none old i procedure args (Some stages.Over) deed new d = idles-none old de
 
 quiet-none : (old : World) (event : WorldEvent) (deed : Deed) (new : World) → Happens old event deed new → IsQuiet event deed → FindsNone deed
 quiet-none old (Start i) deed new h q = start-none old i (slice_get old.stages i) deed new h.did
-quiet-none old (Deliver i octets) deed new h q = reply-none old i octets (slice_get old.stages i) deed new q h.did
+quiet-none old (Deliver i octets first) deed new h q = reply-none old i octets first (slice_get old.stages i) deed new q h.did
 quiet-none old (Lane lane octets now draws) deed new h q = record { found = q.0; opened = q.1 }
 quiet-none old (CallBy i procedure args) deed new h q = call-none old i procedure args (slice_get old.stages i) deed new h.did
 

@@ -63,13 +63,13 @@ starts-as w i deed new (Some (stages.Stands s)) m = m
 starts-as w i deed new (Some (stages.Left s)) m = m
 starts-as w i deed new (Some stages.Over) m = m
 
-delivers-as : (w : World) (i : ℕ) (octets : List ℕ) (deed : Deed) (new : World) (stage : Option Stage) → MovesOr (of_stage (taken_from octets) stage) w i deed new → DeliversBy w i octets stage deed new
-delivers-as w i octets deed new None m = m
-delivers-as w i octets deed new (Some (stages.Ready own)) m = m
-delivers-as w i octets deed new (Some (stages.Asks xid end)) m = m
-delivers-as w i octets deed new (Some (stages.Stands s)) m = m
-delivers-as w i octets deed new (Some (stages.Left s)) m = m
-delivers-as w i octets deed new (Some stages.Over) m = m
+delivers-as : (w : World) (i : ℕ) (octets : List ℕ) (first : ℕ) (deed : Deed) (new : World) (stage : Option Stage) → MovesOr (of_stage (taken_from first octets) stage) w i deed new → DeliversBy w i octets first stage deed new
+delivers-as w i octets first deed new None m = m
+delivers-as w i octets first deed new (Some (stages.Ready own)) m = m
+delivers-as w i octets first deed new (Some (stages.Asks xid end)) m = m
+delivers-as w i octets first deed new (Some (stages.Stands s)) m = m
+delivers-as w i octets first deed new (Some (stages.Left s)) m = m
+delivers-as w i octets first deed new (Some stages.Over) m = m
 
 with-as : (left : Bool) (w : World) (i : ℕ) (s : SessionState) (procedure : ℕ) (args : List ℕ) (deed : Deed) (new : World) → MovesOr (called_with left s procedure args) w i deed new
     → CallsWith left w i s procedure args deed new
@@ -177,10 +177,10 @@ passes-follow (Start i) answer w facts old new events proper legal facts_are sho
     moved-follows (Start i) answer (of_stage started_from (slice_get w.stages i)) i w facts old new events proper legal facts_are show
     (turns-over (of_stage started_from) i answer old.stages w.stages new.stages show.stages_are passes.0) passes.1
     (λ deed next m. starts-as w i deed next (slice_get w.stages i) m)
-passes-follow (Deliver i octets) answer w facts old new events proper legal facts_are show passes =
-    moved-follows (Deliver i octets) answer (of_stage (taken_from octets) (slice_get w.stages i)) i w facts old new events proper legal facts_are show
-    (turns-over (of_stage (taken_from octets)) i answer old.stages w.stages new.stages show.stages_are passes.0) passes.1
-    (λ deed next m. delivers-as w i octets deed next (slice_get w.stages i) m)
+passes-follow (Deliver i octets first) answer w facts old new events proper legal facts_are show passes =
+    moved-follows (Deliver i octets first) answer (of_stage (taken_from first octets) (slice_get w.stages i)) i w facts old new events proper legal facts_are show
+    (turns-over (of_stage (taken_from first octets)) i answer old.stages w.stages new.stages show.stages_are passes.0) passes.1
+    (λ deed next m. delivers-as w i octets first deed next (slice_get w.stages i) m)
 passes-follow (Lane lane octets now draws) answer w facts old new events proper legal facts_are show passes =
     let d : Done w lane octets now draws (slice_get w.lanes lane) answer new.desk = done-lane w lane octets now draws (slice_get w.lanes lane) answer new.desk legal
     (lane-over lane (in_hand None octets now draws) answer old.desk (record { book = Some w.book; lanes = w.lanes }) new.desk (desk-is w old.desk show.book_is show.lanes_are) passes.0) in record {

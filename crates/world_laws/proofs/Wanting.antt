@@ -14,7 +14,7 @@ pub lost-start : (r : Result Started NegRefusal) (m : Moves) → IsLost m → Is
 lost-start (Ok started) m lost = lost _ _
 lost-start (Err refusal) m lost = lost _ _
 
-pub lost-take : (xid : ℕ) (end : InitEnd) (octets : List ℕ) (r : Result Created ClientRefusal) (m : Moves) → IsLost m → IsMove (created_by xid end octets r) m
-lost-take xid end octets (Ok (created.Going offer)) m lost = lost _ _
-lost-take xid end octets (Ok (created.Stands outcome handle)) m lost = lost _ _
-lost-take xid end octets (Err refusal) m lost = lost _ _
+pub lost-take : (first xid : ℕ) (end : InitEnd) (octets : List ℕ) (r : Result Created ClientRefusal) (m : Moves) → IsLost m → IsMove (created_by first xid end octets r) m
+lost-take first xid end octets (Ok (created.Going offer)) m lost = lost _ _
+lost-take first xid end octets (Ok (created.Stands outcome handle)) m lost = lost _ _
+lost-take first xid end octets (Err refusal) m lost = lost _ _

@@ -42,15 +42,16 @@ StartsBy old i (Some (stages.Stands s)) deed new = Idles old deed new
 StartsBy old i (Some (stages.Left s)) deed new = Idles old deed new
 StartsBy old i (Some stages.Over) deed new = Idles old deed new
 
--- a reply: an initiator with a creation call out takes these octets; else nothing is done
-abbrev pub DeliversBy : World → ℕ → List ℕ → Option Stage → Deed → World → Type 0
-DeliversBy old i octets None deed new = Idles old deed new
-DeliversBy old i octets (Some (stages.Ready own)) deed new = Idles old deed new
-DeliversBy old i octets (Some (stages.Asks xid end)) deed new =
-    Moves old i (takes xid end octets) deed new
-DeliversBy old i octets (Some (stages.Stands s)) deed new = Idles old deed new
-DeliversBy old i octets (Some (stages.Left s)) deed new = Idles old deed new
-DeliversBy old i octets (Some stages.Over) deed new = Idles old deed new
+-- a reply: an initiator with a creation call out takes these octets, and if its context stands
+-- then, its first call has this number; else nothing is done
+abbrev pub DeliversBy : World → ℕ → List ℕ → ℕ → Option Stage → Deed → World → Type 0
+DeliversBy old i octets first None deed new = Idles old deed new
+DeliversBy old i octets first (Some (stages.Ready own)) deed new = Idles old deed new
+DeliversBy old i octets first (Some (stages.Asks xid end)) deed new =
+    Moves old i (takes first xid end octets) deed new
+DeliversBy old i octets first (Some (stages.Stands s)) deed new = Idles old deed new
+DeliversBy old i octets first (Some (stages.Left s)) deed new = Idles old deed new
+DeliversBy old i octets first (Some stages.Over) deed new = Idles old deed new
 
 -- no number is left after 0x7fffffff
 abbrev pub CallsWith : Bool → World → ℕ → SessionState → ℕ → List ℕ → Deed → World → Type 0
@@ -74,10 +75,11 @@ LanesBy old lane octets now draws None deed new = Idles old deed new
 LanesBy old lane octets now draws (Some hand) deed new =
     LaneMoves old lane (in_hand hand octets now draws) deed new
 
--- calls are of served procedures with their own arguments, which fit into a record
+-- a session's first number is at most 0x80000000, and calls are of served procedures with their own
+-- arguments, which fit into a record
 abbrev pub IsProper : WorldEvent → Type 0
 IsProper (Start initiator) = Unit {0}
-IsProper (Deliver initiator octets) = Unit {0}
+IsProper (Deliver initiator octets first) = first ≤ 0x80000000
 IsProper (Lane lane octets now draws) = length draws ≡ 82
 IsProper (CallBy initiator procedure args) = (procedure ≤ 4) × (are_args procedure args ≡ true)
     × (length args ≤ 65540)
@@ -85,8 +87,8 @@ IsProper (CallBy initiator procedure args) = (procedure ≤ 4) × (are_args proc
 -- what an event does, by its kind: a start, a reply that comes, a lane's next step, a call
 abbrev pub HappensBy : World → WorldEvent → Deed → World → Type 0
 HappensBy old (Start i) deed new = StartsBy old i (slice_get old.stages i) deed new
-HappensBy old (Deliver i octets) deed new =
-    DeliversBy old i octets (slice_get old.stages i) deed new
+HappensBy old (Deliver i octets first) deed new =
+    DeliversBy old i octets first (slice_get old.stages i) deed new
 HappensBy old (Lane lane octets now draws) deed new =
     LanesBy old lane octets now draws (slice_get old.lanes lane) deed new
 HappensBy old (CallBy i procedure args) deed new =

@@ -81,7 +81,7 @@ EarlierLaw = (marking : Marking) (old : World) (front : List WorldEvent) (middle
 -- verified and opens no ticket
 abbrev pub IsQuiet : WorldEvent → Deed → Type 0
 IsQuiet (Start i) deed = Unit {0}
-IsQuiet (Deliver i octets) deed = deed.answer ≡ Some Refused
+IsQuiet (Deliver i octets first) deed = deed.answer ≡ Some Refused
 IsQuiet (Lane lane octets now draws) deed = (deed.found ≡ []) × (deed.opened ≡ None)
 IsQuiet (CallBy i procedure args) deed = Unit {0}
 

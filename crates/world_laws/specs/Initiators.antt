@@ -96,27 +96,29 @@ window_found outcome (Ok granted) =
     (word granted.result.window ++ take 16 granted.answer.verf)) ∷ []
 
 -- what it does by what the reply leads to: it has ended, makes the next creation call with the
--- handle that the reply gave, or its context stands and the MIC over the window was found too
-abbrev pub created_by : ℕ → InitEnd → List ℕ → Result Created ClientRefusal → Moved
-created_by xid end octets (Err refusal) = refused
-created_by xid end octets (Ok (created.Going offer)) = record {
+-- handle that the reply gave, or its context stands and the MIC over the window was found too; the
+-- session's first call has the number `first`
+abbrev pub created_by : ℕ → ℕ → InitEnd → List ℕ → Result Created ClientRefusal → Moved
+created_by first xid end octets (Err refusal) = refused
+created_by first xid end octets (Ok (created.Going offer)) = record {
   stage = stages.Asks (xid_after xid) offer.end;
   lost = stages.Over;
   answer = Sent (creation_call Integrity (xid_after xid) 2 offer.handle offer.token);
   makes = handed_out (initiated xid end octets);
   found = verified (initiated xid end octets);
 }
-created_by xid end octets (Ok (created.Stands outcome handle)) = record {
-  stage = stages.Stands (begun Integrity 1 (xid_after xid) outcome handle);
+created_by first xid end octets (Ok (created.Stands outcome handle)) = record {
+  stage = stages.Stands (begun Integrity first (xid_after xid) outcome handle);
   lost = stages.Over;
   answer = Completed outcome;
   makes = handed_out (initiated xid end octets);
   found = verified (initiated xid end octets) ++ window_found outcome (granted_in xid octets);
 }
 
--- what an initiator does that takes octets as the reply to its call of this transaction number
-abbrev pub takes : ℕ → InitEnd → List ℕ → Moved
-takes xid end octets = created_by xid end octets (creation_step end xid octets)
+-- what an initiator does that takes octets as the reply to its call of this transaction number, and
+-- whose session begins with this number of a call
+abbrev pub takes : ℕ → ℕ → InitEnd → List ℕ → Moved
+takes first xid end octets = created_by first xid end octets (creation_step end xid octets)
 
 -- ---- it calls, by integrity
 

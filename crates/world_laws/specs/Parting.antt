@@ -24,9 +24,9 @@ parts_of p =
 abbrev pub Passes : WorldEvent → Option Happened → HeldParts → HeldParts → Type 0
 Passes (Start i) answer old new = Turns (of_stage started_from (slice_get old.stages i)) i answer
     old.stages new.stages × (new.desk ≡ old.desk)
-Passes (Deliver i octets) answer old new =
-    Turns (of_stage (taken_from octets) (slice_get old.stages i)) i answer old.stages new.stages
-    × (new.desk ≡ old.desk)
+Passes (Deliver i octets first) answer old new =
+    Turns (of_stage (taken_from first octets) (slice_get old.stages i)) i answer old.stages
+    new.stages × (new.desk ≡ old.desk)
 Passes (Lane lane octets now draws) answer old new = LaneTurns (slice_get old.desk.lanes lane) lane
     (in_hand None octets now draws) answer old.desk new.desk × (new.stages ≡ old.stages)
 Passes (CallBy i procedure args) answer old new =

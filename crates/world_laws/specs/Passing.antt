@@ -23,13 +23,14 @@ started_from (stages.Stands s) = None
 started_from (stages.Left s) = None
 started_from stages.Over = None
 
--- a reply, which is for one that has a creation call out
-abbrev pub taken_from : List ℕ → Stage → Option Moved
-taken_from octets (stages.Ready own) = None
-taken_from octets (stages.Asks xid end) = Some (takes xid end octets)
-taken_from octets (stages.Stands s) = None
-taken_from octets (stages.Left s) = None
-taken_from octets stages.Over = None
+-- a reply, which is for one that has a creation call out, and the number of its session's first
+-- call
+abbrev pub taken_from : ℕ → List ℕ → Stage → Option Moved
+taken_from first octets (stages.Ready own) = None
+taken_from first octets (stages.Asks xid end) = Some (takes first xid end octets)
+taken_from first octets (stages.Stands s) = None
+taken_from first octets (stages.Left s) = None
+taken_from first octets stages.Over = None
 
 -- no number is left after 0x7fffffff
 abbrev pub called_with : Bool → SessionState → ℕ → List ℕ → Option Moved

@@ -10,10 +10,11 @@ pub enum WorldEvent {
     Start {
         initiator: usize,
     },
-    /// These octets come to an initiator as the reply to its creation call.
+    /// These octets come to an initiator as the reply to its creation call. If its context stands then, its first call has this number.
     Deliver {
         initiator: usize,
         bytes: Octets,
+        first: u32,
     },
     /// A lane goes on with the record that it has in hand; one without takes these octets as its record, with this moment and these draws.
     Lane {

@@ -22,9 +22,6 @@ const INIT: u32 = 1;
 /// The procedure of later ones.
 const CONTINUE_INIT: u32 = 2;
 
-/// The number of a session's first call.
-const FIRST: u32 = 1;
-
 /// What an initiator did.
 #[derive(Drop)]
 pub(crate) struct Moves {
@@ -103,15 +100,17 @@ pub(crate) fn start(alloc: Global, own: InitSetup) -> Moves
     }
 }
 
-/// An initiator takes a record as the reply to its creation call of this transaction number. Its end is spent.
-pub(crate) fn take(alloc: Global, xid: u32, end: InitEnd, bytes: &[u8]) -> Moves
-    ensures { IsMove (takes xid end bytes.now) result }
+/// An initiator takes a record as the reply to its creation call of this transaction number. Its end is spent. A session begins with the
+/// number `first`.
+pub(crate) fn take(alloc: Global, first: u32, xid: u32, end: InitEnd, bytes: &[u8]) -> Moves
+    requires { first ≤ 0x80000000 }
+    ensures { IsMove (takes first xid end bytes.now) result }
 {
     match creation_step(alloc, end, xid, bytes) {
         Ok(Created::Going(offer)) => ask(alloc, xid_after(xid), CONTINUE_INIT, offer),
         Ok(Created::Stands(outcome, handle)) => {
             let xid = xid_after(xid);
-            stand(Session::begun(Service::Integrity, FIRST, xid, outcome, handle))
+            stand(Session::begun(Service::Integrity, first, xid, outcome, handle))
         }
         Err(ClientRefusal::NoMemory) => lost(),
         Err(_) => refused(),

@@ -15,5 +15,5 @@ mod world;
 pub use event::{Happened, WorldEvent};
 pub use facts::InitFacts;
 pub use laws::{prove_agreement, prove_headline, prove_origin};
-pub use meeting::meet;
+pub use meeting::{call_once, meet};
 pub use world::{World, WorldSetup};

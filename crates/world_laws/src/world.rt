@@ -7,6 +7,7 @@ ghost use Rattle.spnego_core.specs.declared.setup.InitSetup.{InitSetup as InitSe
 ghost use Rattle.spnego_core.specs.InitMech.{is_own_list};
 ghost use Rattle.accept_book.specs.Booking.{BookOf};
 ghost use Rattle.world_laws.specs.Events.{IsBook, IsProper};
+ghost use Rattle.world_laws.specs.Meeting.{RulesCalls};
 ghost use Rattle.world_laws.specs.Passing.{started_from, taken_from, called_from, of_stage};
 ghost use Rattle.world_laws.specs.Passing.{TurnsTo, CallsTo, Turns, hand_or, LaneTurns};
 ghost use Rattle.world_laws.specs.Parting.{parts_of, Passes};
@@ -21,6 +22,7 @@ use crate::setups::tell_setups;
 use crate::stage::Stage;
 use accept_book::Book;
 use gss_client::Session;
+use krb_derive::SealKeys;
 use sec_base::{Moment, NoMemory, Octets};
 use spnego_core::InitSetup;
 use std::alloc::Global;
@@ -106,12 +108,13 @@ fn stays(stage: Stage) -> Moves
 }
 
 /// An initiator takes a reply, if a creation call of its own is out.
-fn deliver_from(alloc: Global, stage: Stage, bytes: &[u8]) -> Moves
-    ensures { TurnsTo (taken_from bytes.now stage) (happened_of result.happened) stage
+fn deliver_from(alloc: Global, stage: Stage, bytes: &[u8], first: u32) -> Moves
+    requires { first ≤ 0x80000000 }
+    ensures { TurnsTo (taken_from first bytes.now stage) (happened_of result.happened) stage
         result.stage }
 {
     match stage {
-        Stage::Asks { xid, end } => initiators::take(alloc, xid, end, bytes),
+        Stage::Asks { xid, end } => initiators::take(alloc, first, xid, end, bytes),
         other => stays(other),
     }
 }
@@ -164,15 +167,17 @@ fn deliver(
     stages: &mut Vec<Stage>,
     i: usize,
     bytes: &[u8],
+    first: u32,
 ) -> Result<Happened, NoMemory>
-    ensures { Turns (of_stage (taken_from bytes.now) (slice_get stages.old.items i)) i
+    requires { first ≤ 0x80000000 }
+    ensures { Turns (of_stage (taken_from first bytes.now) (slice_get stages.old.items i)) i
         (happened_of result) stages.old.items stages.new.items }
 {
     if i >= stages.len() {
         return Ok(Happened::Nothing);
     }
     let stage = mem::replace(&mut stages[i], Stage::Over);
-    let moves = deliver_from(alloc, stage, bytes);
+    let moves = deliver_from(alloc, stage, bytes, first);
     stages[i] = moves.stage;
     moves.happened
 }
@@ -239,6 +244,18 @@ fn go_on(
     }
 }
 
+/// Does nothing that stays: what the calls of this session are answered.
+fn tell_ruled(stage: &Stage)
+    ensures { RulesCalls (Some stage.now) }
+{
+    match stage {
+        Stage::Stands(session) => {
+            let _keys = SealKeys::of(&session.outcome().key, 24);
+        }
+        _ => {}
+    }
+}
+
 /// Does nothing: its contract says what a book keeps.
 fn tell_book(book: &Option<Book>)
     ensures { (b : BookOf) → book.now ≡ Some b → IsBook b }
@@ -258,9 +275,11 @@ fn happen(alloc: Global, parts: &mut Parts, event: WorldEvent) -> Result<Happene
 {
     match event {
         WorldEvent::Start { initiator } => start(alloc, &mut parts.stages, initiator),
-        WorldEvent::Deliver { initiator, bytes } => {
-            deliver(alloc, &mut parts.stages, initiator, bytes.as_slice())
-        }
+        WorldEvent::Deliver {
+            initiator,
+            bytes,
+            first,
+        } => deliver(alloc, &mut parts.stages, initiator, bytes.as_slice(), first),
         WorldEvent::Lane {
             lane,
             bytes,
@@ -298,9 +317,14 @@ impl WorldEvent {
             WorldEvent::Start { initiator } => WorldEvent::Start {
                 initiator: *initiator,
             },
-            WorldEvent::Deliver { initiator, bytes } => WorldEvent::Deliver {
+            WorldEvent::Deliver {
+                initiator,
+                bytes,
+                first,
+            } => WorldEvent::Deliver {
                 initiator: *initiator,
                 bytes: Octets::of(alloc, bytes.as_slice())?,
+                first: *first,
             },
             WorldEvent::Lane {
                 lane,
@@ -397,6 +421,15 @@ impl World {
         ensures ran { ∥ Ran self.now ∥₁ }
     {
         self.events.as_slice()
+    }
+
+    /// Does nothing that stays: what the calls of the first initiator's session are answered.
+    pub(crate) fn tell_calls(&self)
+        ensures { RulesCalls (slice_get self.now.stages 0) }
+    {
+        if let Some(stage) = self.parts.stages.get(0) {
+            tell_ruled(stage);
+        }
     }
 
     /// One event. At want of memory nothing happened, or the event counts and its initiator has ended, or its lane has no record any more.

@@ -6,12 +6,12 @@ ghost use Rattle.world_laws.specs.Showing.{setup_of};
 
 use crate::begun::{Begun, begin, book, list_of};
 use accept_book::Book;
-use sec_base::{Items, Moment, NoMemory};
+use sec_base::{Items, Moment, NoMemory, Octets};
 use spnego_core::{AcceptSetup, MechCred};
 use std::alloc::Global;
 use table_rows::{Cells, Said};
 use table_setting::Setting;
-use world_laws::{WorldSetup, meet};
+use world_laws::{World, WorldSetup, call_once, meet};
 
 /// A list of one.
 fn alone<T: Drop>(alloc: Global, only: T) -> Result<Vec<T>, NoMemory>
@@ -26,8 +26,25 @@ fn alone<T: Drop>(alloc: Global, only: T) -> Result<Vec<T>, NoMemory>
     }
 }
 
-/// Whether both ends completed after one record of this initiator and the reply of this book.
-fn is_carried(alloc: Global, book: Book, begun: Begun, now: Moment) -> Result<bool, NoMemory>
+/// How far an exchange came.
+#[derive(Clone, Copy)]
+struct Carried {
+    /// Both ends completed.
+    met: bool,
+    /// A call of NULL after it was answered.
+    called: bool,
+}
+
+/// How far one record of the world's initiator, the reply of its book, and a call come.
+fn carry_over(alloc: Global, world: &mut World, now: Moment) -> Result<Carried, NoMemory> {
+    let met = meet(alloc, world, now, [3; 82])?;
+    let none = Octets::from_vec(Vec::new(alloc));
+    let called = call_once(alloc, world, 0, none, now, [4; 82])?;
+    Ok(Carried { met, called })
+}
+
+/// The same of this initiator and this book.
+fn carry(alloc: Global, book: Book, begun: Begun, now: Moment) -> Result<Carried, NoMemory>
     requires empty { book.core.history ≡ [] }
     requires same { setup_of begun.facts ≡ begun.own }
     requires own { is_own_list begun.own.list ≡ true }
@@ -40,8 +57,8 @@ fn is_carried(alloc: Global, book: Book, begun: Begun, now: Moment) -> Result<bo
                 facts,
                 lanes: 1,
             };
-            match meet(alloc, setup, now, [3; 82]) {
-                Ok(met) => Ok(met.is_some()),
+            match World::new(alloc, setup) {
+                Ok(mut world) => carry_over(alloc, &mut world, now),
                 Err(no_memory) => Err(no_memory),
             }
         }
@@ -50,34 +67,38 @@ fn is_carried(alloc: Global, book: Book, begun: Begun, now: Moment) -> Result<bo
 }
 
 /// The same of an initiator with this list and of this acceptor, which begin at this moment.
-fn is_met(
+fn carry_between(
     alloc: Global,
     setup: AcceptSetup,
     list: Items<MechCred>,
     now: Moment,
-) -> Result<bool, NoMemory>
+) -> Result<Carried, NoMemory>
     requires { is_own_list list ≡ true }
 {
     match (book(alloc, setup, now), begin(alloc, list, now, 7)) {
-        (Ok(book), Ok(begun)) => is_carried(alloc, book, begun, now),
+        (Ok(book), Ok(begun)) => carry(alloc, book, begun, now),
         _ => Err(NoMemory),
     }
 }
 
 /// The same at 1,000,000 seconds, by the letters of the initiator's list.
-fn met_with(alloc: Global, setting: &Setting, letters: &str) -> Option<bool> {
+fn carry_with(alloc: Global, setting: &Setting, letters: &str) -> Option<Carried> {
     let list = list_of(alloc, setting, letters)?;
     match (setting.acceptor(alloc, "ks"), Moment::new(1_000_000, 0)) {
-        (Some(setup), Some(now)) => is_met(alloc, setup, list, now).ok(),
+        (Some(setup), Some(now)) => carry_between(alloc, setup, list, now).ok(),
         _ => None,
     }
 }
 
-/// Says whether both ends completed after one record and its reply, of a row with the letters of the initiator's list.
+/// Says whether both ends completed after one record and its reply, and whether a call after that was answered, of a row with the letters of the
+/// initiator's list.
 pub fn answer(setting: &Setting, cells: &mut Cells<'_>, said: &mut Said) {
     let letters = cells.word();
-    match met_with(cells.alloc(), setting, letters) {
-        Some(is_met) => said.yes(is_met),
+    match carry_with(cells.alloc(), setting, letters) {
+        Some(carried) => {
+            said.yes(carried.met);
+            said.yes(carried.called);
+        }
         None => cells.expect(false),
     }
 }

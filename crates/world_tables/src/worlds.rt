@@ -190,7 +190,11 @@ impl Run {
         self.step(
             asked.alloc(),
             said,
-            WorldEvent::Deliver { initiator, bytes },
+            WorldEvent::Deliver {
+                initiator,
+                bytes,
+                first: 1,
+            },
         );
     }
 

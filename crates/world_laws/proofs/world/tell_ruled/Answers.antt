@@ -1,0 +1,5 @@
+use Rattle.world_laws.proofs.MetRules.{rules-of}
+use Rattle.world_laws.proofs.world.tell_ruled.Goals as goal
+
+pub returns-in-Stands : goal.returns-in-Stands
+returns-in-Stands c = rules-of c.of-keys.result c.args.stage.now c.in-Stands.session _ c.in-Stands.is c.outcome.ensures c.of-keys.ensures
