@@ -1,0 +1,251 @@
+/* A client whose calls are made beforehand, so that their time is the server's and the system's.
+ *
+ *   ready_client PORT SERVER SERVICE SIZE CALLS FLIGHT
+ *
+ * SERVER is a principal, as rpc/localhost@REALM.TEST; SERVICE is none, which is without authentication, integrity or privacy. A context is made by
+ * libtirpc and by the SPNEGO of MIT Kerberos, then CALLS calls of NULL, or of ECHO with SIZE octets where SIZE isn't 0. They go over a
+ * connection of their own, FLIGHT of them in one write, after the replies to those before. A line "CALLS SECONDS" is printed. The status is
+ * 0 where as many calls were accepted. */
+#include <gssapi/gssapi.h>
+#include <gssapi/gssapi_krb5.h>
+#include <rpc/rpc.h>
+#include <rpc/auth_gss.h>
+#include <arpa/inet.h>
+#include <netinet/tcp.h>
+#include <stdint.h>
+#include <stdio.h>
+#include <stdlib.h>
+#include <string.h>
+#include <time.h>
+#include <unistd.h>
+
+enum { PROGRAM = 0x20004753, VERSION = 1, NOTHING = 0, ECHO = 1, RPC_VERSION = 2, GSS_VERSION = 1, DATA = 0 };
+enum { LAST_FRAGMENT = (int)0x80000000, BUFFER = 200000 };
+
+static gss_OID_desc spnego = { 6, "\x2b\x06\x01\x05\x05\x02" };
+
+/* Octets that grow. */
+struct octets {
+    size_t count, room;
+    unsigned char *at;
+};
+
+static void put(struct octets *to, const void *from, size_t count)
+{
+    if (to->count + count > to->room) {
+        to->room = 2 * (to->count + count);
+        to->at = realloc(to->at, to->room);
+        if (to->at == NULL)
+            exit(1);
+    }
+    memcpy(to->at + to->count, from, count);
+    to->count += count;
+}
+
+static void put_word(struct octets *to, uint32_t word)
+{
+    uint32_t sent = htonl(word);
+    put(to, &sent, 4);
+}
+
+/* Octets behind their length, padded to words. */
+static void put_opaque(struct octets *to, const void *from, size_t count)
+{
+    put_word(to, count);
+    put(to, from, count);
+    put(to, "\0\0\0", (4 - count % 4) % 4);
+}
+
+static void put_mic(struct octets *to, gss_ctx_id_t context, const struct octets *over)
+{
+    gss_buffer_desc message = { over->count, over->at }, mic;
+    OM_uint32 minor;
+    if (gss_get_mic(&minor, context, GSS_C_QOP_DEFAULT, &message, &mic) != GSS_S_COMPLETE)
+        exit(1);
+    put_opaque(to, mic.value, mic.length);
+    gss_release_buffer(&minor, &mic);
+}
+
+static void put_sealed(struct octets *to, gss_ctx_id_t context, const struct octets *plain)
+{
+    gss_buffer_desc message = { plain->count, plain->at }, sealed;
+    OM_uint32 minor;
+    if (gss_wrap(&minor, context, 1, GSS_C_QOP_DEFAULT, &message, NULL, &sealed) != GSS_S_COMPLETE)
+        exit(1);
+    put_opaque(to, sealed.value, sealed.length);
+    gss_release_buffer(&minor, &sealed);
+}
+
+static int connected(int port)
+{
+    struct sockaddr_in address = { .sin_family = AF_INET, .sin_port = htons(port) };
+    int link = socket(AF_INET, SOCK_STREAM, 0), yes = 1;
+    inet_pton(AF_INET, "127.0.0.1", &address.sin_addr);
+    setsockopt(link, IPPROTO_TCP, TCP_NODELAY, &yes, sizeof yes);
+    if (connect(link, (struct sockaddr *)&address, sizeof address) != 0)
+        exit(1);
+    return link;
+}
+
+/* A context of a service, by its handle, over a connection that is then closed. */
+static struct authgss_private_data created(int port, char *server, int service)
+{
+    struct rpc_gss_sec wanted = { &spnego, GSS_C_QOP_DEFAULT, service, GSS_C_NO_CREDENTIAL, GSS_C_MUTUAL_FLAG };
+    struct sockaddr_in address = { .sin_family = AF_INET, .sin_port = htons(port) };
+    struct authgss_private_data made;
+    gss_buffer_desc text = { strlen(server), server };
+    gss_name_t name;
+    OM_uint32 minor;
+    int link = RPC_ANYSOCK;
+    inet_pton(AF_INET, "127.0.0.1", &address.sin_addr);
+    CLIENT *client = clnttcp_create(&address, PROGRAM, VERSION, &link, BUFFER, BUFFER);
+    if (client == NULL || gss_import_name(&minor, &text, (gss_OID)GSS_KRB5_NT_PRINCIPAL_NAME, &name) != GSS_S_COMPLETE)
+        exit(1);
+    client->cl_auth = authgss_create(client, name, &wanted);
+    if (client->cl_auth == NULL || !authgss_get_private_data(client->cl_auth, &made))
+        exit(1);
+    clnt_destroy(client);
+    return made;
+}
+
+/* The arguments: none of NULL, octets of ECHO. */
+static void put_arguments(struct octets *to, const void *octets, size_t size)
+{
+    if (size > 0)
+        put_opaque(to, octets, size);
+}
+
+/* One record: a call with this number. */
+static void put_call(struct octets *to, const struct authgss_private_data *by, int service, uint32_t number, const void *octets, size_t size)
+{
+    struct octets call = { 0, 0, NULL }, plain = { 0, 0, NULL };
+    const uint32_t head[] = { number, 0, RPC_VERSION, PROGRAM, VERSION, size > 0 ? ECHO : NOTHING };
+    for (int i = 0; i < 6; i++)
+        put_word(&call, head[i]);
+    if (service == 0) {
+        for (int i = 0; i < 4; i++)
+            put_word(&call, 0);
+        put_arguments(&call, octets, size);
+    } else {
+        put_word(&call, RPCSEC_GSS);
+        put_word(&call, 16 + 4 + (by->pd_ctx_hndl.length + 3) / 4 * 4);
+        const uint32_t cred[] = { GSS_VERSION, DATA, number, service };
+        for (int i = 0; i < 4; i++)
+            put_word(&call, cred[i]);
+        put_opaque(&call, by->pd_ctx_hndl.value, by->pd_ctx_hndl.length);
+        struct octets header = call;
+        struct octets mic = { 0, 0, NULL };
+        put_mic(&mic, by->pd_ctx, &header);
+        put_word(&call, RPCSEC_GSS);
+        put(&call, mic.at, mic.count);
+        free(mic.at);
+        put_word(&plain, number);
+        put_arguments(&plain, octets, size);
+        if (service == RPCSEC_GSS_SVC_PRIVACY) {
+            put_sealed(&call, by->pd_ctx, &plain);
+        } else {
+            put_opaque(&call, plain.at, plain.count);
+            put_mic(&call, by->pd_ctx, &plain);
+        }
+    }
+    put_word(to, LAST_FRAGMENT | call.count);
+    put(to, call.at, call.count);
+    free(call.at);
+    free(plain.at);
+}
+
+static double seconds(void)
+{
+    struct timespec now;
+    clock_gettime(CLOCK_MONOTONIC, &now);
+    return now.tv_sec + now.tv_nsec / 1e9;
+}
+
+static void send_all(int link, const unsigned char *at, size_t count)
+{
+    while (count > 0) {
+        ssize_t sent = write(link, at, count);
+        if (sent <= 0)
+            exit(1);
+        at += sent;
+        count -= sent;
+    }
+}
+
+static uint32_t word_at(const unsigned char *at)
+{
+    uint32_t word;
+    memcpy(&word, at, 4);
+    return ntohl(word);
+}
+
+/* Octets that were read, from `from` on not yet looked at. */
+struct read {
+    size_t from, end, room;
+    unsigned char *at;
+};
+
+/* Whether a whole reply of one fragment lies there. */
+static int is_whole(const struct read *got)
+{
+    size_t count = got->end - got->from;
+    return count >= 4 && count >= 4 + (size_t)(word_at(got->at + got->from) & 0x7fffffff);
+}
+
+/* Takes a reply, and ends the program where it isn't accepted. */
+static void take_reply(struct read *got)
+{
+    const unsigned char *reply = got->at + got->from;
+    size_t length = 4 + (word_at(reply) & 0x7fffffff);
+    if (length < 28 || word_at(reply + 8) != 1 || word_at(reply + 12) != 0)
+        exit(1);
+    got->from += length;
+}
+
+static void read_replies(int link, struct read *got, int wanted)
+{
+    while (wanted > 0) {
+        if (is_whole(got)) {
+            take_reply(got);
+            wanted--;
+            continue;
+        }
+        memmove(got->at, got->at + got->from, got->end - got->from);
+        got->end -= got->from;
+        got->from = 0;
+        ssize_t count = read(link, got->at + got->end, got->room - got->end);
+        if (count <= 0)
+            exit(1);
+        got->end += count;
+    }
+}
+
+int main(int argc, char **argv)
+{
+    if (argc != 7)
+        return 2;
+    int port = atoi(argv[1]), size = atoi(argv[4]), calls = atoi(argv[5]), flight = atoi(argv[6]);
+    int service = strcmp(argv[3], "privacy") == 0 ? RPCSEC_GSS_SVC_PRIVACY : strcmp(argv[3], "integrity") == 0 ? RPCSEC_GSS_SVC_INTEGRITY : 0;
+    struct authgss_private_data by = { 0 };
+    if (service != 0)
+        by = created(port, argv[2], service);
+    unsigned char *octets = calloc(1, size + 1);
+    struct octets records = { 0, 0, NULL };
+    struct read got = { 0, 0, 1 << 20, malloc(1 << 20) };
+    size_t *ends = malloc((calls + 1) * sizeof *ends);
+    ends[0] = 0;
+    for (int i = 0; i < calls; i++) {
+        put_call(&records, &by, service, i + 1, octets, size);
+        ends[i + 1] = records.count;
+    }
+    int link = connected(port);
+    double start = seconds();
+    for (int at = 0; at < calls; at += flight) {
+        int next = at + flight < calls ? at + flight : calls;
+        send_all(link, records.at + ends[at], ends[next] - ends[at]);
+        read_replies(link, &got, next - at);
+    }
+    printf("%d %.6f\n", calls, seconds() - start);
+    close(link);
+    return 0;
+}
