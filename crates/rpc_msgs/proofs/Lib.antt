@@ -1,6 +1,7 @@
 pub mod ContentSteps
 pub mod FragmentSteps
 pub mod InARow
+pub mod Readings
 pub mod WordLengths
 pub mod XdrLaws
 pub mod CallLaws

@@ -37,14 +37,14 @@ pub const AUTH_BADCRED: u32 = 1;
 pub const AUTH_REJECTEDCRED: u32 = 2;
 /// Auth stat: the call needs a stronger protection.
 pub const AUTH_TOOWEAK: u32 = 5;
-/// Auth stat: there is no such context, or the verifier isn't its peer's (RFC 2203 section 5.3.3.3).
+/// Auth stat: there is no such context, or the verifier isn't its peer's (RFC 2203 sections 4 and 5.3.3.3).
 pub const RPCSEC_GSS_CREDPROBLEM: u32 = 13;
-/// Auth stat: the context can't be used any more, or not with this number (RFC 2203 section 5.3.3.3).
+/// Auth stat: the context can't be used any more, or not with this number (RFC 2203 sections 4 and 5.3.3.3).
 pub const RPCSEC_GSS_CTXPROBLEM: u32 = 14;
 
 /// Flavour of a credential or verifier: none (RFC 5531 section 10.1).
 pub const AUTH_NONE: u32 = 0;
-/// Flavour of a credential or verifier: RPCSEC_GSS (RFC 2203 section 5).
+/// Flavour of a credential or verifier: RPCSEC_GSS (RFC 2203 section 3).
 pub const RPCSEC_GSS: u32 = 6;
 
 /// The served program (this project's own, of the range that RFC 5531 section 8.3 leaves to users).

@@ -5,6 +5,7 @@ ghost use Rattle.std.specs.Prelude.{IsTrue, Ok, OnOk, IfOk, OnErr, IsErrOf};
 ghost use Rattle.sec_base.specs.Answers.{Rose};
 ghost use Rattle.rpc_msgs.specs.Fragments.{TakesFragment, TakesHeader, TakesAnnounced};
 ghost use Rattle.rpc_msgs.specs.Fragments.{TakesContent, TakesPiece};
+ghost use Rattle.rpc_msgs.specs.Reading.{Finds, first_record};
 ghost use Rattle.rpc_msgs.specs.Records.{TakesRecord, last_fragment};
 ghost use Rattle.sec_base.specs.Streams.{Sends};
 ghost use Rattle.rpc_msgs.specs.Words.{word};
@@ -63,6 +64,22 @@ enum Fragment {
 /// The next record of the stream; None where the stream ended before its first octet. Memory is taken for octets that were read, and
 /// not for those that a header announces.
 pub fn next_record<L: Link>(alloc: Global, link: &mut L) -> Result<Option<Octets>, RecordRefusal>
+    requires { L.closed link.old ≡ false }
+    ensures told { IsTrue (L.tells link.old)
+        → TakesRecord (L.wire link.old) (L.wire link.new) result }
+    ensures reading { IsTrue (L.tells link.old)
+        → Finds (first_record (L.wire link.old).coming) result (L.wire link.new).coming }
+    ensures tells { L.tells link.new ≡ L.tells link.old }
+    ensures unclosed { L.closed link.new ≡ false }
+    ensures fault { IsErrOf result RecordRefusal.LinkFault
+        → Rose (L.faults link.old) (L.faults link.new) }
+    ensures faults { L.faults link.old ≤ L.faults link.new }
+{
+    read_record(alloc, link)
+}
+
+/// The same, of which it isn't shown yet that the stream has no other reading.
+fn read_record<L: Link>(alloc: Global, link: &mut L) -> Result<Option<Octets>, RecordRefusal>
     requires { L.closed link.old ≡ false }
     ensures told { IsTrue (L.tells link.old)
         → TakesRecord (L.wire link.old) (L.wire link.new) result }

@@ -4,29 +4,16 @@ use Rattle.std.proofs.lemmas.List.{length-append}
 use Rattle.rpc_msgs.specs.Words.{word, opaque}
 use Rattle.rpc_msgs.proofs.WordLengths.{length-word, length-opaque}
 use Rattle.rpcsec_msgs.specs.Bodies.{checked_octets}
-use Rattle.aes_cts.proofs.Restored.{length-cts_encrypted}
-use Rattle.krb_derive.proofs.Opened.{length-tag_of}
-use Rattle.krb_derive.specs.declared.key.Key.{Key}
-use Rattle.krb_derive.specs.Sealing.{seal_of, tag_of}
-use Rattle.krb_derive.specs.Derivation.{derived}
-use Rattle.krb_derive.specs.declared.derivation.Part.TheVariants.{Encrypt, Integrity}
-use Rattle.krb_derive.specs.Key.{key_octets}
-use Rattle.aes_cts.specs.Stealing.{cts_encrypted}
+use Rattle.krb_derive.specs.Sealing.{seal_of}
 use Rattle.krb_tokens.specs.End.{seal_usage, sign_usage}
 use Rattle.krb_tokens.specs.Mic.{mic_of, mic_header}
 use Rattle.krb_tokens.specs.Wrap.{wrap_header, sealed_body, wrap_of}
 use Rattle.krb_tokens.specs.declared.end.TokenEnd.{TokenEnd}
 use Rattle.krb_tokens.proofs.Taken.{length-checksum_of}
+use Rattle.krb_tokens.proofs.Unwrapping.{length-seal_of}
 use Rattle.rpcsec_bodies.specs.Protection.{protected}
 use Rattle.rpcsec_bodies.specs.declared.service.Service.{Service}
 use Rattle.rpcsec_bodies.specs.declared.service.Service.TheVariants as services
-
-length-seal_of : (key : Key) (usage : ℕ) (confounder octets : List ℕ) → length confounder ≡ 16 → length (seal_of key usage confounder octets) ≡ 28 + length octets
-unfolding seal_of
-length-seal_of key usage confounder octets size =
-    let plain : length (confounder ++ octets) ≡ 16 + length octets = length-append confounder octets ∙ ap (λ (n : ℕ). n + length octets) size in
-    length-append (cts_encrypted (key_octets (derived key usage Encrypt)) (confounder ++ octets)) (tag_of (derived key usage Integrity) (confounder ++ octets))
-    ∙ omega (arith, length-cts_encrypted (key_octets (derived key usage Encrypt)) (confounder ++ octets) (omega arith), length-tag_of (derived key usage Integrity) (confounder ++ octets))
 
 length-wrap_header : (end : TokenEnd) (sealed : Bool) (extra rotation number : ℕ) → length (wrap_header end sealed extra rotation number) ≡ 16
 unfolding wrap_header

@@ -1,6 +1,6 @@
 use Rattle.std.proofs.Common.{◌≡◌, ◌≤◌, false, IsTrue, vec_len}
 use Rattle.rpc_msgs.specs.Fragments.{Begins}
-use Rattle.rpc_msgs.proofs.record.next_record.Given as goal
+use Rattle.rpc_msgs.proofs.record.read_record.Given as goal
 
 abbrev pub invariant-loop-number : goal.invariant-loop-number
 invariant-loop-number g l = record {
