@@ -5,6 +5,8 @@ use sec_base::{Clock, Draw, Link, LinkFault, LoadRefusal, Port, Shelf, Sink};
 use std::alloc::Global;
 use std::io;
 use std::io::{Stderr, Stdin, Stdout};
+use std::net::{Net, TcpListener, TcpStream};
+use std::sync::Wait;
 use system_devices::{
     DialedLink, FileShelf, HeldStreams, RandDraw, StdSink, StdioPort, SystemClock, TcpDoor, TcpPort,
 };
@@ -52,7 +54,7 @@ fn takes_octets(error: Stderr) -> bool {
 }
 
 /// Whether two ports at a door that is no address fail.
-fn ports_fail(rt: HostRuntime) -> bool {
+fn ports_fail<R: Net<Stream = TcpStream, Listener = TcpListener> + Wait + Drop>(rt: R) -> bool {
     let door = TcpDoor::at(rt, "not an address");
     let mut one = TcpPort::at(&door);
     let mut other = TcpPort::at(&door);

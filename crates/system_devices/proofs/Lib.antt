@@ -1,1 +1,2 @@
 mod Queueing
+mod Waiting

@@ -1,7 +1,7 @@
 //! Octets of a link that were read before they were asked for.
 
 ghost use Rattle.std.specs.Prelude.{◌≡◌, ◌++◌, ◌==◌, ◌≤◌, false, [], length, take, min, vec_len};
-ghost use Rattle.std.specs.Prelude.{OnErr};
+ghost use Rattle.std.specs.Prelude.{IsTrue, IfOk, OnErr};
 ghost use Rattle.sec_base.specs.Answers.{Rose};
 
 use sec_base::{Link, LinkFault};
@@ -20,13 +20,28 @@ pub(crate) struct Ahead {
     ghost within: { end ≤ vec_len octets },
 }
 
+/// Reads octets of the link, to which none are written.
+pub(crate) fn read_from<L: Link>(link: &mut L, buf: &mut [u8]) -> Result<usize, LinkFault>
+    requires { L.closed link.old ≡ false }
+    ensures count { IfOk result (λ count. count ≤ length buf.old) }
+    ensures written { IsTrue (L.tells link.old)
+        → (L.wire link.new).written ≡ (L.wire link.old).written }
+    ensures unclosed { L.closed link.new ≡ false }
+    ensures fault { OnErr result (Rose (L.faults link.old) (L.faults link.new)) }
+    ensures faults { L.faults link.old ≤ L.faults link.new }
+{
+    match link.read(buf) {
+        Ok(count) => Ok(count),
+        Err(fault) => Err(fault),
+    }
+}
+
 impl Ahead {
-    ghost use Rattle.std.specs.Prelude.{IfSome};
-    ghost use Rattle.system_devices.specs.Ahead.{waiting};
+    ghost use Rattle.system_devices.specs.Ahead.{waiting, waiting_in};
 
     /// No octets, with room for some; None where there is no memory for that.
     pub(crate) fn none(alloc: Global) -> Option<Ahead>
-        ensures { IfSome result (λ ahead. waiting ahead ≡ []) }
+        ensures { waiting_in result ≡ [] }
     {
         match vec![in alloc; 0; ROOM] {
             Ok(octets) => Some(Ahead {
@@ -40,7 +55,8 @@ impl Ahead {
 
     /// Whether no octets wait.
     pub(crate) fn is_empty(&self) -> bool
-        ensures { result ≡ (self.now.at == self.now.end) }
+        ensures value { result ≡ (self.now.at == self.now.end) }
+        ensures nothing { result ≡ (length (waiting self.now) == 0) }
     {
         self.at == self.end
     }
@@ -62,10 +78,12 @@ impl Ahead {
         requires unclosed { L.closed link.old ≡ false }
         ensures unclosed { L.closed link.new ≡ false }
         ensures none { OnErr result (waiting self.new ≡ []) }
+        ensures written { IsTrue (L.tells link.old)
+            → (L.wire link.new).written ≡ (L.wire link.old).written }
         ensures fault { OnErr result (Rose (L.faults link.old) (L.faults link.new)) }
         ensures faults { L.faults link.old ≤ L.faults link.new }
     {
-        match link.read(&mut self.octets) {
+        match read_from(link, &mut self.octets) {
             Ok(count) => {
                 self.at = 0;
                 self.end = count;

@@ -21,12 +21,11 @@ pub(crate) struct Behind {
 }
 
 impl Behind {
-    ghost use Rattle.std.specs.Prelude.{IfSome};
-    ghost use Rattle.system_devices.specs.Behind.{unwritten};
+    ghost use Rattle.system_devices.specs.Behind.{held, unwritten};
 
     /// No octets, with room for some; None where there is no memory for that.
     pub(crate) fn none(alloc: Global) -> Option<Behind>
-        ensures { IfSome result (λ it. unwritten it ≡ []) }
+        ensures { held result ≡ [] }
     {
         match vec![in alloc; 0; ROOM] {
             Ok(octets) => Some(Behind { octets, count: 0 }),

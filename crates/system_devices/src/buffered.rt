@@ -1,12 +1,14 @@
 //! Links that read ahead and write behind, for those whose reads and writes are calls of the system.
 
-ghost use Rattle.std.specs.Prelude.{◌≡◌, ◌<◌, ◌≤◌, true, false, [], length, take, IsTrue, IfOk};
-ghost use Rattle.std.specs.Prelude.{OnErr};
+ghost use Rattle.std.specs.Prelude.{◌≡◌, ◌<◌, ◌≤◌, ◌==◌, ◌++◌, true, false, [], length, take};
+ghost use Rattle.std.specs.Prelude.{IsTrue, IfOk, OnOk, OnErr};
 ghost use Rattle.sec_base.specs.Answers.{Rose};
-ghost use Rattle.system_devices.specs.Behind.{held, unwritten, Queues};
+ghost use Rattle.sec_base.specs.Link.{Reads};
 ghost use Rattle.sec_base.specs.Streams.{Sends};
+ghost use Rattle.system_devices.specs.Ahead.{waiting_in};
+ghost use Rattle.system_devices.specs.Behind.{held, unwritten, Queues};
 
-use crate::ahead::{Ahead, ROOM};
+use crate::ahead::{Ahead, ROOM, read_from};
 use crate::behind::Behind;
 use sec_base::{Link, LinkFault, Port, PortFault};
 use std::alloc::Global;
@@ -29,6 +31,8 @@ fn read_by<L: Link>(ahead: &mut Ahead, link: &mut L, buf: &mut [u8]) -> Result<u
     requires { L.closed link.old ≡ false }
     ensures count { IfOk result (λ count. count ≤ length buf.old) }
     ensures unclosed { L.closed link.new ≡ false }
+    ensures written { IsTrue (L.tells link.old)
+        → (L.wire link.new).written ≡ (L.wire link.old).written }
     ensures fault { OnErr result (Rose (L.faults link.old) (L.faults link.new)) }
     ensures faults { L.faults link.old ≤ L.faults link.new }
 {
@@ -41,8 +45,8 @@ fn read_by<L: Link>(ahead: &mut Ahead, link: &mut L, buf: &mut [u8]) -> Result<u
     Ok(ahead.move_to(buf))
 }
 
-/// Has octets wait behind the others. Where there is no room for them, the others are written first, and so are they where they are more
-/// than may wait.
+/// Takes octets that are to be written. They wait, behind those that wait already. If there is no room for both, those that wait are written
+/// first; octets for which there is no room alone are written at once.
 fn write_by<L: Link>(behind: &mut Behind, link: &mut L, buf: &[u8]) -> Result<usize, LinkFault>
     requires { L.closed link.old ≡ false }
     ensures count { IfOk result (λ count. count ≤ length buf.now) }
@@ -67,9 +71,13 @@ fn write_by<L: Link>(behind: &mut Behind, link: &mut L, buf: &[u8]) -> Result<us
 }
 
 impl<L: Link> Buffered<L> {
+    ghost use Rattle.system_devices.specs.Buffered.{link_below, read_ahead, written_behind};
+
     /// A link over `link`, of which nothing was read ahead, and for which nothing waits.
     pub fn over(alloc: Global, link: L) -> Buffered<L>
-        ensures { result.link ≡ link }
+        ensures below { link_below result ≡ link }
+        ensures ahead { read_ahead result ≡ [] }
+        ensures behind { written_behind result ≡ [] }
     {
         Buffered {
             link,
@@ -79,8 +87,10 @@ impl<L: Link> Buffered<L> {
         }
     }
 
-    /// Whether the next read asks the link below.
-    fn is_drained(&self) -> bool {
+    /// Whether no octets wait that were read ahead, so that the next read asks the link below.
+    fn is_drained(&self) -> bool
+        ensures { result ≡ (length (waiting_in self.now.ahead) == 0) }
+    {
         match &self.ahead {
             Some(ahead) => ahead.is_empty(),
             None => true,
@@ -93,6 +103,7 @@ impl<L: Link> Buffered<L> {
         ensures none { held self.new.behind ≡ [] }
         ensures told { IsTrue (L.tells self.old.link)
             → Sends (L.wire self.old.link) (L.wire self.new.link) result (held self.old.behind) }
+        ensures tells { L.tells self.new.link ≡ L.tells self.old.link }
         ensures unclosed { L.closed self.new.link ≡ false }
         ensures fault { OnErr result (Rose (L.faults self.old.link) (L.faults self.new.link)) }
         ensures faults { L.faults self.old.link ≤ L.faults self.new.link }
@@ -103,10 +114,48 @@ impl<L: Link> Buffered<L> {
             None => Ok(()),
         }
     }
+
+    /// Writes what waits, if the next read asks the link below.
+    fn drain(&mut self) -> Result<(), LinkFault>
+        requires { L.closed self.old.link ≡ false }
+        ensures none { waiting_in self.old.ahead ≡ [] → held self.new.behind ≡ [] }
+        ensures written { IsTrue (L.tells self.old.link) → waiting_in self.old.ahead ≡ []
+            → OnOk result ((L.wire self.new.link).written
+            ≡ (L.wire self.old.link).written ++ held self.old.behind) }
+        ensures tells { L.tells self.new.link ≡ L.tells self.old.link }
+        ensures unclosed { L.closed self.new.link ≡ false }
+        ensures fault { OnErr result (Rose (L.faults self.old.link) (L.faults self.new.link)) }
+        ensures faults { L.faults self.old.link ≤ L.faults self.new.link }
+    {
+        if self.is_drained() {
+            return self.flush();
+        }
+        Ok(())
+    }
+
+    /// Gives the next octets, those that were read ahead first, and writes none.
+    fn give(&mut self, buf: &mut [u8]) -> Result<usize, LinkFault>
+        requires { L.closed self.old.link ≡ false }
+        ensures count { IfOk result (λ count. count ≤ length buf.old) }
+        ensures behind { held self.new.behind ≡ held self.old.behind }
+        ensures written { IsTrue (L.tells self.old.link)
+            → (L.wire self.new.link).written ≡ (L.wire self.old.link).written }
+        ensures unclosed { L.closed self.new.link ≡ false }
+        ensures fault { OnErr result (Rose (L.faults self.old.link) (L.faults self.new.link)) }
+        ensures faults { L.faults self.old.link ≤ L.faults self.new.link }
+    {
+        match &mut self.ahead {
+            Some(ahead) if buf.len() < ROOM || !ahead.is_empty() => {
+                read_by(ahead, &mut self.link, buf)
+            }
+            _ => read_from(&mut self.link, buf),
+        }
+    }
 }
 
 impl<L: Link> Link for Buffered<L> {
     ghost use Rattle.std.specs.Prelude.{false, []};
+    ghost use Rattle.system_devices.specs.Buffered.{link_below, read_ahead, written_behind};
 
     ghost faults = { λ b. L.faults b.link };
 
@@ -116,16 +165,27 @@ impl<L: Link> Link for Buffered<L> {
 
     ghost closed = { λ b. L.closed b.link };
 
-    fn read(&mut self, buf: &mut [u8]) -> Result<usize, LinkFault> {
-        if self.may_wait && self.is_drained() {
-            self.flush()?;
-        }
-        match &mut self.ahead {
-            Some(ahead) if buf.len() < ROOM || !ahead.is_empty() => {
-                read_by(ahead, &mut self.link, buf)
-            }
-            _ => self.link.read(buf),
-        }
+    fn read(&mut self, buf: &mut [u8]) -> Result<usize, LinkFault>
+        requires { ⟦<Buffered<L> as Link>⟧.closed self.old ≡ false }
+        ensures count { IfOk result (λ count. count ≤ length buf.old) }
+        ensures told { IsTrue (⟦<Buffered<L> as Link>⟧.tells self.old)
+            → Reads (⟦<Buffered<L> as Link>⟧.wire self.old) (⟦<Buffered<L> as Link>⟧.wire self.new)
+            result buf.new }
+        ensures tells { ⟦<Buffered<L> as Link>⟧.tells self.new
+            ≡ ⟦<Buffered<L> as Link>⟧.tells self.old }
+        ensures unclosed { ⟦<Buffered<L> as Link>⟧.closed self.new ≡ false }
+        ensures fault { OnErr result (Rose (⟦<Buffered<L> as Link>⟧.faults self.old)
+            (⟦<Buffered<L> as Link>⟧.faults self.new)) }
+        ensures faults { ⟦<Buffered<L> as Link>⟧.faults self.old
+            ≤ ⟦<Buffered<L> as Link>⟧.faults self.new }
+        // before the link below is asked, what waits to be written is written to it
+        ensures drained { read_ahead self.old ≡ [] → written_behind self.new ≡ [] }
+        ensures written { IsTrue (L.tells (link_below self.old)) → read_ahead self.old ≡ []
+            → OnOk result ((L.wire (link_below self.new)).written
+            ≡ (L.wire (link_below self.old)).written ++ written_behind self.old) }
+    {
+        self.drain()?;
+        self.give(buf)
     }
 
     fn write(&mut self, buf: &[u8]) -> Result<usize, LinkFault> {
@@ -155,9 +215,11 @@ pub struct BufferedPort<P> {
 }
 
 impl<P: Port> BufferedPort<P> {
+    ghost use Rattle.system_devices.specs.Buffered.{port_below};
+
     /// A port whose links are those of `port`.
     pub fn new(alloc: Global, port: P) -> BufferedPort<P>
-        ensures { result.port ≡ port }
+        ensures { port_below result ≡ port }
     {
         BufferedPort { port, alloc }
     }

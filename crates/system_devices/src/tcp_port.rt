@@ -5,18 +5,18 @@ ghost use Rattle.system_devices.specs.Devices.{door_address};
 
 use crate::tcp_link::TcpLink;
 use sec_base::{Link, Port, PortFault};
-use std::cell::OnceCell;
 use std::net::{Net, TcpListener, TcpStream};
+use std::sync::{OnceLock, Wait};
 
-/// A TCP listener for several ports, which listens from the first accept of one of them on.
+/// A TCP listener for several ports, on threads of their own or on one, which listens from the first accept of one of them on.
 #[derive(Drop)]
 pub struct TcpDoor<'a, R: Drop> {
     rt: R,
     address: &'a str,
-    listener: OnceCell<Option<TcpListener>>,
+    listener: OnceLock<Option<TcpListener>>,
 }
 
-impl<'a, R: Net<Stream = TcpStream, Listener = TcpListener> + Drop> TcpDoor<'a, R> {
+impl<'a, R: Net<Stream = TcpStream, Listener = TcpListener> + Wait + Drop> TcpDoor<'a, R> {
     /// The listener at `address`, a host and a port with a colon between them, which doesn't listen yet.
     pub fn at(rt: R, address: &'a str) -> TcpDoor<'a, R>
         ensures { door_address result ≡ address.now }
@@ -24,19 +24,15 @@ impl<'a, R: Net<Stream = TcpStream, Listener = TcpListener> + Drop> TcpDoor<'a, 
         TcpDoor {
             rt,
             address,
-            listener: OnceCell::new(),
+            listener: OnceLock::new(),
         }
     }
 
     /// The listener, which is bound where that wasn't tried before; None where it can't be.
     fn listener(&self) -> Option<&TcpListener> {
-        match self
-            .listener
-            .try_get_or_init(|| TcpListener::bind(&self.rt, self.address).ok())
-        {
-            Some(listener) => listener.as_ref(),
-            None => None,
-        }
+        self.listener
+            .get_or_init(&self.rt, || TcpListener::bind(&self.rt, self.address).ok())
+            .as_ref()
     }
 }
 
@@ -47,7 +43,7 @@ pub struct TcpPort<'a, R: Drop> {
     faults: u64,
 }
 
-impl<'a, R: Net<Stream = TcpStream, Listener = TcpListener> + Drop> TcpPort<'a, R> {
+impl<'a, R: Net<Stream = TcpStream, Listener = TcpListener> + Wait + Drop> TcpPort<'a, R> {
     /// A port at this listener.
     pub fn at(door: &'a TcpDoor<'a, R>) -> TcpPort<'a, R>
         ensures { ⟦<TcpPort<'a, R> as Port>⟧.faults result ≡ 0 }
@@ -56,7 +52,7 @@ impl<'a, R: Net<Stream = TcpStream, Listener = TcpListener> + Drop> TcpPort<'a, 
     }
 }
 
-impl<'a, R: Net<Stream = TcpStream, Listener = TcpListener> + Drop> Port for TcpPort<'a, R> {
+impl<'a, R: Net<Stream = TcpStream, Listener = TcpListener> + Wait + Drop> Port for TcpPort<'a, R> {
     ghost use Rattle.std.specs.Prelude.{false, []};
 
     type Link = TcpLink;
