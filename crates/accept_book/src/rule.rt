@@ -36,7 +36,7 @@ pub enum Rule {
     Arguments,
     /// The context is gone when the number is to be taken (RFC 2203 section 5.3.3.3).
     Gone,
-    /// The number is above the greatest that may be (RFC 2203 section 5.3.3.1).
+    /// The number is above the greatest that may be (RFC 2203 sections 5.3.1 and 5.3.3.1).
     AboveMax,
     /// The number lies below the window (RFC 2203 section 5.3.3.1).
     Below,

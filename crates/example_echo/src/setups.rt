@@ -4,8 +4,8 @@ ghost use Rattle.std.specs.Prelude.{◌≡◌, IfSome, false, true};
 ghost use Rattle.spnego_core.specs.InitMech.{is_own_list};
 
 use accept_book::{Book, Limits};
+use gate_models::LoopLink;
 use gss_base::{MechKind, Principal};
-use gss_server::LoopLink;
 use krb_files::read_keytab;
 use scram_mech::{make_verifier, read_verifiers};
 use sec_base::{Items, Link, MemClock, MemDraw, Moment, Text};

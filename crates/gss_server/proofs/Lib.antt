@@ -4,6 +4,5 @@ pub mod Arguments
 pub mod KeptInARow
 pub mod OneReading
 pub mod Turning
-pub mod LoopTurns
 pub mod Replying
 pub mod Takings

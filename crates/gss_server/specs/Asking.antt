@@ -1,11 +1,9 @@
--- What the shared state is asked, one question after another, and what a book and a list answer.
-use Rattle.std.specs.Prelude.{◌≡◌, ℕ, Bool, List, [], ◌∷◌, drop, map}
+-- What the shared state is asked, one question after another, and what a book answers.
+use Rattle.std.specs.Prelude.{◌≡◌, ℕ, Bool, List, [], ◌∷◌, map}
 use Rattle.accept_book.specs.Booking.{BookOf}
 use Rattle.accept_book.specs.BookAnswers.{BookStepped, BookLooked, BookAdmitted, BookEnded}
 use Rattle.accept_book.specs.RecordShown.{Asked, AskedStep, AskedLook, AskedAdmit, AskedEnd}
-use Rattle.gss_server.specs.Listed.{StepNext, look_next, admission_next, end_next}
 use Rattle.gss_server.specs.Telling.{GainsWith, told_of}
-use Rattle.gss_server.specs.declared.gate_answer.GateAnswer.{GateAnswer}
 use Rattle.gss_server.specs.declared.told.Told.{Told}
 
 -- these questions were asked, in order, each with its answer: from one state to another, by what a
@@ -33,13 +31,3 @@ BookAnswers old (AskedLook id now answer) new = BookLooked old new id now answer
 BookAnswers old (AskedAdmit lease seq procedure args answer) new =
     BookAdmitted old new lease seq procedure args answer
 BookAnswers old (AskedEnd lease seq answer) new = BookEnded old new lease seq answer
-
--- ---- a list: the next answer, which is used up
-
--- what a list answers to a question, and what is left of it
-abbrev pub ListAnswers : List GateAnswer → Asked → List GateAnswer → Type 0
-ListAnswers old (AskedStep id token now draws answer) new = StepNext old answer × (new ≡ drop 1 old)
-ListAnswers old (AskedLook id now answer) new = (answer ≡ look_next old) × (new ≡ drop 1 old)
-ListAnswers old (AskedAdmit lease seq procedure args answer) new =
-    (answer ≡ admission_next old) × (new ≡ drop 1 old)
-ListAnswers old (AskedEnd lease seq answer) new = (answer ≡ end_next old) × (new ≡ drop 1 old)

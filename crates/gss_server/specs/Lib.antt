@@ -3,8 +3,6 @@ pub mod Asking
 pub mod Connections
 pub mod Hearing
 pub mod Keeping
-pub mod Listed
-pub mod Looping
 pub mod Receipts
 pub mod Ruled
 pub mod Serving

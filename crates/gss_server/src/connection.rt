@@ -227,7 +227,7 @@ fn reply_to_record<L: Link, K: Keeper<Kept>, G: Gate, C: Clock, D: Draw>(
         return Some(ConnEnd::NoMemory);
     }
     let keys = &mut course.keys;
-    let reply = answer(alloc, octets, keeper, gate, clock, draw, width, keys);
+    let reply = answer_and_keep(alloc, octets, keeper, gate, clock, draw, width, keys);
     course.records += 1;
     match respond(link, &reply) {
         Ok(()) => None,
@@ -235,8 +235,9 @@ fn reply_to_record<L: Link, K: Keeper<Kept>, G: Gate, C: Clock, D: Draw>(
     }
 }
 
-/// Answers a record with the next moment and draws, and gives the answer to the keeper.
-pub(crate) fn answer<K: Keeper<Kept>, G: Gate, C: Clock, D: Draw>(
+/// Answers a record by the clock's next moment and the draw's next 82 octets, and gives the answer
+/// to a keeper that is ready. `width` is that of the windows; `keys` are those of the call before.
+pub fn answer_and_keep<K: Keeper<Kept>, G: Gate, C: Clock, D: Draw>(
     alloc: Global,
     octets: &[u8],
     keeper: &mut K,

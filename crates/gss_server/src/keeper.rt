@@ -10,8 +10,8 @@ use sec_base::NoMemory;
 use std::alloc::Global;
 
 /// A keeper of things. It says which parts of a thing it keeps, and `kept` has the parts that it
-/// kept, in order; no part of what it was given is anywhere else. It takes a thing when it is
-/// ready, and makes itself ready before the thing is made, so that nothing that was made is lost.
+/// kept, in order. It takes a thing when it is ready, and makes itself ready before the thing is
+/// made, so that nothing that was made is lost.
 pub trait Keeper<T> {
     type Part;
 

@@ -1,0 +1,4 @@
+pub mod ListGate
+pub mod Listed
+pub mod LoopLink
+pub mod Looping

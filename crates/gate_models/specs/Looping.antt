@@ -1,0 +1,141 @@
+-- What a link that answers in one thread heard and said.
+use Rattle.std.specs.Prelude.{◌≡◌, ◌⊎◌, ℕ, ◌+◌, Bool, true, false, List, [], ◌∷◌, ◌++◌, length}
+use Rattle.std.specs.Prelude.{take}
+use Rattle.std.specs.List.{AllByRecursion}
+use Rattle.sec_base.specs.Link.{Wire}
+use Rattle.rpc_msgs.specs.Records.{Fragments, octets_in, frame, IsRecord, IsFront, IsTooLong}
+use Rattle.rpc_msgs.specs.Records.{IsTooMany}
+use Rattle.accept_book.specs.RecordShown.{Ruling}
+use Rattle.gss_server.specs.Answers.{IsDecided, may_want}
+use Rattle.gss_server.specs.Connections.{framed, octets_of, ruling_for, written_for, written_in}
+use Rattle.gss_server.specs.Connections.{AllDecided, AllExact, IsExact}
+use Rattle.gss_server.specs.declared.answer.Kept.{Kept}
+use Rattle.gate_models.specs.declared.looping.Next.{Next}
+use Rattle.gate_models.specs.declared.looping.Next.TheVariants as nexts
+use Rattle.gate_models.specs.declared.looping.Turned.{Turned}
+use Rattle.gate_models.specs.declared.looping.Turned.TheVariants.{Answered, Rests, Starved}
+
+-- octets that begin no record: it is too long, or has a 65th fragment
+pub record IsUnfit (octets : List ℕ) : Type 0 where
+  pub front : List ℕ
+  pub more : List ℕ
+  pub unfit : IsTooLong front ⊎ IsTooMany front
+  pub begins : octets ≡ front ++ more
+
+-- the record for whose answer memory was wanted, after the gate was asked
+pub record IsWanted (width : ℕ) (rest : List ℕ) (last : List Kept) : Type 0 where
+  pub cut : Fragments
+  pub one : Kept
+  pub more : List ℕ
+  pub is_record : IsRecord cut
+  pub begins : rest ≡ frame cut ++ more
+  pub kept : last ≡ one ∷ []
+  pub exact : IsExact width (octets_in cut) one
+  pub wanted : may_want (ruling_for width (octets_in cut) one) ≡ true
+
+-- what stands behind the records that were answered: a front of the next one, or what begins none;
+-- at want of memory anything, and then the answer for which it was wanted may have been kept
+abbrev pub Rest : ℕ → Bool → List ℕ → List Kept → Type 0
+Rest width false rest last = (last ≡ []) × (IsFront rest ⊎ IsUnfit rest)
+Rest width true rest last = (last ≡ []) ⊎ IsWanted width rest last
+
+-- what was heard are whole records, cut into fragments somehow, and a rest; what was said are the
+-- replies to the records, in order, each by the answer that was kept of it, which a rule decides
+-- and each part of which was asked of the gate
+pub record LoopedTo (rests : List ℕ → List Kept → Type 0) (width : ℕ) (heard said : List ℕ)
+    (kept : List Kept) (cut : ℕ) : Type 0 where
+  pub records : List Fragments
+  pub rest : List ℕ
+  pub answers : List Kept
+  pub last : List Kept
+  pub each : AllByRecursion IsRecord records
+  pub spelled : heard ≡ octets_of records ++ rest
+  pub place : cut ≡ length (octets_of records)
+  pub counted : length records ≡ length answers
+  pub exact : AllExact width records answers
+  pub decided : AllDecided width records answers
+  pub keeps : kept ≡ answers ++ last
+  pub replies : said ≡ written_in width records answers
+  pub stands : rests rest last
+
+-- the same with a rest that was judged; `starved` says whether memory was wanted
+abbrev pub Looped : ℕ → List ℕ → List ℕ → List Kept → ℕ → Bool → Type 0
+Looped width heard said kept cut starved = LoopedTo (Rest width starved) width heard said kept cut
+
+-- a link's octets: what was written to it is what was heard, and what was taken and what is to come
+-- is what was said
+abbrev pub Loops : ℕ → Wire → List Kept → Bool → Type 0
+Loops width wire kept starved =
+    (cut : ℕ) × Looped width wire.written (wire.taken ++ wire.coming) kept cut starved
+
+-- ---- parts of a write
+
+-- what stands at the front of octets, and how many octets a whole record has there
+abbrev pub size_of : Next → ℕ
+size_of (nexts.Record octets size) = size
+size_of nexts.Front = 0
+size_of nexts.Unfit = 0
+size_of nexts.NoMemory = 0
+
+-- a whole record stands at the front of octets: what it holds, and its size in the stream
+pub record IsWholeAt (octets found : List ℕ) (size : ℕ) : Type 0 where
+  pub cut : Fragments
+  pub more : List ℕ
+  pub is_record : IsRecord cut
+  pub heard : found ≡ octets_in cut
+  pub long : size ≡ length (frame cut)
+  pub begins : octets ≡ frame cut ++ more
+
+-- what was found at the front of octets is what stands there
+abbrev pub IsNext : List ℕ → Next → Type 0
+IsNext octets (nexts.Record found size) = IsWholeAt octets found size
+IsNext octets nexts.Front = IsFront octets
+IsNext octets nexts.Unfit = IsUnfit octets
+IsNext octets nexts.NoMemory = Unit {0}
+
+-- a reply was said, or memory was wanted for it
+abbrev pub IsSaid : Ruling → List ℕ → List ℕ → Turned → Type 0
+IsSaid ruling said said' Answered = IsDecided ruling × (said' ≡ said ++ framed ruling.reply)
+IsSaid ruling said said' Rests = ⊥
+IsSaid ruling said said' Starved = (said' ≡ said) × (may_want ruling ≡ true)
+
+-- a record was answered, and its answer kept
+pub record Answering (width : ℕ) (octets : List ℕ) (size : ℕ) (kept kept' : List Kept)
+    (said said' : List ℕ) (cut cut' : ℕ) : Type 0 where
+  pub one : Kept
+  pub keeps : kept' ≡ kept ++ one ∷ []
+  pub exact : IsExact width octets one
+  pub decided : IsDecided (ruling_for width octets one)
+  pub replied : said' ≡ said ++ written_for width octets one
+  pub place : cut' ≡ cut + size
+
+-- an answer was kept, and memory was wanted for it or its reply
+pub record KeptOnly (width : ℕ) (octets : List ℕ) (kept kept' : List Kept) : Type 0 where
+  pub one : Kept
+  pub keeps : kept' ≡ kept ++ one ∷ []
+  pub exact : IsExact width octets one
+  pub wanted : may_want (ruling_for width octets one) ≡ true
+
+-- a record was answered, or memory was wanted, nothing was said, and its answer may have been kept
+abbrev pub IsAnsweredBy : ℕ → List ℕ → ℕ → List Kept → List Kept → List ℕ → List ℕ → ℕ → ℕ → Turned
+    → Type 0
+IsAnsweredBy width octets size kept kept' said said' cut cut' Answered =
+    Answering width octets size kept kept' said said' cut cut'
+IsAnsweredBy width octets size kept kept' said said' cut cut' Rests = ⊥
+IsAnsweredBy width octets size kept kept' said said' cut cut' Starved =
+    (said' ≡ said) × (cut' ≡ cut) × ((kept' ≡ kept) ⊎ KeptOnly width octets kept kept')
+
+-- a rest that wasn't judged yet
+abbrev pub Unjudged : List ℕ → List Kept → Type 0
+Unjudged rest last = last ≡ []
+
+-- what was heard and said after a turn, by how the turn ended
+abbrev pub IsTurned : ℕ → List ℕ → List ℕ → List Kept → ℕ → Turned → Type 0
+IsTurned width heard said kept cut Answered = LoopedTo Unjudged width heard said kept cut
+IsTurned width heard said kept cut Rests = Looped width heard said kept cut false
+IsTurned width heard said kept cut Starved = Looped width heard said kept cut true
+
+-- all of these octets were heard, or at want of memory a front of them
+abbrev pub HeardMore : List ℕ → List ℕ → List ℕ → Bool → Type 0
+HeardMore octets heard heard' true = heard' ≡ heard ++ octets
+HeardMore octets heard heard' false = (count : ℕ) × (heard' ≡ heard ++ take count octets)

@@ -1,9 +1,0 @@
-use Rattle.std.proofs.Common.{arith}
-use Rattle.gss_server.proofs.LoopTurns.{looped-none}
-use Rattle.gss_server.proofs.loop_link.LoopLink.new.Goals as goal
-
-pub invariant_of-result : goal.invariant_of-result
-invariant_of-result g c = record {
-  within = omega arith;
-  looped = ∣ rw (c.new.ensures.items, c.new-2.ensures.items, c.new-3.ensures) (looped-none c.args.width) ∣₁;
-}
