@@ -332,6 +332,9 @@ pub fn run_client<F: Shelf, L: Link, C: Clock, D: Draw, O: Sink>(
         → IsTrue (F.tells shelf.old) → creds_from (F.files shelf.old) asked.sources ≡ Err end
         → (Rose (F.faults shelf.old) (F.faults shelf.new) → ⊥) → result.end ≢ RunEnd.NoMemory
         → result.end ≡ end }
+    ensures found { (asked : ClientWords) → words_of words.now ≡ Ok asked
+        → IsTrue (F.tells shelf.old) → is_begun result.end ≡ true
+        → IsOk (creds_from (F.files shelf.old) asked.sources) }
     // Without a session nothing is written on the link.
     ensures silent { is_begun result.end ≡ false → result.end ≢ RunEnd.NoMemory
         → IsSilent (L.wire link.old) (L.wire link.new) result.outcome result.results.items }
