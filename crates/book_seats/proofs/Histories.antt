@@ -1,0 +1,40 @@
+-- One question more of one book.
+use Rattle.std.proofs.Common.{◌≡◌, ℕ, List, [], ◌∷◌, ◌++◌, drop, refl, sym, ap, ◌∙◌, subst}
+use Rattle.std.proofs.lemmas.List.{map-append}
+use Rattle.accept_book.specs.Booking.{BookOf}
+use Rattle.accept_book.specs.RecordShown.{Asked}
+use Rattle.gss_server.specs.Asking.{Asking, BookAnswers}
+use Rattle.book_seats.specs.Notes.{Note, questions_of, asked_by}
+use Rattle.book_seats.specs.Views.{WriterOf, ClerkOf}
+use Rattle.book_seats.specs.Histories.{Begun, AnsweredBy, NotesOne}
+use Rattle.book_seats.proofs.Moves.{of-append}
+
+asking-more : (xs : List Asked) (x : Asked) (s m t : BookOf) → Asking BookAnswers s xs m → BookAnswers m x t → Asking BookAnswers s (xs ++ x ∷ []) t
+asking-more [] x s m t h a = (t, subst (λ (r : BookOf). BookAnswers r x t) h a, refl)
+asking-more (y ∷ ys) x s m t h a = (h.0, h.1, asking-more ys x h.0 m t h.2 a)
+
+begun-more : (begins : BookOf → Type 0) (all : List Note) (desk : ℕ) (one : Asked) (old new : BookOf) → Begun begins all old → BookAnswers old one new → Begun begins (all ++ (desk, one) ∷ []) new
+begun-more begins all desk one old new h a =
+    (h.0, h.1, subst (λ (l : List Asked). Asking BookAnswers h.0 l new) (sym (map-append (λ (note : Note). note.1) all ((desk, one) ∷ []))) (asking-more (questions_of all) one h.0 old new h.2 a))
+
+rest-empty : {A : Type 0} (xs ys : List A) → xs ++ ys ≡ xs → ys ≡ []
+rest-empty [] ys e = e
+rest-empty {A} (x ∷ xs) ys e = rest-empty xs ys (ap (λ (l : List A). drop 1 l) e)
+
+-- the book answered a question, and the writer noted it
+pub begun-noted : (begins : BookOf → Type 0) {old : WriterOf} {asking : ClerkOf} {one : Asked} {new : WriterOf} {asked : ClerkOf} → NotesOne old asking one new asked → (before after : BookOf) → Begun begins old.all before → BookAnswers before one after → Begun begins new.all after
+begun-noted begins {old} {asking} {one} notes before after began answer =
+    subst (λ (l : List Note). Begun begins l after) (sym (ap (λ (w : WriterOf). w.all) notes.writer)) (begun-more begins old.all asking.desk one before after began answer)
+
+-- what the one book answered after all that it was asked
+pub answered : (begins : BookOf → Type 0) {old : WriterOf} {asking : ClerkOf} {one : Asked} {new : WriterOf} {asked : ClerkOf} → NotesOne old asking one new asked → (before after : BookOf) → Begun begins old.all before → BookAnswers before one after → AnsweredBy begins asking one asked
+answered begins {asking = asking} {one} notes before after began answer =
+    let starts = notes.prefix in record {
+      between = starts.0;
+      others = rest-empty (asked_by asking.desk asking.seen) (asked_by asking.desk starts.0) (sym (of-append asking.desk asking.seen starts.0) ∙ ap (asked_by asking.desk) (sym starts.1) ∙ notes.others);
+      seen = notes.clerk ∙ (λ i. record { desk = asking.desk; seen = starts.1 i ++ (asking.desk, one) ∷ [] });
+      before = before;
+      after = after;
+      began = subst (λ (l : List Note). Begun begins l before) starts.1 began;
+      answer = answer;
+    }

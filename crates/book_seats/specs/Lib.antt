@@ -1,0 +1,4 @@
+pub mod Histories
+pub mod Notes
+pub mod Views
+pub mod Weights

@@ -1,0 +1,143 @@
+-- What the seats of the table know of the history: the writer knows all of it, and each clerk what
+-- stood in it when its desk asked last. The history exists in the proofs alone.
+use Rattle.std.specs.Prelude.{◌≡◌, ℕ, ◌+◌, ◌<◌, ◌≤◌, Bool, true, false, List, [], ◌∷◌, ◌++◌, Err}
+use mathlib.Core.Option.{some}
+use lib.ListN.{get_elem?}
+use Rattle.atomic_table.specs.Table.{State, Me, Step}
+use Rattle.atomic_table.specs.Seated.{TableId}
+use Rattle.atomic_table.specs.declared.shared.Seat.{Seat}
+use Rattle.accept_book.specs.RecordShown.{Asked, AskedLook}
+use Rattle.accept_book.specs.declared.answer.LookRefusal.TheVariants.{NoContext}
+use Rattle.book_seats.specs.Notes.{Note, StartsWith, asked_by}
+
+-- the name of no table
+abbrev pub no_table : TableId
+no_table = record {
+  words = 0;
+  slots = 0;
+  views_name = 0;
+  atom = 0;
+  block = 0;
+  offset = 0;
+  slot_names = [];
+}
+
+-- a question that stands for any other
+abbrev pub blank : Asked
+blank = AskedLook 0 0 (Err NoContext)
+
+-- what a seat knows. One that writes knows all notes, and how many clerks there are; one that
+-- claims a desk knows its number, and the notes up to the last that the desk asked for
+pub record ViewOf : Type 0 where
+  pub writes : Bool
+  pub all : List Note
+  pub made : ℕ
+  pub claims : Bool
+  pub desk : ℕ
+  pub seen : List Note
+
+-- the writer
+abbrev pub writer : ℕ → List Note → ViewOf
+writer made all =
+    record { writes = true; all = all; made = made; claims = false; desk = 0; seen = [] }
+
+-- a desk's clerk
+abbrev pub clerk : ℕ → List Note → ViewOf
+clerk desk seen =
+    record { writes = false; all = []; made = 0; claims = true; desk = desk; seen = seen }
+
+-- the writer with a clerk's desk in hand
+abbrev pub busy : ℕ → List Note → ℕ → List Note → ViewOf
+busy made all desk seen =
+    record { writes = true; all = all; made = made; claims = true; desk = desk; seen = seen }
+
+-- a seat that knows nothing
+abbrev pub nobody : ViewOf
+nobody = record { writes = false; all = []; made = 0; claims = false; desk = 0; seen = [] }
+
+-- ---- how views are cut and joined
+
+-- one clerk more is there
+abbrev pub with_one_more : ViewOf → ViewOf
+with_one_more v = record {
+  writes = v.writes;
+  all = v.all;
+  made = v.made + 1;
+  claims = v.claims;
+  desk = v.desk;
+  seen = v.seen;
+}
+
+-- the clerk that is made next
+abbrev pub new_clerk : ViewOf → ViewOf
+new_clerk v = clerk v.made v.all
+
+-- the writer takes a clerk's desk in hand
+abbrev pub holding : ViewOf → ViewOf → ViewOf
+holding v w = record {
+  writes = v.writes;
+  all = v.all;
+  made = v.made;
+  claims = w.claims;
+  desk = w.desk;
+  seen = w.seen;
+}
+
+-- the writer notes a question of the desk in hand, and hands the desk back
+abbrev pub noting : Asked → ViewOf → ViewOf
+noting one v = writer v.made (v.all ++ (v.desk, one) ∷ [])
+
+-- what the clerk of that desk knows then
+abbrev pub noted : Asked → ViewOf → ViewOf
+noted one v = clerk v.desk (v.all ++ (v.desk, one) ∷ [])
+
+-- ---- the rule
+
+-- a seat that writes is the one writer, and knows the history; a seat that claims a desk owns it,
+-- and has seen a front of the history with all that the desk asked
+abbrev pub Fits : ℕ → ℕ → (ℕ → ℕ) → List Note → ℕ → ViewOf → Type 0
+Fits seat made owner log by v =
+    (v.writes ≡ true → (by ≡ seat) × (v.all ≡ log) × (v.made ≡ made))
+    × (v.claims ≡ true → (v.desk < made) × (owner v.desk ≡ by) × StartsWith log v.seen
+    × (asked_by v.desk log ≡ asked_by v.desk v.seen))
+
+-- there is one history, and no desk without a clerk stands in it
+abbrev pub Kept : State Unit ViewOf → Type 0
+Kept s = (seat made : ℕ) × (owner : ℕ → ℕ) × (log : List Note)
+    × ((desk : ℕ) → made ≤ desk → asked_by desk log ≡ [])
+    × ((by : ℕ) (v : ViewOf) → get_elem? s.views by ≡ some v → Fits seat made owner log by v)
+
+-- the writer looks at the desk in hand: the history begins with what the desk has seen, and what
+-- came since is of other desks
+abbrev pub Looks : Step Unit → Me Unit ViewOf → ℕ → Me Unit ViewOf → Type 0
+Looks step m found m' = (m' ≡ m)
+    × (m.0.claims ≡ true → StartsWith m.0.all m.0.seen
+    × (asked_by m.0.desk m.0.all ≡ asked_by m.0.desk m.0.seen))
+
+-- the writer compares the desk in hand with the history, and lets it go
+abbrev pub Compares : Step Unit → Me Unit ViewOf → ℕ → Me Unit ViewOf → Type 0
+Compares step m found m' = (m' ≡ (writer m.0.made m.0.all, m.1))
+    × (m.0.claims ≡ true → asked_by m.0.desk m.0.all ≡ asked_by m.0.desk m.0.seen)
+    × ((desk : ℕ) → m.0.made ≤ desk → asked_by desk m.0.all ≡ [])
+
+-- ---- what contracts see
+
+-- of the writer: how many clerks there are, and the history
+pub record WriterOf : Type 0 where
+  pub made : ℕ
+  pub all : List Note
+
+-- of a clerk: the number of its desk, and the history up to the desk's last question
+pub record ClerkOf : Type 0 where
+  pub desk : ℕ
+  pub seen : List Note
+
+-- the token is the writer's, at this table
+abbrev pub IsWriter : TableId → Seat Unit ViewOf → Type 0
+IsWriter table token = (token.table_id ≡ table)
+    × (token.me ≡ (writer token.me.0.made token.me.0.all, []))
+
+-- the token is a clerk's, at this table
+abbrev pub IsClerk : TableId → Seat Unit ViewOf → Type 0
+IsClerk table token = (token.table_id ≡ table)
+    × (token.me ≡ (clerk token.me.0.desk token.me.0.seen, []))

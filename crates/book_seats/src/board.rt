@@ -1,0 +1,158 @@
+//! The table on which the history is noted. It has one word, which says nothing; what its seats know exists in the proofs alone.
+ghost use Rattle.std.specs.Prelude.{ℕ};
+
+use atomic_table::{Join, Play, Split, Table, TableRule};
+use std::alloc::Global;
+use std::marker::{Brand, Model, PhantomData};
+
+/// Names a table, and says of the book whose questions are noted on it how it begins, which limits it
+/// has, and how many desks ask it.
+pub trait Room {
+    ghost use Rattle.atomic_table.specs.Seated.{TableId};
+    ghost use Rattle.accept_book.specs.Booking.{BookOf};
+    ghost use Rattle.accept_book.specs.declared.entry.Limits.{Limits};
+
+    ghost table: { TableId };
+
+    ghost begins: { BookOf → Type 0 };
+
+    ghost desks: { ℕ };
+
+    ghost limits: { Limits };
+}
+
+impl Room for Brand {
+    ghost use Rattle.book_seats.specs.Views.{no_table};
+
+    ghost table = { no_table };
+
+    ghost begins = { λ _. Unit {0} };
+
+    ghost desks = { 0 };
+
+    ghost limits = { record { contexts = 0; marks = 0; log = 0; width = 0 } };
+}
+
+/// A question with its answer, which a call notes.
+pub trait Entry {
+    ghost use Rattle.accept_book.specs.RecordShown.{Asked};
+
+    ghost entry: { Asked };
+}
+
+impl Entry for Brand {
+    ghost use Rattle.book_seats.specs.Views.{blank};
+
+    ghost entry = { blank };
+}
+
+/// What a seat of the table knows. No value of it is made.
+pub struct View {
+    pub writes: bool,
+}
+
+impl Model for View {
+    ghost use Rattle.std.specs.Prelude.{[], false};
+    ghost use Rattle.book_seats.specs.Views.{ViewOf};
+
+    ghost Value = { ViewOf };
+
+    ghost view = { λ v. record {
+      writes = v.writes;
+      all = [];
+      made = 0;
+      claims = false;
+      desk = 0;
+      seen = [];
+    } };
+}
+
+/// The rule of the table: there is one history.
+pub struct OneOrder;
+
+impl TableRule<(), View, ()> for OneOrder {
+    ghost use Rattle.std.specs.Prelude.{[]};
+    ghost use Rattle.book_seats.specs.Views.{writer, Kept};
+
+    ghost holds = { λ _. Kept };
+
+    ghost first = { λ _. writer 0 [] };
+}
+
+/// The writer makes a clerk.
+pub struct Hires;
+
+impl Split<View> for Hires {
+    ghost use Rattle.book_seats.specs.Views.{with_one_more, new_clerk};
+
+    ghost left = { with_one_more };
+
+    ghost right = { new_clerk };
+}
+
+/// A clerk hands over all that it knows.
+pub struct Hands;
+
+impl Split<View> for Hands {
+    ghost use Rattle.book_seats.specs.Views.{nobody};
+
+    ghost left = { λ _. nobody };
+
+    ghost right = { λ v. v };
+}
+
+impl Join<View> for Hands {
+    ghost use Rattle.book_seats.specs.Views.{holding, nobody};
+
+    ghost both = { holding };
+
+    ghost spent = { nobody };
+}
+
+/// A clerk takes back what it is handed.
+pub struct Returns;
+
+impl Join<View> for Returns {
+    ghost use Rattle.book_seats.specs.Views.{nobody};
+
+    ghost both = { λ _ w. w };
+
+    ghost spent = { nobody };
+}
+
+/// The writer notes a question of the clerk in hand.
+pub struct Notes<E: Entry> {
+    of: PhantomData<E>,
+}
+
+impl<E: Entry> Split<View> for Notes<E> {
+    ghost use Rattle.book_seats.specs.Views.{noting, noted};
+
+    ghost left = { noting E.entry };
+
+    ghost right = { noted E.entry };
+}
+
+/// The writer looks at what the clerk in hand has seen.
+pub struct Looks;
+
+impl Play<(), View> for Looks {
+    ghost use Rattle.book_seats.specs.Views.{Looks};
+
+    ghost then = { Looks };
+}
+
+/// The writer compares what the clerk in hand knows with the history.
+pub struct Compares;
+
+impl Play<(), View> for Compares {
+    ghost use Rattle.book_seats.specs.Views.{Compares};
+
+    ghost then = { Compares };
+}
+
+/// The table.
+pub type Board = Table<(), View, (), OneOrder, Global>;
+
+/// A seat at the table. It has no bytes.
+pub type Token = atomic_table::Seat<(), View>;

@@ -1,0 +1,16 @@
+//! Seats at one book, which lies behind a lock: desks on threads of their own ask it, and there is one history of all that they asked.
+#![tactic(auto)]
+
+mod board;
+mod hall;
+mod laws;
+mod opening;
+mod seat;
+mod shared;
+
+pub use board::{Board, Room, Token};
+pub use hall::{Clerk, Hall, Writer, open_hall};
+pub use laws::prove_desks_weigh;
+pub use opening::open_board;
+pub use seat::Seat;
+pub use shared::Shared;
