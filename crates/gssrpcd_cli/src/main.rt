@@ -8,7 +8,10 @@ ghost use Rattle.server_command.specs.Desks.{IsFresh};
 use gss_server::{KeepNothing, KeepReceipts};
 use sec_base::{Clock, Port, Text};
 use server_command::{Desk, address_of, run_server};
+use std::net::{Net, TcpListener, TcpStream};
 use std::process::ExitCode;
+use std::sync::Wait;
+use std::thread::Threads;
 use system_devices::{
     BufferedPort, FileShelf, HeldStreams, RandDraw, StdSink, StdioPort, SystemClock, TcpDoor,
     TcpPort, WordsRefusal, command_line,
@@ -24,7 +27,7 @@ fn main(rt: HostRuntime) -> ExitCode {
     let Some(held) = HeldStreams::hold(&rt) else {
         return ExitCode::from(NOT_STARTED);
     };
-    let status = status(rt);
+    let status = status(rt, rt);
     drop(held);
     ExitCode::from(status)
 }
@@ -51,19 +54,24 @@ fn desk<P: Port + Drop>(rt: HostRuntime, port: P) -> Option<SystemDesk<P>>
 }
 
 /// A desk at a TCP listener.
-fn desk_at<'a>(
+fn desk_at<'a, R: Net<Stream = TcpStream, Listener = TcpListener> + Wait + Drop>(
     rt: HostRuntime,
-    door: &'a TcpDoor<'a, HostRuntime>,
-) -> Option<SystemDesk<BufferedPort<TcpPort<'a, HostRuntime>>>>
+    door: &'a TcpDoor<'a, R>,
+) -> Option<SystemDesk<BufferedPort<TcpPort<'a, R>>>>
     ensures { IfSome result IsFresh }
 {
     desk(rt, BufferedPort::new(rt.alloc(), TcpPort::at(door)))
 }
 
-/// Runs the server over desks.
-fn run<P: Port + Drop>(rt: HostRuntime, words: &[Text], desks: Vec<SystemDesk<P>>) -> u8
+/// Runs the server over desks, each on a thread of its own where one can be made.
+fn run<R: Threads + Wait + Sync, P: Port + Drop + Send>(
+    rt: HostRuntime,
+    threads: &R,
+    words: &[Text],
+    desks: Vec<SystemDesk<P>>,
+) -> u8
 where
-    P::Link: Drop,
+    P::Link: Drop + Send,
     requires { AllByRecursion IsFresh desks.items }
 {
     let mut desks = desks;
@@ -72,6 +80,7 @@ where
     let mut err = StdSink::error(rt.stderr());
     let start = SystemClock::new(rt).now();
     run_server(
+        threads,
         rt.alloc(),
         words,
         &mut shelf,
@@ -84,22 +93,26 @@ where
 }
 
 /// Runs the server over standard input and output.
-fn over_standard_streams(rt: HostRuntime, words: &[Text]) -> u8 {
+fn over_standard_streams<R: Threads + Wait + Sync>(
+    rt: HostRuntime,
+    threads: &R,
+    words: &[Text],
+) -> u8 {
     let port = BufferedPort::new(rt.alloc(), StdioPort::new(rt.stdin(), rt.stdout()));
     let Some(desk) = desk(rt, port) else {
         return NOT_STARTED;
     };
     match Vec::from_array(rt.alloc(), [desk]) {
-        Ok(desks) => run(rt, words, desks),
+        Ok(desks) => run(rt, threads, words, desks),
         Err(_) => OUT_OF_MEMORY,
     }
 }
 
 /// Four desks at a TCP listener; or the status where there are none.
-fn desks_at<'a>(
+fn desks_at<'a, R: Net<Stream = TcpStream, Listener = TcpListener> + Wait + Drop>(
     rt: HostRuntime,
-    door: &'a TcpDoor<'a, HostRuntime>,
-) -> Result<Vec<SystemDesk<BufferedPort<TcpPort<'a, HostRuntime>>>>, u8>
+    door: &'a TcpDoor<'a, R>,
+) -> Result<Vec<SystemDesk<BufferedPort<TcpPort<'a, R>>>>, u8>
     ensures { IfOk result (λ desks. AllByRecursion IsFresh desks.items) }
 {
     let Some(first) = desk_at(rt, door) else {
@@ -121,23 +134,29 @@ fn desks_at<'a>(
 }
 
 /// Runs the server over four desks at a TCP listener, which listens once the files were read.
-fn over_listener(rt: HostRuntime, words: &[Text], address: &str) -> u8 {
-    let door = TcpDoor::at(rt, address);
+fn over_listener<R>(rt: HostRuntime, host: R, words: &[Text], address: &str) -> u8
+where
+    R: Net<Stream = TcpStream, Listener = TcpListener> + Threads + Wait + Sync + Copy + Drop,
+{
+    let door = TcpDoor::at(host, address);
     match desks_at(rt, &door) {
-        Ok(desks) => run(rt, words, desks),
+        Ok(desks) => run(rt, &host, words, desks),
         Err(status) => status,
     }
 }
 
-/// Runs the server over the devices that the words ask for.
-fn status(rt: HostRuntime) -> u8 {
+/// Runs the server over the devices that the words ask for. The host is the runtime once more, which makes threads and waits for them.
+fn status<R>(rt: HostRuntime, host: R) -> u8
+where
+    R: Net<Stream = TcpStream, Listener = TcpListener> + Threads + Wait + Sync + Copy + Drop,
+{
     let words = match command_line(&rt) {
         Ok(words) => words,
         Err(WordsRefusal::NotText) => return NOT_STARTED,
         Err(WordsRefusal::NoMemory) => return OUT_OF_MEMORY,
     };
     match address_of(words.as_slice()) {
-        None | Some("stdio") => over_standard_streams(rt, words.as_slice()),
-        Some(address) => over_listener(rt, words.as_slice(), address),
+        None | Some("stdio") => over_standard_streams(rt, &host, words.as_slice()),
+        Some(address) => over_listener(rt, host, words.as_slice(), address),
     }
 }

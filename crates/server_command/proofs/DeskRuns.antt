@@ -22,10 +22,7 @@ use Rattle.gss_server.specs.declared.connection.Served.{Served}
 use Rattle.gss_server.specs.declared.keeper.Keeper as keepers
 use Rattle.server_command.specs.declared.desk.Desk.{Desk}
 use Rattle.server_command.specs.declared.desk.DeskEnd.{DeskEnd}
-use Rattle.server_command.specs.declared.ending.RunEnd.{RunEnd}
-use Rattle.server_command.specs.declared.ending.RunEnd.TheVariants as whole
-use Rattle.server_command.proofs.InTurn.{turn-all, turn-served}
-use Rattle.server_command.specs.Desks.{DesksServed, is_begun, ServedOf, ServedLink, LinksServed, links_in, answers_in, NoneWanted, is_starved, IsFresh, IsSmall, DeskGave, DeskAdds, DeskWent, DeskServed}
+use Rattle.server_command.specs.Desks.{ServedOf, ServedLink, LinksServed, links_in, answers_in, NoneWanted, is_starved, IsFresh, IsSmall, DeskGave, DeskAdds, DeskWent, DeskServed}
 
 -- what was asked is so in another sense
 pub served-as : {told : Bool} {one other : List Asked → Type 0} {width : ℕ} {a b : _} {ending : ConnEnd} {kept : List Kept} → ((asked : List Asked) → one asked → other asked) → IsServed told one width a b ending kept → IsServed told other width a b ending kept
@@ -170,20 +167,3 @@ desk-small h fresh p = record {
 pub fresh-small : {P C D K M : Type 0} (desks : List (Desk P C D K M)) → AllByRecursion IsFresh desks → AllByRecursion IsSmall desks
 fresh-small [] all = tt
 fresh-small (desk ∷ desks) all = (record { few = omega (arith, all.0.connections); within = omega (arith, all.0.records) }, fresh-small desks all.1)
-
--- so are those of a run
-pub run-small : {S P C D K M L Q R : Type 0} {Answers : S → Asked → S → Type 0} {width most : ℕ} {port : ports.Ghosts P L} {link : links.Ghosts L} {clock : clocks.Ghosts C} {draw : draws.Ghosts D} {keeper : keepers.Ghosts K Kept Q} {kept : keepers.Ghosts M (Served L) R} {before after : S} {olds news : List (Desk P C D K M)} {end : RunEnd}
-    → most ≤ 1000000 → AllByRecursion IsFresh olds → DesksServed Answers width most port link clock draw keeper kept before olds end news after → AllByRecursion IsSmall news
-run-small {before = before} {after} {olds} {news} h fresh p = turn-all before after olds news p.ends (λ s t old new end clean one. desk-small h clean one) fresh p.each
-
--- a run in which no desk failed serves all connections
-run-served : {S P C D K M L Q R : Type 0} {Answers : S → Asked → S → Type 0} {width most : ℕ} {port : ports.Ghosts P L} {link : links.Ghosts L} {clock : clocks.Ghosts C} {draw : draws.Ghosts D} {keeper : keepers.Ghosts K Kept Q} {kept : keepers.Ghosts M (Served L) R} {before after : S} {olds news : List (Desk P C D K M)} {end : RunEnd}
-    → DesksServed Answers width most port link clock draw keeper kept before olds end news after → ((i : ℕ) (a b : Desk P C D K M) → slice_get olds i ≡ Some a → slice_get news i ≡ Some b → Rose (port.faults a.port) (port.faults b.port) → ⊥) → end ≢ whole.NoMemory → end ≡ whole.Served
-run-served {port = port} {before = before} {after} {olds} {news} p steady other =
-    p.ended ∙ turn-served {Failed = λ a b. Rose (port.faults a.port) (port.faults b.port)} before after 1 olds news p.ends (λ s t old new end one e. one.failed e) p.each steady (λ e. other (p.ended ∙ e))
-
-pub begun-served : {S P C D K M L Q R : Type 0} {Answers : S → Asked → S → Type 0} {width most : ℕ} {port : ports.Ghosts P L} {link : links.Ghosts L} {clock : clocks.Ghosts C} {draw : draws.Ghosts D} {keeper : keepers.Ghosts K Kept Q} {kept : keepers.Ghosts M (Served L) R} {olds news : List (Desk P C D K M)} {end : RunEnd} {Idle Other : Type 0}
-    → ((is_begun end ≡ false) × Idle) ⊎ Other → (Other → (before after : S) × DesksServed Answers width most port link clock draw keeper kept before olds end news after) → ((i : ℕ) (a b : Desk P C D K M) → slice_get olds i ≡ Some a → slice_get news i ≡ Some b → Rose (port.faults a.port) (port.faults b.port) → ⊥)
-    → end ≢ whole.NoMemory → is_begun end ≡ true → end ≡ whole.Served
-begun-served (inl idle) book steady other begun = let bad : false ≡ true = sym idle.0 ∙ begun in cc
-begun-served (inr one) book steady other begun = run-served (book one).2 steady other

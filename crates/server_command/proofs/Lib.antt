@@ -1,7 +1,10 @@
 pub mod Completions
 pub mod DeskRuns
-pub mod InTurn
+pub mod Ends
+pub mod InStep
 pub mod KeyNames
 pub mod NoKeys
+pub mod Noting
 pub mod Numbers
+pub mod Sides
 pub mod StatusLines

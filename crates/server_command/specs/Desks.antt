@@ -141,7 +141,7 @@ pub record IsSmall {P C D K M : Type 0} (desk : Desk P C D K M) : Type 0 where
   pub few : desk.connections ≤ 1000000
   pub within : desk.records ≤ 65536 * desk.connections
 
--- ---- several desks, one after the other
+-- ---- several desks
 
 -- desks were served: the words were in the command, and the keys were there
 abbrev pub is_begun : RunEnd → Bool
@@ -169,29 +169,6 @@ joined whole.Served desk ends.NoMemory = whole.NoMemory
 abbrev pub end_behind : RunEnd → ℕ → List DeskEnd → RunEnd
 end_behind before number [] = before
 end_behind before number (end ∷ ends) = end_behind (joined before number end) (number + 1) ends
-
--- one after the other, each from the state that the one before left, to its end
-abbrev pub InTurn : {S A : Type 0} → (S → A → DeskEnd → A → S → Type 0) → S → List A
-    → List DeskEnd → List A → S → Type 0
-InTurn One before [] [] [] after = after ≡ before
-InTurn One before [] [] (new ∷ news) after = ⊥
-InTurn One before [] (end ∷ ends) news after = ⊥
-InTurn One before (old ∷ olds) [] news after = ⊥
-InTurn One before (old ∷ olds) (end ∷ ends) [] after = ⊥
-InTurn {S} One before (old ∷ olds) (end ∷ ends) (new ∷ news) after =
-    (middle : S) × One before old end new middle × InTurn One middle olds ends news after
-
--- the desks of a run served the links of their ports, one desk after the other, and the run's end
--- is that of the first desk that failed; desks are counted from 1
-pub record DesksServed {S P C D K M L Q R : Type 0} (Answers : S → Asked → S → Type 0)
-    (width most : ℕ) (port : ports.Ghosts P L) (link : links.Ghosts L) (clock : clocks.Ghosts C)
-    (draw : draws.Ghosts D) (keeper : keepers.Ghosts K Kept Q)
-    (kept : keepers.Ghosts M (Served L) R) (before : S) (olds : List (Desk P C D K M))
-    (end : RunEnd) (news : List (Desk P C D K M)) (after : S) : Type 0 where
-  pub ends : List DeskEnd
-  pub each : InTurn (DeskServed Answers width most port link clock draw keeper kept) before olds
-      ends news after
-  pub ended : end ≡ end_behind whole.Served 1 ends
 
 -- a run that fails at a port's fault names a desk of so many, counted from 1
 abbrev pub NamesADesk : RunEnd → ℕ → Type 0

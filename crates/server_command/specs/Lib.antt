@@ -3,4 +3,5 @@ pub mod Keys
 pub mod Lines
 pub mod Options
 pub mod Runs
+pub mod SideBySide
 pub mod Through

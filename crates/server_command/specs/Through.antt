@@ -1,20 +1,10 @@
 -- The book that a run of the server opens, and that its desks ask.
 use Rattle.std.specs.Prelude.{◌≡◌, ℕ, List, [], ◌∷◌, reverse}
-use Rattle.sec_base.specs.declared.port.Port as ports
-use Rattle.sec_base.specs.declared.link.Link as links
-use Rattle.sec_base.specs.declared.clock.Clock as clocks
-use Rattle.sec_base.specs.declared.draw.Draw as draws
 use Rattle.gss_base.specs.declared.mech.MechKind.TheVariants.{Kerberos, Scram}
 use Rattle.accept_book.specs.Booking.{BookOf}
 use Rattle.accept_book.specs.Logs.{LogOf}
-use Rattle.gss_server.specs.Asking.{BookAnswers}
-use Rattle.gss_server.specs.declared.answer.Kept.{Kept}
-use Rattle.gss_server.specs.declared.connection.Served.{Served}
-use Rattle.gss_server.specs.declared.keeper.Keeper as keepers
-use Rattle.server_command.specs.Desks.{DesksServed}
 use Rattle.server_command.specs.Runs.{no_log}
 use Rattle.server_command.specs.declared.desk.Desk.{Desk}
-use Rattle.server_command.specs.declared.ending.RunEnd.{RunEnd}
 use Rattle.server_command.specs.declared.keys.Keys.{Keys}
 use Rattle.server_command.specs.declared.options.Options.{Options}
 
@@ -41,26 +31,6 @@ pub record IsLogOf (book : BookOf) (log : LogOf) : Type 0 where
   pub limit : log.limit ≡ book.core.limit
   pub contexts : log.contexts ≡ book.core.table.limit
   pub marks : log.marks ≡ book.core.cache.capacity
-
--- one book went through all of this, from its opening to the log that is returned
-pub record Booked (options : Options) (keys : Keys) (start : ℕ) (Through : BookOf → BookOf → Type 0)
-    (log : LogOf) : Type 0 where
-  pub first : BookOf
-  pub last : BookOf
-  pub opened : IsOpened options keys start first
-  pub through : Through first last
-  pub closed : IsLogOf last log
-
--- one book gave all answers to the desks of a run with this end, from its opening to the log that
--- is returned
-abbrev pub OneBook : {P C D K M L Q R : Type 0} → Options → Keys → ℕ → ports.Ghosts P L
-    → links.Ghosts L → clocks.Ghosts C → draws.Ghosts D → keepers.Ghosts K Kept Q
-    → keepers.Ghosts M (Served L) R → List (Desk P C D K M) → RunEnd → List (Desk P C D K M)
-    → LogOf → Type 0
-OneBook options keys start port link clock draw keeper kept olds end news log =
-    Booked options keys start
-    (λ first last. DesksServed BookAnswers options.window options.connections port link clock draw
-    keeper kept first olds end news last) log
 
 -- no book was opened: the desks are as they were, and the log is empty and has no limits
 pub record NoBook {P C D K M : Type 0} (olds news : List (Desk P C D K M)) (log : LogOf) : Type

@@ -7,29 +7,31 @@ ghost use Rattle.std.specs.List.{AllByRecursion};
 ghost use Rattle.sec_base.specs.Answers.{Rose};
 ghost use Rattle.cli_base.specs.Lines.{Says};
 ghost use Rattle.accept_book.specs.Legal.{Legal};
-ghost use Rattle.accept_book.specs.Booking.{BookOf};
 ghost use Rattle.gss_base.specs.declared.mech.MechKind.TheVariants as kinds;
 ghost use Rattle.gss_base.specs.Principal.{text_form};
-ghost use Rattle.server_command.specs.Desks.{IsFresh, IsSmall, DesksServed, NamesADesk, is_begun};
+ghost use Rattle.server_command.specs.Desks.{IsFresh, IsSmall, NamesADesk, is_begun};
 ghost use Rattle.server_command.specs.Lines.{status_of, line_of};
 ghost use Rattle.server_command.specs.Options.{options_of, IsRanged};
-ghost use Rattle.gss_server.specs.Asking.{BookAnswers};
-ghost use Rattle.server_command.specs.Through.{IsOpened, IsLogOf, OneBook, NoBook};
+ghost use Rattle.server_command.specs.SideBySide.{OneHistory};
+ghost use Rattle.server_command.specs.Through.{IsOpened, NoBook};
 ghost use Rattle.server_command.specs.Runs.{files_of, names_of, name_of, counts_of, RunBegins};
 ghost use Rattle.server_command.specs.Runs.{HasLimits, HasValid, AsksAtMost, no_log};
 ghost use Rattle.server_command.specs.Keys.{KeysFrom};
 
 use crate::desk::Desk;
-use crate::desks::{count_connections, count_records, serve_desks};
+use crate::desks::{count_connections, count_records};
 use crate::ending::{Counts, RunEnd, say_end};
 use crate::keys::{Keys, keys_given};
 use crate::options::{Files, Options, WordsRefusal, read_options};
+use crate::seating::{Course, run_book, starved};
 use accept_book::{Book, Limits, Log};
 use gss_base::{MechKind, Principal};
 use gss_server::{Keeper, Kept, Served};
 use sec_base::{Clock, Draw, Items, Moment, NoMemory, Port, Shelf, Sink, Text};
 use spnego_core::AcceptSetup;
 use std::alloc::Global;
+use std::sync::Wait;
+use std::thread::Threads;
 
 /// How the run ended.
 #[derive(Drop)]
@@ -49,13 +51,6 @@ const NOTHING: Counts = Counts {
     records: 0,
     entries: 0,
 };
-
-/// What a run came to.
-#[derive(Drop)]
-struct Course {
-    end: RunEnd,
-    log: Log,
-}
 
 /// The mechanisms that are offered, the preferred first.
 fn offered(alloc: Global) -> Result<Items<MechKind>, NoMemory>
@@ -89,41 +84,16 @@ fn open_book(alloc: Global, options: Options, keys: Keys, start: Moment) -> Resu
     Book::open(alloc, setup, limits, start)
 }
 
-/// Serves the desks with a book.
-fn run_book<P: Port, C: Clock, D: Draw, K: Keeper<Kept>, S: Keeper<Served<P::Link>>>(
-    alloc: Global,
-    book: Book,
-    desks: &mut Vec<Desk<P, C, D, K, S>>,
-    connections: u32,
-    width: u32,
-) -> Course
-where
-    P::Link: Drop,
-    requires fresh { AllByRecursion IsFresh desks.old.items }
-    requires connections { connections ≤ 1000000 }
-    ensures served { (last : BookOf) × DesksServed BookAnswers width connections P.Port P.Link.Link
-        C.Clock D.Draw K.Keeper S.Keeper book desks.old.items result.end desks.new.items last
-        × IsLogOf last result.log }
-    ensures count { vec_len desks.new ≡ vec_len desks.old }
-    ensures named { NamesADesk result.end (vec_len desks.old) }
-    ensures begun { result.end ≢ RunEnd.NoMemory → is_begun result.end ≡ true }
-    ensures small { AllByRecursion IsSmall desks.new.items }
-    ensures legal { Legal result.log.width (reverse result.log.entries) }
-    ensures width { result.log.width ≡ book.core.width }
-    ensures limit { result.log.limit ≡ book.core.limit }
-    ensures contexts { result.log.contexts ≡ book.core.table.limit }
-    ensures marks { result.log.marks ≡ book.core.cache.capacity }
-{
-    let mut book = book;
-    let end = serve_desks(alloc, desks.as_mut_slice(), &mut book, connections, width);
-    Course {
-        end,
-        log: book.into_log(),
-    }
-}
-
 /// Opens the book and serves the desks.
-fn run_desks<P: Port, C: Clock, D: Draw, K: Keeper<Kept>, S: Keeper<Served<P::Link>>>(
+fn open_and_serve<
+    R: Threads + Wait + Sync,
+    P: Port + Drop + Send,
+    C: Clock + Drop + Send,
+    D: Draw + Drop + Send,
+    K: Keeper<Kept> + Drop + Send,
+    S: Keeper<Served<P::Link>> + Drop + Send,
+>(
+    rt: &R,
     alloc: Global,
     options: Options,
     keys: Keys,
@@ -131,7 +101,7 @@ fn run_desks<P: Port, C: Clock, D: Draw, K: Keeper<Kept>, S: Keeper<Served<P::Li
     start: Moment,
 ) -> Course
 where
-    P::Link: Drop,
+    P::Link: Drop + Send,
     requires fresh { AllByRecursion IsFresh desks.old.items }
     requires ranged { IsRanged options }
     ensures count { vec_len desks.new ≡ vec_len desks.old }
@@ -142,17 +112,14 @@ where
     ensures limits { is_begun result.end ≡ true → HasLimits options result.log }
     ensures booked { ((result.end ≡ RunEnd.NoMemory)
         × NoBook desks.old.items desks.new.items result.log)
-        ⊎ OneBook options keys start P.Port P.Link.Link C.Clock D.Draw K.Keeper S.Keeper
+        ⊎ OneHistory options keys start P.Port P.Link.Link C.Clock D.Draw K.Keeper S.Keeper
         desks.old.items result.end desks.new.items result.log }
 {
     let connections = options.connections;
     let width = options.window;
     match open_book(alloc, options, keys, start) {
-        Ok(book) => run_book(alloc, book, desks, connections, width),
-        Err(_) => Course {
-            end: RunEnd::NoMemory,
-            log: Log::empty(alloc),
-        },
+        Ok(book) => run_book(rt, alloc, book, desks, connections, width),
+        Err(_) => starved(alloc),
     }
 }
 
@@ -232,14 +199,16 @@ fn refused<O: Sink>(alloc: Global, end: RunEnd, err: &mut O) -> ServerEnd
 
 /// Runs the server with these options.
 fn run_with<
+    R: Threads + Wait + Sync,
     F: Shelf,
-    P: Port,
-    C: Clock,
-    D: Draw,
-    K: Keeper<Kept>,
-    S: Keeper<Served<P::Link>>,
+    P: Port + Drop + Send,
+    C: Clock + Drop + Send,
+    D: Draw + Drop + Send,
+    K: Keeper<Kept> + Drop + Send,
+    S: Keeper<Served<P::Link>> + Drop + Send,
     O: Sink,
 >(
+    rt: &R,
     alloc: Global,
     options: Options,
     shelf: &mut F,
@@ -248,7 +217,7 @@ fn run_with<
     err: &mut O,
 ) -> ServerEnd
 where
-    P::Link: Drop,
+    P::Link: Drop + Send,
     requires fresh { AllByRecursion IsFresh desks.old.items }
     requires ranged { IsRanged options }
     ensures begins { RunBegins F.Shelf shelf.old shelf.new options result.end }
@@ -268,29 +237,31 @@ where
     ensures booked { ((is_begun result.end ≡ false)
         × NoBook desks.old.items desks.new.items result.log)
         ⊎ ((keys : Keys) × KeysFrom F.Shelf shelf.old shelf.new options.files options.name (Ok keys)
-        × OneBook options keys start P.Port P.Link.Link C.Clock D.Draw K.Keeper S.Keeper
+        × OneHistory options keys start P.Port P.Link.Link C.Clock D.Draw K.Keeper S.Keeper
         desks.old.items result.end desks.new.items result.log) }
 {
     match keys_given(alloc, shelf, &options.files, &options.name) {
         Ok(keys) => {
-            let course = run_desks(alloc, options, keys, desks, start);
+            let course = open_and_serve(rt, alloc, options, keys, desks, start);
             finish(alloc, desks.as_slice(), course, err)
         }
         Err(end) => unready(alloc, &options.files, &options.name, end, err),
     }
 }
 
-/// Runs the server over its desks, one after the other, and says on `err` how it ended. The words are
+/// Runs the server over its desks, side by side where threads can be made, and says on `err` how it ended. The words are
 /// `ADDRESS [--keytab FILE --verifiers FILE --name PRINCIPAL] [--bind TEXT] [--window N] [--connections N] [--contexts N] [--marks N] [--log N]`.
 pub fn run_server<
+    R: Threads + Wait + Sync,
     F: Shelf,
-    P: Port,
-    C: Clock,
-    D: Draw,
-    K: Keeper<Kept>,
-    S: Keeper<Served<P::Link>>,
+    P: Port + Drop + Send,
+    C: Clock + Drop + Send,
+    D: Draw + Drop + Send,
+    K: Keeper<Kept> + Drop + Send,
+    S: Keeper<Served<P::Link>> + Drop + Send,
     O: Sink,
 >(
+    rt: &R,
     alloc: Global,
     words: &[Text],
     shelf: &mut F,
@@ -300,7 +271,7 @@ pub fn run_server<
     err: &mut O,
 ) -> ServerEnd
 where
-    P::Link: Drop,
+    P::Link: Drop + Send,
     requires fresh { AllByRecursion IsFresh desks.old.items }
     // The status and the line on `err`: those of the end, unless there was no memory for the line, or the sink failed.
     ensures status { result.status ≢ 6 → result.status ≢ 8 → result.status ≡ status_of result.end }
@@ -337,18 +308,19 @@ where
     ensures legal { Legal result.log.width (reverse result.log.entries) }
     ensures limits { (options : Options) → options_of words.now ≡ Ok options
         → is_begun result.end ≡ true → HasLimits options result.log }
-    // One book, of the setup that words, keytab and verifiers give, gave all answers to the desks, in their order, from its opening to the log that
-    // is returned. Each desk served the first links of its port, in order; where it is done, all of them or as many as the words say. Or no book
-    // was opened: then the desks are as they were, and the log is empty and has no limits.
+    // One book, of the setup that words, keytab and verifiers give, gave all answers to the desks, in one order, from its opening to the log that is
+    // returned: of each desk the questions of its connections, in the desk's order, and no others. Each desk served the first links of its port, in
+    // order; where it is done, all of them or as many as the words say. Or no book was opened: then the desks are as they were, and the log is empty
+    // and has no limits.
     ensures booked { (options : Options) → options_of words.now ≡ Ok options
         → ((is_begun result.end ≡ false) × NoBook desks.old.items desks.new.items result.log)
         ⊎ ((keys : Keys)
         × KeysFrom F.Shelf shelf.old shelf.new options.files options.name (Ok keys)
-        × OneBook options keys start P.Port P.Link.Link C.Clock D.Draw K.Keeper S.Keeper
+        × OneHistory options keys start P.Port P.Link.Link C.Clock D.Draw K.Keeper S.Keeper
         desks.old.items result.end desks.new.items result.log) }
 {
     match read_options(alloc, words) {
-        Ok(options) => run_with(alloc, options, shelf, desks, start, err),
+        Ok(options) => run_with(rt, alloc, options, shelf, desks, start, err),
         Err(WordsRefusal::Usage) => refused(alloc, RunEnd::Usage, err),
         Err(WordsRefusal::NoMemory) => refused(alloc, RunEnd::NoMemory, err),
     }

@@ -4,7 +4,7 @@ use Rattle.server_command.specs.declared.options.Options.{Options}
 use Rattle.server_command.specs.declared.options.WordsRefusal.{WordsRefusal}
 use Rattle.server_command.specs.Runs.{IsValid}
 use Rattle.server_command.proofs.Completions.{completed}
-use Rattle.server_command.proofs.DeskRuns.{begun-served}
+use Rattle.server_command.proofs.Sides.{begun-served, side-served}
 use Rattle.server_command.proofs.server.run_server.Goals as goal
 
 nothing : Counts
@@ -26,4 +26,4 @@ pub returns-in-Ok-clause-complete : goal.returns-in-Ok-clause-complete
 returns-in-Ok-clause-complete g c = λ options is valid steady ports other.
     completed _ _ _ _ _ _ c.in-Ok.options c.run_with.result.end c.run_with.ensures.begins
     (subst (λ (o : Options). IsValid (g.F.Shelf.tells c.args.shelf.now) (g.F.Shelf.files c.args.shelf.now) o) (same-options c.in-Ok.ensures.value is) valid) steady
-    (begun-served c.run_with.ensures.booked (λ one. (one.2.first, one.2.last, one.2.through)) ports other) other
+    (begun-served c.run_with.ensures.booked (λ one. side-served one.2 ports other)) other

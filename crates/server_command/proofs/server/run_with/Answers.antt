@@ -1,4 +1,5 @@
-use Rattle.std.proofs.Common.{sym}
+use Rattle.std.proofs.Common.{inl, inr, ⊎_elim, ap, sym}
+use Rattle.server_command.specs.Desks.{is_begun}
 use Rattle.server_command.proofs.KeyNames.{key-names}
 use Rattle.server_command.proofs.server.run_with.Goals as goal
 
@@ -10,3 +11,7 @@ returns-in-Ok-clause-named_files g c = key-names _ _ _ _ _ _ c.args.options.file
 
 pub returns-in-Err-clause-named_files : goal.returns-in-Err-clause-named_files
 returns-in-Err-clause-named_files g c = key-names _ _ _ _ _ _ c.args.options.files c.args.options.name _ c.keys_given.ensures.value
+
+pub returns-in-Ok-clause-booked : goal.returns-in-Ok-clause-booked
+returns-in-Ok-clause-booked g c =
+    rw c.finish.ensures.end (rw c.finish.ensures.log (⊎_elim (λ none. inl (ap is_begun none.0, none.1)) (λ one. inr (c.in-Ok.keys, rw (sym c.in-Ok.is) c.keys_given.ensures.value, one)) c.open_and_serve-course.ensures.booked))

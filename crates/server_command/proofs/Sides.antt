@@ -1,0 +1,73 @@
+-- What holds of desks that are served side by side.
+use Rattle.std.proofs.Common.{◌≡◌, ◌≢◌, ◌⊎◌, inl, inr, ◌≤◌, ℕ, true, false, List, slice_get, Some, refl, sym, ◌∙◌, subst}
+use Rattle.std.specs.List.{AllByRecursion}
+use Rattle.sec_base.specs.Answers.{Rose}
+use Rattle.sec_base.specs.declared.port.Port as ports
+use Rattle.sec_base.specs.declared.link.Link as links
+use Rattle.sec_base.specs.declared.clock.Clock as clocks
+use Rattle.sec_base.specs.declared.draw.Draw as draws
+use Rattle.accept_book.specs.Booking.{BookOf}
+use Rattle.accept_book.specs.Logs.{LogOf}
+use Rattle.gss_server.specs.Telling.{limits_of}
+use Rattle.gss_server.specs.declared.answer.Kept.{Kept}
+use Rattle.gss_server.specs.declared.connection.Served.{Served}
+use Rattle.gss_server.specs.declared.keeper.Keeper as keepers
+use Rattle.server_command.specs.Desks.{IsFresh, IsSmall, is_begun}
+use Rattle.server_command.specs.Runs.{HasLimits}
+use Rattle.server_command.specs.SideBySide.{SideBySide, IsUnder}
+use Rattle.server_command.specs.Through.{IsOpened}
+use Rattle.server_command.specs.declared.desk.Desk.{Desk}
+use Rattle.server_command.specs.declared.desk.DeskEnd.TheVariants.{PortFault}
+use Rattle.server_command.specs.declared.ending.RunEnd.{RunEnd}
+use Rattle.server_command.specs.declared.ending.RunEnd.TheVariants as whole
+use Rattle.server_command.specs.declared.keys.Keys.{Keys}
+use Rattle.server_command.specs.declared.options.Options.{Options}
+use Rattle.server_command.proofs.DeskRuns.{desk-small}
+use Rattle.server_command.proofs.Ends.{all-done}
+use Rattle.server_command.proofs.InStep.{there, at-place, by-places}
+
+module _ {P C D K M L Q R : Type 0} {begins : BookOf → Type 0} {width most : ℕ} {port : ports.Ghosts P L} {link : links.Ghosts L} {clock : clocks.Ghosts C} {draw : draws.Ghosts D} {keeper : keepers.Ghosts K Kept Q} {kept : keepers.Ghosts M (Served L) R} {olds news : List (Desk P C D K M)} {end : RunEnd} {log : LogOf} where
+  -- desks that began with nothing are small
+  pub side-small : most ≤ 1000000 → AllByRecursion IsFresh olds → SideBySide begins width most port link clock draw keeper kept olds end news log → AllByRecursion IsSmall news
+  side-small few fresh s = by-places IsSmall news (λ i new at.
+      let old = there news olds i new (sym s.count) at in
+      let ending = there olds s.ends i old.0 s.ends_count old.1 in
+      desk-small few (at-place IsFresh olds i old.0 fresh old.1) (s.each i old.0 new ending.0 old.1 ending.1 at))
+
+  -- a run in which no desk failed serves all connections
+  pub side-served : SideBySide begins width most port link clock draw keeper kept olds end news log → ((i : ℕ) (a b : Desk P C D K M) → slice_get olds i ≡ Some a → slice_get news i ≡ Some b → Rose (port.faults a.port) (port.faults b.port) → ⊥) → end ≢ whole.NoMemory → end ≡ whole.Served
+  side-served s steady other =
+      s.ended ∙ all-done 1 s.ends (λ i at.
+      let old = there s.ends olds i PortFault (sym s.ends_count) at in
+      let new = there olds news i old.0 s.count old.1 in
+      steady i old.0 new.0 old.1 new.1 ((s.each i old.0 new.0 PortFault old.1 at new.1).failed refl)) (λ e. other (s.ended ∙ e))
+
+  -- the book began in another sense
+  pub began-as : {Begins : BookOf → Type 0} → ((book : BookOf) → begins book → Begins book) → SideBySide begins width most port link clock draw keeper kept olds end news log → SideBySide Begins width most port link clock draw keeper kept olds end news log
+  began-as by s = record {
+    all = s.all;
+    ends = s.ends;
+    first = s.first;
+    last = s.last;
+    opened = by s.first s.opened;
+    chain = s.chain;
+    closed = s.closed;
+    count = s.count;
+    ends_count = s.ends_count;
+    each = s.each;
+    others = s.others;
+    ended = s.ended;
+  }
+
+pub begun-served : {end : RunEnd} {Idle Other : Type 0} → ((is_begun end ≡ false) × Idle) ⊎ Other → (Other → end ≡ whole.Served) → is_begun end ≡ true → end ≡ whole.Served
+begun-served (inl idle) served begun = let bad : false ≡ true = sym idle.0 ∙ begun in cc
+begun-served (inr one) served begun = served one
+
+-- the limits of an opened book are those of its options
+pub limits-as : {options : Options} {keys : Keys} {start : ℕ} (book : BookOf) {log : LogOf} → IsOpened options keys start book → IsUnder (limits_of book.core) log → HasLimits options log
+limits-as book opened under = record {
+  width = under.width ∙ opened.width;
+  limit = under.limit ∙ opened.limit;
+  contexts = under.contexts ∙ opened.contexts;
+  marks = under.marks ∙ opened.marks;
+}

@@ -1,0 +1,16 @@
+use Rattle.std.proofs.Common.{inl, inr, ⊎_elim, sym, subst}
+use Rattle.accept_book.specs.Booking.{BookOf}
+use Rattle.server_command.specs.Through.{IsOpened}
+use Rattle.server_command.proofs.DeskRuns.{fresh-small}
+use Rattle.server_command.proofs.Sides.{began-as, limits-as}
+use Rattle.server_command.proofs.server.open_and_serve.Goals as goal
+
+pub returns-in-Ok-clause-booked : goal.returns-in-Ok-clause-booked
+returns-in-Ok-clause-booked g c =
+    ⊎_elim (λ none. inl none) (λ one. inr (began-as (λ book e. subst (λ (b : BookOf). IsOpened c.args.options c.args.keys c.args.start b) (sym e) c.in-Ok.ensures.opened) one)) c.run_book.ensures.served
+
+pub returns-in-Ok-clause-limits : goal.returns-in-Ok-clause-limits
+returns-in-Ok-clause-limits g c = λ begun. limits-as c.in-Ok.book c.in-Ok.ensures.opened (c.run_book.ensures.limits begun)
+
+pub returns-in-Err-clause-small : goal.returns-in-Err-clause-small
+returns-in-Err-clause-small g c = fresh-small c.args.desks.now.items c.requires.fresh
