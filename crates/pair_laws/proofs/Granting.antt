@@ -33,10 +33,10 @@ handle-length id = refl
 -- ---- any result of a creation
 
 -- a reply with this result: the verifier has its kind, and is of at most 400 octets
-abbrev reply_with : ℕ → ℕ → List ℕ → InitRes → ReplyValue
+abbrev pub reply_with : ℕ → ℕ → List ℕ → InitRes → ReplyValue
 reply_with xid flavour verf result = accepted xid flavour verf 0 0 0 (init_res_octets result)
 
-abbrev granted_with : ℕ → ℕ → List ℕ → InitRes → GrantedValue
+abbrev pub granted_with : ℕ → ℕ → List ℕ → InitRes → GrantedValue
 granted_with xid flavour verf result = record {
   answer = record { flavour = flavour; verf = verf; stat = 0; result = init_res_octets result; size = length (reply_octets (reply_with xid flavour verf result)) };
   result = result;
@@ -46,7 +46,7 @@ reply-reads : (xid flavour : ℕ) (verf : List ℕ) (result : InitRes) → xid <
 reply-reads xid flavour verf result fits kind few =
     reply-only (reply_with xid flavour verf result) (few, (λ other. absurd (other refl)), (λ other. refl), (λ other. refl)) (fits, kind, lit< tt, lit< tt, lit< tt)
 
-grants : (xid flavour : ℕ) (verf : List ℕ) (result : InitRes) → xid < 2 ^ 32 → flavour < 2 ^ 32 → length verf ≤ 400 → IsInitRes result → result.major ≤ 1
+pub grants : (xid flavour : ℕ) (verf : List ℕ) (result : InitRes) → xid < 2 ^ 32 → flavour < 2 ^ 32 → length verf ≤ 400 → IsInitRes result → result.major ≤ 1
     → granted_in xid (reply_octets (reply_with xid flavour verf result)) ≡ Ok (granted_with xid flavour verf result)
 unfolding granted_in answer_in
 grants xid flavour verf result fits kind few is low =

@@ -1,6 +1,6 @@
-mod Settling
-mod Ruling
-mod Granting
+pub mod Settling
+pub mod Ruling
+pub mod Granting
 mod Creating
 mod Completing
 mod Answered

@@ -78,7 +78,7 @@ ComesTo (Some id) core end = Negotiates id core end
 some-context : (a b : Context AcceptEnd Outcome) → Some a ≡ Some b → a ≡ b
 some-context a b e = cc
 
-slot-state : (slot : Option (Slot AcceptEnd Outcome)) (end : AcceptEnd) (lasts : ℕ) → context_of slot ≡ Some (record { state = Negotiating end; ends = lasts }) → state_of slot ≡ Some end
+pub slot-state : (slot : Option (Slot AcceptEnd Outcome)) (end : AcceptEnd) (lasts : ℕ) → context_of slot ≡ Some (record { state = Negotiating end; ends = lasts }) → state_of slot ≡ Some end
 slot-state None end lasts e = cc
 slot-state (Some slot) end lasts e =
     let same = some-context (record { state = slot.state; ends = slot.ends }) (record { state = Negotiating end; ends = lasts }) e in

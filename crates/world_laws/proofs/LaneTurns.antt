@@ -76,7 +76,7 @@ turned-further book octets now draws looked end kept said more (inr (inr c)) =
     })
 
 -- so the lane moves
-pub lane-moved : (w : World) (lane : ℕ) (hand : InHand) (book : BookOf) (left : Option InHand) (answer : Option Happened) → Turned w.book hand book left answer
+abbrev pub lane-moved : (w : World) (lane : ℕ) (hand : InHand) (book : BookOf) (left : Option InHand) (answer : Option Happened) → Turned w.book hand book left answer
     → (deed : Deed) × (deed.answer ≡ answer) × LaneMoves w lane hand deed (with_lane w lane left book deed)
 lane-moved w lane hand book left answer (inl t) =
     (quiet answer, refl, inl (record { answer = t.answers; deed_is = refl; new_is = λ i. with_lane w lane (t.nothing i) (t.unchanged i) (quiet answer) }))

@@ -77,11 +77,17 @@ pub mod Undecided
 pub mod Arriving
 pub mod Quiet
 pub mod Headlines
-pub mod MetTokens
-pub mod MetRecords
+mod MetTokens
+mod MetTexts
+mod MetMessages
+mod MetRounds
+mod MetFinishes
+mod MetHonest
+mod MetPairs
+mod MetEvents
+mod MetStays
 pub mod MetCalled
 mod MetCalls
-mod MetEvents
 mod MetRules
 pub mod MetLater
 mod MetSpoken

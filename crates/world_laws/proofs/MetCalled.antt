@@ -1,5 +1,5 @@
 -- One call after an exchange, event by event: the session calls, its record comes to a lane, which looks for the context and then admits the call.
-use Rattle.std.proofs.Common.{◌≡◌, ◌⊎◌, inl, inr, ℕ, ◌+◌, ◌<◌, ◌≤◌, lit<, lit≤, zero, suc, Bool, true, false, is_some, refl, sym, ap, ◌∙◌, subst, arith, List, [], ◌∷◌, ◌++◌, length, map, slice_get, slice_set, option_to_list, Option, Some, None, Result, Ok, Err}
+use Rattle.std.proofs.Common.{◌≡◌, ◌⊎◌, inl, inr, ℕ, ◌<◌, ◌≤◌, lit<, lit≤, zero, suc, Bool, true, false, is_some, refl, sym, ap, ◌∙◌, subst, arith, List, [], ◌∷◌, ◌++◌, length, map, slice_get, slice_set, option_to_list, Option, Some, None, Result, Ok, Err}
 use Rattle.std.specs.Prelude.{nat_eq}
 use Rattle.std.specs.Cmp.Lexicographic.{pointwise}
 use Rattle.std.proofs.lemmas.Bool.{eq-eqb, and_from}
@@ -76,12 +76,12 @@ made_of c = record {
   outcome = c.outcome;
   id = c.context.id;
   number = 1;
-  xid = 2;
+  xid = c.rests.xid;
   procedure = c.procedure;
   args = c.args;
   id_fits = subst (λ (n : ℕ). n < 18446744073709551616) (sym c.rests.first) (lit< tt);
   few = lit≤ tt;
-  xid_fits = lit< tt;
+  xid_fits = c.rests.xid_fits;
   served = c.served;
   proper = c.proper;
   size = c.size;

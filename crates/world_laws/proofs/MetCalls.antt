@@ -31,6 +31,7 @@ use Rattle.accept_book.specs.declared.answer.LookRefusal.{LookRefusal}
 use Rattle.accept_book.specs.RecordShown.{KeptAnswers, Look, Ruling, Shown, handle_of, handle_id}
 use Rattle.accept_book.specs.Served.{are_args}
 use Rattle.accept_book.proofs.HonestMakings.{mic-made}
+use Rattle.rpcsec_bodies.proofs.Lengths.{mic-size}
 use Rattle.rpcsec_bodies.specs.Protection.{protected}
 use Rattle.rpcsec_bodies.specs.declared.service.Service.TheVariants.{Integrity}
 use Rattle.gss_client.specs.Calling.{header_of, verifier_of, signed_call, data_call}
@@ -39,7 +40,6 @@ use Rattle.gss_client.specs.Talk.{begun}
 use Rattle.gss_client.proofs.CallLengths.{cred-fits}
 use Rattle.world_laws.specs.Initiators.{header_making, call_makings}
 use Rattle.world_laws.specs.Lanes.{found_in_checked, secure_call_in, found_in_header, found_in_body, found_in_call}
-use Rattle.world_laws.proofs.MetRecords.{mic-size}
 
 -- a call of a session, which has this outcome and this context's handle
 pub record Made : Type 0 where

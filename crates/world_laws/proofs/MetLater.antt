@@ -2,6 +2,7 @@
 use Rattle.std.proofs.Common.{◌≡◌, inl, ℕ, ◌≤◌, true, refl, sym, ap, ◌∙◌, subst, List, [], ◌++◌, length, is_some, slice_get, slice_set, Some, None}
 use Rattle.std.proofs.lemmas.Option.{none-some, same_Some}
 use Rattle.sha1.specs.Sha1.{sha1}
+use Rattle.gss_base.specs.declared.mech.MechKind.{MechKind}
 use Rattle.scram_mech.specs.MechMaking.{MechMaking, AmongMakings}
 use Rattle.spnego_core.proofs.Makings.{among_front, among_back}
 use Rattle.accept_book.specs.declared.book_answer.Lease.{Lease}
@@ -22,7 +23,8 @@ use Rattle.world_laws.specs.declared.stage.Stage.TheVariants as stages
 use Rattle.world_laws.specs.Deeds.{Deed}
 use Rattle.world_laws.specs.State.{World}
 use Rattle.world_laws.specs.Initiators.{call_makings}
-use Rattle.world_laws.specs.Meeting.{IsCarried, InTime, IsCalled, RulesCalls, sent_in}
+use Rattle.world_laws.specs.Carrying.{RulesCalls, sent_in}
+use Rattle.world_laws.specs.Meeting.{IsCarried, InTime, IsCalled}
 use Rattle.world_laws.specs.Premises.{Unforged}
 use Rattle.world_laws.specs.Showing.{Shown, Follows, Steps}
 use Rattle.world_laws.proofs.Growing.{Grows, grows, grows-on, listed-grows, settled-grows, completed-stays}
@@ -35,7 +37,8 @@ use Rattle.world_laws.proofs.Running.{kept-end}
 
 -- a call after an exchange
 pub record Given (shown : Shown) (now : ℕ) (draws : List ℕ) (procedure : ℕ) (args : List ℕ) : Type 0 where
-  pub k : IsCarried shown
+  pub kind : MechKind
+  pub k : IsCarried shown kind
   pub held : Held k.met.now
   pub served : procedure ≤ 4
   pub proper : are_args procedure args ≡ true
@@ -43,15 +46,16 @@ pub record Given (shown : Shown) (now : ℕ) (draws : List ℕ) (procedure : ℕ
   pub timely : now ≤ k.met.context.fixed.lasts
   pub law : (lease : Lease) → lease.outcome.key ≡ k.met.outcome.key → HonestLaw lease
 
-pub given : (laws : Below) (shown : Shown) → IsCarried shown → (procedure : ℕ) (args : List ℕ) → procedure ≤ 4 → are_args procedure args ≡ true → length args ≤ 65540 → (now : ℕ) (draws : List ℕ) → InTime shown now → RulesCalls (slice_get shown.stages 0) → Given shown now draws procedure args
-given laws shown k procedure args served proper size now draws timely rules = record {
+pub given : (laws : Below) (shown : Shown) (kind : MechKind) → IsCarried shown kind → (procedure : ℕ) (args : List ℕ) → procedure ≤ 4 → are_args procedure args ≡ true → length args ≤ 65540 → (now : ℕ) (draws : List ℕ) → InTime shown now → RulesCalls (slice_get shown.stages 0) → Given shown now draws procedure args
+given laws shown kind k procedure args served proper size now draws timely rules = record {
+  kind = kind;
   k = k;
   held = (kept-end laws k.met.marking k.met.start shown.events k.met.now k.met.run k.met.begins k.met.unforged k.met.fresh).held;
   served = served;
   proper = proper;
   size = size;
   timely = timely k.met.now.book k.met.context.id k.met.context.fixed.lasts k.met.outcome.mech (names_of k.met.outcome) k.met.shows.book k.rests.whole;
-  law = λ lease same. rules (begun Integrity 1 2 k.met.outcome (handle_of k.met.context.id)) lease (ap (λ (xs : List Stage). slice_get xs 0) (k.met.shows.stages ∙ k.rests.stands)) same;
+  law = λ lease same. rules (begun Integrity 1 k.rests.xid k.met.outcome (handle_of k.met.context.id)) lease (ap (λ (xs : List Stage). slice_get xs 0) (k.met.shows.stages ∙ k.rests.stands)) same;
 }
 
 abbrev calling : {shown : Shown} {now : ℕ} {draws : List ℕ} {procedure : ℕ} {args : List ℕ} → Given shown now draws procedure args → Calling

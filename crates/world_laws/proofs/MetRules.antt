@@ -11,7 +11,7 @@ use Rattle.accept_book.proofs.HonestRecords.{honest-ruled}
 use Rattle.gss_client.specs.Session.{SessionState}
 use Rattle.world_laws.specs.declared.stage.Stage.{Stage}
 use Rattle.world_laws.specs.declared.stage.Stage.TheVariants as stages
-use Rattle.world_laws.specs.Meeting.{RulesCalls}
+use Rattle.world_laws.specs.Carrying.{RulesCalls}
 
 rules-calls : (keys : SealKeys) (lease : Lease) → ForSealing keys lease.outcome.key 24 → HonestLaw lease
 rules-calls keys lease for = λ octets kept width n procedure args honest id handle look. honest-ruled keys octets kept width n procedure args lease honest id for handle look

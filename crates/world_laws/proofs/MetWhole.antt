@@ -1,70 +1,56 @@
--- That the premises can be met: of one exchange by Kerberos, nothing is forged, all is fresh, and both ends complete.
-use Rattle.std.proofs.Common.{◌≡◌, inl, inr, ℕ, zero, suc, ◌+◌, ◌<◌, true, refl, sym, ap, ◌∙◌, subst, arith, List, [], ◌∷◌, length, map, replicate, take, slice_get, Option, Some, None}
-use Rattle.std.proofs.lemmas.Bool.{eq-eqb}
-use Rattle.std.proofs.lemmas.List.{length-take-le}
+-- That the premises can be met: of an honest pair's exchange nothing is forged, all is fresh, and both ends complete.
+use Rattle.std.proofs.Common.{◌≡◌, inl, inr, ℕ, zero, suc, ◌+◌, ◌*◌, ◌<◌, ◌≤◌, ◌^◌, lit<, true, refl, sym, ap, ◌∙◌, subst, arith, List, [], ◌∷◌, ◌++◌, length, map, replicate, take, drop, append-nil, slice_get, option_to_list, Option, Some, None, Result, Ok, Err, IfOk}
+use Rattle.std.specs.Prelude.{if◌then◌else◌, Bool, false}
 use Rattle.std.proofs.lemmas.Option.{none-some, same_Some}
 use Rattle.gss_base.specs.declared.mech.MechKind.{MechKind}
 use Rattle.gss_base.specs.declared.mech.MechKind.TheVariants as kinds
 use Rattle.krb_files.specs.Granted.{Granted}
-use Rattle.ap_exchange.specs.Judging.{client_granted}
-use Rattle.ap_exchange.specs.Request.{request_token}
-use Rattle.scram_mech.specs.Acceptor.{AcceptModel}
-use Rattle.scram_mech.specs.MechMaking.{MechMaking, AmongMakings}
-use Rattle.spnego_core.specs.declared.outcome.Outcome.{Outcome}
-use Rattle.spnego_core.specs.declared.setup.InitSetup.{InitSetup}
-use Rattle.spnego_core.specs.declared.setup.MechCred.{MechCred}
-use Rattle.spnego_core.specs.declared.setup.MechCred.TheVariants as creds
-use Rattle.spnego_core.specs.InitMech.{is_own_list, cred_for}
-use Rattle.spnego_core.specs.Initiating.{first_sent}
-use Rattle.spnego_core.specs.Sizes.{IsShort}
-use Rattle.spnego_core.specs.Tokens.{init_octets}
 use Rattle.rpc_msgs.specs.Words.{word}
-use Rattle.gss_client.specs.Session.{SessionState}
+use Rattle.scram_mech.specs.MechMaking.{MechMaking, AmongMakings}
+use Rattle.scram_mech.specs.Secrets.{proof_of}
+use Rattle.scram_mech.proofs.Masks.{length-proof}
+use Rattle.spnego_core.specs.declared.accept_end.AcceptEnd.{AcceptEnd}
+use Rattle.spnego_core.specs.declared.accept_end.AcceptEnd.TheVariants as ends
+use Rattle.spnego_core.specs.declared.accept_end.AcceptStep.TheVariants as accept_steps
+use Rattle.spnego_core.specs.declared.init_end.InitEnd.{InitEnd}
+use Rattle.spnego_core.specs.declared.outcome.Outcome.{Outcome}
+use Rattle.spnego_core.specs.declared.setup.AcceptSetup.{AcceptSetup}
+use Rattle.spnego_core.specs.declared.setup.InitSetup.{InitSetup}
+use Rattle.spnego_core.specs.declared.setup.MechCred.TheVariants as creds
+use Rattle.spnego_core.specs.declared.init_end.InitStep.TheVariants as init_steps
+use Rattle.spnego_core.specs.Accepting.{Fixed}
+use Rattle.spnego_core.specs.Choice.{is_first, is_mic_due}
+use Rattle.spnego_core.specs.Exchange.{rounds_of, tokens_of}
+use Rattle.spnego_core.specs.InitMech.{kinds_of, cred_for}
+use Rattle.spnego_core.specs.Initiating.{Started, own_list, init_start}
+use Rattle.spnego_core.proofs.Makings.{among_split}
 use Rattle.accept_book.specs.declared.entry.Entry.{Entry}
-use Rattle.accept_book.specs.declared.entry.Entry.TheVariants.{Settled}
+use Rattle.context_table.specs.Places.{live_of}
 use Rattle.accept_book.specs.Booking.{BookOf, names_of}
-use Rattle.accept_book.specs.History.{Whole, standing, numbers, opened}
+use Rattle.accept_book.specs.History.{Whole, opened, numbers, taken_of}
+use Rattle.gss_client.specs.Session.{SessionState, xid_after}
+use Rattle.pair_laws.proofs.Ruling.{IsId}
 use Rattle.world_laws.specs.declared.event.Happened.{Happened}
 use Rattle.world_laws.specs.declared.event.Happened.TheVariants.{Sent, Completed}
 use Rattle.world_laws.specs.declared.event.WorldEvent.{WorldEvent}
 use Rattle.world_laws.specs.declared.event.WorldEvent.TheVariants.{Start, Deliver, Lane}
 use Rattle.world_laws.specs.declared.stage.Stage.{Stage}
 use Rattle.world_laws.specs.declared.stage.Stage.TheVariants as stages
-use Rattle.world_laws.specs.Deeds.{Opened, Deed}
+use Rattle.world_laws.specs.Carrying.{sent_in, completed_in, IsTurn}
+use Rattle.world_laws.specs.Deeds.{Deed}
 use Rattle.world_laws.specs.State.{InHand, Context, World}
-use Rattle.world_laws.specs.Lanes.{told_width}
+use Rattle.world_laws.specs.Lanes.{told_width, context_with}
 use Rattle.world_laws.specs.Events.{Run, Begins}
-use Rattle.world_laws.specs.Meeting.{AtStart, Meeting, IsMet, Rests, IsCarried, sent_in, completed_in}
-use Rattle.world_laws.specs.Premises.{Ticket, Marking, Listed, GuardedSession, WasMade, WasIssued, WasSettled, Unforged, OnProof, HasTicket, session_in, Completed as CompletedWith, Fresh}
-use Rattle.world_laws.specs.Setups.{IsSetup}
+use Rattle.world_laws.specs.Meeting.{AtStart, Meeting, IsCarried}
+use Rattle.world_laws.specs.Premises.{Marking, Listed, WasMade, WasSettled, Unforged, HasTicket, session_in, Completed as CompletedWith, OnTicket, OnGuarded, Fresh, GuardedSession}
 use Rattle.world_laws.specs.Showing.{Shown, Shows, Ran, Follows, Steps}
-use Rattle.world_laws.proofs.HeldHistory.{at-head}
 use Rattle.world_laws.proofs.Kerberos.{same-cred, not-both}
-use Rattle.world_laws.proofs.MetRecords.{call_with}
-use Rattle.world_laws.proofs.MetTokens.{own_with, Both}
-use Rattle.world_laws.proofs.MetEvents as events
+use Rattle.world_laws.proofs.MetEvents.{world_in, Stays, Case, before, step_in, settled-passed, reply_to, call_of, Answers, answers-so, first_world, Starts, starts-so, TakesOn, takes-on, window_of, session_with, TakesLast, takes-last}
+use Rattle.world_laws.proofs.MetPairs.{setting_with, Honest, count-of, honest}
+use Rattle.world_laws.proofs.MetRounds.{Setting, setup_in, Marked, Heard, Took, Goes, Final, Ends, Rounds}
 use Rattle.world_laws.proofs.MetSpoken.{Walked, Past, steps-on}
-
--- ---- the marking: the initiator's ticket, whose parties are honest
-
-abbrev ticket_of : events.Case → Ticket
-ticket_of c = record { client = client_granted c.both.fits.fit.part; server = c.credential.server; service = c.both.fits.fit.service; session = c.credential.session; marked = true }
-
-abbrev marking_of : events.Case → Marking
-marking_of c = record { tickets = ticket_of c ∷ []; accounts = [] }
-
-the-ticket : (c : events.Case) (t : Ticket) → Listed (marking_of c).tickets t → t ≡ ticket_of c
-the-ticket c t listed = only (ticket_of c) t listed.place listed.there
-  where
-    only : (x y : Ticket) (place : ℕ) → slice_get (x ∷ []) place ≡ Some y → y ≡ x
-    only x y zero e = sym (same_Some x y e)
-    only x y (suc place) e = absurd (none-some y e)
-
-no-account : {A B : Type 0} (value : A) → Listed [] value → B
-no-account value listed = absurd (none-some value listed.there)
-
-guarded-session : (c : events.Case) → GuardedSession (marking_of c) c.credential.session
-guarded-session c = record { ticket = ticket_of c; issued = record { place = 0; there = refl }; marked = refl; session = refl }
+use Rattle.world_laws.proofs.MetStays.{stays-on, Closes, closes}
+use Rattle.world_laws.proofs.ScramAgrees.{other-kind}
 
 -- ---- one initiator, and one context
 
@@ -72,49 +58,56 @@ one-place : {A : Type 0} (x y : A) (i : ℕ) → slice_get (x ∷ []) i ≡ Some
 one-place x y zero e = (refl, sym (same_Some x y e))
 one-place x y (suc i) e = absurd (none-some y e)
 
-abbrev last : events.Case → BookOf → List (Option InHand) → World
-last c book lanes = events.last_world c book lanes
-
 same-place : {A : Type 0} (x y z : A) (i j : ℕ) → slice_get (x ∷ []) i ≡ Some y → slice_get (x ∷ []) j ≡ Some z → i ≡ j
 same-place x y z i j e f = (one-place x y i e).0 ∙ sym (one-place x z j f).0
 
--- the context is on the request
-no-proof : {A : Type 0} (c : events.Case) (x : Context) (end : AcceptModel) (auth : List ℕ) → Listed (events.context_with c ∷ []) x → OnProof x end auth → A
-no-proof c x end auth listed on =
-    let same : x ≡ events.context_with c = (one-place (events.context_with c) x listed.place listed.there).1 in
-    not-both (events.judged_of c) end on.text (sym (ap (λ (z : Context). z.fixed.basis) same) ∙ on.basis)
+-- how an exchange ended
+record Done (x : Setting) (xid : ℕ) (book : BookOf) (lanes : List (Option InHand)) (made : List MechMaking) (fixed : Fixed) (outcome : Outcome) : Type 0 where
+  marked : Marked x
+  setup : book.setup ≡ setup_in x
+  outcome_is : fixed.outcome ≡ outcome
+  final : Final x made outcome fixed.basis
 
-own-cred : (c : events.Case) (book : BookOf) (lanes : List (Option InHand)) (i : ℕ) (own : InitSetup) (d : Granted) → HasTicket (last c book lanes) i own d → d ≡ c.credential
-own-cred c book lanes i own d has =
-    let same : own ≡ events.own_of c = (one-place (events.own_of c) own i has.there).1 in
-    same-cred (events.own_of c) d c.credential (subst (λ (o : InitSetup). cred_for o.list kinds.Kerberos ≡ Some (creds.Kerberos d)) same has.is_own) refl
+-- the world then
+abbrev last_world : Setting → ℕ → BookOf → List (Option InHand) → List MechMaking → Fixed → Outcome → World
+last_world x xid book lanes made fixed outcome = world_in x (stages.Stands (session_with xid outcome)) book lanes made (fixed ∷ [])
 
--- by SCRAM it completed nothing
-not-scram : {A : Type 0} → kinds.Kerberos ≡ kinds.Scram → A
-not-scram e = absurd cc
+the-outcome : (x : Setting) (xid : ℕ) (book : BookOf) (lanes : List (Option InHand)) (made : List MechMaking) (fixed : Fixed) (outcome other : Outcome) (i : ℕ) (own : InitSetup) → CompletedWith (last_world x xid book lanes made fixed outcome) i own other → other ≡ outcome
+the-outcome x xid book lanes made fixed outcome other i own done =
+    let stage : done.stage ≡ stages.Stands (session_with xid outcome) = (one-place (stages.Stands (session_with xid outcome)) done.stage i done.stands).1 in
+    sym done.outcome_is ∙ sym (ap (λ (s : SessionState). s.outcome) (same_Some (session_with xid outcome) done.session (sym (ap session_in stage) ∙ done.in_session)))
 
-the-outcome : (c : events.Case) (book : BookOf) (lanes : List (Option InHand)) (i : ℕ) (own : InitSetup) (outcome : Outcome) → CompletedWith (last c book lanes) i own outcome → outcome ≡ events.outcome_of c
-the-outcome c book lanes i own outcome done =
-    let stage : done.stage ≡ events.session_of c = (one-place (events.session_of c) done.stage i done.stands).1 in
-    sym done.outcome_is ∙ sym (ap (λ (s : SessionState). s.outcome) (same_Some (events.session_with c) done.session (sym (ap session_in stage) ∙ done.in_session)))
+the-context : (fixed : Fixed) (context : Context) → Listed (context_with 1 fixed ∷ []) context → context ≡ context_with 1 fixed
+the-context fixed context listed = (one-place (context_with 1 fixed) context listed.place listed.there).1
 
-fresh-so : (c : events.Case) (book : BookOf) (lanes : List (Option InHand)) → book.setup ≡ c.book.setup → Fresh (marking_of c) (last c book lanes)
-fresh-so c book lanes setup = record {
-  credential = λ i own d t has listed session. (
-    ap (λ (z : Ticket). z.client) (the-ticket c t listed) ∙ (c.both.fits.fit.client ∙ ap (λ (g : Granted). g.client) (sym (own-cred c book lanes i own d has))),
-    ap (λ (z : Ticket). z.server) (the-ticket c t listed) ∙ ap (λ (g : Granted). g.server) (sym (own-cred c book lanes i own d has)),
-  );
-  server = λ t number etype listed there. ap (λ (z : Ticket). z.server) (the-ticket c t listed) ∙ (c.both.fits.fit.credential_server ∙ sym (ap (λ s. s.own) setup));
-  stamps = λ i j own other d e a b session stamp. same-place (events.own_of c) own other i j a.there b.there;
-  subkeys = λ i j x y a b there next f g key. same-place (events.context_with c) x y i j there next;
-  nonces = λ i j own other a p b q x y nonce. same-place (events.own_of c) own other i j x.there y.there;
-  own_nonces = λ i j x y end next auth last there other f g nonce. same-place (events.context_with c) x y i j there other;
-  lines = λ account line marked. no-account account marked;
-  proof_keys = λ x end auth last listed guarded on. no-proof c x end auth listed on;
-  proof_subkeys = λ x y request end auth listed next f on. no-proof c y end auth next on;
-  own_proofs = λ x request last listed guarded on at. not-scram (sym (ap (λ (o : Outcome). o.mech) (the-outcome c book lanes at.i at.own at.outcome at.completed)) ∙ at.by_proof);
-  untold = λ i own d outcome has done mech built. subst (λ (g : Granted). GuardedSession (marking_of c) g.session) (sym (own-cred c book lanes i own d has)) (guarded-session c);
+fresh-so : (x : Setting) (xid : ℕ) (book : BookOf) (lanes : List (Option InHand)) (made : List MechMaking) (fixed : Fixed) (outcome : Outcome) → Done x xid book lanes made fixed outcome → Fresh x.marking (last_world x xid book lanes made fixed outcome)
+fresh-so x xid book lanes made fixed outcome d = record {
+  credential = λ i own c t has listed session. d.marked.tickets c t (is-own i own c has) listed;
+  server = λ t number etype listed there. d.marked.servers t listed ∙ sym (ap (λ (s : AcceptSetup). s.own) d.setup);
+  stamps = λ i j own other a b has next session stamp. same-place x.own own other i j has.there next.there;
+  subkeys = λ i j c y a b there next f g key. same-place (context_with 1 fixed) c y i j there next;
+  nonces = λ i j own other a p b q has next nonce. same-place x.own own other i j has.there next.there;
+  own_nonces = λ i j c y end next auth last there other f g nonce. same-place (context_with 1 fixed) c y i j there other;
+  lines = λ account line marked listed named. d.marked.lines account line marked (subst (λ (s : AcceptSetup). Listed s.verifiers line) d.setup listed) named;
+  proof_keys = λ c end auth last listed guarded on at.
+      d.final.by_proof end on.text auth (sym (basis c listed) ∙ on.basis) on.has_auth _ last (proof_of (record { password = at.proved.password; salt = at.proved.parts.salt; rounds = at.proved.parts.rounds }) last)
+      (length-proof (record { password = at.proved.password; salt = at.proved.parts.salt; rounds = at.proved.parts.rounds }) last) at.proved.handed_out;
+  proof_subkeys = λ c y request end auth listed next f on either key. not-both request end on.text (sym f.basis ∙ (basis c listed ∙ (sym (basis y next) ∙ on.basis)));
+  own_proofs = λ c request last listed guarded on at.
+      other-kind (sym (d.final.by_request request (sym (basis c listed) ∙ on.basis)) ∙ (ap (λ (o : Outcome). o.mech) (sym (the-outcome x xid book lanes made fixed outcome at.outcome at.i at.own at.completed)) ∙ at.by_proof));
+  untold = λ i own c other has done mech built. by-ticket own c (is-own i own c has) (sym (ap (λ (o : Outcome). o.mech) (the-outcome x xid book lanes made fixed outcome other i own done)) ∙ mech);
 }
+  where
+    is-own : (i : ℕ) (own : InitSetup) (c : Granted) → HasTicket (last_world x xid book lanes made fixed outcome) i own c → cred_for x.own.list kinds.Kerberos ≡ Some (creds.Kerberos c)
+    is-own i own c has = subst (λ (o : InitSetup). cred_for o.list kinds.Kerberos ≡ Some (creds.Kerberos c)) (one-place x.own own i has.there).1 has.is_own
+
+    basis : (c : Context) → Listed (context_with 1 fixed ∷ []) c → c.fixed.basis ≡ fixed.basis
+    basis c listed = ap (λ (z : Context). z.fixed.basis) (the-context fixed c listed)
+
+    by-ticket : (own : InitSetup) (c : Granted) → cred_for x.own.list kinds.Kerberos ≡ Some (creds.Kerberos c) → outcome.mech ≡ kinds.Kerberos → GuardedSession x.marking c.session
+    by-ticket own c is mech =
+        let on : OnTicket x.marking x.own = subst (λ (k : MechKind). OnGuarded x.marking x.own k) mech d.final.guarded in
+        subst (λ (g : Granted). GuardedSession x.marking g.session) (same-cred x.own on.credential c on.is_own is) on.guarded
 
 -- ---- nothing is forged
 
@@ -124,268 +117,454 @@ none-forged marking w deed none closed = record {
   issued = λ opened is. absurd (none-some opened (sym closed ∙ is));
 }
 
-request-forged : (c : events.Case) (deed : Deed) (new : World) → events.Answers c deed new → Unforged (marking_of c) (events.second_world c) deed
-request-forged c deed new a = record {
-  made = λ making among guarded. inl (subst (λ (ms : List MechMaking). AmongMakings ms making) a.found among);
-  issued = λ opened is. issued opened (same_Some (events.opened_with c) opened (sym a.opened ∙ is));
+lane-unforged : (c : Case) (deed : Deed) (new : World) → Answers c deed new → Unforged c.x.marking (before c) deed
+lane-unforged c deed new a = record {
+  made = λ making among guarded. inl (c.heard.found making (subst (λ (ms : List MechMaking). AmongMakings ms making) a.found among));
+  issued = λ opened is. c.heard.issued opened (sym a.opened ∙ is);
 }
-  where
-    issued : (opened : Opened) → events.opened_with c ≡ opened → WasIssued (marking_of c) opened
-    issued opened same = subst (WasIssued (marking_of c)) same (record { ticket = ticket_of c; issued = record { place = 0; there = refl }; service = refl; client = refl; session = refl })
-
--- the log says that the context was settled
-was-settled : (c : events.Case) (history earlier : List Entry) (at : ℕ) → history ≡ Settled (events.id_in c) kinds.Kerberos (names_of (events.outcome_of c)) (events.judged_of c).ends at ∷ earlier → WasSettled history (events.id_in c)
-was-settled c history earlier at is = subst (λ (h : List Entry). WasSettled h (events.id_in c)) (sym is) (record {
-  place = length earlier;
-  mech = kinds.Kerberos;
-  names = names_of (events.outcome_of c);
-  ends = (events.judged_of c).ends;
-  at = at;
-  entry = at-head (length earlier) _ earlier refl;
-})
 
 four-octets : length (word told_width) ≡ 4
 unfolding word
 four-octets = refl
 
-reply-forged : (c : events.Case) (book : BookOf) (lanes : List (Option InHand)) (deed : Deed) (new : World) → WasSettled book.core.history (events.id_in c) → events.Stands c book lanes deed new
-    → Unforged (marking_of c) (events.third_world c book lanes) deed
-reply-forged c book lanes deed new settled s = record {
-  made = λ making among guarded. made making (subst (λ (ms : List MechMaking). AmongMakings ms making) s.found among);
-  issued = λ opened is. absurd (none-some opened (sym s.opened ∙ is));
+-- ---- the run
+
+-- a run so far, in which nothing was forged
+abbrev pub PastOf : Setting → World → Shown → World → Type 0
+PastOf x start shown now = Past x.marking start shown now
+
+-- before a turn: the initiator handed out a token last
+pub record Talks (x : Setting) (start : World) (left : ℕ) (draws : List (List ℕ)) (outcome : Outcome) (last : Happened) (shown : Shown) : Type 0 where
+  id : Option ℕ
+  xid : ℕ
+  end : AcceptEnd
+  initiator : InitEnd
+  token : List ℕ
+  made : List MechMaking
+  fixed : List Fixed
+  book : BookOf
+  lanes : List (Option InHand)
+  stays : Stays x id end left book lanes fixed
+  xids : xid + left < 2 ^ 32
+  is_id : IsId id
+  rounds : Rounds x draws end initiator token made fixed outcome
+  short : length token ≤ 65536
+  sent : last ≡ Sent (call_of xid id token)
+  past : PastOf x start shown (world_in x (stages.Asks xid initiator) book lanes made fixed)
+
+-- as the exchange came so far, with these draws left
+abbrev pub StandsBy : Setting → World → MechKind → List (List ℕ) → Outcome → Happened → Shown → Type 0
+StandsBy x start kind [] outcome last shown = (last ≡ Completed outcome) × IsCarried shown kind
+StandsBy x start kind (draws ∷ later) outcome last shown = Talks x start (suc (length later)) (draws ∷ later) outcome last shown
+
+pub record Carrying (kind : MechKind) (now : ℕ) (draws : List (List ℕ)) (last : Happened) (shown : Shown) : Type 0 where
+  pub x : Setting
+  pub now_is : x.now ≡ now
+  pub marked : Marked x
+  pub start : World
+  pub begins : Begins start
+  pub outcome : Outcome
+  pub mech : outcome.mech ≡ kind
+  pub stands : StandsBy x start kind draws outcome last shown
+
+-- ---- the lane's event
+
+abbrev case_of : (x : Setting) (start : World) (left : ℕ) (draws : List ℕ) (rest : List (List ℕ)) (outcome : Outcome) (last : Happened) (shown : Shown) (t : Talks x start (suc left) (draws ∷ rest) outcome last shown)
+    → Heard x t.end t.token (take 66 draws) t.made t.fixed → Case
+case_of x start left draws rest outcome last shown t heard = record {
+  x = x;
+  id = t.id;
+  xid = t.xid;
+  end = t.end;
+  initiator = t.initiator;
+  token = t.token;
+  draws = draws;
+  made = t.made;
+  fixed = t.fixed;
+  book = t.book;
+  lanes = t.lanes;
+  left = left;
+  stays = t.stays;
+  heard = heard;
+  xid_fits = omega (arith, t.xids);
+  is_id = t.is_id;
+  short = t.short;
 }
+
+-- after it
+record Replied (c : Case) (start : World) (happened : Happened) (shown : Shown) : Type 0 where
+  sent : happened ≡ Sent (reply_to c.xid (step_in c))
+  deed : Deed
+  new : World
+  answers : Answers c deed new
+  past : PastOf c.x start shown (world_in c.x (stages.Asks c.xid c.initiator) answers.book answers.lanes (c.made ++ c.heard.accepted.makes) (c.fixed ++ option_to_list c.heard.accepted.fixes))
+
+replied : (c : Case) (start : World) (happened : Happened) (old shown : Shown) → PastOf c.x start old (before c) → Steps (Lane 0 (call_of c.xid c.id c.token) c.x.now c.draws) (Some happened) old shown → Replied c start happened shown
+replied c start happened old shown past steps = by (steps.follows (before c) past.shows)
   where
-    made : (making : MechMaking) → AmongMakings (events.answer_of c ∷ events.window_of c ∷ []) making → WasMade (events.third_world c book lanes) making
-    made making (inl first) = inl (inr (inl first))
-    made making (inr (inl second)) = inr (record {
-      context = events.context_with c;
+    with : (f : Follows (Lane 0 (call_of c.xid c.id c.token) c.x.now c.draws) (Some happened) (before c) shown) → Answers c f.deed f.new → Replied c start happened shown
+    with f a = record {
+      sent = same_Some happened (Sent (reply_to c.xid (step_in c))) (sym f.answered ∙ a.answer);
+      deed = f.deed;
+      new = f.new;
+      answers = a;
+      past = steps-on c.x.marking start (Lane 0 (call_of c.xid c.id c.token) c.x.now c.draws) happened (before c)
+          (world_in c.x (stages.Asks c.xid c.initiator) a.book a.lanes (c.made ++ c.heard.accepted.makes) (c.fixed ++ option_to_list c.heard.accepted.fixes)) old shown past steps f a.new_is (lane-unforged c f.deed f.new a);
+    }
+
+    by : Follows (Lane 0 (call_of c.xid c.id c.token) c.x.now c.draws) (Some happened) (before c) shown → Replied c start happened shown
+    by f = with f (answers-so c happened f.deed f.new f.happens f.answered)
+
+-- ---- a turn after which both go on
+
+next-xid : (xid : ℕ) → xid + 1 < 2 ^ 32 → xid_after xid ≡ xid + 1
+next-xid xid h = omega arith
+
+-- the reply comes
+goes-past : (x : Setting) (xid : ℕ) (initiator : InitEnd) (book : BookOf) (lanes : List (Option InHand)) (made : List MechMaking) (fixed : List Fixed) (reply : List ℕ) (t : Took initiator reply made) (deed : Deed)
+    → deed.found ≡ t.initiated.found → deed.opened ≡ None → Unforged x.marking (world_in x (stages.Asks xid initiator) book lanes made fixed) deed
+goes-past x xid initiator book lanes made fixed reply t deed found closed = record {
+  made = λ making among guarded. inl (t.found making (subst (λ (ms : List MechMaking). AmongMakings ms making) found among));
+  issued = λ opened is. absurd (none-some opened (sym closed ∙ is));
+}
+
+record TookOn (x : Setting) (start : World) (xid : ℕ) (book : BookOf) (lanes : List (Option InHand)) (made : List MechMaking) (fixed : List Fixed) (makes : List MechMaking) (next : InitEnd) (further : List ℕ) (happened : Happened) (shown : Shown) : Type 0 where
+  sent : happened ≡ Sent (call_of (xid_after xid) (Some 1) further)
+  past : PastOf x start shown (world_in x (stages.Asks (xid_after xid) next) book lanes (made ++ makes) fixed)
+
+took-on : (x : Setting) (start : World) (xid : ℕ) (initiator : InitEnd) (book : BookOf) (lanes : List (Option InHand)) (made : List MechMaking) (fixed : List Fixed) (reply : List ℕ) (t : Took initiator reply made) (next : InitEnd) (further : List ℕ) → t.initiated.step ≡ init_steps.More next further
+    → xid < 2 ^ 32 → length reply ≤ 65536 → (happened : Happened) (old shown : Shown) → PastOf x start old (world_in x (stages.Asks xid initiator) book lanes made fixed) → Steps (Deliver 0 (reply_to xid (accept_steps.More ends.New reply)) 1) (Some happened) old shown
+    → TookOn x start xid book lanes made fixed t.initiated.makes next further happened shown
+took-on x start xid initiator book lanes made fixed reply t next further more fits few happened old shown past steps = by (steps.follows (world_in x (stages.Asks xid initiator) book lanes made fixed) past.shows)
+  where
+    with : (f : Follows (Deliver 0 (reply_to xid (accept_steps.More ends.New reply)) 1) (Some happened) (world_in x (stages.Asks xid initiator) book lanes made fixed) shown) → TakesOn x xid book lanes made fixed t.initiated next further f.deed f.new
+        → TookOn x start xid book lanes made fixed t.initiated.makes next further happened shown
+    with f s = record {
+      sent = same_Some happened (Sent (call_of (xid_after xid) (Some 1) further)) (sym f.answered ∙ s.answer);
+      past = steps-on x.marking start (Deliver 0 (reply_to xid (accept_steps.More ends.New reply)) 1) happened (world_in x (stages.Asks xid initiator) book lanes made fixed)
+          (world_in x (stages.Asks (xid_after xid) next) book lanes (made ++ t.initiated.makes) fixed) old shown past steps f s.new_is (goes-past x xid initiator book lanes made fixed reply t f.deed s.found s.opened);
+    }
+
+    by : Follows (Deliver 0 (reply_to xid (accept_steps.More ends.New reply)) 1) (Some happened) (world_in x (stages.Asks xid initiator) book lanes made fixed) shown → TookOn x start xid book lanes made fixed t.initiated.makes next further happened shown
+    by f = with f (takes-on x xid initiator book lanes made fixed reply t next further more fits few f.deed f.new f.happens (λ e. none-some happened (sym e ∙ f.answered)))
+
+-- ---- the last turn
+
+record TookLast (x : Setting) (start : World) (xid : ℕ) (book : BookOf) (lanes : List (Option InHand)) (made : List MechMaking) (fixed : Fixed) (makes : List MechMaking) (outcome : Outcome) (happened : Happened) (shown : Shown) : Type 0 where
+  completed : happened ≡ Completed outcome
+  past : PastOf x start shown (last_world x xid book lanes (made ++ makes) fixed outcome)
+
+took-last : (x : Setting) (start : World) (xid : ℕ) (initiator : InitEnd) (book : BookOf) (lanes : List (Option InHand)) (made : List MechMaking) (fixed : Fixed) (reply : List ℕ) (t : Took initiator reply made) (outcome : Outcome) → t.initiated.step ≡ init_steps.Done outcome
+    → fixed.outcome ≡ outcome → WasSettled book.core.history 1 → xid < 2 ^ 32 → length reply ≤ 65536 → (happened : Happened) (old shown : Shown) → PastOf x start old (world_in x (stages.Asks xid initiator) book lanes made (fixed ∷ []))
+    → Steps (Deliver 0 (reply_to xid (accept_steps.Done outcome 0 reply)) 1) (Some happened) old shown
+    → TookLast x start xid book lanes made fixed t.initiated.makes outcome happened shown
+took-last x start xid initiator book lanes made fixed reply t outcome done outcome_is settled fits few happened old shown past steps = by (steps.follows (world_in x (stages.Asks xid initiator) book lanes made (fixed ∷ [])) past.shows)
+  where
+    the-word : (making : MechMaking) → AmongMakings (window_of outcome ∷ []) making → WasMade (world_in x (stages.Asks xid initiator) book lanes made (fixed ∷ [])) making
+    the-word making (inl is) = inr (record {
+      context = context_with 1 fixed;
       listed = record { place = 0; there = refl };
       settled = settled;
       word = word told_width;
       four = four-octets;
       number = 1;
-      is_mic = second;
+      is_mic = is ∙ ap window_of (sym outcome_is);
     })
-    made making (inr (inr none)) = absurd none
+    the-word making (inr none) = absurd none
 
--- ---- the run
+    unforged : (deed : Deed) → deed.found ≡ t.initiated.found ++ window_of outcome ∷ [] → deed.opened ≡ None → Unforged x.marking (world_in x (stages.Asks xid initiator) book lanes made (fixed ∷ [])) deed
+    unforged deed found closed = record {
+      made = λ making among guarded. elim (among_split t.initiated.found (window_of outcome ∷ []) making (subst (λ (ms : List MechMaking). AmongMakings ms making) found among)) [
+        | inl there ↦ inl (t.found making there)
+        | inr window ↦ the-word making window
+      ];
+      issued = λ opened is. absurd (none-some opened (sym closed ∙ is));
+    }
 
--- a run so far, in which nothing was forged
-abbrev PastOf : events.Case → Shown → World → Type 0
-PastOf c shown now = Past (marking_of c) (events.first_world c) shown now
-
--- what is known before the first event
-pub record Ready (shown : Shown) (now : ℕ) (draws : List ℕ) : Type 0 where
-  pub c : events.Case
-  pub begins : Begins (events.first_world c)
-  pub now_is : c.now ≡ now
-  pub drawn_is : c.drawn ≡ draws
-  pub past : PastOf c shown (events.first_world c)
-
-abbrev pub first_event : WorldEvent
-first_event = Start 0
-
-abbrev pub second_event : events.Case → WorldEvent
-second_event c = Lane 0 (call_with (events.token_of c)) c.now c.drawn
-
-abbrev pub third_event : events.Case → WorldEvent
-third_event c = Deliver 0 (events.reply_of c) 1
-
--- after the first event
-pub record Started (c : events.Case) (happened : Happened) (shown : Shown) : Type 0 where
-  pub sent : happened ≡ Sent (call_with (events.token_of c))
-  pub past : PastOf c shown (events.second_world c)
-
-pub started : (c : events.Case) (happened : Happened) (old shown : Shown) → PastOf c old (events.first_world c) → Steps first_event (Some happened) old shown → Started c happened shown
-started c happened old shown past steps = by (steps.follows (events.first_world c) past.shows)
-  where
-    with : (f : Follows first_event (Some happened) (events.first_world c) shown) → events.Starts c f.deed f.new → Started c happened shown
+    with : (f : Follows (Deliver 0 (reply_to xid (accept_steps.Done outcome 0 reply)) 1) (Some happened) (world_in x (stages.Asks xid initiator) book lanes made (fixed ∷ [])) shown) → TakesLast x xid book lanes made (fixed ∷ []) t.initiated outcome f.deed f.new
+        → TookLast x start xid book lanes made fixed t.initiated.makes outcome happened shown
     with f s = record {
-      sent = same_Some happened (Sent (call_with (events.token_of c))) (sym f.answered ∙ s.answer);
-      past = steps-on (marking_of c) (events.first_world c) first_event happened (events.first_world c) (events.second_world c) old shown past steps f s.new_is (none-forged (marking_of c) (events.first_world c) f.deed s.found s.opened);
+      completed = same_Some happened (Completed outcome) (sym f.answered ∙ s.answer);
+      past = steps-on x.marking start (Deliver 0 (reply_to xid (accept_steps.Done outcome 0 reply)) 1) happened (world_in x (stages.Asks xid initiator) book lanes made (fixed ∷ []))
+          (last_world x xid book lanes (made ++ t.initiated.makes) fixed outcome) old shown past steps f s.new_is (unforged f.deed s.found s.opened);
     }
 
-    by : Follows first_event (Some happened) (events.first_world c) shown → Started c happened shown
-    by f = with f (events.starts-so c f.deed f.new f.happens (λ e. none-some happened (sym e ∙ f.answered)))
+    by : Follows (Deliver 0 (reply_to xid (accept_steps.Done outcome 0 reply)) 1) (Some happened) (world_in x (stages.Asks xid initiator) book lanes made (fixed ∷ [])) shown → TookLast x start xid book lanes made fixed t.initiated.makes outcome happened shown
+    by f = with f (takes-last x xid initiator book lanes made (fixed ∷ []) reply t outcome done fits few f.deed f.new f.happens (λ e. none-some happened (sym e ∙ f.answered)))
 
--- after the second, from when on the book's log has the context
-pub record Replied (c : events.Case) (happened : Happened) (shown : Shown) : Type 0 where
-  pub sent : happened ≡ Sent (events.reply_of c)
-  pub deed : Deed
-  pub new : World
-  pub answers : events.Answers c deed new
-  pub past : PastOf c shown (events.third_world c answers.book answers.lanes)
-
-pub replied : (c : events.Case) (happened : Happened) (old shown : Shown) → PastOf c old (events.second_world c) → Steps (second_event c) (Some happened) old shown → Replied c happened shown
-replied c happened old shown past steps = by (steps.follows (events.second_world c) past.shows)
-  where
-    with : (f : Follows (second_event c) (Some happened) (events.second_world c) shown) → events.Answers c f.deed f.new → Replied c happened shown
-    with f a = record {
-      sent = same_Some happened (Sent (events.reply_of c)) (sym f.answered ∙ a.answer);
-      deed = f.deed;
-      new = f.new;
-      answers = a;
-      past = steps-on (marking_of c) (events.first_world c) (second_event c) happened (events.second_world c) (events.third_world c a.book a.lanes) old shown past steps f a.new_is (request-forged c f.deed f.new a);
-    }
-
-    by : Follows (second_event c) (Some happened) (events.second_world c) shown → Replied c happened shown
-    by f = with f (events.answers-so c happened f.deed f.new f.happens f.answered)
-
-abbrev settled-in : (c : events.Case) (b : Happened) (shown : Shown) → (r : Replied c b shown) → WasSettled r.answers.book.core.history (events.id_in c)
-settled-in c b shown r = was-settled c r.answers.book.core.history r.answers.earlier r.answers.at r.answers.history
-
--- after the third
-pub record Stood (c : events.Case) (book : BookOf) (lanes : List (Option InHand)) (happened : Happened) (shown : Shown) : Type 0 where
-  pub completed : happened ≡ Completed (events.outcome_of c)
-  pub past : PastOf c shown (last c book lanes)
-
-pub stood : (c : events.Case) (book : BookOf) (lanes : List (Option InHand)) (happened : Happened) (old shown : Shown) → WasSettled book.core.history (events.id_in c) → PastOf c old (events.third_world c book lanes)
-    → Steps (third_event c) (Some happened) old shown → Stood c book lanes happened shown
-stood c book lanes happened old shown settled past steps = by (steps.follows (events.third_world c book lanes) past.shows)
-  where
-    with : (f : Follows (third_event c) (Some happened) (events.third_world c book lanes) shown) → events.Stands c book lanes f.deed f.new → Stood c book lanes happened shown
-    with f s = record {
-      completed = same_Some happened (Completed (events.outcome_of c)) (sym f.answered ∙ s.answer);
-      past = steps-on (marking_of c) (events.first_world c) (third_event c) happened (events.third_world c book lanes) (last c book lanes) old shown past steps f s.new_is (reply-forged c book lanes f.deed f.new settled s);
-    }
-
-    by : Follows (third_event c) (Some happened) (events.third_world c book lanes) shown → Stood c book lanes happened shown
-    by f = with f (events.stands-so c book lanes f.deed f.new f.happens (λ e. none-some happened (sym e ∙ f.answered)))
-
--- ---- how it left the world
-
-abbrev met : (c : events.Case) (b d : Happened) (two shown : Shown) → Begins (events.first_world c) → (r : Replied c b two) → Stood c r.answers.book r.answers.lanes d shown → IsMet shown
-met c b d two shown begins r t = record {
-  marking = marking_of c;
-  start = events.first_world c;
-  now = last c r.answers.book r.answers.lanes;
-  run = t.past.walked.run;
-  begins = begins;
-  shows = t.past.shows;
-  unforged = t.past.walked.unforged;
-  fresh = fresh-so c r.answers.book r.answers.lanes r.answers.setup;
-  own = events.own_of c;
-  outcome = events.outcome_of c;
-  completed = record { there = refl; stage = events.session_of c; stands = refl; session = events.session_with c; in_session = refl; outcome_is = refl };
-  guarded = record { credential = c.credential; is_own = refl; guarded = guarded-session c };
-  context = events.context_with c;
-  listed = record { place = 0; there = refl };
-  on = guarded-session c;
-  agree = refl;
-  settled = settled-in c b two r;
+-- how it left the world
+carried : (c : Case) (start : World) (deed : Deed) (new : World) (a : Answers c deed new) (kind : MechKind) (fixed : Fixed) (made : List MechMaking) (outcome : Outcome) (lasts : ℕ) (shown : Shown) → Begins start → Done c.x c.xid a.book a.lanes made fixed outcome → outcome.mech ≡ kind
+    → fixed.lasts ≡ lasts → Closes c a.book.core.history a.book.core.limit outcome lasts → xid_after c.xid < 2 ^ 32 → PastOf c.x start shown (last_world c.x c.xid a.book a.lanes made fixed outcome) → IsCarried shown kind
+carried c start deed new a kind fixed made outcome lasts shown begins d mech lasts_is closed fits past = record {
+  met = record {
+    marking = c.x.marking;
+    start = start;
+    now = last_world c.x c.xid a.book a.lanes made fixed outcome;
+    run = past.walked.run;
+    begins = begins;
+    shows = past.shows;
+    unforged = past.walked.unforged;
+    fresh = fresh-so c.x c.xid a.book a.lanes made fixed outcome d;
+    own = c.x.own;
+    outcome = outcome;
+    completed = record { there = refl; stage = stages.Stands (session_with c.xid outcome); stands = refl; session = session_with c.xid outcome; in_session = refl; outcome_is = refl };
+    guarded = d.final.guarded;
+    context = context_with 1 fixed;
+    listed = record { place = 0; there = refl };
+    on = d.final.on;
+    agree = d.outcome_is;
+    settled = closed.settled;
+  };
+  mech = mech;
+  rests = record {
+    facts = refl;
+    xid = xid_after c.xid;
+    xid_fits = fits;
+    stands = refl;
+    idle = a.idle;
+    fixed = refl;
+    first = refl;
+    whole = closed.whole ∙ ap (λ (n : ℕ). Whole outcome.mech (names_of outcome) n) (sym lasts_is);
+    uncalled = closed.uncalled;
+    place = closed.place;
+  };
 }
 
-stands-whole : (id : ℕ) (mech : MechKind) (names : List ℕ) (ends at : ℕ) (h : List Entry) → standing id (Settled id mech names ends at ∷ h) ≡ Whole mech names ends
-stands-whole id mech names ends at h = rw (eq-eqb id id refl) refl
+-- ---- a turn
 
-rests : (c : events.Case) (b d : Happened) (two shown : Shown) → (r : Replied c b two) → Rests (last c r.answers.book r.answers.lanes) (events.own_of c) (events.outcome_of c) (events.context_with c)
-rests c b d two shown r = record {
-  facts = refl;
-  stands = refl;
-  idle = r.answers.idle;
-  fixed = refl;
-  first = ap (λ (h : List Entry). opened h + 1) c.empty;
-  whole = ap (standing (events.id_in c)) r.answers.history ∙ stands-whole (events.id_in c) kinds.Kerberos (names_of (events.outcome_of c)) (events.judged_of c).ends r.answers.at r.answers.earlier;
-  uncalled = ap (numbers (events.id_in c)) r.answers.history ∙ r.answers.uncalled;
-  place = omega (arith, ap (length {A = Entry}) r.answers.history, r.answers.few, c.log, r.answers.limit);
+-- what a turn is of, once it is known what was sent
+turn-of : (last happened : Happened) (now : ℕ) (draws call : List ℕ) (old new : Shown) → ((octets : List ℕ) → sent_in last ≡ Some octets → IsTurn octets now draws happened old new) → last ≡ Sent call → IsTurn call now draws happened old new
+turn-of last happened now draws call old new turn sent = turn call (ap sent_in sent)
+
+last-turn : (x : Setting) (start : World) (kind : MechKind) (draws : List ℕ) (outcome : Outcome) (last happened : Happened) (old new : Shown) → Marked x → Begins start → outcome.mech ≡ kind → Talks x start (suc 0) (draws ∷ []) outcome last old
+    → ((octets : List ℕ) → sent_in last ≡ Some octets → IsTurn octets x.now draws happened old new) → (happened ≡ Completed outcome) × IsCarried new kind
+last-turn x start kind draws outcome last happened old new marked begins mech t turn =
+    let e : Ends x t.end t.initiator t.token (take 66 draws) t.made t.fixed outcome = t.rounds in
+    let c : Case = case_of x start 0 draws [] outcome last old t e.heard in
+    let n = turn-of last happened x.now draws (call_of t.xid t.id t.token) old new turn t.sent in
+    let p = replied c start n.answered old n.between t.past n.comes in
+    let step : step_in c ≡ accept_steps.Done outcome e.lasts e.reply = settled-passed e.heard.accepted.step ∙ e.done in
+    let closed = closes c p.deed p.new p.answers outcome e.lasts e.reply step in
+    let xid_is : xid_after t.xid ≡ t.xid + 1 = next-xid t.xid (omega (arith, t.xids)) in
+    let past : PastOf x start n.between (world_in x (stages.Asks t.xid t.initiator) p.answers.book p.answers.lanes (t.made ++ e.heard.accepted.makes) (e.context ∷ [])) =
+    subst (λ (f : List Fixed). PastOf x start n.between (world_in x (stages.Asks t.xid t.initiator) p.answers.book p.answers.lanes (t.made ++ e.heard.accepted.makes) f)) e.fixes p.past in
+    let came = n.goes (reply_to t.xid (step_in c)) (ap sent_in p.sent) in
+    let q = took-last x start t.xid t.initiator p.answers.book p.answers.lanes (t.made ++ e.heard.accepted.makes) e.context e.reply e.took outcome e.completes e.outcome_is closed.settled (omega (arith, t.xids)) e.size happened n.between new past
+    (subst (λ (os : List ℕ). Steps (Deliver 0 os 1) (Some happened) n.between new) (ap (reply_to t.xid) step) came) in
+    let left : PastOf x start new (last_world x t.xid p.answers.book p.answers.lanes (t.made ++ e.heard.accepted.makes) e.context outcome) =
+    subst (λ (ms : List MechMaking). PastOf x start new (last_world x t.xid p.answers.book p.answers.lanes ms e.context outcome)) (ap (λ (ms : List MechMaking). (t.made ++ e.heard.accepted.makes) ++ ms) e.none ∙ append-nil (t.made ++ e.heard.accepted.makes)) q.past in (
+      q.completed,
+      carried c start p.deed p.new p.answers kind e.context (t.made ++ e.heard.accepted.makes) outcome e.lasts new begins
+          (record { marked = marked; setup = p.answers.notes.setup ∙ t.stays.setup; outcome_is = e.outcome_is; final = e.final }) mech e.lasts_is closed (omega (arith, xid_is, t.xids)) left,
+    )
+
+more-turn : (x : Setting) (start : World) (draws next : List ℕ) (later : List (List ℕ)) (outcome : Outcome) (last happened : Happened) (old new : Shown) → Talks x start (suc (length (next ∷ later))) (draws ∷ next ∷ later) outcome last old
+    → ((octets : List ℕ) → sent_in last ≡ Some octets → IsTurn octets x.now draws happened old new) → Talks x start (suc (length later)) (next ∷ later) outcome happened new
+more-turn x start draws next later outcome last happened old new t turn =
+    let g : Goes x t.end t.initiator t.token (take 66 draws) t.made t.fixed = t.rounds.0 in
+    let c : Case = case_of x start (length (next ∷ later)) draws (next ∷ later) outcome last old t g.heard in
+    let n = turn-of last happened x.now draws (call_of t.xid t.id t.token) old new turn t.sent in
+    let p = replied c start n.answered old n.between t.past n.comes in
+    let step : step_in c ≡ accept_steps.More g.after g.reply = settled-passed g.heard.accepted.step ∙ g.goes in
+    let xid_is : xid_after t.xid ≡ t.xid + 1 = next-xid t.xid (omega (arith, t.xids)) in
+    let came = n.goes (reply_to t.xid (step_in c)) (ap sent_in p.sent) in
+    let q = took-on x start t.xid t.initiator p.answers.book p.answers.lanes (t.made ++ g.heard.accepted.makes) (t.fixed ++ option_to_list g.heard.accepted.fixes) g.reply g.took g.next g.further g.more (omega (arith, t.xids)) g.size happened n.between new p.past
+    (subst (λ (os : List ℕ). Steps (Deliver 0 os 1) (Some happened) n.between new) (ap (reply_to t.xid) step) came) in
+    record {
+      id = Some 1;
+      xid = xid_after t.xid;
+      end = g.after;
+      initiator = g.next;
+      token = g.further;
+      made = (t.made ++ g.heard.accepted.makes) ++ g.took.initiated.makes;
+      fixed = t.fixed ++ option_to_list g.heard.accepted.fixes;
+      book = p.answers.book;
+      lanes = p.answers.lanes;
+      stays = stays-on c p.deed p.new p.answers g.after g.reply step;
+      xids = omega (arith, xid_is, t.xids);
+      is_id = lit< tt;
+      rounds = t.rounds.1;
+      short = g.short;
+      sent = q.sent;
+      past = q.past;
+    }
+
+turn-by : (x : Setting) (start : World) (kind : MechKind) (draws : List ℕ) (later : List (List ℕ)) (outcome : Outcome) (last happened : Happened) (old new : Shown) → Marked x → Begins start → outcome.mech ≡ kind → StandsBy x start kind (draws ∷ later) outcome last old
+    → ((octets : List ℕ) → sent_in last ≡ Some octets → IsTurn octets x.now draws happened old new) → StandsBy x start kind later outcome happened new
+turn-by x start kind draws [] outcome last happened old new marked begins mech t turn = last-turn x start kind draws outcome last happened old new marked begins mech t turn
+turn-by x start kind draws (next ∷ later) outcome last happened old new marked begins mech t turn = more-turn x start draws next later outcome last happened old new t turn
+
+pub turned : (kind : MechKind) (now : ℕ) (draws : List ℕ) (later : List (List ℕ)) (last happened : Happened) (old new : Shown) → Carrying kind now (draws ∷ later) last old
+    → ((octets : List ℕ) → sent_in last ≡ Some octets → IsTurn octets now draws happened old new) → Carrying kind now later happened new
+turned kind now draws later last happened old new k turn = record {
+  x = k.x;
+  now_is = k.now_is;
+  marked = k.marked;
+  start = k.start;
+  begins = k.begins;
+  outcome = k.outcome;
+  mech = k.mech;
+  stands = turn-by k.x k.start kind draws later k.outcome last happened old new k.marked k.begins k.mech k.stands
+      (subst (λ (n : ℕ). (octets : List ℕ) → sent_in last ≡ Some octets → IsTurn octets n draws happened old new) (sym k.now_is) turn);
 }
 
 -- ---- before the first event
-
-own-is : (own : InitSetup) (credential : Granted) (rest : List MechCred) → own.list ≡ creds.Kerberos credential ∷ rest → own ≡ own_with credential rest own.stamp own.draws own.bindings
-own-is own credential rest e = ap (λ (l : List MechCred). record { list = l; bindings = own.bindings; stamp = own.stamp; draws = own.draws }) e
-
-abbrev both-of : (book : BookOf) (initiators : List InitSetup) (lanes now : ℕ) (draws : List ℕ) (m : Meeting book initiators lanes now draws) → is_own_list m.own.list ≡ true → IsSetup m.own → length draws ≡ 82
-    → Both book.setup now (take 66 draws) m.credential m.rest m.own.stamp m.own.draws m.own.bindings
-both-of book initiators lanes now draws m is_list setup long = record {
-  is_list = subst (λ (l : List MechCred). is_own_list l ≡ true) m.list is_list;
-  first = m.first;
-  draws_long = let enough = setup.draws.enough in let few = setup.draws.few in omega (arith, enough, few);
-  drawn_long = length-take-le 66 draws (omega (arith, long));
-  fits = record { fit = m.fits.fit; request = m.fits.request; answer = m.fits.answer };
-  short = subst (λ (o : InitSetup). IsShort (init_octets (first_sent o (request_token m.credential m.own.stamp m.own.draws m.own.bindings)))) (own-is m.own m.credential m.rest m.list) m.short;
-}
 
 idle-lane : (lanes : ℕ) → 0 < lanes → ◌≡◌ {A = Option (Option InHand)} (slice_get {X = Option InHand} (replicate lanes None) 0) (Some None)
 idle-lane zero some = absurd (omega (arith, some))
 idle-lane (suc lanes) some = refl
 
-abbrev case-of : (book : BookOf) (initiators : List InitSetup) (lanes now : ℕ) (draws : List ℕ) (m : Meeting book initiators lanes now draws) → is_own_list m.own.list ≡ true → IsSetup m.own → length draws ≡ 82 → book.core.history ≡ [] → events.Case
-case-of book initiators lanes now draws m is_list setup long empty = record {
-  book = book;
-  credential = m.credential;
-  rest = m.rest;
-  stamp = m.own.stamp;
-  draws = m.own.draws;
-  bindings = m.own.bindings;
-  now = now;
-  drawn = draws;
-  lanes = replicate lanes None;
-  idle = idle-lane lanes m.lane;
-  both = both-of book initiators lanes now draws m is_list setup long;
-  empty = empty;
-  log = m.log;
-  table = m.table;
-  mark = m.mark;
-}
-
 first-is : (w : World) (facts : List InitSetup) (ready : List Stage) (book : BookOf) (lanes : List (Option InHand)) → w.facts ≡ facts → w.stages ≡ ready → w.book ≡ book → w.lanes ≡ lanes → w.fixed ≡ [] → w.makings ≡ []
     → w ≡ record { facts = facts; stages = ready; book = book; lanes = lanes; fixed = []; makings = [] }
 first-is w facts ready book lanes a b c d e f = λ i. record { facts = a i; stages = b i; book = c i; lanes = d i; fixed = e i; makings = f i }
 
-pub ready-so : (shown : Shown) (book : BookOf) (lanes now : ℕ) (draws : List ℕ) → AtStart shown book lanes → length draws ≡ 82 → Meeting book shown.facts lanes now draws → Ran shown → Ready shown now draws
-ready-so shown book lanes now draws start long m r =
+-- an exchange has a token, and four at most
+few-tokens : (first due : Bool) (kind : MechKind) → ((if first then 0 else 1) + rounds_of kind + (if due then 1 else 0) ≤ 4) × (1 ≤ (if first then 0 else 1) + rounds_of kind + (if due then 1 else 0))
+few-tokens true true kinds.Kerberos = (omega arith, omega arith)
+few-tokens true false kinds.Kerberos = (omega arith, omega arith)
+few-tokens false true kinds.Kerberos = (omega arith, omega arith)
+few-tokens false false kinds.Kerberos = (omega arith, omega arith)
+few-tokens true true kinds.Scram = (omega arith, omega arith)
+few-tokens true false kinds.Scram = (omega arith, omega arith)
+few-tokens false true kinds.Scram = (omega arith, omega arith)
+few-tokens false false kinds.Scram = (omega arith, omega arith)
+
+-- what is known before it
+record Ready (shown : Shown) (book : BookOf) (lanes now : ℕ) (draws : List (List ℕ)) (own : InitSetup) (kind : MechKind) (started : Started) : Type 0 where
+  start : World
+  begins : Begins start
+  start_is : start ≡ record { facts = own ∷ []; stages = stages.Ready own ∷ []; book = book; lanes = replicate lanes None; fixed = []; makings = [] }
+  shows : Shows start shown
+  none : shown.events ≡ []
+
+ready-so : (shown : Shown) (book : BookOf) (lanes now : ℕ) (draws : List (List ℕ)) → AtStart shown book lanes → (m : Meeting book shown.facts lanes now draws) → Ran shown → Ready shown book lanes now draws m.own m.kind m.pair.started
+ready-so shown book lanes now draws start m r =
     let same : r.now ≡ r.start = subst (λ (es : List WorldEvent). Run r.start es r.now) start.nothing r.run in
     let begun : Begins r.now = subst Begins (sym same) r.begins in
     let facts : r.now.facts ≡ m.own ∷ [] = sym r.shows.facts ∙ m.one in
-    let there : slice_get r.now.facts 0 ≡ Some m.own = ap (λ (fs : List InitSetup). slice_get fs 0) facts in
-    let mine : m.own ≡ own_with m.credential m.rest m.own.stamp m.own.draws m.own.bindings = own-is m.own m.credential m.rest m.list in
-    let is_list : is_own_list m.own.list ≡ true = (begun.ready 0 m.own there).1 in
-    let setup : IsSetup m.own = begun.proper.setups 0 m.own there in
-    let first : r.now ≡ events.first_world (case-of book shown.facts lanes now draws m is_list setup long start.empty) =
-    first-is r.now (own_with m.credential m.rest m.own.stamp m.own.draws m.own.bindings ∷ []) (stages.Ready (own_with m.credential m.rest m.own.stamp m.own.draws m.own.bindings) ∷ []) book (replicate lanes None)
-    (facts ∙ ap (λ (o : InitSetup). o ∷ []) mine)
-    (sym r.shows.stages ∙ (start.ready ∙ (ap (map stages.Ready) m.one ∙ ap (λ (o : InitSetup). stages.Ready o ∷ []) mine)))
-    (sym (same_Some book r.now.book (sym start.book_is ∙ r.shows.book))) (sym r.shows.lanes ∙ start.idle) begun.unfixed begun.unmade in
     record {
-      c = case-of book shown.facts lanes now draws m is_list setup long start.empty;
-      begins = subst Begins first begun;
+      start = r.now;
+      begins = begun;
+      start_is = first-is r.now (m.own ∷ []) (stages.Ready m.own ∷ []) book (replicate lanes None) facts (sym r.shows.stages ∙ (start.ready ∙ ap (map stages.Ready) m.one))
+          (sym (same_Some book r.now.book (sym start.book_is ∙ r.shows.book))) (sym r.shows.lanes ∙ start.idle) begun.unfixed begun.unmade;
+      shows = r.shows;
+      none = start.nothing;
+    }
+
+-- the initiator starts
+record Sent_first (x : Setting) (start : World) (started : Started) (lanes : List (Option InHand)) (happened : Happened) (shown : Shown) : Type 0 where
+  sent : happened ≡ Sent (call_of 1 None started.token)
+  past : PastOf x start shown (world_in x (stages.Asks 1 started.end) x.book lanes started.makes [])
+
+started-so : (x : Setting) (started : Started) (lanes : List (Option InHand)) (happened : Happened) (old shown : Shown) → init_start x.own ≡ Ok started → PastOf x (first_world x lanes) old (first_world x lanes) → Steps (Start 0) (Some happened) old shown
+    → Sent_first x (first_world x lanes) started lanes happened shown
+started-so x started lanes happened old shown begins past steps = by (steps.follows (first_world x lanes) past.shows)
+  where
+    with : (f : Follows (Start 0) (Some happened) (first_world x lanes) shown) → Starts x started lanes f.deed f.new → Sent_first x (first_world x lanes) started lanes happened shown
+    with f s = record {
+      sent = same_Some happened (Sent (call_of 1 None started.token)) (sym f.answered ∙ s.answer);
+      past = steps-on x.marking (first_world x lanes) (Start 0) happened (first_world x lanes) (world_in x (stages.Asks 1 started.end) x.book lanes started.makes []) old shown past steps f s.new_is (none-forged x.marking (first_world x lanes) f.deed s.found s.opened);
+    }
+
+    by : Follows (Start 0) (Some happened) (first_world x lanes) shown → Sent_first x (first_world x lanes) started lanes happened shown
+    by f = with f (starts-so x started lanes f.deed f.new begins f.happens (λ e. none-some happened (sym e ∙ f.answered)))
+
+-- and there is a first turn
+talks-first : (book : BookOf) (lanes now : ℕ) (draws : List (List ℕ)) (own : InitSetup) (kind : MechKind) (started : Started) (h : Honest book own kind now draws started) (happened : Happened) (shown : Shown)
+    → book.core.history ≡ [] → 0 < lanes → live_of book.core.table < book.core.table.limit → length book.core.history + 2 + 2 * length draws ≤ book.core.limit → length draws ≤ 4 → 1 ≤ length draws → length started.token ≤ 65536
+    → Sent_first (setting_with book own now h.marking) (first_world (setting_with book own now h.marking) (replicate lanes None)) started (replicate lanes None) happened shown
+    → StandsBy (setting_with book own now h.marking) (first_world (setting_with book own now h.marking) (replicate lanes None)) kind draws h.outcome happened shown
+talks-first book lanes now [] own kind started h happened shown empty some table log few one short s = absurd (omega (arith, one))
+talks-first book lanes now (draws ∷ later) own kind started h happened shown empty some table log few one short s = record {
+  id = None;
+  xid = 1;
+  end = ends.New;
+  initiator = started.end;
+  token = started.token;
+  made = started.makes;
+  fixed = [];
+  book = book;
+  lanes = replicate lanes None;
+  stays = record {
+    idle = idle-lane lanes some;
+    setup = refl;
+    comes = refl;
+    own = ap (λ (es : List Entry). opened es + 1) empty;
+    few = λ none. table;
+    room = omega (arith, log);
+    uncalled = ap (numbers 1) empty;
+    untaken = λ none. ap taken_of empty;
+    capacity = refl;
+    greatest = refl;
+  };
+  xids = omega (arith, few);
+  is_id = tt;
+  rounds = h.rounds;
+  short = short;
+  sent = s.sent;
+  past = s.past;
+}
+
+pub starts : (shown one : Shown) (book : BookOf) (lanes now : ℕ) (draws : List (List ℕ)) → AtStart shown book lanes → (m : Meeting book shown.facts lanes now draws) → Ran shown → (happened : Happened) → Steps (Start 0) (Some happened) shown one → Carrying m.kind now draws happened one
+starts shown one book lanes now draws start m ran happened steps =
+    let r = ready-so shown book lanes now draws start m ran in
+    let h = honest book m.own m.kind now draws (ap taken_of start.empty) m.pair m.ready in
+    let x : Setting = setting_with book m.own now h.marking in
+    let begins : Begins (first_world x (replicate lanes None)) = subst Begins r.start_is r.begins in
+    let past : PastOf x (first_world x (replicate lanes None)) shown (first_world x (replicate lanes None)) = record {
+      walked = subst (λ (es : List WorldEvent). Walked x.marking (first_world x (replicate lanes None)) es (first_world x (replicate lanes None))) (sym r.none) (record { run = refl; unforged = tt });
+      shows = subst (λ (w : World). Shows w shown) r.start_is r.shows;
+    } in
+    let s = started-so x m.pair.started (replicate lanes None) happened shown one m.pair.starts past steps in
+    let count : length draws ≡ tokens_of book.setup m.own m.kind = sym (count-of now draws) ∙ m.pair.counted in
+    let few = few-tokens (is_first (kinds_of m.own.list) m.kind) (is_mic_due book.setup.offer (own_list m.own) m.kind) m.kind in
+    record {
+      x = x;
       now_is = refl;
-      drawn_is = refl;
-      past = record {
-        walked = subst (λ (es : List WorldEvent). Walked (marking_of (case-of book shown.facts lanes now draws m is_list setup long start.empty)) (events.first_world (case-of book shown.facts lanes now draws m is_list setup long start.empty)) es (events.first_world (case-of book shown.facts lanes now draws m is_list setup long start.empty))) (sym start.nothing) (record { run = refl; unforged = tt });
-        shows = subst (λ (w : World). Shows w shown) first r.shows;
-      };
+      marked = h.marked;
+      start = first_world x (replicate lanes None);
+      begins = begins;
+      outcome = h.outcome;
+      mech = h.mech;
+      stands = talks-first book lanes now draws m.own m.kind m.pair.started h happened one start.empty m.lane m.table m.log (omega (arith, count, few.0)) (omega (arith, count, few.1)) m.pair.short s;
     }
 
 -- ---- as a program sees it
 
-pub first-step : (begin one : Shown) (now : ℕ) (draws : List ℕ) (r : Ready begin now draws) (a : Happened) → Steps first_event (Some a) begin one → Started r.c a one
-first-step begin one now draws r a steps = started r.c a begin one r.past steps
+pub drop-one : {A : Type 0} (xs : List A) (i : ℕ) (y : A) → slice_get xs i ≡ Some y → drop i xs ≡ y ∷ drop (i + 1) xs
+drop-one [] i y e = absurd (none-some y e)
+drop-one (z ∷ zs) zero y e = let n : 1 ≡ 0 + 1 = omega arith in subst (λ (k : ℕ). z ∷ zs ≡ y ∷ drop k (z ∷ zs)) n (λ i. same_Some z y e i ∷ zs)
+drop-one (z ∷ zs) (suc i) y e = let n : suc (i + 1) ≡ suc i + 1 = omega arith in subst (λ (k : ℕ). drop i zs ≡ y ∷ drop k (z ∷ zs)) n (drop-one zs i y e)
 
-record-is : (octets call : List ℕ) (a : Happened) → a ≡ Sent call → sent_in a ≡ Some octets → octets ≡ call
-record-is octets call a is e = same_Some octets call (sym e ∙ ap sent_in is)
+pub drop-whole : {A : Type 0} (xs : List A) (i : ℕ) → length xs ≤ i → drop i xs ≡ []
+drop-whole [] zero e = refl
+drop-whole [] (suc i) e = refl
+drop-whole (z ∷ zs) zero e = absurd (omega (arith, e))
+drop-whole (z ∷ zs) (suc i) e = drop-whole zs i (omega (arith, e))
 
-pub second-step : (begin one two : Shown) (now : ℕ) (draws : List ℕ) (r : Ready begin now draws) (a b : Happened) (octets : List ℕ) → Started r.c a one → sent_in a ≡ Some octets → Steps (Lane 0 octets now draws) (Some b) one two → Replied r.c b two
-second-step begin one two now draws r a b octets s sent steps =
-    replied r.c b one two s.past
-    (subst (λ (e : WorldEvent). Steps e (Some b) one two) (λ i. Lane 0 (record-is octets (call_with (events.token_of r.c)) a s.sent sent i) (sym r.now_is i) (sym r.drawn_is i)) steps)
+-- what the two events of a turn show
+turn-at : (last answered happened : Happened) (now : ℕ) (draws octets : List ℕ) (old between new : Shown) → sent_in last ≡ Some octets → Steps (Lane 0 octets now draws) (Some answered) old between
+    → ((reply : List ℕ) → sent_in answered ≡ Some reply → Steps (Deliver 0 reply 1) (Some happened) between new) → (other : List ℕ) → sent_in last ≡ Some other → IsTurn other now draws happened old new
+turn-at last answered happened now draws octets old between new sent comes goes other e = record {
+  answered = answered;
+  between = between;
+  comes = subst (λ (os : List ℕ). Steps (Lane 0 os now draws) (Some answered) old between) (same_Some octets other (sym sent ∙ e)) comes;
+  goes = goes;
+}
 
-pub third-step : (begin two three : Shown) (now : ℕ) (draws : List ℕ) (r : Ready begin now draws) (b d : Happened) (reply : List ℕ) → (p : Replied r.c b two) → sent_in b ≡ Some reply → Steps (Deliver 0 reply 1) (Some d) two three
-    → Stood r.c p.answers.book p.answers.lanes d three
-third-step begin two three now draws r b d reply p sent steps =
-    stood r.c p.answers.book p.answers.lanes d two three (settled-in r.c b two p) p.past
-    (subst (λ (e : WorldEvent). Steps e (Some d) two three) (ap (λ (os : List ℕ). Deliver 0 os 1) (record-is reply (events.reply_of r.c) b p.sent sent)) steps)
+pub turns-alone : (last answered happened : Happened) (now : ℕ) (draws octets : List ℕ) (old between : Shown) → sent_in last ≡ Some octets → Steps (Lane 0 octets now draws) (Some answered) old between → sent_in answered ≡ None
+    → (other : List ℕ) → sent_in last ≡ Some other → IsTurn other now draws happened old between
+turns-alone last answered happened now draws octets old between sent comes none = turn-at last answered happened now draws octets old between between sent comes (λ reply e. absurd (none-some reply (sym none ∙ e)))
 
--- each goes on
-pub no-first : (c : events.Case) (a : Happened) (one : Shown) → Started c a one → sent_in a ≡ None → ⊥
-no-first c a one s e = none-some (call_with (events.token_of c)) (sym e ∙ ap sent_in s.sent)
+pub turns-both : {E : Type 0} (last answered : Happened) (now : ℕ) (draws octets reply : List ℕ) (old between new : Shown) (r : Result Happened E) → sent_in last ≡ Some octets → Steps (Lane 0 octets now draws) (Some answered) old between → sent_in answered ≡ Some reply
+    → IfOk r (λ happened. Steps (Deliver 0 reply 1) (Some happened) between new) → IfOk r (λ happened. (other : List ℕ) → sent_in last ≡ Some other → IsTurn other now draws happened old new)
+turns-both last answered now draws octets reply old between new (Ok happened) sent comes replied goes =
+    turn-at last answered happened now draws octets old between new sent comes (λ one e. subst (λ (os : List ℕ). Steps (Deliver 0 os 1) (Some happened) between new) (same_Some reply one (sym replied ∙ e)) goes)
+turns-both last answered now draws octets reply old between new (Err error) sent comes replied goes = tt
 
-pub no-second : (c : events.Case) (b : Happened) (two : Shown) → Replied c b two → sent_in b ≡ None → ⊥
-no-second c b two p e = none-some (events.reply_of c) (sym e ∙ ap sent_in p.sent)
+-- both completed
+pub is-completed : (kind : MechKind) (now : ℕ) (last : Happened) (shown : Shown) → Carrying kind now [] last shown → completed_in last ≡ true
+is-completed kind now last shown k = ap completed_in k.stands.0
 
-pub is-completed : (c : events.Case) (book : BookOf) (lanes : List (Option InHand)) (d : Happened) (three : Shown) → Stood c book lanes d three → completed_in d ≡ true
-is-completed c book lanes d three t = ap completed_in t.completed
-
-pub carried : (begin two three : Shown) (now : ℕ) (draws : List ℕ) (r : Ready begin now draws) (b d : Happened) → (p : Replied r.c b two) → Stood r.c p.answers.book p.answers.lanes d three → IsCarried three
-carried begin two three now draws r b d p t = record { met = met r.c b d two three r.begins p t; rests = rests r.c b d two three p }
+pub is-carried : (kind : MechKind) (now : ℕ) (last : Happened) (shown : Shown) → Carrying kind now [] last shown → IsCarried shown kind
+is-carried kind now last shown k = k.stands.1

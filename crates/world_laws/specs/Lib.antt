@@ -17,3 +17,4 @@ pub mod Parting
 pub mod Below
 pub mod Promised
 pub mod Meeting
+pub mod Carrying

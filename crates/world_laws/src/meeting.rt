@@ -1,10 +1,11 @@
-//! That the premises of the laws can be met: one exchange by Kerberos, whose records are carried as they are, and one call after it.
+//! That the premises of the laws can be met: one exchange by either mechanism, whose records are carried as they are, and one call after it.
 
-ghost use Rattle.std.specs.Prelude.{◌≡◌, ◌≤◌, ℕ, true, is_some, length, IfOk};
+ghost use Rattle.std.specs.Prelude.{◌≡◌, ◌≤◌, ℕ, true, is_some, length, IfOk, List, Some};
+ghost use Rattle.gss_base.specs.declared.mech.MechKind.{MechKind};
 ghost use Rattle.accept_book.specs.Booking.{BookOf};
 ghost use Rattle.accept_book.specs.Served.{are_args};
 ghost use Rattle.world_laws.specs.Meeting.{AtStart, Meeting, IsCarried, InTime, IsCalled};
-ghost use Rattle.world_laws.specs.Meeting.{sent_in, completed_in};
+ghost use Rattle.world_laws.specs.Carrying.{sent_in, completed_in, IsTurn};
 
 use crate::event::{Happened, WorldEvent};
 use crate::laws::tell_below;
@@ -51,48 +52,66 @@ fn is_sent(happened: &Happened) -> bool
     }
 }
 
-/// The first initiator starts, its record comes to the first lane, and the reply to the initiator; false where an end doesn't go on. The session's
-/// first call has number 1.
-///
-/// Where nothing happened before, and the facts of both ends fit (`Meeting`), both complete. The marking whose one ticket is the initiator's then
-/// shows that the run meets the premises: nothing is forged in it, and all is fresh.
-pub fn meet(
+/// What the first initiator handed out comes to the first lane, and the reply to that initiator, whose session's first call has number 1: what it did,
+/// nothing where no record was handed out or none came back.
+fn turn(
     alloc: Global,
     world: &mut World,
+    last: Happened,
     now: Moment,
-    draws: [u8; 82],
-) -> Result<bool, NoMemory>
-    ensures { IfOk result (λ met. (book : BookOf) (lanes : ℕ) → AtStart world.old book lanes
-        → Meeting book world.old.facts lanes now draws → (met ≡ true) × ∥ IsCarried world.new ∥₁) }
+    draws: &[u8; 82],
+) -> Result<Happened, NoMemory>
+    ensures { IfOk result (λ happened. (octets : List ℕ) → sent_in last ≡ Some octets
+        → IsTurn octets now draws.now happened world.old world.new) }
 {
-    let _events = world.events();
-    let first = world.step(alloc, WorldEvent::Start { initiator: 0 })?;
-    let record = match sent(first) {
+    let record = match sent(last) {
         Some(record) => record,
-        None => return Ok(false),
+        None => return Ok(Happened::Nothing),
     };
-    let second = world.step(
+    let answered = world.step(
         alloc,
         WorldEvent::Lane {
             lane: 0,
             bytes: record,
             now,
-            draws,
+            draws: *draws,
         },
     )?;
-    let reply = match sent(second) {
-        Some(reply) => reply,
-        None => return Ok(false),
-    };
-    let third = world.step(
-        alloc,
-        WorldEvent::Deliver {
-            initiator: 0,
-            bytes: reply,
-            first: 1,
-        },
-    )?;
-    Ok(is_completed(&third))
+    match sent(answered) {
+        Some(reply) => world.step(
+            alloc,
+            WorldEvent::Deliver {
+                initiator: 0,
+                bytes: reply,
+                first: 1,
+            },
+        ),
+        None => Ok(Happened::Nothing),
+    }
+}
+
+/// The first initiator starts. Each record that it hands out comes to the first lane with the next of these draws, and the reply to the initiator,
+/// whose session's first call has number 1; false where its context doesn't stand after the last.
+///
+/// Where nothing happened before, and both ends are an honest pair with as many tokens as draws (`Meeting`), both complete, by Kerberos or by SCRAM, with
+/// the list's MICs where they are due, and after a switch where the acceptor chose another mechanism than the initiator's first. The marking that has
+/// the chosen credential alone then shows that the run meets the premises: nothing is forged in it, and all is fresh.
+pub fn meet(
+    alloc: Global,
+    world: &mut World,
+    now: Moment,
+    draws: &[[u8; 82]],
+) -> Result<bool, NoMemory>
+    ensures { IfOk result (λ met. (book : BookOf) (lanes : ℕ) → AtStart world.old book lanes
+        → (meeting : Meeting book world.old.facts lanes now draws.now)
+        → (met ≡ true) × ∥ IsCarried world.new meeting.kind ∥₁) }
+{
+    let _events = world.events();
+    let mut last = world.step(alloc, WorldEvent::Start { initiator: 0 })?;
+    for drawn in draws {
+        last = turn(alloc, world, last, now, drawn)?;
+    }
+    Ok(is_completed(&last))
 }
 
 /// After such an exchange the initiator calls. Its record comes to the first lane, which has two events: it looks for the context, and it admits the
@@ -110,8 +129,8 @@ pub fn call_once(
     requires served { procedure ≤ 4 }
     requires proper { are_args procedure args ≡ true }
     requires size { length args ≤ 65540 }
-    ensures { IfOk result (λ called. ∥ IsCarried world.old ∥₁ → InTime world.old now
-        → (called ≡ true) × ∥ IsCalled world.new procedure args ∥₁) }
+    ensures { IfOk result (λ called. (kind : MechKind) → ∥ IsCarried world.old kind ∥₁
+        → InTime world.old now → (called ≡ true) × ∥ IsCalled world.new procedure args ∥₁) }
 {
     tell_below();
     world.tell_calls();

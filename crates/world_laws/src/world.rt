@@ -7,7 +7,7 @@ ghost use Rattle.spnego_core.specs.declared.setup.InitSetup.{InitSetup as InitSe
 ghost use Rattle.spnego_core.specs.InitMech.{is_own_list};
 ghost use Rattle.accept_book.specs.Booking.{BookOf};
 ghost use Rattle.world_laws.specs.Events.{IsBook, IsProper};
-ghost use Rattle.world_laws.specs.Meeting.{RulesCalls};
+ghost use Rattle.world_laws.specs.Carrying.{RulesCalls};
 ghost use Rattle.world_laws.specs.Passing.{started_from, taken_from, called_from, of_stage};
 ghost use Rattle.world_laws.specs.Passing.{TurnsTo, CallsTo, Turns, hand_or, LaneTurns};
 ghost use Rattle.world_laws.specs.Parting.{parts_of, Passes};

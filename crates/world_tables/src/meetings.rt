@@ -35,16 +35,37 @@ struct Carried {
     called: bool,
 }
 
-/// How far one record of the world's initiator, the reply of its book, and a call come.
-fn carry_over(alloc: Global, world: &mut World, now: Moment) -> Result<Carried, NoMemory> {
-    let met = meet(alloc, world, now, [3; 82])?;
+/// The draws of so many records of an initiator.
+fn draws_of(alloc: Global, count: u64) -> Result<Vec<[u8; 82]>, NoMemory> {
+    let mut draws = Vec::new(alloc);
+    for _ in 0..count {
+        draws.push([3; 82])?;
+    }
+    Ok(draws)
+}
+
+/// How far as many records of the world's initiator, the replies of its book, and a call come.
+fn carry_over(
+    alloc: Global,
+    world: &mut World,
+    count: u64,
+    now: Moment,
+) -> Result<Carried, NoMemory> {
+    let draws = draws_of(alloc, count)?;
+    let met = meet(alloc, world, now, draws.as_slice())?;
     let none = Octets::from_vec(Vec::new(alloc));
     let called = call_once(alloc, world, 0, none, now, [4; 82])?;
     Ok(Carried { met, called })
 }
 
 /// The same of this initiator and this book.
-fn carry(alloc: Global, book: Book, begun: Begun, now: Moment) -> Result<Carried, NoMemory>
+fn carry(
+    alloc: Global,
+    book: Book,
+    begun: Begun,
+    count: u64,
+    now: Moment,
+) -> Result<Carried, NoMemory>
     requires empty { book.core.history ≡ [] }
     requires same { setup_of begun.facts ≡ begun.own }
     requires own { is_own_list begun.own.list ≡ true }
@@ -58,7 +79,7 @@ fn carry(alloc: Global, book: Book, begun: Begun, now: Moment) -> Result<Carried
                 lanes: 1,
             };
             match World::new(alloc, setup) {
-                Ok(mut world) => carry_over(alloc, &mut world, now),
+                Ok(mut world) => carry_over(alloc, &mut world, count, now),
                 Err(no_memory) => Err(no_memory),
             }
         }
@@ -71,30 +92,39 @@ fn carry_between(
     alloc: Global,
     setup: AcceptSetup,
     list: Items<MechCred>,
+    count: u64,
     now: Moment,
 ) -> Result<Carried, NoMemory>
     requires { is_own_list list ≡ true }
 {
     match (book(alloc, setup, now), begin(alloc, list, now, 7)) {
-        (Ok(book), Ok(begun)) => carry(alloc, book, begun, now),
+        (Ok(book), Ok(begun)) => carry(alloc, book, begun, count, now),
         _ => Err(NoMemory),
     }
 }
 
-/// The same at 1,000,000 seconds, by the letters of the initiator's list.
-fn carry_with(alloc: Global, setting: &Setting, letters: &str) -> Option<Carried> {
+/// The same at 1,000,000 seconds, by the letters of the initiator's list and of the acceptor's offer.
+fn carry_with(
+    alloc: Global,
+    setting: &Setting,
+    letters: &str,
+    offer: &str,
+    count: u64,
+) -> Option<Carried> {
     let list = list_of(alloc, setting, letters)?;
-    match (setting.acceptor(alloc, "ks"), Moment::new(1_000_000, 0)) {
-        (Some(setup), Some(now)) => carry_between(alloc, setup, list, now).ok(),
+    match (setting.acceptor(alloc, offer), Moment::new(1_000_000, 0)) {
+        (Some(setup), Some(now)) => carry_between(alloc, setup, list, count, now).ok(),
         _ => None,
     }
 }
 
-/// Says whether both ends completed after one record and its reply, and whether a call after that was answered, of a row with the letters of the
-/// initiator's list.
+/// Says whether both ends completed after so many records and their replies, and whether a call after that was answered, of a row with the letters of
+/// the initiator's list, those of the acceptor's offer, and the number of records.
 pub fn answer(setting: &Setting, cells: &mut Cells<'_>, said: &mut Said) {
     let letters = cells.word();
-    match carry_with(cells.alloc(), setting, letters) {
+    let offer = cells.word();
+    let count = cells.number();
+    match carry_with(cells.alloc(), setting, letters, offer, count) {
         Some(carried) => {
             said.yes(carried.met);
             said.yes(carried.called);

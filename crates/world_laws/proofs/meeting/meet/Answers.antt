@@ -1,34 +1,26 @@
-use Rattle.std.proofs.Common.{rules, sym, ◌∙◌}
+use Rattle.std.proofs.Common.{arith, ◌∙◌, subst, List, ℕ}
 use Rattle.std.proofs.Math.Logic.{∥∥₁_elim, ∥∥₁_map}
 use Rattle.std.proofs.Props.{props}
-use Rattle.world_laws.proofs.MetWhole.{ready-so, first-step, second-step, third-step, no-first, no-second, is-completed, carried}
+use Rattle.std.proofs.lemmas.Option.{slice_get-get_or}
+use Rattle.world_laws.proofs.MetWhole.{Carrying, starts, turned, drop-one, drop-whole, is-completed, is-carried}
 use Rattle.world_laws.proofs.meeting.meet.Goals as goal
 
-pub returns-in-None : goal.returns-in-None
-returns-in-None c = λ book lanes start m. absurd (∥∥₁_elim c.events-events.ensures.ran (λ x y. absurd x) (λ ran.
-    let r = ready-so c.args.world.now book lanes c.args.now c.args.draws start (search rules) m ran in
-    no-first r.c c.in_ok-first.first c.step.new.self (first-step c.args.world.now c.step.new.self c.args.now c.args.draws r c.in_ok-first.first c.in_ok-first.ensures.happened) (sym c.sent.ensures ∙ c.in-None.is)))
+pub loop-drawn-init : goal.loop-drawn-init
+loop-drawn-init c = λ book lanes start m. ∥∥₁_map c.events-events.ensures.ran (λ ran.
+    starts c.args.world.now c.step.new.self book lanes c.args.now c.args.draws.now start m ran c.in_ok-last.last c.in_ok-last.ensures.happened)
 
-pub returns-in-None-sent : goal.returns-in-None-sent
-returns-in-None-sent c = λ book lanes start m. absurd (∥∥₁_elim c.events-events.ensures.ran (λ x y. absurd x) (λ ran.
-    let r = ready-so c.args.world.now book lanes c.args.now c.args.draws start (search rules) m ran in
-    let s = first-step c.args.world.now c.step.new.self c.args.now c.args.draws r c.in_ok-first.first c.in_ok-first.ensures.happened in
-    no-second r.c c.in_ok-second.second c.step-2.new.self
-    (second-step c.args.world.now c.step.new.self c.step-2.new.self c.args.now c.args.draws r c.in_ok-first.first c.in_ok-second.second c.in-Some.record s (sym c.sent.ensures ∙ c.in-Some.is) c.in_ok-second.ensures.happened)
-    (sym c.sent-2.ensures ∙ c.in-None-sent.is)))
+pub loop-drawn-preserved : goal.loop-drawn-preserved
+loop-drawn-preserved c = λ book lanes start m. ∥∥₁_map (c.loop-drawn.invariant book lanes start m) (λ k.
+    turned m.kind c.args.now _ _ c.loop-drawn.last c.in_ok-last-2.last c.loop-drawn.world c.turn.new.world
+    (subst (λ (rest : List (List ℕ)). Carrying m.kind c.args.now rest c.loop-drawn.last c.loop-drawn.world)
+    (drop-one c.args.draws.now c.loop-drawn.drawn-index _ (slice_get-get_or c.args.draws.now c.loop-drawn.drawn-index _ c.loop-drawn-test.true)) k)
+    c.in_ok-last-2.ensures)
 
 pub returns : goal.returns
-returns c = λ book lanes start m. (
-  ∥∥₁_elim c.events-events.ensures.ran (search props) (λ ran.
-      let r = ready-so c.args.world.now book lanes c.args.now c.args.draws start (search rules) m ran in
-      let s = first-step c.args.world.now c.step.new.self c.args.now c.args.draws r c.in_ok-first.first c.in_ok-first.ensures.happened in
-      let p = second-step c.args.world.now c.step.new.self c.step-2.new.self c.args.now c.args.draws r c.in_ok-first.first c.in_ok-second.second c.in-Some.record s (sym c.sent.ensures ∙ c.in-Some.is) c.in_ok-second.ensures.happened in
-      c.is_completed.ensures ∙ is-completed r.c p.answers.book p.answers.lanes c.in_ok-third.third c.step-3.new.self
-      (third-step c.args.world.now c.step-2.new.self c.step-3.new.self c.args.now c.args.draws r c.in_ok-second.second c.in_ok-third.third c.in-Some-sent.reply p (sym c.sent-2.ensures ∙ c.in-Some-sent.is) c.in_ok-third.ensures.happened)),
-  ∥∥₁_map c.events-events.ensures.ran (λ ran.
-      let r = ready-so c.args.world.now book lanes c.args.now c.args.draws start (search rules) m ran in
-      let s = first-step c.args.world.now c.step.new.self c.args.now c.args.draws r c.in_ok-first.first c.in_ok-first.ensures.happened in
-      let p = second-step c.args.world.now c.step.new.self c.step-2.new.self c.args.now c.args.draws r c.in_ok-first.first c.in_ok-second.second c.in-Some.record s (sym c.sent.ensures ∙ c.in-Some.is) c.in_ok-second.ensures.happened in
-      carried c.args.world.now c.step-2.new.self c.step-3.new.self c.args.now c.args.draws r c.in_ok-second.second c.in_ok-third.third p
-      (third-step c.args.world.now c.step-2.new.self c.step-3.new.self c.args.now c.args.draws r c.in_ok-second.second c.in_ok-third.third c.in-Some-sent.reply p (sym c.sent-2.ensures ∙ c.in-Some-sent.is) c.in_ok-third.ensures.happened)),
-)
+returns c = λ book lanes start m.
+    let whole = drop-whole c.args.draws.now c.loop-drawn.drawn-index (omega (arith, c.loop-drawn-test.false, c.loop-drawn.auto.drawn-index-end)) in (
+      ∥∥₁_elim (c.loop-drawn.invariant book lanes start m) (search props) (λ k.
+          c.is_completed.ensures ∙ is-completed m.kind c.args.now c.loop-drawn.last c.loop-drawn.world (subst (λ (rest : List (List ℕ)). Carrying m.kind c.args.now rest c.loop-drawn.last c.loop-drawn.world) whole k)),
+      ∥∥₁_map (c.loop-drawn.invariant book lanes start m) (λ k.
+          is-carried m.kind c.args.now c.loop-drawn.last c.loop-drawn.world (subst (λ (rest : List (List ℕ)). Carrying m.kind c.args.now rest c.loop-drawn.last c.loop-drawn.world) whole k)),
+    )
