@@ -1,5 +1,5 @@
 -- A chain of a book's answers is one of legal books, each as its log has it.
-use Rattle.std.proofs.Common.{ℕ, max, refl, ap, sym, subst, List, [], ◌∷◌, ◌++◌, Option, None}
+use Rattle.std.proofs.Common.{ℕ, max, ap, sym, subst, List, [], ◌∷◌, ◌++◌, Option, None}
 use Rattle.accept_book.specs.declared.entry.Entry.{Entry}
 use Rattle.accept_book.specs.Booking.{BookOf}
 use Rattle.accept_book.specs.Legal.{Legal}
@@ -30,7 +30,7 @@ legal-before old new asked answers legal =
     legal-front old.core.width f.more old.core.history
     (subst (λ (h : List Entry). Legal old.core.width h) f.is (subst (λ (w : ℕ). Legal w new.core.history) (answers-width old new asked answers) legal))
 
-legal-asking : (old new : BookOf) (asked : List Asked) → Asking BookAnswers old asked new → Legal new.core.width new.core.history → Legal old.core.width old.core.history
+pub legal-asking : (old new : BookOf) (asked : List Asked) → Asking BookAnswers old asked new → Legal new.core.width new.core.history → Legal old.core.width old.core.history
 legal-asking old new [] same legal = subst (λ (b : BookOf). Legal b.core.width b.core.history) same legal
 legal-asking old new (one ∷ more) a legal = legal-before old a.0 one a.1 (legal-asking a.0 new more a.2 legal)
 
@@ -40,14 +40,14 @@ legal-all width (hand ∷ more) old new a legal = legal-asking old a.0 (ruling_a
 
 -- ---- the chain of legal books
 
-record Goes (old : BookOf) (asked : List Asked) (new : BookOf) : Type 0 where
-  answers : Asking LegalAnswers (book_as old) asked (book_as new)
-  agrees : Agrees new.core
+pub record Goes (old : BookOf) (asked : List Asked) (new : BookOf) : Type 0 where
+  pub answers : Asking LegalAnswers (book_as old) asked (book_as new)
+  pub agrees : Agrees new.core
 
 goes-more : (old middle new : BookOf) (one : Asked) (more : List Asked) → LegalAnswers (book_as old) one (book_as middle) → Goes middle more new → Goes old (one ∷ more) new
 goes-more old middle new one more answer g = record { answers = (book_as middle, answer, g.answers); agrees = g.agrees }
 
-goes-asking : (old new : BookOf) (asked : List Asked) → Asking BookAnswers old asked new → Legal new.core.width new.core.history → Agrees old.core → Goes old asked new
+pub goes-asking : (old new : BookOf) (asked : List Asked) → Asking BookAnswers old asked new → Legal new.core.width new.core.history → Agrees old.core → Goes old asked new
 goes-asking old new [] same legal agrees = record { answers = ap book_as same; agrees = subst (λ (b : BookOf). Agrees b.core) (sym same) agrees }
 goes-asking old new (one ∷ more) a legal agrees =
     let middle = legal-asking a.0 new more a.2 legal in
@@ -65,16 +65,3 @@ all-goes width (hand ∷ more) old new a legal agrees =
     let middle = legal-all width more a.0 new a.2 legal in
     let g = goes-asking old a.0 (ruling_at width hand).asked a.1.asked middle agrees in
     (book_as a.0, record-goes width hand old a.0 a.1 g, all-goes width more a.0 new a.2 legal g.agrees)
-
--- ---- chains in a row
-
-pub answered-join : (Answers : BookOf → Asked → BookOf → Type 0) (width : ℕ) (front later : List InHand) (a b c : BookOf) → AllAnswered Answers width front a b → AllAnswered Answers width later b c
-    → AllAnswered Answers width (front ++ later) a c
-answered-join Answers width [] later a b c first second = subst (λ (old : BookOf). AllAnswered Answers width later old c) first second
-answered-join Answers width (hand ∷ front) later a b c first second = (first.0, first.1, answered-join Answers width front later first.0 b c first.2 second)
-
-pub asking-split : (Answers : BookOf → Asked → BookOf → Type 0) (front later : List Asked) (a c : BookOf) → Asking Answers a (front ++ later) c → (b : BookOf) × Asking Answers a front b × Asking Answers b later c
-asking-split Answers [] later a c asked = (a, refl, asked)
-asking-split Answers (one ∷ front) later a c asked =
-    let rest = asking-split Answers front later asked.0 c asked.2 in
-    (rest.0, (asked.0, asked.1, rest.1), rest.2)

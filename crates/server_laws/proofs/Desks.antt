@@ -1,6 +1,7 @@
--- What the desks of a run were answered is a chain of records that one book answered.
-use Rattle.std.proofs.Common.{◌≡◌, ◌∙◌, inl, inr, ℕ, ap, sym, subst, arith, List, [], ◌∷◌, ◌++◌, length, reverse, slice_get, Some, None}
+-- What the desks of a run asked is one history, and each desk's records are scripts of its own questions.
+use Rattle.std.proofs.Common.{◌≡◌, ◌∙◌, inl, inr, ℕ, zero, suc, ◌<◌, ◌≤◌, refl, ap, sym, subst, arith, append_assoc, append-nil, List, [], ◌∷◌, ◌++◌, length, reverse, slice_get, Option, Some, None}
 use Rattle.std.proofs.lemmas.List.{length-append}
+use Rattle.std.proofs.lemmas.Option.{none-some, same_Some}
 use Rattle.sec_base.specs.declared.port.Port as ports
 use Rattle.sec_base.specs.declared.link.Link as links
 use Rattle.sec_base.specs.declared.clock.Clock as clocks
@@ -9,48 +10,48 @@ use Rattle.rpc_msgs.specs.Records.{Fragments, octets_in}
 use Rattle.accept_book.specs.Booking.{BookOf}
 use Rattle.accept_book.specs.Legal.{Legal}
 use Rattle.accept_book.specs.Logs.{LogOf}
+use Rattle.accept_book.specs.RecordShown.{Asked}
 use Rattle.accept_book.specs.declared.entry.Entry.{Entry}
 use Rattle.gss_server.specs.Asking.{Asking, BookAnswers}
 use Rattle.gss_server.specs.Connections.{ruling_for, asked_for, asked_in, AllInOrder, AllExact, AllDecided, LastWanted, IsAnswered}
-use Rattle.gss_server.specs.Hearing.{kept_answers}
 use Rattle.gss_server.specs.declared.answer.Kept.{Kept}
 use Rattle.gss_server.specs.declared.connection.ConnEnd.{ConnEnd}
 use Rattle.gss_server.specs.declared.connection.ConnEnd.TheVariants.{Ended, LinkFault, TooLong, TooManyFragments, Torn, Budget, NoMemory}
 use Rattle.gss_server.specs.declared.connection.Served.{Served}
 use Rattle.gss_server.specs.declared.keeper.Keeper as keepers
 use Rattle.gss_server.proofs.Turning.{all-push}
-use Rattle.server_command.specs.Desks.{ServedOf, ServedLink, LinksServed, DeskServed, InTurn}
+use Rattle.book_seats.specs.Notes.{Note, asked_by, questions_of}
+use Rattle.server_command.specs.Desks.{ServedOf, ServedLink, LinksServed, DeskServed}
+use Rattle.server_command.specs.SideBySide.{Noted}
 use Rattle.server_command.specs.Through.{IsOpened, IsLogOf}
 use Rattle.server_command.specs.declared.desk.Desk.{Desk}
 use Rattle.server_command.specs.declared.desk.DeskEnd.{DeskEnd}
 use Rattle.server_command.specs.declared.keys.Keys.{Keys}
 use Rattle.server_command.specs.declared.options.Options.{Options}
 use Rattle.world_laws.specs.State.{InHand, World}
-use Rattle.server_laws.specs.Served.{IsOver, AllAnswered, Meanwhile}
-use Rattle.server_laws.specs.ServerRun.{opened_book, LogIsRun, ServerIsRun}
-use Rattle.server_laws.proofs.Chains.{answered-join, asking-split}
-use Rattle.server_laws.proofs.Openings.{book-run}
+use Rattle.server_laws.specs.Beside.{AreFree}
+use Rattle.server_laws.specs.Served.{IsOver, Meanwhile}
+use Rattle.server_laws.specs.ServerRun.{opened_book, hand_of, hands_of, hands_in, DeskHad, AreTheirs, LogIsRun, ServerIsRun}
+use Rattle.server_laws.proofs.Beside.{Scripts, beside}
+use Rattle.server_laws.proofs.Openings.{history-goes}
+use Rattle.server_laws.proofs.Turns.{record-script}
 
 -- ---- one connection
-
-abbrev hand_of : List ℕ → Kept → InHand
-hand_of octets one = record { octets = octets; kept = kept_answers one }
-
-abbrev hands_of : List Fragments → List Kept → List InHand
-hands_of [] kept = []
-hands_of (cut ∷ records) [] = []
-hands_of (cut ∷ records) (one ∷ kept) = hand_of (octets_in cut) one ∷ hands_of records kept
 
 abbrev OverAt : ℕ → List ℕ → Kept → Type 0
 OverAt width octets one = IsOver (ruling_for width octets one)
 
-each-answered : (width : ℕ) (records : List Fragments) (kept : List Kept) (old new : BookOf) → AllExact width records kept → AllInOrder (OverAt width) records kept
-    → Asking BookAnswers old (asked_in width records kept) new → AllAnswered BookAnswers width (hands_of records kept) old new
-each-answered width [] kept old new exact over asked = asked
-each-answered width (cut ∷ records) [] old new exact over asked = asked
-each-answered width (cut ∷ records) (one ∷ kept) old new exact over asked =
-    let s = asking-split BookAnswers (asked_for width (octets_in cut) one) (asked_in width records kept) old new asked in
-    (s.0, record { drawn = exact.0.1; over = over.0; asked = s.1 }, each-answered width records kept s.0 new exact.1 over.1 s.2)
+each-script : (width : ℕ) (records : List Fragments) (kept : List Kept) → AllExact width records kept → AllInOrder (OverAt width) records kept → Scripts (hands_of records kept) (asked_in width records kept)
+each-script width [] kept exact over = refl
+each-script width (cut ∷ records) [] exact over = refl
+each-script width (cut ∷ records) (one ∷ kept) exact over = (
+  asked_for width (octets_in cut) one,
+  asked_in width records kept,
+  refl,
+  exact.0.1,
+  record-script width (hand_of (octets_in cut) one) over.0,
+  each-script width records kept exact.1 over.1,
+)
 
 decided-over : (width : ℕ) (records : List Fragments) (kept : List Kept) → AllDecided width records kept → AllInOrder (OverAt width) records kept
 decided-over width [] kept decided = tt
@@ -75,58 +76,139 @@ answered-over Budget width records kept counted a = decided-over width records k
 answered-over NoMemory width records kept counted (inl a) = decided-over width records kept a
 answered-over NoMemory width records kept counted (inr a) = wanted-over width records kept counted a
 
--- ---- links, desks and all desks
+-- ---- the links of a desk
 
-record Hands (width : ℕ) (old new : BookOf) : Type 0 where
-  hands : List InHand
-  answered : AllAnswered BookAnswers width hands old new
+scripts-join : (front later : List InHand) (first second : List Asked) → Scripts front first → Scripts later second → Scripts (front ++ later) (first ++ second)
+scripts-join [] later first second none s = subst (λ (xs : List Asked). Scripts later (xs ++ second)) (sym none) s
+scripts-join (hand ∷ front) later first second f s =
+    (f.0, f.1 ++ second, ap (λ xs. xs ++ second) f.2 ∙ append_assoc f.0 f.1 second, f.3, f.4, scripts-join front later f.1 second f.5 s)
 
-no-hands : (width : ℕ) (old new : BookOf) → new ≡ old → Hands width old new
-no-hands width old new same = record { hands = []; answered = same }
+noted : (before after : ℕ × List Asked) (asked : List Asked) → Asking Noted before asked after → after ≡ (before.0, before.1 ++ asked)
+noted before after [] same = same ∙ ap (λ xs. (before.0, xs)) (sym (append-nil before.1))
+noted before after (one ∷ asked) a =
+    noted a.0 after asked a.2 ∙ (ap (λ (x : ℕ × List Asked). (x.0, x.1 ++ asked)) a.1 ∙ ap (λ xs. (before.0, xs)) (append_assoc before.1 (one ∷ []) asked))
 
-join-hands : (width : ℕ) (a b c : BookOf) → Hands width a b → Hands width b c → Hands width a c
-join-hands width a b c first second = record { hands = first.hands ++ second.hands; answered = answered-join BookAnswers width first.hands second.hands a b c first.answered second.answered }
+-- the questions of records, behind those that a desk asked before
+record Asks (before : ℕ × List Asked) (hands : List InHand) (after : ℕ × List Asked) : Type 0 where
+  asked : List Asked
+  after_is : after ≡ (before.0, before.1 ++ asked)
+  scripts : Scripts hands asked
 
-link-hands : {L : Type 0} (width : ℕ) (link : links.Ghosts L) (before : BookOf) (old : L) (one : ServedOf L) (after : BookOf) → ServedLink BookAnswers width link before old one after → Hands width before after
-link-hands width link before old one after s = record {
-  hands = hands_of s.served.records one.answers;
-  answered = each-answered width s.served.records one.answers before after s.served.exact
-      (answered-over one.served.end width s.served.records one.answers s.served.counted s.served.answered) s.served.asked;
+asks-join : (before middle after : ℕ × List Asked) (front later : List InHand) → Asks before front middle → Asks middle later after → Asks before (front ++ later) after
+asks-join before middle after front later f s = record {
+  asked = f.asked ++ s.asked;
+  after_is = s.after_is ∙ (ap (λ (x : ℕ × List Asked). (x.0, x.1 ++ s.asked)) f.after_is ∙ ap (λ xs. (before.0, xs)) (append_assoc before.1 f.asked s.asked));
+  scripts = scripts-join front later f.asked s.asked f.scripts s.scripts;
 }
 
-links-hands : {L : Type 0} (width : ℕ) (link : links.Ghosts L) (before : BookOf) (olds : List L) (served : List (ServedOf L)) (after : BookOf) → LinksServed BookAnswers width link before olds served after
-    → Hands width before after
-links-hands width link before [] [] after s = no-hands width before after s
-links-hands width link before [] (one ∷ more) after s = absurd s
-links-hands width link before (old ∷ olds) [] after s = absurd s
-links-hands width link before (old ∷ olds) (one ∷ more) after s =
-    join-hands width before s.0 after (link-hands width link before old one s.0 s.1) (links-hands width link s.0 olds more after s.2)
+link-asks : {L : Type 0} (width : ℕ) (link : links.Ghosts L) (before : ℕ × List Asked) (old : L) (one : ServedOf L) (after : ℕ × List Asked) (s : ServedLink Noted width link before old one after)
+    → Asks before (hands_of s.served.records one.answers) after
+link-asks width link before old one after s = record {
+  asked = asked_in width s.served.records one.answers;
+  after_is = noted before after (asked_in width s.served.records one.answers) s.served.asked;
+  scripts = each-script width s.served.records one.answers s.served.exact (answered-over one.served.end width s.served.records one.answers s.served.counted s.served.answered);
+}
 
-desks-hands : {P C D K M L Q R : Type 0} (width most : ℕ) (port : ports.Ghosts P L) (link : links.Ghosts L) (clock : clocks.Ghosts C) (draw : draws.Ghosts D)
-    (keeper : keepers.Ghosts K Kept Q) (kept : keepers.Ghosts M (Served L) R) (before : BookOf) (olds : List (Desk P C D K M)) (ends : List DeskEnd) (news : List (Desk P C D K M)) (after : BookOf)
-    → InTurn (DeskServed BookAnswers width most port link clock draw keeper kept) before olds ends news after → Hands width before after
-desks-hands width most port link clock draw keeper kept before [] [] [] after s = no-hands width before after s
-desks-hands width most port link clock draw keeper kept before [] [] (new ∷ news) after s = absurd s
-desks-hands width most port link clock draw keeper kept before [] (end ∷ ends) news after s = absurd s
-desks-hands width most port link clock draw keeper kept before (old ∷ olds) [] news after s = absurd s
-desks-hands width most port link clock draw keeper kept before (old ∷ olds) (end ∷ ends) [] after s = absurd s
-desks-hands width most port link clock draw keeper kept before (old ∷ olds) (end ∷ ends) (new ∷ news) after s =
-    join-hands width before s.0 after (links-hands width link before s.1.went.links s.1.went.served s.0 s.1.went.each)
-    (desks-hands width most port link clock draw keeper kept s.0 olds ends news after s.2)
+links-ask : {L : Type 0} (width : ℕ) (link : links.Ghosts L) (before : ℕ × List Asked) (olds : List L) (served : List (ServedOf L)) (after : ℕ × List Asked)
+    (s : LinksServed Noted width link before olds served after) → Asks before (hands_in Noted width link before olds served after s) after
+links-ask width link before [] [] after s = record { asked = []; after_is = s ∙ ap (λ xs. (before.0, xs)) (sym (append-nil before.1)); scripts = refl }
+links-ask width link before [] (one ∷ more) after s = absurd s
+links-ask width link before (old ∷ olds) [] after s = absurd s
+links-ask width link before (old ∷ olds) (one ∷ more) after s =
+    asks-join before s.0 after (hands_of s.1.served.records one.answers) (hands_in Noted width link s.0 olds more after s.2) (link-asks width link before old one s.0 s.1)
+    (links-ask width link s.0 olds more after s.2)
+
+-- ---- each desk
+
+get-below : {A : Type 0} (xs : List A) (i : ℕ) (x : A) → slice_get xs i ≡ Some x → i < length xs
+get-below [] i x e = absurd (none-some x e)
+get-below (y ∷ ys) zero x e = omega arith
+get-below (y ∷ ys) (suc i) x e = omega (arith, get-below ys i x e)
+
+get-past : {A : Type 0} (xs : List A) (i : ℕ) → slice_get xs i ≡ None → length xs ≤ i
+get-past [] i e = omega arith
+get-past (y ∷ ys) zero e = absurd (none-some y (sym e))
+get-past (y ∷ ys) (suc i) e = omega (arith, get-past ys i e)
+
+-- a desk's records, by the questions that it asked
+record Own {D : Type 0} (Had : D → DeskEnd → D → List InHand → Type 0) (olds : List D) (ends : List DeskEnd) (news : List D) (i : ℕ) (asked : List Asked) : Type 0 where
+  hands : List InHand
+  scripts : i < length olds → Scripts hands asked
+  theirs : (old new : D) (ending : DeskEnd) → slice_get olds i ≡ Some old → slice_get ends i ≡ Some ending → slice_get news i ≡ Some new → Had old ending new hands
+  past : length olds ≤ i → hands ≡ []
+
+-- a desk that stands there, and was served
+served-own : {D : Type 0} (Had : D → DeskEnd → D → List InHand → Type 0) (olds : List D) (ends : List DeskEnd) (news : List D) (i : ℕ) (asked : List Asked) (old new : D) (ending : DeskEnd) (hands : List InHand)
+    → slice_get olds i ≡ Some old → slice_get ends i ≡ Some ending → slice_get news i ≡ Some new → Scripts hands asked → Had old ending new hands → Own Had olds ends news i asked
+served-own Had olds ends news i asked old new ending hands a b c scripts had = record {
+  hands = hands;
+  scripts = λ below. scripts;
+  theirs = λ x z y p q r.
+      subst (λ o. Had o y z hands) (same_Some old x (sym a ∙ p))
+      (subst (λ e. Had old e z hands) (same_Some ending y (sym b ∙ q)) (subst (λ n. Had old ending n hands) (same_Some new z (sym c ∙ r)) had));
+  past = λ le. let lt = get-below olds i old a in absurd (omega (arith, le, lt));
+}
+
+-- a place at which no desk stands
+no-own : {D : Type 0} (Had : D → DeskEnd → D → List InHand → Type 0) (olds : List D) (ends : List DeskEnd) (news : List D) (i : ℕ) (asked : List Asked) → (i < length olds → ⊥)
+    → Own Had olds ends news i asked
+no-own Had olds ends news i asked none = record {
+  hands = [];
+  scripts = λ below. absurd (none below);
+  theirs = λ x z y p q r. absurd (none (get-below olds i x p));
+  past = λ le. refl;
+}
+
+own-by : {D : Type 0} (Had : D → DeskEnd → D → List InHand → Type 0) (olds : List D) (ends : List DeskEnd) (news : List D) (i : ℕ) (asked : List Asked) (old : Option D) (ending : Option DeskEnd) (new : Option D)
+    → length news ≡ length olds → length ends ≡ length olds → slice_get olds i ≡ old → slice_get ends i ≡ ending → slice_get news i ≡ new
+    → ((old new : D) (ending : DeskEnd) → slice_get olds i ≡ Some old → slice_get ends i ≡ Some ending → slice_get news i ≡ Some new → (hands : List InHand) × Scripts hands asked × Had old ending new hands)
+    → Own Had olds ends news i asked
+own-by Had olds ends news i asked None ending new count ends_count a b c had = no-own Had olds ends news i asked (λ below. let le = get-past olds i a in omega (arith, le, below))
+own-by Had olds ends news i asked (Some old) None new count ends_count a b c had =
+    no-own Had olds ends news i asked (λ below. let le = get-past ends i b in omega (arith, le, below, ends_count))
+own-by Had olds ends news i asked (Some old) (Some ending) None count ends_count a b c had =
+    no-own Had olds ends news i asked (λ below. let le = get-past news i c in omega (arith, le, below, count))
+own-by Had olds ends news i asked (Some old) (Some ending) (Some new) count ends_count a b c had =
+    let h = had old new ending a b c in served-own Had olds ends news i asked old new ending h.0 a b c h.1 h.2
 
 -- ---- the run of the server
 
-server-by : (options : Options) (keys : Keys) (start : ℕ) (first last : BookOf) (log : LogOf) → IsOpened options keys start first → IsLogOf last log → Hands options.window first last
-    → Legal log.width (reverse log.entries) → (w : World) (lane : ℕ) (meanwhile : (w : World) → Meanwhile w) → w.book ≡ opened_book options keys start → slice_get w.lanes lane ≡ Some None
-    → LogIsRun lane meanwhile w (reverse log.entries)
-server-by options keys start first last log opens closed h legal w lane meanwhile is free =
+desk-had : {P C D K M L Q R : Type 0} (width most : ℕ) (port : ports.Ghosts P L) (link : links.Ghosts L) (clock : clocks.Ghosts C) (draw : draws.Ghosts D) (keeper : keepers.Ghosts K Kept Q)
+    (kept : keepers.Ghosts M (Served L) R) (i : ℕ) (old : Desk P C D K M) (ending : DeskEnd) (new : Desk P C D K M) (asked : List Asked)
+    → DeskServed Noted width most port link clock draw keeper kept (i, []) old ending new (i, asked)
+    → (hands : List InHand) × Scripts hands asked × DeskHad Noted width most port link clock draw keeper kept (i, []) old ending new (i, asked) hands
+desk-had width most port link clock draw keeper kept i old ending new asked s =
+    let a = links-ask width link (i, []) s.went.links s.went.served (i, asked) s.went.each in (
+      hands_in Noted width link (i, []) s.went.links s.went.served (i, asked) s.went.each,
+      subst (λ (xs : List Asked). Scripts (hands_in Noted width link (i, []) s.went.links s.went.served (i, asked) s.went.each) xs)
+          (sym (ap (λ (x : ℕ × List Asked). x.1) a.after_is)) a.scripts,
+      record { served = s; are = refl },
+    )
+
+server-by : (Are : (ℕ → List InHand) → Type 0) (options : Options) (keys : Keys) (start desks : ℕ) (first last : BookOf) (log : LogOf) (notes : List Note) (hands : ℕ → List InHand)
+    → IsOpened options keys start first → IsLogOf last log → Asking BookAnswers first (questions_of notes) last → Legal log.width (reverse log.entries) → Are hands
+    → ((i : ℕ) → i < desks → Scripts (hands i) (asked_by i notes)) → ((i : ℕ) → desks ≤ i → hands i ≡ []) → ((i : ℕ) → desks ≤ i → asked_by i notes ≡ [])
+    → (w : World) (lane : ℕ → ℕ) (meanwhile : (w : World) → Meanwhile w) → w.book ≡ opened_book options keys start → AreFree w lane desks
+    → LogIsRun Are lane meanwhile notes w (reverse log.entries)
+server-by Are options keys start desks first last log notes hands opens closed chain legal theirs scripts past others w lane meanwhile is free =
     let end : Legal last.core.width last.core.history = subst (λ (x : List Entry). Legal last.core.width x) closed.entries (subst (λ (n : ℕ). Legal n (reverse log.entries)) closed.width legal) in
-    let r = book-run options keys start first last options.window h.hands opens h.answered end w lane meanwhile is free in
-    record { hands = h.hands; book = r.book; logged = r.logged ∙ sym closed.entries; runs = r.runs }
+    let h = history-goes options keys start first last (questions_of notes) opens chain end w is in record {
+      hands = hands;
+      theirs = theirs;
+      book = h.book;
+      logged = h.logged ∙ sym closed.entries;
+      runs = beside desks lane free.apart meanwhile h.book notes hands w
+          (record { legal = h.legal; each = λ i below. inl (record { free = free.free i below; scripts = scripts i below }); behind = past; others = others }) h.answers;
+    }
 
 pub server-run : {P C D K M L Q R : Type 0} (port : ports.Ghosts P L) (link : links.Ghosts L) (clock : clocks.Ghosts C) (draw : draws.Ghosts D) (keeper : keepers.Ghosts K Kept Q)
     (kept : keepers.Ghosts M (Served L) R) → ServerIsRun port link clock draw keeper kept
-server-run port link clock draw keeper kept options keys start olds end news log booked legal w lane meanwhile is free =
-    server-by options keys start booked.first booked.last log booked.opened booked.closed
-    (desks-hands options.window options.connections port link clock draw keeper kept booked.first olds booked.through.ends news booked.last booked.through.each)
-    legal w lane meanwhile is free
+server-run {P} {C} {D} {K} {M} port link clock draw keeper kept options keys start olds end news log one legal w lane meanwhile is free =
+    let own : (i : ℕ) → Own (λ (old : Desk P C D K M) (ending : DeskEnd) (new : Desk P C D K M) (hands : List InHand).
+    DeskHad Noted options.window options.connections port link clock draw keeper kept (i, []) old ending new (i, asked_by i one.all) hands) olds one.ends news i (asked_by i one.all) =
+    λ i. own-by (λ (old : Desk P C D K M) (ending : DeskEnd) (new : Desk P C D K M) (hands : List InHand).
+    DeskHad Noted options.window options.connections port link clock draw keeper kept (i, []) old ending new (i, asked_by i one.all) hands) olds one.ends news i (asked_by i one.all)
+    (slice_get olds i) (slice_get one.ends i) (slice_get news i) one.count one.ends_count refl refl refl
+    (λ old new ending a b c. desk-had options.window options.connections port link clock draw keeper kept i old ending new (asked_by i one.all) (one.each i old new ending a b c)) in
+    server-by (AreTheirs options.window options.connections port link clock draw keeper kept olds one.ends news one.all) options keys start (length olds) one.first one.last log one.all (λ i. (own i).hands)
+    one.opened one.closed one.chain legal (record { each = λ i old new ending a b c. (own i).theirs old new ending a b c; others = λ i le. (own i).past le }) (λ i below. (own i).scripts below) (λ i le. (own i).past le) one.others w lane meanwhile is free

@@ -6,4 +6,6 @@ pub mod Comes
 pub mod Canon
 pub mod Chains
 pub mod Openings
+pub mod Beside
 pub mod Desks
+pub mod InPlace

@@ -1,14 +1,19 @@
 -- What an opened book answered, and its log, are a run of the world.
-use Rattle.std.proofs.Common.{◌≡◌, ◌∙◌, ℕ, refl, sym, subst, arith, []}
+use Rattle.std.proofs.Common.{◌≡◌, ◌∙◌, ℕ, refl, sym, subst, arith, List, []}
 use Rattle.accept_book.specs.Booking.{BookOf}
+use Rattle.accept_book.specs.Legal.{Legal}
+use Rattle.accept_book.specs.RecordShown.{Asked}
+use Rattle.accept_book.specs.declared.entry.Entry.{Entry}
+use Rattle.gss_server.specs.Asking.{Asking, BookAnswers}
 use Rattle.server_command.specs.Through.{IsOpened}
 use Rattle.server_command.specs.declared.keys.Keys.{Keys}
 use Rattle.server_command.specs.declared.options.Options.{Options}
 use Rattle.world_laws.specs.Events.{IsBook}
+use Rattle.world_laws.specs.State.{World}
 use Rattle.server_laws.specs.Served.{AllAnswered, LegalAnswers}
 use Rattle.server_laws.specs.ServerRun.{opened_book, OpenedLaw, BookRunLaw}
 use Rattle.server_laws.proofs.Canon.{book_as, Agrees, is-book}
-use Rattle.server_laws.proofs.Chains.{legal-all, all-goes}
+use Rattle.server_laws.proofs.Chains.{legal-asking, legal-all, goes-asking, all-goes}
 use Rattle.server_laws.proofs.Runs.{all-served}
 
 -- ---- the opened book
@@ -43,7 +48,28 @@ opened-is options keys start book o = λ i.
     } in
     book_as empty
 
--- ---- its run
+-- ---- its runs
+
+-- what a history makes of a world of the opened book
+pub record HistoryGoes (w : World) (asked : List Asked) (history : List Entry) : Type 0 where
+  pub legal : IsBook w.book
+  pub book : BookOf
+  pub logged : book.core.history ≡ history
+  pub answers : Asking LegalAnswers w.book asked book
+
+pub history-goes : (options : Options) (keys : Keys) (start : ℕ) (first last : BookOf) (asked : List Asked) → IsOpened options keys start first → Asking BookAnswers first asked last
+    → Legal last.core.width last.core.history → (w : World) → w.book ≡ opened_book options keys start → HistoryGoes w asked last.core.history
+history-goes options keys start first last asked opens answers end w is =
+    let same : w.book ≡ book_as first = is ∙ sym (opened-is options keys start first opens) in
+    let agrees = opened-agrees options keys start first opens in
+    let begin : IsBook (book_as first) = is-book first (legal-asking first last asked answers end) agrees in
+    let g = goes-asking first last asked answers end agrees in
+    record {
+      legal = subst IsBook (sym same) begin;
+      book = book_as last;
+      logged = refl;
+      answers = subst (λ (b : BookOf). Asking LegalAnswers b asked (book_as last)) (sym same) g.answers;
+    }
 
 pub book-run : BookRunLaw
 book-run options keys start first last width hands opens answered end w lane meanwhile is free =

@@ -9,7 +9,7 @@ use Rattle.world_laws.specs.State.{InHand, World}
 use Rattle.server_laws.specs.Served.{LegalAnswers, Answered, AllAnswered, Serves, ServedLaw, Meanwhile, IsRun, AllServedLaw, ruling_at}
 use Rattle.server_laws.proofs.Turns.{serves}
 
-run-join : (a b c : World) (front later : List WorldEvent) → Run a front b → Run b later c → Run a (front ++ later) c
+pub run-join : (a b c : World) (front later : List WorldEvent) → Run a front b → Run b later c → Run a (front ++ later) c
 run-join a b c [] later first second = subst (λ (w : World). Run w later c) first second
 run-join a b c (event ∷ front) later first second = (first.0, run-join first.0.world b c front later first.1 second)
 

@@ -19,13 +19,14 @@ use Rattle.world_laws.specs.Deeds.{Deed}
 use Rattle.world_laws.specs.Events.{IsBook, LanesBy, Happens}
 use Rattle.world_laws.specs.Lanes.{told_width, in_hand, question_of, ruling_of, hand_after, IsAnswer, with_lane, LaneMoves}
 use Rattle.world_laws.specs.State.{InHand, World}
-use Rattle.world_laws.specs.Turning.{Turned}
+use Rattle.world_laws.specs.Turning.{AtOnce, ByBook, Turned}
 use Rattle.world_laws.proofs.LaneTurns.{hand_with, lane-moved}
 use Rattle.world_laws.proofs.Past.{past-of}
-use Rattle.world_laws.proofs.RulingPlan.{Late, Rules, Admits, Ends, Plan, Decides, Steps, Looks, Ruled, plan_by, late_by, rulings, record-planned}
+use Rattle.world_laws.proofs.RulingPlan.{Late, Rules, Admits, Ends, Plan, Decides, Steps, Looks, Ruled, ruled, plan_by, late_by, rulings, record-planned}
 use Rattle.world_laws.proofs.RulingTurns.{ruling_after}
 use Rattle.world_laws.proofs.Slices.{set-same}
-use Rattle.server_laws.specs.Served.{LegalAnswers, IsOver, Answered, Serves}
+use Rattle.server_laws.specs.Beside.{asked_in}
+use Rattle.server_laws.specs.Served.{LegalAnswers, IsOver, Answered, Serves, ruling_at}
 use Rattle.server_laws.proofs.Widths.{same-asked, same-over}
 
 -- ---- one question, or none
@@ -49,8 +50,12 @@ abbrev told : List ℕ → ℕ → List ℕ → Ruled
 told octets now draws = rulings octets now draws told_width
 
 at-once : (book : BookOf) (octets : List ℕ) (now : ℕ) (draws : List ℕ) (answer : Option Happened) → IsAnswer (told octets now draws None None None None) answer
-    → Turned book (hand_with octets now draws None) book None answer
-at-once book octets now draws answer is = inl (record { answers = is; unchanged = refl; nothing = refl })
+    → AtOnce book (hand_with octets now draws None) book None answer
+at-once book octets now draws answer is = record { answers = is; unchanged = refl; nothing = refl }
+
+-- a turn in which the book is asked this question
+abbrev pub Taken : BookOf → InHand → BookOf → Option InHand → Option Happened → Asked → Type 0
+Taken old hand new left answer one = (turn : ByBook old hand new left answer) × (turn.asked ≡ one)
 
 after-is : (octets : List ℕ) (now : ℕ) (draws : List ℕ) (looked : Option (Result Lease LookRefusal)) (asked : Asked)
     → ruling_after (told octets now draws) looked asked ≡ ruling_of (hand_after (hand_with octets now draws looked) asked)
@@ -61,32 +66,145 @@ after-is octets now draws looked (AskedEnd lease seq answer) = refl
 
 one-asked : (book new : BookOf) (octets : List ℕ) (now : ℕ) (draws : List ℕ) (looked : Option (Result Lease LookRefusal)) (one : Asked) (answer : Option Happened)
     → (told octets now draws None looked None None).due ≡ Some (question_of one) → BookAnswers book one new → IsAnswer (ruling_after (told octets now draws) looked one) answer
-    → Turned book (hand_with octets now draws looked) new None answer
+    → Taken book (hand_with octets now draws looked) new None answer one
 one-asked book new octets now draws looked one answer due answers is =
-    let past = past-of book.core.table (max book.core.cache.greatest now) in
-    inr (record {
-      asked = one;
-      due = due;
-      past = past.0;
-      is_past = past.1;
-      answers = answers;
-      follows = inr (subst (λ (r : Ruling). IsAnswer r answer) (after-is octets now draws looked one) is, refl);
-    })
+    let past = past-of book.core.table (max book.core.cache.greatest now) in (
+      record {
+        asked = one;
+        due = due;
+        past = past.0;
+        is_past = past.1;
+        answers = answers;
+        follows = inr (subst (λ (r : Ruling). IsAnswer r answer) (after-is octets now draws looked one) is, refl);
+      },
+      refl,
+    )
 
 look-asked : (book new : BookOf) (octets : List ℕ) (now : ℕ) (draws : List ℕ) (id at : ℕ) (answer : Result Lease LookRefusal) (question : Question)
     → (told octets now draws None None None None).due ≡ Some (Look id at) → BookAnswers book (AskedLook id at answer) new
     → (told octets now draws None (Some answer) None None).due ≡ Some question
-    → Turned book (hand_with octets now draws None) new (Some (hand_with octets now draws (Some answer))) (Some (Stepped 0))
+    → Taken book (hand_with octets now draws None) new (Some (hand_with octets now draws (Some answer))) (Some (Stepped 0)) (AskedLook id at answer)
 look-asked book new octets now draws id at answer question due answers next =
     let past = past-of book.core.table (max book.core.cache.greatest now) in
-    inr (record {
-      asked = AskedLook id at answer;
-      due = due;
-      past = past.0;
-      is_past = past.1;
-      answers = answers;
-      follows = inl (question, next, refl, refl);
-    })
+    (record { asked = AskedLook id at answer; due = due; past = past.0; is_past = past.1; answers = answers; follows = inl (question, next, refl, refl) }, refl)
+
+-- ---- what a record asks, whatever the book is
+
+-- nothing: it is answered at once
+pub record AsksNone (octets : List ℕ) (now : ℕ) (draws : List ℕ) (asked : List Asked) : Type 0 where
+  pub none : asked ≡ []
+  pub answer : Option Happened
+  pub turned : (book : BookOf) → AtOnce book (hand_with octets now draws None) book None answer
+
+-- one question, with whose answer it is answered
+pub record AsksOne (octets : List ℕ) (now : ℕ) (draws : List ℕ) (asked : List Asked) : Type 0 where
+  pub one : Asked
+  pub only : asked ≡ one ∷ []
+  pub answer : Option Happened
+  pub turned : (old new : BookOf) → BookAnswers old one new → Taken old (hand_with octets now draws None) new None answer one
+
+-- the second of two questions, behind a look
+pub record AsksMore (octets : List ℕ) (now : ℕ) (draws : List ℕ) (looked : Option (Result Lease LookRefusal)) (one : Asked) : Type 0 where
+  pub answer : Option Happened
+  pub turned : (old new : BookOf) → BookAnswers old one new → Taken old (hand_with octets now draws looked) new None answer one
+
+-- a look, and one more question
+pub record AsksTwo (octets : List ℕ) (now : ℕ) (draws : List ℕ) (asked : List Asked) : Type 0 where
+  pub look : Asked
+  pub one : Asked
+  pub both : asked ≡ look ∷ one ∷ []
+  pub looked : Option (Result Lease LookRefusal)
+  pub first : (old new : BookOf) → BookAnswers old look new → Taken old (hand_with octets now draws None) new (Some (hand_with octets now draws looked)) (Some (Stepped 0)) look
+  pub second : AsksMore octets now draws looked one
+
+abbrev pub Script : List ℕ → ℕ → List ℕ → List Asked → Type 0
+Script octets now draws asked = AsksNone octets now draws asked ⊎ (AsksOne octets now draws asked ⊎ AsksTwo octets now draws asked)
+
+-- what the rulings are
+abbrev Is : List ℕ → ℕ → List ℕ → Plan → Type 0
+Is octets now draws plan =
+    (n : Option Negotiated) (l : Option (Result Lease LookRefusal)) (a : Option (Result Admitted AdmitRefusal)) (e : Option (Result Receipt AdmitRefusal))
+    → told octets now draws n l a e ≡ plan_by plan n l a e
+
+due-of : (r q : Ruling) (question : Question) → r ≡ q → q.due ≡ Some question → r.due ≡ Some question
+due-of r q question is due = ap (λ (x : Ruling). x.due) is ∙ due
+
+one-more : (octets : List ℕ) (now : ℕ) (draws : List ℕ) (looked : Option (Result Lease LookRefusal)) (one : Asked) (r : Ruling)
+    → (told octets now draws None looked None None).due ≡ Some (question_of one) → ruling_after (told octets now draws) looked one ≡ r → IsOver r
+    → AsksMore octets now draws looked one
+one-more octets now draws looked one r due is over =
+    let a = answer-of r over in
+    record {
+      answer = a.0;
+      turned = λ old new answers. one-asked old new octets now draws looked one a.0 due answers (subst (λ (x : Ruling). IsAnswer x a.0) (sym is) a.1);
+    }
+
+one-script : (octets : List ℕ) (now : ℕ) (draws : List ℕ) (one : Asked) (r : Ruling)
+    → (told octets now draws None None None None).due ≡ Some (question_of one) → ruling_after (told octets now draws) None one ≡ r → IsOver r
+    → Script octets now draws (one ∷ [])
+one-script octets now draws one r due is over =
+    let m = one-more octets now draws None one r due is over in
+    inr (inl (record { one = one; only = refl; answer = m.answer; turned = m.turned }))
+
+two-script : (octets : List ℕ) (now : ℕ) (draws : List ℕ) (id at : ℕ) (looked : Result Lease LookRefusal) (one : Asked) (r : Ruling)
+    → (told octets now draws None None None None).due ≡ Some (Look id at) → (told octets now draws None (Some looked) None None).due ≡ Some (question_of one)
+    → ruling_after (told octets now draws) (Some looked) one ≡ r → IsOver r
+    → Script octets now draws (AskedLook id at looked ∷ one ∷ [])
+two-script octets now draws id at looked one r due further is over =
+    inr (inr (record {
+      look = AskedLook id at looked;
+      one = one;
+      both = refl;
+      looked = Some looked;
+      first = λ old new answers. look-asked old new octets now draws id at looked (question_of one) due answers further;
+      second = one-more octets now draws (Some looked) one r further is over;
+    }))
+
+look-script : (octets : List ℕ) (now : ℕ) (draws : List ℕ) (id at : ℕ) (by : Result Lease LookRefusal → Late) (looked : Result Lease LookRefusal) (late : Late)
+    (a : Option (Result Admitted AdmitRefusal)) (e : Option (Result Receipt AdmitRefusal))
+    → Is octets now draws (Looks id at by) → by looked ≡ late → IsOver (late_by late a e) → Script octets now draws (AskedLook id at looked ∷ (late_by late a e).asked)
+look-script octets now draws id at by looked (Rules d) a e is late over =
+    one-script octets now draws (AskedLook id at looked) _ (due-of _ _ (Look id at) (is None None None None) refl)
+    (is None (Some looked) None None ∙ ap (λ (x : Late). plan_by (Looks id at (λ y. x)) None (Some looked) None None) late) over
+look-script octets now draws id at by looked (Admits lease seq procedure args by2) None e is late over =
+    one-script octets now draws (AskedLook id at looked) _ (due-of _ _ (Look id at) (is None None None None) refl)
+    (is None (Some looked) None None ∙ ap (λ (x : Late). plan_by (Looks id at (λ y. x)) None (Some looked) None None) late) over
+look-script octets now draws id at by looked (Admits lease seq procedure args by2) (Some x) e is late over =
+    two-script octets now draws id at looked (AskedAdmit lease seq procedure args x) _ (due-of _ _ (Look id at) (is None None None None) refl)
+    (due-of _ _ (Admit lease seq procedure args) (is None (Some looked) None None ∙ ap (λ (y : Late). plan_by (Looks id at (λ z. y)) None (Some looked) None None) late) refl)
+    (is None (Some looked) (Some x) None ∙ ap (λ (y : Late). plan_by (Looks id at (λ z. y)) None (Some looked) (Some x) None) late) over
+look-script octets now draws id at by looked (Ends lease seq by2) a None is late over =
+    absurd (waits-on (End lease seq) [] refl over)
+look-script octets now draws id at by looked (Ends lease seq by2) a (Some x) is late over =
+    two-script octets now draws id at looked (AskedEnd lease seq x) _ (due-of _ _ (Look id at) (is None None None None) refl)
+    (due-of _ _ (End lease seq) (is None (Some looked) None None ∙ ap (λ (y : Late). plan_by (Looks id at (λ z. y)) None (Some looked) None None) late) refl)
+    (is None (Some looked) None (Some x) ∙ ap (λ (y : Late). plan_by (Looks id at (λ z. y)) None (Some looked) None (Some x)) late) over
+
+plan-script : (octets : List ℕ) (now : ℕ) (draws : List ℕ) (plan : Plan)
+    (n : Option Negotiated) (l : Option (Result Lease LookRefusal)) (a : Option (Result Admitted AdmitRefusal)) (e : Option (Result Receipt AdmitRefusal))
+    → Is octets now draws plan → IsOver (plan_by plan n l a e) → Script octets now draws (plan_by plan n l a e).asked
+plan-script octets now draws (Decides d) n l a e is over =
+    let x = answer-of (ruled d) over in
+    inl (record { none = refl; answer = x.0; turned = λ book. at-once book octets now draws x.0 (subst (λ (r : Ruling). IsAnswer r x.0) (sym (is None None None None)) x.1) })
+plan-script octets now draws (Steps id token at drawn by) None l a e is over = absurd (waits-on (Negotiate id token at drawn) [] refl over)
+plan-script octets now draws (Steps id token at drawn by) (Some answer) l a e is over =
+    one-script octets now draws (AskedStep id token at drawn answer) _ (due-of _ _ (Negotiate id token at drawn) (is None None None None) refl)
+    (is (Some answer) None None None) over
+plan-script octets now draws (Looks id at by) n None a e is over = absurd (waits-on (Look id at) [] refl over)
+plan-script octets now draws (Looks id at by) n (Some looked) a e is over = look-script octets now draws id at by looked (by looked) a e is refl over
+
+told-script : (octets : List ℕ) (kept : KeptAnswers) → IsOver (record_ruling octets kept told_width) → Script octets kept.now kept.draws (record_ruling octets kept told_width).asked
+told-script octets kept over =
+    let p = record-planned octets kept.now kept.draws told_width in
+    let is : record_ruling octets kept told_width ≡ plan_by p.plan kept.negotiated kept.looked kept.admitted kept.ended = p.is kept.negotiated kept.looked kept.admitted kept.ended in
+    subst (λ (r : Ruling). Script octets kept.now kept.draws r.asked) (sym is)
+    (plan-script octets kept.now kept.draws p.plan kept.negotiated kept.looked kept.admitted kept.ended p.is (subst IsOver is over))
+
+-- its questions are those of the world's width
+pub record-script : (width : ℕ) (hand : InHand) → IsOver (ruling_at width hand) → Script hand.octets hand.kept.now hand.kept.draws (ruling_at width hand).asked
+record-script width hand over =
+    subst (λ (xs : List Asked). Script hand.octets hand.kept.now hand.kept.draws xs) (same-asked hand.octets hand.kept told_width width)
+    (told-script hand.octets hand.kept (same-over hand.octets hand.kept width told_width over))
 
 -- ---- the turns of a record
 
@@ -108,91 +226,40 @@ pub record InTwo (octets : List ℕ) (now : ℕ) (draws : List ℕ) (old new : B
 abbrev Come : List ℕ → ℕ → List ℕ → BookOf → BookOf → Type 0
 Come octets now draws old new = InOne octets now draws old new ⊎ InTwo octets now draws old new
 
-in-one : (octets : List ℕ) (now : ℕ) (draws : List ℕ) (old new : BookOf) (r q : Ruling) (is : q ≡ r) → IsOver r → IsBook new
-    → ((answer : Option Happened) → IsAnswer q answer → Turned old (hand_with octets now draws None) new None answer) → Come octets now draws old new
-in-one octets now draws old new r q is over legal turned =
-    let a = answer-of r over in
-    inl (record { answer = a.0; turned = turned a.0 (subst (λ (x : Ruling). IsAnswer x a.0) (sym is) a.1); legal = legal })
-
--- what the rulings are
-abbrev Is : List ℕ → ℕ → List ℕ → Plan → Type 0
-Is octets now draws plan =
-    (n : Option Negotiated) (l : Option (Result Lease LookRefusal)) (a : Option (Result Admitted AdmitRefusal)) (e : Option (Result Receipt AdmitRefusal))
-    → told octets now draws n l a e ≡ plan_by plan n l a e
-
-due-of : (r q : Ruling) (question : Question) → r ≡ q → q.due ≡ Some question → r.due ≡ Some question
-due-of r q question is due = ap (λ (x : Ruling). x.due) is ∙ due
-
--- the book after a chain that ends
-last-is : (new middle : BookOf) → new ≡ middle → IsBook middle → IsBook new
-last-is new middle e legal = subst IsBook (sym e) legal
-
-one-come : (octets : List ℕ) (now : ℕ) (draws : List ℕ) (old middle new : BookOf) (one : Asked) (r : Ruling)
-    → (told octets now draws None None None None).due ≡ Some (question_of one) → ruling_after (told octets now draws) None one ≡ r → IsOver r
-    → LegalAnswers old one middle → new ≡ middle → Come octets now draws old new
-one-come octets now draws old middle new one r due is over answers last =
-    in-one octets now draws old new r (ruling_after (told octets now draws) None one) is over (last-is new middle last answers.1)
-    (λ answer a. one-asked old new octets now draws None one answer due (subst (λ (b : BookOf). BookAnswers old one b) (sym last) answers.0) a)
-
-two-come : (octets : List ℕ) (now : ℕ) (draws : List ℕ) (old middle next new : BookOf) (id at : ℕ) (looked : Result Lease LookRefusal) (one : Asked) (r : Ruling)
-    → (told octets now draws None None None None).due ≡ Some (Look id at) → (told octets now draws None (Some looked) None None).due ≡ Some (question_of one)
-    → ruling_after (told octets now draws) (Some looked) one ≡ r → IsOver r → LegalAnswers old (AskedLook id at looked) middle → LegalAnswers middle one next → new ≡ next
-    → Come octets now draws old new
-two-come octets now draws old middle next new id at looked one r due further is over first second last =
-    let a = answer-of r over in
-    inr (record {
-      middle = middle;
-      looked = Some looked;
-      first = look-asked old middle octets now draws id at looked (question_of one) due first.0 further;
-      middle_legal = first.1;
-      answer = a.0;
-      second = one-asked middle new octets now draws (Some looked) one a.0 further (subst (λ (b : BookOf). BookAnswers middle one b) (sym last) second.0)
-          (subst (λ (x : Ruling). IsAnswer x a.0) (sym is) a.1);
-      legal = last-is new next last second.1;
+none-comes : (octets : List ℕ) (now : ℕ) (draws : List ℕ) (old new : BookOf) (asked : List Asked) → IsBook old → (s : AsksNone octets now draws asked) → new ≡ old → Come octets now draws old new
+none-comes octets now draws old new asked legal s last =
+    inl (record {
+      answer = s.answer;
+      turned = subst (λ (b : BookOf). Turned old (hand_with octets now draws None) b None s.answer) (sym last) (inl (s.turned old));
+      legal = subst IsBook (sym last) legal;
     })
 
-look-come : (octets : List ℕ) (now : ℕ) (draws : List ℕ) (id at : ℕ) (by : Result Lease LookRefusal → Late) (looked : Result Lease LookRefusal) (late : Late) (old middle new : BookOf)
-    (a : Option (Result Admitted AdmitRefusal)) (e : Option (Result Receipt AdmitRefusal))
-    → Is octets now draws (Looks id at by) → by looked ≡ late → IsOver (late_by late a e) → LegalAnswers old (AskedLook id at looked) middle
-    → Asking LegalAnswers middle (late_by late a e).asked new → Come octets now draws old new
-look-come octets now draws id at by looked (Rules d) old middle new a e is late over first rest =
-    one-come octets now draws old middle new (AskedLook id at looked) _ (due-of _ _ (Look id at) (is None None None None) refl)
-    (is None (Some looked) None None ∙ ap (λ (x : Late). plan_by (Looks id at (λ y. x)) None (Some looked) None None) late) over first rest
-look-come octets now draws id at by looked (Admits lease seq procedure args by2) old middle new None e is late over first rest =
-    one-come octets now draws old middle new (AskedLook id at looked) _ (due-of _ _ (Look id at) (is None None None None) refl)
-    (is None (Some looked) None None ∙ ap (λ (x : Late). plan_by (Looks id at (λ y. x)) None (Some looked) None None) late) over first rest
-look-come octets now draws id at by looked (Admits lease seq procedure args by2) old middle new (Some x) e is late over first rest =
-    two-come octets now draws old middle rest.0 new id at looked (AskedAdmit lease seq procedure args x) _ (due-of _ _ (Look id at) (is None None None None) refl)
-    (due-of _ _ (Admit lease seq procedure args) (is None (Some looked) None None ∙ ap (λ (y : Late). plan_by (Looks id at (λ z. y)) None (Some looked) None None) late) refl)
-    (is None (Some looked) (Some x) None ∙ ap (λ (y : Late). plan_by (Looks id at (λ z. y)) None (Some looked) (Some x) None) late) over first rest.1 rest.2
-look-come octets now draws id at by looked (Ends lease seq by2) old middle new a None is late over first rest =
-    absurd (waits-on (End lease seq) [] refl over)
-look-come octets now draws id at by looked (Ends lease seq by2) old middle new a (Some x) is late over first rest =
-    two-come octets now draws old middle rest.0 new id at looked (AskedEnd lease seq x) _ (due-of _ _ (Look id at) (is None None None None) refl)
-    (due-of _ _ (End lease seq) (is None (Some looked) None None ∙ ap (λ (y : Late). plan_by (Looks id at (λ z. y)) None (Some looked) None None) late) refl)
-    (is None (Some looked) None (Some x) ∙ ap (λ (y : Late). plan_by (Looks id at (λ z. y)) None (Some looked) None (Some x)) late) over first rest.1 rest.2
+one-comes : (octets : List ℕ) (now : ℕ) (draws : List ℕ) (old new : BookOf) (asked : List Asked) (s : AsksOne octets now draws asked) → Asking LegalAnswers old (s.one ∷ []) new → Come octets now draws old new
+one-comes octets now draws old new asked s a =
+    subst (λ (b : BookOf). Come octets now draws old b) (sym a.2)
+    (inl (record { answer = s.answer; turned = inr (s.turned old a.0 a.1.0).0; legal = a.1.1 }))
 
-plan-come : (octets : List ℕ) (now : ℕ) (draws : List ℕ) (plan : Plan) (old new : BookOf)
-    (n : Option Negotiated) (l : Option (Result Lease LookRefusal)) (a : Option (Result Admitted AdmitRefusal)) (e : Option (Result Receipt AdmitRefusal))
-    → Is octets now draws plan → IsBook old → IsOver (plan_by plan n l a e) → Asking LegalAnswers old (plan_by plan n l a e).asked new → Come octets now draws old new
-plan-come octets now draws (Decides d) old new n l a e is legal over asked =
-    subst (λ (b : BookOf). Come octets now draws old b) (sym asked)
-    (in-one octets now draws old old _ (told octets now draws None None None None) (is None None None None) over legal (λ answer x. at-once old octets now draws answer x))
-plan-come octets now draws (Steps id token at drawn by) old new None l a e is legal over asked = absurd (waits-on (Negotiate id token at drawn) [] refl over)
-plan-come octets now draws (Steps id token at drawn by) old new (Some answer) l a e is legal over asked =
-    one-come octets now draws old asked.0 new (AskedStep id token at drawn answer) _ (due-of _ _ (Negotiate id token at drawn) (is None None None None) refl)
-    (is (Some answer) None None None) over asked.1 asked.2
-plan-come octets now draws (Looks id at by) old new n None a e is legal over asked = absurd (waits-on (Look id at) [] refl over)
-plan-come octets now draws (Looks id at by) old new n (Some looked) a e is legal over asked =
-    look-come octets now draws id at by looked (by looked) old asked.0 new a e is refl over asked.1 asked.2
+two-comes : (octets : List ℕ) (now : ℕ) (draws : List ℕ) (old new : BookOf) (asked : List Asked) (s : AsksTwo octets now draws asked) → Asking LegalAnswers old (s.look ∷ s.one ∷ []) new
+    → Come octets now draws old new
+two-comes octets now draws old new asked s a =
+    subst (λ (b : BookOf). Come octets now draws old b) (sym a.2.2)
+    (inr (record {
+      middle = a.0;
+      looked = s.looked;
+      first = inr (s.first old a.0 a.1.0).0;
+      middle_legal = a.1.1;
+      answer = s.second.answer;
+      second = inr (s.second.turned a.0 a.2.0 a.2.1.0).0;
+      legal = a.2.1.1;
+    }))
 
-record-come : (octets : List ℕ) (kept : KeptAnswers) (old new : BookOf) → IsBook old → IsOver (record_ruling octets kept told_width)
-    → Asking LegalAnswers old (record_ruling octets kept told_width).asked new → Come octets kept.now kept.draws old new
-record-come octets kept old new legal over asked =
-    let p = record-planned octets kept.now kept.draws told_width in
-    let is : record_ruling octets kept told_width ≡ plan_by p.plan kept.negotiated kept.looked kept.admitted kept.ended = p.is kept.negotiated kept.looked kept.admitted kept.ended in
-    plan-come octets kept.now kept.draws p.plan old new kept.negotiated kept.looked kept.admitted kept.ended p.is legal
-    (subst IsOver is over) (subst (λ (r : Ruling). Asking LegalAnswers old r.asked new) is asked)
+comes : (octets : List ℕ) (now : ℕ) (draws : List ℕ) (old new : BookOf) (asked : List Asked) → IsBook old → Script octets now draws asked → Asking LegalAnswers old asked new → Come octets now draws old new
+comes octets now draws old new asked legal (inl s) a =
+    none-comes octets now draws old new asked legal s (subst (λ (xs : List Asked). Asking LegalAnswers old xs new) s.none a)
+comes octets now draws old new asked legal (inr (inl s)) a =
+    one-comes octets now draws old new asked s (subst (λ (xs : List Asked). Asking LegalAnswers old xs new) s.only a)
+comes octets now draws old new asked legal (inr (inr s)) a =
+    two-comes octets now draws old new asked s (subst (λ (xs : List Asked). Asking LegalAnswers old xs new) s.both a)
 
 -- ---- the events of a record
 
@@ -206,25 +273,37 @@ set-twice [] i x y = refl
 set-twice (z ∷ xs) zero x y = refl
 set-twice (z ∷ xs) (suc i) x y = ap (λ zs. z ∷ zs) (set-twice xs i x y)
 
--- a lane's event
-record Goes (w : World) (lane : ℕ) (octets : List ℕ) (now : ℕ) (draws : List ℕ) (left : Option InHand) (book : BookOf) : Type 0 where
-  deed : Deed
-  happens : Happens w (Lane lane octets now draws) deed (with_lane w lane left book deed)
+-- what a turn asks the book
+abbrev pub turn_asked : (old : BookOf) (hand : InHand) (new : BookOf) (left : Option InHand) (answer : Option Happened) → Turned old hand new left answer → List Asked
+turn_asked old hand new left answer (inl once) = []
+turn_asked old hand new left answer (inr by) = by.asked ∷ []
 
-goes : (w : World) (lane : ℕ) (octets : List ℕ) (now : ℕ) (draws : List ℕ) (before left : Option InHand) (book : BookOf) (answer : Option Happened)
-    → slice_get w.lanes lane ≡ Some before → length draws ≡ 82 → Turned w.book (in_hand before octets now draws) book left answer → IsBook book
-    → Goes w lane octets now draws left book
+-- so its lane moves, and asks that
+moved : (w : World) (lane : ℕ) (hand : InHand) (book : BookOf) (left : Option InHand) (answer : Option Happened) (t : Turned w.book hand book left answer)
+    → (deed : Deed) × (moves : LaneMoves w lane hand deed (with_lane w lane left book deed)) × (asked_in w lane hand deed (with_lane w lane left book deed) moves ≡ turn_asked w.book hand book left answer t)
+moved w lane hand book left answer (inl t) = ((lane-moved w lane hand book left answer (inl t)).0, (lane-moved w lane hand book left answer (inl t)).2, refl)
+moved w lane hand book left answer (inr t) = ((lane-moved w lane hand book left answer (inr t)).0, (lane-moved w lane hand book left answer (inr t)).2, refl)
+
+-- a lane's event
+pub record Goes (w : World) (lane : ℕ) (octets : List ℕ) (now : ℕ) (draws : List ℕ) (before left : Option InHand) (book : BookOf) (asked : List Asked) : Type 0 where
+  pub deed : Deed
+  pub happens : Happens w (Lane lane octets now draws) deed (with_lane w lane left book deed)
+  pub moves : LaneMoves w lane (in_hand before octets now draws) deed (with_lane w lane left book deed)
+  pub asks : asked_in w lane (in_hand before octets now draws) deed (with_lane w lane left book deed) moves ≡ asked
+
+pub goes : (w : World) (lane : ℕ) (octets : List ℕ) (now : ℕ) (draws : List ℕ) (before left : Option InHand) (book : BookOf) (answer : Option Happened)
+    → slice_get w.lanes lane ≡ Some before → length draws ≡ 82 → (t : Turned w.book (in_hand before octets now draws) book left answer) → IsBook book
+    → Goes w lane octets now draws before left book (turn_asked w.book (in_hand before octets now draws) book left answer t)
 goes w lane octets now draws before left book answer there drawn turned legal =
-    by (lane-moved w lane (in_hand before octets now draws) book left answer turned)
-  where
-    by : (deed : Deed) × (deed.answer ≡ answer) × LaneMoves w lane (in_hand before octets now draws) deed (with_lane w lane left book deed) → Goes w lane octets now draws left book
-    by m = record {
+    let m = moved w lane (in_hand before octets now draws) book left answer turned in record {
       deed = m.0;
       happens = record {
         proper = drawn;
-        did = subst (λ (hand : Option (Option InHand)). LanesBy w lane octets now draws hand m.0 (with_lane w lane left book m.0)) (sym there) m.2;
+        did = subst (λ (hand : Option (Option InHand)). LanesBy w lane octets now draws hand m.0 (with_lane w lane left book m.0)) (sym there) m.1;
         book = legal;
       };
+      moves = m.1;
+      asks = m.2;
     }
 
 one-serves : (w : World) (lane : ℕ) (octets : List ℕ) (kept : KeptAnswers) (book : BookOf) → slice_get w.lanes lane ≡ Some None → length kept.draws ≡ 82
@@ -261,11 +340,10 @@ two-serves w lane octets kept book free drawn t =
       lanes = set-twice w.lanes lane (Some hand) None ∙ set-back w.lanes lane None free;
     }
 
--- the record is served: its questions are those of the world's width
+-- the record is served
 pub serves : (w : World) (lane width : ℕ) (hand : InHand) (book : BookOf) → IsBook w.book → slice_get w.lanes lane ≡ Some None → Answered LegalAnswers width hand w.book book → Serves lane hand w book
 serves w lane width hand book legal free a =
-    elim (record-come hand.octets hand.kept w.book book legal (same-over hand.octets hand.kept width told_width a.over)
-    (subst (λ (xs : List Asked). Asking LegalAnswers w.book xs book) (same-asked hand.octets hand.kept width told_width) a.asked)) [
+    elim (comes hand.octets hand.kept.now hand.kept.draws w.book book (ruling_at width hand).asked legal (record-script width hand a.over) a.asked) [
       | inl one ↦ one-serves w lane hand.octets hand.kept book free a.drawn one
       | inr two ↦ two-serves w lane hand.octets hand.kept book free a.drawn two
     ]

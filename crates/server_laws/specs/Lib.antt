@@ -1,2 +1,4 @@
+pub mod Beside
+pub mod Receipts
 pub mod Served
 pub mod ServerRun

@@ -1,25 +1,35 @@
 -- The log that a run of the server returns is that of a run of the world.
-use Rattle.std.specs.Prelude.{◌≡◌, ℕ, List, [], ◌∷◌, reverse, slice_get, Some, None}
+use Rattle.std.specs.Prelude.{◌≡◌, ◌≤◌, ℕ, List, [], ◌∷◌, ◌++◌, length, reverse, slice_get}
+use Rattle.std.specs.Prelude.{Some, None}
 use Rattle.sec_base.specs.declared.port.Port as ports
 use Rattle.sec_base.specs.declared.link.Link as links
 use Rattle.sec_base.specs.declared.clock.Clock as clocks
 use Rattle.sec_base.specs.declared.draw.Draw as draws
 use Rattle.gss_base.specs.declared.mech.MechKind.TheVariants.{Kerberos, Scram}
+use Rattle.rpc_msgs.specs.Records.{Fragments}
 use Rattle.accept_book.specs.Booking.{BookOf}
 use Rattle.accept_book.specs.Legal.{Legal}
 use Rattle.accept_book.specs.Logs.{LogOf}
+use Rattle.accept_book.specs.RecordShown.{Asked}
 use Rattle.accept_book.specs.declared.entry.Entry.{Entry}
 use Rattle.gss_server.specs.Asking.{BookAnswers}
+use Rattle.gss_server.specs.Connections.{in_order}
+use Rattle.gss_server.specs.Hearing.{kept_answers}
 use Rattle.gss_server.specs.declared.answer.Kept.{Kept}
 use Rattle.gss_server.specs.declared.connection.Served.{Served}
 use Rattle.gss_server.specs.declared.keeper.Keeper as keepers
-use Rattle.server_command.specs.Through.{IsOpened, OneBook}
+use Rattle.book_seats.specs.Notes.{Note, asked_by}
+use Rattle.server_command.specs.Desks.{ServedOf, LinksServed, DeskServed}
+use Rattle.server_command.specs.SideBySide.{Noted, OneHistory}
+use Rattle.server_command.specs.Through.{IsOpened}
 use Rattle.server_command.specs.declared.desk.Desk.{Desk}
+use Rattle.server_command.specs.declared.desk.DeskEnd.{DeskEnd}
 use Rattle.server_command.specs.declared.ending.RunEnd.{RunEnd}
 use Rattle.server_command.specs.declared.keys.Keys.{Keys}
 use Rattle.server_command.specs.declared.options.Options.{Options}
 use Rattle.world_laws.specs.Events.{IsBook}
 use Rattle.world_laws.specs.State.{InHand, World}
+use Rattle.server_laws.specs.Beside.{AreFree, RunsBeside}
 use Rattle.server_laws.specs.Served.{AllAnswered, Meanwhile, IsRun}
 
 -- the book that a run opens: by its options and keys, without entries, contexts and marks
@@ -64,24 +74,74 @@ BookRunLaw = (options : Options) (keys : Keys) (start : ℕ) (first last : BookO
     → w.book ≡ opened_book options keys start → slice_get w.lanes lane ≡ Some None
     → BookRun lane meanwhile hands w last.core.history
 
--- a run of the world in which one lane serves records, to a world whose book has this log
-pub record LogIsRun (lane : ℕ) (meanwhile : (w : World) → Meanwhile w) (old : World)
+-- ---- the run of a server, whose desks are served side by side
+
+-- a record of a link, with the answers that were kept for it
+abbrev pub hand_of : List ℕ → Kept → InHand
+hand_of octets one = record { octets = octets; kept = kept_answers one }
+
+-- records of a link, in order
+abbrev pub hands_of : List Fragments → List Kept → List InHand
+hands_of records kept = in_order (λ octets one. hand_of octets one ∷ []) records kept
+
+-- the records of all links that were served, in order
+abbrev pub hands_in : {S L : Type 0} (Answers : S → Asked → S → Type 0) (width : ℕ)
+    (link : links.Ghosts L) (before : S) (olds : List L) (served : List (ServedOf L)) (after : S)
+    → LinksServed Answers width link before olds served after → List InHand
+hands_in Answers width link before [] [] after each = []
+hands_in Answers width link before [] (one ∷ more) after each = []
+hands_in Answers width link before (old ∷ olds) [] after each = []
+hands_in Answers width link before (old ∷ olds) (one ∷ more) after each =
+    hands_of each.1.served.records one.answers
+    ++ hands_in Answers width link each.0 olds more after each.2
+
+-- a desk served links, and these are the records of all of them, in order
+pub record DeskHad {S P C D K M L Q R : Type 0} (Answers : S → Asked → S → Type 0) (width most : ℕ)
+    (port : ports.Ghosts P L) (link : links.Ghosts L) (clock : clocks.Ghosts C)
+    (draw : draws.Ghosts D) (keeper : keepers.Ghosts K Kept Q)
+    (kept : keepers.Ghosts M (Served L) R) (before : S) (old : Desk P C D K M) (end : DeskEnd)
+    (new : Desk P C D K M) (after : S) (hands : List InHand) : Type 0 where
+  pub served : DeskServed Answers width most port link clock draw keeper kept before old end new
+      after
+  pub are : hands ≡ hands_in Answers width link before served.went.links served.went.served after
+      served.went.each
+
+-- each desk's records are those of the links that it served, and there are no others
+pub record AreTheirs {P C D K M L Q R : Type 0} (width most : ℕ) (port : ports.Ghosts P L)
+    (link : links.Ghosts L) (clock : clocks.Ghosts C) (draw : draws.Ghosts D)
+    (keeper : keepers.Ghosts K Kept Q) (kept : keepers.Ghosts M (Served L) R)
+    (olds : List (Desk P C D K M)) (ends : List DeskEnd) (news : List (Desk P C D K M))
+    (notes : List Note) (hands : ℕ → List InHand) : Type 0 where
+  pub each : (i : ℕ) (old new : Desk P C D K M) (ending : DeskEnd) → slice_get olds i ≡ Some old
+      → slice_get ends i ≡ Some ending → slice_get news i ≡ Some new
+      → DeskHad Noted width most port link clock draw keeper kept (i, []) old ending new
+      (i, asked_by i notes) (hands i)
+  pub others : (i : ℕ) → length olds ≤ i → hands i ≡ []
+
+-- a run of the world in which the desks' lanes serve such records side by side, by this history, to
+-- a world whose book has this log
+pub record LogIsRun (Are : (ℕ → List InHand) → Type 0) (lane : ℕ → ℕ)
+    (meanwhile : (w : World) → Meanwhile w) (notes : List Note) (old : World)
     (history : List Entry) : Type 0 where
-  pub hands : List InHand
+  pub hands : ℕ → List InHand
+  pub theirs : Are hands
   pub book : BookOf
   pub logged : book.core.history ≡ history
-  pub runs : IsRun lane meanwhile hands old book
+  pub runs : RunsBeside lane meanwhile notes hands old book
 
--- one book gave all answers to the desks of a server, as the run of the server says: then from
--- every world of the opened book with a free lane, whatever happens elsewhere meanwhile, a run of
--- the world leads to a book with the log that the server returns
+-- desks were served side by side by one book, as the run of the server says: then from every world
+-- of the opened book with a free lane for each desk, whatever happens elsewhere meanwhile, there is
+-- a run of the world in which the lane of each desk serves the records of its links. It asks the
+-- questions of the history, in its order, and leads to a book with the log that the server returns
 abbrev pub ServerIsRun : {P C D K M L Q R : Type 0} → ports.Ghosts P L → links.Ghosts L
     → clocks.Ghosts C → draws.Ghosts D → keepers.Ghosts K Kept Q → keepers.Ghosts M (Served L) R
     → Type 0
 ServerIsRun {P} {C} {D} {K} {M} port link clock draw keeper kept =
     (options : Options) (keys : Keys) (start : ℕ) (olds : List (Desk P C D K M)) (end : RunEnd)
     (news : List (Desk P C D K M)) (log : LogOf)
-    → OneBook options keys start port link clock draw keeper kept olds end news log
-    → Legal log.width (reverse log.entries) → (w : World) (lane : ℕ)
+    (one : OneHistory options keys start port link clock draw keeper kept olds end news log)
+    → Legal log.width (reverse log.entries) → (w : World) (lane : ℕ → ℕ)
     (meanwhile : (w : World) → Meanwhile w) → w.book ≡ opened_book options keys start
-    → slice_get w.lanes lane ≡ Some None → LogIsRun lane meanwhile w (reverse log.entries)
+    → AreFree w lane (length olds) → LogIsRun
+    (AreTheirs options.window options.connections port link clock draw keeper kept olds one.ends
+    news one.all) lane meanwhile one.all w (reverse log.entries)
