@@ -3,7 +3,8 @@
 ghost use Rattle.std.specs.Prelude.{◌≡◌};
 
 use accept_book::{AdmitRefusal, Admitted, Lease, LookRefusal, Negotiated, Receipt};
-use gss_server::{Gate, ListGate};
+use gate_models::ListGate;
+use gss_server::Gate;
 use sec_base::Moment;
 use std::alloc::Global;
 use table_rows::Said;

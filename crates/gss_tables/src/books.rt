@@ -3,17 +3,13 @@
 use crate::connections::book_of;
 use crate::entries;
 use accept_book::{
-    AdmitRefusal, Admitted, Book, BookRefusal, Lease, NegAnswer, Negotiated, Receipt, Receipts,
+    AdmitRefusal, Admitted, Book, BookRefusal, Entry, Lease, NegAnswer, Negotiated, Receipt,
+    Receipts,
 };
+use gss_server::Gate;
+use std::alloc::Global;
 use table_rows::{Cells, Said};
 use table_setting::{Files, Setting, draws, saying};
-
-/// A book, and the lease that it gave last.
-#[derive(Drop)]
-struct Held {
-    book: Book,
-    lease: Option<Lease>,
-}
 
 /// Says a name and a number.
 fn numbered(said: &mut Said, name: &str, number: u64) {
@@ -115,72 +111,94 @@ pub fn say_ended(said: &mut Said, answer: &Result<Receipt, AdmitRefusal>) {
     }
 }
 
-impl Held {
-    /// Says what comes of `token:moment` for a context, of a first token where there is no id.
-    fn take(&mut self, files: &Files, id: Option<u64>, parts: &mut Cells<'_>, said: &mut Said) {
-        let token = files.octets(parts);
-        let now = parts.moment();
-        let (alloc, token) = (parts.alloc(), token.as_slice());
-        let answer = self.book.negotiate(alloc, id, token, now, &draws());
-        say_negotiated(said, &answer);
-    }
+/// Says what comes of `token:moment` for a context, of a first token where there is no id.
+fn take<G: Gate>(
+    gate: &mut G,
+    files: &Files,
+    id: Option<u64>,
+    parts: &mut Cells<'_>,
+    said: &mut Said,
+) {
+    let token = files.octets(parts);
+    let now = parts.moment();
+    let (alloc, token) = (parts.alloc(), token.as_slice());
+    let answer = gate.negotiate(alloc, id, token, now, &draws());
+    say_negotiated(said, &answer);
+}
 
-    /// Says what is answered to a look, `id:moment`.
-    fn look(&mut self, parts: &mut Cells<'_>, said: &mut Said) {
-        let (id, now) = (parts.number(), parts.moment());
-        match self.book.look(id, now) {
-            Ok(found) => {
-                self.lease = Some(found);
-                say_lease(said, &found);
-            }
-            Err(refusal) => said.form(&refusal),
+/// Says what is answered to a look, `id:moment`; a lease that it shows is kept.
+fn look<G: Gate>(gate: &mut G, lease: &mut Option<Lease>, parts: &mut Cells<'_>, said: &mut Said) {
+    let (id, now) = (parts.number(), parts.moment());
+    match gate.look(id, now) {
+        Ok(found) => {
+            *lease = Some(found);
+            say_lease(said, &found);
         }
+        Err(refusal) => said.form(&refusal),
     }
+}
 
-    /// Says what is answered to a call of the lease's context, `number:procedure:arguments`.
-    fn call(&mut self, parts: &mut Cells<'_>, said: &mut Said) {
-        let (number, procedure) = (parts.word_number(), parts.word_number());
-        let args = parts.exactly();
-        match self.lease {
-            Some(lease) => say_admitted(said, &self.book.admit(&lease, number, procedure, args)),
-            None => parts.expect(false),
+/// Says what is answered to a call of the lease's context, `number:procedure:arguments`.
+fn call<G: Gate>(gate: &mut G, lease: &Option<Lease>, parts: &mut Cells<'_>, said: &mut Said) {
+    let (number, procedure) = (parts.word_number(), parts.word_number());
+    let args = parts.exactly();
+    match lease {
+        Some(lease) => say_admitted(said, &gate.admit(lease, number, procedure, args)),
+        None => parts.expect(false),
+    }
+}
+
+/// Says what is answered to an end of the lease's context.
+fn end<G: Gate>(gate: &mut G, lease: &Option<Lease>, parts: &mut Cells<'_>, said: &mut Said) {
+    let number = parts.word_number();
+    match lease {
+        Some(lease) => say_ended(said, &gate.end(lease, number)),
+        None => parts.expect(false),
+    }
+}
+
+/// Says `step=answer` of a step that a gate is asked; a lease that it shows is kept for the next.
+pub fn say_step<G: Gate>(
+    gate: &mut G,
+    lease: &mut Option<Lease>,
+    files: &Files,
+    cells: &mut Cells<'_>,
+    step: &str,
+    said: &mut Said,
+) {
+    said.word(step);
+    said.join("=");
+    let mut parts = Cells::new(cells.alloc(), step, ':');
+    match parts.word() {
+        "first" => take(gate, files, None, &mut parts, said),
+        "later" => {
+            let id = parts.number();
+            take(gate, files, Some(id), &mut parts, said);
         }
+        "look" => look(gate, lease, &mut parts, said),
+        "call" => call(gate, lease, &mut parts, said),
+        "end" => end(gate, lease, &mut parts, said),
+        _ => parts.expect(false),
     }
+    cells.expect(parts.are_well() && parts.rest().is_none());
+}
 
-    /// Says what is answered to an end of the lease's context.
-    fn end(&mut self, parts: &mut Cells<'_>, said: &mut Said) {
-        let number = parts.word_number();
-        match self.lease {
-            Some(lease) => say_ended(said, &self.book.end(&lease, number)),
-            None => parts.expect(false),
-        }
-    }
+/// Says `log=` and the digest of a log.
+pub fn say_log(alloc: Global, log: &[Entry], said: &mut Said) {
+    said.word("log");
+    said.join("=");
+    entries::logged(alloc, said, log, ":");
+}
 
-    /// Says what is answered to a step.
-    fn step(&mut self, files: &Files, parts: &mut Cells<'_>, said: &mut Said) {
-        match parts.word() {
-            "first" => self.take(files, None, parts, said),
-            "later" => {
-                let id = parts.number();
-                self.take(files, Some(id), parts, said);
-            }
-            "look" => self.look(parts, said),
-            "call" => self.call(parts, said),
-            "end" => self.end(parts, said),
-            "log" => entries::logged(parts.alloc(), said, self.book.log().entries(), ":"),
-            _ => parts.expect(false),
-        }
-    }
-
-    /// Says `step=answer` for each step of a line.
-    fn step_all(&mut self, files: &Files, cells: &mut Cells<'_>, said: &mut Said) {
-        for part in cells.rest().unwrap_or("").split(' ') {
-            let (step, _answer) = part.split_once('=').unwrap_or((part, ""));
-            said.word(step);
-            said.join("=");
-            let mut parts = Cells::new(cells.alloc(), step, ':');
-            self.step(files, &mut parts, said);
-            cells.expect(parts.are_well() && parts.rest().is_none());
+/// Says `step=answer` for each step of a line.
+fn step_all(book: &mut Book, files: &Files, cells: &mut Cells<'_>, said: &mut Said) {
+    let mut lease = None;
+    for part in cells.rest().unwrap_or("").split(' ') {
+        let (step, _answer) = part.split_once('=').unwrap_or((part, ""));
+        if step == "log" {
+            say_log(cells.alloc(), book.log().entries(), said);
+        } else {
+            say_step(book, &mut lease, files, cells, step, said);
         }
     }
 }
@@ -189,10 +207,7 @@ impl Held {
 pub fn answer(setting: &Setting, files: &Files, cells: &mut Cells<'_>, said: &mut Said) {
     let (letters, limits, start) = (cells.word(), cells.word(), cells.moment());
     match book_of(cells.alloc(), setting, letters, limits, start) {
-        Some(book) => {
-            let mut held = Held { book, lease: None };
-            held.step_all(files, cells, said);
-        }
+        Some(mut book) => step_all(&mut book, files, cells, said),
         None => cells.expect(false),
     }
 }

@@ -1,7 +1,9 @@
 //! A connection over a link that gives its octets in pieces, and whose calls may fail; the gate has no answer.
 
-use gss_server::{KeepAll, Kept, ListGate, Served, serve_link};
+use gate_models::ListGate;
+use gss_server::{KeepAll, Kept, Served, serve_link};
 use sec_base::{MemDraw, MemLink, Moment};
+use sha1::Sha1;
 use std::alloc::Global;
 use table_rows::{Cells, Said};
 use table_setting::{Files, clock, numbers};
@@ -15,12 +17,29 @@ fn pieces(cells: &mut Cells<'_>, size: usize, count: usize) -> Vec<usize> {
     pieces
 }
 
-/// Says what is written on a connection, its end, how many answers were kept, and how many of the link's calls failed.
+/// The most octets that are said as they are.
+const MOST: usize = 1024;
+
+/// Says octets, or how many they are and their SHA-1 where they are more than the most.
+fn say_written(said: &mut Said, octets: &[u8]) {
+    if octets.len() <= MOST {
+        return said.octets(octets);
+    }
+    let mut hasher = Sha1::new();
+    hasher.update(octets);
+    said.number(octets.len() as u64);
+    said.join(":");
+    said.octets(&hasher.finalize());
+}
+
+/// Says what is written on a connection, its end, how many answers were kept, how many of the link's calls failed, and how many octets
+/// were read.
 fn say(said: &mut Said, served: &Served<MemLink>, kept: &[Kept]) {
-    said.octets(served.link.written());
+    say_written(said, served.link.written());
     said.form(&served.end);
     said.number(kept.len() as u64);
     said.number(served.link.faults());
+    said.number(served.link.taken().len() as u64);
 }
 
 /// Says what a connection over a link with this stream comes to.

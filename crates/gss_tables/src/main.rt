@@ -9,40 +9,58 @@ mod cores;
 mod entries;
 mod links;
 mod loops;
+mod meetings;
 mod records;
 mod rules;
+mod seats;
 mod servers;
 mod table;
 
+use std::sync::Wait;
+use std::thread::Threads;
 use std::{fs, io};
 use table::{Table, compared};
 use table_setting::{Files, Setting};
 
-const TABLES: [Table; 9] = [
+const TABLES: [Table; 12] = [
     Table::Records,
     Table::Rules,
     Table::Connections,
     Table::Histories,
     Table::Books,
+    Table::Seats,
     Table::Links,
     Table::Servers,
+    Table::Failing,
+    Table::Meetings,
     Table::Loops,
     Table::Pairs,
 ];
 
-/// Says of a table how many lines agree, or which doesn't.
-fn compare(rt: &HostRuntime, setting: &Setting, files: &Files, table: Table) -> io::Result<()> {
+/// Says of a table how many lines agree, or which doesn't. The host is the runtime once more, which makes threads and waits for them.
+fn compare<R: Threads + Wait + Sync>(
+    rt: &HostRuntime,
+    host: &R,
+    setting: &Setting,
+    files: &Files,
+    table: Table,
+) -> io::Result<()> {
     let text = fs::read_to_string(rt, table.file())?;
-    match compared(rt.alloc(), setting, files, table, text.as_str()) {
+    match compared(host, rt.alloc(), setting, files, table, text.as_str()) {
         Some(line) => println!(rt; "{line}"),
         None => println!(rt; "{}: no memory", table.file()),
     }
 }
 
 /// Says the same of each table.
-fn compare_all(rt: &HostRuntime, setting: &Setting, files: &Files) -> io::Result<()> {
+fn compare_all<R: Threads + Wait + Sync>(
+    rt: &HostRuntime,
+    host: &R,
+    setting: &Setting,
+    files: &Files,
+) -> io::Result<()> {
     for table in TABLES {
-        compare(rt, setting, files, table)?;
+        compare(rt, host, setting, files, table)?;
     }
     Ok(())
 }
@@ -63,7 +81,7 @@ fn read_setting(rt: &HostRuntime) -> io::Result<Option<Setting>> {
 fn main(rt: HostRuntime) -> io::Result<()> {
     let files = read_files(&rt)?;
     match read_setting(&rt)? {
-        Some(setting) => compare_all(&rt, &setting, &files),
+        Some(setting) => compare_all(&rt, &rt, &setting, &files),
         None => println!(rt; "setting.txt: not in its form"),
     }
 }

@@ -2,8 +2,9 @@
 
 use crate::asking::Asking;
 use accept_book::{AdmitRefusal, Admitted, EndCause, Entry, Lease, LookRefusal, Receipt};
+use gate_models::{GateAnswer, ListGate};
 use gss_base::{Label, MechKind};
-use gss_server::{GateAnswer, ListGate, Reply, answer_record};
+use gss_server::{Reply, answer_record};
 use krb_derive::Key;
 use sec_base::Moment;
 use spnego_core::Outcome;

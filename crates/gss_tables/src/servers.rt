@@ -1,51 +1,66 @@
-//! A run of the server over two desks in memory.
+//! A run of the server over two desks in memory, side by side.
 
 ghost use Rattle.std.specs.Prelude.{◌≡◌, true, IfSome};
 ghost use Rattle.sec_base.specs.MemPort.{none_closed};
 ghost use Rattle.std.specs.List.{AllByRecursion};
 ghost use Rattle.server_command.specs.Desks.{IsFresh};
 
-use gss_server::{KeepNothing, KeepReceipts};
+use gss_server::{KeepAll, KeepReceipts, Served};
 use sec_base::{Link, MemClock, MemDraw, MemLink, MemPort, MemShelf, Moment, Text};
 use server_command::{Desk, run_server};
 use std::alloc::Global;
+use std::sync::Wait;
+use std::thread::Threads;
 use table_rows::{Cells, Said};
 use table_setting::{Devices, Files, numbers, words};
 
-/// A desk in memory.
-type MemDesk = Desk<MemPort<MemLink>, MemClock, MemDraw, KeepReceipts, KeepNothing>;
+/// A desk in memory, which keeps the links that it served.
+pub type MemDesk = Desk<
+    MemPort<MemLink>,
+    MemClock,
+    MemDraw,
+    KeepReceipts,
+    KeepAll<Served<MemLink>>,
+>;
 
-/// One link with this stream; none where there is no memory for it.
-fn links(alloc: Global, input: Vec<u8>) -> Vec<MemLink>
+/// One link with this stream, whose calls of these numbers fail; none where there is no memory for it.
+fn links(alloc: Global, input: Vec<u8>, failing: Vec<u64>) -> Vec<MemLink>
     ensures { none_closed (⟦<MemLink as Link>⟧.closed) result.items ≡ true }
 {
     let mut links = Vec::new(alloc);
-    let link = MemLink::new(alloc, input, Vec::new(alloc), Vec::new(alloc));
+    let link = MemLink::new(alloc, input, Vec::new(alloc), failing);
     match links.push(link) {
         Ok(()) => links,
         Err(_) => Vec::new(alloc),
     }
 }
 
-/// A desk over a port with one stream, whose calls of these numbers fail.
-fn desk(alloc: Global, input: Vec<u8>, failing: Vec<u64>) -> MemDesk
+/// A desk over a port with one stream; the calls of these numbers fail of its link and of its port.
+pub fn desk(alloc: Global, input: Vec<u8>, link: Vec<u64>, port: Vec<u64>) -> MemDesk
     ensures { IsFresh result }
 {
     Desk::new(
-        MemPort::new(links(alloc, input), failing),
+        MemPort::new(links(alloc, input, link), port),
         MemClock::new(Vec::new(alloc)),
         MemDraw::new(Vec::new(alloc)),
         KeepReceipts::new(alloc),
-        KeepNothing,
+        KeepAll::new(alloc),
     )
 }
 
-/// Two desks with a stream each, of whose second port the calls of these numbers fail; None where there is no memory for them.
-fn desks(alloc: Global, first: Vec<u8>, second: Vec<u8>, port: Vec<u64>) -> Option<Vec<MemDesk>>
+/// Two desks with a stream each; the calls of these numbers fail of the first one's link and of the second one's port. None where there is
+/// no memory for them.
+fn desks(
+    alloc: Global,
+    first: Vec<u8>,
+    second: Vec<u8>,
+    link: Vec<u64>,
+    port: Vec<u64>,
+) -> Option<Vec<MemDesk>>
     ensures { IfSome result (λ desks. AllByRecursion IsFresh desks.items) }
 {
-    let first = desk(alloc, first, Vec::new(alloc));
-    let second = desk(alloc, second, port);
+    let first = desk(alloc, first, link, Vec::new(alloc));
+    let second = desk(alloc, second, Vec::new(alloc), port);
     match Vec::from_array(alloc, [first, second]) {
         Ok(desks) => Some(desks),
         Err(_) => None,
@@ -53,7 +68,8 @@ fn desks(alloc: Global, first: Vec<u8>, second: Vec<u8>, port: Vec<u64>) -> Opti
 }
 
 /// Says the status of a run with these words over desks, and what it wrote on both streams.
-fn run(
+fn run<R: Threads + Wait + Sync>(
+    rt: &R,
     alloc: Global,
     words: &[Text],
     shelf: &mut MemShelf,
@@ -64,13 +80,13 @@ fn run(
     requires { AllByRecursion IsFresh desks.old.items }
 {
     let Devices { out, err, .. } = devices;
-    let end = run_server(alloc, words, shelf, desks, Moment::start(), out, err);
+    let end = run_server(rt, alloc, words, shelf, desks, Moment::start(), out, err);
     said.number(end.status as u64);
     devices.say(said);
 }
 
 /// The octets of a cell, which may name them.
-fn octets_of(files: &Files, cells: &mut Cells<'_>, cell: &str) -> Vec<u8> {
+pub fn octets_of(files: &Files, cells: &mut Cells<'_>, cell: &str) -> Vec<u8> {
     let mut parts = Cells::new(cells.alloc(), cell, ' ');
     let octets = files.octets(&mut parts);
     cells.expect(parts.are_well());
@@ -78,7 +94,12 @@ fn octets_of(files: &Files, cells: &mut Cells<'_>, cell: &str) -> Vec<u8> {
 }
 
 /// By the cells of its words, the stream, and the numbers of the calls of the second port and of standard error that fail, what a run says.
-pub fn answer(files: &Files, cells: &mut Cells<'_>, said: &mut Said) {
+pub fn answer<R: Threads + Wait + Sync>(
+    rt: &R,
+    files: &Files,
+    cells: &mut Cells<'_>,
+    said: &mut Said,
+) {
     let alloc = cells.alloc();
     let words = words(cells);
     let stream = cells.word();
@@ -89,8 +110,9 @@ pub fn answer(files: &Files, cells: &mut Cells<'_>, said: &mut Said) {
     let (port, sink) = (numbers(cells), numbers(cells));
     let mut shelf = files.shelf(cells, Vec::new(alloc));
     let mut devices = Devices::new(alloc, Moment::start(), Vec::new(alloc), sink);
-    match desks(alloc, first, second, port) {
+    match desks(alloc, first, second, Vec::new(alloc), port) {
         Some(mut desks) => run(
+            rt,
             alloc,
             words.as_slice(),
             &mut shelf,
@@ -98,6 +120,47 @@ pub fn answer(files: &Files, cells: &mut Cells<'_>, said: &mut Said) {
             &mut devices,
             said,
         ),
+        None => said.starve(),
+    }
+}
+
+/// Says what was written on each link that the desks served.
+fn say_written(desks: &[MemDesk], said: &mut Said) {
+    for desk in desks {
+        for served in desk.links.all.iter() {
+            said.octets(served.link.written());
+        }
+    }
+}
+
+/// By the cells of its words, the stream of each desk, and the numbers of the calls of the first link, the second port, the shelf and standard
+/// error that fail, what a run says, and then what is written on each link.
+pub fn answer_failing<R: Threads + Wait + Sync>(
+    rt: &R,
+    files: &Files,
+    cells: &mut Cells<'_>,
+    said: &mut Said,
+) {
+    let alloc = cells.alloc();
+    let words = words(cells);
+    let (first, second) = (files.octets(cells), files.octets(cells));
+    let (link, port) = (numbers(cells), numbers(cells));
+    let (shelf, sink) = (numbers(cells), numbers(cells));
+    let mut shelf = files.shelf(cells, shelf);
+    let mut devices = Devices::new(alloc, Moment::start(), Vec::new(alloc), sink);
+    match desks(alloc, first, second, link, port) {
+        Some(mut desks) => {
+            run(
+                rt,
+                alloc,
+                words.as_slice(),
+                &mut shelf,
+                &mut desks,
+                &mut devices,
+                said,
+            );
+            say_written(desks.as_slice(), said);
+        }
         None => said.starve(),
     }
 }

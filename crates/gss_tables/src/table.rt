@@ -1,7 +1,9 @@
 //! The tables, and the comparison of one with what the calls answer.
 
-use crate::{books, connections, cores, links, loops, records, rules, servers};
+use crate::{books, connections, cores, links, loops, meetings, records, rules, seats, servers};
 use std::alloc::Global;
+use std::sync::Wait;
+use std::thread::Threads;
 use table_rows::{Cells, Rows, Said};
 use table_setting::{Files, Setting};
 
@@ -13,8 +15,11 @@ pub enum Table {
     Connections,
     Histories,
     Books,
+    Seats,
     Links,
     Servers,
+    Failing,
+    Meetings,
     Loops,
     Pairs,
 }
@@ -27,12 +32,19 @@ impl Table {
             Table::Rules => "rules.txt",
             Table::Connections => "connections.txt",
             Table::Histories => "histories.txt",
-            Table::Books => "books.txt",
+            Table::Books | Table::Seats => "books.txt",
             Table::Links => "links.txt",
             Table::Servers => "servers.txt",
+            Table::Failing => "failing.txt",
+            Table::Meetings => "meetings.txt",
             Table::Loops => "loops.txt",
             Table::Pairs => "pairs.txt",
         }
+    }
+
+    /// Whether its rows run desks, which take threads.
+    fn takes_threads(self) -> bool {
+        matches!(self, Table::Servers | Table::Failing | Table::Meetings)
     }
 
     /// Whether a line begins with its name.
@@ -44,15 +56,16 @@ impl Table {
     }
 }
 
-/// A table over its setting and what its rows name.
+/// A table over its setting and what its rows name, whose rows take one thread.
 #[derive(Drop)]
-struct Set<'a> {
+struct Set<'a, R> {
+    rt: &'a R,
     table: Table,
     setting: &'a Setting,
     files: &'a Files,
 }
 
-impl Rows for Set<'_> {
+impl<R: Wait> Rows for Set<'_, R> {
     fn are_named(&self) -> bool {
         self.table.is_named()
     }
@@ -65,23 +78,91 @@ impl Rows for Set<'_> {
             Table::Connections => connections::answer(setting, cells, said),
             Table::Histories => cores::answer(cells, said),
             Table::Books => books::answer(setting, files, cells, said),
+            Table::Seats => seats::answer(self.rt, setting, files, cells, said),
             Table::Links => links::answer(files, cells, said),
-            Table::Servers => servers::answer(files, cells, said),
+            Table::Servers | Table::Failing | Table::Meetings => cells.expect(false),
             Table::Loops => loops::run_over(setting, files, cells, said),
             Table::Pairs => loops::run_pair(setting, cells, said),
         }
     }
 }
 
+/// Says what a run whose desks take threads answers to a row.
+fn answer_on_threads<R: Threads + Wait + Sync>(
+    rt: &R,
+    files: &Files,
+    table: Table,
+    cells: &mut Cells<'_>,
+    said: &mut Said,
+) {
+    match table {
+        Table::Servers => servers::answer(rt, files, cells, said),
+        Table::Failing => servers::answer_failing(rt, files, cells, said),
+        Table::Meetings => meetings::answer(rt, files, cells, said),
+        _ => cells.expect(false),
+    }
+}
+
+/// What a row is answered instead, or that it can't be told; None where it is as it should be.
+fn told_instead<R: Threads + Wait + Sync>(
+    rt: &R,
+    alloc: Global,
+    files: &Files,
+    table: Table,
+    row: &str,
+) -> Option<String> {
+    let mut cells = Cells::new(alloc, row, ' ');
+    let mut said = Said::new(alloc);
+    answer_on_threads(rt, files, table, &mut cells, &mut said);
+    let told = match (cells.are_well(), cells.rest(), said.told()) {
+        (true, Some(wanted), Some(told)) => {
+            if told == wanted {
+                return None;
+            }
+            String::from_str(alloc, told)
+        }
+        _ => String::from_str(alloc, "nothing, as it can't be told"),
+    };
+    Some(told.unwrap_or(String::new(alloc)))
+}
+
+/// The same as `compared` of a table whose rows take threads. It stands apart since a method of a trait for every runtime knows nothing of
+/// what its runtime may be lent to.
+fn compared_on_threads<R: Threads + Wait + Sync>(
+    rt: &R,
+    alloc: Global,
+    files: &Files,
+    table: Table,
+    text: &str,
+) -> Option<String> {
+    let mut count = 0u32;
+    for line in text.lines() {
+        if line.starts_with('#') {
+            continue;
+        }
+        let (name, row) = line.split_once(' ').unwrap_or((line, ""));
+        if let Some(told) = told_instead(rt, alloc, files, table, row) {
+            return format!(in alloc; "{}: {name} is answered {told}", table.file()).ok();
+        }
+        count = count.saturating_add(1);
+    }
+    format!(in alloc; "{}: {count} lines", table.file()).ok()
+}
+
 /// How many lines of a table, its comments aside, are as the calls answer them, or the first that isn't.
-pub fn compared(
+pub fn compared<R: Threads + Wait + Sync>(
+    rt: &R,
     alloc: Global,
     setting: &Setting,
     files: &Files,
     table: Table,
     text: &str,
 ) -> Option<String> {
+    if table.takes_threads() {
+        return compared_on_threads(rt, alloc, files, table, text);
+    }
     let rows = Set {
+        rt,
         table,
         setting,
         files,

@@ -1,0 +1,6 @@
+use Rattle.std.proofs.Common.{◌≡◌}
+use Rattle.gss_server.specs.Telling.{limits_of}
+use Rattle.gss_tables.proofs.seats.answer.Given as goal
+
+abbrev pub ghosts-step_seated : goal.ghosts-step_seated
+ghosts-step_seated g a = record { table = a.board.shared.table_id; begins = λ book. book ≡ a.book; desks = 2; limits = limits_of a.book.core }

@@ -1,0 +1,88 @@
+//! What is asked of a book by two desks in turn, each at a seat of its own, in one thread: the answers are those to one desk.
+
+ghost use Rattle.std.specs.Prelude.{◌≡◌, ◌<◌, []};
+ghost use Rattle.gss_server.specs.Telling.{limits_of};
+ghost use Rattle.book_seats.specs.Views.{writer};
+
+use crate::books::{say_log, say_step};
+use crate::connections::book_of;
+use accept_book::{Book, Log};
+use book_seats::{Board, Room, Seat, Shared, Token, open_board, open_hall};
+use gss_server::Gate;
+use std::marker::Brand;
+use std::sync::{Mutex, Wait};
+use table_rows::{Cells, Said};
+use table_setting::{Files, Setting};
+
+/// Says `step=answer` for each step of a line, the log aside. The first gate is asked the first step, the second the next, and so on.
+fn step_in_turn<G: Gate>(
+    first: &mut G,
+    second: &mut G,
+    files: &Files,
+    cells: &mut Cells<'_>,
+    said: &mut Said,
+) {
+    let mut lease = None;
+    let mut is_first = true;
+    for part in cells.rest().unwrap_or("").split(' ') {
+        let (step, _answer) = part.split_once('=').unwrap_or((part, ""));
+        if step != "log" {
+            if is_first {
+                say_step(first, &mut lease, files, cells, step, said);
+            } else {
+                say_step(second, &mut lease, files, cells, step, said);
+            }
+        }
+        is_first = !is_first;
+    }
+}
+
+/// The same at two seats of a book, whose log comes back.
+fn step_seated<J: Room, R: Wait>(
+    rt: &R,
+    board: Board,
+    token: Token,
+    book: Book,
+    files: &Files,
+    cells: &mut Cells<'_>,
+    said: &mut Said,
+) -> Log
+    requires book { J.begins book }
+    requires limits { limits_of book.core ≡ J.limits }
+    requires board { board.shared.table_id ≡ J.table }
+    requires words { 0 < board.shared.table_id.words }
+    requires token { (token.table_id ≡ board.shared.table_id) × (token.me ≡ (writer 0 [], [])) }
+    requires desks { J.desks ≡ 2 }
+{
+    let (hall, mut writer) = open_hall::<J>(board, token);
+    let one = writer.hire(&hall);
+    let other = writer.hire(&hall);
+    let lock = Mutex::new(Shared::new(book, writer));
+    let mut first = Seat::new(rt, &lock, &hall, one);
+    let mut second = Seat::new(rt, &lock, &hall, other);
+    step_in_turn(&mut first, &mut second, files, cells, said);
+    let _one = first.rise();
+    let _other = second.rise();
+    let (book, _writer) = lock.into_inner().into_parts();
+    book.into_log()
+}
+
+/// By the cells of the offer's letters, the limits and the moment of the book's opening, `step=answer` for each step behind them.
+pub fn answer<R: Wait>(
+    rt: &R,
+    setting: &Setting,
+    files: &Files,
+    cells: &mut Cells<'_>,
+    said: &mut Said,
+) {
+    let alloc = cells.alloc();
+    let (letters, limits, start) = (cells.word(), cells.word(), cells.moment());
+    let Some(book) = book_of(alloc, setting, letters, limits, start) else {
+        return cells.expect(false);
+    };
+    let Ok((board, token)) = open_board(alloc) else {
+        return said.starve();
+    };
+    let log = step_seated::<Brand, R>(rt, board, token, book, files, cells, said);
+    say_log(alloc, log.entries(), said);
+}
