@@ -4,8 +4,9 @@
  *
  * SERVER is a principal, as rpc/localhost@REALM.TEST; SERVICE is none, which is without authentication, integrity or privacy. A context is made by
  * libtirpc and by the SPNEGO of MIT Kerberos, then CALLS calls of NULL, or of ECHO with SIZE octets where SIZE isn't 0. They go over a
- * connection of their own, FLIGHT of them in one write, after the replies to those before. A line "CALLS SECONDS" is printed. The status is
- * 0 where as many calls were accepted. */
+ * connection of their own, FLIGHT of them in one write, after the replies to those before. A line "CALLS SECONDS" is printed. With TOGETHER
+ * in the environment a line "ready" is printed before, and the calls begin at a line of standard input. The status is 0 where as many calls
+ * were accepted. */
 #include <gssapi/gssapi.h>
 #include <gssapi/gssapi_krb5.h>
 #include <rpc/rpc.h>
@@ -161,6 +162,16 @@ static double seconds(void)
     return now.tv_sec + now.tv_nsec / 1e9;
 }
 
+/* Waits for the others, where there are some. */
+static void wait_for_others(void)
+{
+    if (getenv("TOGETHER") == NULL)
+        return;
+    puts("ready");
+    fflush(stdout);
+    getchar();
+}
+
 static void send_all(int link, const unsigned char *at, size_t count)
 {
     while (count > 0) {
@@ -238,6 +249,7 @@ int main(int argc, char **argv)
         put_call(&records, &by, service, i + 1, octets, size);
         ends[i + 1] = records.count;
     }
+    wait_for_others();
     int link = connected(port);
     double start = seconds();
     for (int at = 0; at < calls; at += flight) {

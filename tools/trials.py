@@ -149,10 +149,22 @@ def processor_seconds(process):
     return (int(fields[11]) + int(fields[12])) / os.sysconf("SC_CLK_TCK")
 
 
+def outside_files(folder, cache, **more):
+    """The environment of the client in C with a cache."""
+    return dict(os.environ, KRB5_CONFIG=os.path.join(folder, "krb5.conf"), KRB5CCNAME="FILE:" + cache, **more)
+
+
 def outside_status(program, folder, port, cache, posts, words):
     """Runs the client in C with a cache, after so many posts of others: its status."""
-    files = {"KRB5_CONFIG": os.path.join(folder, "krb5.conf"), "KRB5CCNAME": "FILE:" + cache, "POSTS": str(posts)}
-    return subprocess.run([program, str(port), SERVER, *words], env=dict(os.environ, **files)).returncode
+    return subprocess.run([program, str(port), SERVER, *words], env=outside_files(folder, cache, POSTS=str(posts))).returncode
+
+
+def are_answered_at_once(program, folder, port, clients):
+    """Whether so many clients in C were answered right that call at the same time, by integrity and by privacy in turn."""
+    files = outside_files(folder, os.path.join(folder, "alice.ccache"), BESIDE="1")
+    words = [[program, str(port), SERVER, ("integrity", "privacy")[it % 2], "20", "4"] for it in range(clients)]
+    print(f"{clients} clients at once:", flush=True)
+    return all([run.wait() == 0 for run in [subprocess.Popen(it, env=files) for it in words]])
 
 
 def are_answered(program, folder, port, server, runs):
@@ -166,6 +178,7 @@ def are_answered(program, folder, port, server, runs):
         if before is not None and after is not None:
             print(f"  of which the server took {after - before:.2f} seconds of processor time", flush=True)
         posts += calls * contexts
+    right = are_answered_at_once(program, folder, port, 8) and right
     print("with a ticket under another key:", flush=True)
     return outside_status(program, folder, port, make_other_ticket(folder), posts, ["integrity", "1"]) == 1 and right
 
