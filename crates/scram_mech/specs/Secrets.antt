@@ -1,4 +1,4 @@
--- Keys, proofs and signatures, RFC 5802 section 3; the key of the context, section 8.1.
+-- Keys, proofs and signatures, RFC 5802 section 3; the key of the context, section 8.2.
 use Rattle.std.specs.Prelude.{ℕ, List, ◌++◌, codes, drop}
 use Rattle.sha1.specs.Sha1.{sha1}
 use Rattle.mac_sha1.specs.Mac.{hmac}

@@ -1,4 +1,4 @@
-//! Keys, proofs and signatures (RFC 5802 sections 3 and 8.1).
+//! Keys, proofs and signatures (RFC 5802 sections 3 and 8.2).
 
 ghost use Rattle.std.specs.Prelude.{◌≡◌, ◌≤◌, ◌++◌, length, codes, IfOk, OnOk};
 ghost use Rattle.mac_sha1.specs.Mac.{hmac};
