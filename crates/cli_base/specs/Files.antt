@@ -1,7 +1,8 @@
 -- The files that words name.
-use Rattle.std.specs.Prelude.{◌≡◌, ℕ, List, [], ◌∷◌, ◌++◌, length, take, codes, Option, Some, None}
-use Rattle.std.specs.Prelude.{Result, Ok, Err, if◌then◌else◌, nat_le}
+use Rattle.std.specs.Prelude.{◌≡◌, ◌≤◌, ℕ, Bool, IsTrue, List, [], ◌∷◌, ◌++◌, length, take, codes}
+use Rattle.std.specs.Prelude.{Option, Some, None, Result, Ok, Err, if◌then◌else◌, nat_le}
 use Rattle.std.specs.Fmt.{decimal}
+use Rattle.sec_base.specs.Answers.{Gives, Rose}
 use Rattle.sec_base.specs.Shelf.{content_of}
 use Rattle.sec_base.specs.declared.shelf.NamedFile.{NamedFile}
 use Rattle.krb_files.specs.declared.refusal.FileRefusal.{FileRefusal}
@@ -38,6 +39,23 @@ AsksFile old new name (Ok octets) = new ≡ old ++ name ∷ []
 AsksFile old new name (Err (Bad at)) = new ≡ old ++ name ∷ []
 AsksFile old new name (Err CannotLoad) = new ≡ old ++ name ∷ []
 AsksFile old new name (Err NoMemory) = (count : ℕ) × (new ≡ old ++ take count (name ∷ []))
+
+-- what a shelf showed before and after it was asked for a file, and what it answered
+pub record Loaded (tells : Bool) (files : List NamedFile) (before after : List (List ℕ))
+    (faults faults' : ℕ) (file : List ℕ) (answer : Result (List ℕ) FileStop) : Type 0 where
+  pub content : IsTrue tells → LoadsFile (file_in files file) answer
+  pub asked : IsTrue tells → AsksFile before after file answer
+  pub fault : answer ≡ Err CannotLoad → Rose faults faults'
+  pub grows : faults ≤ faults'
+
+-- the shelf was asked for the file, and this was read in its answer; `free` stands for want of
+-- memory
+pub record FromShelf {A E : Type 0} (free : E) (tells : Bool)
+    (files : List NamedFile) (before after : List (List ℕ)) (faults faults' : ℕ) (file : List ℕ)
+    (read_in : Result (List ℕ) FileStop → Result A E) (read : Result A E) : Type 0 where
+  pub answer : Result (List ℕ) FileStop
+  pub loaded : Loaded tells files before after faults faults' file answer
+  pub given : Gives free (λ a. a) read (read_in answer)
 
 -- a file that was read and refused is bad at the place, but for want of memory
 abbrev pub stop_for : FileWhy → ℕ → FileStop

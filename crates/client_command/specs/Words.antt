@@ -1,6 +1,6 @@
 -- The words of the client, `ADDRESS COMMAND [ARG] [options]`: which are in its command, and what
 -- they ask for.
-use Rattle.std.specs.Prelude.{◌≡◌, ℕ, ◌<◌, ◌≤◌, Bool, true, false, ◌&&◌, ◌||◌, not, nat_eq, nat_lt}
+use Rattle.std.specs.Prelude.{◌≡◌, ℕ, ◌<◌, ◌≤◌, Bool, true, false, ◌&&◌, nat_eq, nat_lt}
 use Rattle.std.specs.Prelude.{List, [], ◌∷◌, length, slice_get, slice_index, codes, Option, Some}
 use Rattle.std.specs.Prelude.{None, is_some, Result, Ok, Err, if◌then◌else◌}
 use lib.Pointwise.{pointwise}
@@ -12,8 +12,10 @@ use Rattle.gss_client.specs.declared.procedure.Procedure.TheVariants.{Null, Echo
 use Rattle.gss_client.specs.declared.procedure.Procedure.TheVariants.{Count}
 use Rattle.rpcsec_bodies.specs.declared.service.Service.{Service}
 use Rattle.rpcsec_bodies.specs.declared.service.Service.TheVariants as services
-use Rattle.cli_base.specs.Numbers.{number_in}
+use Rattle.cli_base.specs.Given.{◌>>=◌, or_usage, demanded, number_given, data_given}
 use Rattle.cli_base.specs.Words.{are_words, value_of, first_word, plain_of}
+use Rattle.cli_base.specs.declared.given.WordsRefusal.{WordsRefusal}
+use Rattle.cli_base.specs.declared.given.WordsRefusal.TheVariants.{Usage}
 use Rattle.hex.specs.Hex.{decode_of}
 use Rattle.hex.specs.declared.error.FromHexError.{FromHexError}
 use Rattle.rpc_msgs.specs.Words.{opaque}
@@ -23,29 +25,10 @@ use Rattle.client_command.specs.declared.words.Mechs.{Mechs}
 use Rattle.client_command.specs.declared.words.Mechs.TheVariants as mechs
 use Rattle.client_command.specs.declared.words.Plan.{Plan}
 use Rattle.client_command.specs.declared.words.Sources.{Sources}
-use Rattle.client_command.specs.declared.words.WordsRefusal.{WordsRefusal}
-use Rattle.client_command.specs.declared.words.WordsRefusal.TheVariants.{Usage}
-
--- the rest of a reading, unless the part before was refused
-infixl 10 ◌>>=◌
--- the rest takes what the part before gave
-abbrev pub ◌>>=◌ : {A B : Type 0} → Result A WordsRefusal → (A → Result B WordsRefusal)
-    → Result B WordsRefusal
-(Ok x) >>= next = next x
-(Err e) >>= next = Err e
 
 -- two words are the same
 abbrev pub same : List ℕ → List ℕ → Bool
 same = pointwise nat_eq
-
--- what isn't there is refused
-abbrev pub or_usage : {A : Type 0} → Option A → Result A WordsRefusal
-or_usage None = Err Usage
-or_usage (Some value) = Ok value
-
--- what doesn't hold is refused
-abbrev pub demanded : Bool → Result (Unit {0}) WordsRefusal
-demanded holds = if holds then Ok tt else Err Usage
 
 -- ---- the command and its argument
 
@@ -98,17 +81,6 @@ names = codes "--ccache" ∷ codes "--server" ∷ codes "--user" ∷ codes "--pa
 -- a word that is no option stands first; the options are of these names, each once, with its value
 abbrev pub is_command : List (List ℕ) → Bool
 is_command words = is_some (first_word words) && are_words names words
-
--- an option's number, from `least` to `most`, or the usual one without it
-abbrev pub number_given : ℕ → ℕ → ℕ → Option (List ℕ) → Result ℕ WordsRefusal
-number_given least most usual None = Ok usual
-number_given least most usual (Some text) = or_usage (number_in least most text)
-
--- the application data of the bindings: 1 to 32,768 octets
-abbrev pub data_given : Option (List ℕ) → Result (Option (List ℕ)) WordsRefusal
-data_given None = Ok None
-data_given (Some text) =
-    if nat_eq (length text) 0 || nat_lt 32768 (length text) then Err Usage else Ok (Some text)
 
 -- the server as its text was read, refused where it names no principal
 abbrev pub name_by : Result Name NameRefusal → Result (Option Name) WordsRefusal

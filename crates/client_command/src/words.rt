@@ -1,20 +1,22 @@
 //! The words of the client.
 
-ghost use Rattle.std.specs.Prelude.{◌≡◌, ◌≤◌, IfOk, Some, codes, length};
-ghost use Rattle.std.specs.Option.{option_map};
+ghost use Rattle.std.specs.Prelude.{◌≡◌, ◌≤◌, IfOk, codes, length};
 ghost use Rattle.sec_base.specs.Answers.{Gives};
 ghost use Rattle.gss_base.specs.Signs.{parsed};
 ghost use Rattle.hex.specs.Hex.{decode_of};
 ghost use Rattle.rpc_msgs.specs.Words.{opaque};
-ghost use Rattle.cli_base.specs.Words.{value_of, first_word, plain_of};
-ghost use Rattle.client_command.specs.Words.{is_command, demanded, or_usage, bare, with_data};
-ghost use Rattle.client_command.specs.Words.{data_by, asked_by, asked_in, number_given, data_given};
+ghost use Rattle.cli_base.specs.Words.{value_of, plain_of};
+ghost use Rattle.client_command.specs.Words.{is_command, bare, with_data, data_by};
+ghost use Rattle.client_command.specs.Words.{asked_by, asked_in};
 ghost use Rattle.client_command.specs.Words.{name_by, server_given, mechs_by, are_equipped};
 ghost use Rattle.client_command.specs.Words.{equipped, usual, mechs_given, is_given, has_krb5};
 ghost use Rattle.client_command.specs.Words.{has_scram, sources_of, service_by, service_given};
 ghost use Rattle.client_command.specs.Words.{plan_of, words_of, AreOctets, IsRanged};
 
-use cli_base::{are_words, count_plain, first_word, number_in, plain, value_of};
+pub use cli_base::{WordsRefusal, address_of};
+use cli_base::{
+    are_words, bindings_given, count_plain, demand, first_word, number_given, plain, value_of,
+};
 use gss_base::{Bindings, NameRefusal, Principal};
 use gss_client::{Procedure, Service};
 use hex::FromHexError;
@@ -24,9 +26,6 @@ use std::alloc::Global;
 
 /// The most octets of an argument.
 const MOST_DATA: usize = 65_536;
-
-/// The most octets of application data.
-const MOST_BOUND: usize = 32_768;
 
 /// What is called, how often, and how the calls are protected.
 #[derive(Drop)]
@@ -72,32 +71,6 @@ pub struct ClientWords {
     pub plan: Plan,
 }
 
-/// The address that the words name: the first word, where it is there and doesn't begin with `-`.
-pub fn address_of(words: &[Text]) -> Option<&str>
-    ensures { option_map (λ word. word.now) result ≡ first_word words.now }
-{
-    first_word(words)
-}
-
-/// Why words are refused.
-#[derive(Clone, Copy, Debug, PartialEq, Eq)]
-pub enum WordsRefusal {
-    /// They aren't in the command.
-    Usage,
-    /// There was no memory for what they ask for.
-    NoMemory,
-}
-
-impl From<NoMemory> for WordsRefusal {
-    ghost use Rattle.client_command.specs.declared.words.WordsRefusal.{WordsRefusal};
-
-    ghost from_gives = { λ _ e. e ≡ WordsRefusal.NoMemory };
-
-    fn from(_error: NoMemory) -> WordsRefusal {
-        WordsRefusal::NoMemory
-    }
-}
-
 /// What is called, and the arguments in XDR.
 #[derive(Drop)]
 struct Asked {
@@ -124,17 +97,6 @@ fn is_command(words: &[Text]) -> bool
                 "--first",
             ],
         )
-}
-
-/// Refuses words of which this doesn't hold.
-fn demand(holds: bool) -> Result<(), WordsRefusal>
-    ensures { result ≡ demanded holds }
-{
-    if holds {
-        Ok(())
-    } else {
-        Err(WordsRefusal::Usage)
-    }
 }
 
 /// The octets that a word has in hexadecimal.
@@ -230,28 +192,6 @@ fn asked_in(alloc: Global, words: &[Text]) -> Result<Asked, WordsRefusal>
     match plain(words, 1) {
         Some(command) => asked_by(alloc, words, command),
         None => Err(WordsRefusal::Usage),
-    }
-}
-
-/// The number of the option `name`, from `least` to `most`, or the usual one without it.
-fn number_given(
-    words: &[Text],
-    name: &str,
-    least: u32,
-    most: u32,
-    usual: u32,
-) -> Result<u32, WordsRefusal>
-    requires least { least ≤ usual }
-    requires most { usual ≤ most }
-    ensures value { result ≡ number_given least most usual (value_of name.now words.now) }
-    ensures range { IfOk result (λ number. (least ≤ number) × (number ≤ most)) }
-{
-    match value_of(words, name) {
-        None => Ok(usual),
-        Some(text) => match number_in(text, least, most) {
-            Some(number) => Ok(number),
-            None => Err(WordsRefusal::Usage),
-        },
     }
 }
 
@@ -382,31 +322,6 @@ fn sources_of(alloc: Global, words: &[Text]) -> Result<Sources, WordsRefusal>
         password,
         mechs,
     })
-}
-
-/// The bindings of this application data.
-fn bindings_of(alloc: Global, text: &str) -> Result<Option<Bindings>, WordsRefusal>
-    ensures { Gives WordsRefusal.NoMemory (λ b. b) result (data_given (Some text.now)) }
-{
-    if text.len() > MOST_BOUND {
-        return Err(WordsRefusal::Usage);
-    }
-    let data = Octets::of(alloc, text.as_bytes())?;
-    match Bindings::new(data) {
-        Ok(bindings) => Ok(Some(bindings)),
-        Err(_) => Err(WordsRefusal::Usage),
-    }
-}
-
-/// The bindings that the words ask for.
-fn bindings_given(alloc: Global, words: &[Text]) -> Result<Option<Bindings>, WordsRefusal>
-    ensures { Gives WordsRefusal.NoMemory (λ b. b) result
-        (data_given (value_of (codes "--bind") words.now)) }
-{
-    match value_of(words, "--bind") {
-        None => Ok(None),
-        Some(text) => bindings_of(alloc, text),
-    }
 }
 
 /// The service of this name.

@@ -27,7 +27,7 @@ use Rattle.client_command.specs.declared.ending.RunEnd.{RunEnd}
 use Rattle.client_command.specs.declared.ending.RunEnd.TheVariants.{LinkFault, NoMemory}
 use Rattle.client_command.specs.declared.words.ClientWords.{ClientWords}
 use Rattle.client_command.specs.declared.words.Plan.{Plan}
-use Rattle.client_command.specs.declared.words.WordsRefusal.{WordsRefusal}
+use Rattle.cli_base.specs.declared.given.WordsRefusal.{WordsRefusal}
 use Rattle.client_command.proofs.Arguments.{words-own}
 use Rattle.pair_laws.specs.Booked.{id_in}
 use Rattle.pair_laws.specs.Honest.{HonestExchange}

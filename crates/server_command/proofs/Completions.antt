@@ -6,11 +6,11 @@ use Rattle.gss_base.specs.Name.{Name}
 use Rattle.krb_files.specs.Keytab.{is_served}
 use Rattle.krb_files.specs.declared.keytab.Entry.{Entry}
 use Rattle.scram_mech.specs.declared.verifiers.Verifier.{Verifier}
-use Rattle.cli_base.specs.Files.{LoadsFile, file_in}
+use Rattle.cli_base.specs.Files.{LoadsFile, FromShelf, file_in}
 use Rattle.cli_base.specs.declared.files.FileStop.{FileStop}
 use Rattle.cli_base.specs.declared.files.FileStop.TheVariants as stops
 use Rattle.server_command.specs.Desks.{is_begun}
-use Rattle.server_command.specs.Keys.{AreKeys, BehindKeytab, FromShelf, keytab_in, verifiers_in, keys_with, no_keys}
+use Rattle.server_command.specs.Keys.{AreKeys, BehindKeytab, keytab_in, verifiers_in, keys_with, no_keys}
 use Rattle.server_command.specs.Runs.{EndsBy, Begins, AreValidFiles, AreValid, IsValid}
 use Rattle.server_command.specs.declared.ending.RunEnd.{RunEnd}
 use Rattle.server_command.specs.declared.ending.RunEnd.TheVariants.{NoMemory, Served}
@@ -65,7 +65,7 @@ ends-by : (keys other : Result Keys RunEnd) (end : RunEnd) → keys ≡ other �
 ends-by keys other end e h = subst (λ (k : Result Keys RunEnd). EndsBy k end) e h
 
 with-verifiers : (tells : Bool) (files : List NamedFile) (before after : List (List ℕ)) (faults faults' : ℕ) (named : Files) (name : Name) (entries : List Entry) (verifiers : Result (List Verifier) RunEnd) (keys : Result Keys RunEnd) (end : RunEnd) → (valid : AreValidFiles tells files named name) → entries ≡ valid.entries
-    → (Rose faults faults' → ⊥) → FromShelf tells files before after faults faults' named.verifiers verifiers_in verifiers → keys ≡ keys_with name entries verifiers → EndsBy keys end → end ≢ NoMemory → is_begun end ≡ true
+    → (Rose faults faults' → ⊥) → FromShelf NoMemory tells files before after faults faults' named.verifiers verifiers_in verifiers → keys ≡ keys_with name entries verifiers → EndsBy keys end → end ≢ NoMemory → is_begun end ≡ true
 with-verifiers tells files before after faults faults' named name entries (Ok users) keys end valid same steady second are ends other =
     let served : is_served name entries ≡ true = rw same valid.served in
     let is : keys ≡ Ok (record { keytab = entries; verifiers = users }) = are ∙ rw served refl in
@@ -75,7 +75,7 @@ with-verifiers tells files before after faults faults' named name entries (Err s
     (rw valid.known refl) refl second.given (not-wanted {A = List Verifier} stop end (ends-by keys (Err stop) end are ends) other))))
 
 by-files : (tells : Bool) (files : List NamedFile) (before between after : List (List ℕ)) (faults counted faults' : ℕ) (named : Files) (name : Name) (keytab : Result (List Entry) RunEnd) (keys : Result Keys RunEnd) (end : RunEnd) → AreValidFiles tells files named name → (Rose faults faults' → ⊥)
-    → FromShelf tells files before between faults counted named.keytab keytab_in keytab → BehindKeytab tells files between after counted faults' named.verifiers name keytab keys → counted ≤ faults' → EndsBy keys end → end ≢ NoMemory → is_begun end ≡ true
+    → FromShelf NoMemory tells files before between faults counted named.keytab keytab_in keytab → BehindKeytab tells files between after counted faults' named.verifiers name keytab keys → counted ≤ faults' → EndsBy keys end → end ≢ NoMemory → is_begun end ≡ true
 by-files tells files before between after faults counted faults' named name (Ok entries) keys end valid steady first behind le ends other =
     let same : entries ≡ valid.entries = ok-same entries valid.entries (reads-well {A = List Entry} (Ok entries) valid.entries keytab_in (file_in files named.keytab) first.answer valid.octets valid.content (first.loaded.content valid.told) (λ e. steady (rose-on (first.loaded.fault e) le))
     (rw valid.read refl) refl first.given (none-stops {A = List Entry} entries)) in

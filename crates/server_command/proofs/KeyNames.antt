@@ -4,13 +4,14 @@ use Rattle.std.proofs.lemmas.List.{append-nil}
 use Rattle.sec_base.specs.declared.shelf.NamedFile.{NamedFile}
 use Rattle.gss_base.specs.Name.{Name}
 use Rattle.krb_files.specs.declared.keytab.Entry.{Entry}
-use Rattle.cli_base.specs.Files.{AsksFile}
+use Rattle.cli_base.specs.Files.{AsksFile, FromShelf}
 use Rattle.cli_base.specs.declared.files.FileStop.{FileStop}
 use Rattle.cli_base.specs.declared.files.FileStop.TheVariants as stops
-use Rattle.server_command.specs.Keys.{end_by, keytab_in, FromShelf, BehindKeytab, AreKeys}
+use Rattle.server_command.specs.Keys.{end_by, keytab_in, BehindKeytab, AreKeys}
 use Rattle.server_command.specs.Runs.{names_of}
 use Rattle.server_command.specs.declared.ending.KeyFile.TheVariants.{Keytab}
 use Rattle.server_command.specs.declared.ending.RunEnd.{RunEnd}
+use Rattle.server_command.specs.declared.ending.RunEnd.TheVariants.{NoMemory}
 use Rattle.server_command.specs.declared.keys.Keys.{Keys}
 use Rattle.server_command.specs.declared.options.Files.{Files}
 
@@ -37,7 +38,7 @@ read-asked : (before after : List (List ℕ)) (name : List ℕ) (answer : Result
 read-asked before after name (Ok octets) entries e h = h
 read-asked before after name (Err stop) entries e h = absurd (let f : ◌≡◌ {A = Result (List Entry) RunEnd} (Err (end_by Keytab stop)) (Ok entries) = e in cc)
 
-by-both : (tells : Bool) (files : List NamedFile) (before between after : List (List ℕ)) (faults counted faults' : ℕ) (named : Files) (name : Name) (keytab : Result (List Entry) RunEnd) (keys : Result Keys RunEnd) → FromShelf tells files before between faults counted named.keytab keytab_in keytab
+by-both : (tells : Bool) (files : List NamedFile) (before between after : List (List ℕ)) (faults counted faults' : ℕ) (named : Files) (name : Name) (keytab : Result (List Entry) RunEnd) (keys : Result Keys RunEnd) → FromShelf NoMemory tells files before between faults counted named.keytab keytab_in keytab
     → BehindKeytab tells files between after counted faults' named.verifiers name keytab keys → IsTrue tells → (count : ℕ) × (after ≡ before ++ take count (named.keytab ∷ named.verifiers ∷ []))
 by-both tells files before between after faults counted faults' named name (Err end) keys first behind t =
     let f = by-file before between named.keytab first.answer (first.loaded.asked t) in

@@ -1,8 +1,8 @@
 -- The numbers of the options, read one after the other.
 use Rattle.std.proofs.Common.{◌≡◌, ℕ, Result, Ok, Err, refl}
-use Rattle.server_command.specs.Options.{◌>>=◌}
+use Rattle.cli_base.specs.Given.{◌>>=◌}
 use Rattle.server_command.specs.declared.options.Numbers.{Numbers}
-use Rattle.server_command.specs.declared.options.WordsRefusal.{WordsRefusal}
+use Rattle.cli_base.specs.declared.given.WordsRefusal.{WordsRefusal}
 
 abbrev pub numbers_of : Result ℕ WordsRefusal → Result ℕ WordsRefusal → Result ℕ WordsRefusal → Result ℕ WordsRefusal → Result ℕ WordsRefusal → Result Numbers WordsRefusal
 numbers_of window connections contexts marks log = do

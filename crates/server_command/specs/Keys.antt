@@ -1,7 +1,7 @@
 -- The keys of a run.
-use Rattle.std.specs.Prelude.{◌≡◌, ◌≤◌, ℕ, Bool, IsTrue, List, [], Option, Some, None, Result, Ok}
-use Rattle.std.specs.Prelude.{Err, if◌then◌else◌}
-use Rattle.sec_base.specs.Answers.{Gives, Rose}
+use Rattle.std.specs.Prelude.{◌≡◌, ◌≤◌, ℕ, Bool, List, [], Option, Some, None, Result, Ok, Err}
+use Rattle.std.specs.Prelude.{if◌then◌else◌}
+use Rattle.sec_base.specs.Answers.{Gives}
 use Rattle.sec_base.specs.declared.shelf.NamedFile.{NamedFile}
 use Rattle.sec_base.specs.declared.shelf.Shelf.{Ghosts}
 use Rattle.gss_base.specs.Name.{Name}
@@ -12,7 +12,7 @@ use Rattle.scram_mech.specs.Verifiers.{verifiers_of}
 use Rattle.scram_mech.specs.declared.verifiers.Verifier.{Verifier}
 use Rattle.scram_mech.specs.declared.refusal.VerifierRefusal.{VerifierRefusal}
 use Rattle.scram_mech.specs.declared.refusal.VerifierRefusal.TheVariants as lines
-use Rattle.cli_base.specs.Files.{file_in, LoadsFile, AsksFile, stop_by}
+use Rattle.cli_base.specs.Files.{FromShelf, stop_by}
 use Rattle.cli_base.specs.declared.files.FileStop.{FileStop}
 use Rattle.cli_base.specs.declared.files.FileStop.TheVariants as stops
 use Rattle.server_command.specs.declared.ending.KeyFile.{KeyFile}
@@ -55,22 +55,6 @@ abbrev pub verifiers_in : Result (List ℕ) FileStop → Result (List Verifier) 
 verifiers_in (Err stop) = Err (end_by Verifiers stop)
 verifiers_in (Ok octets) = verifiers_by (verifiers_of octets)
 
--- what a shelf showed before and after it was asked for a file, and what it answered
-pub record Loaded (tells : Bool) (files : List NamedFile) (before after : List (List ℕ))
-    (faults faults' : ℕ) (file : List ℕ) (answer : Result (List ℕ) FileStop) : Type 0 where
-  pub content : IsTrue tells → LoadsFile (file_in files file) answer
-  pub asked : IsTrue tells → AsksFile before after file answer
-  pub fault : answer ≡ Err stops.CannotLoad → Rose faults faults'
-  pub grows : faults ≤ faults'
-
--- the shelf was asked for the file, and this was read in its answer
-pub record FromShelf {A : Type 0} (tells : Bool)
-    (files : List NamedFile) (before after : List (List ℕ)) (faults faults' : ℕ) (file : List ℕ)
-    (read_in : Result (List ℕ) FileStop → Result A RunEnd) (read : Result A RunEnd) : Type 0 where
-  pub answer : Result (List ℕ) FileStop
-  pub loaded : Loaded tells files before after faults faults' file answer
-  pub given : Gives NoMemory (λ a. a) read (read_in answer)
-
 -- keytab and verifiers, where the keytab has a key for the own name
 abbrev pub keys_with : Name → List Entry → Result (List Verifier) RunEnd → Result Keys RunEnd
 keys_with name entries (Err end) = Err end
@@ -83,7 +67,7 @@ pub record WithVerifiers (tells : Bool) (files : List NamedFile) (before after :
     (faults faults' : ℕ) (file : List ℕ) (name : Name) (entries : List Entry)
     (keys : Result Keys RunEnd) : Type 0 where
   pub verifiers : Result (List Verifier) RunEnd
-  pub read : FromShelf tells files before after faults faults' file verifiers_in verifiers
+  pub read : FromShelf NoMemory tells files before after faults faults' file verifiers_in verifiers
   pub are : keys ≡ keys_with name entries verifiers
 
 -- what follows the keytab: the verifiers are asked for, or nothing where the run ended by it
@@ -100,7 +84,8 @@ pub record FromFiles (tells : Bool) (files : List NamedFile) (before after : Lis
   pub keytab : Result (List Entry) RunEnd
   pub between : List (List ℕ)
   pub counted : ℕ
-  pub read : FromShelf tells files before between faults counted named.keytab keytab_in keytab
+  pub read : FromShelf NoMemory tells files before between faults counted named.keytab keytab_in
+      keytab
   pub behind : BehindKeytab tells files between after counted faults' named.verifiers name keytab
       keys
   pub grows : counted ≤ faults'
@@ -123,7 +108,7 @@ AreKeys tells files before after faults faults' (Some named) name keys =
 abbrev pub ReadFrom : {F A : Type 0} → Ghosts F → F → F → List ℕ
     → (Result (List ℕ) FileStop → Result A RunEnd) → Result A RunEnd → Type 0
 ReadFrom shelf old new file read_in read =
-    FromShelf (shelf.tells old) (shelf.files old) (shelf.asked old) (shelf.asked new)
+    FromShelf NoMemory (shelf.tells old) (shelf.files old) (shelf.asked old) (shelf.asked new)
     (shelf.faults old) (shelf.faults new) file read_in read
 
 -- it was asked for the keytab, and then for the verifiers

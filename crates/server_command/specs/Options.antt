@@ -1,24 +1,18 @@
 -- The words of the server: which are in its command, and what they ask for.
-use Rattle.std.specs.Prelude.{ℕ, ◌<◌, ◌≤◌, Bool, false, ◌&&◌, ◌||◌, not, nat_eq, nat_lt, List, []}
+use Rattle.std.specs.Prelude.{ℕ, ◌<◌, ◌≤◌, Bool, false, ◌&&◌, not, nat_eq, List, []}
 use Rattle.std.specs.Prelude.{◌∷◌, length, codes, Option, Some, None, Result, Ok, Err}
 use Rattle.std.specs.Prelude.{if◌then◌else◌}
 use lib.Pointwise.{pointwise}
 use Rattle.gss_base.specs.Name.{Name}
 use Rattle.gss_base.specs.Signs.{parsed}
 use Rattle.gss_base.specs.declared.principal.NameRefusal.{NameRefusal}
-use Rattle.cli_base.specs.Numbers.{number_in}
+use Rattle.cli_base.specs.Given.{◌>>=◌, demanded, number_given, data_given}
 use Rattle.cli_base.specs.Words.{are_words, value_of, first_word, plain_of}
+use Rattle.cli_base.specs.declared.given.WordsRefusal.{WordsRefusal}
+use Rattle.cli_base.specs.declared.given.WordsRefusal.TheVariants.{Usage}
 use Rattle.server_command.specs.declared.options.Files.{Files}
 use Rattle.server_command.specs.declared.options.Numbers.{Numbers}
 use Rattle.server_command.specs.declared.options.Options.{Options}
-use Rattle.server_command.specs.declared.options.WordsRefusal.{WordsRefusal}
-use Rattle.server_command.specs.declared.options.WordsRefusal.TheVariants.{Usage}
-
-infixl 10 ◌>>=◌
--- the rest of a reading, unless the part before was refused
-abbrev pub ◌>>=◌ : {A B E : Type 0} → Result A E → (A → Result B E) → Result B E
-(Ok x) >>= next = next x
-(Err e) >>= next = Err e
 
 -- the names of the options
 abbrev pub names : List (List ℕ)
@@ -37,23 +31,7 @@ is_command words =
 
 -- words that don't have the form of the command are refused
 abbrev pub formed : List (List ℕ) → Result (Unit {0}) WordsRefusal
-formed words = if is_command words then Ok tt else Err Usage
-
--- what is there, else the words are refused
-abbrev pub or_usage : {A : Type 0} → Option A → Result A WordsRefusal
-or_usage None = Err Usage
-or_usage (Some value) = Ok value
-
--- an option's number, from `least` to `most`, or the usual one without it
-abbrev pub number_given : ℕ → ℕ → ℕ → Option (List ℕ) → Result ℕ WordsRefusal
-number_given least most usual None = Ok usual
-number_given least most usual (Some text) = or_usage (number_in least most text)
-
--- the application data of the bindings: 1 to 32,768 octets
-abbrev pub data_given : Option (List ℕ) → Result (Option (List ℕ)) WordsRefusal
-data_given None = Ok None
-data_given (Some text) =
-    if nat_eq (length text) 0 || nat_lt 32768 (length text) then Err Usage else Ok (Some text)
+formed words = demanded (is_command words)
 
 -- the own name that was read, else the words are refused
 abbrev pub name_by : Result Name NameRefusal → Result Name WordsRefusal

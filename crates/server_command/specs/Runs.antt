@@ -20,7 +20,7 @@ use Rattle.server_command.specs.declared.ending.RunEnd.TheVariants.{NoMemory}
 use Rattle.server_command.specs.declared.keys.Keys.{Keys}
 use Rattle.server_command.specs.declared.options.Files.{Files}
 use Rattle.server_command.specs.declared.options.Options.{Options}
-use Rattle.server_command.specs.declared.options.WordsRefusal.{WordsRefusal}
+use Rattle.cli_base.specs.declared.given.WordsRefusal.{WordsRefusal}
 
 -- the files of the keys, where the words name them
 abbrev pub files_of : Result Options WordsRefusal → Option Files

@@ -1,17 +1,19 @@
 //! The words of the server.
 
-ghost use Rattle.std.specs.Prelude.{◌≡◌, ◌≤◌, IfOk, Some, codes};
+ghost use Rattle.std.specs.Prelude.{◌≡◌, IfOk, codes};
 ghost use Rattle.sec_base.specs.Answers.{Gives};
-ghost use Rattle.std.specs.Option.{option_map};
-ghost use Rattle.cli_base.specs.Words.{value_of, first_word};
-ghost use Rattle.server_command.specs.Options.{is_command, formed, number_given, data_given};
-ghost use Rattle.server_command.specs.Options.{name_by, files_given, name_given, numbers_given};
-ghost use Rattle.server_command.specs.Options.{options_of, AreRanged, IsRanged};
+ghost use Rattle.cli_base.specs.Words.{value_of};
+ghost use Rattle.server_command.specs.Options.{is_command, formed, name_by, files_given};
+ghost use Rattle.server_command.specs.Options.{name_given, numbers_given, options_of, AreRanged};
+ghost use Rattle.server_command.specs.Options.{IsRanged};
 ghost use Rattle.gss_base.specs.Signs.{parsed};
 
-use cli_base::{are_words, count_plain, first_word, number_in, value_of};
+pub use cli_base::{WordsRefusal, address_of};
+use cli_base::{
+    are_words, bindings_given, count_plain, demand, first_word, number_given, value_of,
+};
 use gss_base::{Bindings, NameRefusal, Principal};
-use sec_base::{NoMemory, Octets, Text};
+use sec_base::Text;
 use std::alloc::Global;
 
 /// The name of a server without keys.
@@ -45,32 +47,6 @@ pub struct Options {
     pub log: u32,
 }
 
-/// The address that the words name: the first word, where it is there and doesn't begin with `-`.
-pub fn address_of(words: &[Text]) -> Option<&str>
-    ensures { option_map (λ word. word.now) result ≡ first_word words.now }
-{
-    first_word(words)
-}
-
-/// Why words are refused.
-#[derive(Clone, Copy, Debug, PartialEq, Eq)]
-pub enum WordsRefusal {
-    /// They aren't in the command.
-    Usage,
-    /// There was no memory for what they ask for.
-    NoMemory,
-}
-
-impl From<NoMemory> for WordsRefusal {
-    ghost use Rattle.server_command.specs.declared.options.WordsRefusal.{WordsRefusal};
-
-    ghost from_gives = { λ _ e. e ≡ WordsRefusal.NoMemory };
-
-    fn from(_error: NoMemory) -> WordsRefusal {
-        WordsRefusal::NoMemory
-    }
-}
-
 /// Whether the words are an address and options with their values.
 fn is_command(words: &[Text]) -> bool
     ensures { result ≡ is_command words.now }
@@ -101,58 +77,7 @@ fn is_command(words: &[Text]) -> bool
 fn demand_form(words: &[Text]) -> Result<(), WordsRefusal>
     ensures { result ≡ formed words.now }
 {
-    if is_command(words) {
-        Ok(())
-    } else {
-        Err(WordsRefusal::Usage)
-    }
-}
-
-/// The number of the option `name`, from `least` to `most`, or the usual one without it.
-fn number_given(
-    words: &[Text],
-    name: &str,
-    least: u32,
-    most: u32,
-    usual: u32,
-) -> Result<u32, WordsRefusal>
-    requires least { least ≤ usual }
-    requires most { usual ≤ most }
-    ensures value { result ≡ number_given least most usual (value_of name.now words.now) }
-    ensures range { IfOk result (λ number. (least ≤ number) × (number ≤ most)) }
-{
-    match value_of(words, name) {
-        None => Ok(usual),
-        Some(text) => match number_in(text, least, most) {
-            Some(number) => Ok(number),
-            None => Err(WordsRefusal::Usage),
-        },
-    }
-}
-
-/// The bindings of this application data.
-fn bindings_of(alloc: Global, text: &str) -> Result<Option<Bindings>, WordsRefusal>
-    ensures { Gives WordsRefusal.NoMemory (λ b. b) result (data_given (Some text.now)) }
-{
-    if text.len() > 32768 {
-        return Err(WordsRefusal::Usage);
-    }
-    let data = Octets::of(alloc, text.as_bytes())?;
-    match Bindings::new(data) {
-        Ok(bindings) => Ok(Some(bindings)),
-        Err(_) => Err(WordsRefusal::Usage),
-    }
-}
-
-/// The bindings that the words ask for.
-fn bindings_given(alloc: Global, words: &[Text]) -> Result<Option<Bindings>, WordsRefusal>
-    ensures { Gives WordsRefusal.NoMemory (λ b. b) result
-        (data_given (value_of (codes "--bind") words.now)) }
-{
-    match value_of(words, "--bind") {
-        None => Ok(None),
-        Some(text) => bindings_of(alloc, text),
-    }
+    demand(is_command(words))
 }
 
 /// The own name of this text.

@@ -1,10 +1,11 @@
 use Rattle.std.proofs.Common.{◌∙◌, ℕ, Result, ap, sym}
 use Rattle.std.specs.Prelude.{codes}
 use Rattle.cli_base.specs.Words.{value_of}
-use Rattle.server_command.specs.Options.{◌>>=◌, number_given, options_of}
+use Rattle.cli_base.specs.Given.{◌>>=◌, number_given}
+use Rattle.server_command.specs.Options.{options_of}
 use Rattle.server_command.specs.declared.options.Numbers.{Numbers}
 use Rattle.server_command.specs.declared.options.Options.{Options}
-use Rattle.server_command.specs.declared.options.WordsRefusal.{WordsRefusal}
+use Rattle.cli_base.specs.declared.given.WordsRefusal.{WordsRefusal}
 use Rattle.server_command.proofs.Numbers.{joined, made_of}
 use Rattle.server_command.proofs.options.read_options.Goals as goal
 

@@ -1,7 +1,7 @@
 use Rattle.std.proofs.Common.{◌≡◌, [], None, Result, Ok, subst}
 use Rattle.server_command.specs.declared.ending.Counts.{Counts}
 use Rattle.server_command.specs.declared.options.Options.{Options}
-use Rattle.server_command.specs.declared.options.WordsRefusal.{WordsRefusal}
+use Rattle.cli_base.specs.declared.given.WordsRefusal.{WordsRefusal}
 use Rattle.server_command.specs.Runs.{IsValid}
 use Rattle.server_command.proofs.Completions.{completed}
 use Rattle.server_command.proofs.Sides.{begun-served, side-served}
