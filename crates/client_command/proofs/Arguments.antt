@@ -3,16 +3,17 @@ use Rattle.std.proofs.Common.{◌≡◌, ℕ, ◌≤◌, Bool, true, false, refl
 use Rattle.std.proofs.lemmas.Bool.Decides.{nat_tests}
 use Rattle.hex.specs.Hex.{decode_of}
 use Rattle.hex.specs.declared.error.FromHexError.{FromHexError}
+use Rattle.cli_base.specs.Given.{◌>>=◌, or_usage, demanded, number_given, data_given}
 use Rattle.cli_base.specs.Words.{value_of, plain_of}
 use Rattle.rpc_msgs.specs.Words.{opaque}
 use Rattle.gss_client.specs.declared.procedure.Procedure.{Procedure}
 use Rattle.gss_client.specs.declared.procedure.Procedure.TheVariants.{Null, Echo, Whoami, Post, Count}
-use Rattle.client_command.specs.Words.{◌>>=◌, same, or_usage, demanded, data_by, bare, with_data, asked_by, asked_in, is_command, number_given, data_given, service_given, plan_of, sources_of, words_of, IsData, IsArgument}
+use Rattle.client_command.specs.Words.{same, data_by, bare, with_data, asked_by, asked_in, is_command, service_given, plan_of, sources_of, words_of, IsData, IsArgument}
 use Rattle.client_command.specs.declared.words.Asked.{Asked}
 use Rattle.client_command.specs.declared.words.ClientWords.{ClientWords}
 use Rattle.client_command.specs.declared.words.Plan.{Plan}
-use Rattle.client_command.specs.declared.words.WordsRefusal.{WordsRefusal}
-use Rattle.client_command.specs.declared.words.WordsRefusal.TheVariants.{Usage}
+use Rattle.cli_base.specs.declared.given.WordsRefusal.{WordsRefusal}
+use Rattle.cli_base.specs.declared.given.WordsRefusal.TheVariants.{Usage}
 
 -- ---- readings
 

@@ -1,5 +1,6 @@
 pub mod Asking
 pub mod Ended
+pub mod Loading
 pub mod Password
 pub mod Saying
 pub mod Spoken

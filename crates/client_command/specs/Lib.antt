@@ -1,5 +1,6 @@
 pub mod Credentials
 pub mod Endings
 pub mod Lines
+pub mod Loading
 pub mod Runs
 pub mod Words

@@ -22,7 +22,7 @@ use Rattle.client_command.specs.declared.ending.RunEnd.TheVariants.{LinkFault, N
 use Rattle.client_command.specs.declared.words.ClientWords.{ClientWords}
 use Rattle.client_command.specs.declared.words.Plan.{Plan}
 use Rattle.client_command.specs.declared.words.Sources.{Sources}
-use Rattle.client_command.specs.declared.words.WordsRefusal.{WordsRefusal}
+use Rattle.cli_base.specs.declared.given.WordsRefusal.{WordsRefusal}
 
 -- ---- what the words name
 

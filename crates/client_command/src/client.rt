@@ -9,6 +9,7 @@ ghost use Rattle.cli_base.specs.Lines.{SaysLine, Says};
 ghost use Rattle.client_command.specs.Credentials.{creds_from, is_unloaded, Asks};
 ghost use Rattle.client_command.specs.Endings.{end_of, is_begun, status_of, line_of};
 ghost use Rattle.client_command.specs.Lines.{lines};
+ghost use Rattle.client_command.specs.Loading.{RunBegins};
 ghost use Rattle.client_command.specs.Runs.{text_or_none, server_text, names_in, names_of};
 ghost use Rattle.client_command.specs.Runs.{procedure_of, start_of, Reports, Spoke, EndsSo};
 ghost use Rattle.client_command.specs.Runs.{HasHeld, HasSpoken, IsSilent};
@@ -233,6 +234,7 @@ fn run_with<F: Shelf, L: Link, C: Clock, D: Draw, O: Sink>(
     ensures said { IsTrue (O.tells err.old) → Says (O.written err.old) (O.written err.new)
         result.status (line_of (names_in words.sources) result.end) }
     ensures other { result.end ≢ RunEnd.Usage }
+    ensures begins { RunBegins F.Shelf shelf.old shelf.new words.sources result.end }
     ensures load_fault { is_unloaded result.end ≡ true
         → Rose (F.faults shelf.old) (F.faults shelf.new) }
     ensures asked { IsTrue (F.tells shelf.old)
@@ -317,8 +319,12 @@ pub fn run_client<F: Shelf, L: Link, C: Clock, D: Draw, O: Sink>(
         → result.end ≢ RunEnd.NoMemory → result.end ≡ RunEnd.Usage }
     ensures unloaded { words_of words.now ≡ Err WordsRefusal.Usage
         → F.asked shelf.new ≡ F.asked shelf.old }
-    // Words in the command: their files are loaded, each once, and the run ends without a session exactly where a file can't be used or has no
-    // credential for their server.
+    // Words in the command: their files are loaded, each once, and the run ends without a session exactly where a load was answered a fault, or what
+    // was loaded can't be used or has no credential for their server, whatever the shelf tells of its files.
+    ensures begins { (asked : ClientWords)
+        → words_of words.now ≡ Ok asked → result.end ≢ RunEnd.NoMemory
+        → RunBegins F.Shelf shelf.old shelf.new asked.sources result.end }
+    // Over a shelf that tells its files, this is by what they hold.
     ensures asked { (asked : ClientWords)
         → words_of words.now ≡ Ok asked → IsTrue (F.tells shelf.old)
         → Asks (F.asked shelf.old) (F.asked shelf.new) asked.sources result.end }

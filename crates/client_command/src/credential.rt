@@ -7,6 +7,7 @@ ghost use Rattle.spnego_core.specs.InitMech.{kind_of, is_own_list};
 ghost use Rattle.client_command.specs.Credentials.{ticket_for, login_of, creds_with, creds_from};
 ghost use Rattle.client_command.specs.Credentials.{is_unloaded, Finds, AsksFor};
 ghost use Rattle.client_command.specs.Endings.{is_begun};
+ghost use Rattle.client_command.specs.Loading.{CredsFrom};
 
 use crate::ending::RunEnd;
 use crate::files::{cache_given, password_given};
@@ -140,6 +141,7 @@ pub fn creds_given<F: Shelf>(
     shelf: &mut F,
     sources: &Sources,
 ) -> Result<Items<MechCred>, RunEnd>
+    ensures read { CredsFrom F.Shelf shelf.old shelf.new sources.now result }
     ensures found { IsTrue (F.tells shelf.old)
         → Finds (creds_from (F.files shelf.old) sources.now) result }
     ensures asked { IsTrue (F.tells shelf.old)

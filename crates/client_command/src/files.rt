@@ -8,6 +8,7 @@ ghost use Rattle.client_command.specs.Credentials.{end_by, cache_by, cache_in, c
 ghost use Rattle.client_command.specs.Credentials.{less_feed, password_by, password_in};
 ghost use Rattle.client_command.specs.Credentials.{password_from, is_unloaded, Finds, IsStopOf};
 ghost use Rattle.client_command.specs.Credentials.{AsksOne};
+ghost use Rattle.client_command.specs.Loading.{ReadFrom, ReadNamed};
 
 use crate::ending::{RunEnd, WordFile};
 use cli_base::{FileStop, load, stop_of};
@@ -41,6 +42,7 @@ fn cache_by(alloc: Global, octets: &[u8]) -> Result<Ccache, RunEnd>
 
 /// The cache in the file of this name.
 fn cache_in<F: Shelf>(alloc: Global, shelf: &mut F, name: &str) -> Result<Ccache, RunEnd>
+    ensures read { ReadFrom F.Shelf shelf.old shelf.new name.now cache_in result }
     ensures found { IsTrue (F.tells shelf.old)
         → Finds (cache_in (file_in (F.files shelf.old) name.now)) result }
     ensures asked { IsTrue (F.tells shelf.old)
@@ -64,6 +66,7 @@ pub fn cache_given<F: Shelf>(
     shelf: &mut F,
     name: &Option<Text>,
 ) -> Result<Option<Ccache>, RunEnd>
+    ensures read { ReadNamed F.Shelf shelf.old shelf.new name.now cache_in result }
     ensures found { IsTrue (F.tells shelf.old)
         → Finds (cache_from (F.files shelf.old) name.now) result }
     ensures asked { IsTrue (F.tells shelf.old)
@@ -114,6 +117,7 @@ fn password_by(alloc: Global, octets: &[u8]) -> Result<Text, RunEnd>
 
 /// The password in the file of this name.
 fn password_in<F: Shelf>(alloc: Global, shelf: &mut F, name: &str) -> Result<Text, RunEnd>
+    ensures read { ReadFrom F.Shelf shelf.old shelf.new name.now password_in result }
     ensures found { IsTrue (F.tells shelf.old)
         → Finds (password_in (file_in (F.files shelf.old) name.now)) result }
     ensures asked { IsTrue (F.tells shelf.old)
@@ -136,6 +140,7 @@ pub fn password_given<F: Shelf>(
     shelf: &mut F,
     name: &Option<Text>,
 ) -> Result<Option<Text>, RunEnd>
+    ensures read { ReadNamed F.Shelf shelf.old shelf.new name.now password_in result }
     ensures found { IsTrue (F.tells shelf.old)
         → Finds (password_from (F.files shelf.old) name.now) result }
     ensures asked { IsTrue (F.tells shelf.old)

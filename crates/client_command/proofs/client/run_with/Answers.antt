@@ -1,4 +1,4 @@
-use Rattle.std.proofs.Common.{◌≡◌, ◌∙◌, inr, sym, List, Result, Ok}
+use Rattle.std.proofs.Common.{◌≡◌, ◌∙◌, inr, sym, List, Result, Ok, Err}
 use Rattle.spnego_core.specs.declared.setup.MechCred.{MechCred}
 use Rattle.client_command.proofs.Asking.{asked-begun}
 use Rattle.client_command.proofs.Ended.{reported-begun, reported-fault, stops-never}
@@ -35,3 +35,24 @@ pub returns-in-Ok-clause-asked : goal.returns-in-Ok-clause-asked
 returns-in-Ok-clause-asked g c = λ t.
     asked-begun (g.F.Shelf.asked c.args.shelf.now) (g.F.Shelf.asked c.creds_given.new.shelf) c.args.words.sources c.report.result.end (c.in-Ok.ensures.asked t)
     (reported-begun c.speak-talk.result.parting c.report.ensures.kept)
+
+pub returns-in-Ok-clause-begins : goal.returns-in-Ok-clause-begins
+returns-in-Ok-clause-begins g c = record {
+  creds = Ok c.in-Ok.creds;
+  given = c.in-Ok.ensures.read;
+  ends = reported-begun c.speak-talk.result.parting c.report.ensures.kept;
+}
+
+pub returns-clause-begins : goal.returns-clause-begins
+returns-clause-begins g c = record {
+  creds = Err c.in-Err.end;
+  given = c.in-Err.ensures.read;
+  ends = c.unspoken.ensures.end;
+}
+
+pub returns-clause-sink_fault : goal.returns-clause-sink_fault
+returns-clause-sink_fault g c = λ e. inr (c.unspoken.ensures.sink_fault e)
+
+pub returns-clause-ends : goal.returns-clause-ends
+returns-clause-ends g c = λ creds parting told due t so steady calm other.
+    absurd (stops-never (c.in-Err.ensures.found told) due (λ u. steady (c.in-Err.ensures.fault u)) (λ e. other (c.unspoken.ensures.end ∙ e)))
