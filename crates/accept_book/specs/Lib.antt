@@ -16,6 +16,7 @@ pub mod BookLaws
 pub mod Phases
 pub mod Naming
 pub mod Statuses
+pub mod Tokens
 pub mod Served
 pub mod RecordShown
 pub mod RecordRule

@@ -1,8 +1,9 @@
 -- The rule of a record: which rule answers it, with what reply, and which questions it asks of the
 -- shared state, in which order and with which arguments; all of it a function of the record's
 -- octets, of the answers that were kept, and of the width of the windows.
-use Rattle.std.specs.Prelude.{ℕ, Bool, not, ◌==◌, ◌&&◌, ◌||◌, nat_lt, List, [], ◌∷◌, length, take}
-use Rattle.std.specs.Prelude.{drop, Option, Some, None, if◌then◌else◌, Result, Ok, Err}
+use Rattle.std.specs.Prelude.{◌≡◌, ℕ, Bool, true, false, not, ◌==◌, ◌&&◌, ◌||◌, nat_lt, List, []}
+use Rattle.std.specs.Prelude.{◌∷◌, length, take, drop, Option, Some, None, if◌then◌else◌}
+use Rattle.std.specs.Prelude.{Result, Ok, Err}
 use Rattle.sha1.specs.Sha1.{sha1}
 use Rattle.rpc_msgs.specs.Calls.{CallValue, call_at}
 use Rattle.rpc_msgs.specs.Replies.{mismatch, reply_octets}
@@ -54,6 +55,10 @@ is_other_program call = not (call.program == PROGRAM)
 abbrev pub is_other_version_of_it : CallValue → Bool
 is_other_version_of_it call = not (call.version == VERSION)
 
+-- the call is of no context that is known
+abbrev pub no_context : Shown → Ruling
+no_context s = by rules.NoContext (denied s RPCSEC_GSS_CREDPROBLEM)
+
 -- ---- calls without authentication
 
 -- a call without authentication: it is served if it is NULL and has no arguments
@@ -72,7 +77,7 @@ plain_ruling s = first_of (
 abbrev pub stepped : Shown → NegAnswer → Ruling
 stepped s (steps.Going id token) = by rules.Going (going s id token)
 stepped s (steps.Settled lease token) = by rules.Settled (settled s lease token)
-stepped s (steps.Refused books.NoContext) = by rules.NoContext (denied s RPCSEC_GSS_CREDPROBLEM)
+stepped s (steps.Refused books.NoContext) = no_context s
 stepped s (steps.Refused refusal) = by rules.Refused (refused s refusal)
 stepped s steps.NoMemory = undecided
 
@@ -84,7 +89,7 @@ ask_step s id token (Some negotiated) =
 
 -- by the id of a later token
 abbrev pub continued : Shown → List ℕ → Option Negotiated → Option ℕ → Ruling
-continued s token negotiated None = by rules.NoContext (denied s RPCSEC_GSS_CREDPROBLEM)
+continued s token negotiated None = no_context s
 continued s token negotiated (Some id) = ask_step s (Some id) token negotiated
 
 -- by the token
@@ -102,6 +107,25 @@ creation_ruling s cred negotiated = first_of (
     ∷ []) (token_ruling s cred negotiated (one_opaque s.call.args))
 
 -- ---- DATA and DESTROY
+
+-- a call of the context that a lease shows: verifier, program and version are judged, then `rest`
+-- decides (RFC 2203 sections 5.3.3.3 and 5.4)
+abbrev pub in_context : Shown → CredValue → Lease → Ruling → Ruling
+in_context s cred lease rest = first_of (
+    (not (is_verified s lease), by rules.Verifier (denied s RPCSEC_GSS_CREDPROBLEM))
+    ∷ (is_other_program s.call, by rules.Program (signed s cred lease PROG_UNAVAIL 0 0 []))
+    ∷ (
+      is_other_version_of_it s.call,
+      by rules.Version
+          (signed s cred lease PROG_MISMATCH VERSION VERSION []),
+    )
+    ∷ []) rest
+
+-- a call whose verifier, program and version are right
+pub record IsInContext (s : Shown) (lease : Lease) : Type 0 where
+  pub verified : is_verified s lease ≡ true
+  pub program : is_other_program s.call ≡ false
+  pub version : is_other_version_of_it s.call ≡ false
 
 -- the number of a call wasn't taken
 abbrev pub unadmitted : Shown → CredValue → Lease → AdmitRefusal → Ruling
@@ -143,25 +167,17 @@ args_ruling s cred lease admitted (Some args) =
           (signed s cred lease GARBAGE_ARGS 0 0 []),
     ) ∷ []) (ask_admit s cred lease args admitted)
 
--- a data call of the context that a lease shows: verifier, program, version, procedure and
--- protection, then its body
+-- a data call of the context that a lease shows: procedure and protection, then its body
 unfoldable pub data_ruling : Shown → CredValue → Lease → Option (Result Admitted AdmitRefusal)
     → Ruling
-data_ruling s cred lease admitted = first_of (
-    (not (is_verified s lease), by rules.Verifier (denied s RPCSEC_GSS_CREDPROBLEM))
-    ∷ (is_other_program s.call, by rules.Program (signed s cred lease PROG_UNAVAIL 0 0 []))
-    ∷ (
-      is_other_version_of_it s.call,
-      by rules.Version
-          (signed s cred lease PROG_MISMATCH VERSION VERSION []),
-    )
-    ∷ (nat_lt COUNT s.call.procedure, by rules.Procedure (signed s cred lease PROC_UNAVAIL 0 0 []))
+data_ruling s cred lease admitted = in_context s cred lease (first_of (
+    (nat_lt COUNT s.call.procedure, by rules.Procedure (signed s cred lease PROC_UNAVAIL 0 0 []))
     ∷ (
       cred.service == RPC_GSS_SVC_NONE
           && not (s.call.procedure == NULL),
       by rules.Weak (denied s AUTH_TOOWEAK),
     )
-    ∷ []) (args_ruling s cred lease admitted (body_args (end_of lease) cred s.call.args))
+    ∷ []) (args_ruling s cred lease admitted (body_args (end_of lease) cred s.call.args)))
 
 -- what the end of a context was answered: it is ended, or the call's number is refused
 abbrev pub ended_ruling : Shown → CredValue → Lease → Result Receipt AdmitRefusal → Ruling
@@ -174,29 +190,18 @@ ask_end s cred lease None = waiting (End lease cred.seq)
 ask_end s cred lease (Some answer) =
     asking (AskedEnd lease cred.seq answer) (ended_ruling s cred lease answer)
 
--- a call that destroys the context that a lease shows: verifier, program and version, then the end
--- (RFC 2203 section 5.4)
+-- a call that destroys the context that a lease shows (RFC 2203 section 5.4)
 unfoldable pub destroy_ruling : Shown → CredValue → Lease → Option (Result Receipt AdmitRefusal)
     → Ruling
-destroy_ruling s cred lease ended = first_of (
-    (not (is_verified s lease), by rules.Verifier (denied s RPCSEC_GSS_CREDPROBLEM))
-    ∷ (is_other_program s.call, by rules.Program (signed s cred lease PROG_UNAVAIL 0 0 []))
-    ∷ (
-      is_other_version_of_it s.call,
-      by rules.Version
-          (signed s cred lease PROG_MISMATCH VERSION VERSION []),
-    )
-    ∷ []) (ask_end s cred lease ended)
+destroy_ruling s cred lease ended = in_context s cred lease (ask_end s cred lease ended)
 
 -- what a look was answered
 abbrev pub looked_ruling : Shown → CredValue → Option (Result Admitted AdmitRefusal)
     → Option (Result Receipt AdmitRefusal) → Result Lease LookRefusal → Ruling
 looked_ruling s cred admitted ended (Ok lease) = if cred.proc == RPCSEC_GSS_DATA
     then data_ruling s cred lease admitted else destroy_ruling s cred lease ended
-looked_ruling s cred admitted ended (Err looks.NoContext) =
-    by rules.NoContext (denied s RPCSEC_GSS_CREDPROBLEM)
-looked_ruling s cred admitted ended (Err looks.NotReady) =
-    by rules.NoContext (denied s RPCSEC_GSS_CREDPROBLEM)
+looked_ruling s cred admitted ended (Err looks.NoContext) = no_context s
+looked_ruling s cred admitted ended (Err looks.NotReady) = no_context s
 looked_ruling s cred admitted ended (Err looks.Expired) =
     by rules.Expired (denied s RPCSEC_GSS_CTXPROBLEM)
 
@@ -211,7 +216,7 @@ ask_look s cred id admitted ended (Some answer) =
 abbrev pub id_ruling : Shown → CredValue → Option (Result Lease LookRefusal)
     → Option (Result Admitted AdmitRefusal) → Option (Result Receipt AdmitRefusal) → Option ℕ
     → Ruling
-id_ruling s cred looked admitted ended None = by rules.NoContext (denied s RPCSEC_GSS_CREDPROBLEM)
+id_ruling s cred looked admitted ended None = no_context s
 id_ruling s cred looked admitted ended (Some id) = ask_look s cred id admitted ended looked
 
 -- ---- all calls

@@ -11,9 +11,9 @@ ghost use Rattle.accept_book.specs.History.{standing, posts};
 ghost use Rattle.accept_book.specs.Entering.{auth_of, auth_after, given, gained};
 ghost use Rattle.accept_book.specs.Replays.{Keeps, Replays};
 ghost use Rattle.accept_book.specs.Legal.{Legal};
-ghost use Rattle.accept_book.specs.Ready.{ReadyFor};
 ghost use Rattle.accept_book.specs.BookAnswers.{ComesTo};
-ghost use Rattle.accept_book.specs.Booking.{names_of, by_outcome, Fits, AllFit, OthersFit};
+ghost use Rattle.accept_book.specs.Tokens.{AwaitsStep, TookToken};
+ghost use Rattle.accept_book.specs.Booking.{names_of, by_outcome, Fits, AllFit};
 ghost use Rattle.accept_book.specs.Booking.{StepFits, token_size, mark_of, settled_of, stands_of};
 ghost use Rattle.accept_book.specs.Booking.{spends, by_step, begun, opened_by, taken, negotiated};
 ghost use Rattle.accept_book.specs.Booking.{refusal_of_mark, has_key};
@@ -101,8 +101,7 @@ fn one_receipt(receipt: Receipt) -> Receipts
 
 // A token that isn't taken once it was read: a later one ends its context.
 fn refuse(core: &mut Core<AcceptEnd, Outcome>, id: Option<u64>, answer: NegAnswer) -> Negotiated
-    requires ready { ReadyFor core.old id }
-    requires others { OthersFit id core.old }
+    requires ready { AwaitsStep core.old id }
     ensures answer { result.answer ≡ answer }
     ensures comes { ComesTo (stands_of core.old) id
         (λ past. spends id core.old.history answer)
@@ -143,17 +142,12 @@ fn go_on(
     end: AcceptEnd,
     token: Octets,
 ) -> Negotiated
-    requires ready { ReadyFor core.old id }
+    requires ready { AwaitsStep core.old id }
     requires first { IsSome mark → auth_of id core.old.history ≡ false }
     requires fits { Fits end (auth_after id mark core.old.history) }
-    requires others { OthersFit id core.old }
     requires short { length token ≤ 65536 }
-    ensures size { token_size result.answer ≤ 65536 }
-    ensures comes { ComesTo (stands_of core.old) id
-        (λ past. taken (stands_of core.old) id past mark (AcceptStep.More end token))
-        result core.new }
-    ensures keeps { Keeps core.old core.new }
-    ensures fits { AllFit core.new }
+    ensures { TookToken core.old core.new id
+        (λ past. taken (stands_of core.old) id past mark (AcceptStep.More end token)) result }
 {
     match core.enter(id, mark, Next::Going(end)) {
         Ok(entered) => Negotiated {
@@ -175,17 +169,13 @@ fn settle(
     ends: Moment,
     token: Octets,
 ) -> Negotiated
-    requires ready { ReadyFor core.old id }
+    requires ready { AwaitsStep core.old id }
     requires first { IsSome mark → auth_of id core.old.history ≡ false }
     requires fits { auth_after id mark core.old.history ≡ is_kerberos outcome.mech }
-    requires others { OthersFit id core.old }
     requires short { length token ≤ 65536 }
-    ensures size { token_size result.answer ≤ 65536 }
-    ensures comes { ComesTo (stands_of core.old) id
+    ensures { TookToken core.old core.new id
         (λ past. taken (stands_of core.old) id past mark (AcceptStep.Done outcome ends token))
-        result core.new }
-    ensures keeps { Keeps core.old core.new }
-    ensures fits { AllFit core.new }
+        result }
 {
     let step = Next::Settled {
         mech: outcome.mech,
@@ -215,17 +205,12 @@ fn finish(
     step: AcceptStep,
 ) -> Negotiated
     requires settled { IsSettled step }
-    requires ready { ReadyFor core.old id }
+    requires ready { AwaitsStep core.old id }
     requires first { IsSome mark → auth_of id core.old.history ≡ false }
     requires fits { StepFits step (auth_after id mark core.old.history) }
-    requires others { OthersFit id core.old }
     requires short { ShortAccept step }
-    ensures size { token_size result.answer ≤ 65536 }
-    ensures comes { ComesTo (stands_of core.old) id
-        (λ past. taken (stands_of core.old) id past mark step)
-        result core.new }
-    ensures keeps { Keeps core.old core.new }
-    ensures fits { AllFit core.new }
+    ensures { TookToken core.old core.new id
+        (λ past. taken (stands_of core.old) id past mark step) result }
 {
     match step {
         AcceptStep::More(end, token) => go_on(core, id, mark, end, token),
@@ -236,16 +221,11 @@ fn finish(
 
 // A step with its mark, where it asks for the repeat test.
 fn enter(core: &mut Core<AcceptEnd, Outcome>, id: Option<u64>, step: AcceptStep) -> Negotiated
-    requires ready { ReadyFor core.old id }
+    requires ready { AwaitsStep core.old id }
     requires fits { StepFits step (auth_of id core.old.history) }
-    requires others { OthersFit id core.old }
     requires short { ShortAccept step }
-    ensures size { token_size result.answer ≤ 65536 }
-    ensures comes { ComesTo (stands_of core.old) id
-        (λ past. taken (stands_of core.old) id past (mark_of step) (settled_of step))
-        result core.new }
-    ensures keeps { Keeps core.old core.new }
-    ensures fits { AllFit core.new }
+    ensures { TookToken core.old core.new id
+        (λ past. taken (stands_of core.old) id past (mark_of step) (settled_of step)) result }
 {
     match step {
         AcceptStep::WantsAuth(pause) => {
@@ -279,16 +259,11 @@ fn take_step(
     now: Moment,
     draws: &[u8; 66],
 ) -> Negotiated
-    requires ready { ReadyFor core.old id }
+    requires ready { AwaitsStep core.old id }
     requires fits { Fits end (auth_of id core.old.history) }
-    requires others { OthersFit id core.old }
-    ensures size { token_size result.answer ≤ 65536 }
-    ensures comes { ComesTo (stands_of core.old) id
+    ensures { TookToken core.old core.new id
         (λ past. by_step (stands_of core.old) id past
-        (accept_step setup.now end token.now now draws.now))
-        result core.new }
-    ensures keeps { Keeps core.old core.new }
-    ensures fits { AllFit core.new }
+        (accept_step setup.now end token.now now draws.now)) result }
 {
     match end.step(alloc, setup, token, now, draws) {
         Ok(step) => enter(core, id, step),
@@ -307,12 +282,8 @@ fn begin(
     draws: &[u8; 66],
 ) -> Negotiated
     requires { AllFit core.old }
-    ensures size { token_size result.answer ≤ 65536 }
-    ensures comes { ComesTo (stands_of core.old) None
-        (λ past. begun setup.now (stands_of core.old) past token.now now draws.now)
-        result core.new }
-    ensures keeps { Keeps core.old core.new }
-    ensures fits { AllFit core.new }
+    ensures { TookToken core.old core.new None
+        (λ past. begun setup.now (stands_of core.old) past token.now now draws.now) result }
 {
     match core.room(true) {
         Err(RoomRefusal::LogFull) => leave(NegAnswer::Refused(BookRefusal::LogFull)),
@@ -343,12 +314,9 @@ fn proceed(
     requires fits { AllFit core.old }
     requires negotiates { phase_of (slot_at core.old.table id) ≡ Phase.Negotiating }
     requires opened { PhaseBy (standing id core.old.history) Phase.Negotiating }
-    ensures size { token_size result.answer ≤ 65536 }
-    ensures comes { ComesTo (stands_of core.old) (Some id)
+    ensures { TookToken core.old core.new (Some id)
         (λ past. opened_by setup.now (stands_of core.old) id past token.now now draws.now)
-        result core.new }
-    ensures keeps { Keeps core.old core.new }
-    ensures fits { AllFit core.new }
+        result }
 {
     match core.room(false) {
         Err(_) => leave(NegAnswer::Refused(BookRefusal::LogFull)),
@@ -370,13 +338,9 @@ fn continue_with(
     draws: &[u8; 66],
 ) -> Negotiated
     requires { AllFit core.old }
-    ensures size { token_size result.answer ≤ 65536 }
-    ensures comes { ComesTo (stands_of core.old) (Some id)
-        (λ past. negotiated setup.now (stands_of core.old) (Some id) past token.now now
-        draws.now)
-        result core.new }
-    ensures keeps { Keeps core.old core.new }
-    ensures fits { AllFit core.new }
+    ensures { TookToken core.old core.new (Some id)
+        (λ past. negotiated setup.now (stands_of core.old) (Some id) past token.now now draws.now)
+        result }
 {
     match core.phase(id) {
         Phase::None => leave(NegAnswer::Refused(BookRefusal::NoContext)),

@@ -6,3 +6,4 @@ pub mod OneReading
 pub mod Turning
 pub mod Replying
 pub mod Takings
+pub mod Unasked

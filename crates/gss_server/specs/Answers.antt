@@ -1,9 +1,10 @@
 -- What the answer to one record says.
 use Rattle.std.specs.Prelude.{◌≡◌, ◌≤◌, ◌<◌, ◌==◌, ◌&&◌, ◌||◌, Bool, true, false, ℕ, length}
-use Rattle.std.specs.Prelude.{is_some, Option, Some, None}
+use Rattle.std.specs.Prelude.{is_some, Option, Some, None, []}
 use Rattle.accept_book.specs.RecordShown.{Ruling, Question, Negotiate, Look, Admit, End}
 use Rattle.gss_server.specs.declared.answer.Reply.{Reply}
 use Rattle.gss_server.specs.declared.answer.Reply.TheVariants.{Silent, Bytes, NoMemory}
+use Rattle.gss_server.specs.declared.saying.Said.{Said}
 
 -- a rule decides, and no question is due
 abbrev pub IsDecided : Ruling → Type 0
@@ -41,3 +42,10 @@ abbrev pub Fits : Reply → Type 0
 Fits Silent = Unit {0}
 Fits (Bytes octets) = length octets ≤ 131072
 Fits NoMemory = Unit {0}
+
+-- what is said is what the ruling says, unless memory was wanted where it may be, and fits into a
+-- record; the ruling asked nothing
+pub record IsSaid (said : Said) (ruling : Ruling) : Type 0 where
+  pub says : Says said.reply said.rule ruling
+  pub unasked : ruling.asked ≡ []
+  pub fits : Fits said.reply

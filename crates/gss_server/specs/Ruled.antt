@@ -1,12 +1,16 @@
 -- A call or a record that is answered by its ruling, and what the gate was asked for it.
-use Rattle.std.specs.Prelude.{◌≡◌, ℕ, List, length}
-use Rattle.accept_book.specs.RecordShown.{Asked, Ruling, KeptAnswers}
-use Rattle.gss_server.specs.Answers.{Says, Fits}
+use Rattle.std.specs.Prelude.{◌≡◌, ℕ, List, length, Option, Some, None}
+use Rattle.rpcsec_msgs.specs.Cred.{CredValue}
+use Rattle.accept_book.specs.RecordShown.{Asked, Ruling, KeptAnswers, Shown}
+use Rattle.accept_book.specs.RecordRule.{in_context, IsInContext, record_ruling}
+use Rattle.accept_book.specs.declared.book_answer.Lease.{Lease}
+use Rattle.gss_server.specs.Answers.{Says, Fits, IsSaid}
 use Rattle.gss_server.specs.Asking.{IsAsked}
-use Rattle.gss_server.specs.Hearing.{count_of}
+use Rattle.gss_server.specs.Hearing.{count_of, kept_answers}
 use Rattle.gss_server.specs.declared.answer.Answered.{Answered}
 use Rattle.gss_server.specs.declared.asks.Asks.{Asks}
 use Rattle.gss_server.specs.declared.gate.Gate.{Ghosts}
+use Rattle.gss_server.specs.declared.saying.Said.{Said}
 
 -- a gate, from its old state to its new one, was asked these, and tells them where it has room for
 -- so many
@@ -25,6 +29,18 @@ pub record IsRuled {S : Type 0} (gate : Ghosts S) (least : ℕ) (old new : S) (a
   pub tells : gate.tells new ≡ gate.tells old
   pub limits : gate.limits new ≡ gate.limits old
 
+-- the same of a call whose context was shown: it asks one question at most, and for no context
+pub record IsRuledInContext {S : Type 0} (gate : Ghosts S) (old new : S) (asks : Asks)
+    (ruling : Ruling) : Type 0 where
+  pub ruled : IsRuled gate 1 old new asks ruling
+  pub unlooked : asks.looked ≡ None
+
+-- what is said to a call of the context that a lease shows, where its verifier, its program or its
+-- version refuses it, whatever decides behind them
+abbrev pub IsScreened : Shown → CredValue → Lease → Option Said → Type 0
+IsScreened s cred lease None = IsInContext s lease
+IsScreened s cred lease (Some said) = (rest : Ruling) → IsSaid said (in_context s cred lease rest)
+
 -- what a record's answer has of what was asked and said
 abbrev pub asks_of : Answered → Asks
 asks_of answered = record {
@@ -34,6 +50,16 @@ asks_of answered = record {
   ended = answered.kept.ended;
   said = record { rule = answered.rule; reply = answered.reply };
 }
+
+-- a record was answered at this moment by these draws: the rule, the reply and what the gate was
+-- asked are the ruling's, by what was kept
+pub record AnswersRecord {S : Type 0} (gate : Ghosts S) (old new : S) (octets : List ℕ)
+    (moment : ℕ) (drawing : List ℕ) (width : ℕ) (answered : Answered) : Type 0 where
+  pub ruled : IsRuled gate 2 old new (asks_of answered)
+      (record_ruling octets (kept_answers answered.kept) width)
+  pub now : answered.kept.now ≡ moment
+  pub draws : answered.kept.draws ≡ drawing
+  pub drawn : length answered.kept.draws ≡ 82
 
 -- what is kept of the answer to a record with this moment and these draws
 abbrev pub kept_with : ℕ → List ℕ → Asks → KeptAnswers

@@ -1,6 +1,7 @@
 -- What serving a connection leaves as it was, and what its clock and draw gave.
 use Rattle.std.specs.Prelude.{◌≡◌, ◌≤◌, ◌++◌, ℕ, false, IsTrue, List, map}
 use Rattle.std.specs.List.{flat_map}
+use Rattle.sec_base.specs.Answers.{Rose}
 use Rattle.sec_base.specs.declared.clock.Clock as clocks
 use Rattle.sec_base.specs.declared.draw.Draw as draws
 use Rattle.sec_base.specs.declared.link.Link as links
@@ -12,6 +13,12 @@ pub record LinkKept {L : Type 0} (link : links.Ghosts L) (old new : L) : Type 0 
   pub tells : link.tells new ≡ link.tells old
   pub unclosed : link.closed new ≡ false
   pub faults : link.faults old ≤ link.faults new
+
+-- the same, and where the link failed it counts a fault more
+pub record LinkLeft {L : Type 0} (link : links.Ghosts L) (old new : L) (Failed : Type 0) : Type
+    0 where
+  pub kept : LinkKept link old new
+  pub fault : Failed → Rose (link.faults old) (link.faults new)
 
 -- a gate tells as before, under the limits of before
 pub record GateKept {G : Type 0} (gate : gates.Ghosts G) (old new : G) : Type 0 where

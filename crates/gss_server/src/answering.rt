@@ -1,16 +1,16 @@
 //! The answer to a record, by the first rule that applies: the rules of RFC 5531 section 9 up to the credential, and of RFC 2203 sections
 //! 5.1 and 5.2.2 on the credential itself.
 
-ghost use Rattle.std.specs.Prelude.{◌≡◌, ◌≤◌, length, Ok, Some};
+ghost use Rattle.std.specs.Prelude.{◌≡◌, Ok, Some};
 ghost use Rattle.rpc_msgs.specs.Calls.{call_value, call_at};
 ghost use Rattle.rpc_msgs.specs.Replies.{mismatch, reply_octets};
 ghost use Rattle.rpcsec_msgs.specs.Cred.{cred_value, cred_at};
 ghost use Rattle.accept_book.specs.RecordShown.{by, is_other_version};
 ghost use Rattle.accept_book.specs.RecordRule.{is_misplaced, id_ruling, cred_ruling, call_ruling};
-ghost use Rattle.accept_book.specs.RecordRule.{read_ruling, record_ruling};
-ghost use Rattle.gss_server.specs.Answers.{Says, Fits};
-ghost use Rattle.gss_server.specs.Hearing.{shown, kept_answers};
-ghost use Rattle.gss_server.specs.Ruled.{IsRuled, kept_with, asks_of};
+ghost use Rattle.accept_book.specs.RecordRule.{read_ruling};
+ghost use Rattle.gss_server.specs.Answers.{IsSaid};
+ghost use Rattle.gss_server.specs.Hearing.{shown};
+ghost use Rattle.gss_server.specs.Ruled.{IsRuled, AnswersRecord, kept_with};
 
 use crate::answer::{Answered, Kept};
 use crate::asks::{Asks, unasked};
@@ -20,12 +20,11 @@ use crate::heard::Heard;
 use crate::looking::ask_for_look;
 use crate::opening::id_in;
 use crate::plain::say_unauthenticated;
-use crate::saying::{Said, say_denied, say_nothing, say_reply};
+use crate::saying::{Said, say_denied, say_no_context, say_nothing, say_reply};
 use accept_book::Rule;
 use krb_tokens::MicCache;
 use rpc_msgs::numbers::{
     AUTH_BADCRED, AUTH_NONE, AUTH_REJECTEDCRED, AUTH_TOOWEAK, NULL, RPC_VERSION, RPCSEC_GSS,
-    RPCSEC_GSS_CREDPROBLEM,
 };
 use rpc_msgs::{Call, CallRefusal, Reply as RpcReply, read_call};
 use rpcsec_msgs::numbers::{
@@ -43,13 +42,12 @@ fn say_by_id<G: Gate>(
     cred: &GssCred<'_>,
     id: Option<u64>,
 ) -> Asks
-    requires { heard.now.call.header ≤ length heard.now.bytes.now }
     ensures ruled { IsRuled G.Gate 2 gate.old gate.new result
         (id_ruling (shown heard.entry.now) (cred_value cred.now) result.looked result.admitted
         result.ended id) }
 {
     match id {
-        None => unasked(say_denied(alloc, heard, Rule::NoContext, RPCSEC_GSS_CREDPROBLEM)),
+        None => unasked(say_no_context(alloc, heard)),
         Some(id) => ask_for_look(alloc, gate, heard, cred, id),
     }
 }
@@ -64,7 +62,6 @@ fn misplaced(call: &Call<'_>, cred: &GssCred<'_>) -> bool
 
 /// Answers a call with this credential.
 fn say_with<G: Gate>(alloc: Global, gate: &mut G, heard: &Heard<'_>, cred: &GssCred<'_>) -> Asks
-    requires { heard.now.call.header ≤ length heard.now.bytes.now }
     ensures ruled { IsRuled G.Gate 2 gate.old gate.new result
         (cred_ruling (shown heard.entry.now) result.negotiated result.looked result.admitted
         result.ended (Ok (cred_value cred.now))) }
@@ -90,7 +87,6 @@ fn another_version(body: &[u8]) -> bool
 
 /// Answers a call with a credential of flavour 6.
 fn say_secure<G: Gate>(alloc: Global, gate: &mut G, heard: &Heard<'_>) -> Asks
-    requires { heard.now.call.header ≤ length heard.now.bytes.now }
     ensures ruled { IsRuled G.Gate 2 gate.old gate.new result
         (cred_ruling (shown heard.entry.now) result.negotiated result.looked result.admitted
         result.ended (cred_at heard.entry.now.call.cred.body.now)) }
@@ -111,7 +107,6 @@ fn say_secure<G: Gate>(alloc: Global, gate: &mut G, heard: &Heard<'_>) -> Asks
 /// Answers a call.
 #[tactic(auto, unfolding(accept_book::specs::RecordRule::call_ruling))]
 fn say_call<G: Gate>(alloc: Global, gate: &mut G, heard: &Heard<'_>) -> Asks
-    requires { heard.now.call.header ≤ length heard.now.bytes.now }
     ensures ruled { IsRuled G.Gate 2 gate.old gate.new result
         (call_ruling (shown heard.entry.now) result.negotiated result.looked result.admitted
         result.ended) }
@@ -160,9 +155,7 @@ fn say_record<G: Gate>(
 
 /// The reply to another version of RPC.
 fn say_other_version(alloc: Global, xid: u32) -> Said
-    ensures says { Says result.reply result.rule
-        (by Rule.RpcVersion (Some (reply_octets (mismatch xid 2 2)))) }
-    ensures fits { Fits result.reply }
+    ensures says { IsSaid result (by Rule.RpcVersion (Some (reply_octets (mismatch xid 2 2)))) }
 {
     let reply = RpcReply::Mismatch {
         xid,
@@ -181,11 +174,7 @@ pub fn answer_record<G: Gate>(
     draws: &[u8; 82],
     width: u32,
 ) -> Answered
-    // The rule, the reply and what the gate was asked are the ruling's, by what was kept.
-    ensures ruled { IsRuled G.Gate 2 gate.old gate.new (asks_of result)
-        (record_ruling bytes.now (kept_answers result.kept) width) }
-    ensures now { result.kept.now ≡ now }
-    ensures draws { result.kept.draws ≡ draws.now }
+    ensures { AnswersRecord G.Gate gate.old gate.new bytes.now now draws.now width result }
 {
     answer_record_by(alloc, gate, bytes, now, draws, width, &MicCache::empty())
 }
@@ -201,12 +190,7 @@ pub(crate) fn answer_record_by<G: Gate>(
     width: u32,
     keys: &MicCache,
 ) -> Answered
-    // The rule, the reply and what the gate was asked are the ruling's, by what was kept.
-    ensures ruled { IsRuled G.Gate 2 gate.old gate.new (asks_of result)
-        (record_ruling bytes.now (kept_answers result.kept) width) }
-    ensures now { result.kept.now ≡ now }
-    ensures draws { result.kept.draws ≡ draws.now }
-    ensures drawn { length result.kept.draws ≡ 82 }
+    ensures { AnswersRecord G.Gate gate.old gate.new bytes.now now draws.now width result }
 {
     let Asks {
         negotiated,

@@ -1,13 +1,13 @@
 //! The rules of data calls, RFC 2203 section 5.3: a call is judged, its number taken, and its result given.
 
-ghost use Rattle.std.specs.Prelude.{◌≡◌, ◌≤◌, length, [], None};
+ghost use Rattle.std.specs.Prelude.{◌≡◌, ◌≤◌, length};
 ghost use Rattle.rpcsec_msgs.specs.Cred.{cred_value};
 ghost use Rattle.accept_book.specs.RecordShown.{is_verified, body_args, end_of};
 ghost use Rattle.accept_book.specs.RecordRule.{unadmitted, admitted_ruling, ask_admit, args_ruling};
 ghost use Rattle.accept_book.specs.RecordRule.{data_ruling};
-ghost use Rattle.gss_server.specs.Answers.{Says, Fits};
+ghost use Rattle.gss_server.specs.Answers.{IsSaid};
 ghost use Rattle.gss_server.specs.Hearing.{shown};
-ghost use Rattle.gss_server.specs.Ruled.{IsRuled};
+ghost use Rattle.gss_server.specs.Ruled.{IsRuledInContext, IsScreened};
 
 use crate::asks::{Asks, unasked};
 use crate::gate::Gate;
@@ -34,11 +34,8 @@ pub(crate) fn say_unadmitted(
     lease: &Lease,
     refusal: AdmitRefusal,
 ) -> Said
-    ensures says { Says result.reply result.rule
+    ensures says { IsSaid result
         (unadmitted (shown heard.entry.now) (cred_value cred.now) lease.now refusal) }
-    ensures unasked { (unadmitted (shown heard.entry.now) (cred_value cred.now) lease.now
-        refusal).asked ≡ [] }
-    ensures fits { Fits result.reply }
 {
     match refusal {
         AdmitRefusal::Gone => say_denied(alloc, heard, Rule::Gone, RPCSEC_GSS_CREDPROBLEM),
@@ -51,8 +48,7 @@ pub(crate) fn say_unadmitted(
 
 /// Whether the verifier is a MIC of the other side over the call's header.
 #[tactic(auto, unfolding(accept_book::specs::RecordShown::is_verified))]
-pub(crate) fn verified(heard: &Heard<'_>, lease: &Lease) -> bool
-    requires { heard.now.call.header ≤ length heard.now.bytes.now }
+fn verified(heard: &Heard<'_>, lease: &Lease) -> bool
     ensures { result ≡ is_verified (shown heard.entry.now) lease.now }
 {
     let call = &heard.call;
@@ -65,6 +61,28 @@ pub(crate) fn verified(heard: &Heard<'_>, lease: &Lease) -> bool
         .is_ok()
 }
 
+/// What is said to a call of a context that was shown, where its verifier, its program or its
+/// version refuses it.
+pub(crate) fn screened(
+    alloc: Global,
+    heard: &Heard<'_>,
+    cred: &GssCred<'_>,
+    lease: &Lease,
+) -> Option<Said>
+    ensures { IsScreened (shown heard.entry.now) (cred_value cred.now) lease.now result }
+{
+    if !verified(heard, lease) {
+        return Some(say_denied(alloc, heard, Rule::Verifier, RPCSEC_GSS_CREDPROBLEM));
+    }
+    if heard.call.program != PROGRAM {
+        return Some(say_stat(alloc, heard, cred, lease, Rule::Program, PROG_UNAVAIL));
+    }
+    if heard.call.version != VERSION {
+        return Some(say_mismatch(alloc, heard, cred, lease));
+    }
+    None
+}
+
 /// A call was admitted, or why it wasn't.
 fn say_admitted(
     alloc: Global,
@@ -75,12 +93,8 @@ fn say_admitted(
     answer: &Result<Admitted, AdmitRefusal>,
 ) -> Said
     requires { length args.now ≤ 65540 }
-    ensures says { Says result.reply result.rule
-        (admitted_ruling (shown heard.entry.now) (cred_value cred.now) lease.now args.now
-        answer.now) }
-    ensures unasked { (admitted_ruling (shown heard.entry.now) (cred_value cred.now) lease.now
-        args.now answer.now).asked ≡ [] }
-    ensures fits { Fits result.reply }
+    ensures says { IsSaid result (admitted_ruling (shown heard.entry.now) (cred_value cred.now)
+        lease.now args.now answer.now) }
 {
     match answer {
         Ok(admitted) => say_result(alloc, heard, cred, lease, args, admitted.posts),
@@ -98,10 +112,9 @@ fn ask_admission<G: Gate>(
     args: &[u8],
 ) -> Asks
     requires { length args.now ≤ 65540 }
-    ensures ruled { IsRuled G.Gate 1 gate.old gate.new result
+    ensures ruled { IsRuledInContext G.Gate gate.old gate.new result
         (ask_admit (shown heard.entry.now) (cred_value cred.now) lease.now args.now
         result.admitted) }
-    ensures unlooked { result.looked ≡ None }
 {
     let digest = Sha1::digest(args);
     let answer = gate.admit(lease, cred.seq, heard.call.procedure, digest);
@@ -121,9 +134,8 @@ fn say_args<G: Gate>(
     lease: &Lease,
     args: Option<Octets>,
 ) -> Asks
-    ensures ruled { IsRuled G.Gate 1 gate.old gate.new result
+    ensures ruled { IsRuledInContext G.Gate gate.old gate.new result
         (args_ruling (shown heard.entry.now) (cred_value cred.now) lease.now result.admitted args) }
-    ensures unlooked { result.looked ≡ None }
 {
     let args = match args {
         Some(args) => args,
@@ -147,10 +159,9 @@ fn say_body<G: Gate>(
     cred: &GssCred<'_>,
     lease: &Lease,
 ) -> Asks
-    ensures ruled { IsRuled G.Gate 1 gate.old gate.new result
+    ensures ruled { IsRuledInContext G.Gate gate.old gate.new result
         (args_ruling (shown heard.entry.now) (cred_value cred.now) lease.now result.admitted
         (body_args (end_of lease.now) (cred_value cred.now) heard.entry.now.call.args.now)) }
-    ensures unlooked { result.looked ≡ None }
 {
     match open_body(alloc, &end_at(lease), heard.keys, cred, heard.call.args) {
         Ok(args) => say_args(alloc, gate, heard, cred, lease, args),
@@ -167,21 +178,14 @@ pub(crate) fn say_data<G: Gate>(
     cred: &GssCred<'_>,
     lease: &Lease,
 ) -> Asks
-    requires { heard.now.call.header ≤ length heard.now.bytes.now }
-    ensures ruled { IsRuled G.Gate 1 gate.old gate.new result
+    ensures ruled { IsRuledInContext G.Gate gate.old gate.new result
         (data_ruling (shown heard.entry.now) (cred_value cred.now) lease.now result.admitted) }
-    ensures unlooked { result.looked ≡ None }
 {
-    if !verified(heard, lease) {
-        return unasked(say_denied(alloc, heard, Rule::Verifier, RPCSEC_GSS_CREDPROBLEM));
+    match screened(alloc, heard, cred, lease) {
+        None => {}
+        Some(said) => return unasked(said),
     }
     let call = &heard.call;
-    if call.program != PROGRAM {
-        return unasked(say_stat(alloc, heard, cred, lease, Rule::Program, PROG_UNAVAIL));
-    }
-    if call.version != VERSION {
-        return unasked(say_mismatch(alloc, heard, cred, lease));
-    }
     if call.procedure > COUNT {
         return unasked(say_stat(alloc, heard, cred, lease, Rule::Procedure, PROC_UNAVAIL));
     }

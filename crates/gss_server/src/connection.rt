@@ -8,7 +8,7 @@ ghost use Rattle.gss_server.specs.Answers.{IsReply, Fits};
 ghost use Rattle.gss_server.specs.Connections.{framed, IsServed, StreamEnds};
 ghost use Rattle.gss_server.specs.Keeping.{Makes};
 ghost use Rattle.gss_server.specs.Ruled.{Questions};
-ghost use Rattle.gss_server.specs.Steady.{LinkKept, GateKept};
+ghost use Rattle.gss_server.specs.Steady.{LinkLeft, GateKept};
 ghost use Rattle.gss_server.specs.Turns.{Receives, Responds, Ruled, AnswersBy, Replies, Turns};
 
 use crate::answer::{Kept, Reply};
@@ -130,10 +130,9 @@ fn serve<L: Link, K: Keeper<Kept>, G: Gate, C: Clock, D: Draw>(
         draw.old draw.new (λ kept. (course.new.records ≡ length kept)
         × IsServed (L.tells link.old) (Questions G.Gate 131072 gate.old gate.new) width
         (L.wire link.old) (L.wire link.new) result kept) }
-    ensures fault { result ≡ ConnEnd.LinkFault → Rose (L.faults link.old) (L.faults link.new) }
     ensures gate_kept { GateKept G.Gate gate.old gate.new }
     ensures most { course.new.records ≤ 65536 }
-    ensures link_kept { LinkKept L.Link link.old link.new }
+    ensures link_left { LinkLeft L.Link link.old link.new (result ≡ ConnEnd.LinkFault) }
 {
     for number in 0..RECORDS {
         match turn(alloc, link, keeper, gate, clock, draw, width, course) {
@@ -161,9 +160,8 @@ fn turn<L: Link, K: Keeper<Kept>, G: Gate, C: Clock, D: Draw>(
         draw.old draw.new (λ kept. (course.new.records ≡ course.old.records + length kept)
         × Turns (L.tells link.old) (Questions G.Gate 2 gate.old gate.new) width (L.wire link.old)
         (L.wire link.new) result kept) }
-    ensures fault { result ≡ Some ConnEnd.LinkFault → Rose (L.faults link.old) (L.faults link.new) }
     ensures gate_kept { GateKept G.Gate gate.old gate.new }
-    ensures link_kept { LinkKept L.Link link.old link.new }
+    ensures link_left { LinkLeft L.Link link.old link.new (result ≡ Some ConnEnd.LinkFault) }
 {
     match receive(alloc, link) {
         Ok(octets) => reply_to_record(
@@ -186,9 +184,7 @@ fn receive<L: Link>(alloc: Global, link: &mut L) -> Result<Octets, ConnEnd>
     requires unclosed { L.closed link.old ≡ false }
     ensures told { IsTrue (L.tells link.old) → Receives (L.wire link.old) (L.wire link.new) result }
     ensures early { result ≢ Err ConnEnd.Budget }
-    ensures fault { IsErrOf result ConnEnd.LinkFault
-        → Rose (L.faults link.old) (L.faults link.new) }
-    ensures link_kept { LinkKept L.Link link.old link.new }
+    ensures link_left { LinkLeft L.Link link.old link.new (IsErrOf result ConnEnd.LinkFault) }
 {
     match next_record(alloc, link) {
         Ok(Some(octets)) => Ok(octets),
@@ -219,9 +215,8 @@ fn reply_to_record<L: Link, K: Keeper<Kept>, G: Gate, C: Clock, D: Draw>(
         draw.old draw.new (λ kept. (course.new.records ≡ course.old.records + length kept)
         × Replies (L.tells link.old) (Questions G.Gate 2 gate.old gate.new) width (L.wire link.old)
         (L.wire link.new) octets.now result kept) }
-    ensures fault { result ≡ Some ConnEnd.LinkFault → Rose (L.faults link.old) (L.faults link.new) }
     ensures gate_kept { GateKept G.Gate gate.old gate.new }
-    ensures link_kept { LinkKept L.Link link.old link.new }
+    ensures link_left { LinkLeft L.Link link.old link.new (result ≡ Some ConnEnd.LinkFault) }
 {
     if keeper.make_room().is_err() {
         return Some(ConnEnd::NoMemory);
@@ -277,9 +272,7 @@ fn respond<L: Link>(link: &mut L, reply: &Reply) -> Result<(), ConnEnd>
     ensures told { IsTrue (L.tells link.old) → (ruling : Ruling) → IsReply ruling reply.now
         → Responds (L.wire link.old) (L.wire link.new) (framed ruling.reply) result }
     ensures ruled { (ruling : Ruling) → IsReply ruling reply.now → Ruled ruling result }
-    ensures fault { IsErrOf result ConnEnd.LinkFault
-        → Rose (L.faults link.old) (L.faults link.new) }
-    ensures link_kept { LinkKept L.Link link.old link.new }
+    ensures link_left { LinkLeft L.Link link.old link.new (IsErrOf result ConnEnd.LinkFault) }
 {
     match reply {
         Reply::Silent => Ok(()),

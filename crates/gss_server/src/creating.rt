@@ -1,6 +1,6 @@
 //! The rules of creation, RFC 2203 section 5.2: INIT and CONTINUE_INIT.
 
-ghost use Rattle.std.specs.Prelude.{◌≡◌, ◌<◌, ◌≤◌, length, [], Some, Ok, take, IfOk};
+ghost use Rattle.std.specs.Prelude.{◌≡◌, ◌≤◌, length, Some, Ok, take, IfOk};
 ghost use Rattle.rpc_msgs.specs.Words.{word};
 ghost use Rattle.rpc_msgs.specs.Replies.{accepted, reply_octets};
 ghost use Rattle.rpcsec_msgs.specs.Cred.{cred_value};
@@ -11,7 +11,7 @@ ghost use Rattle.accept_book.specs.RecordShown.{by, plain, going, settled, refus
 ghost use Rattle.accept_book.specs.RecordShown.{end_of};
 ghost use Rattle.accept_book.specs.RecordRule.{stepped, ask_step, continued, token_ruling};
 ghost use Rattle.accept_book.specs.RecordRule.{creation_ruling};
-ghost use Rattle.gss_server.specs.Answers.{Says, Fits};
+ghost use Rattle.gss_server.specs.Answers.{IsSaid};
 ghost use Rattle.gss_server.specs.Hearing.{shown, handle_or_none};
 ghost use Rattle.gss_server.specs.Ruled.{IsRuled};
 
@@ -19,14 +19,13 @@ use crate::asks::{Asks, unasked};
 use crate::gate::Gate;
 use crate::heard::Heard;
 use crate::opening::{id_in, token_in};
-use crate::saying::{Said, end_at, say_denied, say_no_memory, say_plain, say_reply};
+use crate::saying::{Said, end_at, say_no_context, say_no_memory, say_plain, say_reply};
 use crate::statuses::major_of;
 use accept_book::{BookRefusal, Lease, NegAnswer, Negotiated, Rule};
 use gss_base::status::{COMPLETE, CONTINUE_NEEDED};
 use rpc_msgs::Reply as RpcReply;
 use rpc_msgs::numbers::{
-    AUTH_NONE, GARBAGE_ARGS, PROG_MISMATCH, PROG_UNAVAIL, PROGRAM, RPCSEC_GSS,
-    RPCSEC_GSS_CREDPROBLEM, SUCCESS, VERSION,
+    AUTH_NONE, GARBAGE_ARGS, PROG_MISMATCH, PROG_UNAVAIL, PROGRAM, RPCSEC_GSS, SUCCESS, VERSION,
 };
 use rpcsec_msgs::numbers::RPCSEC_GSS_INIT;
 use rpcsec_msgs::{GssCred, InitRes, write_init_res};
@@ -81,9 +80,7 @@ fn handle(alloc: Global, id: Option<u64>) -> Result<Octets, NoMemory>
 /// A context goes on: its handle, and the token for the initiator.
 fn say_going(alloc: Global, heard: &Heard<'_>, id: u64, token: &[u8]) -> Said
     requires { length token.now ≤ 65536 }
-    ensures says { Says result.reply result.rule
-        (by Rule.Going (going (shown heard.entry.now) id token.now)) }
-    ensures fits { Fits result.reply }
+    ensures says { IsSaid result (by Rule.Going (going (shown heard.entry.now) id token.now)) }
 {
     match result_octets(alloc, Some(id), CONTINUE_NEEDED, 0, 0, token) {
         Ok(result) => say_creation(alloc, heard, Rule::Going, result.as_slice()),
@@ -94,9 +91,7 @@ fn say_going(alloc: Global, heard: &Heard<'_>, id: u64, token: &[u8]) -> Said
 /// A creation's result without a verifier.
 fn say_creation(alloc: Global, heard: &Heard<'_>, rule: Rule, body: &[u8]) -> Said
     requires size { length body.now ≤ 130000 }
-    ensures says { Says result.reply result.rule
-        (by rule (plain (shown heard.entry.now) 0 0 0 body.now)) }
-    ensures fits { Fits result.reply }
+    ensures says { IsSaid result (by rule (plain (shown heard.entry.now) 0 0 0 body.now)) }
 {
     let reply = RpcReply::Accepted {
         xid: heard.call.xid,
@@ -113,9 +108,8 @@ fn say_creation(alloc: Global, heard: &Heard<'_>, rule: Rule, body: &[u8]) -> Sa
 /// A context is complete: its handle, the window, the token for the initiator, and a MIC over the window.
 fn say_settled(alloc: Global, heard: &Heard<'_>, lease: &Lease, token: &[u8]) -> Said
     requires { length token.now ≤ 65536 }
-    ensures says { Says result.reply result.rule
+    ensures says { IsSaid result
         (by Rule.Settled (settled (shown heard.entry.now) lease.now token.now)) }
-    ensures fits { Fits result.reply }
 {
     match result_octets(alloc, Some(lease.id), COMPLETE, 0, heard.width, token) {
         Ok(result) => say_window(alloc, heard, lease, result.as_slice()),
@@ -126,10 +120,9 @@ fn say_settled(alloc: Global, heard: &Heard<'_>, lease: &Lease, token: &[u8]) ->
 /// A creation's result with a MIC over the window.
 fn say_window(alloc: Global, heard: &Heard<'_>, lease: &Lease, body: &[u8]) -> Said
     requires { length body.now ≤ 130000 }
-    ensures says { Says result.reply result.rule (by Rule.Settled
+    ensures says { IsSaid result (by Rule.Settled
         (Some (reply_octets (accepted heard.entry.now.call.xid 6
         (mic_of (end_of lease.now) 1 (word heard.entry.now.width)) 0 0 0 body.now)))) }
-    ensures fits { Fits result.reply }
 {
     let mic = window_mic(heard.width, lease);
     let reply = RpcReply::Accepted {
@@ -165,9 +158,7 @@ fn reject(refusal: &BookRefusal) -> &'static [u8]
 
 /// A refused step: its major and minor status.
 fn say_refused(alloc: Global, heard: &Heard<'_>, refusal: &BookRefusal) -> Said
-    ensures says { Says result.reply result.rule
-        (by Rule.Refused (refused (shown heard.entry.now) refusal.now)) }
-    ensures fits { Fits result.reply }
+    ensures says { IsSaid result (by Rule.Refused (refused (shown heard.entry.now) refusal.now)) }
 {
     let (major, minor) = (major_of(*refusal), refusal.number());
     match result_octets(alloc, None, major, minor, 0, reject(refusal)) {
@@ -179,19 +170,12 @@ fn say_refused(alloc: Global, heard: &Heard<'_>, refusal: &BookRefusal) -> Said
 /// What a step was answered.
 fn say_stepped(alloc: Global, heard: &Heard<'_>, answer: &NegAnswer) -> Said
     requires { token_size answer.now ≤ 65536 }
-    ensures says { Says result.reply result.rule (stepped (shown heard.entry.now) answer.now) }
-    ensures unasked { (stepped (shown heard.entry.now) answer.now).asked ≡ [] }
-    ensures fits { Fits result.reply }
+    ensures says { IsSaid result (stepped (shown heard.entry.now) answer.now) }
 {
     match answer {
         NegAnswer::Going { id, token } => say_going(alloc, heard, *id, token.as_slice()),
         NegAnswer::Settled { lease, token } => say_settled(alloc, heard, lease, token.as_slice()),
-        NegAnswer::Refused(BookRefusal::NoContext) => say_denied(
-            alloc,
-            heard,
-            Rule::NoContext,
-            RPCSEC_GSS_CREDPROBLEM,
-        ),
+        NegAnswer::Refused(BookRefusal::NoContext) => say_no_context(alloc, heard),
         NegAnswer::Refused(refusal) => say_refused(alloc, heard, refusal),
         NegAnswer::NoMemory => say_no_memory(),
     }
@@ -241,7 +225,7 @@ fn say_continued<G: Gate>(
         (continued (shown heard.entry.now) token.now result.negotiated id) }
 {
     match id {
-        None => unasked(say_denied(alloc, heard, Rule::NoContext, RPCSEC_GSS_CREDPROBLEM)),
+        None => unasked(say_no_context(alloc, heard)),
         Some(id) => ask_for_step(alloc, gate, heard, Some(id), token),
     }
 }

@@ -1,5 +1,7 @@
 //! A call that was heard.
 
+ghost use Rattle.std.specs.Prelude.{◌≤◌, length};
+
 use krb_tokens::MicCache;
 use rpc_msgs::Call;
 use sec_base::Moment;
@@ -14,4 +16,5 @@ pub(crate) struct Heard<'a> {
     pub width: u32,
     /// The keys of the context of the call before, in which those of this one may be found.
     pub keys: &'a MicCache,
+    ghost within: { call.header ≤ length bytes.now },
 }

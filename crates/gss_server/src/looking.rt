@@ -1,22 +1,19 @@
 //! The rules of DATA and DESTROY up to the context (RFC 2203 section 5.3.3.3), and those of DESTROY (section 5.4).
 
-ghost use Rattle.std.specs.Prelude.{◌≡◌, ◌≤◌, length, [], None};
 ghost use Rattle.rpcsec_msgs.specs.Cred.{cred_value};
 ghost use Rattle.accept_book.specs.RecordRule.{ended_ruling, ask_end, destroy_ruling};
 ghost use Rattle.accept_book.specs.RecordRule.{looked_ruling, ask_look};
-ghost use Rattle.gss_server.specs.Answers.{Says, Fits};
+ghost use Rattle.gss_server.specs.Answers.{IsSaid};
 ghost use Rattle.gss_server.specs.Hearing.{shown};
-ghost use Rattle.gss_server.specs.Ruled.{IsRuled};
+ghost use Rattle.gss_server.specs.Ruled.{IsRuled, IsRuledInContext};
 
 use crate::asks::{Asks, unasked};
-use crate::calling::{say_data, say_unadmitted, verified};
+use crate::calling::{say_data, say_unadmitted, screened};
 use crate::gate::Gate;
 use crate::heard::Heard;
-use crate::saying::{Said, say_denied, say_mismatch, say_stat};
+use crate::saying::{Said, say_denied, say_no_context, say_stat};
 use accept_book::{AdmitRefusal, Lease, LookRefusal, Receipt, Rule};
-use rpc_msgs::numbers::{
-    PROG_UNAVAIL, PROGRAM, RPCSEC_GSS_CREDPROBLEM, RPCSEC_GSS_CTXPROBLEM, SUCCESS, VERSION,
-};
+use rpc_msgs::numbers::{RPCSEC_GSS_CTXPROBLEM, SUCCESS};
 use rpcsec_msgs::GssCred;
 use rpcsec_msgs::numbers::RPCSEC_GSS_DATA;
 use std::alloc::Global;
@@ -29,11 +26,8 @@ fn say_ended(
     lease: &Lease,
     answer: &Result<Receipt, AdmitRefusal>,
 ) -> Said
-    ensures says { Says result.reply result.rule
+    ensures says { IsSaid result
         (ended_ruling (shown heard.entry.now) (cred_value cred.now) lease.now answer.now) }
-    ensures unasked { (ended_ruling (shown heard.entry.now) (cred_value cred.now) lease.now
-        answer.now).asked ≡ [] }
-    ensures fits { Fits result.reply }
 {
     match answer {
         Ok(_) => say_stat(alloc, heard, cred, lease, Rule::Ended, SUCCESS),
@@ -49,9 +43,8 @@ fn ask_for_end<G: Gate>(
     cred: &GssCred<'_>,
     lease: &Lease,
 ) -> Asks
-    ensures ruled { IsRuled G.Gate 1 gate.old gate.new result
+    ensures ruled { IsRuledInContext G.Gate gate.old gate.new result
         (ask_end (shown heard.entry.now) (cred_value cred.now) lease.now result.ended) }
-    ensures unlooked { result.looked ≡ None }
 {
     let answer = gate.end(lease, cred.seq);
     let said = say_ended(alloc, heard, cred, lease, &answer);
@@ -70,20 +63,12 @@ fn say_destroy<G: Gate>(
     cred: &GssCred<'_>,
     lease: &Lease,
 ) -> Asks
-    requires { heard.now.call.header ≤ length heard.now.bytes.now }
-    ensures ruled { IsRuled G.Gate 1 gate.old gate.new result
+    ensures ruled { IsRuledInContext G.Gate gate.old gate.new result
         (destroy_ruling (shown heard.entry.now) (cred_value cred.now) lease.now result.ended) }
-    ensures unlooked { result.looked ≡ None }
 {
-    if !verified(heard, lease) {
-        return unasked(say_denied(alloc, heard, Rule::Verifier, RPCSEC_GSS_CREDPROBLEM));
-    }
-    let call = &heard.call;
-    if call.program != PROGRAM {
-        return unasked(say_stat(alloc, heard, cred, lease, Rule::Program, PROG_UNAVAIL));
-    }
-    if call.version != VERSION {
-        return unasked(say_mismatch(alloc, heard, cred, lease));
+    match screened(alloc, heard, cred, lease) {
+        None => {}
+        Some(said) => return unasked(said),
     }
     ask_for_end(alloc, gate, heard, cred, lease)
 }
@@ -96,11 +81,9 @@ fn say_looked<G: Gate>(
     cred: &GssCred<'_>,
     answer: &Result<Lease, LookRefusal>,
 ) -> Asks
-    requires { heard.now.call.header ≤ length heard.now.bytes.now }
-    ensures ruled { IsRuled G.Gate 1 gate.old gate.new result
+    ensures ruled { IsRuledInContext G.Gate gate.old gate.new result
         (looked_ruling (shown heard.entry.now) (cred_value cred.now) result.admitted result.ended
         answer.now) }
-    ensures unlooked { result.looked ≡ None }
 {
     match answer {
         Ok(lease) => {
@@ -109,18 +92,8 @@ fn say_looked<G: Gate>(
             }
             say_destroy(alloc, gate, heard, cred, lease)
         }
-        Err(LookRefusal::NoContext) => unasked(say_denied(
-            alloc,
-            heard,
-            Rule::NoContext,
-            RPCSEC_GSS_CREDPROBLEM,
-        )),
-        Err(LookRefusal::NotReady) => unasked(say_denied(
-            alloc,
-            heard,
-            Rule::NoContext,
-            RPCSEC_GSS_CREDPROBLEM,
-        )),
+        Err(LookRefusal::NoContext) => unasked(say_no_context(alloc, heard)),
+        Err(LookRefusal::NotReady) => unasked(say_no_context(alloc, heard)),
         Err(LookRefusal::Expired) => unasked(say_denied(
             alloc,
             heard,
@@ -138,7 +111,6 @@ pub(crate) fn ask_for_look<G: Gate>(
     cred: &GssCred<'_>,
     id: u64,
 ) -> Asks
-    requires { heard.now.call.header ≤ length heard.now.bytes.now }
     ensures ruled { IsRuled G.Gate 2 gate.old gate.new result
         (ask_look (shown heard.entry.now) (cred_value cred.now) id result.admitted result.ended
         result.looked) }

@@ -1,8 +1,7 @@
 //! The rules of calls without authentication, RFC 5531 sections 9 and 10.1.
 
-ghost use Rattle.std.specs.Prelude.{◌≡◌, []};
 ghost use Rattle.accept_book.specs.RecordRule.{plain_ruling};
-ghost use Rattle.gss_server.specs.Answers.{Says, Fits};
+ghost use Rattle.gss_server.specs.Answers.{IsSaid};
 ghost use Rattle.gss_server.specs.Hearing.{shown};
 
 use crate::heard::Heard;
@@ -17,9 +16,7 @@ use std::alloc::Global;
 /// Answers a call without authentication.
 #[tactic(auto, unfolding(accept_book::specs::RecordRule::plain_ruling))]
 pub(crate) fn say_unauthenticated(alloc: Global, heard: &Heard<'_>) -> Said
-    ensures says { Says result.reply result.rule (plain_ruling (shown heard.entry.now)) }
-    ensures unasked { (plain_ruling (shown heard.entry.now)).asked ≡ [] }
-    ensures fits { Fits result.reply }
+    ensures says { IsSaid result (plain_ruling (shown heard.entry.now)) }
 {
     let call = &heard.call;
     if call.program != PROGRAM {

@@ -5,7 +5,7 @@ ghost use Rattle.rpcsec_msgs.specs.Cred.{cred_value};
 ghost use Rattle.accept_book.specs.RecordShown.{by, end_of, result_body};
 ghost use Rattle.accept_book.specs.RecordRule.{result_reply};
 ghost use Rattle.accept_book.specs.Served.{result_of};
-ghost use Rattle.gss_server.specs.Answers.{Says, Fits};
+ghost use Rattle.gss_server.specs.Answers.{IsSaid};
 ghost use Rattle.gss_server.specs.Hearing.{shown};
 
 use crate::heard::Heard;
@@ -28,9 +28,8 @@ pub(crate) fn say_result(
     posts: u32,
 ) -> Said
     requires { length args.now ≤ 65540 }
-    ensures says { Says result.reply result.rule (by Rule.Done
+    ensures says { IsSaid result (by Rule.Done
         (result_reply (shown heard.entry.now) (cred_value cred.now) lease.now args.now posts)) }
-    ensures fits { Fits result.reply }
 {
     match make_body(alloc, heard, cred, lease, args, posts) {
         Ok(body) => say_signed(

@@ -6,14 +6,17 @@ ghost use Rattle.rpc_msgs.specs.Words.{word};
 ghost use Rattle.rpcsec_msgs.specs.Cred.{cred_value};
 ghost use Rattle.krb_tokens.specs.Mic.{mic_of};
 ghost use Rattle.accept_book.specs.RecordShown.{by, plain, signed, denied, end_of};
-ghost use Rattle.gss_server.specs.Answers.{Says, Fits};
+ghost use Rattle.accept_book.specs.RecordRule.{no_context};
+ghost use Rattle.gss_server.specs.Answers.{IsSaid};
 ghost use Rattle.gss_server.specs.Hearing.{shown};
 
 use crate::answer::Reply;
 use crate::heard::Heard;
 use accept_book::{Lease, Rule};
 use krb_tokens::{MicCache, Side, TokenEnd};
-use rpc_msgs::numbers::{AUTH_NONE, PROG_MISMATCH, RPCSEC_GSS, SUCCESS, VERSION};
+use rpc_msgs::numbers::{
+    AUTH_NONE, PROG_MISMATCH, RPCSEC_GSS, RPCSEC_GSS_CREDPROBLEM, SUCCESS, VERSION,
+};
 use rpc_msgs::{Reply as RpcReply, write_reply};
 use rpcsec_msgs::GssCred;
 use std::alloc::Global;
@@ -27,8 +30,7 @@ pub(crate) struct Said {
 
 /// No reply.
 pub(crate) fn say_nothing(rule: Rule) -> Said
-    ensures says { Says result.reply result.rule (by rule None) }
-    ensures fits { Fits result.reply }
+    ensures says { IsSaid result (by rule None) }
 {
     Said {
         rule: rule.number(),
@@ -49,12 +51,17 @@ pub(crate) fn say_no_memory() -> Said
 
 /// The reply to a caller who isn't accepted.
 pub(crate) fn say_denied(alloc: Global, heard: &Heard<'_>, rule: Rule, stat: u32) -> Said
-    ensures says { Says result.reply result.rule
-        (by rule (denied (shown heard.entry.now) stat)) }
-    ensures fits { Fits result.reply }
+    ensures says { IsSaid result (by rule (denied (shown heard.entry.now) stat)) }
 {
     let xid = heard.call.xid;
     say_reply(alloc, rule, &RpcReply::AuthError { xid, stat })
+}
+
+/// The call is of no context that is known.
+pub(crate) fn say_no_context(alloc: Global, heard: &Heard<'_>) -> Said
+    ensures says { IsSaid result (no_context (shown heard.entry.now)) }
+{
+    say_denied(alloc, heard, Rule::NoContext, RPCSEC_GSS_CREDPROBLEM)
 }
 
 /// An accepted reply without verifier.
@@ -68,9 +75,7 @@ pub(crate) fn say_plain(
 ) -> Said
     requires low { stat ≢ PROG_MISMATCH → low ≡ 0 }
     requires high { stat ≢ PROG_MISMATCH → high ≡ 0 }
-    ensures says { Says result.reply result.rule
-        (by rule (plain (shown heard.entry.now) stat low high [])) }
-    ensures fits { Fits result.reply }
+    ensures says { IsSaid result (by rule (plain (shown heard.entry.now) stat low high [])) }
 {
     let reply = RpcReply::Accepted {
         xid: heard.call.xid,
@@ -88,9 +93,7 @@ pub(crate) fn say_plain(
 pub(crate) fn say_reply(alloc: Global, rule: Rule, reply: &RpcReply<'_>) -> Said
     requires proper { IsReply (reply_value reply.now) }
     requires fits { length (reply_octets (reply_value reply.now)) ≤ 131072 }
-    ensures says { Says result.reply result.rule
-        (by rule (Some (reply_octets (reply_value reply.now)))) }
-    ensures fits { Fits result.reply }
+    ensures says { IsSaid result (by rule (Some (reply_octets (reply_value reply.now)))) }
 {
     match write_reply(alloc, reply) {
         Ok(octets) => Said {
@@ -136,9 +139,8 @@ pub(crate) fn say_signed(
     requires high { stat ≢ PROG_MISMATCH → high ≡ 0 }
     requires body { stat ≢ SUCCESS → body.now ≡ [] }
     requires size { length body.now ≤ 130000 }
-    ensures says { Says result.reply result.rule (by rule
+    ensures says { IsSaid result (by rule
         (signed (shown heard.entry.now) (cred_value cred.now) lease.now stat low high body.now)) }
-    ensures fits { Fits result.reply }
 {
     let mic = verifier(cred.seq, heard.keys, lease);
     let reply = RpcReply::Accepted {
@@ -162,9 +164,8 @@ pub(crate) fn say_stat(
     rule: Rule,
     stat: u32,
 ) -> Said
-    ensures says { Says result.reply result.rule (by rule
-        (signed (shown heard.entry.now) (cred_value cred.now) lease.now stat 0 0 [])) }
-    ensures fits { Fits result.reply }
+    ensures says { IsSaid result
+        (by rule (signed (shown heard.entry.now) (cred_value cred.now) lease.now stat 0 0 [])) }
 {
     say_signed(alloc, heard, cred, lease, rule, stat, 0, 0, &[])
 }
@@ -176,9 +177,8 @@ pub(crate) fn say_mismatch(
     cred: &GssCred<'_>,
     lease: &Lease,
 ) -> Said
-    ensures says { Says result.reply result.rule (by Rule.Version (signed (shown heard.entry.now)
+    ensures says { IsSaid result (by Rule.Version (signed (shown heard.entry.now)
         (cred_value cred.now) lease.now PROG_MISMATCH VERSION VERSION [])) }
-    ensures fits { Fits result.reply }
 {
     let rule = Rule::Version;
     say_signed(

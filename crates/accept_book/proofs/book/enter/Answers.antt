@@ -1,4 +1,4 @@
-use Rattle.std.proofs.Common.{true}
+use Rattle.std.proofs.Common.{true, rules}
 use Rattle.accept_book.specs.Booking.{stands_of}
 use Rattle.accept_book.proofs.Fitting.{fits_after}
 use Rattle.accept_book.proofs.Comings.{comes_marked}
@@ -16,13 +16,17 @@ go_on-requires-in-More-clause-fits c = rw c.in-More.is at c.requires.fits
 pub settle-requires-clause-fits : goal.settle-requires-clause-fits
 settle-requires-clause-fits c = rw c.in-Done.is at c.requires.fits
 
-pub returns-in-WantsAuth-clause-comes : goal.returns-in-WantsAuth-clause-comes
-returns-in-WantsAuth-clause-comes c =
-    comes_marked (stands_of c.args.core.now) c.args.id c.in-WantsAuth.pause c.args.step c.go_on.result c.mark-mark.result c.finish.result c.finish.new.core
-    c.in-WantsAuth.is c.mark-mark.ensures c.go_on.ensures.value c.finish.ensures.comes
+pub returns-in-WantsAuth : goal.returns-in-WantsAuth
+returns-in-WantsAuth c = record {
+  size = search rules;
+  comes = comes_marked (stands_of c.args.core.now) c.args.id c.in-WantsAuth.pause c.args.step c.go_on.result c.mark-mark.result c.finish.result c.finish.new.core
+      c.in-WantsAuth.is c.mark-mark.ensures c.go_on.ensures.value c.finish.ensures.comes;
+  keeps = search rules;
+  fits = search rules;
+}
 
-pub returns-in-More-clause-comes : goal.returns-in-More-clause-comes
-returns-in-More-clause-comes c = rw c.in-More.is c.go_on-in-More.ensures.comes
+pub returns-in-More : goal.returns-in-More
+returns-in-More c = rw c.in-More.is c.go_on-in-More.ensures
 
-pub returns-in-Done-clause-comes : goal.returns-in-Done-clause-comes
-returns-in-Done-clause-comes c = rw c.in-Done.is c.settle.ensures.comes
+pub returns-in-Done : goal.returns-in-Done
+returns-in-Done c = rw c.in-Done.is c.settle.ensures

@@ -6,8 +6,8 @@ go_on-requires-clause-fits c = rw c.in-More.is at c.requires.fits
 pub settle-requires-clause-fits : goal.settle-requires-clause-fits
 settle-requires-clause-fits c = rw c.in-Done.is at c.requires.fits
 
-pub returns-in-More-clause-comes : goal.returns-in-More-clause-comes
-returns-in-More-clause-comes c = rw c.in-More.is c.go_on.ensures.comes
+pub returns-in-More : goal.returns-in-More
+returns-in-More c = rw c.in-More.is c.go_on.ensures
 
-pub returns-in-Done-clause-comes : goal.returns-in-Done-clause-comes
-returns-in-Done-clause-comes c = rw c.in-Done.is c.settle.ensures.comes
+pub returns-in-Done : goal.returns-in-Done
+returns-in-Done c = rw c.in-Done.is c.settle.ensures

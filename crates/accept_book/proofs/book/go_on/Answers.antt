@@ -1,4 +1,4 @@
-use Rattle.std.proofs.Common.{refl}
+use Rattle.std.proofs.Common.{refl, rules}
 use Rattle.spnego_core.specs.declared.accept_end.AcceptStep.TheVariants as steps
 use Rattle.accept_book.specs.declared.answer.Next.TheVariants as nexts
 use Rattle.accept_book.specs.declared.book_answer.NegAnswer.TheVariants as answers
@@ -7,20 +7,25 @@ use Rattle.accept_book.proofs.Fitting.{slot_fits, all_fit}
 use Rattle.accept_book.proofs.Comings.{comes_taken, comes_refused}
 use Rattle.accept_book.proofs.book.go_on.Goals as goal
 
-pub returns-in-Ok-clause-fits : goal.returns-in-Ok-clause-fits
-returns-in-Ok-clause-fits c =
-    all_fit c.args.core.now c.enter.new.self c.args.id c.in-Ok.entered.id c.in-Ok.ensures.id c.requires.others
-    (rw c.in-Ok.ensures.auth (slot_fits _ c.args.end _ _ c.in-Ok.ensures.context c.requires.fits)) c.in-Ok.ensures.stays c.in-Ok.ensures.auths
+pub returns-in-Ok : goal.returns-in-Ok
+returns-in-Ok c =
+    let own = c.in-Ok.entered.id in record {
+      size = search rules;
+      comes = comes_taken c.args.core.now c.enter.new.self c.args.id c.args.mark (steps.More c.args.end c.args.token) (nexts.Going c.args.end) own
+          (record { answer = answers.Going own c.args.token; receipts = c.in-Ok.entered.receipts })
+          c.in-Ok.ensures.taken c.in-Ok.ensures.id refl refl (λ none. cc) c.enter.ensures.history c.in-Ok.ensures.context c.in-Ok.ensures.others c.in-Ok.ensures.receipts
+          (windows_entered c.args.core.now.table c.enter.new.self.table own c.in-Ok.ensures.window c.in-Ok.ensures.stays);
+      keeps = search rules;
+      fits =
+          all_fit c.args.core.now c.enter.new.self c.args.id c.in-Ok.entered.id c.in-Ok.ensures.id c.requires.ready.others
+          (rw c.in-Ok.ensures.auth (slot_fits _ c.args.end _ _ c.in-Ok.ensures.context c.requires.fits)) c.in-Ok.ensures.stays c.in-Ok.ensures.auths;
+    }
 
-pub returns-in-Ok-clause-comes : goal.returns-in-Ok-clause-comes
-returns-in-Ok-clause-comes c =
-    let own = c.in-Ok.entered.id in
-    comes_taken c.args.core.now c.enter.new.self c.args.id c.args.mark (steps.More c.args.end c.args.token) (nexts.Going c.args.end) own
-    (record { answer = answers.Going own c.args.token; receipts = c.in-Ok.entered.receipts })
-    c.in-Ok.ensures.taken c.in-Ok.ensures.id refl refl (λ none. cc) c.enter.ensures.history c.in-Ok.ensures.context c.in-Ok.ensures.others c.in-Ok.ensures.receipts
-    (windows_entered c.args.core.now.table c.enter.new.self.table own c.in-Ok.ensures.window c.in-Ok.ensures.stays)
-
-pub returns-in-Err-clause-comes : goal.returns-in-Err-clause-comes
-returns-in-Err-clause-comes c =
-    comes_refused c.args.core.now c.enter.new.self c.refuse.new.core c.args.id c.args.mark (steps.More c.args.end c.args.token) c.in-Err.refusal c.refusal_of_mark.result c.refuse.result
-    c.in-Err.ensures.unchanged c.refusal_of_mark.ensures c.in-Err.ensures.refusal c.refuse.ensures.comes
+pub returns-in-Err : goal.returns-in-Err
+returns-in-Err c = record {
+  size = search rules;
+  comes = comes_refused c.args.core.now c.enter.new.self c.refuse.new.core c.args.id c.args.mark (steps.More c.args.end c.args.token) c.in-Err.refusal c.refusal_of_mark.result c.refuse.result
+      c.in-Err.ensures.unchanged c.refusal_of_mark.ensures c.in-Err.ensures.refusal c.refuse.ensures.comes;
+  keeps = search rules;
+  fits = search rules;
+}

@@ -1,4 +1,4 @@
-use Rattle.std.proofs.Common.{ℕ, List, refl, ap}
+use Rattle.std.proofs.Common.{ℕ, List, refl, ap, rules}
 use Rattle.spnego_core.specs.declared.accept_end.AcceptStep.TheVariants as steps
 use Rattle.accept_book.specs.declared.answer.Next.TheVariants as nexts
 use Rattle.accept_book.specs.declared.book_answer.NegAnswer.TheVariants as answers
@@ -6,16 +6,24 @@ use Rattle.accept_book.proofs.Contexts.{windows_entered}
 use Rattle.accept_book.proofs.Comings.{comes_taken, comes_refused}
 use Rattle.accept_book.proofs.book.settle.Goals as goal
 
-pub returns-in-Ok-clause-comes : goal.returns-in-Ok-clause-comes
-returns-in-Ok-clause-comes c =
-    let own = c.in-Ok.entered.id in
-    comes_taken c.args.core.now c.enter.new.self c.args.id c.args.mark (steps.Done c.args.outcome c.args.ends c.args.token)
-    (nexts.Settled c.args.outcome.mech c.names_of.result c.args.outcome c.args.ends) own
-    (record { answer = answers.Settled (record { id = own; outcome = c.args.outcome; ends = c.args.ends }) c.args.token; receipts = c.in-Ok.entered.receipts })
-    c.in-Ok.ensures.taken c.in-Ok.ensures.id (ap (λ (n : List ℕ). nexts.Settled c.args.outcome.mech n c.args.outcome c.args.ends) c.names_of.ensures) refl (λ none. cc) c.enter.ensures.history c.in-Ok.ensures.context c.in-Ok.ensures.others c.in-Ok.ensures.receipts
-    (windows_entered c.args.core.now.table c.enter.new.self.table own c.in-Ok.ensures.window c.in-Ok.ensures.stays)
+pub returns-in-Ok : goal.returns-in-Ok
+returns-in-Ok c =
+    let own = c.in-Ok.entered.id in record {
+      size = search rules;
+      comes = comes_taken c.args.core.now c.enter.new.self c.args.id c.args.mark (steps.Done c.args.outcome c.args.ends c.args.token)
+          (nexts.Settled c.args.outcome.mech c.names_of.result c.args.outcome c.args.ends) own
+          (record { answer = answers.Settled (record { id = own; outcome = c.args.outcome; ends = c.args.ends }) c.args.token; receipts = c.in-Ok.entered.receipts })
+          c.in-Ok.ensures.taken c.in-Ok.ensures.id (ap (λ (n : List ℕ). nexts.Settled c.args.outcome.mech n c.args.outcome c.args.ends) c.names_of.ensures) refl (λ none. cc) c.enter.ensures.history c.in-Ok.ensures.context c.in-Ok.ensures.others c.in-Ok.ensures.receipts
+          (windows_entered c.args.core.now.table c.enter.new.self.table own c.in-Ok.ensures.window c.in-Ok.ensures.stays);
+      keeps = search rules;
+      fits = search rules;
+    }
 
-pub returns-in-Err-clause-comes : goal.returns-in-Err-clause-comes
-returns-in-Err-clause-comes c =
-    comes_refused c.args.core.now c.enter.new.self c.refuse.new.core c.args.id c.args.mark (steps.Done c.args.outcome c.args.ends c.args.token) c.in-Err.refusal c.refusal_of_mark.result c.refuse.result
-    c.in-Err.ensures.unchanged c.refusal_of_mark.ensures c.in-Err.ensures.refusal c.refuse.ensures.comes
+pub returns-in-Err : goal.returns-in-Err
+returns-in-Err c = record {
+  size = search rules;
+  comes = comes_refused c.args.core.now c.enter.new.self c.refuse.new.core c.args.id c.args.mark (steps.Done c.args.outcome c.args.ends c.args.token) c.in-Err.refusal c.refusal_of_mark.result c.refuse.result
+      c.in-Err.ensures.unchanged c.refusal_of_mark.ensures c.in-Err.ensures.refusal c.refuse.ensures.comes;
+  keeps = search rules;
+  fits = search rules;
+}

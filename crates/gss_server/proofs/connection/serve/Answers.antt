@@ -24,9 +24,9 @@ loop-number-preserved g c =
           ));
       count = omega (arith, was.count, now.turned.holds.0, one-more now.turned.holds.1);
       link_kept = record {
-        tells = now.link_kept.tells ∙ was.link_kept.tells;
-        unclosed = now.link_kept.unclosed;
-        faults = omega (arith, was.link_kept.faults, now.link_kept.faults);
+        tells = now.link_left.kept.tells ∙ was.link_kept.tells;
+        unclosed = now.link_left.kept.unclosed;
+        faults = omega (arith, was.link_kept.faults, now.link_left.kept.faults);
       };
       gate_kept = record { tells = now.gate_kept.tells ∙ was.gate_kept.tells; limits = now.gate_kept.limits ∙ was.gate_kept.limits };
     }

@@ -9,7 +9,7 @@ returns-in-Ok-clause-turned g c =
     let read = read-as (g.L.Link.tells c.args.link.now) c.in-Ok.octets c.in-Ok.ensures.told in
     let octets : c.as_slice.result.now ≡ octets_in read.0 = c.as_slice.ensures ∙ read.1 in
     makes-so c.reply_to_record.ensures.replied
-    (λ xs p. (p.0, turned _ _ c.args.width _ xs read.0 c.reply_to_record.result read.2 (rw (c.in-Ok.ensures.link_kept.tells, octets) at p.1)))
+    (λ xs p. (p.0, turned _ _ c.args.width _ xs read.0 c.reply_to_record.result read.2 (rw (c.in-Ok.ensures.link_left.kept.tells, octets) at p.1)))
 
 pub returns-in-Err-clause-turned : goal.returns-in-Err-clause-turned
 returns-in-Err-clause-turned g c =

@@ -16,12 +16,12 @@ returns g c =
     let step = c.negotiate-negotiated in
     let said = c.say_stepped-said in record {
       ruled = record {
-        says = says-asking said.result.reply said.result.rule _ _ said.ensures.says;
-        fits = said.ensures.fits;
-        exact = rw said.ensures.unasked refl;
+        says = says-asking said.result.reply said.result.rule _ _ said.ensures.says.says;
+        fits = said.ensures.says.fits;
+        exact = rw said.ensures.says.unasked refl;
         asked = record {
-          answers = (step.new.self, rw c.step_draws-draws.ensures at step.ensures.answers, rw said.ensures.unasked refl);
-          telling = λ tells room. rw said.ensures.unasked (rw c.step_draws-draws.ensures at step.ensures.told tells room);
+          answers = (step.new.self, rw c.step_draws-draws.ensures at step.ensures.answers, rw said.ensures.says.unasked refl);
+          telling = λ tells room. rw said.ensures.says.unasked (rw c.step_draws-draws.ensures at step.ensures.told tells room);
         };
         tells = step.ensures.tells;
         limits = step.ensures.limits;
