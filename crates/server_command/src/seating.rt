@@ -14,7 +14,7 @@ ghost use Rattle.server_command.specs.SideBySide.{SideBySide, IsUnder};
 use crate::desk::Desk;
 use crate::ending::RunEnd;
 use crate::jobs::{end_of, run_desks};
-use crate::staffing::{compare_all, hire_all, rise_all, room, seat_all};
+use crate::staffing::{compare_all, hire_all, rise_all, rooms, seat_all};
 use accept_book::{Book, Log};
 use book_seats::{Board, Hall, Room, Shared, Token, Writer, open_board, open_hall};
 use gss_server::{Keeper, Kept, Served};
@@ -65,13 +65,13 @@ where
     ensures limits { IfOk result (λ course. IsUnder J.limits course.log) }
     ensures none { OnErr result (desks.new ≡ desks.old) }
 {
-    let mut writer = writer;
-    let count = desks.len();
     let lock;
-    let mut staffed = room(alloc, count)?;
-    let mut jobs = room(alloc, count)?;
-    let mut risen = room(alloc, count)?;
-    let mut back = room(alloc, count)?;
+    // (the book is let go by `rooms` where there is no room, so that no way out from here has to)
+    let (mut staffed, mut jobs, mut risen, mut back, (book, mut writer)) = rooms(
+        alloc,
+        desks.len(),
+        (book, writer),
+    )?;
     let olds = mem::replace(desks, Vec::new(alloc));
     hire_all(hall, &mut writer, olds, &mut staffed);
     lock = Mutex::new(Shared::new(book, writer));

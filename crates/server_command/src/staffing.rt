@@ -28,6 +28,26 @@ pub(crate) fn room<T: Drop>(alloc: Global, count: usize) -> Result<Vec<T>, NoMem
     }
 }
 
+/// Room for so many things of each of four sorts, taken while something else is held, which is let go where there is none.
+pub(crate) fn rooms<A: Drop, B: Drop, C: Drop, D: Drop, T: Drop>(
+    alloc: Global,
+    count: usize,
+    held: T,
+) -> Result<(Vec<A>, Vec<B>, Vec<C>, Vec<D>, T), NoMemory>
+    ensures none { IfOk result (λ made. (made.0.items ≡ []) × (made.1.items ≡ [])
+        × (made.2.items ≡ []) × (made.3.items ≡ [])) }
+    ensures room { IfOk result (λ made. (count ≤ vec_capacity made.0)
+        × (count ≤ vec_capacity made.1) × (count ≤ vec_capacity made.2)
+        × (count ≤ vec_capacity made.3)) }
+    ensures held { IfOk result (λ made. made.4 ≡ held) }
+{
+    let first = room(alloc, count)?;
+    let second = room(alloc, count)?;
+    let third = room(alloc, count)?;
+    let fourth = room(alloc, count)?;
+    Ok((first, second, third, fourth, held))
+}
+
 /// Makes a clerk for each desk.
 pub(crate) fn hire_all<T: Drop, J: Room>(
     hall: &Hall<J>,
