@@ -85,7 +85,7 @@ context-grows marking old new x g f = record {
 
 -- ---- an initiator
 
-finished-grows : (marking : Marking) (old new : World) (own : InitSetup) (outcome : Outcome) → Stays old new → MechFinished marking old own outcome → MechFinished marking new own outcome
+pub finished-grows : (marking : Marking) (old new : World) (own : InitSetup) (outcome : Outcome) → Stays old new → MechFinished marking old own outcome → MechFinished marking new own outcome
 finished-grows marking old new own outcome g (inl f) = inl (record {
   end = f.end;
   waits = f.waits;

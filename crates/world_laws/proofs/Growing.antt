@@ -46,7 +46,7 @@ pub record Grows (old new : World) : Type 0 where
   pub history : Fronts old.book.core.history new.book.core.history
   pub sessions : (i : ℕ) (outcome : Outcome) → StandsAt old.stages i outcome → StandsAt new.stages i outcome
 
-same-grows : (w : World) → Grows w w
+pub same-grows : (w : World) → Grows w w
 same-grows w = record {
   facts = refl;
   setup = refl;

@@ -86,13 +86,13 @@ marked (Some before) (Some after) seq m = λ i. Some (record { state = m.state i
 marked (Some before) None seq m = absurd m
 marked None after seq m = absurd m
 
-marked-stay : (old new : Places AcceptEnd Outcome) (id seq : ℕ) → Marks (slot_at old id) (slot_at new id) seq → KeepsOthers old new id → Stay old new
+pub marked-stay : (old new : Places AcceptEnd Outcome) (id seq : ℕ) → Marks (slot_at old id) (slot_at new id) seq → KeepsOthers old new id → Stay old new
 marked-stay old new id seq marks keeps = λ k. elim (cases_eq id k) [
   | inl own ↦ inl (subst (λ (j : ℕ). contexts_of new j ≡ contexts_of old j) own (marked (slot_at old id) (slot_at new id) seq marks))
   | inr other ↦ inl (ap context_of (keeps.others k other))
 ]
 
-gone-stay : (old new : Places AcceptEnd Outcome) (id : ℕ) → slot_at new id ≡ None → KeepsOthers old new id → Stay old new
+pub gone-stay : (old new : Places AcceptEnd Outcome) (id : ℕ) → slot_at new id ≡ None → KeepsOthers old new id → Stay old new
 gone-stay old new id gone keeps = λ k. elim (cases_eq id k) [
   | inl own ↦ inr (subst (λ (j : ℕ). contexts_of new j ≡ None) own (ap context_of gone))
   | inr other ↦ inl (ap context_of (keeps.others k other))
@@ -103,7 +103,7 @@ same-passes old book held same =
     subst (λ (b : BookOf). Passes (old.fixed ++ []) b) (sym same)
     (none-more old.book old.fixed (record { good = held.good; facts = facts-of old held }))
 
-quiet-history : (h new : List Entry) (refusal : Option AdmitRefusal) (entry : Entry) → Quiet h (after refusal entry h) → new ≡ after refusal entry h → Quiet h new
+pub quiet-history : (h new : List Entry) (refusal : Option AdmitRefusal) (entry : Entry) → Quiet h (after refusal entry h) → new ≡ after refusal entry h → Quiet h new
 quiet-history h new refusal entry quiet same = subst (λ (x : List Entry). Quiet h x) (sym same) quiet
 
 pub admit-passes : (old : World) (lease : Lease) (seq procedure : ℕ) (args : List ℕ) (answer : Result Admitted AdmitRefusal) (book : BookOf) → Held old
@@ -129,7 +129,7 @@ if-stay : (b : Bool) (before after : Option (Slot AcceptEnd Outcome)) → after 
 if-stay true before after e = inr e
 if-stay false before after e = inl e
 
-refused-stay : (gone : Option ℕ) (id : ℕ) (before after : Option (Slot AcceptEnd Outcome)) → after ≡ changed (change_refused gone) id before → (after ≡ before) ⊎ (after ≡ None)
+pub refused-stay : (gone : Option ℕ) (id : ℕ) (before after : Option (Slot AcceptEnd Outcome)) → after ≡ changed (change_refused gone) id before → (after ≡ before) ⊎ (after ≡ None)
 refused-stay None id before after e = inl e
 refused-stay (Some k) id before after e = if-stay (k == id) before after e
 

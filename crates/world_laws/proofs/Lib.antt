@@ -23,6 +23,7 @@ pub mod Slices
 pub mod Happening
 pub mod Due
 pub mod Histories
+pub mod LogWalk
 pub mod Answering
 pub mod Growing
 pub mod Moving
@@ -54,11 +55,15 @@ pub mod Scram
 pub mod ScramAgrees
 pub mod Bests
 pub mod ListMics
+pub mod OwedLists
+pub mod Signers
+pub mod KnownLists
 pub mod Negotiated
 pub mod Built
 pub mod Booked
 pub mod Holders
 pub mod Running
+pub mod ListLaw
 pub mod OriginReading
 pub mod OriginWords
 pub mod OriginLog

@@ -27,11 +27,11 @@ use Rattle.world_laws.proofs.OneList.{one-list}
 
 -- ---- the header of a MIC that was taken
 
-taken-ok : (r : Result (Unit {0}) TokenRefusal) → is_ok r ≡ true → r ≡ Ok tt
+pub taken-ok : (r : Result (Unit {0}) TokenRefusal) → is_ok r ≡ true → r ≡ Ok tt
 taken-ok (Ok tt) e = refl
 taken-ok (Err refusal) e = absurd cc
 
-shown-long : (end : TokenEnd) (mic octets : List ℕ) → ShownByMic end mic octets → length (take 16 mic) ≡ 16
+pub shown-long : (end : TokenEnd) (mic octets : List ℕ) → ShownByMic end mic octets → length (take 16 mic) ≡ 16
 shown-long end mic octets s =
     let size : length mic ≡ length (s.header ++ s.tag) = ap length s.spelled in
     length-take-le 16 mic (omega (arith, size, length-append s.header s.tag, s.long))

@@ -177,7 +177,7 @@ pub record RequestOf (w : World) (m : MechMaking) : Type 0 where
   pub made : MadeRequest own m
   pub among : AmongMakings w.makings m
 
-not-context : (scram : ScramLaws) (x : Context) (m : MechMaking) (n : ℕ) → tag m ≡ n → (n ≡ 49 → ⊥) → (n ≡ 2 → ⊥) → (n ≡ 92 → ⊥) → (n ≡ 89 → ⊥) → ContextMade x m → ⊥
+pub not-context : (scram : ScramLaws) (x : Context) (m : MechMaking) (n : ℕ) → tag m ≡ n → (n ≡ 49 → ⊥) → (n ≡ 2 → ⊥) → (n ≡ 92 → ⊥) → (n ≡ 89 → ⊥) → ContextMade x m → ⊥
 not-context scram x m n t a b c d (inl made) = a (sym t ∙ tag-answer x m made)
 not-context scram x m n t a b c d (inr (inl made)) = b (sym t ∙ tag-signature scram x m made)
 not-context scram x m n t a b c d (inr (inr (inl made))) = c (sym t ∙ tag-accept_mic x m made)

@@ -29,7 +29,7 @@ use Rattle.world_laws.proofs.TakenTexts.{Taken, taken}
 
 -- ---- contexts of one key have one mechanism
 
-on-proof : (laws : Below) (marking : Marking) (w : World) → Proper w → Kept marking w → (i : ℕ) (x : Context) → slice_get w.fixed i ≡ Some x → (end : AcceptModel) (text : List ℕ) → x.fixed.basis ≡ ByProof end text → (auth : List ℕ) × OnProof x end auth
+pub on-proof : (laws : Below) (marking : Marking) (w : World) → Proper w → Kept marking w → (i : ℕ) (x : Context) → slice_get w.fixed i ≡ Some x → (end : AcceptModel) (text : List ℕ) → x.fixed.basis ≡ ByProof end text → (auth : List ℕ) × OnProof x end auth
 on-proof laws marking w proper kept i x there end text basis =
     let t : Taken w x end text = taken laws.scram marking w proper x end text (kept.found.proofs i x end text there basis) in
     (auth_with end t.third.bare, record { text = text; basis = basis; has_auth = record { third = t.third; read = t.read; auth_is = refl } })

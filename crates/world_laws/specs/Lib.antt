@@ -8,6 +8,7 @@ pub mod Premises
 pub mod Agreement
 pub mod OneMechanism
 pub mod Origin
+pub mod KnownList
 pub mod Headline
 pub mod Moving
 pub mod Turning

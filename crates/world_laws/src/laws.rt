@@ -5,6 +5,7 @@ ghost use Rattle.world_laws.specs.Agreement.{AgreementLaw};
 ghost use Rattle.world_laws.specs.OneMechanism.{AgreementLawBy};
 ghost use Rattle.world_laws.specs.Below.{Below};
 ghost use Rattle.world_laws.specs.Headline.{Headline};
+ghost use Rattle.world_laws.specs.KnownList.{KnownListLaw};
 ghost use Rattle.world_laws.specs.Origin.{OriginLaw};
 
 use accept_book::laws::prove_book_laws;
@@ -42,6 +43,15 @@ pub fn prove_agreement()
 /// procedure, and the digest of its arguments.
 pub fn prove_origin()
     ensures { OriginLaw }
+{
+    tell_below();
+}
+
+/// Does nothing; its contract holds what an acceptor knows of the list. After every list of events, for every marking as in `prove_agreement`, and where
+/// MICs over lists are no calls' and no other initiator's: a settled context on a guarded key has the acceptor's first choice, or the list that it
+/// received is its initiator's own.
+pub fn prove_known_list()
+    ensures { KnownListLaw }
 {
     tell_below();
 }

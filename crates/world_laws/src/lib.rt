@@ -14,6 +14,6 @@ mod world;
 
 pub use event::{Happened, WorldEvent};
 pub use facts::InitFacts;
-pub use laws::{prove_agreement, prove_headline, prove_origin};
+pub use laws::{prove_agreement, prove_headline, prove_known_list, prove_origin};
 pub use meeting::{call_once, meet};
 pub use world::{World, WorldSetup};
