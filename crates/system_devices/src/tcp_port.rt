@@ -8,7 +8,8 @@ use sec_base::{Link, Port, PortFault};
 use std::net::{Net, TcpListener, TcpStream};
 use std::sync::{OnceLock, Wait};
 
-/// A TCP listener for several ports, on threads of their own or on one, which listens from the first accept of one of them on.
+/// A TCP listener for several ports, on threads of their own or on one, which listens from the first accept of one of them on, or from
+/// where its number is asked for.
 #[derive(Drop)]
 pub struct TcpDoor<'a, R: Drop> {
     rt: R,
@@ -33,6 +34,18 @@ impl<'a, R: Net<Stream = TcpStream, Listener = TcpListener> + Wait + Drop> TcpDo
         self.listener
             .get_or_init(&self.rt, || TcpListener::bind(&self.rt, self.address).ok())
             .as_ref()
+    }
+
+    /// The number of the port at which it listens, which the system chooses for an address whose port is 0. It listens from this call
+    /// on, where it didn't before. None where it can't listen.
+    pub fn port(&self) -> Option<u16> {
+        match self.listener() {
+            Some(listener) => match listener.local_addr() {
+                Ok(address) => Some(address.port()),
+                Err(_) => None,
+            },
+            None => None,
+        }
     }
 }
 
