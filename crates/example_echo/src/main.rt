@@ -79,8 +79,13 @@ fn report(rt: &impl Print, talk: &Talk, answered: usize) -> io::Result<()> {
 /// Makes the link, holds the session over it, and says what came of it.
 fn run(rt: &impl Print, alloc: Global) -> Option<()> {
     let mut link = link_of(alloc)?;
-    let talk = hold(alloc, &mut link)?;
-    report(rt, &talk, link.kept().len()).ok()
+    let talk = hold(alloc, &mut link);
+    let answered = link.kept().len();
+    drop(link);
+    let talk = talk?;
+    let reported = report(rt, &talk, answered);
+    drop(talk);
+    reported.ok()
 }
 
 fn main(rt: HostRuntime) -> ExitCode {

@@ -7,7 +7,7 @@ use accept_book::{Book, Limits};
 use gate_models::LoopLink;
 use gss_base::{MechKind, Principal};
 use krb_files::read_keytab;
-use scram_mech::{make_verifier, read_verifiers};
+use scram_mech::{Verifiers, make_verifier, read_verifiers};
 use sec_base::{Items, Link, MemClock, MemDraw, Moment, Text};
 use spnego_core::{AcceptSetup, InitSetup, MechCred};
 use std::alloc::Global;
@@ -45,15 +45,19 @@ const NO_KEYS: [u8; 2] = [5, 2];
 /// Random octets of the client. A program draws them anew for each session; these stand here, so that each run is the same.
 const DRAWS: [u8; 66] = [1; 66];
 
+/// The user's name and password, as a credential of SCRAM.
+fn login(alloc: Global) -> Option<MechCred> {
+    let user = Text::of(alloc, USER).ok();
+    let (user, password) = user.zip(Text::of(alloc, PASSWORD).ok())?;
+    Some(MechCred::Scram { user, password })
+}
+
 /// What the client begins with: one credential, of SCRAM.
 pub fn initiator(alloc: Global) -> Option<InitSetup>
     ensures { IfSome result (λ setup. is_own_list setup.list ≡ true) }
 {
     let mut list = Vec::with_capacity(alloc, 1).ok()?;
-    list.push_reserved(MechCred::Scram {
-        user: Text::of(alloc, USER).ok()?,
-        password: Text::of(alloc, PASSWORD).ok()?,
-    });
+    list.push_reserved(login(alloc)?);
     Some(InitSetup {
         list: Items::of(list),
         bindings: None,
@@ -62,17 +66,30 @@ pub fn initiator(alloc: Global) -> Option<InitSetup>
     })
 }
 
-/// What the server begins with: the user's verifier in place of a password, and SCRAM alone on offer.
-fn acceptor(alloc: Global) -> Option<AcceptSetup> {
+/// The user's verifier, which the server has in place of the password.
+fn verifiers(alloc: Global) -> Option<Verifiers> {
     let line = make_verifier(alloc, USER, PASSWORD, &SALT, ROUNDS).ok()?;
-    let mut offer = Vec::new(alloc);
-    offer.push(MechKind::Scram).ok()?;
+    read_verifiers(alloc, line.as_slice()).ok()
+}
+
+/// The one mechanism on offer.
+fn offer(alloc: Global) -> Option<Items<MechKind>> {
+    let offer = Vec::from_slice(alloc, &[MechKind::Scram]).ok()?;
+    Some(Items::of(offer))
+}
+
+/// What the server begins with: its name, the user's verifier, and SCRAM alone on offer.
+fn acceptor(alloc: Global) -> Option<AcceptSetup> {
+    let name = Principal::parse(alloc, SERVICE).ok();
+    let names = name.zip(read_keytab(alloc, &NO_KEYS).ok());
+    let users = verifiers(alloc).zip(offer(alloc));
+    let ((own, keytab), (verifiers, offer)) = names.zip(users)?;
     Some(AcceptSetup {
-        own: Principal::parse(alloc, SERVICE).ok()?,
-        keytab: read_keytab(alloc, &NO_KEYS).ok()?,
-        verifiers: read_verifiers(alloc, line.as_slice()).ok()?,
+        own,
+        keytab,
+        verifiers,
         bindings: None,
-        offer: Items::of(offer),
+        offer,
     })
 }
 

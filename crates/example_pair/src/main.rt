@@ -2,6 +2,7 @@
 //!
 //! The tokens are those of SPNEGO (RFC 4178 section 4.2), and each carries a message of SCRAM-SHA-1 (RFC 5802 section 7). A step takes its end
 //! by value and gives the next state, so that no end can be asked twice. A step that is refused, or finds no memory, ends the program with status 1.
+//! An end that waits while the other takes a step is zipped to what that step gives: both go on, or neither does.
 #![tactic(auto)]
 
 mod outcomes;
@@ -29,20 +30,39 @@ fn open(alloc: Global) -> Option<(InitEnd, Octets)> {
     InitEnd::start(alloc, initiator(alloc)?).ok()
 }
 
+/// A step of the acceptor, which takes a token of the initiator. None where the token is refused.
+fn accept(
+    alloc: Global,
+    host: &AcceptSetup,
+    end: AcceptEnd,
+    token: Octets,
+    draws: &[u8; DRAWS],
+) -> Option<AcceptStep> {
+    end.step(alloc, host, token.as_slice(), Moment::start(), draws)
+        .ok()
+}
+
+/// A step of the initiator, which takes a token of the acceptor. None where the token is refused.
+fn initiate(alloc: Global, end: InitEnd, token: Octets) -> Option<InitStep> {
+    end.step(alloc, token.as_slice()).ok()
+}
+
 /// The acceptor chooses a mechanism that both have. Its reply is a NegTokenResp, as all further tokens are.
 fn answer(alloc: Global, host: &AcceptSetup, token: Octets) -> Option<(AcceptEnd, Octets)> {
-    let (token, now) = (token.as_slice(), Moment::start());
-    match AcceptEnd::new().step(alloc, host, token, now, &ANSWER_DRAWS) {
-        Ok(AcceptStep::More(end, reply)) => Some((end, reply)),
-        _ => None,
+    match accept(alloc, host, AcceptEnd::new(), token, &ANSWER_DRAWS)? {
+        AcceptStep::More(end, reply) => Some((end, reply)),
+        step => {
+            drop(step);
+            None
+        }
     }
 }
 
 /// The initiator proves that it knows the password.
 fn proceed(alloc: Global, end: InitEnd, token: Octets) -> Option<(InitEnd, Octets)> {
-    match end.step(alloc, token.as_slice()) {
-        Ok(InitStep::More(end, reply)) => Some((end, reply)),
-        _ => None,
+    match initiate(alloc, end, token)? {
+        InitStep::More(end, reply) => Some((end, reply)),
+        InitStep::Done(_) => None,
     }
 }
 
@@ -53,20 +73,24 @@ fn finish(
     end: AcceptEnd,
     token: Octets,
 ) -> Option<(Outcome, Octets)> {
-    let (token, now) = (token.as_slice(), Moment::start());
-    match end.step(alloc, host, token, now, &FINISH_DRAWS) {
-        Ok(AcceptStep::Done(outcome, _ends, reply)) => Some((outcome, reply)),
-        _ => None,
+    match accept(alloc, host, end, token, &FINISH_DRAWS)? {
+        AcceptStep::Done(outcome, _ends, reply) => Some((outcome, reply)),
+        step => {
+            drop(step);
+            None
+        }
     }
 }
 
 /// The initiator checks the signature, by which its context stands too.
 fn conclude(alloc: Global, end: InitEnd, token: Octets) -> Option<Outcome> {
-    let step = end.step(alloc, token.as_slice()).ok()?;
-    match &step {
+    let step = initiate(alloc, end, token)?;
+    let outcome = match &step {
         InitStep::Done(outcome) => Some(*outcome),
         InitStep::More(_, _) => None,
-    }
+    };
+    drop(step);
+    outcome
 }
 
 /// The second half of the negotiation, by which both ends have an outcome.
@@ -78,9 +102,9 @@ fn confirm(
     acceptor: AcceptEnd,
     token: Octets,
 ) -> Option<(Outcome, Outcome)> {
-    let (initiator, token) = proceed(alloc, initiator, token)?;
+    let ((initiator, token), acceptor) = proceed(alloc, initiator, token).zip(Some(acceptor))?;
     say(rt, "initiator: client-final-message", &token);
-    let (accepted, token) = finish(alloc, host, acceptor, token)?;
+    let ((accepted, token), initiator) = finish(alloc, host, acceptor, token).zip(Some(initiator))?;
     say(rt, "acceptor: server-final-message", &token);
     let initiated = conclude(alloc, initiator, token)?;
     Some((initiated, accepted))
@@ -90,7 +114,7 @@ fn confirm(
 fn negotiate(rt: &impl Print, alloc: Global, host: &AcceptSetup) -> Option<(Outcome, Outcome)> {
     let (initiator, token) = open(alloc)?;
     say(rt, "initiator: client-first-message", &token);
-    let (acceptor, token) = answer(alloc, host, token)?;
+    let ((acceptor, token), initiator) = answer(alloc, host, token).zip(Some(initiator))?;
     say(rt, "acceptor: server-first-message", &token);
     confirm(rt, alloc, host, initiator, acceptor, token)
 }
@@ -98,7 +122,9 @@ fn negotiate(rt: &impl Print, alloc: Global, host: &AcceptSetup) -> Option<(Outc
 /// Both ends from their setups on.
 fn run(rt: &impl Print, alloc: Global) -> Option<()> {
     let host = acceptor(alloc)?;
-    let (initiated, accepted) = negotiate(rt, alloc, &host)?;
+    let outcomes = negotiate(rt, alloc, &host);
+    drop(host);
+    let (initiated, accepted) = outcomes?;
     outcomes::report(rt, &initiated, &accepted).ok()
 }
 

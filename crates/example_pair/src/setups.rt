@@ -5,7 +5,7 @@ ghost use Rattle.spnego_core.specs.InitMech.{is_own_list};
 
 use gss_base::{Bindings, MechKind, Principal};
 use krb_files::read_keytab;
-use scram_mech::{make_verifier, read_verifiers};
+use scram_mech::{Verifiers, make_verifier, read_verifiers};
 use sec_base::{Items, Moment, Octets, Text};
 use spnego_core::{AcceptSetup, InitSetup, MechCred};
 use std::alloc::Global;
@@ -39,33 +39,51 @@ fn bindings(alloc: Global) -> Option<Bindings> {
     Bindings::new(Octets::of(alloc, &CHANNEL).ok()?).ok()
 }
 
+/// The user's name and password, as a credential of SCRAM.
+fn login(alloc: Global) -> Option<MechCred> {
+    let user = Text::of(alloc, USER).ok();
+    let (user, password) = user.zip(Text::of(alloc, PASSWORD).ok())?;
+    Some(MechCred::Scram { user, password })
+}
+
 /// What the initiator begins with: one credential, of SCRAM.
 pub fn initiator(alloc: Global) -> Option<InitSetup>
     ensures { IfSome result (λ setup. is_own_list setup.list ≡ true) }
 {
     let mut list = Vec::with_capacity(alloc, 1).ok()?;
-    list.push_reserved(MechCred::Scram {
-        user: Text::of(alloc, USER).ok()?,
-        password: Text::of(alloc, PASSWORD).ok()?,
-    });
+    let (login, bindings) = login(alloc).zip(bindings(alloc))?;
+    list.push_reserved(login);
     Some(InitSetup {
         list: Items::of(list),
-        bindings: Some(bindings(alloc)?),
+        bindings: Some(bindings),
         stamp: Moment::start(),
         draws: OPEN_DRAWS,
     })
 }
 
-/// What the acceptor begins with: the user's verifier in place of a password, and SCRAM alone on offer.
-pub fn acceptor(alloc: Global) -> Option<AcceptSetup> {
+/// The user's verifier, which the acceptor has in place of the password.
+fn verifiers(alloc: Global) -> Option<Verifiers> {
     let line = make_verifier(alloc, USER, PASSWORD, &SALT, ROUNDS).ok()?;
-    let mut offer = Vec::new(alloc);
-    offer.push(MechKind::Scram).ok()?;
+    read_verifiers(alloc, line.as_slice()).ok()
+}
+
+/// The one mechanism on offer.
+fn offer(alloc: Global) -> Option<Items<MechKind>> {
+    let offer = Vec::from_slice(alloc, &[MechKind::Scram]).ok()?;
+    Some(Items::of(offer))
+}
+
+/// What the acceptor begins with: its name, the user's verifier, and SCRAM alone on offer.
+pub fn acceptor(alloc: Global) -> Option<AcceptSetup> {
+    let name = Principal::parse(alloc, SERVICE).ok();
+    let names = name.zip(read_keytab(alloc, &NO_KEYS).ok());
+    let users = verifiers(alloc).zip(offer(alloc));
+    let ((own, keytab), ((verifiers, offer), bindings)) = names.zip(users.zip(bindings(alloc)))?;
     Some(AcceptSetup {
-        own: Principal::parse(alloc, SERVICE).ok()?,
-        keytab: read_keytab(alloc, &NO_KEYS).ok()?,
-        verifiers: read_verifiers(alloc, line.as_slice()).ok()?,
-        bindings: Some(bindings(alloc)?),
-        offer: Items::of(offer),
+        own,
+        keytab,
+        verifiers,
+        bindings: Some(bindings),
+        offer,
     })
 }

@@ -1,7 +1,7 @@
 //! The server's program: makes the real devices and runs the server over them.
 #![tactic(auto)]
 
-ghost use Rattle.std.specs.Prelude.{IfOk, IfSome};
+ghost use Rattle.std.specs.Prelude.{IfOk};
 ghost use Rattle.std.specs.List.{AllByRecursion};
 ghost use Rattle.server_command.specs.Desks.{IsFresh};
 
@@ -36,31 +36,12 @@ fn main(rt: HostRuntime) -> ExitCode {
 /// the log's entries, and nothing of a connection that ended.
 type SystemDesk<P> = Desk<P, SystemClock<HostRuntime>, RandDraw, KeepReceipts, KeepNothing>;
 
-/// A desk over a port; None where the system gives no seed.
-fn desk<P: Port + Drop>(rt: HostRuntime, port: P) -> Option<SystemDesk<P>>
-    ensures { IfSome result IsFresh }
+/// A desk over a port, with these random octets.
+fn desk<P: Port + Drop>(rt: HostRuntime, port: P, draw: RandDraw) -> SystemDesk<P>
+    ensures { IsFresh result }
 {
-    let draw = match RandDraw::new(&rt) {
-        Ok(draw) => draw,
-        Err(_) => return None,
-    };
-    Some(Desk::new(
-        port,
-        SystemClock::new(rt),
-        draw,
-        KeepReceipts::new(rt.alloc()),
-        KeepNothing,
-    ))
-}
-
-/// A desk at a TCP listener.
-fn desk_at<'a, R: Net<Stream = TcpStream, Listener = TcpListener> + Wait + Drop>(
-    rt: HostRuntime,
-    door: &'a TcpDoor<'a, R>,
-) -> Option<SystemDesk<BufferedPort<TcpPort<'a, R>>>>
-    ensures { IfSome result IsFresh }
-{
-    desk(rt, BufferedPort::new(rt.alloc(), TcpPort::at(door)))
+    let receipts = KeepReceipts::new(rt.alloc());
+    Desk::new(port, SystemClock::new(rt), draw, receipts, KeepNothing)
 }
 
 /// Runs the server over desks, each on a thread of its own where one can be made.
@@ -98,14 +79,39 @@ fn over_standard_streams<R: Threads + Wait + Sync>(
     threads: &R,
     words: &[Text],
 ) -> u8 {
-    let port = BufferedPort::new(rt.alloc(), StdioPort::new(rt.stdin(), rt.stdout()));
-    let Some(desk) = desk(rt, port) else {
+    let Ok(draw) = RandDraw::new(&rt) else {
         return NOT_STARTED;
     };
-    match Vec::from_array(rt.alloc(), [desk]) {
-        Ok(desks) => run(rt, threads, words, desks),
-        Err(_) => OUT_OF_MEMORY,
+    let Ok(mut desks) = Vec::with_capacity(rt.alloc(), 1) else {
+        return OUT_OF_MEMORY;
+    };
+    let port = BufferedPort::new(rt.alloc(), StdioPort::new(rt.stdin(), rt.stdout()));
+    desks.push_reserved(desk(rt, port, draw));
+    run(rt, threads, words, desks)
+}
+
+/// Random octets for four desks; None where the system gives no seed.
+fn draws(rt: HostRuntime) -> Option<(RandDraw, RandDraw, RandDraw, RandDraw)> {
+    match (
+        RandDraw::new(&rt),
+        RandDraw::new(&rt),
+        RandDraw::new(&rt),
+        RandDraw::new(&rt),
+    ) {
+        (Ok(first), Ok(second), Ok(third), Ok(fourth)) => Some((first, second, third, fourth)),
+        _ => None,
     }
+}
+
+/// A desk at a TCP listener.
+fn desk_at<'a, R: Net<Stream = TcpStream, Listener = TcpListener> + Wait + Drop>(
+    rt: HostRuntime,
+    door: &'a TcpDoor<'a, R>,
+    draw: RandDraw,
+) -> SystemDesk<BufferedPort<TcpPort<'a, R>>>
+    ensures { IsFresh result }
+{
+    desk(rt, BufferedPort::new(rt.alloc(), TcpPort::at(door)), draw)
 }
 
 /// Four desks at a TCP listener; or the status where there are none.
@@ -115,22 +121,17 @@ fn desks_at<'a, R: Net<Stream = TcpStream, Listener = TcpListener> + Wait + Drop
 ) -> Result<Vec<SystemDesk<BufferedPort<TcpPort<'a, R>>>>, u8>
     ensures { IfOk result (λ desks. AllByRecursion IsFresh desks.items) }
 {
-    let Some(first) = desk_at(rt, door) else {
+    let Some((first, second, third, fourth)) = draws(rt) else {
         return Err(NOT_STARTED);
     };
-    let Some(second) = desk_at(rt, door) else {
-        return Err(NOT_STARTED);
+    let Ok(mut desks) = Vec::with_capacity(rt.alloc(), 4) else {
+        return Err(OUT_OF_MEMORY);
     };
-    let Some(third) = desk_at(rt, door) else {
-        return Err(NOT_STARTED);
-    };
-    let Some(fourth) = desk_at(rt, door) else {
-        return Err(NOT_STARTED);
-    };
-    match Vec::from_array(rt.alloc(), [first, second, third, fourth]) {
-        Ok(desks) => Ok(desks),
-        Err(_) => Err(OUT_OF_MEMORY),
-    }
+    desks.push_reserved(desk_at(rt, door, first));
+    desks.push_reserved(desk_at(rt, door, second));
+    desks.push_reserved(desk_at(rt, door, third));
+    desks.push_reserved(desk_at(rt, door, fourth));
+    Ok(desks)
 }
 
 /// Runs the server over four desks at a TCP listener, which listens once the files were read.

@@ -40,7 +40,10 @@ fn settled(said: &mut Said, step: AcceptStep) -> Option<AcceptEnd> {
             say_done(said, &outcome, token.as_slice());
             None
         }
-        AcceptStep::WantsAuth(_pause) => None,
+        AcceptStep::WantsAuth(pause) => {
+            drop(pause);
+            None
+        }
     }
 }
 
@@ -100,6 +103,7 @@ pub fn talk(cells: &mut Cells<'_>, said: &mut Said, setup: &AcceptSetup, now: Mo
     for part in cells.rest().unwrap_or("").split(' ') {
         next = stepped(cells, said, setup, next, part, now);
     }
+    drop(next);
 }
 
 /// What the setting's acceptor says to each token of a row, which begins with the letters of the offer.
@@ -107,7 +111,10 @@ pub fn answer(setting: &Setting, cells: &mut Cells<'_>, said: &mut Said) {
     let letters = cells.word();
     let now = Moment::new(1_000_000, 0).unwrap_or(Moment::start());
     match setting.acceptor(cells.alloc(), letters) {
-        Some(setup) => talk(cells, said, &setup, now),
+        Some(setup) => {
+            talk(cells, said, &setup, now);
+            drop(setup);
+        }
         None => cells.expect(false),
     }
 }

@@ -66,6 +66,7 @@ fn followed(cells: &mut Cells<'_>, said: &mut Said, end: InitEnd) {
     for part in parts {
         next = stepped(cells, said, next, part);
     }
+    drop(next);
 }
 
 /// Says the first token, and `reply=verdict` for each reply that is left of a row behind the first token.

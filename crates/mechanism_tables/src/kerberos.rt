@@ -87,6 +87,7 @@ fn request_in(cells: &mut Cells<'_>) -> Request {
 pub fn judged(cells: &mut Cells<'_>, said: &mut Said) {
     let request = request_in(cells);
     judge_in(cells, said, &request);
+    drop(request);
 }
 
 /// What is said to a request.
@@ -176,6 +177,7 @@ fn exchange_in(cells: &mut Cells<'_>) -> Exchange {
 pub fn replied(cells: &mut Cells<'_>, said: &mut Said) {
     let exchange = exchange_in(cells);
     begin(cells, said, &exchange);
+    drop(exchange);
 }
 
 /// The request of an exchange, and what the initiator says to the reply.

@@ -20,7 +20,10 @@ pub fn accepted(cells: &mut Cells<'_>, said: &mut Said) {
 /// The same by what it begins with, where that could be had.
 fn accepted_with(cells: &mut Cells<'_>, said: &mut Said, setup: Option<AcceptSetup>, now: Moment) {
     match setup {
-        Some(setup) => accepting::talk(cells, said, &setup, now),
+        Some(setup) => {
+            accepting::talk(cells, said, &setup, now);
+            drop(setup);
+        }
         None => cells.expect(false),
     }
 }

@@ -75,7 +75,10 @@ fn finished(
     third: &[u8],
 ) {
     match accept.finish(alloc, third, ends.there.as_ref(), ends.now) {
-        Err(refusal) => refused(said, refusal),
+        Err(refusal) => {
+            drop(wait);
+            refused(said, refusal);
+        }
         Ok((done, last)) => {
             said.octets(last.as_slice());
             ended(alloc, said, wait, &done, last.as_slice());
@@ -93,7 +96,10 @@ fn proved(
     second: &[u8],
 ) {
     match end.take_first(alloc, second) {
-        Err(refusal) => refused(said, refusal),
+        Err(refusal) => {
+            drop(accept);
+            refused(said, refusal);
+        }
         Ok((wait, third)) => {
             said.octets(third.as_slice());
             finished(alloc, said, ends, wait, accept, third.as_slice());
@@ -111,7 +117,10 @@ fn accepted(
     first: &[u8],
 ) {
     match ScramAccept::start(alloc, verifiers, first, &ends.theirs) {
-        Err(refusal) => refused(said, refusal),
+        Err(refusal) => {
+            drop(end);
+            refused(said, refusal);
+        }
         Ok((accept, second)) => {
             said.octets(second.as_slice());
             proved(alloc, said, ends, end, accept, second.as_slice());
@@ -143,4 +152,5 @@ fn begin(cells: &mut Cells<'_>, said: &mut Said, ends: &Ends) {
 pub fn answer(cells: &mut Cells<'_>, said: &mut Said) {
     let ends = ends_in(cells);
     begin(cells, said, &ends);
+    drop(ends);
 }

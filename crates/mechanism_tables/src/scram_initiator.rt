@@ -65,4 +65,5 @@ fn begun(alloc: Global, said: &mut Said, talk: &Talk) {
 pub fn answer(cells: &mut Cells<'_>, said: &mut Said) {
     let talk = talk_in(cells);
     begun(cells.alloc(), said, &talk);
+    drop(talk);
 }

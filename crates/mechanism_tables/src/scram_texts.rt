@@ -100,18 +100,31 @@ fn proved(alloc: Global, said: &mut Said, end: ScramInit, second: &[u8], text: &
 fn last(alloc: Global, said: &mut Said, asked: &Asked<'_>, end: ScramInit, opening: &[u8]) {
     match accepted(alloc, asked.verifiers, opening) {
         Ok((_accept, second)) => proved(alloc, said, end, second.as_slice(), asked.text),
-        Err(_) => said.starve(),
+        Err(_) => {
+            drop(end);
+            said.starve();
+        }
     }
 }
 
-/// What is said to a text by the end that waits for it: `first`, framed, `second`, `third` or `final`.
-fn told(alloc: Global, said: &mut Said, asked: &Asked<'_>, end: ScramInit, opening: &[u8]) {
+/// What the acceptor says to a text that it waits for: `first`, framed, or `third`.
+fn judged_by_acceptor(alloc: Global, said: &mut Said, asked: &Asked<'_>, opening: &[u8]) {
     match asked.which {
         "first" => first(alloc, said, asked),
-        "second" => second(alloc, said, end, asked.text),
         "third" => third(alloc, said, asked, opening),
-        "final" => last(alloc, said, asked, end, opening),
         _ => said.word("which"),
+    }
+}
+
+/// What is said to a text by the end that waits for it: the initiator waits for `second` and `final`.
+fn told(alloc: Global, said: &mut Said, asked: &Asked<'_>, end: ScramInit, opening: &[u8]) {
+    match asked.which {
+        "second" => second(alloc, said, end, asked.text),
+        "final" => last(alloc, said, asked, end, opening),
+        _ => {
+            drop(end);
+            judged_by_acceptor(alloc, said, asked, opening);
+        }
     }
 }
 

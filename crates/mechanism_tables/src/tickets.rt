@@ -136,7 +136,10 @@ fn part_for(
             let contents = Octets::from_vec(Vec::new(alloc));
             Some(part_of(flags, key, crealm, cname, times, contents))
         }
-        Err(_no_memory) => None,
+        Err(_no_memory) => {
+            drop(key);
+            None
+        }
     }
 }
 
@@ -155,7 +158,10 @@ fn part_in(cells: &mut Cells<'_>) -> Option<EncTicketPart>
     let times = times_in(cells);
     match client {
         Some(client) => part_for(cells.alloc(), flags, key, &client, times),
-        None => None,
+        None => {
+            drop(key);
+            None
+        }
     }
 }
 
@@ -209,7 +215,11 @@ pub fn answer(cells: &mut Cells<'_>, said: &mut Said) {
     let part = part_in(cells);
     let confounder = cells.exactly();
     match part {
-        Some(part) => seal(cells, said, &service, &part, &confounder),
+        Some(part) => {
+            seal(cells, said, &service, &part, &confounder);
+            drop(part);
+        }
         None => cells.expect(false),
     }
+    drop(service);
 }

@@ -39,6 +39,7 @@ impl Setting {
         if cells.are_well() && session.are_well() {
             Some(setting)
         } else {
+            drop(setting);
             None
         }
     }
@@ -80,19 +81,16 @@ pub fn credential(
     session: Key,
     ticket: &[u8],
 ) -> Option<Credential> {
-    match (
-        Principal::parse(alloc, client),
-        Principal::parse(alloc, server),
-        ticket_of(alloc, ticket),
-    ) {
-        (Ok(client), Ok(server), Some(ticket)) => Some(Credential {
-            client,
-            server,
-            session,
-            ticket,
-        }),
-        _ => None,
-    }
+    let names = Principal::parse(alloc, client)
+        .ok()
+        .zip(Principal::parse(alloc, server).ok());
+    let ((client, server), ticket) = names.zip(ticket_of(alloc, ticket))?;
+    Some(Credential {
+        client,
+        server,
+        session,
+        ticket,
+    })
 }
 
 /// What an initiator with this list begins with, without bindings.
@@ -117,8 +115,8 @@ pub fn initiator(alloc: Global, credential: Credential, stamp: Moment) -> Option
     }
 }
 
-/// A list of one credential.
-fn one(alloc: Global, only: MechCred) -> Option<Vec<MechCred>>
+/// A list of one.
+fn one<T: Drop>(alloc: Global, only: T) -> Option<Vec<T>>
     ensures { IfSome result (λ list. list.items ≡ only ∷ []) }
 {
     match Vec::with_capacity(alloc, 1) {
@@ -131,7 +129,7 @@ fn one(alloc: Global, only: MechCred) -> Option<Vec<MechCred>>
 }
 
 /// A list of two.
-fn two(alloc: Global, first: MechCred, second: MechCred) -> Option<Vec<MechCred>>
+fn two<T: Drop>(alloc: Global, first: T, second: T) -> Option<Vec<T>>
     ensures { IfSome result (λ list. list.items ≡ first ∷ second ∷ []) }
 {
     match Vec::with_capacity(alloc, 2) {
@@ -190,21 +188,20 @@ pub fn acceptor(
     verifiers: &[u8],
     letters: &str,
 ) -> Option<AcceptSetup> {
-    match (
-        Principal::parse(alloc, own),
-        read_keytab(alloc, keytab),
-        read_verifiers(alloc, verifiers),
-        offer_of(alloc, letters),
-    ) {
-        (Ok(own), Ok(keytab), Ok(verifiers), Some(offer)) => Some(AcceptSetup {
-            own,
-            keytab,
-            verifiers,
-            bindings: None,
-            offer: Items::of(offer),
-        }),
-        _ => None,
-    }
+    let names = Principal::parse(alloc, own)
+        .ok()
+        .zip(read_keytab(alloc, keytab).ok());
+    let users = read_verifiers(alloc, verifiers)
+        .ok()
+        .zip(offer_of(alloc, letters));
+    let ((own, keytab), (verifiers, offer)) = names.zip(users)?;
+    Some(AcceptSetup {
+        own,
+        keytab,
+        verifiers,
+        bindings: None,
+        offer: Items::of(offer),
+    })
 }
 
 impl Setting {
@@ -230,10 +227,9 @@ impl Setting {
     fn login(&self, alloc: Global) -> Option<MechCred>
         ensures { IfSome result (λ cred. kind_of cred ≡ kinds.Scram) }
     {
-        match (Text::of(alloc, "user"), Text::of(alloc, "p")) {
-            (Ok(user), Ok(password)) => Some(MechCred::Scram { user, password }),
-            _ => None,
-        }
+        let user = Text::of(alloc, "user").ok();
+        let (user, password) = user.zip(Text::of(alloc, "p").ok())?;
+        Some(MechCred::Scram { user, password })
     }
 
     /// The credential of `alice@R` for a list.
@@ -250,11 +246,8 @@ impl Setting {
     fn both(&self, alloc: Global, is_ticket_first: bool) -> Option<Vec<MechCred>>
         ensures { IfSome result (λ list. is_own_list list.items ≡ true) }
     {
-        let ticket = self.ticket(alloc)?;
-        match self.login(alloc) {
-            Some(login) => in_order(alloc, ticket, login, is_ticket_first),
-            None => None,
-        }
+        let (ticket, login) = self.ticket(alloc).zip(self.login(alloc))?;
+        in_order(alloc, ticket, login, is_ticket_first)
     }
 
     /// The credentials of a list's letters: `k` Kerberos, `s` SCRAM.
