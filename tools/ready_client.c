@@ -3,10 +3,10 @@
  *   ready_client PORT SERVER SERVICE SIZE CALLS FLIGHT
  *
  * SERVER is a principal, as rpc/localhost@REALM.TEST; SERVICE is none, which is without authentication, integrity or privacy. A context is made by
- * libtirpc and by the SPNEGO of MIT Kerberos, then CALLS calls of NULL, or of ECHO with SIZE octets where SIZE isn't 0. They go over a
- * connection of their own, FLIGHT of them in one write, after the replies to those before. A line "CALLS SECONDS" is printed. With TOGETHER
- * in the environment a line "ready" is printed before, and the calls begin at a line of standard input. The status is 0 where as many calls
- * were accepted. */
+ * libtirpc and by the SPNEGO of MIT Kerberos, then CALLS calls of NULL, or of ECHO with SIZE octets where SIZE isn't 0. They go over the
+ * context's connection, since a server of libtirpc keeps a context with that, FLIGHT of them in one write, after the replies to those before.
+ * A line "CALLS SECONDS" is printed. With TOGETHER in the environment a line "ready" is printed before, and the calls begin at a line of
+ * standard input. The status is 0 where as many calls were accepted. */
 #include <gssapi/gssapi.h>
 #include <gssapi/gssapi_krb5.h>
 #include <rpc/rpc.h>
@@ -88,8 +88,8 @@ static int connected(int port)
     return link;
 }
 
-/* A context of a service, by its handle, over a connection that is then closed. */
-static struct authgss_private_data created(int port, char *server, int service)
+/* A context of a service, by its handle, over a connection, which stays open. */
+static struct authgss_private_data created(int link, int port, char *server, int service)
 {
     struct rpc_gss_sec wanted = { &spnego, GSS_C_QOP_DEFAULT, service, GSS_C_NO_CREDENTIAL, GSS_C_MUTUAL_FLAG };
     struct sockaddr_in address = { .sin_family = AF_INET, .sin_port = htons(port) };
@@ -97,7 +97,6 @@ static struct authgss_private_data created(int port, char *server, int service)
     gss_buffer_desc text = { strlen(server), server };
     gss_name_t name;
     OM_uint32 minor;
-    int link = RPC_ANYSOCK;
     inet_pton(AF_INET, "127.0.0.1", &address.sin_addr);
     CLIENT *client = clnttcp_create(&address, PROGRAM, VERSION, &link, BUFFER, BUFFER);
     if (client == NULL || gss_import_name(&minor, &text, (gss_OID)GSS_KRB5_NT_PRINCIPAL_NAME, &name) != GSS_S_COMPLETE)
@@ -238,8 +237,9 @@ int main(int argc, char **argv)
     int port = atoi(argv[1]), size = atoi(argv[4]), calls = atoi(argv[5]), flight = atoi(argv[6]);
     int service = strcmp(argv[3], "privacy") == 0 ? RPCSEC_GSS_SVC_PRIVACY : strcmp(argv[3], "integrity") == 0 ? RPCSEC_GSS_SVC_INTEGRITY : 0;
     struct authgss_private_data by = { 0 };
+    int link = connected(port);
     if (service != 0)
-        by = created(port, argv[2], service);
+        by = created(link, port, argv[2], service);
     unsigned char *octets = calloc(1, size + 1);
     struct octets records = { 0, 0, NULL };
     struct read got = { 0, 0, 1 << 20, malloc(1 << 20) };
@@ -250,7 +250,6 @@ int main(int argc, char **argv)
         ends[i + 1] = records.count;
     }
     wait_for_others();
-    int link = connected(port);
     double start = seconds();
     for (int at = 0; at < calls; at += flight) {
         int next = at + flight < calls ? at + flight : calls;

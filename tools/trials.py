@@ -2,6 +2,7 @@
 
 import contextlib
 import os
+import random
 import shutil
 import socket
 import subprocess
@@ -16,6 +17,8 @@ CONFIG = "[libdefaults]\n default_realm = REALM.TEST\n dns_lookup_kdc = false\n 
 LIBRARIES = ["-I/usr/include/tirpc", "-ltirpc", "-lgssapi_krb5"]
 # The status where the system lacks what a trial needs.
 LACKING = 77
+# Ports below those that the system gives to connections (ip_local_port_range of Linux).
+PORTS = range(20000, 32000)
 
 
 def tool(name):
@@ -50,10 +53,12 @@ def are_built():
 
 
 def free_port():
-    """A port of loopback that nobody listens at."""
-    with socket.socket() as probe:
-        probe.bind(("127.0.0.1", 0))
-        return probe.getsockname()[1]
+    """A port of loopback that nobody listens at. It is none of those that connections are given, so none has it when a server begins."""
+    for port in random.SystemRandom().sample(PORTS, len(PORTS)):
+        with socket.socket() as probe, contextlib.suppress(OSError):
+            probe.bind(("127.0.0.1", port))
+            return port
+    raise RuntimeError("no port is free")
 
 
 def listens(port, server):
