@@ -17,13 +17,17 @@ use Rattle.gss_server.specs.declared.saying.Said.{Said}
 abbrev pub Questions : {S : Type 0} → Ghosts S → ℕ → S → S → List Asked → Type 0
 Questions gate least old new = IsAsked gate.answers gate.tells gate.room gate.told least old new
 
+-- the gate has answered nothing yet
+abbrev pub unasked : Asks
+unasked = record { negotiated = None; looked = None; admitted = None; ended = None }
+
 -- what is said is what the ruling says, unless memory was wanted where it may be, and fits into a
 -- record; each answer that is kept was asked for, and none is missing; the gate was asked exactly
 -- the ruling's questions, in order; whether it tells, and its limits, are as before
 pub record IsRuled {S : Type 0} (gate : Ghosts S) (least : ℕ) (old new : S) (asks : Asks)
-    (ruling : Ruling) : Type 0 where
-  pub says : Says asks.said.reply asks.said.rule ruling
-  pub fits : Fits asks.said.reply
+    (said : Said) (ruling : Ruling) : Type 0 where
+  pub says : Says said.reply said.rule ruling
+  pub fits : Fits said.reply
   pub exact : length ruling.asked ≡ count_of asks.negotiated asks.looked asks.admitted asks.ended
   pub asked : Questions gate least old new ruling.asked
   pub tells : gate.tells new ≡ gate.tells old
@@ -31,8 +35,8 @@ pub record IsRuled {S : Type 0} (gate : Ghosts S) (least : ℕ) (old new : S) (a
 
 -- the same of a call whose context was shown: it asks one question at most, and for no context
 pub record IsRuledInContext {S : Type 0} (gate : Ghosts S) (old new : S) (asks : Asks)
-    (ruling : Ruling) : Type 0 where
-  pub ruled : IsRuled gate 1 old new asks ruling
+    (said : Said) (ruling : Ruling) : Type 0 where
+  pub ruled : IsRuled gate 1 old new asks said ruling
   pub unlooked : asks.looked ≡ None
 
 -- what is said to a call of the context that a lease shows, where its verifier, its program or its
@@ -41,21 +45,24 @@ abbrev pub IsScreened : Shown → CredValue → Lease → Option Said → Type 0
 IsScreened s cred lease None = IsInContext s lease
 IsScreened s cred lease (Some said) = (rest : Ruling) → IsSaid said (in_context s cred lease rest)
 
--- what a record's answer has of what was asked and said
+-- what a record's answer has of what was asked
 abbrev pub asks_of : Answered → Asks
 asks_of answered = record {
   negotiated = answered.kept.negotiated;
   looked = answered.kept.looked;
   admitted = answered.kept.admitted;
   ended = answered.kept.ended;
-  said = record { rule = answered.rule; reply = answered.reply };
 }
+
+-- what a record's answer has of what is said
+abbrev pub said_of : Answered → Said
+said_of answered = record { rule = answered.rule; reply = answered.reply }
 
 -- a record was answered at this moment by these draws: the rule, the reply and what the gate was
 -- asked are the ruling's, by what was kept
 pub record AnswersRecord {S : Type 0} (gate : Ghosts S) (old new : S) (octets : List ℕ)
     (moment : ℕ) (drawing : List ℕ) (width : ℕ) (answered : Answered) : Type 0 where
-  pub ruled : IsRuled gate 2 old new (asks_of answered)
+  pub ruled : IsRuled gate 2 old new (asks_of answered) (said_of answered)
       (record_ruling octets (kept_answers answered.kept) width)
   pub now : answered.kept.now ≡ moment
   pub draws : answered.kept.draws ≡ drawing

@@ -10,7 +10,7 @@ ghost use Rattle.accept_book.specs.RecordRule.{is_misplaced, id_ruling, cred_rul
 ghost use Rattle.accept_book.specs.RecordRule.{read_ruling};
 ghost use Rattle.gss_server.specs.Answers.{IsSaid};
 ghost use Rattle.gss_server.specs.Hearing.{shown};
-ghost use Rattle.gss_server.specs.Ruled.{IsRuled, AnswersRecord, kept_with};
+ghost use Rattle.gss_server.specs.Ruled.{IsRuled, AnswersRecord, kept_with, unasked};
 
 use crate::answer::{Answered, Kept};
 use crate::asks::{Asks, unasked};
@@ -41,14 +41,16 @@ fn say_by_id<G: Gate>(
     heard: &Heard<'_>,
     cred: &GssCred<'_>,
     id: Option<u64>,
-) -> Asks
-    ensures ruled { IsRuled G.Gate 2 gate.old gate.new result
-        (id_ruling (shown heard.entry.now) (cred_value cred.now) result.looked result.admitted
-        result.ended id) }
+    asks: &mut Asks,
+) -> Said
+    requires unasked { asks.old ≡ unasked }
+    ensures ruled { IsRuled G.Gate 2 gate.old gate.new asks.new result
+        (id_ruling (shown heard.entry.now) (cred_value cred.now) asks.new.looked asks.new.admitted
+        asks.new.ended id) }
 {
     match id {
-        None => unasked(say_no_context(alloc, heard)),
-        Some(id) => ask_for_look(alloc, gate, heard, cred, id),
+        None => say_no_context(alloc, heard),
+        Some(id) => ask_for_look(alloc, gate, heard, cred, id, asks),
     }
 }
 
@@ -61,18 +63,25 @@ fn misplaced(call: &Call<'_>, cred: &GssCred<'_>) -> bool
 }
 
 /// Answers a call with this credential.
-fn say_with<G: Gate>(alloc: Global, gate: &mut G, heard: &Heard<'_>, cred: &GssCred<'_>) -> Asks
-    ensures ruled { IsRuled G.Gate 2 gate.old gate.new result
-        (cred_ruling (shown heard.entry.now) result.negotiated result.looked result.admitted
-        result.ended (Ok (cred_value cred.now))) }
+fn say_with<G: Gate>(
+    alloc: Global,
+    gate: &mut G,
+    heard: &Heard<'_>,
+    cred: &GssCred<'_>,
+    asks: &mut Asks,
+) -> Said
+    requires unasked { asks.old ≡ unasked }
+    ensures ruled { IsRuled G.Gate 2 gate.old gate.new asks.new result
+        (cred_ruling (shown heard.entry.now) asks.new.negotiated asks.new.looked
+        asks.new.admitted asks.new.ended (Ok (cred_value cred.now))) }
 {
     if misplaced(&heard.call, cred) {
-        return unasked(say_denied(alloc, heard, Rule::Credential, AUTH_BADCRED));
+        return say_denied(alloc, heard, Rule::Credential, AUTH_BADCRED);
     }
     if cred.proc == RPCSEC_GSS_INIT || cred.proc == RPCSEC_GSS_CONTINUE_INIT {
-        return say_creating(alloc, gate, heard, cred);
+        return say_creating(alloc, gate, heard, cred, asks);
     }
-    say_by_id(alloc, gate, heard, cred, id_in(cred.context))
+    say_by_id(alloc, gate, heard, cred, id_in(cred.context), asks)
 }
 
 /// Whether a body's first word is there and isn't 1.
@@ -86,39 +95,41 @@ fn another_version(body: &[u8]) -> bool
 }
 
 /// Answers a call with a credential of flavour 6.
-fn say_secure<G: Gate>(alloc: Global, gate: &mut G, heard: &Heard<'_>) -> Asks
-    ensures ruled { IsRuled G.Gate 2 gate.old gate.new result
-        (cred_ruling (shown heard.entry.now) result.negotiated result.looked result.admitted
-        result.ended (cred_at heard.entry.now.call.cred.body.now)) }
+fn say_secure<G: Gate>(alloc: Global, gate: &mut G, heard: &Heard<'_>, asks: &mut Asks) -> Said
+    requires unasked { asks.old ≡ unasked }
+    ensures ruled { IsRuled G.Gate 2 gate.old gate.new asks.new result
+        (cred_ruling (shown heard.entry.now) asks.new.negotiated asks.new.looked
+        asks.new.admitted asks.new.ended (cred_at heard.entry.now.call.cred.body.now)) }
 {
     match read_cred(heard.call.cred.body) {
-        Ok(cred) => say_with(alloc, gate, heard, &cred),
+        Ok(cred) => say_with(alloc, gate, heard, &cred, asks),
         Err(_) => {
             let stat = if another_version(heard.call.cred.body) {
                 AUTH_REJECTEDCRED
             } else {
                 AUTH_BADCRED
             };
-            unasked(say_denied(alloc, heard, Rule::Credential, stat))
+            say_denied(alloc, heard, Rule::Credential, stat)
         }
     }
 }
 
 /// Answers a call.
 #[tactic(auto, unfolding(accept_book::specs::RecordRule::call_ruling))]
-fn say_call<G: Gate>(alloc: Global, gate: &mut G, heard: &Heard<'_>) -> Asks
-    ensures ruled { IsRuled G.Gate 2 gate.old gate.new result
-        (call_ruling (shown heard.entry.now) result.negotiated result.looked result.admitted
-        result.ended) }
+fn say_call<G: Gate>(alloc: Global, gate: &mut G, heard: &Heard<'_>, asks: &mut Asks) -> Said
+    requires unasked { asks.old ≡ unasked }
+    ensures ruled { IsRuled G.Gate 2 gate.old gate.new asks.new result
+        (call_ruling (shown heard.entry.now) asks.new.negotiated asks.new.looked
+        asks.new.admitted asks.new.ended) }
 {
     let flavour = heard.call.cred.flavour;
     if flavour != AUTH_NONE && flavour != RPCSEC_GSS {
-        return unasked(say_denied(alloc, heard, Rule::Flavour, AUTH_TOOWEAK));
+        return say_denied(alloc, heard, Rule::Flavour, AUTH_TOOWEAK);
     }
     if flavour == AUTH_NONE {
-        return unasked(say_unauthenticated(alloc, heard));
+        return say_unauthenticated(alloc, heard);
     }
-    say_secure(alloc, gate, heard)
+    say_secure(alloc, gate, heard, asks)
 }
 
 /// Answers a record.
@@ -130,9 +141,11 @@ fn say_record<G: Gate>(
     draws: &[u8; 82],
     width: u32,
     keys: &MicCache,
-) -> Asks
-    ensures ruled { IsRuled G.Gate 2 gate.old gate.new result
-        (read_ruling bytes.now (kept_with now draws.now result) width (call_at bytes.now)) }
+    asks: &mut Asks,
+) -> Said
+    requires unasked { asks.old ≡ unasked }
+    ensures ruled { IsRuled G.Gate 2 gate.old gate.new asks.new result
+        (read_ruling bytes.now (kept_with now draws.now asks.new) width (call_at bytes.now)) }
 {
     match read_call(bytes) {
         Ok(call) => {
@@ -145,11 +158,11 @@ fn say_record<G: Gate>(
                 width,
                 keys,
             };
-            say_call(alloc, gate, &heard)
+            say_call(alloc, gate, &heard, asks)
         }
-        Err(CallRefusal::Unreadable { at: _ }) => unasked(say_nothing(Rule::Unreadable)),
-        Err(CallRefusal::NotCall) => unasked(say_nothing(Rule::NotCall)),
-        Err(CallRefusal::RpcVersion { xid }) => unasked(say_other_version(alloc, xid)),
+        Err(CallRefusal::Unreadable { at: _ }) => say_nothing(Rule::Unreadable),
+        Err(CallRefusal::NotCall) => say_nothing(Rule::NotCall),
+        Err(CallRefusal::RpcVersion { xid }) => say_other_version(alloc, xid),
     }
 }
 
@@ -192,14 +205,15 @@ pub(crate) fn answer_record_by<G: Gate>(
 ) -> Answered
     ensures { AnswersRecord G.Gate gate.old gate.new bytes.now now draws.now width result }
 {
+    let mut asks = unasked();
+    let said = say_record(alloc, gate, bytes, now, draws, width, keys, &mut asks);
+    let Said { rule, reply } = said;
     let Asks {
         negotiated,
         looked,
         admitted,
         ended,
-        said,
-    } = say_record(alloc, gate, bytes, now, draws, width, keys);
-    let Said { rule, reply } = said;
+    } = asks;
     let draws = *draws;
     Answered {
         rule,

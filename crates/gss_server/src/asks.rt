@@ -1,33 +1,28 @@
-//! What a call asked of the gate, and what is said to it.
+//! What the gate is asked for a call.
 
-ghost use Rattle.std.specs.Prelude.{◌≡◌, None};
+ghost use Rattle.std.specs.Prelude.{◌≡◌};
+ghost use Rattle.gss_server.specs.Ruled.{unasked};
 
-use crate::saying::Said;
 use accept_book::{AdmitRefusal, Admitted, Lease, LookRefusal, Negotiated, Receipt};
 
-/// What the gate answered, where it was asked, and what is said to the call.
+/// What the gate answered to a call, where it was asked. It is handed down to who asks, since the
+/// answers are large.
 #[derive(Drop)]
 pub(crate) struct Asks {
     pub negotiated: Option<Negotiated>,
     pub looked: Option<Result<Lease, LookRefusal>>,
     pub admitted: Option<Result<Admitted, AdmitRefusal>>,
     pub ended: Option<Result<Receipt, AdmitRefusal>>,
-    pub said: Said,
 }
 
-/// Nothing was asked.
-pub(crate) fn unasked(said: Said) -> Asks
-    ensures negotiated { result.negotiated ≡ None }
-    ensures looked { result.looked ≡ None }
-    ensures admitted { result.admitted ≡ None }
-    ensures ended { result.ended ≡ None }
-    ensures said { result.said ≡ said }
+/// Nothing was asked yet.
+pub(crate) fn unasked() -> Asks
+    ensures { result ≡ unasked }
 {
     Asks {
         negotiated: None,
         looked: None,
         admitted: None,
         ended: None,
-        said,
     }
 }

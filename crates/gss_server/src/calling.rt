@@ -1,15 +1,16 @@
 //! The rules of data calls, RFC 2203 section 5.3: a call is judged, its number taken, and its result given.
 
 ghost use Rattle.std.specs.Prelude.{◌≡◌, ◌≤◌, length};
+ghost use Rattle.sha1.specs.Sha1.{sha1};
 ghost use Rattle.rpcsec_msgs.specs.Cred.{cred_value};
 ghost use Rattle.accept_book.specs.RecordShown.{is_verified, body_args, end_of};
 ghost use Rattle.accept_book.specs.RecordRule.{unadmitted, admitted_ruling, ask_admit, args_ruling};
 ghost use Rattle.accept_book.specs.RecordRule.{data_ruling};
 ghost use Rattle.gss_server.specs.Answers.{IsSaid};
 ghost use Rattle.gss_server.specs.Hearing.{shown};
-ghost use Rattle.gss_server.specs.Ruled.{IsRuledInContext, IsScreened};
+ghost use Rattle.gss_server.specs.Ruled.{IsRuledInContext, IsScreened, unasked};
 
-use crate::asks::{Asks, unasked};
+use crate::asks::Asks;
 use crate::gate::Gate;
 use crate::heard::Heard;
 use crate::opening::{are_proper, open_body};
@@ -102,6 +103,22 @@ fn say_admitted(
     }
 }
 
+/// The SHA-1 of no octets (FIPS 180-4 section 6.1).
+const EMPTY_DIGEST: [u8; 20] = [
+    0xda, 0x39, 0xa3, 0xee, 0x5e, 0x6b, 0x4b, 0x0d, 0x32, 0x55, 0xbf, 0xef, 0x95, 0x60, 0x18, 0x90,
+    0xaf, 0xd8, 0x07, 0x09,
+];
+
+/// The SHA-1 of arguments, which most calls have none of.
+fn digest_of(args: &[u8]) -> [u8; 20]
+    ensures { result ≡ sha1 args.now }
+{
+    match args {
+        [] => EMPTY_DIGEST,
+        _ => Sha1::digest(args),
+    }
+}
+
 /// Asks for the admission of a call.
 fn ask_admission<G: Gate>(
     alloc: Global,
@@ -110,19 +127,19 @@ fn ask_admission<G: Gate>(
     cred: &GssCred<'_>,
     lease: &Lease,
     args: &[u8],
-) -> Asks
-    requires { length args.now ≤ 65540 }
-    ensures ruled { IsRuledInContext G.Gate gate.old gate.new result
+    asks: &mut Asks,
+) -> Said
+    requires size { length args.now ≤ 65540 }
+    requires unasked { asks.old ≡ unasked }
+    ensures ruled { IsRuledInContext G.Gate gate.old gate.new asks.new result
         (ask_admit (shown heard.entry.now) (cred_value cred.now) lease.now args.now
-        result.admitted) }
+        asks.new.admitted) }
 {
-    let digest = Sha1::digest(args);
+    let digest = digest_of(args);
     let answer = gate.admit(lease, cred.seq, heard.call.procedure, digest);
     let said = say_admitted(alloc, heard, cred, lease, args, &answer);
-    Asks {
-        admitted: Some(answer),
-        ..unasked(said)
-    }
+    asks.admitted = Some(answer);
+    said
 }
 
 /// Judges the arguments of a call, and asks for its admission.
@@ -133,22 +150,20 @@ fn say_args<G: Gate>(
     cred: &GssCred<'_>,
     lease: &Lease,
     args: Option<Octets>,
-) -> Asks
-    ensures ruled { IsRuledInContext G.Gate gate.old gate.new result
-        (args_ruling (shown heard.entry.now) (cred_value cred.now) lease.now result.admitted args) }
+    asks: &mut Asks,
+) -> Said
+    requires unasked { asks.old ≡ unasked }
+    ensures ruled { IsRuledInContext G.Gate gate.old gate.new asks.new result
+        (args_ruling (shown heard.entry.now) (cred_value cred.now) lease.now asks.new.admitted
+        args) }
 {
-    let args = match args {
-        Some(args) => args,
-        None => {
-            let said = say_stat(alloc, heard, cred, lease, Rule::Body, GARBAGE_ARGS);
-            return unasked(said);
-        }
+    let Some(args) = args else {
+        return say_stat(alloc, heard, cred, lease, Rule::Body, GARBAGE_ARGS);
     };
     if !are_proper(heard.call.procedure, args.as_slice()) {
-        let said = say_stat(alloc, heard, cred, lease, Rule::Arguments, GARBAGE_ARGS);
-        return unasked(said);
+        return say_stat(alloc, heard, cred, lease, Rule::Arguments, GARBAGE_ARGS);
     }
-    ask_admission(alloc, gate, heard, cred, lease, args.as_slice())
+    ask_admission(alloc, gate, heard, cred, lease, args.as_slice(), asks)
 }
 
 /// Answers a data call by the arguments that its body carries.
@@ -158,14 +173,16 @@ fn say_body<G: Gate>(
     heard: &Heard<'_>,
     cred: &GssCred<'_>,
     lease: &Lease,
-) -> Asks
-    ensures ruled { IsRuledInContext G.Gate gate.old gate.new result
-        (args_ruling (shown heard.entry.now) (cred_value cred.now) lease.now result.admitted
+    asks: &mut Asks,
+) -> Said
+    requires unasked { asks.old ≡ unasked }
+    ensures ruled { IsRuledInContext G.Gate gate.old gate.new asks.new result
+        (args_ruling (shown heard.entry.now) (cred_value cred.now) lease.now asks.new.admitted
         (body_args (end_of lease.now) (cred_value cred.now) heard.entry.now.call.args.now)) }
 {
     match open_body(alloc, &end_at(lease), heard.keys, cred, heard.call.args) {
-        Ok(args) => say_args(alloc, gate, heard, cred, lease, args),
-        Err(_) => unasked(say_no_memory()),
+        Ok(args) => say_args(alloc, gate, heard, cred, lease, args, asks),
+        Err(_) => say_no_memory(),
     }
 }
 
@@ -177,20 +194,22 @@ pub(crate) fn say_data<G: Gate>(
     heard: &Heard<'_>,
     cred: &GssCred<'_>,
     lease: &Lease,
-) -> Asks
-    ensures ruled { IsRuledInContext G.Gate gate.old gate.new result
-        (data_ruling (shown heard.entry.now) (cred_value cred.now) lease.now result.admitted) }
+    asks: &mut Asks,
+) -> Said
+    requires unasked { asks.old ≡ unasked }
+    ensures ruled { IsRuledInContext G.Gate gate.old gate.new asks.new result
+        (data_ruling (shown heard.entry.now) (cred_value cred.now) lease.now asks.new.admitted) }
 {
     match screened(alloc, heard, cred, lease) {
         None => {}
-        Some(said) => return unasked(said),
+        Some(said) => return said,
     }
     let call = &heard.call;
     if call.procedure > COUNT {
-        return unasked(say_stat(alloc, heard, cred, lease, Rule::Procedure, PROC_UNAVAIL));
+        return say_stat(alloc, heard, cred, lease, Rule::Procedure, PROC_UNAVAIL);
     }
     if cred.service == RPC_GSS_SVC_NONE && call.procedure != NULL {
-        return unasked(say_denied(alloc, heard, Rule::Weak, AUTH_TOOWEAK));
+        return say_denied(alloc, heard, Rule::Weak, AUTH_TOOWEAK);
     }
-    say_body(alloc, gate, heard, cred, lease)
+    say_body(alloc, gate, heard, cred, lease, asks)
 }

@@ -13,9 +13,9 @@ ghost use Rattle.accept_book.specs.RecordRule.{stepped, ask_step, continued, tok
 ghost use Rattle.accept_book.specs.RecordRule.{creation_ruling};
 ghost use Rattle.gss_server.specs.Answers.{IsSaid};
 ghost use Rattle.gss_server.specs.Hearing.{shown, handle_or_none};
-ghost use Rattle.gss_server.specs.Ruled.{IsRuled};
+ghost use Rattle.gss_server.specs.Ruled.{IsRuled, unasked};
 
-use crate::asks::{Asks, unasked};
+use crate::asks::Asks;
 use crate::gate::Gate;
 use crate::heard::Heard;
 use crate::opening::{id_in, token_in};
@@ -197,20 +197,17 @@ fn ask_for_step<G: Gate>(
     heard: &Heard<'_>,
     id: Option<u64>,
     token: &[u8],
-) -> Asks
-    ensures ruled { IsRuled G.Gate 1 gate.old gate.new result
-        (ask_step (shown heard.entry.now) id token.now result.negotiated) }
+    asks: &mut Asks,
+) -> Said
+    requires unasked { asks.old ≡ unasked }
+    ensures ruled { IsRuled G.Gate 1 gate.old gate.new asks.new result
+        (ask_step (shown heard.entry.now) id token.now asks.new.negotiated) }
 {
     let draws = step_draws(&heard.draws);
     let negotiated = gate.negotiate(alloc, id, token, heard.now, &draws);
     let said = say_stepped(alloc, heard, &negotiated.answer);
-    Asks {
-        negotiated: Some(negotiated),
-        looked: None,
-        admitted: None,
-        ended: None,
-        said,
-    }
+    asks.negotiated = Some(negotiated);
+    said
 }
 
 /// Answers a later token by the id of its context.
@@ -220,13 +217,15 @@ fn say_continued<G: Gate>(
     heard: &Heard<'_>,
     token: &[u8],
     id: Option<u64>,
-) -> Asks
-    ensures ruled { IsRuled G.Gate 1 gate.old gate.new result
-        (continued (shown heard.entry.now) token.now result.negotiated id) }
+    asks: &mut Asks,
+) -> Said
+    requires unasked { asks.old ≡ unasked }
+    ensures ruled { IsRuled G.Gate 1 gate.old gate.new asks.new result
+        (continued (shown heard.entry.now) token.now asks.new.negotiated id) }
 {
     match id {
-        None => unasked(say_no_context(alloc, heard)),
-        Some(id) => ask_for_step(alloc, gate, heard, Some(id), token),
+        None => say_no_context(alloc, heard),
+        Some(id) => ask_for_step(alloc, gate, heard, Some(id), token, asks),
     }
 }
 
@@ -237,15 +236,17 @@ fn say_token<G: Gate>(
     heard: &Heard<'_>,
     cred: &GssCred<'_>,
     token: &[u8],
-) -> Asks
-    ensures ruled { IsRuled G.Gate 1 gate.old gate.new result
-        (token_ruling (shown heard.entry.now) (cred_value cred.now) result.negotiated
+    asks: &mut Asks,
+) -> Said
+    requires unasked { asks.old ≡ unasked }
+    ensures ruled { IsRuled G.Gate 1 gate.old gate.new asks.new result
+        (token_ruling (shown heard.entry.now) (cred_value cred.now) asks.new.negotiated
         (Ok token.now)) }
 {
     if cred.proc == RPCSEC_GSS_INIT {
-        return ask_for_step(alloc, gate, heard, None, token);
+        return ask_for_step(alloc, gate, heard, None, token, asks);
     }
-    say_continued(alloc, gate, heard, token, id_in(cred.context))
+    say_continued(alloc, gate, heard, token, id_in(cred.context), asks)
 }
 
 /// Answers a creation call.
@@ -255,19 +256,21 @@ pub(crate) fn say_creating<G: Gate>(
     gate: &mut G,
     heard: &Heard<'_>,
     cred: &GssCred<'_>,
-) -> Asks
-    ensures ruled { IsRuled G.Gate 1 gate.old gate.new result
-        (creation_ruling (shown heard.entry.now) (cred_value cred.now) result.negotiated) }
+    asks: &mut Asks,
+) -> Said
+    requires unasked { asks.old ≡ unasked }
+    ensures ruled { IsRuled G.Gate 1 gate.old gate.new asks.new result
+        (creation_ruling (shown heard.entry.now) (cred_value cred.now) asks.new.negotiated) }
 {
     let call = &heard.call;
     if call.program != PROGRAM {
-        return unasked(say_plain(alloc, heard, Rule::Program, PROG_UNAVAIL, 0, 0));
+        return say_plain(alloc, heard, Rule::Program, PROG_UNAVAIL, 0, 0);
     }
     if call.version != VERSION {
-        return unasked(say_plain(alloc, heard, Rule::Version, PROG_MISMATCH, VERSION, VERSION));
+        return say_plain(alloc, heard, Rule::Version, PROG_MISMATCH, VERSION, VERSION);
     }
     match token_in(call.args) {
-        Ok(token) => say_token(alloc, gate, heard, cred, token),
-        Err(_) => unasked(say_plain(alloc, heard, Rule::Arguments, GARBAGE_ARGS, 0, 0)),
+        Ok(token) => say_token(alloc, gate, heard, cred, token, asks),
+        Err(_) => say_plain(alloc, heard, Rule::Arguments, GARBAGE_ARGS, 0, 0),
     }
 }

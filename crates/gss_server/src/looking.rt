@@ -1,13 +1,14 @@
 //! The rules of DATA and DESTROY up to the context (RFC 2203 section 5.3.3.3), and those of DESTROY (section 5.4).
 
+ghost use Rattle.std.specs.Prelude.{◌≡◌};
 ghost use Rattle.rpcsec_msgs.specs.Cred.{cred_value};
 ghost use Rattle.accept_book.specs.RecordRule.{ended_ruling, ask_end, destroy_ruling};
 ghost use Rattle.accept_book.specs.RecordRule.{looked_ruling, ask_look};
 ghost use Rattle.gss_server.specs.Answers.{IsSaid};
 ghost use Rattle.gss_server.specs.Hearing.{shown};
-ghost use Rattle.gss_server.specs.Ruled.{IsRuled, IsRuledInContext};
+ghost use Rattle.gss_server.specs.Ruled.{IsRuled, IsRuledInContext, unasked};
 
-use crate::asks::{Asks, unasked};
+use crate::asks::Asks;
 use crate::calling::{say_data, say_unadmitted, screened};
 use crate::gate::Gate;
 use crate::heard::Heard;
@@ -42,16 +43,16 @@ fn ask_for_end<G: Gate>(
     heard: &Heard<'_>,
     cred: &GssCred<'_>,
     lease: &Lease,
-) -> Asks
-    ensures ruled { IsRuledInContext G.Gate gate.old gate.new result
-        (ask_end (shown heard.entry.now) (cred_value cred.now) lease.now result.ended) }
+    asks: &mut Asks,
+) -> Said
+    requires unasked { asks.old ≡ unasked }
+    ensures ruled { IsRuledInContext G.Gate gate.old gate.new asks.new result
+        (ask_end (shown heard.entry.now) (cred_value cred.now) lease.now asks.new.ended) }
 {
     let answer = gate.end(lease, cred.seq);
     let said = say_ended(alloc, heard, cred, lease, &answer);
-    Asks {
-        ended: Some(answer),
-        ..unasked(said)
-    }
+    asks.ended = Some(answer);
+    said
 }
 
 /// Answers a call that ends a context that was shown.
@@ -62,15 +63,16 @@ fn say_destroy<G: Gate>(
     heard: &Heard<'_>,
     cred: &GssCred<'_>,
     lease: &Lease,
-) -> Asks
-    ensures ruled { IsRuledInContext G.Gate gate.old gate.new result
-        (destroy_ruling (shown heard.entry.now) (cred_value cred.now) lease.now result.ended) }
+    asks: &mut Asks,
+) -> Said
+    requires unasked { asks.old ≡ unasked }
+    ensures ruled { IsRuledInContext G.Gate gate.old gate.new asks.new result
+        (destroy_ruling (shown heard.entry.now) (cred_value cred.now) lease.now asks.new.ended) }
 {
     match screened(alloc, heard, cred, lease) {
-        None => {}
-        Some(said) => return unasked(said),
+        None => ask_for_end(alloc, gate, heard, cred, lease, asks),
+        Some(said) => said,
     }
-    ask_for_end(alloc, gate, heard, cred, lease)
 }
 
 /// Answers a call by what a look answered.
@@ -80,26 +82,23 @@ fn say_looked<G: Gate>(
     heard: &Heard<'_>,
     cred: &GssCred<'_>,
     answer: &Result<Lease, LookRefusal>,
-) -> Asks
-    ensures ruled { IsRuledInContext G.Gate gate.old gate.new result
-        (looked_ruling (shown heard.entry.now) (cred_value cred.now) result.admitted result.ended
-        answer.now) }
+    asks: &mut Asks,
+) -> Said
+    requires unasked { asks.old ≡ unasked }
+    ensures ruled { IsRuledInContext G.Gate gate.old gate.new asks.new result
+        (looked_ruling (shown heard.entry.now) (cred_value cred.now) asks.new.admitted
+        asks.new.ended answer.now) }
 {
     match answer {
         Ok(lease) => {
             if cred.proc == RPCSEC_GSS_DATA {
-                return say_data(alloc, gate, heard, cred, lease);
+                return say_data(alloc, gate, heard, cred, lease, asks);
             }
-            say_destroy(alloc, gate, heard, cred, lease)
+            say_destroy(alloc, gate, heard, cred, lease, asks)
         }
-        Err(LookRefusal::NoContext) => unasked(say_no_context(alloc, heard)),
-        Err(LookRefusal::NotReady) => unasked(say_no_context(alloc, heard)),
-        Err(LookRefusal::Expired) => unasked(say_denied(
-            alloc,
-            heard,
-            Rule::Expired,
-            RPCSEC_GSS_CTXPROBLEM,
-        )),
+        Err(LookRefusal::NoContext) => say_no_context(alloc, heard),
+        Err(LookRefusal::NotReady) => say_no_context(alloc, heard),
+        Err(LookRefusal::Expired) => say_denied(alloc, heard, Rule::Expired, RPCSEC_GSS_CTXPROBLEM),
     }
 }
 
@@ -110,15 +109,15 @@ pub(crate) fn ask_for_look<G: Gate>(
     heard: &Heard<'_>,
     cred: &GssCred<'_>,
     id: u64,
-) -> Asks
-    ensures ruled { IsRuled G.Gate 2 gate.old gate.new result
-        (ask_look (shown heard.entry.now) (cred_value cred.now) id result.admitted result.ended
-        result.looked) }
+    asks: &mut Asks,
+) -> Said
+    requires unasked { asks.old ≡ unasked }
+    ensures ruled { IsRuled G.Gate 2 gate.old gate.new asks.new result
+        (ask_look (shown heard.entry.now) (cred_value cred.now) id asks.new.admitted asks.new.ended
+        asks.new.looked) }
 {
     let answer = gate.look(id, heard.now);
-    let asks = say_looked(alloc, gate, heard, cred, &answer);
-    Asks {
-        looked: Some(answer),
-        ..asks
-    }
+    let said = say_looked(alloc, gate, heard, cred, &answer, asks);
+    asks.looked = Some(answer);
+    said
 }
