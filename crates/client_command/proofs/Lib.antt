@@ -1,3 +1,4 @@
+pub mod Refused
 pub mod Asking
 pub mod Ended
 pub mod Loading

@@ -1,6 +1,6 @@
 -- The words of the client, `ADDRESS COMMAND [ARG] [options]`: which are in its command, and what
 -- they ask for.
-use Rattle.std.specs.Prelude.{◌≡◌, ℕ, ◌<◌, ◌≤◌, Bool, true, false, ◌&&◌, nat_eq, nat_lt}
+use Rattle.std.specs.Prelude.{◌≡◌, ℕ, ◌<◌, ◌≤◌, Bool, true, false, ◌&&◌, nat_eq, nat_lt, nat_le}
 use Rattle.std.specs.Prelude.{List, [], ◌∷◌, length, slice_get, slice_index, codes, Option, Some}
 use Rattle.std.specs.Prelude.{None, is_some, Result, Ok, Err, if◌then◌else◌}
 use lib.Pointwise.{pointwise}
@@ -16,6 +16,7 @@ use Rattle.cli_base.specs.Given.{◌>>=◌, or_usage, demanded, number_given, da
 use Rattle.cli_base.specs.Words.{are_words, value_of, first_word, plain_of}
 use Rattle.cli_base.specs.declared.given.WordsRefusal.{WordsRefusal}
 use Rattle.cli_base.specs.declared.given.WordsRefusal.TheVariants.{Usage}
+use Rattle.cli_words.specs.Line.{client_names}
 use Rattle.hex.specs.Hex.{decode_of}
 use Rattle.hex.specs.declared.error.FromHexError.{FromHexError}
 use Rattle.rpc_msgs.specs.Words.{opaque}
@@ -73,14 +74,13 @@ asked_in plain = do
 
 -- ---- the options
 
--- the names of the options
-abbrev pub names : List (List ℕ)
-names = codes "--ccache" ∷ codes "--server" ∷ codes "--user" ∷ codes "--password" ∷ codes "--mechs"
-    ∷ codes "--bind" ∷ codes "--service" ∷ codes "--times" ∷ codes "--first" ∷ []
-
 -- a word that is no option stands first; the options are of these names, each once, with its value
 abbrev pub is_command : List (List ℕ) → Bool
-is_command words = is_some (first_word words) && are_words names words
+is_command words = is_some (first_word words) && are_words client_names words
+
+-- words of the command, of which none is left over behind its argument
+abbrev pub is_line : List (List ℕ) → Bool
+is_line words = is_command words && nat_le (length (plain_of words)) 3
 
 -- the server as its text was read, refused where it names no principal
 abbrev pub name_by : Result Name NameRefusal → Result (Option Name) WordsRefusal

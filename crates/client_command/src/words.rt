@@ -1,12 +1,12 @@
 //! The words of the client.
 
-ghost use Rattle.std.specs.Prelude.{◌≡◌, ◌≤◌, IfOk, codes, length};
+ghost use Rattle.std.specs.Prelude.{◌≡◌, ◌≤◌, IfOk, true, codes, length};
 ghost use Rattle.sec_base.specs.Answers.{Gives};
 ghost use Rattle.gss_base.specs.Signs.{parsed};
 ghost use Rattle.hex.specs.Hex.{decode_of};
 ghost use Rattle.rpc_msgs.specs.Words.{opaque};
-ghost use Rattle.cli_base.specs.Words.{value_of, plain_of};
-ghost use Rattle.client_command.specs.Words.{is_command, bare, with_data, data_by};
+ghost use Rattle.cli_base.specs.Words.{is_dashed, value_of, plain_of};
+ghost use Rattle.client_command.specs.Words.{is_command, is_line, bare, with_data, data_by};
 ghost use Rattle.client_command.specs.Words.{asked_by, asked_in};
 ghost use Rattle.client_command.specs.Words.{name_by, server_given, mechs_by, are_equipped};
 ghost use Rattle.client_command.specs.Words.{equipped, usual, mechs_given, is_given, has_krb5};
@@ -14,9 +14,8 @@ ghost use Rattle.client_command.specs.Words.{has_scram, sources_of, service_by, 
 ghost use Rattle.client_command.specs.Words.{plan_of, words_of, AreOctets, IsRanged};
 
 pub use cli_base::{WordsRefusal, address_of};
-use cli_base::{
-    are_words, bindings_given, count_plain, demand, first_word, number_given, plain, value_of,
-};
+use cli_base::{are_words, count_plain, demand, first_word};
+use cli_words::{Line, bindings_given, client_line, number_given, texts_of};
 use gss_base::{Bindings, NameRefusal, Principal};
 use gss_client::{Procedure, Service};
 use hex::FromHexError;
@@ -26,6 +25,9 @@ use std::alloc::Global;
 
 /// The most octets of an argument.
 const MOST_DATA: usize = 65_536;
+
+/// The most plain words: the address, the command, and its argument.
+const MOST_PLAIN: usize = 3;
 
 /// What is called, how often, and how the calls are protected.
 #[derive(Drop)]
@@ -99,6 +101,13 @@ fn is_command(words: &[Text]) -> bool
         )
 }
 
+/// Whether words are in the command, and none is left over behind the argument.
+fn is_line(words: &[Text]) -> bool
+    ensures { result ≡ is_line words.now }
+{
+    is_command(words) && count_plain(words) <= MOST_PLAIN
+}
+
 /// The octets that a word has in hexadecimal.
 fn data_of(alloc: Global, text: &str) -> Result<Octets, WordsRefusal>
     ensures value { Gives WordsRefusal.NoMemory (λ o. o) result (data_by (decode_of text.now)) }
@@ -129,12 +138,12 @@ fn argument(alloc: Global, octets: &[u8]) -> Result<Octets, NoMemory>
 
 /// What a command without an argument asks for.
 #[tactic(auto, unfolding(crate::specs::Words::bare))]
-fn bare(alloc: Global, words: &[Text], procedure: Procedure) -> Result<Asked, WordsRefusal>
+fn bare(alloc: Global, line: &Line<'_>, procedure: Procedure) -> Result<Asked, WordsRefusal>
     ensures value { Gives WordsRefusal.NoMemory (λ a. a) result
-        (bare (plain_of words.now) procedure) }
+        (bare (plain_of line.now) procedure) }
     ensures size { IfOk result (λ a. length a.args ≤ 65540) }
 {
-    demand(count_plain(words) == 2)?;
+    demand(line.count_plain() == 2)?;
     Ok(Asked {
         procedure,
         args: Octets::from_vec(Vec::new(alloc)),
@@ -143,13 +152,13 @@ fn bare(alloc: Global, words: &[Text], procedure: Procedure) -> Result<Asked, Wo
 
 /// What a command with an argument asks for.
 #[tactic(auto, unfolding(crate::specs::Words::with_data))]
-fn with_data(alloc: Global, words: &[Text], procedure: Procedure) -> Result<Asked, WordsRefusal>
+fn with_data(alloc: Global, line: &Line<'_>, procedure: Procedure) -> Result<Asked, WordsRefusal>
     ensures value { Gives WordsRefusal.NoMemory (λ a. a) result
-        (with_data (plain_of words.now) procedure) }
+        (with_data (plain_of line.now) procedure) }
     ensures size { IfOk result (λ a. length a.args ≤ 65540) }
 {
-    demand(count_plain(words) == 3)?;
-    match plain(words, 2) {
+    demand(line.count_plain() == 3)?;
+    match line.plain(2) {
         Some(text) => {
             let octets = data_of(alloc, text)?;
             let args = argument(alloc, octets.as_slice())?;
@@ -160,46 +169,47 @@ fn with_data(alloc: Global, words: &[Text], procedure: Procedure) -> Result<Aske
 }
 
 /// What this command asks for.
-fn asked_by(alloc: Global, words: &[Text], command: &str) -> Result<Asked, WordsRefusal>
+fn asked_by(alloc: Global, line: &Line<'_>, command: &str) -> Result<Asked, WordsRefusal>
     ensures value { Gives WordsRefusal.NoMemory (λ a. a) result
-        (asked_by (plain_of words.now) command.now) }
+        (asked_by (plain_of line.now) command.now) }
     ensures size { IfOk result (λ a. length a.args ≤ 65540) }
 {
     if command == "null" {
-        return bare(alloc, words, Procedure::Null);
+        return bare(alloc, line, Procedure::Null);
     }
     if command == "echo" {
-        return with_data(alloc, words, Procedure::Echo);
+        return with_data(alloc, line, Procedure::Echo);
     }
     if command == "whoami" {
-        return bare(alloc, words, Procedure::Whoami);
+        return bare(alloc, line, Procedure::Whoami);
     }
     if command == "post" {
-        return with_data(alloc, words, Procedure::Post);
+        return with_data(alloc, line, Procedure::Post);
     }
     if command == "count" {
-        return bare(alloc, words, Procedure::Count);
+        return bare(alloc, line, Procedure::Count);
     }
     Err(WordsRefusal::Usage)
 }
 
 /// What the command of the words asks for.
 #[tactic(auto, unfolding(crate::specs::Words::asked_in))]
-fn asked_in(alloc: Global, words: &[Text]) -> Result<Asked, WordsRefusal>
-    ensures value { Gives WordsRefusal.NoMemory (λ a. a) result (asked_in (plain_of words.now)) }
+fn asked_in(alloc: Global, line: &Line<'_>) -> Result<Asked, WordsRefusal>
+    ensures value { Gives WordsRefusal.NoMemory (λ a. a) result (asked_in (plain_of line.now)) }
     ensures size { IfOk result (λ a. length a.args ≤ 65540) }
 {
-    match plain(words, 1) {
-        Some(command) => asked_by(alloc, words, command),
+    match line.plain(1) {
+        Some(command) => asked_by(alloc, line, command),
         None => Err(WordsRefusal::Usage),
     }
 }
 
 /// The value of the option `name`.
-fn text_given(alloc: Global, words: &[Text], name: &str) -> Result<Option<Text>, NoMemory>
-    ensures { IfOk result (λ text. text ≡ value_of name.now words.now) }
+fn text_given(alloc: Global, line: &Line<'_>, name: &str) -> Result<Option<Text>, NoMemory>
+    requires { is_dashed name.now ≡ true }
+    ensures { IfOk result (λ text. text ≡ value_of name.now line.now) }
 {
-    match value_of(words, name) {
+    match line.value(name) {
         None => Ok(None),
         Some(text) => {
             let text = Text::of(alloc, text)?;
@@ -220,11 +230,11 @@ fn server_of(alloc: Global, text: &str) -> Result<Option<Principal>, WordsRefusa
 }
 
 /// The server that the words name.
-fn server_given(alloc: Global, words: &[Text]) -> Result<Option<Principal>, WordsRefusal>
+fn server_given(alloc: Global, line: &Line<'_>) -> Result<Option<Principal>, WordsRefusal>
     ensures { Gives WordsRefusal.NoMemory (λ name. name) result
-        (server_given (value_of (codes "--server") words.now)) }
+        (server_given (value_of (codes "--server") line.now)) }
 {
-    match value_of(words, "--server") {
+    match line.value("--server") {
         None => Ok(None),
         Some(text) => server_of(alloc, text),
     }
@@ -286,20 +296,21 @@ fn usual(krb5: bool, scram: bool) -> Result<Mechs, WordsRefusal>
 }
 
 /// Whether the words have the option `name`.
-fn is_given(words: &[Text], name: &str) -> bool
-    ensures { result ≡ is_given words.now name.now }
+fn is_given(line: &Line<'_>, name: &str) -> bool
+    requires { is_dashed name.now ≡ true }
+    ensures { result ≡ is_given line.now name.now }
 {
-    value_of(words, name).is_some()
+    line.value(name).is_some()
 }
 
 /// The mechanisms that the words ask for.
-fn mechs_given(words: &[Text]) -> Result<Mechs, WordsRefusal>
-    ensures { result ≡ mechs_given (has_krb5 words.now) (has_scram words.now)
-        (value_of (codes "--mechs") words.now) }
+fn mechs_given(line: &Line<'_>) -> Result<Mechs, WordsRefusal>
+    ensures { result ≡ mechs_given (has_krb5 line.now) (has_scram line.now)
+        (value_of (codes "--mechs") line.now) }
 {
-    let krb5 = is_given(words, "--ccache") && is_given(words, "--server");
-    let scram = is_given(words, "--user") && is_given(words, "--password");
-    match value_of(words, "--mechs") {
+    let krb5 = is_given(line, "--ccache") && is_given(line, "--server");
+    let scram = is_given(line, "--user") && is_given(line, "--password");
+    match line.value("--mechs") {
         None => usual(krb5, scram),
         Some(text) => equipped(krb5, scram, text),
     }
@@ -307,14 +318,14 @@ fn mechs_given(words: &[Text]) -> Result<Mechs, WordsRefusal>
 
 /// Where the credentials come from.
 #[tactic(auto, unfolding(crate::specs::Words::sources_of))]
-fn sources_of(alloc: Global, words: &[Text]) -> Result<Sources, WordsRefusal>
-    ensures { Gives WordsRefusal.NoMemory (λ s. s) result (sources_of words.now) }
+fn sources_of(alloc: Global, line: &Line<'_>) -> Result<Sources, WordsRefusal>
+    ensures { Gives WordsRefusal.NoMemory (λ s. s) result (sources_of line.now) }
 {
-    let server = server_given(alloc, words)?;
-    let mechs = mechs_given(words)?;
-    let ccache = text_given(alloc, words, "--ccache")?;
-    let user = text_given(alloc, words, "--user")?;
-    let password = text_given(alloc, words, "--password")?;
+    let server = server_given(alloc, line)?;
+    let mechs = mechs_given(line)?;
+    let ccache = text_given(alloc, line, "--ccache")?;
+    let user = text_given(alloc, line, "--user")?;
+    let password = text_given(alloc, line, "--password")?;
     Ok(Sources {
         ccache,
         server,
@@ -341,10 +352,10 @@ fn service_by(text: &str) -> Result<Service, WordsRefusal>
 }
 
 /// The service that the words ask for.
-fn service_given(words: &[Text]) -> Result<Service, WordsRefusal>
-    ensures { result ≡ service_given (value_of (codes "--service") words.now) }
+fn service_given(line: &Line<'_>) -> Result<Service, WordsRefusal>
+    ensures { result ≡ service_given (value_of (codes "--service") line.now) }
 {
-    match value_of(words, "--service") {
+    match line.value("--service") {
         None => Ok(Service::Integrity),
         Some(text) => service_by(text),
     }
@@ -359,16 +370,16 @@ fn tell_octets(octets: &[u8])
 
 /// What is called and how, by the command and its options.
 #[tactic(auto, unfolding(crate::specs::Words::plan_of))]
-fn plan_of(alloc: Global, words: &[Text]) -> Result<Plan, WordsRefusal>
-    ensures value { Gives WordsRefusal.NoMemory (λ p. p) result (plan_of words.now) }
+fn plan_of(alloc: Global, line: &Line<'_>) -> Result<Plan, WordsRefusal>
+    ensures value { Gives WordsRefusal.NoMemory (λ p. p) result (plan_of line.now) }
     ensures range { IfOk result IsRanged }
 {
-    let asked = asked_in(alloc, words)?;
+    let asked = asked_in(alloc, line)?;
     tell_octets(asked.args.as_slice());
-    let bindings = bindings_given(alloc, words)?;
-    let service = service_given(words)?;
-    let times = number_given(words, "--times", 1, 1000, 1)?;
-    let first = number_given(words, "--first", 1, 0x7fff_ffff, 1)?;
+    let bindings = bindings_given(alloc, line)?;
+    let service = service_given(line)?;
+    let times = number_given(line, "--times", 1, 1000, 1)?;
+    let first = number_given(line, "--first", 1, 0x7fff_ffff, 1)?;
     Ok(Plan {
         procedure: asked.procedure,
         args: asked.args,
@@ -379,14 +390,37 @@ fn plan_of(alloc: Global, words: &[Text]) -> Result<Plan, WordsRefusal>
     })
 }
 
-/// What the words ask for.
+/// What a line of the command asks for.
 #[tactic(auto, unfolding(crate::specs::Words::words_of))]
+fn read_line(alloc: Global, line: &Line<'_>) -> Result<ClientWords, WordsRefusal>
+    requires { is_command line.now ≡ true }
+    ensures value { Gives WordsRefusal.NoMemory (λ w. w) result (words_of line.now) }
+    ensures range { IfOk result (λ w. IsRanged w.plan) }
+{
+    let sources = sources_of(alloc, line)?;
+    let plan = plan_of(alloc, line)?;
+    Ok(ClientWords { sources, plan })
+}
+
+/// What words ask for that have the form of the command.
+fn read_form(alloc: Global, words: &[Text]) -> Result<ClientWords, WordsRefusal>
+    requires { is_line words.now ≡ true }
+    ensures value { Gives WordsRefusal.NoMemory (λ w. w) result (words_of words.now) }
+    ensures range { IfOk result (λ w. IsRanged w.plan) }
+{
+    let texts = texts_of(alloc, words)?;
+    let line = client_line(alloc, texts.as_slice())?;
+    read_line(alloc, &line)
+}
+
+/// What the words ask for. They go to `clap` where they have the form of the command.
 pub fn read_words(alloc: Global, words: &[Text]) -> Result<ClientWords, WordsRefusal>
     ensures value { Gives WordsRefusal.NoMemory (λ w. w) result (words_of words.now) }
     ensures range { IfOk result (λ w. IsRanged w.plan) }
 {
-    demand(is_command(words))?;
-    let sources = sources_of(alloc, words)?;
-    let plan = plan_of(alloc, words)?;
-    Ok(ClientWords { sources, plan })
+    if is_line(words) {
+        read_form(alloc, words)
+    } else {
+        Err(WordsRefusal::Usage)
+    }
 }

@@ -1,0 +1,5 @@
+pub mod Counting
+pub mod Pairs
+pub mod Walking
+pub mod Taken
+pub mod Programs
