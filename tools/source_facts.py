@@ -56,7 +56,7 @@ def options(path):
 
 def ranges(path):
     """The least, the greatest and the usual number of each option that takes one."""
-    found = re.findall(r'number_given\(words, "(--\w+)", (\w+), (\w+), (\w+)\)', code(path))
+    found = re.findall(r'number_given\(\w+, "(--\w+)", (\w+), (\w+), (\w+)\)', code(path))
     return {name: tuple(number(it) for it in numbers) for name, *numbers in found}
 
 

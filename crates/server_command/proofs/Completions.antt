@@ -1,5 +1,5 @@
 -- A run whose words and files are valid, and where no count rose, serves all connections.
-use Rattle.std.proofs.Common.{arith, ◌≡◌, ◌≢◌, ◌≤◌, ℕ, Bool, true, List, Option, Some, None, Result, Ok, Err, refl, sym, ◌∙◌, subst}
+use Rattle.std.proofs.Common.{arith, ◌≡◌, ◌≢◌, ◌≤◌, ℕ, Bool, true, List, Result, Ok, Err, refl, sym, ◌∙◌, subst}
 use Rattle.sec_base.specs.Answers.{Gives, Rose}
 use Rattle.sec_base.specs.declared.shelf.NamedFile.{NamedFile}
 use Rattle.gss_base.specs.Name.{Name}
@@ -10,18 +10,13 @@ use Rattle.cli_base.specs.Files.{LoadsFile, FromShelf, file_in}
 use Rattle.cli_base.specs.declared.files.FileStop.{FileStop}
 use Rattle.cli_base.specs.declared.files.FileStop.TheVariants as stops
 use Rattle.server_command.specs.Desks.{is_begun}
-use Rattle.server_command.specs.Keys.{AreKeys, BehindKeytab, keytab_in, verifiers_in, keys_with, no_keys}
-use Rattle.server_command.specs.Runs.{EndsBy, Begins, AreValidFiles, AreValid, IsValid}
+use Rattle.server_command.specs.Keys.{BehindKeytab, keytab_in, verifiers_in, keys_with}
+use Rattle.server_command.specs.Runs.{EndsBy, Begins, AreValid}
 use Rattle.server_command.specs.declared.ending.RunEnd.{RunEnd}
 use Rattle.server_command.specs.declared.ending.RunEnd.TheVariants.{NoMemory, Served}
 use Rattle.server_command.specs.declared.keys.Keys.{Keys}
 use Rattle.server_command.specs.declared.options.Files.{Files}
 use Rattle.server_command.specs.declared.options.Options.{Options}
-
--- keys that are due are there, want of memory aside
-due-there : (keys : Result Keys RunEnd) (end : RunEnd) (due : Keys) → Gives NoMemory (λ k. k) keys (Ok due) → EndsBy keys end → end ≢ NoMemory → is_begun end ≡ true
-due-there (Ok k) end due given ends other = ends other
-due-there (Err stop) end due given ends other = let bad : ◌≡◌ {A = Result Keys RunEnd} (Ok due) (Err stop) = given (λ e. other (ends ∙ e)) in cc
 
 ok-err : {A : Type 0} (value : A) (stop : RunEnd) → ◌≡◌ {A = Result A RunEnd} (Ok value) (Err stop) → ⊥
 ok-err value stop e = cc
@@ -64,7 +59,7 @@ ok-same x y e = cc
 ends-by : (keys other : Result Keys RunEnd) (end : RunEnd) → keys ≡ other → EndsBy keys end → EndsBy other end
 ends-by keys other end e h = subst (λ (k : Result Keys RunEnd). EndsBy k end) e h
 
-with-verifiers : (tells : Bool) (files : List NamedFile) (before after : List (List ℕ)) (faults faults' : ℕ) (named : Files) (name : Name) (entries : List Entry) (verifiers : Result (List Verifier) RunEnd) (keys : Result Keys RunEnd) (end : RunEnd) → (valid : AreValidFiles tells files named name) → entries ≡ valid.entries
+with-verifiers : (tells : Bool) (files : List NamedFile) (before after : List (List ℕ)) (faults faults' : ℕ) (named : Files) (name : Name) (entries : List Entry) (verifiers : Result (List Verifier) RunEnd) (keys : Result Keys RunEnd) (end : RunEnd) → (valid : AreValid tells files named name) → entries ≡ valid.entries
     → (Rose faults faults' → ⊥) → FromShelf NoMemory tells files before after faults faults' named.verifiers verifiers_in verifiers → keys ≡ keys_with name entries verifiers → EndsBy keys end → end ≢ NoMemory → is_begun end ≡ true
 with-verifiers tells files before after faults faults' named name entries (Ok users) keys end valid same steady second are ends other =
     let served : is_served name entries ≡ true = rw same valid.served in
@@ -74,7 +69,7 @@ with-verifiers tells files before after faults faults' named name entries (Err s
     absurd (ok-err valid.users stop (sym (reads-well {A = List Verifier} (Err stop) valid.users verifiers_in (file_in files named.verifiers) second.answer valid.lines valid.text (second.loaded.content valid.told) (λ e. steady (second.loaded.fault e))
     (rw valid.known refl) refl second.given (not-wanted {A = List Verifier} stop end (ends-by keys (Err stop) end are ends) other))))
 
-by-files : (tells : Bool) (files : List NamedFile) (before between after : List (List ℕ)) (faults counted faults' : ℕ) (named : Files) (name : Name) (keytab : Result (List Entry) RunEnd) (keys : Result Keys RunEnd) (end : RunEnd) → AreValidFiles tells files named name → (Rose faults faults' → ⊥)
+by-files : (tells : Bool) (files : List NamedFile) (before between after : List (List ℕ)) (faults counted faults' : ℕ) (named : Files) (name : Name) (keytab : Result (List Entry) RunEnd) (keys : Result Keys RunEnd) (end : RunEnd) → AreValid tells files named name → (Rose faults faults' → ⊥)
     → FromShelf NoMemory tells files before between faults counted named.keytab keytab_in keytab → BehindKeytab tells files between after counted faults' named.verifiers name keytab keys → counted ≤ faults' → EndsBy keys end → end ≢ NoMemory → is_begun end ≡ true
 by-files tells files before between after faults counted faults' named name (Ok entries) keys end valid steady first behind le ends other =
     let same : entries ≡ valid.entries = ok-same entries valid.entries (reads-well {A = List Entry} (Ok entries) valid.entries keytab_in (file_in files named.keytab) first.answer valid.octets valid.content (first.loaded.content valid.told) (λ e. steady (rose-on (first.loaded.fault e) le))
@@ -84,14 +79,9 @@ by-files tells files before between after faults counted faults' named name (Err
     absurd (ok-err valid.entries stop (sym (reads-well {A = List Entry} (Err stop) valid.entries keytab_in (file_in files named.keytab) first.answer valid.octets valid.content (first.loaded.content valid.told) (λ e. steady (rose-on (first.loaded.fault e) le))
     (rw valid.read refl) refl first.given (not-wanted {A = List Entry} stop end (ends-by keys (Err stop) end behind.0 ends) other))))
 
-by-keys : (tells : Bool) (files : List NamedFile) (before after : List (List ℕ)) (faults faults' : ℕ) (named : Option Files) (name : Name) (keys : Result Keys RunEnd) (end : RunEnd) → AreValid tells files named name → (Rose faults faults' → ⊥)
-    → AreKeys tells files before after faults faults' named name keys → EndsBy keys end → end ≢ NoMemory → is_begun end ≡ true
-by-keys tells files before after faults faults' None name keys end valid steady are ends other = due-there keys end no_keys are.0 ends other
-by-keys tells files before after faults faults' (Some named) name keys end valid steady are ends other =
-    by-files tells files before are.between after faults are.counted faults' named name are.keytab keys end valid steady are.read are.behind are.grows ends other
-
 -- a run that has its keys, in which no desk failed, serves all connections
 pub completed : (tells : Bool) (files : List NamedFile) (before after : List (List ℕ)) (faults faults' : ℕ) (options : Options) (end : RunEnd) → Begins tells files before after faults faults' options end
-    → IsValid tells files options → (Rose faults faults' → ⊥) → (is_begun end ≡ true → end ≡ Served) → end ≢ NoMemory → end ≡ Served
+    → AreValid tells files options.files options.name → (Rose faults faults' → ⊥) → (is_begun end ≡ true → end ≡ Served) → end ≢ NoMemory → end ≡ Served
 completed tells files before after faults faults' options end begins valid steady served other =
-    served (by-keys tells files before after faults faults' options.files options.name begins.keys end valid steady begins.given begins.ends other)
+    let given = begins.given in
+    served (by-files tells files before given.between after faults given.counted faults' options.files options.name given.keytab begins.keys end valid steady given.read given.behind given.grows begins.ends other)

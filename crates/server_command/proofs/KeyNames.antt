@@ -1,23 +1,17 @@
 -- Which names a shelf was asked for the keys.
-use Rattle.std.proofs.Common.{◌≡◌, ℕ, zero, suc, Bool, IsTrue, List, [], ◌∷◌, ◌++◌, append_assoc, take, Option, Some, None, Result, Ok, Err, refl, sym, ap, ◌∙◌}
-use Rattle.std.proofs.lemmas.List.{append-nil}
+use Rattle.std.proofs.Common.{◌≡◌, ℕ, zero, suc, Bool, IsTrue, List, [], ◌∷◌, ◌++◌, append_assoc, take, Result, Ok, Err, refl, ap, ◌∙◌}
 use Rattle.sec_base.specs.declared.shelf.NamedFile.{NamedFile}
 use Rattle.gss_base.specs.Name.{Name}
 use Rattle.krb_files.specs.declared.keytab.Entry.{Entry}
 use Rattle.cli_base.specs.Files.{AsksFile, FromShelf}
 use Rattle.cli_base.specs.declared.files.FileStop.{FileStop}
 use Rattle.cli_base.specs.declared.files.FileStop.TheVariants as stops
-use Rattle.server_command.specs.Keys.{end_by, keytab_in, BehindKeytab, AreKeys}
-use Rattle.server_command.specs.Runs.{names_of}
+use Rattle.server_command.specs.Keys.{end_by, keytab_in, BehindKeytab, FromFiles}
 use Rattle.server_command.specs.declared.ending.KeyFile.TheVariants.{Keytab}
 use Rattle.server_command.specs.declared.ending.RunEnd.{RunEnd}
 use Rattle.server_command.specs.declared.ending.RunEnd.TheVariants.{NoMemory}
 use Rattle.server_command.specs.declared.keys.Keys.{Keys}
 use Rattle.server_command.specs.declared.options.Files.{Files}
-
--- none of these names
-pub no-name : (names asked : List (List ℕ)) → (count : ℕ) × (asked ≡ asked ++ take count names)
-no-name names asked = (0, sym (append-nil asked))
 
 by-file : (before after : List (List ℕ)) (name : List ℕ) (answer : Result (List ℕ) FileStop) → AsksFile before after name answer → (count : ℕ) × (after ≡ before ++ take count (name ∷ []))
 by-file before after name (Ok octets) h = (1, h)
@@ -48,8 +42,7 @@ by-both tells files before between after faults counted faults' named name (Ok e
     let s = by-file between after named.verifiers behind.read.answer (behind.read.loaded.asked t) in
     (suc s.0, s.1 ∙ (ap (λ (names : List (List ℕ)). names ++ take s.0 (named.verifiers ∷ [])) f ∙ append_assoc before (named.keytab ∷ []) (take s.0 (named.verifiers ∷ []))))
 
-pub key-names : (tells : Bool) (files : List NamedFile) (before after : List (List ℕ)) (faults faults' : ℕ) (named : Option Files) (name : Name) (keys : Result Keys RunEnd) → AreKeys tells files before after faults faults' named name keys → IsTrue tells
-    → (count : ℕ) × (after ≡ before ++ take count (names_of named))
-key-names tells files before after faults faults' None name keys h t = (0, h.1 ∙ sym (append-nil before))
-key-names tells files before after faults faults' (Some named) name keys h t =
+pub key-names : (tells : Bool) (files : List NamedFile) (before after : List (List ℕ)) (faults faults' : ℕ) (named : Files) (name : Name) (keys : Result Keys RunEnd) → FromFiles tells files before after faults faults' named name keys → IsTrue tells
+    → (count : ℕ) × (after ≡ before ++ take count (named.keytab ∷ named.verifiers ∷ []))
+key-names tells files before after faults faults' named name keys h t =
     by-both tells files before h.between after faults h.counted faults' named name h.keytab keys h.read h.behind t

@@ -1,9 +1,9 @@
 pub mod Completions
 pub mod DeskRuns
 pub mod Ends
+pub mod Formed
 pub mod InStep
 pub mod KeyNames
-pub mod NoKeys
 pub mod Noting
 pub mod Numbers
 pub mod Sides

@@ -1,11 +1,10 @@
 -- The line of a known status is the line that is due.
-use Rattle.std.proofs.Common.{◌≡◌, ◌≢◌, ℕ, ◌<◌, List, [], Option, None, true, false, refl, arith}
+use Rattle.std.proofs.Common.{◌≡◌, ◌≢◌, ℕ, ◌<◌, List, true, false, refl, arith}
 use Rattle.server_command.specs.Desks.{is_begun}
-use Rattle.server_command.specs.Lines.{line_of}
+use Rattle.server_command.specs.Lines.{Named, line_of}
 use Rattle.server_command.specs.declared.ending.Counts.{Counts}
 use Rattle.server_command.specs.declared.ending.RunEnd.{RunEnd}
 use Rattle.server_command.specs.declared.ending.RunEnd.TheVariants.{Usage, CannotLoad, Bad, NoKey, PortFault, NoMemory, Served}
-use Rattle.server_command.specs.declared.options.Files.{Files}
 use Rattle.cli_base.specs.Lines.{SaysLine, Says, memory_line}
 
 pub known-said : {old new : List ℕ} {status : ℕ} {line : List ℕ} (known : ℕ) → known < 6 → (status ≢ 6 → status ≡ known) → SaysLine old new status line → Says old new status line
@@ -25,12 +24,12 @@ memory-said {old} {new} {status} {due} same said = record {
 false≢true : false ≡ true → ⊥
 false≢true e = cc
 
--- behind the keys the line is one that speaks of no file
-pub end-line : (end : RunEnd) (files : Option Files) (name : List ℕ) (counts : Counts) → (end ≢ NoMemory → is_begun end ≡ true) → line_of None [] counts end ≡ line_of files name counts end
-end-line Usage files name counts begun = absurd (false≢true (begun (λ e. cc)))
-end-line (CannotLoad file) files name counts begun = absurd (false≢true (begun (λ e. cc)))
-end-line (Bad file at) files name counts begun = absurd (false≢true (begun (λ e. cc)))
-end-line NoKey files name counts begun = absurd (false≢true (begun (λ e. cc)))
-end-line (PortFault desk) files name counts begun = refl
-end-line NoMemory files name counts begun = refl
-end-line Served files name counts begun = refl
+-- behind the keys the line is one that speaks of no name
+pub end-line : (end : RunEnd) (one other : Named) (counts : Counts) → (end ≢ NoMemory → is_begun end ≡ true) → line_of one counts end ≡ line_of other counts end
+end-line Usage one other counts begun = absurd (false≢true (begun (λ e. cc)))
+end-line (CannotLoad file) one other counts begun = absurd (false≢true (begun (λ e. cc)))
+end-line (Bad file at) one other counts begun = absurd (false≢true (begun (λ e. cc)))
+end-line NoKey one other counts begun = absurd (false≢true (begun (λ e. cc)))
+end-line (PortFault desk) one other counts begun = refl
+end-line NoMemory one other counts begun = refl
+end-line Served one other counts begun = refl

@@ -1,7 +1,5 @@
 -- The keys of a run.
-use Rattle.std.specs.Prelude.{◌≡◌, ◌≤◌, ℕ, Bool, List, [], Option, Some, None, Result, Ok, Err}
-use Rattle.std.specs.Prelude.{if◌then◌else◌}
-use Rattle.sec_base.specs.Answers.{Gives}
+use Rattle.std.specs.Prelude.{◌≡◌, ◌≤◌, ℕ, Bool, List, Result, Ok, Err, if◌then◌else◌}
 use Rattle.sec_base.specs.declared.shelf.NamedFile.{NamedFile}
 use Rattle.sec_base.specs.declared.shelf.Shelf.{Ghosts}
 use Rattle.gss_base.specs.Name.{Name}
@@ -78,7 +76,7 @@ BehindKeytab tells files before after faults faults' file name (Err end) keys =
 BehindKeytab tells files before after faults faults' file name (Ok entries) keys =
     WithVerifiers tells files before after faults faults' file name entries keys
 
--- the shelf was asked for the keytab, and then for the verifiers
+-- the keys of a run: the shelf was asked for the keytab, and then for the verifiers
 pub record FromFiles (tells : Bool) (files : List NamedFile) (before after : List (List ℕ))
     (faults faults' : ℕ) (named : Files) (name : Name) (keys : Result Keys RunEnd) : Type 0 where
   pub keytab : Result (List Entry) RunEnd
@@ -90,18 +88,6 @@ pub record FromFiles (tells : Bool) (files : List NamedFile) (before after : Lis
       keys
   pub grows : counted ≤ faults'
 
--- neither a key for a ticket nor a user
-abbrev pub no_keys : Keys
-no_keys = record { keytab = []; verifiers = [] }
-
--- the keys of a run: none where no files are named
-abbrev pub AreKeys : Bool → List NamedFile → List (List ℕ) → List (List ℕ) → ℕ → ℕ → Option Files
-    → Name → Result Keys RunEnd → Type 0
-AreKeys tells files before after faults faults' None name keys =
-    Gives NoMemory (λ k. k) keys (Ok no_keys) × (after ≡ before)
-AreKeys tells files before after faults faults' (Some named) name keys =
-    FromFiles tells files before after faults faults' named name keys
-
 -- ---- the same of a shelf before and after
 
 -- it was asked for the file, and this was read in its answer
@@ -111,15 +97,8 @@ ReadFrom shelf old new file read_in read =
     FromShelf NoMemory (shelf.tells old) (shelf.files old) (shelf.asked old) (shelf.asked new)
     (shelf.faults old) (shelf.faults new) file read_in read
 
--- it was asked for the keytab, and then for the verifiers
-abbrev pub KeysIn : {F : Type 0} → Ghosts F → F → F → Files → Name → Result Keys RunEnd → Type 0
-KeysIn shelf old new named name keys =
-    FromFiles (shelf.tells old) (shelf.files old) (shelf.asked old) (shelf.asked new)
-    (shelf.faults old) (shelf.faults new) named name keys
-
--- the keys of a run
-abbrev pub KeysFrom : {F : Type 0} → Ghosts F → F → F → Option Files → Name → Result Keys RunEnd
-    → Type 0
+-- the keys of a run: it was asked for the keytab, and then for the verifiers
+abbrev pub KeysFrom : {F : Type 0} → Ghosts F → F → F → Files → Name → Result Keys RunEnd → Type 0
 KeysFrom shelf old new named name keys =
-    AreKeys (shelf.tells old) (shelf.files old) (shelf.asked old) (shelf.asked new)
+    FromFiles (shelf.tells old) (shelf.files old) (shelf.asked old) (shelf.asked new)
     (shelf.faults old) (shelf.faults new) named name keys

@@ -1,5 +1,5 @@
 -- What the server prints on standard error.
-use Rattle.std.specs.Prelude.{ℕ, List, [], ◌++◌, codes, Option, Some, None}
+use Rattle.std.specs.Prelude.{ℕ, List, ◌++◌, codes}
 use Rattle.std.specs.Fmt.{decimal}
 use Rattle.cli_base.specs.Files.{stop_line}
 use Rattle.cli_base.specs.Lines.{memory_line}
@@ -10,7 +10,6 @@ use Rattle.server_command.specs.declared.ending.KeyFile.TheVariants.{Keytab, Ver
 use Rattle.server_command.specs.declared.ending.RunEnd.{RunEnd}
 use Rattle.server_command.specs.declared.ending.RunEnd.TheVariants.{Usage, CannotLoad, Bad, NoKey}
 use Rattle.server_command.specs.declared.ending.RunEnd.TheVariants.{PortFault, NoMemory, Served}
-use Rattle.server_command.specs.declared.options.Files.{Files}
 
 -- the line of words that aren't in the command
 abbrev pub usage_line : List ℕ
@@ -41,18 +40,23 @@ status_of (PortFault desk) = 5
 status_of NoMemory = 8
 status_of Served = 0
 
--- the name of a file, which is empty where no files are named
-abbrev pub file_of : Option Files → KeyFile → List ℕ
-file_of None file = []
-file_of (Some files) Keytab = files.keytab
-file_of (Some files) Verifiers = files.verifiers
+-- what a run's words name, as its line says it: the files of the keys, and the own name
+pub record Named : Type 0 where
+  pub keytab : List ℕ
+  pub verifiers : List ℕ
+  pub own : List ℕ
 
--- the line of an end, by the files of the keys, the own name and what was served
-abbrev pub line_of : Option Files → List ℕ → Counts → RunEnd → List ℕ
-line_of files name counts Usage = usage_line
-line_of files name counts (CannotLoad file) = stop_line (file_of files file) stops.CannotLoad
-line_of files name counts (Bad file at) = stop_line (file_of files file) (stops.Bad at)
-line_of files name counts NoKey = no_key_line name
-line_of files name counts (PortFault desk) = port_line desk
-line_of files name counts NoMemory = memory_line
-line_of files name counts Served = served_line counts
+-- the name of a file
+abbrev pub file_of : Named → KeyFile → List ℕ
+file_of names Keytab = names.keytab
+file_of names Verifiers = names.verifiers
+
+-- the line of an end, by what the words name and what was served
+abbrev pub line_of : Named → Counts → RunEnd → List ℕ
+line_of names counts Usage = usage_line
+line_of names counts (CannotLoad file) = stop_line (file_of names file) stops.CannotLoad
+line_of names counts (Bad file at) = stop_line (file_of names file) (stops.Bad at)
+line_of names counts NoKey = no_key_line names.own
+line_of names counts (PortFault desk) = port_line desk
+line_of names counts NoMemory = memory_line
+line_of names counts Served = served_line counts

@@ -38,20 +38,17 @@ abbrev pub name_by : Result Name NameRefusal → Result Name WordsRefusal
 name_by (Ok name) = Ok name
 name_by (Err refusal) = Err Usage
 
--- the files of the keys, which are named together or not at all
-abbrev pub files_given : Option (List ℕ) → Option (List ℕ) → Result (Option Files) WordsRefusal
-files_given None None = Ok None
-files_given None (Some verifiers) = Err Usage
+-- the files of the keys, both of which are required
+abbrev pub files_given : Option (List ℕ) → Option (List ℕ) → Result Files WordsRefusal
+files_given None verifiers = Err Usage
 files_given (Some keytab) None = Err Usage
 files_given (Some keytab) (Some verifiers) =
-    Ok (Some (record { keytab = keytab; verifiers = verifiers }))
+    Ok (record { keytab = keytab; verifiers = verifiers })
 
--- the own name, which is given exactly where they are; without them it is `none@none`
-abbrev pub name_given : Option Files → Option (List ℕ) → Result Name WordsRefusal
-name_given None None = name_by (parsed (codes "none@none"))
-name_given None (Some text) = Err Usage
-name_given (Some files) None = Err Usage
-name_given (Some files) (Some text) = name_by (parsed text)
+-- the own name, which is required
+abbrev pub name_given : Option (List ℕ) → Result Name WordsRefusal
+name_given None = Err Usage
+name_given (Some text) = name_by (parsed text)
 
 -- the numbers of the options
 abbrev pub numbers_given : List (List ℕ) → Result Numbers WordsRefusal
@@ -64,12 +61,11 @@ numbers_given words = do
   Ok (record
       { window = window; connections = connections; contexts = contexts; marks = marks; log = log })
 
--- what the words ask for, refused exactly where they aren't in the command
-unfoldable pub options_of : List (List ℕ) → Result Options WordsRefusal
-options_of words = do
-  formed ← formed words
+-- what the options of words in the command ask for
+unfoldable pub options_in : List (List ℕ) → Result Options WordsRefusal
+options_in words = do
   files ← files_given (value_of (codes "--keytab") words) (value_of (codes "--verifiers") words)
-  name ← name_given files (value_of (codes "--name") words)
+  name ← name_given (value_of (codes "--name") words)
   bound ← data_given (value_of (codes "--bind") words)
   window ← number_given 1 1024 128 (value_of (codes "--window") words)
   connections ← number_given 1 1000000 1000 (value_of (codes "--connections") words)
@@ -87,6 +83,12 @@ options_of words = do
     marks = marks;
     log = log;
   })
+
+-- what the words ask for, refused exactly where they aren't in the command
+unfoldable pub options_of : List (List ℕ) → Result Options WordsRefusal
+options_of words = do
+  formed ← formed words
+  options_in words
 
 -- the limits of the numbers
 pub record AreRanged (numbers : Numbers) : Type 0 where

@@ -1,6 +1,6 @@
 -- The run of the server.
 use Rattle.std.specs.Prelude.{◌≡◌, ◌≢◌, ℕ, Bool, true, IsTrue, List, [], ◌∷◌, ◌++◌, length, take}
-use Rattle.std.specs.Prelude.{Option, Some, None, Result, Ok, Err}
+use Rattle.std.specs.Prelude.{Result, Ok, Err}
 use Rattle.sec_base.specs.declared.shelf.NamedFile.{NamedFile}
 use Rattle.sec_base.specs.declared.shelf.Shelf.{Ghosts}
 use Rattle.gss_base.specs.Name.{Name}
@@ -12,7 +12,8 @@ use Rattle.scram_mech.specs.Verifiers.{verifiers_of}
 use Rattle.scram_mech.specs.declared.verifiers.Verifier.{Verifier}
 use Rattle.accept_book.specs.Logs.{LogOf}
 use Rattle.server_command.specs.Desks.{is_begun, all_connections, all_records}
-use Rattle.server_command.specs.Keys.{AreKeys}
+use Rattle.server_command.specs.Keys.{FromFiles}
+use Rattle.server_command.specs.Lines.{Named}
 use Rattle.server_command.specs.declared.desk.Desk.{Desk}
 use Rattle.server_command.specs.declared.ending.Counts.{Counts}
 use Rattle.server_command.specs.declared.ending.RunEnd.{RunEnd}
@@ -22,20 +23,21 @@ use Rattle.server_command.specs.declared.options.Files.{Files}
 use Rattle.server_command.specs.declared.options.Options.{Options}
 use Rattle.cli_base.specs.declared.given.WordsRefusal.{WordsRefusal}
 
--- the files of the keys, where the words name them
-abbrev pub files_of : Result Options WordsRefusal → Option Files
-files_of (Ok options) = options.files
-files_of (Err refusal) = None
+-- the files of the keys, in the order in which they are asked for; words that aren't in the command
+-- have none
+abbrev pub files_of : Result Options WordsRefusal → List (List ℕ)
+files_of (Ok options) = options.files.keytab ∷ options.files.verifiers ∷ []
+files_of (Err refusal) = []
 
--- their names, in the order in which they are asked for
-abbrev pub names_of : Option Files → List (List ℕ)
-names_of None = []
-names_of (Some files) = files.keytab ∷ files.verifiers ∷ []
+-- what words name: these files, and an own name of this text form
+abbrev pub names_in : Files → List ℕ → Named
+names_in files own = record { keytab = files.keytab; verifiers = files.verifiers; own = own }
 
--- the own name's text form
-abbrev pub name_of : Result Options WordsRefusal → List ℕ
-name_of (Ok options) = text_form options.name.realm options.name.parts
-name_of (Err refusal) = []
+-- what the words name, nothing where they aren't in the command
+abbrev pub names_of : Result Options WordsRefusal → Named
+names_of (Ok options) =
+    names_in options.files (text_form options.name.realm options.name.parts)
+names_of (Err refusal) = record { keytab = []; verifiers = []; own = [] }
 
 -- a run ends by what its keys come to; with keys desks are served, want of memory aside
 abbrev pub EndsBy : Result Keys RunEnd → RunEnd → Type 0
@@ -46,12 +48,12 @@ EndsBy (Ok keys) end = end ≢ NoMemory → is_begun end ≡ true
 pub record Begins (tells : Bool) (files : List NamedFile) (before after : List (List ℕ))
     (faults faults' : ℕ) (options : Options) (end : RunEnd) : Type 0 where
   pub keys : Result Keys RunEnd
-  pub given : AreKeys tells files before after faults faults' options.files options.name keys
+  pub given : FromFiles tells files before after faults faults' options.files options.name keys
   pub ends : EndsBy keys end
 
 -- the files are there, within the limit and of their formats, and the keytab has a key for the own
 -- name
-pub record AreValidFiles (tells : Bool) (files : List NamedFile) (named : Files)
+pub record AreValid (tells : Bool) (files : List NamedFile) (named : Files)
     (name : Name) : Type 0 where
   pub told : IsTrue tells
   pub octets : List ℕ
@@ -63,15 +65,6 @@ pub record AreValidFiles (tells : Bool) (files : List NamedFile) (named : Files)
   pub text : file_in files named.verifiers ≡ Ok lines
   pub users : List Verifier
   pub known : verifiers_of lines ≡ Ok users
-
--- the files that are named, where they are, can be used
-abbrev pub AreValid : Bool → List NamedFile → Option Files → Name → Type 0
-AreValid tells files None name = Unit {0}
-AreValid tells files (Some named) name = AreValidFiles tells files named name
-
--- the files that the options name can be used
-abbrev pub IsValid : Bool → List NamedFile → Options → Type 0
-IsValid tells files options = AreValid tells files options.files options.name
 
 -- the log was kept under the limits of the options
 pub record HasLimits (options : Options) (log : LogOf) : Type 0 where
@@ -104,7 +97,8 @@ RunBegins shelf old new options end =
 
 -- it has what the options name, and all of it can be used
 abbrev pub HasValid : {F : Type 0} → Ghosts F → F → Options → Type 0
-HasValid shelf old options = IsValid (shelf.tells old) (shelf.files old) options
+HasValid shelf old options =
+    AreValid (shelf.tells old) (shelf.files old) options.files options.name
 
 -- at most these files were asked for, in this order
 abbrev pub AsksAtMost : {F : Type 0} → Ghosts F → F → F → List (List ℕ) → Type 0

@@ -3,12 +3,13 @@
 ghost use Rattle.std.specs.Prelude.{◌≡◌, ◌≢◌, ◌≤◌, IsTrue};
 ghost use Rattle.sec_base.specs.Answers.{Rose};
 ghost use Rattle.cli_base.specs.Lines.{Says};
-ghost use Rattle.server_command.specs.Lines.{file_of, served_line, status_of, line_of};
+ghost use Rattle.server_command.specs.Lines.{file_of, no_key_line, served_line, status_of};
+ghost use Rattle.server_command.specs.Lines.{line_of};
 
-use crate::options::Files;
 use cli_base::{FileStop, OUT_OF_MEMORY, say, say_made, say_stop};
 use sec_base::Sink;
 use std::alloc::Global;
+use std::marker::Model;
 
 /// The line of status 2.
 const USAGE: &str =
@@ -48,42 +49,63 @@ pub struct Counts {
     pub entries: u64,
 }
 
-/// The name of a file, which is empty where no files are named.
-fn name_of(files: &Option<Files>, file: KeyFile) -> &str
-    ensures { result.now ≡ file_of files.now file }
-{
-    match files {
-        None => "",
-        Some(files) => match file {
-            KeyFile::Keytab => files.keytab.as_str(),
-            KeyFile::Verifiers => files.verifiers.as_str(),
-        },
+/// What the words of a run name, as its line says it: the files of the keys, and the own name's text form. Each is empty where the words aren't in the command.
+#[derive(Debug, Drop)]
+pub struct Names<'a> {
+    pub keytab: &'a str,
+    pub verifiers: &'a str,
+    pub own: &'a str,
+}
+
+impl<'a> Model for Names<'a> {
+    ghost use Rattle.server_command.specs.Lines.{Named};
+
+    ghost Value = { Named };
+
+    ghost view = { λ n.
+        record { keytab = n.keytab.now; verifiers = n.verifiers.now; own = n.own.now } };
+}
+
+impl<'a> Names<'a> {
+    /// The name of a file.
+    fn of(&self, file: KeyFile) -> &'a str
+        ensures { result.now ≡ file_of self.now file }
+    {
+        match file {
+            KeyFile::Keytab => self.keytab,
+            KeyFile::Verifiers => self.verifiers,
+        }
     }
+}
+
+/// Says that the keytab has no key for this name.
+fn say_unkeyed<O: Sink>(alloc: Global, err: &mut O, own: &str) -> u8
+    ensures status { result ≢ 6 → result ≢ 8 → result ≡ 4 }
+    ensures fault { result ≡ 6 → Rose (O.faults err.old) (O.faults err.new) }
+    ensures said { IsTrue (O.tells err.old)
+        → Says (O.written err.old) (O.written err.new) result (no_key_line own.now) }
+{
+    say_made(err, 4, format!(in alloc; "no key for {own}\n"))
 }
 
 /// Writes the line of an end, and answers its status; 8 also where there was no memory for the line, and 6 where it can't be written.
 pub fn say_end<O: Sink>(
     alloc: Global,
     err: &mut O,
-    files: &Option<Files>,
-    name: &str,
+    names: &Names<'_>,
     counts: &Counts,
     end: RunEnd,
 ) -> u8
     ensures status { result ≢ 6 → result ≢ 8 → result ≡ status_of end }
     ensures fault { result ≡ 6 → Rose (O.faults err.old) (O.faults err.new) }
     ensures said { IsTrue (O.tells err.old) → Says (O.written err.old) (O.written err.new) result
-        (line_of files.now name.now counts.now end) }
+        (line_of names.now counts.now end) }
 {
     match end {
         RunEnd::Usage => say(err, 2, USAGE),
-        RunEnd::CannotLoad { file } => {
-            say_stop(alloc, err, name_of(files, file), FileStop::CannotLoad)
-        }
-        RunEnd::Bad { file, at } => {
-            say_stop(alloc, err, name_of(files, file), FileStop::Bad { at })
-        }
-        RunEnd::NoKey => say_made(err, 4, format!(in alloc; "no key for {name}\n")),
+        RunEnd::CannotLoad { file } => say_stop(alloc, err, names.of(file), FileStop::CannotLoad),
+        RunEnd::Bad { file, at } => say_stop(alloc, err, names.of(file), FileStop::Bad { at }),
+        RunEnd::NoKey => say_unkeyed(alloc, err, names.own),
         RunEnd::PortFault { desk } => {
             say_made(err, 5, format!(in alloc; "port fault at desk {desk}\n"))
         }

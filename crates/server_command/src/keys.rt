@@ -1,13 +1,13 @@
 //! The keys of a run.
 
-ghost use Rattle.std.specs.Prelude.{◌≡◌, false, [], IfErr, Ok};
+ghost use Rattle.std.specs.Prelude.{◌≡◌, false, IfErr, Ok};
 ghost use Rattle.sec_base.specs.Answers.{Gives};
 ghost use Rattle.krb_files.specs.Keytab.{keytab_of};
 ghost use Rattle.scram_mech.specs.Verifiers.{verifiers_of};
 ghost use Rattle.server_command.specs.Desks.{is_begun};
 ghost use Rattle.server_command.specs.Keys.{end_by, verifier_stop, keytab_in, keytab_by};
-ghost use Rattle.server_command.specs.Keys.{verifiers_in, verifiers_by, keys_with, no_keys};
-ghost use Rattle.server_command.specs.Keys.{ReadFrom, KeysIn, KeysFrom};
+ghost use Rattle.server_command.specs.Keys.{verifiers_in, verifiers_by, keys_with};
+ghost use Rattle.server_command.specs.Keys.{ReadFrom, KeysFrom};
 
 use crate::ending::{KeyFile, RunEnd};
 use crate::options::Files;
@@ -17,9 +17,6 @@ use krb_files::{Keytab, read_keytab};
 use scram_mech::{VerifierRefusal, Verifiers, read_verifiers};
 use sec_base::Shelf;
 use std::alloc::Global;
-
-/// A keytab without records.
-const EMPTY: [u8; 2] = [5, 2];
 
 /// The keys of a server.
 #[derive(Drop)]
@@ -113,15 +110,15 @@ fn keys_with(keytab: Keytab, verifiers: Verifiers, name: &Principal) -> Result<K
     }
 }
 
-/// The keys of these files: each is read before the next is loaded, and the key for the own name is looked for after both.
-fn keys_from<F: Shelf>(
+/// The keys of a run, from these files: each is read before the next is loaded, and the key for the own name is looked for after both.
+pub fn keys_from<F: Shelf>(
     alloc: Global,
     shelf: &mut F,
     files: &Files,
     name: &Principal,
 ) -> Result<Keys, RunEnd>
     ensures unbegun { IfErr result (λ end. is_begun end ≡ false) }
-    ensures value { KeysIn F.Shelf shelf.old shelf.new files.now name.now result }
+    ensures value { KeysFrom F.Shelf shelf.old shelf.new files.now name.now result }
 {
     match keytab_from(alloc, shelf, files.keytab.as_str()) {
         Ok(keytab) => match verifiers_from(alloc, shelf, files.verifiers.as_str()) {
@@ -129,54 +126,5 @@ fn keys_from<F: Shelf>(
             Err(end) => Err(end),
         },
         Err(end) => Err(end),
-    }
-}
-
-/// A keytab without records.
-#[tactic(auto, unfolding(krb_files::specs::Keytab::keytab_of))]
-fn empty_keytab(alloc: Global) -> Result<Keytab, RunEnd>
-    ensures unbegun { IfErr result (λ end. is_begun end ≡ false) }
-    ensures value { Gives RunEnd.NoMemory (λ keytab. keytab) result (Ok []) }
-{
-    match read_keytab(alloc, &EMPTY) {
-        Ok(keytab) => Ok(keytab),
-        Err(_) => Err(RunEnd::NoMemory),
-    }
-}
-
-/// Verifiers of no user.
-fn no_verifiers(alloc: Global) -> Result<Verifiers, RunEnd>
-    ensures unbegun { IfErr result (λ end. is_begun end ≡ false) }
-    ensures value { Gives RunEnd.NoMemory (λ lines. lines) result (Ok []) }
-{
-    match read_verifiers(alloc, &[]) {
-        Ok(verifiers) => Ok(verifiers),
-        Err(_) => Err(RunEnd::NoMemory),
-    }
-}
-
-/// No keys at all.
-fn no_keys(alloc: Global) -> Result<Keys, RunEnd>
-    ensures unbegun { IfErr result (λ end. is_begun end ≡ false) }
-    ensures value { Gives RunEnd.NoMemory (λ keys. keys) result (Ok no_keys) }
-{
-    let keytab = empty_keytab(alloc)?;
-    let verifiers = no_verifiers(alloc)?;
-    Ok(Keys { keytab, verifiers })
-}
-
-/// The keys of a run: those of the files, or none where no files are named.
-pub fn keys_given<F: Shelf>(
-    alloc: Global,
-    shelf: &mut F,
-    files: &Option<Files>,
-    name: &Principal,
-) -> Result<Keys, RunEnd>
-    ensures unbegun { IfErr result (λ end. is_begun end ≡ false) }
-    ensures value { KeysFrom F.Shelf shelf.old shelf.new files.now name.now result }
-{
-    match files {
-        None => no_keys(alloc),
-        Some(files) => keys_from(alloc, shelf, files, name),
     }
 }

@@ -4,20 +4,16 @@ ghost use Rattle.std.specs.Prelude.{◌≡◌, IfOk, codes};
 ghost use Rattle.sec_base.specs.Answers.{Gives};
 ghost use Rattle.cli_base.specs.Words.{value_of};
 ghost use Rattle.server_command.specs.Options.{is_command, formed, name_by, files_given};
-ghost use Rattle.server_command.specs.Options.{name_given, numbers_given, options_of, AreRanged};
-ghost use Rattle.server_command.specs.Options.{IsRanged};
+ghost use Rattle.server_command.specs.Options.{name_given, numbers_given, options_in, options_of};
+ghost use Rattle.server_command.specs.Options.{AreRanged, IsRanged};
 ghost use Rattle.gss_base.specs.Signs.{parsed};
 
 pub use cli_base::{WordsRefusal, address_of};
-use cli_base::{
-    are_words, bindings_given, count_plain, demand, first_word, number_given, value_of,
-};
+use cli_base::{are_words, count_plain, demand, first_word};
+use cli_words::{Line, bindings_given, number_given, server_line, texts_of};
 use gss_base::{Bindings, NameRefusal, Principal};
 use sec_base::Text;
 use std::alloc::Global;
-
-/// The name of a server without keys.
-const NO_NAME: &str = "none@none";
 
 /// The files of the server's keys.
 #[derive(Debug, Drop)]
@@ -30,8 +26,7 @@ pub struct Files {
 /// What the words of the server ask for.
 #[derive(Debug, Drop)]
 pub struct Options {
-    /// The files of the keys; without them no ticket is opened and no user is known.
-    pub files: Option<Files>,
+    pub files: Files,
     /// The own name.
     pub name: Principal,
     pub bindings: Option<Bindings>,
@@ -91,45 +86,32 @@ fn name_of(alloc: Global, text: &str) -> Result<Principal, WordsRefusal>
     }
 }
 
-/// The files of the keys, which the words name together or not at all.
-fn files_given(alloc: Global, words: &[Text]) -> Result<Option<Files>, WordsRefusal>
+/// The files of the keys, both of which are required.
+fn files_given(alloc: Global, line: &Line<'_>) -> Result<Files, WordsRefusal>
     ensures { Gives WordsRefusal.NoMemory (λ files. files) result (files_given
-        (value_of (codes "--keytab") words.now) (value_of (codes "--verifiers") words.now)) }
+        (value_of (codes "--keytab") line.now) (value_of (codes "--verifiers") line.now)) }
 {
-    match value_of(words, "--keytab") {
-        None => match value_of(words, "--verifiers") {
-            None => Ok(None),
-            Some(_) => Err(WordsRefusal::Usage),
-        },
-        Some(keytab) => match value_of(words, "--verifiers") {
+    match line.value("--keytab") {
+        None => Err(WordsRefusal::Usage),
+        Some(keytab) => match line.value("--verifiers") {
             None => Err(WordsRefusal::Usage),
             Some(verifiers) => {
                 let keytab = Text::of(alloc, keytab)?;
                 let verifiers = Text::of(alloc, verifiers)?;
-                Ok(Some(Files { keytab, verifiers }))
+                Ok(Files { keytab, verifiers })
             }
         },
     }
 }
 
-/// The own name, which the words give together with these files or not at all.
-fn name_given(
-    alloc: Global,
-    files: &Option<Files>,
-    words: &[Text],
-) -> Result<Principal, WordsRefusal>
+/// The own name, which is required.
+fn name_given(alloc: Global, line: &Line<'_>) -> Result<Principal, WordsRefusal>
     ensures { Gives WordsRefusal.NoMemory (λ name. name) result
-        (name_given files.now (value_of (codes "--name") words.now)) }
+        (name_given (value_of (codes "--name") line.now)) }
 {
-    match files {
-        None => match value_of(words, "--name") {
-            None => name_of(alloc, NO_NAME),
-            Some(_) => Err(WordsRefusal::Usage),
-        },
-        Some(_) => match value_of(words, "--name") {
-            None => Err(WordsRefusal::Usage),
-            Some(name) => name_of(alloc, name),
-        },
+    match line.value("--name") {
+        None => Err(WordsRefusal::Usage),
+        Some(name) => name_of(alloc, name),
     }
 }
 
@@ -143,16 +125,16 @@ struct Numbers {
     log: u32,
 }
 
-/// The numbers that the words ask for.
-fn numbers_given(words: &[Text]) -> Result<Numbers, WordsRefusal>
-    ensures value { result ≡ numbers_given words.now }
+/// The numbers that a line asks for.
+fn numbers_given(line: &Line<'_>) -> Result<Numbers, WordsRefusal>
+    ensures value { result ≡ numbers_given line.now }
     ensures range { IfOk result AreRanged }
 {
-    let window = number_given(words, "--window", 1, 1024, 128)?;
-    let connections = number_given(words, "--connections", 1, 1_000_000, 1000)?;
-    let contexts = number_given(words, "--contexts", 1, 65536, 1024)?;
-    let marks = number_given(words, "--marks", 1, 1_000_000, 65536)?;
-    let log = number_given(words, "--log", 16, 4_000_000, 262_144)?;
+    let window = number_given(line, "--window", 1, 1024, 128)?;
+    let connections = number_given(line, "--connections", 1, 1_000_000, 1000)?;
+    let contexts = number_given(line, "--contexts", 1, 65536, 1024)?;
+    let marks = number_given(line, "--marks", 1, 1_000_000, 65536)?;
+    let log = number_given(line, "--log", 16, 4_000_000, 262_144)?;
     Ok(Numbers {
         window,
         connections,
@@ -162,17 +144,16 @@ fn numbers_given(words: &[Text]) -> Result<Numbers, WordsRefusal>
     })
 }
 
-/// What the words ask for.
-#[tactic(auto, unfolding(crate::specs::Options::options_of))]
-pub fn read_options(alloc: Global, words: &[Text]) -> Result<Options, WordsRefusal>
-    ensures value { Gives WordsRefusal.NoMemory (λ options. options) result (options_of words.now) }
+/// What a line's options ask for.
+#[tactic(auto, unfolding(crate::specs::Options::options_in))]
+fn options_in(alloc: Global, line: &Line<'_>) -> Result<Options, WordsRefusal>
+    ensures value { Gives WordsRefusal.NoMemory (λ options. options) result (options_in line.now) }
     ensures range { IfOk result IsRanged }
 {
-    demand_form(words)?;
-    let files = files_given(alloc, words)?;
-    let name = name_given(alloc, &files, words)?;
-    let bindings = bindings_given(alloc, words)?;
-    match numbers_given(words) {
+    let files = files_given(alloc, line)?;
+    let name = name_given(alloc, line)?;
+    let bindings = bindings_given(alloc, line)?;
+    match numbers_given(line) {
         Ok(numbers) => Ok(Options {
             files,
             name,
@@ -185,4 +166,16 @@ pub fn read_options(alloc: Global, words: &[Text]) -> Result<Options, WordsRefus
         }),
         Err(refusal) => Err(refusal),
     }
+}
+
+/// What the words ask for. Those in the command are read by `clap`.
+#[tactic(auto, unfolding(crate::specs::Options::options_of))]
+pub fn read_options(alloc: Global, words: &[Text]) -> Result<Options, WordsRefusal>
+    ensures value { Gives WordsRefusal.NoMemory (λ options. options) result (options_of words.now) }
+    ensures range { IfOk result IsRanged }
+{
+    demand_form(words)?;
+    let texts = texts_of(alloc, words)?;
+    let line = server_line(alloc, texts.as_slice())?;
+    options_in(alloc, &line)
 }

@@ -1,8 +1,8 @@
 //! The run of the server.
 
-ghost use Rattle.std.specs.Prelude.{◌≡◌, ◌≢◌, ◌⊎◌, ◌<◌, ◌≤◌, ◌++◌, ◌∷◌, ℕ, List, [], true};
-ghost use Rattle.std.specs.Prelude.{false, IsTrue, IfOk, Some, Ok, Err, Option, length, vec_len};
-ghost use Rattle.std.specs.Prelude.{reverse, slice_get};
+ghost use Rattle.std.specs.Prelude.{◌≡◌, ◌≢◌, ◌⊎◌, ◌<◌, ◌≤◌, ◌++◌, ◌∷◌, ℕ, [], true};
+ghost use Rattle.std.specs.Prelude.{false, IsTrue, IfOk, Some, Ok, Err, length, vec_len, reverse};
+ghost use Rattle.std.specs.Prelude.{slice_get};
 ghost use Rattle.std.specs.List.{AllByRecursion};
 ghost use Rattle.sec_base.specs.Answers.{Rose};
 ghost use Rattle.cli_base.specs.Lines.{Says};
@@ -10,22 +10,22 @@ ghost use Rattle.accept_book.specs.Legal.{Legal};
 ghost use Rattle.gss_base.specs.declared.mech.MechKind.TheVariants as kinds;
 ghost use Rattle.gss_base.specs.Principal.{text_form};
 ghost use Rattle.server_command.specs.Desks.{IsFresh, IsSmall, NamesADesk, is_begun};
-ghost use Rattle.server_command.specs.Lines.{status_of, line_of};
+ghost use Rattle.server_command.specs.Lines.{Named, status_of, line_of};
 ghost use Rattle.server_command.specs.Options.{options_of, IsRanged};
 ghost use Rattle.server_command.specs.SideBySide.{OneHistory};
 ghost use Rattle.server_command.specs.Through.{IsOpened, NoBook};
-ghost use Rattle.server_command.specs.Runs.{files_of, names_of, name_of, counts_of, RunBegins};
+ghost use Rattle.server_command.specs.Runs.{files_of, names_in, names_of, counts_of, RunBegins};
 ghost use Rattle.server_command.specs.Runs.{HasLimits, HasValid, AsksAtMost, no_log};
 ghost use Rattle.server_command.specs.Keys.{KeysFrom};
 
 use crate::desk::Desk;
 use crate::desks::{count_connections, count_records};
-use crate::ending::{Counts, RunEnd, say_end};
-use crate::keys::{Keys, keys_given};
+use crate::ending::{Counts, Names, RunEnd, say_end};
+use crate::keys::{Keys, keys_from};
 use crate::options::{Files, Options, WordsRefusal, read_options};
 use crate::seating::{Course, run_book, starved};
 use accept_book::{Book, Limits, Log};
-use gss_base::{MechKind, Principal};
+use gss_base::{Label, MechKind, Principal};
 use gss_server::{Keeper, Kept, Served};
 use sec_base::{Clock, Draw, Items, Moment, NoMemory, Port, Shelf, Sink, Text};
 use spnego_core::AcceptSetup;
@@ -51,6 +51,24 @@ const NOTHING: Counts = Counts {
     records: 0,
     entries: 0,
 };
+
+/// The names of words that aren't in the command.
+const UNNAMED: Names<'static> = Names {
+    keytab: "",
+    verifiers: "",
+    own: "",
+};
+
+/// What the words name: these files, and an own name with this label.
+fn names_in<'a>(files: &'a Files, label: &'a Label) -> Names<'a>
+    ensures { result ≡ names_in files.now label.now }
+{
+    Names {
+        keytab: files.keytab.as_str(),
+        verifiers: files.verifiers.as_str(),
+        own: label.text(),
+    }
+}
 
 /// The mechanisms that are offered, the preferred first.
 fn offered(alloc: Global) -> Result<Items<MechKind>, NoMemory>
@@ -134,9 +152,9 @@ fn finish<P, C, D, K, S, O: Sink>(
     requires begun { course.end ≢ RunEnd.NoMemory → is_begun course.end ≡ true }
     ensures status { result.status ≢ 6 → result.status ≢ 8 → result.status ≡ status_of result.end }
     ensures sink_fault { result.status ≡ 6 → Rose (O.faults err.old) (O.faults err.new) }
-    ensures said { IsTrue (O.tells err.old) → (files : Option Files) (name : List ℕ)
+    ensures said { IsTrue (O.tells err.old) → (names : Named)
         → Says (O.written err.old) (O.written err.new) result.status
-        (line_of files name (counts_of desks.now result.log) result.end) }
+        (line_of names (counts_of desks.now result.log) result.end) }
     ensures end { result.end ≡ course.end }
     ensures log { result.log ≡ course.log }
 {
@@ -145,7 +163,7 @@ fn finish<P, C, D, K, S, O: Sink>(
         records: count_records(desks),
         entries: course.log.len(),
     };
-    let status = say_end(alloc, err, &None, "", &counts, course.end);
+    let status = say_end(alloc, err, &UNNAMED, &counts, course.end);
     ServerEnd {
         status,
         end: course.end,
@@ -156,7 +174,7 @@ fn finish<P, C, D, K, S, O: Sink>(
 /// Says why a run has no keys.
 fn unready<O: Sink>(
     alloc: Global,
-    files: &Option<Files>,
+    files: &Files,
     own: &Principal,
     end: RunEnd,
     err: &mut O,
@@ -166,11 +184,13 @@ fn unready<O: Sink>(
     ensures sink_fault { result.status ≡ 6 → Rose (O.faults err.old) (O.faults err.new) }
     ensures said { IsTrue (O.tells err.old)
         → (counts : Counts) → Says (O.written err.old) (O.written err.new) result.status
-        (line_of files.now (text_form own.now.realm own.now.parts) counts end) }
+        (line_of (names_in files.now (text_form own.now.realm own.now.parts)) counts end) }
     ensures end { result.end ≡ end }
     ensures log { result.log ≡ no_log }
 {
-    let status = say_end(alloc, err, files, own.label().text(), &NOTHING, end);
+    let label = own.label();
+    let names = names_in(files, &label);
+    let status = say_end(alloc, err, &names, &NOTHING, end);
     ServerEnd {
         status,
         end,
@@ -184,12 +204,12 @@ fn refused<O: Sink>(alloc: Global, end: RunEnd, err: &mut O) -> ServerEnd
     ensures status { result.status ≢ 6 → result.status ≢ 8 → result.status ≡ status_of result.end }
     ensures sink_fault { result.status ≡ 6 → Rose (O.faults err.old) (O.faults err.new) }
     ensures said { IsTrue (O.tells err.old)
-        → (files : Option Files) (name : List ℕ) (counts : Counts) → Says (O.written err.old)
-        (O.written err.new) result.status (line_of files name counts end) }
+        → (names : Named) (counts : Counts) → Says (O.written err.old) (O.written err.new)
+        result.status (line_of names counts end) }
     ensures end { result.end ≡ end }
     ensures log { result.log ≡ no_log }
 {
-    let status = say_end(alloc, err, &None, "", &NOTHING, end);
+    let status = say_end(alloc, err, &UNNAMED, &NOTHING, end);
     ServerEnd {
         status,
         end,
@@ -226,21 +246,21 @@ where
     ensures status { result.status ≢ 6 → result.status ≢ 8 → result.status ≡ status_of result.end }
     ensures sink_fault { result.status ≡ 6 → Rose (O.faults err.old) (O.faults err.new) }
     ensures said { IsTrue (O.tells err.old)
-        → Says (O.written err.old) (O.written err.new) result.status (line_of options.files
-        (name_of (Ok options)) (counts_of desks.new.items result.log) result.end) }
+        → Says (O.written err.old) (O.written err.new) result.status (line_of
+        (names_of (Ok options)) (counts_of desks.new.items result.log) result.end) }
     ensures count { vec_len desks.new ≡ vec_len desks.old }
     ensures named { NamesADesk result.end (vec_len desks.old) }
     ensures other { result.end ≢ RunEnd.Usage }
     ensures idle { is_begun result.end ≡ false → result.end ≢ RunEnd.NoMemory
         → desks.new.items ≡ desks.old.items }
-    ensures named_files { AsksAtMost F.Shelf shelf.old shelf.new (names_of options.files) }
+    ensures named_files { AsksAtMost F.Shelf shelf.old shelf.new (files_of (Ok options)) }
     ensures booked { ((is_begun result.end ≡ false)
         × NoBook desks.old.items desks.new.items result.log)
         ⊎ ((keys : Keys) × KeysFrom F.Shelf shelf.old shelf.new options.files options.name (Ok keys)
         × OneHistory options keys start P.Port P.Link.Link C.Clock D.Draw K.Keeper S.Keeper
         desks.old.items result.end desks.new.items result.log) }
 {
-    match keys_given(alloc, shelf, &options.files, &options.name) {
+    match keys_from(alloc, shelf, &options.files, &options.name) {
         Ok(keys) => {
             let course = open_and_serve(rt, alloc, options, keys, desks, start);
             finish(alloc, desks.as_slice(), course, err)
@@ -250,7 +270,7 @@ where
 }
 
 /// Runs the server over its desks, side by side where threads can be made, and says on `err` how it ended. The words are
-/// `ADDRESS [--keytab FILE --verifiers FILE --name PRINCIPAL] [--bind TEXT] [--window N] [--connections N] [--contexts N] [--marks N] [--log N]`.
+/// `ADDRESS --keytab FILE --verifiers FILE --name PRINCIPAL [--bind TEXT] [--window N] [--connections N] [--contexts N] [--marks N] [--log N]`.
 pub fn run_server<
     R: Threads + Wait + Sync,
     F: Shelf,
@@ -277,7 +297,7 @@ where
     ensures status { result.status ≢ 6 → result.status ≢ 8 → result.status ≡ status_of result.end }
     ensures sink_fault { result.status ≡ 6 → Rose (O.faults err.old) (O.faults err.new) }
     ensures said { IsTrue (O.tells err.old) → Says (O.written err.old) (O.written err.new)
-        result.status (line_of (files_of (options_of words.now)) (name_of (options_of words.now))
+        result.status (line_of (names_of (options_of words.now))
         (counts_of desks.new.items result.log) result.end) }
     ensures out { O.written out.new ≡ O.written out.old }
     // The words are refused exactly where they aren't in the command, want of memory aside.
@@ -291,7 +311,7 @@ where
         → desks.new.items ≡ desks.old.items }
     ensures unloaded { result.end ≡ RunEnd.Usage → F.asked shelf.new ≡ F.asked shelf.old }
     ensures named_files { AsksAtMost F.Shelf shelf.old shelf.new
-        (names_of (files_of (options_of words.now))) }
+        (files_of (options_of words.now)) }
     // Words in the command: the run ends by what keytab and verifiers come to.
     ensures begins { (options : Options) → options_of words.now ≡ Ok options
         → result.end ≢ RunEnd.NoMemory → RunBegins F.Shelf shelf.old shelf.new options result.end }

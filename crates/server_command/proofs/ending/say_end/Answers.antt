@@ -7,10 +7,10 @@ use Rattle.server_command.proofs.ending.say_end.Goals as goal
 
 pub returns-in-Usage-clause-said : goal.returns-in-Usage-clause-said
 returns-in-Usage-clause-said g c = λ t.
-    subst (λ (end : RunEnd). Says (g.O.Sink.written c.args.err.now) (g.O.Sink.written c.say.new.sink) c.say.result (line_of c.args.files.now c.args.name.now c.args.counts.now end))
+    subst (λ (end : RunEnd). Says (g.O.Sink.written c.args.err.now) (g.O.Sink.written c.say.new.sink) c.say.result (line_of c.args.names.now c.args.counts.now end))
     (sym c.in-Usage.is) (known-said 2 (omega arith) c.say.ensures.status (c.say.ensures.said t))
 
 pub returns-in-NoMemory-clause-said : goal.returns-in-NoMemory-clause-said
 returns-in-NoMemory-clause-said g c = λ t.
-    subst (λ (end : RunEnd). Says (g.O.Sink.written c.args.err.now) (g.O.Sink.written c.say-in-NoMemory.new.sink) c.say-in-NoMemory.result (line_of c.args.files.now c.args.name.now c.args.counts.now end))
+    subst (λ (end : RunEnd). Says (g.O.Sink.written c.args.err.now) (g.O.Sink.written c.say-in-NoMemory.new.sink) c.say-in-NoMemory.result (line_of c.args.names.now c.args.counts.now end))
     (sym c.in-NoMemory.is) (memory-said c.say-in-NoMemory.ensures.status (c.say-in-NoMemory.ensures.said t))
