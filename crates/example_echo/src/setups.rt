@@ -4,16 +4,28 @@ ghost use Rattle.std.specs.Prelude.{◌≡◌, IfSome, false, true};
 ghost use Rattle.spnego_core.specs.InitMech.{is_own_list};
 
 use accept_book::{Book, Limits};
-use gate_models::LoopLink;
+use gate_models::{Beginning, LoopLink};
 use gss_base::{MechKind, Principal};
 use krb_files::read_keytab;
 use scram_mech::{Verifiers, make_verifier, read_verifiers};
-use sec_base::{Items, Link, MemClock, MemDraw, Moment, Text};
+use sec_base::{Items, Link, MemDraw, Moment, Text};
 use spnego_core::{AcceptSetup, InitSetup, MechCred};
 use std::alloc::Global;
 
+/// What the type of the link says of the server: nothing of its book, the width of its windows, and that its clock stands at the start of 1970.
+#[derive(Drop)]
+pub struct AtStart;
+
+impl Beginning<Book> for AtStart {
+    ghost begins = { λ _. Unit {0} };
+
+    ghost width = { 8 };
+
+    ghost moment = { 0 };
+}
+
 /// A link to a server in the same thread, whose state is a book and whose random octets come from memory.
-pub type BookLink = LoopLink<Book, MemDraw>;
+pub type BookLink = LoopLink<Book, MemDraw, AtStart>;
 
 /// The width of the windows of sequence numbers (RFC 2203 section 5.3.3.1).
 const WIDTH: u32 = 8;
@@ -98,7 +110,6 @@ pub fn link_of(alloc: Global) -> Option<BookLink>
     ensures { IfSome result (λ link. ⟦<BookLink as Link>⟧.closed link ≡ false) }
 {
     let book = Book::open(alloc, acceptor(alloc)?, LIMITS, Moment::start()).ok()?;
-    let moments = MemClock::new(Vec::new(alloc));
     let draws = MemDraw::new(Vec::new(alloc));
-    LoopLink::new(alloc, book, moments, draws, WIDTH).ok()
+    LoopLink::new(alloc, book, Moment::start(), draws, WIDTH).ok()
 }

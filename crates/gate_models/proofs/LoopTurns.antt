@@ -7,27 +7,43 @@ use Rattle.std.proofs.lemmas.List.{length-append, length-drop, append-nil, drop_
 use Rattle.rpc_msgs.specs.Words.{word}
 use Rattle.rpc_msgs.proofs.WordLengths.{length-word}
 use Rattle.rpc_msgs.specs.Records.{Fragments, octets_in, frames, frame, IsFront}
+use Rattle.accept_book.specs.RecordShown.{Asked}
 use Rattle.gss_server.specs.declared.answer.Kept.{Kept}
 use Rattle.gate_models.specs.declared.looping.Turned.{Turned}
 use Rattle.gate_models.specs.declared.looping.Turned.TheVariants.{Answered, Rests, Starved}
 use Rattle.gss_server.specs.Answers.{IsDecided, may_want}
-use Rattle.gss_server.specs.Connections.{octets_of, ruling_for, written_for, written_in, IsExact}
-use Rattle.gate_models.specs.Looping.{IsUnfit, Rest, LoopedTo, Looped, IsWholeAt, Answering, KeptOnly, IsAnsweredBy, Unjudged, IsTurned, HeardMore, Loops}
+use Rattle.gss_server.specs.Asking.{Asking}
+use Rattle.gss_server.specs.Connections.{octets_of, ruling_for, written_for, written_in, asked_for, asked_in, IsExact}
+use Rattle.gate_models.specs.Looping.{IsUnfit, Rest, LoopedTo, Looped, IsWholeAt, Answering, KeptOnly, IsAnsweredBy, Unjudged, IsTurned, HeardMore, Loops, Since, AllAt}
 use Rattle.gss_server.proofs.Turning.{each-push, octets_of-push, order-push, all-push}
 
 -- what stands behind the records is the rest
-pub behind : {rests : List ℕ → List Kept → Type 0} (width : ℕ) (heard said : List ℕ) (kept : List Kept) (cut : ℕ) → (p : LoopedTo rests width heard said kept cut) → drop cut heard ≡ p.rest
-behind width heard said kept cut p =
+pub behind : {rests : List Asked → List ℕ → List Kept → Type 0} (width moment : ℕ) (heard said : List ℕ) (kept : List Kept) (cut : ℕ) → (p : LoopedTo rests width moment heard said kept cut) → drop cut heard ≡ p.rest
+behind width moment heard said kept cut p =
     ap (λ (n : ℕ). drop n heard) p.place ∙ (ap (λ (zs : List ℕ). drop (length (octets_of p.records)) zs) p.spelled ∙ drop-append_seam (octets_of p.records) p.rest)
 
 -- nothing was kept behind the answers
 only-answers : (answers last kept : List Kept) → kept ≡ answers ++ last → last ≡ [] → kept ≡ answers
 only-answers answers last kept e none = e ∙ (ap (λ (ks : List Kept). answers ++ ks) none ∙ append-nil answers)
 
-pub answered-more : (width : ℕ) (heard : List ℕ) (kept kept' : List Kept) (said said' : List ℕ) (cut cut' : ℕ) (octets : List ℕ) (size : ℕ) → LoopedTo Unjudged width heard said kept cut → IsWholeAt (drop cut heard) octets size → Answering width octets size kept kept' said said' cut cut' → LoopedTo Unjudged width heard said' kept' cut'
-answered-more width heard kept kept' said said' cut cut' octets size p w a =
-    let rest_is : p.rest ≡ frame w.cut ++ w.more = sym (behind width heard said kept cut p) ∙ w.begins in
-    let kept_is : kept ≡ p.answers = only-answers p.answers p.last kept p.keeps p.stands in
+-- one more answer was given at the moment
+at-push : (moment : ℕ) (kept : List Kept) (one : Kept) → AllAt moment kept → one.now ≡ moment → AllAt moment (kept ++ one ∷ [])
+at-push moment [] one all e = (e, tt)
+at-push moment (k ∷ kept) one all e = (all.0, at-push moment kept one all.1 e)
+
+at-more : (moment : ℕ) (kept kept' : List Kept) (one : Kept) → AllAt moment kept → one.now ≡ moment → kept' ≡ kept ++ one ∷ [] → AllAt moment kept'
+at-more moment kept kept' one all e keeps = subst (AllAt moment) (sym keeps) (at-push moment kept one all e)
+
+-- what was asked before, and then
+abbrev pub Goes : (List Asked → Type 0) → (List Asked → Type 0) → (List Asked → Type 0) → Type 0
+Goes gained asking gained' = (m o : List Asked) → gained m → asking o → gained' (m ++ o)
+
+pub answered-more : (gained asking gained' : List Asked → Type 0) → Goes gained asking gained' → (width moment : ℕ) (heard : List ℕ) (kept kept' : List Kept) (said said' : List ℕ) (cut cut' : ℕ) (octets : List ℕ) (size : ℕ) → LoopedTo (Unjudged gained) width moment heard said kept cut → IsWholeAt (drop cut heard) octets size → Answering asking width moment octets size kept kept' said said' cut cut' → LoopedTo (Unjudged gained') width moment heard said' kept' cut'
+answered-more gained asking gained' goes width moment heard kept kept' said said' cut cut' octets size p w a =
+    let rest_is : p.rest ≡ frame w.cut ++ w.more = sym (behind width moment heard said kept cut p) ∙ w.begins in
+    let kept_is : kept ≡ p.answers = only-answers p.answers p.last kept p.keeps p.stands.1 in
+    let asked : gained' (asked_in width p.records p.answers ++ asked_for width (octets_in w.cut) a.one) =
+    goes (asked_in width p.records p.answers) (asked_for width (octets_in w.cut) a.one) p.stands.0 (subst (λ (zs : List ℕ). asking (asked_for width zs a.one)) w.heard a.asked) in
     let exact : IsExact width (octets_in w.cut) a.one = subst (λ (zs : List ℕ). IsExact width zs a.one) w.heard a.exact in
     let decided : IsDecided (ruling_for width (octets_in w.cut) a.one) = subst (λ (zs : List ℕ). IsDecided (ruling_for width zs a.one)) w.heard a.decided in
     record {
@@ -42,16 +58,17 @@ answered-more width heard kept kept' said said' cut cut' octets size p w a =
       exact = all-push (IsExact width) p.records p.answers w.cut a.one p.counted p.exact exact;
       decided = all-push (λ octets k. IsDecided (ruling_for width octets k)) p.records p.answers w.cut a.one p.counted p.decided decided;
       keeps = a.keeps ∙ (ap (λ (ks : List Kept). ks ++ a.one ∷ []) kept_is ∙ sym (append-nil (p.answers ++ a.one ∷ [])));
+      timed = at-more moment kept kept' a.one p.timed a.timed a.keeps;
       replies = a.replied ∙ (ap (λ (zs : List ℕ). zs ++ written_for width octets a.one) p.replies ∙ (ap (λ (zs : List ℕ). written_in width p.records p.answers ++ written_for width zs a.one) w.heard ∙ sym (order-push (written_for width) p.records p.answers w.cut a.one p.counted)));
-      stands = refl;
+      stands = (subst gained' (sym (order-push (asked_for width) p.records p.answers w.cut a.one p.counted)) asked, refl);
     }
   where
     placed : (c c' s n m k : ℕ) → c' ≡ c + s → c ≡ n → s ≡ m → n + m ≡ k → c' ≡ k
     placed c c' s n m k e f g h = omega arith
 
 -- another rest
-with-rests : {rests rests' : List ℕ → List Kept → Type 0} (width : ℕ) (heard said : List ℕ) (kept : List Kept) (cut : ℕ) → (p : LoopedTo rests width heard said kept cut) → rests' p.rest p.last → LoopedTo rests' width heard said kept cut
-with-rests width heard said kept cut p r = record {
+with-rests : {rests rests' : List Asked → List ℕ → List Kept → Type 0} (width moment : ℕ) (heard said : List ℕ) (kept : List Kept) (cut : ℕ) → (p : LoopedTo rests width moment heard said kept cut) → rests' (asked_in width p.records p.answers) p.rest p.last → LoopedTo rests' width moment heard said kept cut
+with-rests width moment heard said kept cut p r = record {
   records = p.records;
   rest = p.rest;
   answers = p.answers;
@@ -63,23 +80,24 @@ with-rests width heard said kept cut p r = record {
   exact = p.exact;
   decided = p.decided;
   keeps = p.keeps;
+  timed = p.timed;
   replies = p.replies;
   stands = r;
 }
 
 -- no whole record is left
-pub rested : (width : ℕ) (heard said : List ℕ) (kept : List Kept) (cut : ℕ) → LoopedTo Unjudged width heard said kept cut → IsFront (drop cut heard) ⊎ IsUnfit (drop cut heard) → Looped width heard said kept cut false
-rested width heard said kept cut p q =
-    with-rests {rests = Unjudged} {rests' = Rest width false} width heard said kept cut p (p.stands, subst (λ (zs : List ℕ). IsFront zs ⊎ IsUnfit zs) (behind width heard said kept cut p) q)
+pub rested : (gained : List Asked → Type 0) (width moment : ℕ) (heard said : List ℕ) (kept : List Kept) (cut : ℕ) → LoopedTo (Unjudged gained) width moment heard said kept cut → IsFront (drop cut heard) ⊎ IsUnfit (drop cut heard) → Looped gained width moment heard said kept cut false
+rested gained width moment heard said kept cut p q =
+    with-rests {rests = Unjudged gained} {rests' = Rest gained width false} width moment heard said kept cut p (p.stands.0, p.stands.1, subst (λ (zs : List ℕ). IsFront zs ⊎ IsUnfit zs) (behind width moment heard said kept cut p) q)
 
 -- memory was wanted before the gate was asked
-pub starved-before : (width : ℕ) (heard said : List ℕ) (kept : List Kept) (cut : ℕ) → LoopedTo Unjudged width heard said kept cut → Looped width heard said kept cut true
-starved-before width heard said kept cut p = with-rests {rests = Unjudged} {rests' = Rest width true} width heard said kept cut p (inl p.stands)
+pub starved-before : (gained : List Asked → Type 0) (width moment : ℕ) (heard said : List ℕ) (kept : List Kept) (cut : ℕ) → LoopedTo (Unjudged gained) width moment heard said kept cut → Looped gained width moment heard said kept cut true
+starved-before gained width moment heard said kept cut p = with-rests {rests = Unjudged gained} {rests' = Rest gained width true} width moment heard said kept cut p (inl p.stands)
 
 -- and after it
-pub starved-after : (width : ℕ) (heard said : List ℕ) (kept kept' : List Kept) (cut : ℕ) (octets : List ℕ) (size : ℕ) → LoopedTo Unjudged width heard said kept cut → IsWholeAt (drop cut heard) octets size → KeptOnly width octets kept kept' → Looped width heard said kept' cut true
-starved-after width heard said kept kept' cut octets size p w k =
-    let kept_is : kept ≡ p.answers = only-answers p.answers p.last kept p.keeps p.stands in
+pub starved-after : (gained asking gained' : List Asked → Type 0) → Goes gained asking gained' → (width moment : ℕ) (heard said : List ℕ) (kept kept' : List Kept) (cut : ℕ) (octets : List ℕ) (size : ℕ) → LoopedTo (Unjudged gained) width moment heard said kept cut → IsWholeAt (drop cut heard) octets size → KeptOnly asking width moment octets kept kept' → Looped gained' width moment heard said kept' cut true
+starved-after gained asking gained' goes width moment heard said kept kept' cut octets size p w k =
+    let kept_is : kept ≡ p.answers = only-answers p.answers p.last kept p.keeps p.stands.1 in
     record {
       records = p.records;
       rest = p.rest;
@@ -92,27 +110,30 @@ starved-after width heard said kept kept' cut octets size p w k =
       exact = p.exact;
       decided = p.decided;
       keeps = k.keeps ∙ ap (λ (ks : List Kept). ks ++ k.one ∷ []) kept_is;
+      timed = at-more moment kept kept' k.one p.timed k.timed k.keeps;
       replies = p.replies;
       stands = inr (record {
         cut = w.cut;
         one = k.one;
         more = w.more;
         is_record = w.is_record;
-        begins = sym (behind width heard said kept cut p) ∙ w.begins;
+        begins = sym (behind width moment heard said kept cut p) ∙ w.begins;
         kept = refl;
         exact = subst (λ (zs : List ℕ). IsExact width zs k.one) w.heard k.exact;
         wanted = subst (λ (zs : List ℕ). may_want (ruling_for width zs k.one) ≡ true) w.heard k.wanted;
+        asked = goes (asked_in width p.records p.answers) (asked_for width (octets_in w.cut) k.one) p.stands.0 (subst (λ (zs : List ℕ). asking (asked_for width zs k.one)) w.heard k.asked);
       });
     }
 
 -- memory was wanted, kept or not
-pub starved-either : (width : ℕ) (heard said said' : List ℕ) (kept kept' : List Kept) (cut cut' : ℕ) (octets : List ℕ) (size : ℕ) → LoopedTo Unjudged width heard said kept cut → IsWholeAt (drop cut heard) octets size → (said' ≡ said) × (cut' ≡ cut) × ((kept' ≡ kept) ⊎ KeptOnly width octets kept kept') → Looped width heard said' kept' cut' true
-starved-either width heard said said' kept kept' cut cut' octets size p w (e, f, inl g) = rw (e, f, g) (starved-before width heard said kept cut p)
-starved-either width heard said said' kept kept' cut cut' octets size p w (e, f, inr k) = rw (e, f) (starved-after width heard said kept kept' cut octets size p w k)
+pub starved-either : (gained asking gained' : List Asked → Type 0) → Goes gained asking gained' → (width moment : ℕ) (heard said said' : List ℕ) (kept kept' : List Kept) (cut cut' : ℕ) (octets : List ℕ) (size : ℕ) → LoopedTo (Unjudged gained) width moment heard said kept cut → IsWholeAt (drop cut heard) octets size → (said' ≡ said) × (cut' ≡ cut) × ((asking [] × (kept' ≡ kept)) ⊎ KeptOnly asking width moment octets kept kept') → Looped gained' width moment heard said' kept' cut' true
+starved-either gained asking gained' goes width moment heard said said' kept kept' cut cut' octets size p w (e, f, inl g) =
+    rw (e, f, g.1) (starved-before gained' width moment heard said kept cut (with-rests {rests = Unjudged gained} {rests' = Unjudged gained'} width moment heard said kept cut p (subst gained' (append-nil (asked_in width p.records p.answers)) (goes (asked_in width p.records p.answers) [] p.stands.0 g.0), p.stands.1)))
+starved-either gained asking gained' goes width moment heard said said' kept kept' cut cut' octets size p w (e, f, inr k) = rw (e, f) (starved-after gained asking gained' goes width moment heard said kept kept' cut octets size p w k)
 
 -- more was heard
-pub heard-more : (width : ℕ) (heard octets said : List ℕ) (kept : List Kept) (cut : ℕ) → Looped width heard said kept cut false → LoopedTo Unjudged width (heard ++ octets) said kept cut
-heard-more width heard octets said kept cut p = record {
+pub heard-more : (gained : List Asked → Type 0) (width moment : ℕ) (heard octets said : List ℕ) (kept : List Kept) (cut : ℕ) → Looped gained width moment heard said kept cut false → LoopedTo (Unjudged gained) width moment (heard ++ octets) said kept cut
+heard-more gained width moment heard octets said kept cut p = record {
   records = p.records;
   rest = p.rest ++ octets;
   answers = p.answers;
@@ -124,29 +145,30 @@ heard-more width heard octets said kept cut p = record {
   exact = p.exact;
   decided = p.decided;
   keeps = p.keeps;
+  timed = p.timed;
   replies = p.replies;
-  stands = p.stands.0;
+  stands = (p.stands.0, p.stands.1);
 }
 
-pub starved-unheard : (width : ℕ) (heard said : List ℕ) (kept : List Kept) (cut : ℕ) → Looped width heard said kept cut false → Looped width heard said kept cut true
-starved-unheard width heard said kept cut p = with-rests {rests = Rest width false} {rests' = Rest width true} width heard said kept cut p (inl p.stands.0)
+pub starved-unheard : (gained : List Asked → Type 0) (width moment : ℕ) (heard said : List ℕ) (kept : List Kept) (cut : ℕ) → Looped gained width moment heard said kept cut false → Looped gained width moment heard said kept cut true
+starved-unheard gained width moment heard said kept cut p = with-rests {rests = Rest gained width false} {rests' = Rest gained width true} width moment heard said kept cut p (inl (p.stands.0, p.stands.1))
 
 pub no-octets : IsFront []
 no-octets = record { earlier = []; part = []; few = omega arith; size = omega arith; partial = inl (omega arith); spelled = refl }
 
 -- all that was heard stands in records
-pub all-heard : (width : ℕ) (heard said : List ℕ) (kept : List Kept) (cut : ℕ) → length heard ≤ cut → LoopedTo Unjudged width heard said kept cut → Looped width heard said kept cut false
-all-heard width heard said kept cut h p = rested width heard said kept cut p (inl (subst IsFront (sym (drop_all cut heard h)) no-octets))
+pub all-heard : (gained : List Asked → Type 0) (width moment : ℕ) (heard said : List ℕ) (kept : List Kept) (cut : ℕ) → length heard ≤ cut → LoopedTo (Unjudged gained) width moment heard said kept cut → Looped gained width moment heard said kept cut false
+all-heard gained width moment heard said kept cut h p = rested gained width moment heard said kept cut p (inl (subst IsFront (sym (drop_all cut heard h)) no-octets))
 
 -- nothing was heard
-pub looped-none : (width : ℕ) → Looped width [] [] [] 0 false
-looped-none width = record { records = []; rest = []; answers = []; last = []; each = tt; spelled = refl; place = refl; counted = refl; exact = tt; decided = tt; keeps = refl; replies = refl; stands = (refl, inl no-octets) }
+pub looped-none : (gained : List Asked → Type 0) → gained [] → (width moment : ℕ) → Looped gained width moment [] [] [] 0 false
+looped-none gained g width moment = record { records = []; rest = []; answers = []; last = []; each = tt; spelled = refl; place = refl; counted = refl; exact = tt; decided = tt; keeps = refl; timed = tt; replies = refl; stands = (g, refl, inl no-octets) }
 
 -- what became of a whole record
-pub turned-so : (width : ℕ) (heard : List ℕ) (kept kept' : List Kept) (said said' : List ℕ) (cut cut' : ℕ) (octets : List ℕ) (size : ℕ) (result : Turned) → LoopedTo Unjudged width heard said kept cut → IsWholeAt (drop cut heard) octets size → IsAnsweredBy width octets size kept kept' said said' cut cut' result → IsTurned width heard said' kept' cut' result
-turned-so width heard kept kept' said said' cut cut' octets size Answered p w a = answered-more width heard kept kept' said said' cut cut' octets size p w a
-turned-so width heard kept kept' said said' cut cut' octets size Rests p w a = absurd a
-turned-so width heard kept kept' said said' cut cut' octets size Starved p w a = starved-either width heard said said' kept kept' cut cut' octets size p w a
+pub turned-so : (gained asking gained' : List Asked → Type 0) → Goes gained asking gained' → (width moment : ℕ) (heard : List ℕ) (kept kept' : List Kept) (said said' : List ℕ) (cut cut' : ℕ) (octets : List ℕ) (size : ℕ) (result : Turned) → LoopedTo (Unjudged gained) width moment heard said kept cut → IsWholeAt (drop cut heard) octets size → IsAnsweredBy asking width moment octets size kept kept' said said' cut cut' result → IsTurned gained' width moment heard said' kept' cut' result
+turned-so gained asking gained' goes width moment heard kept kept' said said' cut cut' octets size Answered p w a = answered-more gained asking gained' goes width moment heard kept kept' said said' cut cut' octets size p w a
+turned-so gained asking gained' goes width moment heard kept kept' said said' cut cut' octets size Rests p w a = absurd a
+turned-so gained asking gained' goes width moment heard kept kept' said said' cut cut' octets size Starved p w a = starved-either gained asking gained' goes width moment heard said said' kept kept' cut cut' octets size p w a
 
 frame-some : (cut : Fragments) → 4 ≤ length (frame cut)
 frame-some cut =
@@ -157,10 +179,10 @@ frame-some cut =
       length-word (2 ^ 31 + length cut.last),
     )
 
-pub further : (width : ℕ) (kept kept' : List Kept) (said said' : List ℕ) (cut cut' : ℕ) (stream octets : List ℕ) (size : ℕ) (result : Turned) → IsWholeAt stream octets size → IsAnsweredBy width octets size kept kept' said said' cut cut' result → result ≡ Answered → cut < cut'
-further width kept kept' said said' cut cut' stream octets size Answered w a e = omega (arith, a.place, w.long, frame-some w.cut)
-further width kept kept' said said' cut cut' stream octets size Rests w a e = absurd a
-further width kept kept' said said' cut cut' stream octets size Starved w a e = absurd cc
+pub further : (asking : List Asked → Type 0) (width moment : ℕ) (kept kept' : List Kept) (said said' : List ℕ) (cut cut' : ℕ) (stream octets : List ℕ) (size : ℕ) (result : Turned) → IsWholeAt stream octets size → IsAnsweredBy asking width moment octets size kept kept' said said' cut cut' result → result ≡ Answered → cut < cut'
+further asking width moment kept kept' said said' cut cut' stream octets size Answered w a e = omega (arith, a.place, w.long, frame-some w.cut)
+further asking width moment kept kept' said said' cut cut' stream octets size Rests w a e = absurd a
+further asking width moment kept kept' said said' cut cut' stream octets size Starved w a e = absurd cc
 
 -- a slice up to the end
 pub sliced : (n : ℕ) (xs ys : List ℕ) → ys ≡ xs → take (length ys - n) (drop n ys) ≡ drop n xs
@@ -172,8 +194,23 @@ heard-so octets heard heard' true e = e
 heard-so octets heard heard' false e = (length octets, e ∙ ap (λ (zs : List ℕ). heard ++ zs) (sym (take_all (length octets) octets (omega arith))))
 
 -- what was taken and what is to come is what was said
-pub loops-of : (width at cut : ℕ) (heard said : List ℕ) (kept : List Kept) (starved : Bool) → Looped width heard said kept cut starved → Loops width (record { taken = take at said; coming = drop at said; written = heard }) kept starved
-loops-of width at cut heard said kept starved p = (cut, subst (λ (zs : List ℕ). Looped width heard zs kept cut starved) (sym (take-append-drop at said)) p)
+pub loops-of : (gained : List Asked → Type 0) (width moment at cut : ℕ) (heard said : List ℕ) (kept : List Kept) (starved : Bool) → Looped gained width moment heard said kept cut starved → Loops gained width moment (record { taken = take at said; coming = drop at said; written = heard }) kept starved
+loops-of gained width moment at cut heard said kept starved p = (cut, subst (λ (zs : List ℕ). Looped gained width moment heard zs kept cut starved) (sym (take-append-drop at said)) p)
 
 pub still-starved : (n m : ℕ) → 0 < n → 0 < m → nat_lt 0 n ≡ nat_lt 0 m
 still-starved n m h k = let e : nat_lt 0 n ≡ true = grind (arith, nat_tests) in let f : nat_lt 0 m ≡ true = grind (arith, nat_tests) in e ∙ sym f
+
+-- from a state that begins so, more was asked
+pub looped-since : {S : Type 0} (begins : S → Type 0) (Answers : S → Asked → S → Type 0) (old new : S) (width width' moment moment' : ℕ) (heard heard' said said' : List ℕ) (kept kept' : List Kept) (cut cut' : ℕ) (starved : Bool)
+    → ((first : S) → Looped (λ asked. Asking Answers first asked old) width moment heard said kept cut false → Looped (λ asked. Asking Answers first asked new) width' moment' heard' said' kept' cut' starved)
+    → Looped (Since begins Answers old) width moment heard said kept cut false → Looped (Since begins Answers new) width' moment' heard' said' kept' cut' starved
+looped-since {S} begins Answers old new width width' moment moment' heard heard' said said' kept kept' cut cut' starved step p =
+    let x = p.stands.0 in
+    let q = step x.0 (with-rests {rests = Rest (Since begins Answers old) width false} {rests' = Rest (λ asked. Asking Answers x.0 asked old) width false} width moment heard said kept cut p (x.2, p.stands.1, p.stands.2)) in
+    with-rests {rests = Rest (λ asked. Asking Answers x.0 asked new) width' starved} {rests' = Rest (Since begins Answers new) width' starved} width' moment' heard' said' kept' cut' q
+    (since-rest x.0 x.1 width' starved (asked_in width' q.records q.answers) q.rest q.last q.stands)
+  where
+    since-rest : (first : S) → begins first → (w : ℕ) (b : Bool) (asked : List Asked) (rest : List ℕ) (last : List Kept) → Rest (λ m. Asking Answers first m new) w b asked rest last → Rest (Since begins Answers new) w b asked rest last
+    since-rest first h w false asked rest last r = ((first, h, r.0), r.1, r.2)
+    since-rest first h w true asked rest last (inl r) = inl ((first, h, r.0), r.1)
+    since-rest first h w true asked rest last (inr k) = inr (record { cut = k.cut; one = k.one; more = k.more; is_record = k.is_record; begins = k.begins; kept = k.kept; exact = k.exact; wanted = k.wanted; asked = (first, h, k.asked) })

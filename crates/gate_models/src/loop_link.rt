@@ -2,58 +2,69 @@
 
 ghost use Rattle.std.specs.Prelude.{◌≡◌, ◌≤◌, ◌+◌, nat_lt, [], false, IfOk, length, take, drop};
 ghost use Rattle.std.specs.Prelude.{vec_len};
-ghost use Rattle.gate_models.specs.Looping.{Looped, Loops};
+ghost use Rattle.gate_models.specs.Looping.{Looped, Loops, Since};
 
+use crate::beginning::Beginning;
 use crate::looping::Looping;
-use gss_server::{Gate, KeepAll, Kept};
-use sec_base::{Draw, Link, LinkFault, MemClock, NoMemory};
+use gss_server::{Gate, Kept};
+use sec_base::{Draw, Link, LinkFault, Moment, NoMemory};
 use std::alloc::Global;
+use std::marker::PhantomData;
 
 /// A link that answers, by the rules of a record and over a gate, what is written to it: the replies to its whole records are its octets to
 /// come. A record may be written in pieces and in fragments. Behind octets that begin no record, as too long ones, nothing is answered any more.
 ///
 /// It tells its octets. A write that finds no memory is its only fault; from then on each write is one, and reads give what was replied.
+///
+/// `J` names the gate's state at the beginning, the width of the windows and the moment of all answers. So what the gate was asked is known
+/// of the link's type, whatever was done with the link.
 #[derive(Drop)]
-pub struct LoopLink<G, Q> {
+pub struct LoopLink<G: Gate, Q, J: Beginning<G>> {
     alloc: Global,
     inner: Looping<G, Q>,
     at: usize,
     faults: u64,
     closed: bool,
+    of: PhantomData<J>,
+    ghost wide: { inner.width ≡ J.width },
+    ghost stopped: { inner.now ≡ J.moment },
     ghost within: { at ≤ vec_len inner.said },
-    ghost looped: { ∥ Looped inner.width inner.heard.items inner.said.items inner.kept.all.items
-        inner.cut (nat_lt 0 faults) ∥₁ },
+    ghost looped: { ∥ Looped (λ asked. Since J.begins G.answers inner.gate asked) inner.width
+        inner.now inner.heard.items inner.said.items inner.kept.items inner.cut
+        (nat_lt 0 faults) ∥₁ },
 }
 
-impl<G: Gate, Q: Draw> LoopLink<G, Q> {
-    ghost use Rattle.gate_models.specs.LoopLink.{loop_width, loop_gate, loop_draws, loop_kept};
+impl<G: Gate, Q: Draw, J: Beginning<G>> LoopLink<G, Q, J> {
+    ghost use Rattle.gate_models.specs.LoopLink.{loop_gate, loop_draws, loop_kept};
 
-    /// A link that answers over this gate, at the clock's moments and with the draw's octets, 82 a record; `width` is that of the windows.
+    /// A link that answers over this gate, each record at this moment and with the draw's next 82 octets; `width` is that of the windows.
     pub fn new(
         alloc: Global,
         gate: G,
-        moments: MemClock,
+        now: Moment,
         draws: Q,
         width: u32,
-    ) -> Result<LoopLink<G, Q>, NoMemory>
-        ensures wire { IfOk result (λ link. ⟦<LoopLink<G, Q> as Link>⟧.wire link
+    ) -> Result<LoopLink<G, Q, J>, NoMemory>
+        requires begins { J.begins gate }
+        requires width { width ≡ J.width }
+        requires moment { now ≡ J.moment }
+        ensures wire { IfOk result (λ link. ⟦<LoopLink<G, Q, J> as Link>⟧.wire link
             ≡ record { taken = []; coming = []; written = [] }) }
-        ensures closed { IfOk result (λ link. ⟦<LoopLink<G, Q> as Link>⟧.closed link ≡ false) }
-        ensures faults { IfOk result (λ link. ⟦<LoopLink<G, Q> as Link>⟧.faults link ≡ 0) }
-        ensures width { IfOk result (λ link. loop_width link ≡ width) }
+        ensures closed { IfOk result (λ link. ⟦<LoopLink<G, Q, J> as Link>⟧.closed link ≡ false) }
+        ensures faults { IfOk result (λ link. ⟦<LoopLink<G, Q, J> as Link>⟧.faults link ≡ 0) }
         ensures gate { IfOk result (λ link. loop_gate link ≡ gate) }
         ensures draws { IfOk result (λ link. loop_draws link ≡ draws) }
         ensures kept { IfOk result (λ link. loop_kept link ≡ []) }
     {
         let inner = Looping {
             gate,
-            moments,
+            now,
             draws,
             width,
             heard: Vec::new(alloc),
             cut: 0,
             said: Vec::new(alloc),
-            kept: KeepAll::new(alloc),
+            kept: Vec::new(alloc),
         };
         Ok(LoopLink {
             alloc,
@@ -61,19 +72,20 @@ impl<G: Gate, Q: Draw> LoopLink<G, Q> {
             at: 0,
             faults: 0,
             closed: false,
+            of: PhantomData,
         })
     }
 
     /// Whether a write found no memory.
     pub fn starved(&self) -> bool
-        ensures { result ≡ nat_lt 0 (⟦<LoopLink<G, Q> as Link>⟧.faults self.now) }
+        ensures { result ≡ nat_lt 0 (⟦<LoopLink<G, Q, J> as Link>⟧.faults self.now) }
     {
         self.faults > 0
     }
 
     /// The width of the windows.
     pub fn width(&self) -> u32
-        ensures { result ≡ loop_width self.now }
+        ensures { result ≡ J.width }
     {
         self.inner.width
     }
@@ -81,10 +93,11 @@ impl<G: Gate, Q: Draw> LoopLink<G, Q> {
     /// What was kept of the answers so far.
     pub fn kept(&self) -> &[Kept]
         ensures kept { result.now ≡ loop_kept self.now }
-        ensures looped { ∥ Loops (loop_width self.now) (⟦<LoopLink<G, Q> as Link>⟧.wire self.now)
-            result.now (nat_lt 0 (⟦<LoopLink<G, Q> as Link>⟧.faults self.now)) ∥₁ }
+        ensures looped { ∥ Loops (λ asked. Since J.begins G.answers (loop_gate self.now) asked)
+            J.width J.moment (⟦<LoopLink<G, Q, J> as Link>⟧.wire self.now) result.now
+            (nat_lt 0 (⟦<LoopLink<G, Q, J> as Link>⟧.faults self.now)) ∥₁ }
     {
-        self.inner.kept.all.as_slice()
+        self.inner.kept.as_slice()
     }
 
     /// The gate, the draw, and what was kept of the answers.
@@ -92,8 +105,10 @@ impl<G: Gate, Q: Draw> LoopLink<G, Q> {
         ensures gate { result.0 ≡ loop_gate self }
         ensures draws { result.1 ≡ loop_draws self }
         ensures kept { result.2.items ≡ loop_kept self }
-        ensures looped { ∥ Loops (loop_width self) (⟦<LoopLink<G, Q> as Link>⟧.wire self)
-            result.2.items (nat_lt 0 (⟦<LoopLink<G, Q> as Link>⟧.faults self)) ∥₁ }
+        // The gate began as `J` says, and was asked what the records ask, in order, each answer one that it may give after those before.
+        ensures looped { ∥ Loops (λ asked. Since J.begins G.answers result.0 asked) J.width J.moment
+            (⟦<LoopLink<G, Q, J> as Link>⟧.wire self) result.2.items
+            (nat_lt 0 (⟦<LoopLink<G, Q, J> as Link>⟧.faults self)) ∥₁ }
     {
         let LoopLink { inner, .. } = self;
         let Looping {
@@ -102,11 +117,11 @@ impl<G: Gate, Q: Draw> LoopLink<G, Q> {
             kept,
             ..
         } = inner;
-        (gate, draws, kept.all)
+        (gate, draws, kept)
     }
 }
 
-impl<G: Gate, Q: Draw> Link for LoopLink<G, Q> {
+impl<G: Gate, Q: Draw, J: Beginning<G>> Link for LoopLink<G, Q, J> {
     ghost use Rattle.std.specs.Prelude.{true, take, drop};
 
     ghost faults = { λ l. l.faults };

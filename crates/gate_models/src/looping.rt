@@ -5,27 +5,27 @@ ghost use Rattle.std.specs.Prelude.{OnErr, length, vec_len};
 ghost use Rattle.rpc_msgs.specs.Records.{last_fragment};
 ghost use Rattle.accept_book.specs.RecordShown.{Ruling};
 ghost use Rattle.gss_server.specs.Answers.{IsReply, Fits};
+ghost use Rattle.gss_server.specs.Asking.{Asking};
 ghost use Rattle.gate_models.specs.Looping.{size_of, IsNext, IsSaid, IsAnsweredBy, Unjudged};
 ghost use Rattle.gate_models.specs.Looping.{LoopedTo, IsTurned, Looped, HeardMore};
 
-use gss_server::{Gate, KeepAll, Keeper, Kept, Reply, answer_and_keep};
-use krb_tokens::MicCache;
+use gss_server::{Answered, Gate, Kept, Reply, answer_record};
 use rpc_msgs::{RecordRefusal, next_record, write_record};
-use sec_base::{Draw, MemClock, MemLink, NoMemory, Octets};
+use sec_base::{Draw, MemLink, Moment, NoMemory, Octets};
 use std::alloc::Global;
 
-/// The gate and the devices, all octets that were heard, how many of them stand in records that were answered, all octets that were
-/// said, and what was kept of the answers.
+/// The gate, the moment of all answers, and the random octets; all octets that were heard, how many of them stand in records that were
+/// answered, all octets that were said, and what was kept of the answers.
 #[derive(Drop)]
 pub(crate) struct Looping<G, Q> {
     pub gate: G,
-    pub moments: MemClock,
+    pub now: Moment,
     pub draws: Q,
     pub width: u32,
     pub heard: Vec<u8>,
     pub cut: usize,
     pub said: Vec<u8>,
-    pub kept: KeepAll<Kept>,
+    pub kept: Vec<Kept>,
     ghost within: { cut ≤ vec_len heard },
 }
 
@@ -110,25 +110,22 @@ impl<G: Gate, Q: Draw> Looping<G, Q> {
     /// Answers a record that has so many octets in the stream.
     fn answer(&mut self, alloc: Global, octets: &[u8], size: usize) -> Turned
         requires within { self.old.cut + size ≤ vec_len self.old.heard }
-        ensures answered { IsAnsweredBy self.old.width octets.now size self.old.kept.all.items
-            self.new.kept.all.items self.old.said.items self.new.said.items self.old.cut
-            self.new.cut result }
+        ensures answered { IsAnsweredBy
+            (λ asked. Asking G.answers self.old.gate asked self.new.gate) self.old.width
+            self.old.now octets.now size self.old.kept.items self.new.kept.items
+            self.old.said.items self.new.said.items self.old.cut self.new.cut result }
         ensures heard { self.new.heard ≡ self.old.heard }
         ensures width { self.new.width ≡ self.old.width }
+        ensures moment { self.new.now ≡ self.old.now }
     {
-        if self.kept.make_room().is_err() {
+        if self.kept.reserve(1).is_err() {
             return Turned::Starved;
         }
-        let reply = answer_and_keep(
-            alloc,
-            octets,
-            &mut self.kept,
-            &mut self.gate,
-            &mut self.moments,
-            &mut self.draws,
-            self.width,
-            &mut MicCache::empty(),
-        );
+        let mut draws = [0; 82];
+        self.draws.fill(&mut draws);
+        let answered = answer_record(alloc, &mut self.gate, octets, self.now, &draws, self.width);
+        let Answered { kept, reply, .. } = answered;
+        self.kept.push_reserved(kept);
         match say(alloc, &mut self.said, &reply) {
             Turned::Answered => {
                 self.cut += size;
@@ -141,13 +138,17 @@ impl<G: Gate, Q: Draw> Looping<G, Q> {
 
     /// Answers the next record, where it is whole.
     fn turn(&mut self, alloc: Global) -> Turned
-        ensures looped { LoopedTo Unjudged self.old.width self.old.heard.items self.old.said.items
-            self.old.kept.all.items self.old.cut → IsTurned self.new.width self.new.heard.items
-            self.new.said.items self.new.kept.all.items self.new.cut result }
+        ensures looped { (first : G) → LoopedTo
+            (Unjudged (λ asked. Asking G.answers first asked self.old.gate)) self.old.width
+            self.old.now self.old.heard.items self.old.said.items self.old.kept.items self.old.cut
+            → IsTurned (λ asked. Asking G.answers first asked self.new.gate) self.new.width
+            self.new.now self.new.heard.items self.new.said.items self.new.kept.items self.new.cut
+            result }
         ensures further { result ≡ Turned.Answered → self.old.cut < self.new.cut }
         ensures said { (more : List ℕ) × (self.new.said.items ≡ self.old.said.items ++ more) }
         ensures heard { self.new.heard ≡ self.old.heard }
         ensures width { self.new.width ≡ self.old.width }
+        ensures moment { self.new.now ≡ self.old.now }
     {
         match next_in(alloc, &self.heard[self.cut..]) {
             Next::Record(octets, size) => self.answer(alloc, octets.as_slice(), size),
@@ -159,12 +160,16 @@ impl<G: Gate, Q: Draw> Looping<G, Q> {
 
     /// Answers all whole records; false where there was no memory for one.
     fn hear(&mut self, alloc: Global) -> bool
-        ensures looped { LoopedTo Unjudged self.old.width self.old.heard.items self.old.said.items
-            self.old.kept.all.items self.old.cut → Looped self.new.width self.new.heard.items
-            self.new.said.items self.new.kept.all.items self.new.cut (not result) }
+        ensures looped { (first : G) → LoopedTo
+            (Unjudged (λ asked. Asking G.answers first asked self.old.gate)) self.old.width
+            self.old.now self.old.heard.items self.old.said.items self.old.kept.items self.old.cut
+            → Looped (λ asked. Asking G.answers first asked self.new.gate) self.new.width
+            self.new.now self.new.heard.items self.new.said.items self.new.kept.items self.new.cut
+            (not result) }
         ensures said { (more : List ℕ) × (self.new.said.items ≡ self.old.said.items ++ more) }
         ensures heard { self.new.heard ≡ self.old.heard }
         ensures width { self.new.width ≡ self.old.width }
+        ensures moment { self.new.now ≡ self.old.now }
     {
         while self.cut < self.heard.len() {
             match self.turn(alloc) {
@@ -178,12 +183,16 @@ impl<G: Gate, Q: Draw> Looping<G, Q> {
 
     /// Hears these octets behind those that it heard, and answers; false where there was no memory.
     pub(crate) fn take(&mut self, alloc: Global, buf: &[u8]) -> bool
-        ensures looped { Looped self.old.width self.old.heard.items self.old.said.items
-            self.old.kept.all.items self.old.cut false → Looped self.new.width self.new.heard.items
-            self.new.said.items self.new.kept.all.items self.new.cut (not result) }
+        ensures looped { (first : G) → Looped (λ asked. Asking G.answers first asked self.old.gate)
+            self.old.width self.old.now self.old.heard.items self.old.said.items
+            self.old.kept.items self.old.cut false
+            → Looped (λ asked. Asking G.answers first asked self.new.gate) self.new.width
+            self.new.now self.new.heard.items self.new.said.items self.new.kept.items self.new.cut
+            (not result) }
         ensures said { (more : List ℕ) × (self.new.said.items ≡ self.old.said.items ++ more) }
         ensures heard { HeardMore buf.now self.old.heard.items self.new.heard.items result }
         ensures width { self.new.width ≡ self.old.width }
+        ensures moment { self.new.now ≡ self.old.now }
     {
         match self.heard.extend_from_slice(buf) {
             Ok(()) => self.hear(alloc),

@@ -7,14 +7,14 @@ use crate::connections::book_of;
 use crate::entries;
 use accept_book::{Book, Entry, NegAnswer};
 use client_command::run_client;
-use gate_models::LoopLink;
+use gate_models::{Beginning, LoopLink};
 use gss_client::{Service, Session, Start};
 use gss_server::Kept;
-use sec_base::{Link, MemDraw, MemShelf, Octets, Text};
+use sec_base::{Link, MemDraw, MemShelf, Moment, Octets, Text};
 use spnego_core::{InitSetup, Outcome};
 use std::alloc::Global;
 use table_rows::{Cells, Said};
-use table_setting::{Devices, Files, Setting, clock, present, say_list, saying, words};
+use table_setting::{Devices, Files, Setting, present, say_list, saying, words};
 
 /// The limits of these books.
 const LIMITS: &str = "4:4:16:4";
@@ -22,17 +22,28 @@ const LIMITS: &str = "4:4:16:4";
 /// The width of their windows.
 const WIDTH: u32 = 4;
 
+/// What the type of a link says: nothing of its book, the width, and that the clock stands at 1,000,000 seconds.
+#[derive(Drop)]
+struct AtPresent;
+
+impl Beginning<Book> for AtPresent {
+    ghost begins = { λ _. Unit {0} };
+
+    ghost width = { 4 };
+
+    ghost moment = { 1000000000000 };
+}
+
 /// A link over a book, whose acceptor's random octets come from memory.
-type BookLink = LoopLink<Book, MemDraw>;
+type BookLink = LoopLink<Book, MemDraw, AtPresent>;
 
 /// A link over a book, whose clock stands at 1,000,000 seconds.
 fn link_of(alloc: Global, book: Book, draws: Vec<u8>) -> Option<BookLink>
     ensures { IfSome result (λ link. ⟦<BookLink as Link>⟧.closed link ≡ false) }
 {
-    let moments = clock(alloc, present());
-    match LoopLink::new(alloc, book, moments, MemDraw::new(draws), WIDTH) {
-        Ok(link) => Some(link),
-        Err(_) => None,
+    match Moment::new(1_000_000, 0) {
+        Some(now) => LoopLink::new(alloc, book, now, MemDraw::new(draws), WIDTH).ok(),
+        None => None,
     }
 }
 

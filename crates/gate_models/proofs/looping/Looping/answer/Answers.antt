@@ -1,36 +1,41 @@
-use Rattle.std.proofs.Common.{◌≡◌, ◌∙◌, ap, ◌∷◌, ◌++◌, [], List, refl, inr}
-use Rattle.std.specs.List.{flat_map}
+use Rattle.std.proofs.Common.{◌∙◌, ap, ◌∷◌, ◌++◌, [], List, refl, inl, inr}
 use Rattle.gss_server.specs.declared.answer.Kept.{Kept}
 use Rattle.gss_server.specs.Connections.{ruling_for}
+use Rattle.gss_server.proofs.Replying.{reply-said}
 use Rattle.gate_models.proofs.looping.Looping.answer.Goals as goal
-
--- the kept answers after the keeper was given one
-one-kept : (old new : List Kept) (middle xs : List Kept) (one : Kept) → middle ≡ old → new ≡ middle ++ flat_map (λ (k : Kept). k ∷ []) xs → xs ≡ one ∷ [] → new ≡ old ++ one ∷ []
-one-kept old new middle xs one room given only =
-    given ∙ (ap (λ (ks : List Kept). middle ++ flat_map (λ (k : Kept). k ∷ []) ks) only ∙ ap (λ (ks : List Kept). ks ++ one ∷ []) room)
 
 pub returns-in-Answered-clause-answered : goal.returns-in-Answered-clause-answered
 returns-in-Answered-clause-answered g c =
-    let r = c.answer_and_keep-reply.ensures.answered in
-    let d = c.in-Answered.ensures (ruling_for c.args.self.now.width c.args.octets.now r.holds.one) r.holds.ruled in record {
-      one = r.holds.one;
-      keeps = one-kept c.args.self.now.kept.all.items _ _ r.kept r.holds.one c.make_room.ensures.same r.given r.holds.only;
-      exact = r.holds.exact;
+    let one = c.answer_record-answered.result.kept in
+    let r = c.answer_record-answered.ensures in
+    let d = c.in-Answered.ensures (ruling_for c.args.self.now.width c.args.octets.now one) (reply-said _ _ c.answer_record-answered.result.reply r.ruled.says) in record {
+      one = one;
+      keeps = c.push_reserved.ensures.items ∙ ap (λ (ks : List Kept). ks ++ one ∷ []) c.reserve.ensures.items;
+      exact = (r.ruled.exact, r.drawn);
+      timed = r.now;
       decided = d.0;
       replied = d.1;
       place = refl;
+      asked = r.ruled.asked.answers;
     }
 
 pub returns-clause-answered : goal.returns-clause-answered
 returns-clause-answered g c =
-    let r = c.answer_and_keep-reply.ensures.answered in
-    let d = c.in-Starved.ensures (ruling_for c.args.self.now.width c.args.octets.now r.holds.one) r.holds.ruled in (
+    let one = c.answer_record-answered.result.kept in
+    let r = c.answer_record-answered.ensures in
+    let d = c.in-Starved.ensures (ruling_for c.args.self.now.width c.args.octets.now one) (reply-said _ _ c.answer_record-answered.result.reply r.ruled.says) in (
       d.0,
       refl,
       inr (record {
-        one = r.holds.one;
-        keeps = one-kept c.args.self.now.kept.all.items _ _ r.kept r.holds.one c.make_room.ensures.same r.given r.holds.only;
-        exact = r.holds.exact;
+        one = one;
+        keeps = c.push_reserved.ensures.items ∙ ap (λ (ks : List Kept). ks ++ one ∷ []) c.reserve.ensures.items;
+        exact = (r.ruled.exact, r.drawn);
+        timed = r.now;
         wanted = d.1;
+        asked = r.ruled.asked.answers;
       }),
     )
+
+pub returns-in-Rests-clause-answered : goal.returns-in-Rests-clause-answered
+returns-in-Rests-clause-answered g c =
+    absurd (c.in-Rests.ensures (ruling_for c.args.self.now.width c.args.octets.now c.answer_record-answered.result.kept) (reply-said _ _ c.answer_record-answered.result.reply c.answer_record-answered.ensures.ruled.says))

@@ -1,0 +1,24 @@
+//! Where a link in one thread begins.
+
+ghost use Rattle.std.specs.Prelude.{ℕ};
+
+use accept_book::Book;
+use std::marker::Brand;
+
+/// What is known of the gate's state as a link in one thread takes it, the width of the windows, and
+/// the moment that the link's clock shows, in microseconds since 1970. A link's type names all three.
+pub trait Beginning<G> {
+    ghost begins: { G → Type 0 };
+
+    ghost width: { ℕ };
+
+    ghost moment: { ℕ };
+}
+
+impl Beginning<Book> for Brand {
+    ghost begins = { λ _. Unit {0} };
+
+    ghost width = { 0 };
+
+    ghost moment = { 0 };
+}
