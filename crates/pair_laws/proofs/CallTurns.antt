@@ -6,7 +6,8 @@ use Rattle.krb_derive.specs.declared.sealing.SealKeys.{SealKeys}
 use Rattle.krb_derive.specs.Kept.{ForSealing}
 use Rattle.rpc_msgs.specs.Calls.{CallValue}
 use Rattle.accept_book.specs.Answers.{admitted}
-use Rattle.accept_book.specs.Booking.{BookOf}
+use Rattle.context_table.specs.Places.{KeepsOthers}
+use Rattle.accept_book.specs.Booking.{BookOf, NotesMoment}
 use Rattle.accept_book.specs.Honest.{Honest, caller_of}
 use Rattle.accept_book.specs.RecordShown.{KeptAnswers, Asked, AskedLook, AskedAdmit, Ruling, Shown, asking, handle_id}
 use Rattle.accept_book.specs.RecordRule.{record_ruling, call_ruling, ask_look, ask_admit, looked_ruling}
@@ -21,7 +22,7 @@ use Rattle.gss_server.specs.Answers.{IsDecided}
 use Rattle.gss_server.specs.Asking.{Asking, BookAnswers}
 use Rattle.pair_laws.specs.Live.{IsLiveAt}
 use Rattle.pair_laws.specs.Turns.{IsAnsweredBy, IsCallTurn}
-use Rattle.pair_laws.proofs.Living.{seen, called}
+use Rattle.pair_laws.proofs.Living.{seen, called, others-kept, moment-noted}
 
 abbrev shown_of : List ℕ → KeptAnswers → ℕ → CallValue → Shown
 shown_of octets kept width call = record { record_octets = octets; call = call; now = kept.now; draws = kept.draws; width = width }
@@ -61,6 +62,8 @@ call-turn keys old new lease next procedure args octets kept width for h handle 
           admitted_is = e ∙ ap Some (k.answer ∙ ap (λ (hs : List Entry). Ok (admitted hs (Call lease.id next procedure (sha1 args)))) s.history);
           live = subst (λ (b : BookOf). IsLiveAt b lease (next + 1)) (sym c.2.2) k.live;
           history = ap (λ (b : BookOf). b.core.history) c.2.2 ∙ (k.history ∙ ap (λ (hs : List Entry). Call lease.id next procedure (sha1 args) ∷ hs) s.history);
+          others = subst (λ (b : BookOf). KeepsOthers old.core.table b.core.table lease.id) (sym c.2.2) (others-kept old c.0 c.2.0 lease.id kept.now (Ok lease) c.1 c.2.1.others);
+          notes = subst (λ (b : BookOf). NotesMoment old b kept.now) (sym c.2.2) (moment-noted old c.0 c.2.0 lease.id kept.now (Ok lease) c.1 c.2.1.keeps c.2.1.setup);
         }
 
     by-look : (answer : Option (Result Lease LookRefusal)) → kept.looked ≡ answer → IsCallTurn old new lease next procedure args kept

@@ -1,7 +1,6 @@
 -- A run of the client that an honest server answers is complete.
-use Rattle.std.proofs.Common.{◌≡◌, ◌≢◌, ℕ, ◌+◌, ◌*◌, ◌≤◌, Bool, true, false, IsTrue, refl, ap, sym, subst, ◌∙◌, arith, nat_le, List, ◌++◌, length, drop, replicate, Option, Some, Result, Ok, length-append}
+use Rattle.std.proofs.Common.{◌≡◌, ◌≢◌, ℕ, ◌+◌, ◌*◌, ◌≤◌, Bool, true, IsTrue, refl, ap, sym, subst, ◌∙◌, arith, List, ◌++◌, length, drop, replicate, Option, Some, Result, Ok, length-append}
 use Rattle.std.specs.List.{flat_map}
-use Rattle.std.proofs.lemmas.Bool.Decides.{nat_tests}
 use Rattle.std.proofs.lemmas.List.{length-drop, length-replicate}
 use Rattle.sec_base.specs.Link.{Wire}
 use Rattle.sec_base.specs.declared.shelf.NamedFile.{NamedFile}
@@ -37,6 +36,7 @@ use Rattle.pair_laws.specs.Live.{lease_on}
 use Rattle.pair_laws.specs.Running.{sent_in, IsPlan, HonestRun, calls_made}
 use Rattle.pair_laws.specs.ClientRun.{HonestServer, Answers, Completed, OutcomeTold}
 use Rattle.pair_laws.proofs.Completing.{same-behind}
+use Rattle.pair_laws.proofs.SessionParts.{few-made}
 use Rattle.pair_laws.proofs.WordsAsked.{own-args}
 
 -- the session of an exchange that completes
@@ -47,13 +47,6 @@ talk-is : (setup : AcceptSetup) (width : ℕ) (start : Start) (stream : List ℕ
     → talk start times procedure args draws stream ≡ by_session (flat_map last_fragment x.converses.records) (Some c.outcome) (converses times procedure args (session_of setup width start stream x c) draws x.converses.rest)
 unfolding talk
 talk-is setup width start stream x c times procedure args draws = ap (λ (q : Said SessionState). by_creation times procedure args draws q.written q.rest q.answer) c.session
-
-few-made : (first times : ℕ) → calls_made first times ≤ times
-few-made first times = by-cases (nat_le (first + times) 0x80000000) refl
-  where
-    by-cases : (fits : Bool) → nat_le (first + times) 0x80000000 ≡ fits → calls_made first times ≤ times
-    by-cases true e = rw e (omega arith)
-    by-cases false e = let over : 0x80000000 ≤ first + times = grind (arith, nat_tests) in rw e (omega (arith, over))
 
 planned-so : (plan : Plan) (confounders : List ℕ) (count : ℕ) → IsRanged plan → are_args (procedure_number plan.procedure) plan.args ≡ true → (plan.service ≡ services.None → procedure_number plan.procedure ≡ 0) → IsOctets confounders
     → IsPlan plan.service plan.first plan.procedure plan.args (confounders ++ replicate count 0)

@@ -103,17 +103,17 @@ answers-to setup width octets kept book id token b id_is token_is =
     (record { past = b.past; answered = b.answered; history = b.history; contexts = b.contexts; table = b.table; mark = b.mark }))
 
 -- a turn of the exchange: what the record was answered, and the step that the book took
-record Turned (setup : AcceptSetup) (service : Service) (width xid : ℕ) (id : Option ℕ) (token : List ℕ) (kept : KeptAnswers) (book : Around) (step : AcceptStep) : Type 0 where
-  answer : Negotiated
-  is_kept : kept.negotiated ≡ Some answer
-  is : answer.answer ≡ answer_with (id_of id book.before.history) step
-  ruled : record_ruling (creation_call service xid (proc_for id) (handle_for id) token) kept width
+pub record Turned (setup : AcceptSetup) (service : Service) (width xid : ℕ) (id : Option ℕ) (token : List ℕ) (kept : KeptAnswers) (book : Around) (step : AcceptStep) : Type 0 where
+  pub answer : Negotiated
+  pub is_kept : kept.negotiated ≡ Some answer
+  pub is : answer.answer ≡ answer_with (id_of id book.before.history) step
+  pub ruled : record_ruling (creation_call service xid (proc_for id) (handle_for id) token) kept width
       ≡ asking (AskedStep id token kept.now (take 66 kept.draws) answer) (stepped (creation_shown service xid id token kept width) (answer_with (id_of id book.before.history) step))
-  size : token_size (answer_with (id_of id book.before.history) step) ≤ 65536
-  goes_on : (end : AcceptEnd) (reply : List ℕ) → step ≡ steps.More end reply → Negotiates (id_of id book.before.history) book.after end
-  done : (outcome : Outcome) (lasts : ℕ) (reply : List ℕ) → step ≡ steps.Done outcome lasts reply → IsWhole book.after (lease_on (id_of id book.before.history) outcome lasts)
+  pub size : token_size (answer_with (id_of id book.before.history) step) ≤ 65536
+  pub goes_on : (end : AcceptEnd) (reply : List ℕ) → step ≡ steps.More end reply → Negotiates (id_of id book.before.history) book.after end
+  pub done : (outcome : Outcome) (lasts : ℕ) (reply : List ℕ) → step ≡ steps.Done outcome lasts reply → IsWhole book.after (lease_on (id_of id book.before.history) outcome lasts)
 
-turned-by : (setup : AcceptSetup) (service : Service) (width xid : ℕ) (id : Option ℕ) (end : AcceptEnd) (token : List ℕ) (kept : KeptAnswers) (book : Around) (step : AcceptStep) → xid < 2 ^ 32 → IsId id → length token ≤ 65536 → ComesTo id book.before end
+pub turned-by : (setup : AcceptSetup) (service : Service) (width xid : ℕ) (id : Option ℕ) (end : AcceptEnd) (token : List ℕ) (kept : KeptAnswers) (book : Around) (step : AcceptStep) → xid < 2 ^ 32 → IsId id → length token ≤ 65536 → ComesTo id book.before end
     → answered_on setup (occasion_of kept) end token ≡ Ok step → IsBooked setup width (creation_call service xid (proc_for id) (handle_for id) token) kept book → Turned setup service width xid id token kept book step
 turned-by setup service width xid id end token kept book step fits is_id few comes takes b =
     let drawn : List ℕ = take 66 kept.draws in
@@ -138,7 +138,7 @@ turned-by setup service width xid id end token kept book step fits is_id few com
 
 -- ---- the exchange, turn by turn
 
-next-xid : (xid : ℕ) → xid + 1 < 2 ^ 32 → xid_after xid ≡ xid + 1
+pub next-xid : (xid : ℕ) → xid + 1 < 2 ^ 32 → xid_after xid ≡ xid + 1
 next-xid xid h = omega (arith)
 
 -- what comes of a creation from some turn on
@@ -282,11 +282,11 @@ counts true false kinds.Scram = omega arith
 counts false true kinds.Scram = omega arith
 counts false false kinds.Scram = omega arith
 
-tokens-few : (setup : AcceptSetup) (own : InitSetup) (kind : MechKind) → tokens_of setup own kind ≤ 4
+pub tokens-few : (setup : AcceptSetup) (own : InitSetup) (kind : MechKind) → tokens_of setup own kind ≤ 4
 tokens-few setup own kind = counts (is_first (kinds_of own.list) kind) (is_mic_due setup.offer (own_list own) kind) kind
 
 -- and takes that many replies
-opens-four : (own : InitSetup) (started : Started) → init_start own ≡ Ok started → replies_left started.end ≡ 4
+pub opens-four : (own : InitSetup) (started : Started) → init_start own ≡ Ok started → replies_left started.end ≡ 4
 opens-four own started starts = ap replies_left (opened_from own own.list started refl starts).end
 
 first-awaits : (books : List Around) → Awaits None ends.New books

@@ -1,5 +1,5 @@
 -- A context is destroyed, and the session hears that.
-use Rattle.std.proofs.Common.{◌≡◌, ℕ, ◌*◌, ◌≤◌, ◌<◌, ◌^◌, lit<, lit≤, true, refl, ap, ◌∙◌, arith, List, [], ◌∷◌, ◌++◌, length, take, subst, Option, Some, None, Result, Ok, append-nil}
+use Rattle.std.proofs.Common.{◌≡◌, ℕ, ◌*◌, ◌≤◌, ◌<◌, ◌^◌, lit<, lit≤, true, refl, ap, ◌∙◌, arith, List, [], ◌∷◌, ◌++◌, length, take, sym, subst, Option, Some, None, Result, Ok, append-nil}
 use Rattle.std.proofs.Math.Seq.{take-append_seam}
 use Rattle.std.proofs.lemmas.Nat.{from_be_bytes-to_be_bytes_8}
 use Rattle.rpc_msgs.specs.Words.{word}
@@ -20,19 +20,19 @@ use Rattle.accept_book.specs.Honest.{caller_of}
 use Rattle.accept_book.specs.RecordShown.{KeptAnswers, Shown, Ruling, AskedLook, AskedEnd, asking, handle_of, end_of, is_verified}
 use Rattle.accept_book.specs.RecordRule.{record_ruling, call_ruling, destroy_ruling, ask_look, looked_ruling, ask_end, ended_ruling}
 use Rattle.accept_book.specs.Answers.{receipt_of}
-use Rattle.accept_book.specs.Booking.{BookOf}
+use Rattle.accept_book.specs.Booking.{BookOf, NotesMoment}
 use Rattle.accept_book.specs.declared.answer.AdmitRefusal.{AdmitRefusal}
 use Rattle.accept_book.specs.declared.answer.LookRefusal.{LookRefusal}
 use Rattle.accept_book.specs.declared.entry.Entry.{Entry}
 use Rattle.accept_book.specs.declared.entry.Entry.TheVariants.{Ended}
 use Rattle.accept_book.specs.declared.entry.EndCause.TheVariants.{Destroyed}
 use Rattle.accept_book.specs.declared.entry.Receipt.{Receipt}
-use Rattle.context_table.specs.Places.{slot_at}
+use Rattle.context_table.specs.Places.{slot_at, KeepsOthers}
 use Rattle.gss_server.specs.Answers.{IsDecided}
 use Rattle.gss_server.specs.Asking.{Asking, BookAnswers}
 use Rattle.pair_laws.specs.Live.{IsLiveAt}
 use Rattle.pair_laws.specs.Turns.{IsAnsweredBy, IsEndTurn}
-use Rattle.pair_laws.proofs.Living.{seen, over}
+use Rattle.pair_laws.proofs.Living.{seen, over, others-kept, moment-noted}
 use Rattle.accept_book.specs.declared.book_answer.Lease.{Lease}
 use Rattle.rpcsec_bodies.specs.declared.service.Service.{Service}
 use Rattle.gss_client.specs.Calling.{header_of, verifier_of, signed_call, destroy_call}
@@ -176,6 +176,8 @@ end-turn lease service next xid kept width old new h by live = by-look kept.look
           ended_is = e ∙ ap Some (k.answer ∙ ap (λ (hs : List Entry). Ok (receipt_of hs (Ended lease.id (Destroyed next)))) v.history);
           gone = ap (λ (b : BookOf). slot_at b.core.table lease.id) same ∙ k.gone;
           history = ap (λ (b : BookOf). b.core.history) same ∙ (k.history ∙ ap (λ (hs : List Entry). Ended lease.id (Destroyed next) ∷ hs) v.history);
+          others = subst (λ (b : BookOf). KeepsOthers old.core.table b.core.table lease.id) (sym same) (others-kept old c.0 c.2.0 lease.id kept.now (Ok lease) c.1 c.2.1.others);
+          notes = subst (λ (b : BookOf). NotesMoment old b kept.now) (sym same) (moment-noted old c.0 c.2.0 lease.id kept.now (Ok lease) c.1 c.2.1.keeps c.2.1.setup);
         }
 
     by-look : (answer : Option (Result Lease LookRefusal)) → kept.looked ≡ answer → IsEndTurn old new lease next kept

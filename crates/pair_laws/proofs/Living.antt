@@ -7,7 +7,7 @@ use Rattle.std.proofs.lemmas.Bool.Decides.{nat_tests}
 use Rattle.seq_window.specs.Marks.{greatest, is_in, verdict_of}
 use Rattle.seq_window.specs.declared.window.Verdict.TheVariants.{Fresh}
 use Rattle.context_table.specs.Slots.{HasState}
-use Rattle.context_table.specs.Places.{Places, slot_at, HasValue, Marks}
+use Rattle.context_table.specs.Places.{Places, slot_at, HasValue, Marks, KeepsOthers}
 use Rattle.context_table.specs.declared.slot.Slot.{Slot}
 use Rattle.context_table.specs.declared.slot.SlotState.{SlotState}
 use Rattle.context_table.specs.declared.slot.SlotState.TheVariants.{Negotiating, Held, Complete}
@@ -16,7 +16,7 @@ use Rattle.spnego_core.specs.declared.accept_end.AcceptEnd.{AcceptEnd}
 use Rattle.spnego_core.specs.declared.outcome.Outcome.{Outcome}
 use Rattle.accept_book.specs.History.{Whole, standing, numbers}
 use Rattle.accept_book.specs.Answers.{admitted, or_refused, receipt_of, after}
-use Rattle.accept_book.specs.Booking.{BookOf, names_of, has_key, lease_refused, LeasedBy}
+use Rattle.accept_book.specs.Booking.{BookOf, NotesMoment, names_of, has_key, lease_refused, LeasedBy}
 use Rattle.accept_book.specs.declared.answer.AdmitRefusal.{AdmitRefusal}
 use Rattle.accept_book.specs.declared.answer.LookRefusal.{LookRefusal}
 use Rattle.accept_book.specs.declared.book_answer.Lease.{Lease}
@@ -25,6 +25,7 @@ use Rattle.accept_book.specs.declared.entry.Entry.{Entry}
 use Rattle.accept_book.specs.declared.entry.Receipt.{Receipt}
 use Rattle.accept_book.specs.declared.entry.Entry.TheVariants.{Call, Ended}
 use Rattle.accept_book.specs.declared.entry.EndCause.TheVariants.{Destroyed}
+use Rattle.accept_book.specs.Replays.{Keeps}
 use Rattle.accept_book.specs.BookAnswers.{BookLooked, BookAdmitted, BookEnded}
 use Rattle.pair_laws.specs.Live.{IsLiveAt, IsSeen, IsCalled, IsOver}
 
@@ -132,3 +133,20 @@ over old new lease next result b l few room =
       gone = b.gone (subst (λ r. IsOk r) (sym answer) refl);
       history = b.history ∙ ap (λ (o : Option AdmitRefusal). after o entry old.core.history) none;
     }
+
+-- ---- what is behind a look, and what takes a number
+
+-- every other context is as it was
+pub others-kept : (old middle new : BookOf) (id now : ℕ) (result : Result Lease LookRefusal) → BookLooked old middle id now result → KeepsOthers middle.core.table new.core.table id → KeepsOthers old.core.table new.core.table id
+others-kept old middle new id now result b k = subst (λ (t : Places AcceptEnd Outcome). KeepsOthers t new.core.table id) b.looked.table k
+
+-- the moment was taken note of
+pub moment-noted : (old middle new : BookOf) (id now : ℕ) (result : Result Lease LookRefusal) → BookLooked old middle id now result → Keeps middle.core new.core → new.setup ≡ middle.setup → NotesMoment old new now
+moment-noted old middle new id now result b k s = record {
+  setup = s ∙ b.setup;
+  limit = k.limit ∙ b.looked.limit;
+  width = k.width ∙ b.looked.width;
+  contexts = k.contexts ∙ ap (λ (t : Places AcceptEnd Outcome). t.limit) b.looked.table;
+  capacity = k.capacity ∙ b.looked.capacity;
+  greatest = k.greatest ∙ b.looked.greatest;
+}

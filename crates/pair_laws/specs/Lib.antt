@@ -7,5 +7,14 @@ pub mod Ending
 pub mod Turns
 pub mod Laws
 pub mod Running
+pub mod Conferring
+pub mod Holding
+pub mod Sessions
+pub mod Rows
+pub mod Opening
+pub mod Resting
+pub mod Creation
+pub mod Whole
+pub mod Linked
 pub mod Meeting
 pub mod ClientRun

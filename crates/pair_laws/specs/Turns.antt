@@ -2,9 +2,9 @@
 -- stands behind them.
 use Rattle.std.specs.Prelude.{◌≡◌, ℕ, ◌+◌, ◌<◌, ◌≤◌, List, ◌∷◌, length, None, Some, Ok}
 use Rattle.sha1.specs.Sha1.{sha1}
-use Rattle.context_table.specs.Places.{slot_at}
+use Rattle.context_table.specs.Places.{slot_at, KeepsOthers}
 use Rattle.accept_book.specs.Answers.{admitted, receipt_of}
-use Rattle.accept_book.specs.Booking.{BookOf}
+use Rattle.accept_book.specs.Booking.{BookOf, NotesMoment}
 use Rattle.accept_book.specs.RecordShown.{KeptAnswers}
 use Rattle.accept_book.specs.RecordRule.{record_ruling}
 use Rattle.accept_book.specs.declared.book_answer.Lease.{Lease}
@@ -27,7 +27,8 @@ pub record IsAnsweredBy (width lasts : ℕ) (octets : List ℕ) (kept : KeptAnsw
   pub lasting : kept.now ≤ lasts
   pub room : length old.core.history < old.core.limit
 
--- the context was shown, the next number was admitted, and the log has the call
+-- the context was shown, the next number was admitted, and the log has the call; every other
+-- context is as it was, and the moment was taken note of
 pub record IsCallTurn (old new : BookOf) (lease : Lease) (next procedure : ℕ) (args : List ℕ)
     (kept : KeptAnswers) : Type 0 where
   pub looked : kept.looked ≡ Some (Ok lease)
@@ -35,6 +36,8 @@ pub record IsCallTurn (old new : BookOf) (lease : Lease) (next procedure : ℕ) 
       ≡ Some (Ok (admitted old.core.history (Call lease.id next procedure (sha1 args))))
   pub live : IsLiveAt new lease (next + 1)
   pub history : new.core.history ≡ Call lease.id next procedure (sha1 args) ∷ old.core.history
+  pub others : KeepsOthers old.core.table new.core.table lease.id
+  pub notes : NotesMoment old new kept.now
 
 -- an honest call of a session on a live context of a book that answers it is shown and admitted
 abbrev pub CallTurnLaw : Lease → Type 0
@@ -46,7 +49,8 @@ CallTurnLaw lease =
     (data_call (session_on lease service next xid) procedure args confounder) kept old new
     → IsLiveAt old lease next → IsCallTurn old new lease next procedure args kept
 
--- the context was shown, its end was taken, the log has it, and the context is gone
+-- the context was shown, its end was taken, the log has it, and the context is gone; every other
+-- one is as it was, and the moment was taken note of
 pub record IsEndTurn (old new : BookOf) (lease : Lease) (next : ℕ) (kept : KeptAnswers) : Type 0
   where
     pub looked : kept.looked ≡ Some (Ok lease)
@@ -54,6 +58,8 @@ pub record IsEndTurn (old new : BookOf) (lease : Lease) (next : ℕ) (kept : Kep
         ≡ Some (Ok (receipt_of old.core.history (Ended lease.id (Destroyed next))))
     pub gone : slot_at new.core.table lease.id ≡ None
     pub history : new.core.history ≡ Ended lease.id (Destroyed next) ∷ old.core.history
+    pub others : KeepsOthers old.core.table new.core.table lease.id
+    pub notes : NotesMoment old new kept.now
 
 -- the end of a session on a live context of a book that answers it is taken
 abbrev pub EndTurnLaw : Type 0

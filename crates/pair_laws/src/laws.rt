@@ -1,9 +1,17 @@
 //! What holds of a session and of a book together.
 
+ghost use Rattle.pair_laws.specs.Conferring.{EqualCalls};
+ghost use Rattle.pair_laws.specs.Creation.{CreationLaw};
 ghost use Rattle.pair_laws.specs.Ending.{EndLaw};
 ghost use Rattle.pair_laws.specs.HonestCalls.{CallLaw};
 ghost use Rattle.pair_laws.specs.Laws.{PairLaw};
+ghost use Rattle.pair_laws.specs.Linked.{LinkedLaw};
+ghost use Rattle.pair_laws.specs.Opening.{StepTurnLaw};
+ghost use Rattle.pair_laws.specs.Resting.{RestLaw};
+ghost use Rattle.pair_laws.specs.Rows.{ChainLaw, RowLaw};
 ghost use Rattle.pair_laws.specs.Running.{RunLaw};
+ghost use Rattle.pair_laws.specs.Sessions.{SessionLaw};
+ghost use Rattle.pair_laws.specs.Whole.{WholeLaw};
 ghost use Rattle.pair_laws.specs.Turns.{CallTurnLaw, EndTurnLaw};
 
 use accept_book::Lease;
@@ -50,6 +58,68 @@ pub fn prove_end_turns()
 /// is answered the service's results, parts with all its calls made or its numbers spent, and has its context destroyed.
 pub fn prove_runs(key: &Key)
     ensures { RunLaw key.now }
+{
+    let _answers = SealKeys::of(key, 22);
+    let _calls = SealKeys::of(key, 24);
+}
+
+/// Does nothing; its contract says that a talk of so many equal calls is that of a list which repeats one call.
+pub fn prove_equal_calls()
+    ensures { EqualCalls }
+{}
+
+/// Does nothing that stays; its contract says of a session on this key what `prove_runs` says, where its calls may differ: it makes each call of a list,
+/// as far as it has numbers, and is answered the service's result of each.
+pub fn prove_sessions(key: &Key)
+    ensures { SessionLaw key.now }
+{
+    let _answers = SealKeys::of(key, 22);
+    let _calls = SealKeys::of(key, 24);
+}
+
+/// Does nothing; its contract says that records which a book answered one after the other, whatever cuts their stream has, are turns in a row.
+pub fn prove_chains()
+    ensures { ChainLaw }
+{}
+
+/// Does nothing that stays; its contract says that a session on this key, whose turns are a row from a book with its context live and places in the log,
+/// is served as `prove_sessions` asks for, and what its row leaves of the book.
+pub fn prove_rows(key: &Key)
+    ensures { RowLaw key.now }
+{
+    let _answers = SealKeys::of(key, 22);
+    let _calls = SealKeys::of(key, 24);
+}
+
+/// Does nothing; its contract says that a book which has places for a token of a creation books it, as an honest exchange asks for.
+pub fn prove_step_turns()
+    ensures { StepTurnLaw }
+{}
+
+/// Does nothing; its contract says that a book in which no context lives has places for the next session: for its context, and for its mark.
+pub fn prove_rests()
+    ensures { RestLaw }
+{}
+
+/// Does nothing; its contract says that a creation whose turns are a row from a book at rest with places is an honest exchange, and what it leaves of
+/// the book.
+pub fn prove_creations()
+    ensures { CreationLaw }
+{}
+
+/// Does nothing that stays; its contract says that a whole session on this key, whose turns are a row from a book at rest with places, is done: it is
+/// created, is answered the service's results, and ends, and the book rests again, with all of it in its log.
+pub fn prove_wholes(key: &Key)
+    ensures { WholeLaw key.now }
+{
+    let _answers = SealKeys::of(key, 22);
+    let _calls = SealKeys::of(key, 24);
+}
+
+/// Does nothing that stays; its contract says that a whole session on this key over a link that answers by a book at rest is done, by the link's records
+/// and the answers that were kept for them: it is created, is answered the service's results, and ends, and the book rests again.
+pub fn prove_links(key: &Key)
+    ensures { LinkedLaw key.now }
 {
     let _answers = SealKeys::of(key, 22);
     let _calls = SealKeys::of(key, 24);

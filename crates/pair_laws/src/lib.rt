@@ -1,12 +1,18 @@
 //! The completeness of the pair: an honest session against an acceptor's book is created, and both ends have one outcome.
 #![tactic(auto)]
 
+mod conference;
 mod laws;
 mod meeting;
 mod run;
+mod taken;
 
+pub use conference::{DueCall, hold_calls};
 pub use laws::{
-    prove_call_turns, prove_calls, prove_end_turns, prove_ends, prove_pair, prove_runs,
+    prove_call_turns, prove_calls, prove_chains, prove_creations, prove_end_turns, prove_ends,
+    prove_equal_calls, prove_links, prove_pair, prove_rests, prove_rows, prove_runs,
+    prove_sessions, prove_step_turns, prove_wholes,
 };
 pub use meeting::prove_meeting;
-pub use run::complete_run;
+pub use run::{complete_run, tell_name};
+pub use taken::are_taken;

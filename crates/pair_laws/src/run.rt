@@ -23,14 +23,14 @@ use spnego_core::Outcome;
 use std::alloc::Global;
 
 /// Does nothing: these are octets.
-fn tell_octets(octets: &[u8])
+pub(crate) fn tell_octets(octets: &[u8])
     ensures { IsOctets octets.now }
 {
     let _count = octets.len();
 }
 
-/// Does nothing: a label is a name.
-fn tell_name(label: &Label)
+/// Does nothing; its contract says that a label is a name: at most 255 octets, in UTF-8.
+pub fn tell_name(label: &Label)
     ensures { IsName label.now }
 {
     let text = label.text();

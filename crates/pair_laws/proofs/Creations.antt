@@ -1,0 +1,156 @@
+-- A creation in a row is an honest exchange.
+use Rattle.std.proofs.Common.{◌≡◌, ℕ, suc, ◌+◌, ◌<◌, ◌≤◌, ◌^◌, false, refl, ap, sym, subst, ◌∙◌, arith, List, [], ◌∷◌, ◌++◌, length, map, None, append_assoc, lit<}
+use Rattle.std.specs.List.{AllByRecursion, flat_map}
+use Rattle.rpc_msgs.specs.Records.{Fragments, last_fragment}
+use Rattle.context_table.specs.Places.{slot_at, live_of}
+use Rattle.spnego_core.specs.declared.accept_end.AcceptEnd.TheVariants as ends
+use Rattle.accept_book.specs.Booking.{BookOf}
+use Rattle.accept_book.specs.History.{opened, standing}
+use Rattle.accept_book.specs.Stepping.{context_of}
+use Rattle.pair_laws.proofs.Resting.{no-slots}
+use Rattle.std.proofs.lemmas.List.{append-nil}
+use Rattle.gss_base.specs.declared.mech.MechKind.{MechKind}
+use Rattle.spnego_core.proofs.Exchanges.{exchanges}
+use Rattle.gss_client.specs.declared.creation.Offer.{Offer}
+use Rattle.gss_client.specs.declared.start.Start.{Start}
+use Rattle.gss_client.specs.Rank.{replies_left}
+use Rattle.gss_client.specs.Session.{SessionState}
+use Rattle.gss_client.specs.Talk.{creates, created_from}
+use Rattle.gss_client.specs.Talking.{Said}
+use Rattle.pair_laws.specs.Booked.{IsLeftAlone, id_in}
+use Rattle.pair_laws.specs.Conversing.{replied, IsWithin}
+use Rattle.pair_laws.specs.Creation.{around_of, records_of, IsCreation, CreationRuns, history_with, AreTimed}
+use Rattle.pair_laws.specs.Honest.{occasion_of}
+use Rattle.pair_laws.specs.Rows.{InRow, answers_of}
+use Rattle.pair_laws.specs.Running.{Turn, sent_in, heard_in}
+use Rattle.pair_laws.proofs.Completing.{tokens-few, opens-four}
+use Rattle.pair_laws.proofs.Creating.{created-is}
+use Rattle.pair_laws.proofs.Readiness.{ready-at-rest, holds-after, marks-after}
+use Rattle.gss_base.specs.Mech.{is_kerberos}
+use Rattle.accept_book.specs.declared.entry.Entry.TheVariants.{Settled}
+use Rattle.pair_laws.proofs.Opens.{Due, opens-on}
+
+-- ---- the exchange
+
+row-alone : (width lasts id : ℕ) (front : List Turn) (old middle : BookOf) → InRow width lasts old front middle → IsLeftAlone id (map around_of front)
+row-alone width lasts id [] old middle r = tt
+row-alone width lasts id (turn ∷ []) old middle r = tt
+row-alone width lasts id (turn ∷ next ∷ later) old middle r =
+    (record { context = ap (λ (b : BookOf). context_of (slot_at b.core.table id)) r.2.0; stands = ap (λ (b : BookOf). standing id b.core.history) r.2.0 }, row-alone width lasts id (next ∷ later) turn.after middle r.2)
+
+row-within : (width lasts : ℕ) (front : List Turn) (old middle : BookOf) → InRow width lasts old front middle → AllByRecursion IsWithin (records_of front)
+row-within width lasts [] old middle r = tt
+row-within width lasts (turn ∷ front) old middle r = (r.1.within, row-within width lasts front turn.after middle r.2)
+
+same-count : (front : List Turn) → length (answers_of front) ≡ length (records_of front)
+same-count [] = refl
+same-count (turn ∷ front) = ap suc (same-count front)
+
+occasions-long : (front : List Turn) → length (map occasion_of (answers_of front)) ≡ length front
+occasions-long [] = refl
+occasions-long (turn ∷ front) = ap suc (occasions-long front)
+
+pub same-sent : (front : List Turn) → flat_map sent_in front ≡ flat_map last_fragment (records_of front)
+same-sent [] = refl
+same-sent (turn ∷ front) = ap (λ (zs : List ℕ). last_fragment turn.octets ++ zs) (same-sent front)
+
+same-heard : (width : ℕ) (front back : List Turn) (rest : List ℕ) → flat_map (heard_in width) (front ++ back) ++ rest ≡ replied width (records_of front) (answers_of front) ++ (flat_map (heard_in width) back ++ rest)
+same-heard width [] back rest = refl
+same-heard width (turn ∷ front) back rest =
+    append_assoc (heard_in width turn) (flat_map (heard_in width) (front ++ back)) rest
+    ∙ (ap (λ (zs : List ℕ). heard_in width turn ++ zs) (same-heard width front back rest)
+    ∙ sym (append_assoc (heard_in width turn) (replied width (records_of front) (answers_of front)) (flat_map (heard_in width) back ++ rest)))
+
+first-id : (width lasts count : ℕ) (front : List Turn) (old middle : BookOf) → InRow width lasts old front middle → opened old.core.history ≡ count → count + 1 < 2 ^ 64 → id_in (map around_of front) < 2 ^ 64
+first-id width lasts count [] old middle r e h = lit< tt
+first-id width lasts count (turn ∷ front) old middle r e h =
+    let same : opened turn.before.core.history ≡ count = ap (λ (b : BookOf). opened b.core.history) r.0 ∙ e in subst (λ (n : ℕ). n + 1 < 2 ^ 64) (sym same) h
+
+pub creation-runs : (width lasts : ℕ) (start : Start) (kind : MechKind) (count moment : ℕ) (stream more : List ℕ) (old new : BookOf) (front back : List Turn) (records : List Fragments) (tail rest : List ℕ) → IsCreation width lasts start kind count moment stream more old new front back records tail rest
+    → CreationRuns width lasts start kind count moment stream more old new front back records tail rest
+creation-runs width lasts start kind count moment stream more old new front back records tail rest x =
+    let a = exchanges old.setup start.setup kind (map occasion_of (answers_of front)) x.pair in
+    let started = x.pair.started in
+    let left : ℕ = replies_left started.end in
+    let offer : Offer = record { end = started.end; handle = []; token = started.token } in
+    let is : created_from start stream ≡ creates left start.service start.first 1 1 offer stream = created-is start started stream x.pair.starts in
+    let four : left ≡ 4 = opens-four start.setup started x.pair.starts in
+    let few : length front ≤ 4 = omega (arith, occasions-long front, x.pair.counted, tokens-few old.setup start.setup kind) in
+    let live = no-slots old.core.table.slots x.rests.empty in
+    let places : live_of old.core.table < old.core.table.limit = omega (arith, live, x.table) in
+    let Timed : Type 0 = AreTimed old.setup count moment old.core front in
+    let d : Due Timed old.setup width lasts left start.service start.first 1 None ends.New started.end started.token front back records tail rest stream more a.outcome count moment false old new = record {
+      some_width = x.some_width;
+      width_fits = x.width_fits;
+      xids = omega (arith, few);
+      turns = omega (arith, few, four);
+      number = x.number;
+      is_id = tt;
+      few = x.pair.short;
+      own = ap (λ (n : ℕ). n + 1) x.rests.ids;
+      comes = refl;
+      fits = refl;
+      ready = ready-at-rest Timed count moment old.core x.rests (λ t. t.rest);
+      set = refl;
+      log = x.log;
+      table = λ none. places;
+      cache = λ t. t.room;
+      completes = a.completes;
+      opening = x.opening;
+      timed = λ t. t.on;
+      unrefused = x.marks;
+      row = x.row;
+      cuts = x.cuts;
+      written = sym (ap (λ (s : Said SessionState). s.written ++ more) is) ∙ x.written;
+      heard = x.heard;
+    } in
+    let o = opens-on Timed old.setup width lasts left start.service start.first 1 None ends.New started.end started.token front back records tail rest stream more a.outcome count moment false old new d in
+    record {
+      exchange = record {
+        converses = record {
+          records = records_of front;
+          kept = answers_of front;
+          rest = flat_map (heard_in width) back ++ rest;
+          within = row-within width lasts front old o.middle o.front_row;
+          written = ap (λ (s : Said SessionState). s.written) is ∙ (o.wrote ∙ same-sent front);
+          counted = same-count front;
+          heard = x.heard ∙ same-heard width front back rest;
+        };
+        answers = answers_of front;
+        later = [];
+        kept = sym (append-nil (answers_of front));
+        some_width = x.some_width;
+        width_fits = x.width_fits;
+        kind = kind;
+        pair = x.pair;
+        books = map around_of front;
+        booked = o.booked;
+        left_alone = row-alone width lasts (id_in (map around_of front)) front old o.middle o.front_row;
+        number = first-id width lasts count front old o.middle o.front_row x.rests.ids x.number;
+      };
+      kind_is = refl;
+      answers = refl;
+      books = refl;
+      left = refl;
+      records_are = refl;
+      others = o.others;
+      cuts = o.cuts;
+      wrote = o.later;
+      middle = o.middle;
+      behind = o.behind;
+      row = o.row;
+      limits = o.limits;
+      enters = record {
+        marks = o.marks;
+        counted = o.counted;
+        marked = o.kerberos ∙ ap (λ (k : MechKind). is_kerberos k) a.mech;
+        names = o.names;
+        lasts = o.lasting;
+        is = o.entries ∙ ap (λ (k : MechKind). history_with (count + 1) moment (Settled (count + 1) k o.names o.lasting moment) false o.marks old.core.history) a.mech;
+      };
+      grown = o.grown;
+      posted = o.posted;
+      marks = λ timed later h. marks-after Timed count moment o.marked o.middle.core o.own o.ready timed later h;
+      holds = λ later h. holds-after Timed count moment o.marked o.middle.core o.own o.ready later h;
+      unused = o.ready.uncalled (count + 1) (omega arith);
+    }

@@ -1,0 +1,206 @@
+-- The parts of a session's run: how long its calls and results are, how many calls it makes, and what is written first.
+use Rattle.std.proofs.Common.{◌≡◌, ℕ, zero, suc, ◌+◌, ◌*◌, ◌<◌, ◌≤◌, ◌^◌, ◌/◌, lit<, Bool, true, false, refl, ap, sym, subst, ◌∙◌, arith, nat_le, List, [], ◌∷◌, ◌++◌, length, replicate, Option, Result, Ok, Err, append_assoc}
+use Rattle.std.specs.Prelude.{◌==◌}
+use Rattle.std.specs.Int.{byte_at, bytes_high_first}
+use Rattle.std.specs.List.{flat_map}
+use Rattle.std.specs.Str.{is_utf8}
+use Rattle.std.proofs.lemmas.Bool.Decides.{nat_tests}
+use Rattle.std.proofs.lemmas.List.{append-nil}
+use Rattle.std.proofs.lemmas.Nat.{mod_below}
+use Rattle.aes_cts.proofs.Restored.{append-IsOctets, replicate-IsOctets}
+use Rattle.krb_tokens.proofs.Octets.{octets_nil, octets_cons}
+use Rattle.rpc_msgs.specs.Words.{word, opaque, padding_length}
+use Rattle.rpc_msgs.specs.Records.{last_fragment}
+use Rattle.rpc_msgs.specs.Xdr.{opaque_at}
+use Rattle.rpc_msgs.proofs.WordLengths.{length-word}
+use Rattle.rpc_msgs.proofs.XdrLaws.{opaque_law}
+use Rattle.rpcsec_msgs.specs.Cred.{CredValue, cred_octets}
+use Rattle.rpcsec_msgs.proofs.BodyLaws.{end-only}
+use Rattle.seq_window.specs.Marks.{greatest}
+use Rattle.context_table.specs.declared.slot.Slot.{Slot}
+use Rattle.context_table.specs.Places.{HasValue}
+use Rattle.spnego_core.specs.declared.accept_end.AcceptEnd.{AcceptEnd}
+use Rattle.spnego_core.specs.declared.outcome.Outcome.{Outcome}
+use Rattle.accept_book.specs.Booking.{BookOf}
+use Rattle.accept_book.specs.History.{numbers}
+use Rattle.accept_book.specs.Honest.{IsOctets, data_header}
+use Rattle.accept_book.specs.Replays.{Accepting}
+use Rattle.accept_book.specs.Served.{are_args, result_of}
+use Rattle.accept_book.specs.declared.book_answer.Lease.{Lease}
+use Rattle.gss_client.specs.declared.conversation.Parting.TheVariants.{Finished, Spent}
+use Rattle.gss_client.specs.declared.procedure.Procedure.{Procedure}
+use Rattle.gss_client.specs.declared.procedure.Procedure.TheVariants as procedures
+use Rattle.gss_client.specs.declared.refusal.ClientRefusal.{ClientRefusal}
+use Rattle.rpcsec_bodies.specs.declared.service.Service.{Service}
+use Rattle.rpcsec_bodies.specs.Service.{number_of}
+use Rattle.gss_client.specs.Calling.{own_end, body_of, data_call, destroy_call}
+use Rattle.gss_client.specs.Conversation.{Conversed, goes_on}
+use Rattle.gss_client.specs.Judging.{result_taken, destroyed_in}
+use Rattle.gss_client.specs.Procedure.{procedure_number, opaque_alone, is_result}
+use Rattle.gss_client.specs.Session.{SessionState}
+use Rattle.gss_client.specs.Talk.{calls, destroys}
+use Rattle.gss_client.specs.Talking.{judges, exchanges}
+use Rattle.gss_client.proofs.CallLengths.{cred-fits, call-fits}
+use Rattle.rpcsec_bodies.proofs.Lengths.{mic-size, protected-fits}
+use Rattle.krb_tokens.specs.Mic.{mic_of}
+use Rattle.pair_laws.specs.HonestCalls.{session_on}
+use Rattle.pair_laws.specs.Live.{IsWhole, IsLiveAt}
+use Rattle.pair_laws.specs.Running.{Turn, sent_in, IsUntouched, calls_made, parting_of}
+use Rattle.pair_laws.proofs.Answered.{is-made, handle-length}
+use Rattle.pair_laws.proofs.Completing.{framed-some, same-record, octets_heard, same-behind}
+use Rattle.pair_laws.proofs.Creating.{goes-front, exchange-front}
+
+-- ---- octets
+
+byte-small : (k n : ℕ) → byte_at k n < 256
+byte-small zero n = mod_below n 256 (omega arith)
+byte-small (suc k) n = mod_below (n / 256 ^ suc k) 256 (omega arith)
+
+bytes-octets : (k n : ℕ) → IsOctets (bytes_high_first k n)
+bytes-octets zero n = octets_nil
+bytes-octets (suc k) n = octets_cons (byte_at k n) (bytes_high_first k n) (byte-small k n) (bytes-octets k n)
+
+pub word-octets : (n : ℕ) → IsOctets (word n)
+unfolding word
+word-octets n = bytes-octets 4 n
+
+opaque-octets : (xs : List ℕ) → IsOctets xs → IsOctets (opaque xs)
+unfolding opaque
+opaque-octets xs h =
+    append-IsOctets (word (length xs)) (xs ++ replicate (padding_length (length xs)) 0) (word-octets (length xs)) (append-IsOctets xs (replicate (padding_length (length xs)) 0) h (replicate-IsOctets (padding_length (length xs))))
+
+pub result-octets : (procedure : Procedure) (args name : List ℕ) (count : ℕ) → IsOctets args → IsOctets name → IsOctets (result_of (procedure_number procedure) args name count)
+result-octets procedures.Null args name count h k = octets_nil
+result-octets procedures.Echo args name count h k = h
+result-octets procedures.Whoami args name count h k = opaque-octets name k
+result-octets procedures.Post args name count h k = word-octets count
+result-octets procedures.Count args name count h k = word-octets count
+
+-- ---- results
+
+alone-read : (name : List ℕ) → length name ≤ 1024 → opaque_alone 1024 (opaque name) ≡ Ok name
+unfolding opaque_alone
+alone-read name h =
+    let end : ℕ = length (opaque name) in
+    let read : opaque_at 1024 (record { octets = opaque name; end = end }) ≡ Ok (name, record { octets = []; end = end }) =
+    ap (λ (zs : List ℕ). opaque_at 1024 (record { octets = zs; end = end })) (sym (append-nil (opaque name))) ∙ (opaque_law 1024 (lit< tt)).only name [] end h in
+    rw (read, end-only end) refl
+
+pub result-fits : (procedure : Procedure) (args name : List ℕ) (count : ℕ) → are_args (procedure_number procedure) args ≡ true → length name ≤ 255 → is_utf8 name ≡ true → is_result procedure (result_of (procedure_number procedure) args name count) ≡ true
+unfolding is_result opaque_alone
+result-fits procedures.Null args name count h few text = refl
+result-fits procedures.Echo args name count h few text = h
+result-fits procedures.Whoami args name count h few text = rw (alone-read name (omega (arith, few))) text
+result-fits procedures.Post args name count h few text = rw (length-word count) refl
+result-fits procedures.Count args name count h few text = rw (length-word count) refl
+
+pub low : (procedure : Procedure) → procedure_number procedure ≤ 4
+low procedures.Null = omega arith
+low procedures.Echo = omega arith
+low procedures.Whoami = omega arith
+low procedures.Post = omega arith
+low procedures.Count = omega arith
+
+-- ---- how many calls
+
+pub below-spent : (n : ℕ) → n ≤ 0x80000000 → (n == 0x80000000) ≡ false → n < 0x80000000
+below-spent n h e = grind (arith, nat_tests)
+
+pub is-spent : (n : ℕ) → (n == 0x80000000) ≡ true → n ≡ 0x80000000
+is-spent n e = grind (arith, nat_tests)
+
+pub none-made : (n : ℕ) → n ≤ 0x80000000 → zero ≡ calls_made n zero
+none-made n h = let fits : nat_le (n + zero) 0x80000000 ≡ true = grind (arith, nat_tests) in rw fits refl
+
+pub none-due : (n : ℕ) → n ≤ 0x80000000 → Finished ≡ parting_of n zero
+none-due n h = let fits : nat_le (n + zero) 0x80000000 ≡ true = grind (arith, nat_tests) in rw fits refl
+
+pub spent-made : (n left : ℕ) → n ≡ 0x80000000 → zero ≡ calls_made n (suc left)
+spent-made n left h = let over : nat_le (n + suc left) 0x80000000 ≡ false = grind (arith, nat_tests) in rw over (omega (arith, h))
+
+pub spent-due : (n left : ℕ) → n ≡ 0x80000000 → Spent ≡ parting_of n (suc left)
+spent-due n left h = let over : nat_le (n + suc left) 0x80000000 ≡ false = grind (arith, nat_tests) in rw over refl
+
+pub more-made : (n left : ℕ) → n < 0x80000000 → suc (calls_made (n + 1) left) ≡ calls_made n (suc left)
+more-made n left h = by-cases (nat_le (n + suc left) 0x80000000) refl
+  where
+    by-cases : (fits : Bool) → nat_le (n + suc left) 0x80000000 ≡ fits → suc (calls_made (n + 1) left) ≡ calls_made n (suc left)
+    by-cases true e = let f : nat_le ((n + 1) + left) 0x80000000 ≡ true = grind (arith, nat_tests) in rw (e, f) refl
+    by-cases false e = let f : nat_le ((n + 1) + left) 0x80000000 ≡ false = grind (arith, nat_tests) in rw (e, f) (omega (arith, h))
+
+pub more-due : (n left : ℕ) → n < 0x80000000 → parting_of (n + 1) left ≡ parting_of n (suc left)
+more-due n left h = by-cases (nat_le (n + suc left) 0x80000000) refl
+  where
+    by-cases : (fits : Bool) → nat_le (n + suc left) 0x80000000 ≡ fits → parting_of (n + 1) left ≡ parting_of n (suc left)
+    by-cases true e = let f : nat_le ((n + 1) + left) 0x80000000 ≡ true = grind (arith, nat_tests) in rw (e, f) refl
+    by-cases false e = let f : nat_le ((n + 1) + left) 0x80000000 ≡ false = grind (arith, nat_tests) in rw (e, f) refl
+
+-- no more calls are made than are due
+pub few-made : (first times : ℕ) → calls_made first times ≤ times
+few-made first times = by-cases (nat_le (first + times) 0x80000000) refl
+  where
+    by-cases : (fits : Bool) → nat_le (first + times) 0x80000000 ≡ fits → calls_made first times ≤ times
+    by-cases true e = rw e (omega arith)
+    by-cases false e = let over : 0x80000000 ≤ first + times = grind (arith, nat_tests) in rw e (omega (arith, over))
+
+-- ---- how long a call is
+
+body-call : (s : SessionState) (args confounder : List ℕ) (service : Service) → length args ≤ 65540 → length confounder ≡ 16 → length (body_of s args confounder service) ≤ 130000
+body-call s args confounder service few block = protected-fits (own_end s) service s.number confounder args few block
+
+pub data-size : (s : SessionState) (procedure : ℕ) (args confounder : List ℕ) → length s.handle ≤ 64 → length args ≤ 65540 → length confounder ≡ 16 → length (data_call s procedure args confounder) ≤ 131072
+data-size s procedure args confounder handle few block =
+    let cred : CredValue = record { proc = 0; seq = s.number; service = number_of s.service; context = s.handle } in
+    let front : List ℕ = data_header s.xid procedure cred in
+    rw (is-made s procedure args confounder)
+    (call-fits s.xid 0x20004753 1 procedure (cred_octets cred) (record { flavour = 6; body = mic_of (own_end s) (2 * s.number) front }) (body_of s args confounder s.service) (cred-fits cred handle) (omega (arith, mic-size (own_end s) (2 * s.number) front))
+    (body-call s args confounder s.service few block))
+
+pub data-fits : (lease : Lease) (service : Service) (number xid procedure : ℕ) (args confounder : List ℕ) → length args ≤ 65540 → length confounder ≡ 16 → length (data_call (session_on lease service number xid) procedure args confounder) ≤ 131072
+data-fits lease service number xid procedure args confounder few block = data-size (session_on lease service number xid) procedure args confounder (omega (arith, handle-length lease.id)) few block
+
+-- ---- what is written first
+
+pub record Begins (front written : List ℕ) : Type 0 where
+  pub more : List ℕ
+  pub same : written ≡ front ++ more
+
+pub calls-first : (s : SessionState) (procedure : ℕ) (args confounder stream : List ℕ) → Begins (last_fragment (data_call s procedure args confounder)) (calls s procedure args confounder stream).written
+unfolding calls
+calls-first s procedure args confounder stream =
+    let call : List ℕ = data_call s procedure args confounder in
+    let f = exchange-front call stream in
+    let g = goes-front (last_fragment call) (exchanges call stream).written (exchanges call stream).rest (λ octets. judges (result_taken s octets)) (exchanges call stream).answer f.more f.same in
+    record { more = g.more; same = g.same }
+
+pub destroys-first : (s : SessionState) (stream : List ℕ) → Begins (last_fragment (destroy_call s)) (destroys s stream).written
+unfolding destroys
+destroys-first s stream =
+    let call : List ℕ = destroy_call s in
+    let f = exchange-front call stream in
+    let g = goes-front (last_fragment call) (exchanges call stream).written (exchanges call stream).rest (λ octets. judges (destroyed_in s.outcome s.number s.xid octets)) (exchanges call stream).answer f.more f.same in
+    record { more = g.more; same = g.same }
+
+pub on-first : (procedure : Procedure) (front written undrawn rest : List ℕ) (next : SessionState → List ℕ → List ℕ → Conversed) (answer : Result (SessionState × List ℕ) ClientRefusal) → Begins front written → Begins front (goes_on procedure written undrawn rest next answer).written
+on-first procedure front written undrawn rest next (Err refusal) b = record { more = b.more; same = b.same }
+on-first procedure front written undrawn rest next (Ok called) b = by-cases (is_result procedure called.1) refl
+  where
+    by-cases : (fits : Bool) → is_result procedure called.1 ≡ fits → Begins front (goes_on procedure written undrawn rest next (Ok called)).written
+    by-cases true e =
+        rw e (record { more = b.more ++ (next called.0 undrawn rest).written; same = ap (λ (zs : List ℕ). zs ++ (next called.0 undrawn rest).written) b.same ∙ append_assoc front b.more (next called.0 undrawn rest).written })
+    by-cases false e = rw e (record { more = b.more; same = b.same })
+
+-- the first record is the call
+pub first-is : (octets call written more tail : List ℕ) → length octets ≤ 131072 → length call ≤ 131072 → written ≡ last_fragment octets ++ tail → written ≡ last_fragment call ++ more → octets ≡ call
+first-is octets call written more tail h k e f = ap octets_heard (same-record octets call tail more h k (sym e ∙ f))
+
+pub none-left : (call : List ℕ) (turns : List Turn) → last_fragment call ≡ last_fragment call ++ flat_map sent_in turns → turns ≡ []
+none-left call [] e = refl
+none-left call (turn ∷ turns) e = absurd (framed-some turn.octets (flat_map sent_in turns) (sym (same-behind (last_fragment call) [] (flat_map sent_in (turn ∷ turns)) (append-nil (last_fragment call) ∙ e))))
+
+pub live-before : (core : Accepting AcceptEnd Outcome) (before : BookOf) (lease : Lease) (number : ℕ) → IsWhole core lease → greatest (numbers lease.id core.history) < number → IsUntouched lease.id core before.core → 0 < before.core.width → IsLiveAt before lease number
+live-before core before lease number w few u wide = record {
+  whole = record { stands = u.stands ∙ w.stands; value = subst (λ (s : Option (Slot AcceptEnd Outcome)). HasValue s lease.outcome lease.ends) (sym u.slot) w.value };
+  called = subst (λ (ns : List ℕ). greatest ns < number) (sym u.called) few;
+  wide = wide;
+}

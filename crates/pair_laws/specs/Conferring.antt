@@ -1,0 +1,64 @@
+-- A client's talk over calls that may differ: each in its order, the end of the context, and the
+-- creation before them. `converses` and `talk` are its case of a list that repeats one call.
+use Rattle.std.specs.Prelude.{◌≡◌, ℕ, ◌==◌, if◌then◌else◌, List, [], ◌∷◌, take, drop, replicate}
+use Rattle.std.specs.Prelude.{Some, None, Result, Ok, Err}
+use Rattle.gss_client.specs.declared.conversation.Parting.TheVariants.{Finished, Spent, Refused}
+use Rattle.gss_client.specs.declared.procedure.Procedure.{Procedure}
+use Rattle.gss_client.specs.declared.refusal.ClientRefusal.{ClientRefusal}
+use Rattle.gss_client.specs.declared.start.Start.{Start}
+use Rattle.gss_client.specs.Conversation.{Conversed, leaves, goes_on, converses, Talk, by_session}
+use Rattle.gss_client.specs.Conversation.{talk}
+use Rattle.gss_client.specs.Procedure.{procedure_number}
+use Rattle.gss_client.specs.Session.{SessionState}
+use Rattle.gss_client.specs.Talk.{created_from, calls, destroys}
+use Rattle.gss_client.specs.Talking.{Said}
+
+-- a call that is due: a procedure, and its arguments
+pub record DueCall : Type 0 where
+  pub procedure : Procedure
+  pub args : List ℕ
+
+-- ---- the calls of a session, and the end of its context
+
+-- each of these calls, with the next 16 random octets as its confounder, and then the destruction.
+-- Where a call is due and the numbers are spent, it isn't made, and the context is destroyed.
+unfoldable pub confers : List DueCall → SessionState → List ℕ → List ℕ → Conversed
+confers [] s draws stream = leaves Finished draws (destroys s stream)
+confers (call ∷ later) s draws stream =
+    if s.number == 0x80000000 then leaves Spent draws (destroys s stream)
+    else (let said : Said (SessionState × List ℕ) =
+    calls s (procedure_number call.procedure) call.args (take 16 draws) stream in
+    goes_on call.procedure said.written (drop 16 draws) said.rest (confers later) said.answer)
+
+-- ---- a whole session
+
+-- a talk by what its creation answered: with a session these calls follow, without one it ends
+abbrev pub by_opening : List DueCall → List ℕ → List ℕ → List ℕ
+    → Result SessionState ClientRefusal → Talk
+by_opening due draws written rest (Ok s) =
+    by_session written (Some s.outcome) (confers due s draws rest)
+by_opening due draws written rest (Err refusal) = record {
+  written = written;
+  outcome = None;
+  results = [];
+  parting = Refused refusal;
+  undrawn = draws;
+  rest = rest;
+}
+
+-- the creation of a context from this start, these calls, and the destruction
+unfoldable pub talk_of : Start → List DueCall → List ℕ → List ℕ → Talk
+talk_of start due draws stream =
+    let said : Said SessionState = created_from start stream in
+    by_opening due draws said.written said.rest said.answer
+
+-- ---- equal calls
+
+-- so many calls of a procedure with the same arguments are a list that repeats one call
+pub record EqualCalls : Type 0 where
+  pub calls_are : (times : ℕ) (call : DueCall) (s : SessionState) (draws stream : List ℕ)
+      → converses times call.procedure call.args s draws stream
+      ≡ confers (replicate times call) s draws stream
+  pub session_is : (start : Start) (times : ℕ) (call : DueCall) (draws stream : List ℕ)
+      → talk start times call.procedure call.args draws stream
+      ≡ talk_of start (replicate times call) draws stream

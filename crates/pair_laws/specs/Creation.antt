@@ -1,0 +1,168 @@
+-- A creation in a row: a session is created over a book in which no context lives, and nobody else
+-- asks the book anything meanwhile.
+use Rattle.std.specs.Prelude.{◌≡◌, ◌≢◌, ◌⊎◌, ℕ, ◌+◌, ◌*◌, ◌<◌, ◌≤◌, ◌^◌, Bool, true, false}
+use Rattle.std.specs.Prelude.{◌||◌, is_some, List, [], ◌∷◌, ◌++◌, length, map, take, Option}
+use Rattle.std.specs.Prelude.{Some, Ok}
+use Rattle.std.specs.List.{AllByRecursion, flat_map}
+use Rattle.gss_base.specs.Mech.{is_kerberos}
+use Rattle.gss_base.specs.declared.mark.Mark.{Mark}
+use Rattle.gss_base.specs.declared.mech.MechKind.{MechKind}
+use Rattle.rpc_msgs.specs.Records.{Fragments}
+use Rattle.rpcsec_bodies.specs.declared.service.Service.{Service}
+use Rattle.spnego_core.specs.Accepting.{step_of, mark_asked}
+use Rattle.spnego_core.specs.Exchange.{HonestPair}
+use Rattle.spnego_core.specs.declared.accept_end.AcceptEnd.{AcceptEnd}
+use Rattle.spnego_core.specs.declared.accept_end.AcceptPause.{AcceptPause}
+use Rattle.spnego_core.specs.declared.accept_end.AcceptStep.TheVariants as steps
+use Rattle.spnego_core.specs.declared.outcome.Outcome.{Outcome}
+use Rattle.spnego_core.specs.declared.setup.AcceptSetup.{AcceptSetup}
+use Rattle.accept_book.specs.Booking.{BookOf, token_size, later_step}
+use Rattle.accept_book.specs.Entering.{noted}
+use Rattle.accept_book.specs.History.{numbers, posts}
+use Rattle.accept_book.specs.RecordShown.{KeptAnswers}
+use Rattle.accept_book.specs.Replays.{Accepting}
+use Rattle.accept_book.specs.declared.book_answer.BookRefusal.{BookRefusal}
+use Rattle.accept_book.specs.declared.book_answer.NegAnswer.TheVariants.{Refused}
+use Rattle.accept_book.specs.declared.book_answer.Negotiated.{Negotiated}
+use Rattle.accept_book.specs.declared.entry.Entry.{Entry}
+use Rattle.accept_book.specs.declared.entry.Entry.TheVariants.{Opened, Went, Settled}
+use Rattle.gss_client.specs.Talk.{created_from}
+use Rattle.gss_client.specs.declared.start.Start.{Start}
+use Rattle.gss_server.specs.Connections.{octets_of}
+use Rattle.pair_laws.specs.Booked.{Around, end_in}
+use Rattle.pair_laws.specs.Honest.{occasion_of, HonestExchange}
+use Rattle.pair_laws.specs.Laws.{IsBehind}
+use Rattle.pair_laws.specs.Opening.{creation_of}
+use Rattle.pair_laws.specs.Resting.{RestsAt, MarksRest, HoldsOne}
+use Rattle.pair_laws.specs.Rows.{InRow, AreCuts, answers_of}
+use Rattle.pair_laws.specs.Running.{Turn, heard_in}
+
+-- how the book stands around a turn
+abbrev pub around_of : Turn → Around
+around_of turn = record { before = turn.before.core; after = turn.after.core }
+
+-- the records of turns
+abbrev pub records_of : List Turn → List (List ℕ)
+records_of turns = map (λ turn. turn.octets) turns
+
+-- the mark that the token of the record asks for, where it does, is of this moment
+abbrev pub MarksOn : AcceptSetup → ℕ → Turn → Type 0
+MarksOn setup moment turn =
+    (service : Service) (xid : ℕ) (id : Option ℕ) (token : List ℕ) (pause : AcceptPause)
+    → turn.octets ≡ creation_of service xid id token
+    → step_of (later_step setup (end_in turn.before.core.table id) token turn.kept.now
+    (take 66 turn.kept.draws)) ≡ Ok (steps.WantsAuth pause)
+    → (mark_asked pause).at ≡ moment
+
+-- an answer to a token came at this moment, with a token of at most 65,536 octets
+pub record IsOpening (moment : ℕ) (kept : KeptAnswers) : Type 0 where
+  pub now : kept.now ≡ moment
+  pub size : (answer : Negotiated) → kept.negotiated ≡ Some answer
+      → token_size answer.answer ≤ 65536
+
+-- the answer is no refusal
+abbrev pub IsUnrefused : KeptAnswers → Type 0
+IsUnrefused kept = (answer : Negotiated) (refusal : BookRefusal)
+    → kept.negotiated ≡ Some answer → answer.answer ≢ Refused refusal
+
+-- at rest at most one mark an id was taken, the cache has room for one more, and each mark that
+-- these tokens ask for is of this moment, and so is taken
+pub record AreTimed (setup : AcceptSetup) (count moment : ℕ) (core : Accepting AcceptEnd Outcome)
+    (front : List Turn) : Type 0 where
+  pub rest : MarksRest count moment core
+  pub room : count < core.cache.capacity
+  pub on : AllByRecursion (MarksOn setup moment) front
+
+-- whether a mark of an authenticator is among these
+abbrev pub is_marked : List (Option Mark) → Bool
+is_marked [] = false
+is_marked (mark ∷ marks) = is_some mark || is_marked marks
+
+-- a history behind the tokens of a creation at this moment, each with the mark that was taken for
+-- it: the first one opens the context, each later one goes on with it, and the last settles it;
+-- `begun` says that the context was opened before
+abbrev pub history_with : ℕ → ℕ → Entry → Bool → List (Option Mark) → List Entry → List Entry
+history_with id at settled begun [] h = h
+history_with id at settled false (mark ∷ []) h = settled ∷ noted mark id at (Opened id at ∷ h)
+history_with id at settled true (mark ∷ []) h = settled ∷ noted mark id at h
+history_with id at settled false (mark ∷ next ∷ marks) h =
+    history_with id at settled true (next ∷ marks) (noted mark id at (Opened id at ∷ h))
+history_with id at settled true (mark ∷ next ∷ marks) h =
+    history_with id at settled true (next ∷ marks) (Went id at ∷ noted mark id at h)
+
+-- the history that a creation by these tokens leaves: it took a mark exactly by Kerberos
+pub record Enters (id moment : ℕ) (kind : MechKind) (tokens : ℕ) (old new : List Entry) : Type 0
+  where
+    pub marks : List (Option Mark)
+    pub counted : length marks ≡ tokens
+    pub marked : is_marked marks ≡ is_kerberos kind
+    pub names : List ℕ
+    pub lasts : ℕ
+    pub is : new ≡ history_with id moment (Settled id kind names lasts moment) false marks old
+
+-- the limits are as before
+pub record SameLimits (old new : BookOf) : Type 0 where
+  pub setup : new.setup ≡ old.setup
+  pub limit : new.core.limit ≡ old.core.limit
+  pub width : new.core.width ≡ old.core.width
+  pub contexts : new.core.table.limit ≡ old.core.table.limit
+  pub capacity : new.core.cache.capacity ≡ old.core.cache.capacity
+
+-- turns in a row from a book at rest with places: those of a creation by an honest pair, with which
+-- a session's writing and hearing begins, and those behind it; what was written reads as their
+-- records, however these are cut
+pub record IsCreation (width lasts : ℕ) (start : Start) (kind : MechKind) (count moment : ℕ)
+    (stream more : List ℕ) (old new : BookOf) (front back : List Turn) (records : List Fragments)
+    (tail rest : List ℕ) : Type 0 where
+  pub rests : RestsAt count moment old.core
+  pub some_width : 0 < width
+  pub width_fits : width < 2 ^ 32
+  pub number : count + 1 < 2 ^ 64
+  pub pair : HonestPair old.setup start.setup kind (map occasion_of (answers_of front))
+  pub opening : AllByRecursion (IsOpening moment) (answers_of front)
+  -- the marks that the tokens ask for are taken: by their time, or since no token was refused
+  pub marks : AreTimed old.setup count moment old.core front
+      ⊎ AllByRecursion IsUnrefused (answers_of front)
+  pub row : InRow width lasts old (front ++ back) new
+  pub log : length old.core.history + 4 * length front ≤ old.core.limit
+  pub table : 0 < old.core.table.limit
+  pub cuts : AreCuts records (front ++ back)
+  pub written : (created_from start stream).written ++ more ≡ octets_of records ++ tail
+  pub heard : stream ≡ flat_map (heard_in width) (front ++ back) ++ rest
+
+-- the exchange is honest, over these turns and no others; a book stands behind it in which the new
+-- context alone lives, with the next id; no call of it was made, and nobody posted meanwhile
+pub record CreationRuns (width lasts : ℕ) (start : Start) (kind : MechKind) (count moment : ℕ)
+    (stream more : List ℕ) (old new : BookOf) (front back : List Turn) (records : List Fragments)
+    (tail rest : List ℕ) : Type 0 where
+  pub exchange : HonestExchange old.setup width start stream
+  pub kind_is : exchange.kind ≡ kind
+  pub answers : exchange.answers ≡ answers_of front
+  pub books : exchange.books ≡ map around_of front
+  pub left : exchange.converses.rest ≡ flat_map (heard_in width) back ++ rest
+  pub records_are : exchange.converses.records ≡ records_of front
+  pub others : List Fragments
+  pub cuts : AreCuts others back
+  pub wrote : more ≡ octets_of others ++ tail
+  pub middle : BookOf
+  pub behind : IsBehind (answers_of front) (map around_of front) middle.core
+  pub row : InRow width lasts middle back new
+  pub limits : SameLimits old middle
+  pub enters : Enters (count + 1) moment kind (length front) old.core.history middle.core.history
+  pub grown : length middle.core.history ≤ length old.core.history + 4 * length front
+  pub posted : posts middle.core.history ≡ posts old.core.history
+  pub holds : (later : ℕ) → moment < later → HoldsOne (count + 1) (count + 1) later middle.core
+  pub marks : AreTimed old.setup count moment old.core front → (later : ℕ) → moment < later
+      → MarksRest (count + 1) later middle.core
+  pub unused : numbers (count + 1) middle.core.history ≡ []
+
+-- every creation in a row is an honest exchange
+abbrev pub CreationLaw : Type 0
+CreationLaw =
+    (width lasts : ℕ) (start : Start) (kind : MechKind) (count moment : ℕ)
+    (stream more : List ℕ) (old new : BookOf) (front back : List Turn) (records : List Fragments)
+    (tail rest : List ℕ)
+    → IsCreation width lasts start kind count moment stream more old new front back records tail
+    rest
+    → CreationRuns width lasts start kind count moment stream more old new front back records tail
+    rest

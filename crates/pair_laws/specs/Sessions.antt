@@ -1,0 +1,109 @@
+-- A session's run against an acceptor's book, of calls that may differ: each of them, and the end
+-- of the context, over the book that created it.
+use Rattle.std.specs.Prelude.{◌≡◌, ℕ, ◌+◌, ◌*◌, ◌<◌, ◌≤◌, true, List, [], ◌∷◌, ◌++◌, length, take}
+use Rattle.std.specs.Prelude.{drop, Some}
+use Rattle.std.specs.List.{AllByRecursion, flat_map}
+use Rattle.krb_derive.specs.declared.key.Key.{Key}
+use Rattle.rpc_msgs.specs.Records.{last_fragment}
+use Rattle.seq_window.specs.Marks.{greatest}
+use Rattle.spnego_core.specs.declared.setup.AcceptSetup.{AcceptSetup}
+use Rattle.accept_book.specs.History.{numbers, posts}
+use Rattle.accept_book.specs.Honest.{IsOctets}
+use Rattle.accept_book.specs.Served.{are_args, result_of}
+use Rattle.accept_book.specs.declared.book_answer.Lease.{Lease}
+use Rattle.rpcsec_bodies.specs.declared.service.Service.{Service}
+use Rattle.rpcsec_bodies.specs.declared.service.Service.TheVariants as services
+use Rattle.gss_client.specs.declared.start.Start.{Start}
+use Rattle.gss_client.specs.Procedure.{procedure_number}
+use Rattle.pair_laws.specs.Booked.{id_in}
+use Rattle.pair_laws.specs.Conferring.{DueCall, confers, talk_of}
+use Rattle.pair_laws.specs.Honest.{HonestExchange}
+use Rattle.pair_laws.specs.HonestCalls.{session_on}
+use Rattle.pair_laws.specs.Laws.{Completes}
+use Rattle.pair_laws.specs.Live.{lease_on}
+use Rattle.pair_laws.specs.Running.{Turn, sent_in, heard_in, Serves, IsName, calls_made}
+use Rattle.pair_laws.specs.Running.{parting_of, IsLogged, IsGone}
+
+-- ---- what the session asks for
+
+-- a call has its procedure's own arguments, and the service protects it unless the procedure is 0
+pub record IsProper (service : Service) (call : DueCall) : Type 0 where
+  pub proper : are_args (procedure_number call.procedure) call.args ≡ true
+  pub protected : service ≡ services.None → procedure_number call.procedure ≡ 0
+  pub size : length call.args ≤ 65540
+  pub octets : IsOctets call.args
+
+-- proper calls from a number on, with random octets of which there are 16 for each
+pub record ArePlanned (service : Service) (first : ℕ) (due : List DueCall)
+    (confounders : List ℕ) : Type 0 where
+  pub first_fits : first ≤ 0x80000000
+  pub each : AllByRecursion (IsProper service) due
+  pub octets : IsOctets confounders
+  pub enough : 16 * length due ≤ length confounders
+
+-- behind its creation a session makes these calls: it writes records and hears the replies to them,
+-- from the book that settled its context, of which no number from the first on was called yet
+pub record HonestSession (setup : AcceptSetup) (width : ℕ) (start : Start) (stream : List ℕ)
+    (x : HonestExchange setup width start stream) (c : Completes setup width start stream x)
+    (due : List DueCall) (confounders : List ℕ) : Type 0 where
+  pub turns : List Turn
+  pub rest : List ℕ
+  pub written : (confers due
+      (session_on (lease_on (id_in x.books) c.outcome c.lasts) start.service start.first
+      (1 + length x.answers)) confounders x.converses.rest).written ≡ flat_map sent_in turns
+  pub heard : x.converses.rest ≡ flat_map (heard_in width) turns ++ rest
+  pub served : Serves width (lease_on (id_in x.books) c.outcome c.lasts) c.core turns
+  pub unused : greatest (numbers (id_in x.books) c.core.history) < start.first
+  pub planned : ArePlanned start.service start.first due confounders
+  pub name : IsName c.outcome.initiator
+
+-- ---- what comes of it
+
+-- the calls of a list that are made from a number on: all, or as many as numbers are left
+abbrev pub made_of : ℕ → List DueCall → List DueCall
+made_of first due = take (calls_made first (length due)) due
+
+-- the service's results of these calls, each by the posts that the log has with it
+abbrev pub results_in : List DueCall → List ℕ → List Turn → List (List ℕ)
+results_in [] name turns = []
+results_in (call ∷ later) name [] = []
+results_in (call ∷ later) name (turn ∷ turns) =
+    result_of (procedure_number call.procedure) call.args name (posts turn.after.core.history)
+    ∷ results_in later name turns
+
+-- these calls, the first with this number and each with the next one, and then the destruction
+abbrev pub AreLogged : ℕ → Lease → List DueCall → ℕ → List Turn → Type 0
+AreLogged width lease [] number [] = ⊥
+AreLogged width lease [] number (last ∷ []) = IsGone width lease number last
+AreLogged width lease [] number (turn ∷ next ∷ turns) = ⊥
+AreLogged width lease (call ∷ later) number [] = ⊥
+AreLogged width lease (call ∷ later) number (turn ∷ turns) =
+    IsLogged width lease number (procedure_number call.procedure) call.args turn
+    × AreLogged width lease later (number + 1) turns
+
+-- the session agrees on the outcome, is answered the service's results, parts with all calls made
+-- or its numbers spent, and leaves the rest of the stream and of the random octets; the book has
+-- each call in its log, and has destroyed the context
+pub record SessionRuns (setup : AcceptSetup) (width : ℕ) (start : Start) (stream : List ℕ)
+    (x : HonestExchange setup width start stream) (c : Completes setup width start stream x)
+    (due : List DueCall) (confounders : List ℕ)
+    (r : HonestSession setup width start stream x c due confounders) : Type 0 where
+  pub session : talk_of start due confounders stream ≡ record {
+    written = flat_map last_fragment x.converses.records ++ flat_map sent_in r.turns;
+    outcome = Some c.outcome;
+    results = results_in (made_of start.first due) c.outcome.initiator r.turns;
+    parting = parting_of start.first (length due);
+    undrawn = drop (16 * calls_made start.first (length due)) confounders;
+    rest = r.rest;
+  }
+  pub logged : AreLogged width (lease_on (id_in x.books) c.outcome c.lasts)
+      (made_of start.first due) start.first r.turns
+
+-- every honest session on this key is complete
+abbrev pub SessionLaw : Key → Type 0
+SessionLaw key =
+    (setup : AcceptSetup) (width : ℕ) (start : Start) (stream : List ℕ)
+    (x : HonestExchange setup width start stream) (c : Completes setup width start stream x)
+    (due : List DueCall) (confounders : List ℕ) → c.outcome.key ≡ key
+    → (r : HonestSession setup width start stream x c due confounders)
+    → SessionRuns setup width start stream x c due confounders r
