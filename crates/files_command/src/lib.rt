@@ -10,6 +10,7 @@ mod refusal;
 mod running;
 mod words;
 
-pub use making::DRAWS;
+pub use keytab_file::{ServiceKey, write_keytab};
+pub use making::{DRAWS, credential_for};
 pub use refusal::NoFile;
 pub use running::{FilesEnd, run_files};

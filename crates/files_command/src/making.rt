@@ -173,9 +173,10 @@ fn confounder_of(draws: &[u8; DRAWS]) -> [u8; 16]
     octets
 }
 
-/// The credential of a new session key, from one second until another.
+/// The credential of a new session key, from one second since 1970 until another. The session key, of the server's type, is drawn, and
+/// the confounder of the ticket's seal. Usage where the ticket is longer than a cache may hold.
 #[tactic(auto, unfolding(crate::specs::Making::credential_for))]
-fn credential_for(
+pub fn credential_for(
     alloc: Global,
     client: Principal,
     service: ServiceKey,

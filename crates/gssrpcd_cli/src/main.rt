@@ -1,10 +1,11 @@
-//! The server's program: makes the real devices and runs the server over them.
+//! The server's program: makes the real devices and runs the server over them, or a drill, which needs none but the standard streams.
 #![tactic(auto)]
 
 ghost use Rattle.std.specs.Prelude.{IfOk};
 ghost use Rattle.std.specs.List.{AllByRecursion};
 ghost use Rattle.server_command.specs.Desks.{IsFresh};
 
+use drill_command::{is_drill, run_drill};
 use gss_server::{KeepNothing, KeepReceipts};
 use sec_base::{Clock, Port, Text};
 use server_command::{Desk, address_of, run_server};
@@ -146,7 +147,14 @@ where
     }
 }
 
-/// Runs the server over the devices that the words ask for. The host is the runtime once more, which makes threads and waits for them.
+/// Holds a drill, and prints what it comes to.
+fn drill(rt: HostRuntime, words: &[Text]) -> u8 {
+    let mut out = StdSink::output(rt.stdout());
+    let mut err = StdSink::error(rt.stderr());
+    run_drill(rt.alloc(), words, &mut out, &mut err).status
+}
+
+/// Holds a drill, or runs the server over the devices that the words ask for. The host is the runtime once more, which makes threads and waits for them.
 fn status<R>(rt: HostRuntime, host: R) -> u8
 where
     R: Net<Stream = TcpStream, Listener = TcpListener> + Threads + Wait + Sync + Copy + Drop,
@@ -156,6 +164,9 @@ where
         Err(WordsRefusal::NotText) => return NOT_STARTED,
         Err(WordsRefusal::NoMemory) => return OUT_OF_MEMORY,
     };
+    if is_drill(words.as_slice()) {
+        return drill(rt, words.as_slice());
+    }
     match address_of(words.as_slice()) {
         None | Some("stdio") => over_standard_streams(rt, &host, words.as_slice()),
         Some(address) => over_listener(rt, host, words.as_slice(), address),

@@ -1,0 +1,32 @@
+use Rattle.std.proofs.Common.{◌≡◌, ◌∙◌, ap, arith, Option, Some, None}
+use Rattle.drill_command.specs.declared.words.Plan.{Plan}
+use Rattle.drill_command.specs.Sessions.{session_count}
+use Rattle.drill_command.proofs.Saying.{known-said}
+use Rattle.drill_command.proofs.drill.run_drill.Goals as goal
+
+same-plan : {read : Option Plan} {one other : Plan} → Some one ≡ read → read ≡ Some other → one ≡ other
+same-plan here there = cc
+
+none-some : {read : Option Plan} {one : Plan} → Some one ≡ read → read ≡ None → ⊥
+none-some here there = cc
+
+pub returns-in-Some-clause-usage : goal.returns-in-Some-clause-usage
+returns-in-Some-clause-usage g c = λ e. absurd (let is : c.run_plan.result.status ≡ 8 = c.run_plan.ensures.status (λ z. omega (arith, e)) (λ z. omega (arith, e)) in omega (arith, e, is))
+
+pub returns-in-Some-clause-always_usage : goal.returns-in-Some-clause-always_usage
+returns-in-Some-clause-always_usage g c = λ none other. absurd (none-some c.in-Some.ensures.value none)
+
+pub returns-in-Some-clause-status : goal.returns-in-Some-clause-status
+returns-in-Some-clause-status g c = λ some usage other. c.run_plan.ensures.status some other
+
+pub returns-in-Some-clause-said : goal.returns-in-Some-clause-said
+returns-in-Some-clause-said g c = λ t. let s = c.run_plan.ensures.said t in (s.0, rw (← c.in-Some.ensures.value) s.1)
+
+pub returns-in-Some-clause-unheld : goal.returns-in-Some-clause-unheld
+returns-in-Some-clause-unheld g c = λ none. absurd (none-some c.in-Some.ensures.value none)
+
+pub returns-in-Some-clause-count : goal.returns-in-Some-clause-count
+returns-in-Some-clause-count g c = λ plan is e. c.run_plan.ensures.count e ∙ ap (λ (p : Plan). session_count p.calls) (same-plan c.in-Some.ensures.value is)
+
+pub returns-in-None-clause-said : goal.returns-in-None-clause-said
+returns-in-None-clause-said g c = λ t. (0, rw (← c.in-None.ensures.value) (known-said 2 (omega arith) c.unheld.ensures.status (c.unheld.ensures.said t)))

@@ -1,0 +1,10 @@
+use Rattle.std.proofs.Common.{◌≡◌, ◌≤◌, ◌*◌, vec_len}
+use Rattle.drill_command.specs.Limits.{book_limits, drill_limits}
+use Rattle.drill_command.proofs.sessions.hold_all.Given as goal
+
+abbrev pub invariant-loop-number : goal.invariant-loop-number
+invariant-loop-number l = record {
+  count : vec_len l.course.sessions ≡ l.number;
+  records : l.course.records ≤ vec_len l.course.sessions * 18446744073709551616;
+  limits : book_limits l.course.book ≡ drill_limits;
+}

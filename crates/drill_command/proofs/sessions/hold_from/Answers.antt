@@ -1,0 +1,20 @@
+use Rattle.std.proofs.Common.{◌≡◌, ℕ, Bool, false, List, [], Option, refl}
+use Rattle.std.proofs.Math.Logic.{∥∥₁_map}
+use Rattle.sec_base.specs.Link.{Wire}
+use Rattle.accept_book.specs.RecordShown.{Asked}
+use Rattle.spnego_core.specs.declared.outcome.Outcome.{Outcome}
+use Rattle.gss_client.specs.declared.conversation.Parting.{Parting}
+use Rattle.gss_client.specs.declared.refusal.ClientRefusal.{ClientRefusal}
+use Rattle.gss_client.specs.declared.start.Start.{Start}
+use Rattle.gss_server.specs.declared.answer.Kept.{Kept}
+use Rattle.gate_models.specs.Looping.{Loops}
+use Rattle.pair_laws.specs.Conferring.{DueCall}
+use Rattle.pair_laws.specs.Holding.{TalkedOf}
+use Rattle.drill_command.specs.Held.{early_end, Holds}
+use Rattle.drill_command.proofs.sessions.hold_from.Goals as goal
+
+held : (gained : List Asked → Type 0) (width moment : ℕ) (start : Start) (wanted : List DueCall) (kept : List Kept) (starved : Bool) (outcome : Option Outcome) (results : List (List ℕ)) (ended : Option ClientRefusal) (wire : Wire) (parting : Parting) → TalkedOf false [] [] start wanted (record { taken = []; coming = []; written = [] }) wire outcome results parting → ended ≡ early_end parting → Loops gained width moment wire kept starved → Holds gained width moment start wanted kept starved outcome results ended
+held gained width moment start wanted kept starved outcome results ended wire parting t e l = record { wire = wire; parting = parting; talked = t; ends = e; looped = l }
+
+pub returns : goal.returns
+returns g c = ∥∥₁_map c.into_parts-book.ensures.looped (λ p. held _ _ _ _ _ _ _ _ _ _ _ _ (rw c.in_ok-link.ensures.wire at c.hold_calls-talk.ensures.told refl) c.early_end-ended.ensures (rw (c.requires.width, ← c.requires.moment, ← c.starved-starved.ensures) at p))

@@ -1,0 +1,36 @@
+-- What a session of a drill came to, and what it was answered.
+use Rattle.std.specs.Prelude.{◌≡◌, ℕ, Bool, false, List, [], Option, Some, None}
+use Rattle.sec_base.specs.Link.{Wire}
+use Rattle.accept_book.specs.RecordShown.{Asked}
+use Rattle.spnego_core.specs.declared.outcome.Outcome.{Outcome}
+use Rattle.gss_client.specs.declared.conversation.Parting.{Parting}
+use Rattle.gss_client.specs.declared.conversation.Parting.TheVariants.{Finished, Spent, Foreign}
+use Rattle.gss_client.specs.declared.conversation.Parting.TheVariants.{Refused}
+use Rattle.gss_client.specs.declared.refusal.ClientRefusal.{ClientRefusal}
+use Rattle.gss_client.specs.declared.refusal.ClientRefusal.TheVariants.{BadReply}
+use Rattle.gss_client.specs.declared.refusal.ReplyWhy.TheVariants.{Number, Body}
+use Rattle.gss_client.specs.declared.start.Start.{Start}
+use Rattle.gss_server.specs.declared.answer.Kept.{Kept}
+use Rattle.gate_models.specs.Looping.{Loops}
+use Rattle.pair_laws.specs.Conferring.{DueCall}
+use Rattle.pair_laws.specs.Holding.{TalkedOf}
+
+-- why a session ended early that parted so; one whose calls were all answered didn't
+abbrev pub early_end : Parting → Option ClientRefusal
+early_end Finished = None
+early_end Spent = Some (BadReply Number)
+early_end Foreign = Some (BadReply Body)
+early_end (Refused refusal) = Some refusal
+
+-- the client's talk over some octets, which are those of the link: what it heard are the replies to
+-- what it wrote, each by its kept answer, by windows of this width and at this moment; `gained`
+-- says what was asked for them, and `starved` whether memory was wanted
+pub record Holds (gained : List Asked → Type 0) (width moment : ℕ) (start : Start)
+    (wanted : List DueCall) (kept : List Kept) (starved : Bool) (outcome : Option Outcome)
+    (results : List (List ℕ)) (ended : Option ClientRefusal) : Type 0 where
+  pub wire : Wire
+  pub parting : Parting
+  pub talked : TalkedOf false [] [] start wanted
+      (record { taken = []; coming = []; written = [] }) wire outcome results parting
+  pub ends : ended ≡ early_end parting
+  pub looped : Loops gained width moment wire kept starved

@@ -1,0 +1,167 @@
+//! The run of a drill.
+
+ghost use Rattle.std.specs.Prelude.{◌≡◌, ◌≢◌, ◌⊎◌, ◌≤◌, ℕ, [], length, Some, None, IfOk};
+ghost use Rattle.std.specs.Prelude.{IsTrue, string_bytes, reverse, vec_len};
+ghost use Rattle.accept_book.specs.Legal.{Legal};
+ghost use Rattle.sec_base.specs.Answers.{Rose};
+ghost use Rattle.cli_base.specs.Lines.{SaysLine, Says};
+ghost use Rattle.drill_command.specs.Lines.{drill_text, served_line, due_line, Prints, no_log};
+ghost use Rattle.drill_command.specs.Limits.{log_limits, drill_limits};
+ghost use Rattle.drill_command.specs.Sessions.{session_count};
+ghost use Rattle.drill_command.specs.Words.{plan_of};
+
+use crate::lines::{served, summary};
+use crate::session::DrillSession;
+use crate::sessions::{Drilled, hold_all};
+use crate::words::{Plan, read_plan};
+use accept_book::Log;
+use cli_base::{OUT_OF_MEMORY, say};
+use sec_base::{NoMemory, Sink, Text};
+use std::alloc::Global;
+
+/// The line of status 2.
+const USAGE: &str =
+    "usage: gssrpcd ADDRESS --keytab FILE --verifiers FILE --name PRINCIPAL [options]\n";
+
+/// What a drill came to.
+#[derive(Drop)]
+pub struct DrillEnd {
+    /// The exit status: 0 all sessions were held, 2 the words aren't in the command, 6 a sink failed, 8 there was no memory.
+    pub status: u8,
+    /// What the sessions came to, in order; none where no drill was held to its end.
+    pub sessions: Vec<DrillSession>,
+    /// The log of the book, which is empty and has no limits where no drill was held to its end.
+    pub log: Log,
+}
+
+/// Says why no drill was held to its end.
+fn unheld<O: Sink>(alloc: Global, err: &mut O, status: u8, line: &str) -> DrillEnd
+    requires { status ≢ 6 }
+    ensures status { result.status ≢ 6 → result.status ≡ status }
+    ensures fault { result.status ≡ 6 → Rose (O.faults err.old) (O.faults err.new) }
+    ensures said { IsTrue (O.tells err.old)
+        → SaysLine (O.written err.old) (O.written err.new) result.status line.now }
+    ensures sessions { result.sessions.items ≡ [] }
+    ensures log { result.log ≡ no_log }
+{
+    let status = say(err, status, line);
+    DrillEnd {
+        status,
+        sessions: Vec::new(alloc),
+        log: Log::empty(alloc),
+    }
+}
+
+/// Prints the lines of a drill, and then the server's line. The status is 0, or 6 where a sink failed.
+fn print<O: Sink>(lines: &str, line: &str, out: &mut O, err: &mut O) -> u8
+    ensures status { result ≢ 6 → result ≡ 0 }
+    ensures fault { result ≡ 6
+        → Rose (O.faults out.old) (O.faults out.new) ⊎ Rose (O.faults err.old) (O.faults err.new) }
+    ensures printed { IsTrue (O.tells out.old)
+        → Prints (O.written out.old) (O.written out.new) result lines.now }
+    ensures said { IsTrue (O.tells err.old)
+        → Says (O.written err.old) (O.written err.new) result line.now }
+{
+    match out.write(lines.as_bytes()) {
+        Ok(()) => say(err, 0, line),
+        Err(_) => 6,
+    }
+}
+
+/// The lines of a drill, and the server's line.
+fn texts_of(alloc: Global, drilled: &Drilled) -> Result<(String, String), NoMemory>
+    ensures summary { IfOk result (λ texts. string_bytes texts.0
+        ≡ drill_text drilled.now.sessions.items drilled.now.log.entries) }
+    ensures line { IfOk result (λ texts. string_bytes texts.1
+        ≡ served_line (length drilled.now.sessions.items) drilled.now.records
+        (length drilled.now.log.entries)) }
+{
+    let sessions = drilled.sessions.as_slice();
+    let log = drilled.log.entries();
+    let lines = summary(alloc, sessions, log)?;
+    let line = served(alloc, sessions.len(), drilled.records, log.len())?;
+    Ok((lines, line))
+}
+
+/// Prints what a drill came to.
+fn report<O: Sink>(alloc: Global, drilled: Drilled, out: &mut O, err: &mut O) -> DrillEnd
+    requires { Legal drilled.log.width (reverse drilled.log.entries) }
+    ensures status { result.status ≢ 0 → result.status ≢ 6 → result.status ≡ 8 }
+    ensures fault { result.status ≡ 6
+        → Rose (O.faults out.old) (O.faults out.new) ⊎ Rose (O.faults err.old) (O.faults err.new) }
+    ensures printed { IsTrue (O.tells out.old) → Prints (O.written out.old) (O.written out.new)
+        result.status (drill_text result.sessions.items result.log.entries) }
+    ensures said { IsTrue (O.tells err.old) → Says (O.written err.old) (O.written err.new)
+        result.status (served_line (length result.sessions.items) drilled.records
+        (length result.log.entries)) }
+    ensures held { result.status ≡ 0 → result.sessions ≡ drilled.sessions }
+    ensures log { result.status ≡ 0 → result.log ≡ drilled.log }
+    ensures legal { Legal result.log.width (reverse result.log.entries) }
+{
+    match texts_of(alloc, &drilled) {
+        Ok((lines, line)) => {
+            let status = print(lines.as_str(), line.as_str(), out, err);
+            let Drilled { sessions, log, .. } = drilled;
+            DrillEnd {
+                status,
+                sessions,
+                log,
+            }
+        }
+        Err(_) => unheld(alloc, err, 8, OUT_OF_MEMORY),
+    }
+}
+
+/// Holds a drill and prints what it came to.
+fn run_plan<O: Sink>(alloc: Global, plan: Plan, out: &mut O, err: &mut O) -> DrillEnd
+    requires { plan.calls ≤ 100000 }
+    ensures status { result.status ≢ 0 → result.status ≢ 6 → result.status ≡ 8 }
+    ensures fault { result.status ≡ 6
+        → Rose (O.faults out.old) (O.faults out.new) ⊎ Rose (O.faults err.old) (O.faults err.new) }
+    ensures printed { IsTrue (O.tells out.old) → Prints (O.written out.old) (O.written out.new)
+        result.status (drill_text result.sessions.items result.log.entries) }
+    ensures said { IsTrue (O.tells err.old)
+        → (records : ℕ) × Says (O.written err.old) (O.written err.new) result.status
+        (served_line (length result.sessions.items) records (length result.log.entries)) }
+    ensures count { result.status ≡ 0
+        → vec_len result.sessions ≡ session_count plan.calls }
+    ensures legal { Legal result.log.width (reverse result.log.entries) }
+    ensures limits { result.status ≡ 0 → log_limits result.log ≡ drill_limits }
+{
+    match hold_all(alloc, plan) {
+        Ok(drilled) => report(alloc, drilled, out, err),
+        Err(_) => unheld(alloc, err, 8, OUT_OF_MEMORY),
+    }
+}
+
+/// Holds the drill that the words ask for, `drill SEED CALLS`: sessions of a client with a server, in one thread and with nothing from
+/// outside. Prints on `out` what they came to, and says on `err` what the server served.
+pub fn run_drill<O: Sink>(alloc: Global, words: &[Text], out: &mut O, err: &mut O) -> DrillEnd
+    // The words are refused exactly where they aren't in the command; else the status is 0, want of memory aside.
+    ensures usage { result.status ≡ 2 → plan_of words.now ≡ None }
+    ensures always_usage { plan_of words.now ≡ None → result.status ≢ 6 → result.status ≡ 2 }
+    ensures status { result.status ≢ 0 → result.status ≢ 2 → result.status ≢ 6
+        → result.status ≡ 8 }
+    ensures sink_fault { result.status ≡ 6
+        → Rose (O.faults out.old) (O.faults out.new) ⊎ Rose (O.faults err.old) (O.faults err.new) }
+    // What is printed is told by the sessions and the log that are returned, and the line on `err` too, but for the count of records.
+    ensures printed { IsTrue (O.tells out.old) → Prints (O.written out.old) (O.written out.new)
+        result.status (drill_text result.sessions.items result.log.entries) }
+    ensures said { IsTrue (O.tells err.old)
+        → (records : ℕ) × Says (O.written err.old) (O.written err.new) result.status
+        (due_line (plan_of words.now) (length result.sessions.items) records
+        (length result.log.entries)) }
+    // Words that are refused hold no session, and a drill that ends holds as many as its calls take. The log is legal, and was kept under the
+    // server's usual limits.
+    ensures unheld { plan_of words.now ≡ None
+        → (result.sessions.items ≡ []) × (result.log ≡ no_log) }
+    ensures count { (plan : Plan) → plan_of words.now ≡ Some plan → result.status ≡ 0
+        → vec_len result.sessions ≡ session_count plan.calls }
+    ensures legal { Legal result.log.width (reverse result.log.entries) }
+    ensures limits { result.status ≡ 0 → log_limits result.log ≡ drill_limits }
+{
+    match read_plan(words) {
+        Some(plan) => run_plan(alloc, plan, out, err),
+        None => unheld(alloc, err, 2, USAGE),
+    }
+}
