@@ -4,6 +4,8 @@ use Rattle.std.proofs.Math.Seq.{take-append_seam, drop-append_seam}
 use Rattle.std.proofs.lemmas.Bool.{ne_eqb}
 use Rattle.std.proofs.lemmas.List.{append-nil, drop_all}
 use Rattle.sec_base.specs.Link.{Wire}
+use Rattle.accept_book.specs.Honest.{IsOctets}
+use Rattle.aes_cts.proofs.Restored.{append-IsOctets, replicate-IsOctets}
 use Rattle.gss_client.specs.declared.conversation.Parting.{Parting}
 use Rattle.gss_client.specs.declared.conversation.Parting.TheVariants.{Finished, Spent, Foreign, Refused}
 use Rattle.gss_client.specs.declared.procedure.Procedure.{Procedure}
@@ -25,6 +27,7 @@ pub record Held (tells : Bool) (given given' : List ℕ) (every left : List DueC
   pub took : List ℕ
   pub wrote : List ℕ
   pub drawn : List ℕ
+  pub octets : IsOctets drawn
   pub went : Went old new took wrote
   pub draws : IsTrue tells → given' ≡ given ++ drawn
   pub goes : (later stream : List ℕ) → confers every s (drawn ++ later) (took ++ stream) ≡ behind wrote results (confers left state later stream)
@@ -37,6 +40,7 @@ not-begun tells given every left s a results all none =
       took = [];
       wrote = [];
       drawn = [];
+      octets = replicate-IsOctets 0;
       went = went-nothing a;
       draws = λ t. sym (append-nil given);
       goes = λ later stream. refl;
@@ -86,12 +90,13 @@ counted : (call : DueCall) (left : List DueCall) (later wrote rest : List ℕ) (
 counted call left later wrote rest next result e = rw e refl
 
 pub one-call : (tells tells' : Bool) (given new drawn' confounder : List ℕ) (every : List DueCall) (call : DueCall) (left : List DueCall) (s : SessionState) (a b c : Wire) (state next : SessionState) (results : List (List ℕ)) (result : List ℕ)
-    → (IsTrue tells' → IsTrue tells) → (IsTrue tells' → drawn' ≡ new ++ confounder) → length confounder ≡ 16 → (state.number == 0x80000000) ≡ false → Held tells given new every (call ∷ left) s a b state results → Done (calls state (procedure_number call.procedure) call.args confounder) b c (next, result) → is_result call.procedure result ≡ true
+    → (IsTrue tells' → IsTrue tells) → (IsTrue tells' → drawn' ≡ new ++ confounder) → length confounder ≡ 16 → IsOctets confounder → (state.number == 0x80000000) ≡ false → Held tells given new every (call ∷ left) s a b state results → Done (calls state (procedure_number call.procedure) call.args confounder) b c (next, result) → is_result call.procedure result ≡ true
     → Held tells' given drawn' every left s a c next (results ++ result ∷ [])
-one-call tells tells' given new drawn' confounder every call left s a b c state next results result kept told size e h d is = record {
+one-call tells tells' given new drawn' confounder every call left s a b c state next results result kept told size drew e h d is = record {
   took = h.took ++ d.took;
   wrote = h.wrote ++ d.wrote;
   drawn = h.drawn ++ confounder;
+  octets = append-IsOctets h.drawn confounder h.octets drew;
   went = went-again h.went d.went;
   draws = drawn-more tells tells' given new drawn' h.drawn confounder kept told h.draws;
   goes = λ later stream.
@@ -119,9 +124,9 @@ foreign-is : (call : DueCall) (left : List DueCall) (later wrote rest : List ℕ
 foreign-is call left later wrote rest next result e = rw e refl
 
 pub foreign-call : (tells tells' : Bool) (given new drawn' confounder : List ℕ) (every : List DueCall) (call : DueCall) (left : List DueCall) (s : SessionState) (a b c : Wire) (state next : SessionState) (results : List (List ℕ)) (result : List ℕ)
-    → (IsTrue tells' → IsTrue tells) → (IsTrue tells' → drawn' ≡ new ++ confounder) → length confounder ≡ 16 → (state.number == 0x80000000) ≡ false → Held tells given new every (call ∷ left) s a b state results → Done (calls state (procedure_number call.procedure) call.args confounder) b c (next, result) → is_result call.procedure result ≡ false
+    → (IsTrue tells' → IsTrue tells) → (IsTrue tells' → drawn' ≡ new ++ confounder) → length confounder ≡ 16 → IsOctets confounder → (state.number == 0x80000000) ≡ false → Held tells given new every (call ∷ left) s a b state results → Done (calls state (procedure_number call.procedure) call.args confounder) b c (next, result) → is_result call.procedure result ≡ false
     → ConferredOf tells' given drawn' every s a c results Foreign
-foreign-call tells tells' given new drawn' confounder every call left s a b c state next results result kept told size e h d is =
+foreign-call tells tells' given new drawn' confounder every call left s a b c state next results result kept told size drew e h d is =
     let all : (later : List ℕ) → confers every s ((h.drawn ++ confounder) ++ later) ((h.took ++ d.took) ++ c.coming) ≡ conversed (h.wrote ++ d.wrote) results Foreign later c.coming =
     λ later.
     up-to tells given new every call left s a b state results confounder d.took later c.coming h e size
@@ -132,6 +137,7 @@ foreign-call tells tells' given new drawn' confounder every call left s a b c st
       took = h.took ++ d.took;
       wrote = h.wrote ++ d.wrote;
       drawn = h.drawn ++ confounder;
+      octets = append-IsOctets h.drawn confounder h.octets drew;
       went = went-again h.went d.went;
       draws = drawn-more tells tells' given new drawn' h.drawn confounder kept told h.draws;
       front = λ later. is-front _ _ (h.wrote ++ d.wrote) [] results [] (all later) (sym (append-nil (h.wrote ++ d.wrote))) (sym (append-nil results));
@@ -152,9 +158,9 @@ refused-is : (call : DueCall) (left : List DueCall) (later : List ℕ) (one : Sa
 refused-is call left later one refusal e = ap (goes_on call.procedure one.written later one.rest (confers left)) e
 
 pub refused-call : (tells tells' : Bool) (given new drawn' confounder : List ℕ) (every : List DueCall) (call : DueCall) (left : List DueCall) (s : SessionState) (a b c : Wire) (state : SessionState) (results : List (List ℕ)) (refusal : ClientRefusal)
-    → (IsTrue tells' → IsTrue tells) → (IsTrue tells' → drawn' ≡ new ++ confounder) → length confounder ≡ 16 → (state.number == 0x80000000) ≡ false → Held tells given new every (call ∷ left) s a b state results → Stopped (calls state (procedure_number call.procedure) call.args confounder) b c refusal
+    → (IsTrue tells' → IsTrue tells) → (IsTrue tells' → drawn' ≡ new ++ confounder) → length confounder ≡ 16 → IsOctets confounder → (state.number == 0x80000000) ≡ false → Held tells given new every (call ∷ left) s a b state results → Stopped (calls state (procedure_number call.procedure) call.args confounder) b c refusal
     → ConferredOf tells' given drawn' every s a c results (Refused refusal)
-refused-call tells tells' given new drawn' confounder every call left s a b c state results refusal kept told size e h d =
+refused-call tells tells' given new drawn' confounder every call left s a b c state results refusal kept told size drew e h d =
     let one : Said (SessionState × List ℕ) = calls state (procedure_number call.procedure) call.args confounder (d.took ++ c.coming) in
     let all : (later : List ℕ) → confers every s ((h.drawn ++ confounder) ++ later) ((h.took ++ d.took) ++ c.coming) ≡ behind h.wrote results (by_call call left later one) =
     λ later. up-to tells given new every call left s a b state results confounder d.took later c.coming h e size in
@@ -162,6 +168,7 @@ refused-call tells tells' given new drawn' confounder every call left s a b c st
       took = h.took ++ d.took;
       wrote = h.wrote ++ d.wrote;
       drawn = h.drawn ++ confounder;
+      octets = append-IsOctets h.drawn confounder h.octets drew;
       went = went-again h.went d.went;
       draws = drawn-more tells tells' given new drawn' h.drawn confounder kept told h.draws;
       front = λ later.
@@ -185,6 +192,7 @@ no-room tells given given' every left s a b state results h = record {
   took = h.took;
   wrote = h.wrote;
   drawn = h.drawn;
+  octets = h.octets;
   went = h.went;
   draws = h.draws;
   front = λ later. is-front _ _ h.wrote _ results _ (h.goes later b.coming) refl refl;
@@ -221,6 +229,7 @@ leaving tells given given' every left s a b c state results due parting ends h (
       took = h.took ++ d.took;
       wrote = h.wrote ++ d.wrote;
       drawn = h.drawn;
+      octets = h.octets;
       went = went-again h.went d.went;
       draws = h.draws;
       front = λ later. is-front _ _ (h.wrote ++ d.wrote) [] results [] (all later) (sym (append-nil (h.wrote ++ d.wrote))) (sym (append-nil results));
@@ -239,6 +248,7 @@ leaving tells given given' every left s a b c state results due parting ends h (
       took = h.took ++ d.took;
       wrote = h.wrote ++ d.wrote;
       drawn = h.drawn;
+      octets = h.octets;
       went = went-again h.went d.went;
       draws = h.draws;
       front = λ later.

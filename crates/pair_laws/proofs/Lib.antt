@@ -7,7 +7,7 @@ mod Answered
 mod Living
 mod CallTurns
 mod Ended
-mod SessionParts
+pub mod SessionParts
 mod Sessions
 mod Running
 mod Writing
@@ -20,9 +20,9 @@ mod Tokens
 mod Opens
 mod Creations
 mod Whole
-mod Linked
+pub mod Linked
 mod Meetings
 mod InConference
 mod WholeConference
-mod WordsAsked
+pub mod WordsAsked
 mod ClientRuns

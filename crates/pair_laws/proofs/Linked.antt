@@ -1,12 +1,14 @@
 -- A whole session over a link that answers by a book at rest is done.
-use Rattle.std.proofs.Common.{zero, suc, slice_get, ◌≡◌, inr, ℕ, ◌+◌, ◌*◌, ◌<◌, ◌≤◌, refl, ap, sym, subst, ◌∙◌, arith, List, [], ◌++◌, length, map, take, drop, Result, Ok, Err, ◌∷◌, Option, Some}
+use Rattle.std.proofs.Common.{zero, suc, slice_get, ◌≡◌, inr, ℕ, ◌+◌, ◌*◌, ◌<◌, ◌≤◌, refl, ap, sym, subst, ◌∙◌, arith, List, [], ◌++◌, length, length-append, map, replicate, take, drop, Result, Ok, Err, ◌∷◌, Option, Some}
 use Rattle.std.specs.List.{AllByRecursion, flat_map}
-use Rattle.std.proofs.lemmas.List.{append-nil, length-map, length-take, take-append-drop, take-map, drop-map}
+use Rattle.std.proofs.lemmas.List.{append-nil, length-map, length-replicate, length-take, take-append-drop, take-map, drop-map}
+use Rattle.aes_cts.proofs.Restored.{append-IsOctets, replicate-IsOctets}
 use Rattle.gss_base.specs.declared.mech.MechKind.{MechKind}
 use Rattle.krb_derive.specs.declared.key.Key.{Key}
 use Rattle.krb_derive.specs.declared.sealing.SealKeys.{SealKeys}
 use Rattle.krb_derive.specs.Kept.{ForSealing}
 use Rattle.rpc_msgs.specs.Records.{Fragments}
+use Rattle.rpcsec_bodies.specs.declared.service.Service.{Service}
 use Rattle.spnego_core.specs.Exchange.{HonestPair}
 use Rattle.spnego_core.specs.declared.outcome.Outcome.{Outcome}
 use Rattle.accept_book.specs.Booking.{BookOf, token_size}
@@ -31,6 +33,7 @@ use Rattle.pair_laws.specs.Linked.{kept_of, IsTakenAnswer, IsTakenFrom, IsTakenB
 use Rattle.pair_laws.specs.Resting.{IsBy}
 use Rattle.pair_laws.specs.Rows.{InRow, AreCuts, IsKeptBy, answers_of}
 use Rattle.pair_laws.specs.Running.{Turn, heard_in}
+use Rattle.pair_laws.specs.Sessions.{IsProper, ArePlanned}
 use Rattle.pair_laws.specs.Whole.{IsSession, IsLasting}
 use Rattle.pair_laws.proofs.Rows.{answered-turns}
 use Rattle.pair_laws.proofs.Whole.{whole-done}
@@ -101,6 +104,15 @@ each-kept-by moment [] h = tt
 each-kept-by moment (one ∷ answers) h = let here : IsTakenBy moment (kept_answers one) × IsOctets one.draws = h zero one refl in (kept-by moment one here.0 here.1, each-kept-by moment answers (λ i kept e. h (suc i) kept e))
 
 -- ---- the session
+
+-- calls with the octets that were drawn for them and others behind, so that there are enough
+pub planned-on : (service : Service) (first : ℕ) (due : List DueCall) (drawn : List ℕ) → first ≤ 0x80000000 → AllByRecursion (IsProper service) due → IsOctets drawn → ArePlanned service first due (drawn ++ replicate (16 * length due) 0)
+planned-on service first due drawn fits each octets = record {
+  first_fits = fits;
+  each = each;
+  octets = append-IsOctets drawn (replicate (16 * length due) 0) octets (replicate-IsOctets (16 * length due));
+  enough = omega (arith, length-append drawn (replicate (16 * length due) 0), length-replicate {A = ℕ} (16 * length due) 0);
+}
 
 -- the entries of a creation, by equal counts of tokens
 entered-as : (id moment : ℕ) (kind : MechKind) (tokens other : ℕ) (old new : List Entry) → tokens ≡ other → (e : Enters id moment kind tokens old new) → (f : Enters id moment kind other old new) × (f.names ≡ e.names)

@@ -64,7 +64,7 @@ pub word-octets : (n : ℕ) → IsOctets (word n)
 unfolding word
 word-octets n = bytes-octets 4 n
 
-opaque-octets : (xs : List ℕ) → IsOctets xs → IsOctets (opaque xs)
+pub opaque-octets : (xs : List ℕ) → IsOctets xs → IsOctets (opaque xs)
 unfolding opaque
 opaque-octets xs h =
     append-IsOctets (word (length xs)) (xs ++ replicate (padding_length (length xs)) 0) (word-octets (length xs)) (append-IsOctets xs (replicate (padding_length (length xs)) 0) h (replicate-IsOctets (padding_length (length xs))))

@@ -2,6 +2,7 @@
 use Rattle.std.proofs.Common.{◌≡◌, ◌≢◌, inl, inr, ℕ, Bool, List, [], ◌++◌, refl, ap, subst, sym, ◌∙◌, append_assoc, Some, None, Result, Ok, Err}
 use Rattle.std.proofs.lemmas.List.{append-nil}
 use Rattle.sec_base.specs.Link.{Wire}
+use Rattle.aes_cts.proofs.Restored.{replicate-IsOctets}
 use Rattle.spnego_core.specs.declared.outcome.Outcome.{Outcome}
 use Rattle.gss_client.specs.declared.conversation.Parting.{Parting}
 use Rattle.gss_client.specs.declared.conversation.Parting.TheVariants.{Refused}
@@ -40,6 +41,7 @@ held tells given given' start every a b c s results parting d f =
       took = d.took ++ f.took;
       wrote = d.wrote ++ f.wrote;
       drawn = f.drawn;
+      octets = f.octets;
       went = went-again d.went f.went;
       draws = f.draws;
       front = λ later. record {
@@ -77,6 +79,7 @@ unheld tells given start every a c refusal d =
       took = d.took;
       wrote = d.wrote;
       drawn = [];
+      octets = replicate-IsOctets 0;
       went = d.went;
       draws = λ t. sym (append-nil given);
       front = λ later.

@@ -18,7 +18,7 @@ one-read octets h =
     ap (λ (zs : List ℕ). opaque_at 65536 (record { octets = zs; end = end })) (sym (append-nil (opaque octets))) ∙ (opaque_law 65536 (lit< tt)).only octets [] end h in
     rw (read, end-only end) refl
 
-one-fits : (octets : List ℕ) → length octets ≤ 65536 → is_one_opaque (opaque octets) ≡ true
+pub one-fits : (octets : List ℕ) → length octets ≤ 65536 → is_one_opaque (opaque octets) ≡ true
 one-fits octets h = rw (one-read octets h) refl
 
 data-fits : (args : List ℕ) → IsData args → is_one_opaque args ≡ true

@@ -2,6 +2,7 @@
 use Rattle.std.specs.Prelude.{◌≡◌, ◌≢◌, ℕ, Bool, IsTrue, List, ◌++◌, Option}
 use Rattle.sec_base.specs.Link.{Wire}
 use Rattle.spnego_core.specs.declared.outcome.Outcome.{Outcome}
+use Rattle.accept_book.specs.Honest.{IsOctets}
 use Rattle.gss_client.specs.declared.conversation.Parting.{Parting}
 use Rattle.gss_client.specs.declared.conversation.Parting.TheVariants.{Refused}
 use Rattle.gss_client.specs.declared.refusal.ClientRefusal.{ClientRefusal}
@@ -20,6 +21,7 @@ pub record ConferredOf (tells : Bool) (given given' : List ℕ) (due : List DueC
   pub took : List ℕ
   pub wrote : List ℕ
   pub drawn : List ℕ
+  pub octets : IsOctets drawn
   pub went : Went old new took wrote
   pub draws : IsTrue tells → given' ≡ given ++ drawn
   pub front : (later : List ℕ)
@@ -38,6 +40,7 @@ pub record TalkedOf (tells : Bool) (given given' : List ℕ) (start : Start) (du
   pub took : List ℕ
   pub wrote : List ℕ
   pub drawn : List ℕ
+  pub octets : IsOctets drawn
   pub went : Went old new took wrote
   pub draws : IsTrue tells → given' ≡ given ++ drawn
   pub front : (later : List ℕ) → IsTalkFront wrote outcome results

@@ -7,6 +7,7 @@ ghost use Rattle.spnego_core.specs.InitMech.{is_own_list};
 ghost use Rattle.gss_client.specs.Conversing.{Leaves};
 ghost use Rattle.pair_laws.specs.Holding.{ConferredOf, TalkedOf};
 
+use crate::run::tell_octets;
 use gss_client::{ClientRefusal, Conversation, Parting, Procedure, Session, Start, Talk};
 use sec_base::{Draw, Link, Octets};
 use std::alloc::Global;
@@ -117,6 +118,7 @@ fn confer<L: Link, D: Draw>(
         }
         let mut confounder = [0; 16];
         draw.fill(&mut confounder);
+        tell_octets(&confounder);
         let procedure = call.procedure();
         match state.call(alloc, link, procedure.number(), call.octets(), &confounder) {
             Ok((next, result)) => {

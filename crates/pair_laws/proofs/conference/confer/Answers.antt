@@ -34,7 +34,7 @@ returns-then-not-is_result-clause-told g c = λ t.
     let tells : IsTrue (g.L.Link.tells c.loop-call.link) = rw c.loop-call.invariant.tells t in
     let later : List DueCall = drop (c.loop-call.call-index + 1) c.args.due.now in
     foreign-call _ _ _ _ _ c.fill.new.out c.args.due.now c.call-item.result later c.args.session _ _ _ c.loop-call.state c.in-Ok.next c.reserve.new.self.items c.in-Ok.result
-    c.fill.ensures.kept c.fill.ensures.told (omega (arith, c.fill.auto.out))
+    c.fill.ensures.kept c.fill.ensures.told (omega (arith, c.fill.auto.out)) c.tell_octets.ensures
     (is-no-end c.loop-call.state c.next_number.result c.next_number.ensures.value c.if-next_number.false)
     (held-as _ _ _ c.args.due.now (drop c.loop-call.call-index c.args.due.now) (c.call-item.result ∷ later) c.args.session _ _ c.loop-call.state _ _ (next-due c.args.due.now c.loop-call.call-index c.call-item.result c.loop-call-test.true c.call-item.is) (sym c.reserve.ensures.items) (c.loop-call.invariant.told t))
     (by-due c.loop-call.state c.call-item.result c.octets.result.now c.fill.new.out c.number.result c.procedure-procedure.result _ _ (c.in-Ok.next, c.in-Ok.result) c.number.ensures c.procedure-procedure.ensures c.octets.ensures.value (c.in-Ok.ensures.told tells))
@@ -45,7 +45,7 @@ returns-in-Err-clause-told g c = λ t.
     let tells : IsTrue (g.L.Link.tells c.loop-call.link) = rw c.loop-call.invariant.tells t in
     let later : List DueCall = drop (c.loop-call.call-index + 1) c.args.due.now in
     refused-call _ _ _ _ _ c.fill.new.out c.args.due.now c.call-item.result later c.args.session _ _ _ c.loop-call.state c.reserve.new.self.items c.in-Err.refusal
-    c.fill.ensures.kept c.fill.ensures.told (omega (arith, c.fill.auto.out))
+    c.fill.ensures.kept c.fill.ensures.told (omega (arith, c.fill.auto.out)) c.tell_octets.ensures
     (is-no-end c.loop-call.state c.next_number.result c.next_number.ensures.value c.if-next_number.false)
     (held-as _ _ _ c.args.due.now (drop c.loop-call.call-index c.args.due.now) (c.call-item.result ∷ later) c.args.session _ _ c.loop-call.state _ _ (next-due c.args.due.now c.loop-call.call-index c.call-item.result c.loop-call-test.true c.call-item.is) (sym c.reserve.ensures.items) (c.loop-call.invariant.told t))
     (by-due-refused c.loop-call.state c.call-item.result c.octets.result.now c.fill.new.out c.number.result c.procedure-procedure.result _ _ c.in-Err.refusal c.number.ensures c.procedure-procedure.ensures c.octets.ensures.value (c.in-Err.ensures.told tells))
@@ -63,7 +63,7 @@ loop-call-preserved g c = record {
       let later : List DueCall = drop (c.loop-call.call-index + 1) c.args.due.now in
       held-as _ _ _ c.args.due.now later later c.args.session _ _ c.in-Ok.next _ _ refl (sym c.add.ensures)
       (one-call _ _ _ _ _ c.fill.new.out c.args.due.now c.call-item.result later c.args.session _ _ _ c.loop-call.state c.in-Ok.next c.reserve.new.self.items c.in-Ok.result
-      c.fill.ensures.kept c.fill.ensures.told (omega (arith, c.fill.auto.out))
+      c.fill.ensures.kept c.fill.ensures.told (omega (arith, c.fill.auto.out)) c.tell_octets.ensures
       (is-no-end c.loop-call.state c.next_number.result c.next_number.ensures.value c.if-next_number.false)
       (held-as _ _ _ c.args.due.now (drop c.loop-call.call-index c.args.due.now) (c.call-item.result ∷ later) c.args.session _ _ c.loop-call.state _ _ (next-due c.args.due.now c.loop-call.call-index c.call-item.result c.loop-call-test.true c.call-item.is) (sym c.reserve.ensures.items) (c.loop-call.invariant.told t))
       (by-due c.loop-call.state c.call-item.result c.octets.result.now c.fill.new.out c.number.result c.procedure-procedure.result _ _ (c.in-Ok.next, c.in-Ok.result) c.number.ensures c.procedure-procedure.ensures c.octets.ensures.value (c.in-Ok.ensures.told tells))
