@@ -6,10 +6,11 @@ use Rattle.gss_base.specs.Name.{Name}
 use Rattle.krb_derive.specs.declared.key.Key.{Key}
 use Rattle.krb_derive.specs.Key.{type_of_key}
 use Rattle.krb_msgs.specs.declared.enc_ticket_part.EncTicketPart.{EncTicketPart}
+use Rattle.krb_msgs.specs.EncTicketPart.{enc_ticket_part}
 use Rattle.krb_msgs.specs.Ticket.{ticket}
 use Rattle.krb_files.specs.Granted.{Granted}
 use Rattle.ap_exchange.specs.Draws.{drawn_subkey, drawn_confounder}
-use Rattle.ap_exchange.specs.Keys.{key_value}
+use Rattle.ap_exchange.specs.Keys.{key_value, ticket_usage, SealedOpens}
 use Rattle.ap_exchange.specs.Request.{name_value}
 use Rattle.ap_exchange.specs.SealedTicket.{sealed_ticket}
 use Rattle.scram_mech.specs.Verifiers.{made_line}
@@ -49,6 +50,12 @@ unfoldable pub ticket_for : Name → ServiceKey → Key → ℕ → ℕ → List
 ticket_for client service session since until confounder =
     ticket.spell (sealed_ticket service.key service.kvno service.server
     (ticket_part client session (whole_second since) (whole_second until)) confounder)
+
+-- what the ticket of a session key seals opens again under the server's key
+abbrev pub TicketOpens : Name → ServiceKey → Key → ℕ → ℕ → List ℕ → Type 0
+TicketOpens client service session since until confounder =
+    SealedOpens service.key ticket_usage confounder (enc_ticket_part.spell
+    (ticket_part client session (whole_second since) (whole_second until)))
 
 -- a cache holds tickets of at most 60,000 octets
 abbrev pub within : Granted → Result Granted NoFile

@@ -9,7 +9,8 @@ ghost use Rattle.ap_exchange.specs.Draws.{drawn_subkey, drawn_confounder};
 ghost use Rattle.ap_exchange.specs.Keys.{key_value};
 ghost use Rattle.ap_exchange.specs.Request.{name_value};
 ghost use Rattle.files_command.specs.Making.{whole_second, ticket_part, ticket_for, within};
-ghost use Rattle.files_command.specs.Making.{granted_with, credential_for, times_of, ccache_from};
+ghost use Rattle.files_command.specs.Making.{TicketOpens, granted_with, credential_for};
+ghost use Rattle.files_command.specs.Making.{times_of, ccache_from};
 ghost use Rattle.files_command.specs.Making.{verifier_for, file_for, file_of};
 
 use crate::ccache_file::{Times, write_ccache};
@@ -132,8 +133,10 @@ fn ticket_for(
     until: u64,
     confounder: &[u8; 16],
 ) -> Result<Octets, NoMemory>
-    ensures { IfOk result
+    ensures is { IfOk result
         (λ o. o ≡ ticket_for client.now service.now session.now since until confounder.now) }
+    ensures opens { IfOk result (λ _. TicketOpens client.now service.now session.now since until
+        confounder.now) }
 {
     let part = ticket_part(alloc, client, session, whole(since), whole(until))?;
     seal_ticket(
@@ -184,8 +187,10 @@ pub fn credential_for(
     until: u64,
     draws: &[u8; DRAWS],
 ) -> Result<Credential, NoFile>
-    ensures { Gives NoFile.NoMemory (λ c. c) result
+    ensures exact { Gives NoFile.NoMemory (λ c. c) result
         (credential_for client service since until draws.now) }
+    ensures opens { IfOk result (λ c. TicketOpens client service c.session since until
+        (drawn_confounder draws.now)) }
 {
     let session = session_of(service.key.etype(), draws);
     let confounder = confounder_of(draws);
