@@ -1,3 +1,10 @@
+pub mod Chained
+pub mod Drawing
+pub mod Fitting
+pub mod Joining
 pub mod Limits
+pub mod Rested
 pub mod Saying
 pub mod Stepping
+pub mod Ticket
+pub mod Verifying

@@ -5,6 +5,7 @@ mod calls;
 mod drill;
 mod generator;
 mod lines;
+mod meeting;
 mod numbers;
 mod session;
 mod sessions;

@@ -1,17 +1,25 @@
 //! The sessions of a drill, one after the other over one book.
 
 ghost use Rattle.std.specs.Prelude.{◌≡◌, ◌≤◌, ◌<◌, ◌+◌, ◌*◌, ◌%◌, ◌^◌, IfOk, true, vec_len};
-ghost use Rattle.std.specs.Prelude.{reverse};
+ghost use Rattle.std.specs.Prelude.{reverse, IsTrue, OnOk, false, None, ℕ, [], ◌∷◌, ◌++◌, ◌&&◌};
+ghost use Rattle.std.specs.List.{AllByRecursion};
+ghost use Rattle.gss_base.specs.declared.mech.MechKind.{MechKind};
+ghost use Rattle.pair_laws.specs.Linked.{IsTakenBy, kept_of};
+ghost use Rattle.pair_laws.specs.Rows.{IsKeptBy};
+ghost use Rattle.drill_command.specs.Rested.{IsLinkTold, FitsRest, RestsAgain, IsNext};
 ghost use Rattle.accept_book.specs.Legal.{Legal};
 ghost use Rattle.spnego_core.specs.InitMech.{is_own_list};
 ghost use Rattle.gss_server.specs.Asking.{BookAnswers};
 ghost use Rattle.gate_models.specs.Looping.{Since};
 ghost use Rattle.drill_command.specs.Sessions.{calls_in, session_count};
+ghost use Rattle.drill_command.specs.Calls.{calls_from, after_calls};
+ghost use Rattle.drill_command.specs.Chained.{IsAdded, IsFirst, AreAllHeld};
 ghost use Rattle.drill_command.specs.Held.{Holds};
 ghost use Rattle.drill_command.specs.Limits.{book_limits, log_limits, drill_limits};
 
 use crate::calls::draw_calls;
 use crate::generator::Generator;
+use crate::meeting::are_paired;
 use crate::session::{DrillSession, early_end};
 use crate::setting::{WIDTH, moment_of, open_book, start_of};
 use crate::words::Plan;
@@ -19,8 +27,9 @@ use accept_book::{Book, Log};
 use gate_models::{Beginning, LoopLink};
 use gss_client::{ClientRefusal, Start, Talk};
 use gss_server::Kept;
-use pair_laws::{DueCall, hold_calls};
+use pair_laws::{DueCall, are_taken, hold_calls, prove_links, tell_name};
 use sec_base::{Moment, NoMemory};
+use spnego_core::Outcome;
 use std::alloc::Global;
 use std::marker::Brand;
 
@@ -36,6 +45,18 @@ pub struct Held {
     pub kept: Vec<Kept>,
     /// Whether an answer wanted memory.
     pub starved: bool,
+    /// Whether all answers came at the session's moment and took their tokens, those of an honest pair in a drill.
+    pub taken: bool,
+}
+
+/// Does nothing that stays: what is told of an outcome, where there is one.
+fn tell_link(outcome: &Option<Outcome>)
+    ensures { IsLinkTold outcome.now }
+{
+    if let Some(outcome) = outcome {
+        prove_links(&outcome.key);
+        tell_name(&outcome.initiator);
+    }
 }
 
 /// Holds a session over a book that begins as `J` says.
@@ -53,9 +74,13 @@ fn hold_from<J: Beginning<Book>>(
     requires moment { now ≡ J.moment }
     requires list { is_own_list start.setup.list ≡ true }
     requires first { start.first ≡ 1 }
-    ensures { IfOk result (λ h. ∥ Holds (λ asked. Since J.begins BookAnswers h.book asked)
+    ensures held { IfOk result (λ h. ∥ Holds (λ asked. Since J.begins BookAnswers h.book asked)
         128 now start calls.now h.kept.items h.starved h.session.outcome
         h.session.results.items h.session.ended ∥₁) }
+    ensures taken { IfOk result (λ h. IsTrue h.taken
+        → AllByRecursion (IsTakenBy now) (kept_of h.kept.items)) }
+    ensures kept { IfOk result (λ h. IsTrue h.taken
+        → AllByRecursion (IsKeptBy now) h.kept.items) }
 {
     let mut link: LoopLink<Book, Generator, J> = LoopLink::new(alloc, book, now, server, WIDTH)?;
     let talk = hold_calls(alloc, &mut link, client, start, calls);
@@ -67,6 +92,7 @@ fn hold_from<J: Beginning<Book>>(
         parting,
     } = talk;
     let ended = early_end(parting);
+    let taken = are_taken(kept.as_slice(), now);
     Ok(Held {
         session: DrillSession {
             outcome,
@@ -77,6 +103,7 @@ fn hold_from<J: Beginning<Book>>(
         server,
         kept,
         starved,
+        taken,
     })
 }
 
@@ -96,8 +123,19 @@ pub fn hold_session(
         (λ asked. Since (λ b. b ≡ book) BookAnswers h.book asked) 128 now start calls.now
         h.kept.items h.starved h.session.outcome h.session.results.items h.session.ended ∥₁) }
     ensures limits { IfOk result (λ h. book_limits h.book ≡ book_limits book) }
+    ensures taken { IfOk result (λ h. IsTrue h.taken
+        → AllByRecursion (IsTakenBy now) (kept_of h.kept.items)) }
+    ensures kept { IfOk result (λ h. IsTrue h.taken
+        → AllByRecursion (IsKeptBy now) h.kept.items) }
+    // Where all its calls were answered, its answers took their tokens, and it fits a book at rest, it is done, and the book rests again.
+    ensures rests { IfOk result (λ h. IsTrue h.taken → h.starved ≡ false
+        → h.session.ended ≡ None → (tokens : ℕ) (kind : MechKind) (count : ℕ)
+        → FitsRest tokens kind count now start calls.now book h.kept.items
+        → ∥ RestsAgain tokens kind count now calls.now book h.book h.session.outcome
+        h.session.results.items ∥₁) }
 {
     let held = hold_from::<Brand>(alloc, book, now, server, client, start, calls)?;
+    tell_link(&held.session.outcome);
     Ok(held)
 }
 
@@ -117,6 +155,8 @@ struct Course {
     sessions: Vec<DrillSession>,
     /// How many records were answered.
     records: u128,
+    /// Whether all answers came at their sessions' moments and took the tokens of honest pairs.
+    taken: bool,
 }
 
 /// What a drill came to.
@@ -125,6 +165,8 @@ pub struct Drilled {
     pub sessions: Vec<DrillSession>,
     pub records: u128,
     pub log: Log,
+    /// Whether all answers came at their sessions' moments and took the tokens of honest pairs.
+    pub taken: bool,
 }
 
 /// The generators that a seed begins.
@@ -145,7 +187,9 @@ fn seeded(seed: u64) -> Generators
 }
 
 /// Whether memory wanted at either end.
-fn is_starved(held: &Held) -> bool {
+fn is_starved(held: &Held) -> bool
+    ensures { held.now.starved ≡ true → result ≡ true }
+{
     let wanted = match held.session.ended {
         Some(ClientRefusal::NoMemory) | Some(ClientRefusal::LinkFault) => true,
         _ => false,
@@ -176,12 +220,18 @@ fn add_held(
     generators: Generators,
     sessions: Vec<DrillSession>,
     records: u128,
+    taken: bool,
 ) -> Result<Course, NoMemory>
     requires few { vec_len sessions ≤ 100 }
     requires records { records ≤ vec_len sessions * 18446744073709551616 }
     ensures count { IfOk result (λ c. vec_len c.sessions ≡ vec_len sessions + 1) }
     ensures records { IfOk result (λ c. c.records ≤ vec_len c.sessions * 18446744073709551616) }
-    ensures limits { IfOk result (λ c. book_limits c.book ≡ book_limits held.book) }
+    ensures fed { IfOk result (λ c. held.starved ≡ false) }
+    ensures book { IfOk result (λ c. c.book ≡ held.book) }
+    ensures sessions { IfOk result (λ c. c.sessions.items
+        ≡ sessions.items ++ held.session ∷ []) }
+    ensures taken { IfOk result (λ c. c.taken ≡ (taken && held.taken)) }
+    ensures calls { IfOk result (λ c. c.generators.calls ≡ generators.calls) }
 {
     if is_starved(&held) {
         return Err(NoMemory);
@@ -191,6 +241,7 @@ fn add_held(
         book,
         server,
         kept,
+        taken: own,
         ..
     } = held;
     let mut sessions = sessions;
@@ -204,10 +255,37 @@ fn add_held(
         },
         sessions,
         records: records + kept.len() as u128,
+        taken: taken && own,
     })
 }
 
-/// Draws the calls of the next session and holds it.
+/// The same session; its answers are taken where they also make the two ends an honest pair.
+fn taken_by(held: Held, paired: bool) -> Held
+    ensures session { result.session ≡ held.session }
+    ensures book { result.book ≡ held.book }
+    ensures kept { result.kept ≡ held.kept }
+    ensures starved { result.starved ≡ held.starved }
+    ensures taken { result.taken ≡ (held.taken && paired) }
+{
+    let Held {
+        session,
+        book,
+        server,
+        kept,
+        starved,
+        taken,
+    } = held;
+    Held {
+        session,
+        book,
+        server,
+        kept,
+        starved,
+        taken: taken && paired,
+    }
+}
+
+/// Draws the calls of the next session and holds it; its answers are taken where they also make the two ends an honest pair.
 fn next_session(
     alloc: Global,
     book: Book,
@@ -215,13 +293,21 @@ fn next_session(
     number: u32,
     count: u32,
 ) -> Result<Held, NoMemory>
-    ensures { IfOk result (λ h. book_limits h.book ≡ book_limits book) }
+    requires number { number ≤ 100 }
+    requires limits { book_limits book ≡ drill_limits }
+    ensures limits { IfOk result (λ h. book_limits h.book ≡ book_limits book) }
+    ensures next { IfOk result (λ h. h.starved ≡ false
+        → IsNext number (calls_from count generators.old.calls.value) book h.book h.kept.items
+        h.taken h.session) }
+    ensures place { OnOk result (generators.new.calls.value
+        ≡ after_calls count generators.old.calls.value) }
 {
     let calls = draw_calls(alloc, &mut generators.calls, count)?;
     let now = moment_of(number);
+    let client = generators.client;
     let start = start_of(alloc, number, now, &mut generators.client)?;
     let server = generators.server;
-    hold_session(
+    let held = hold_session(
         alloc,
         book,
         now,
@@ -229,39 +315,54 @@ fn next_session(
         &mut generators.client,
         start,
         calls.as_slice(),
-    )
+    )?;
+    let paired = are_paired(alloc, number, client, held.kept.as_slice())?;
+    Ok(taken_by(held, paired))
 }
 
 /// Holds the next session of a drill.
 fn go_on(alloc: Global, course: Course, number: u32, count: u32) -> Result<Course, NoMemory>
     requires few { vec_len course.sessions ≤ 100 }
+    requires number { number ≤ 100 }
+    requires limits { book_limits course.book ≡ drill_limits }
     requires records { course.records ≤ vec_len course.sessions * 18446744073709551616 }
     ensures count { IfOk result (λ c. vec_len c.sessions ≡ vec_len course.sessions + 1) }
     ensures records { IfOk result (λ c. c.records ≤ vec_len c.sessions * 18446744073709551616) }
     ensures limits { IfOk result (λ c. book_limits c.book ≡ book_limits course.book) }
+    ensures added { IfOk result (λ c. IsAdded number
+        (calls_from count course.generators.calls.value) course.book c.book
+        course.sessions.items c.sessions.items course.taken c.taken) }
+    ensures place { IfOk result (λ c. c.generators.calls.value
+        ≡ after_calls count course.generators.calls.value) }
 {
     let Course {
         book,
         generators,
         sessions,
         records,
+        taken,
     } = course;
     let mut generators = generators;
     let held = next_session(alloc, book, &mut generators, number, count)?;
-    add_held(held, generators, sessions, records)
+    let course = add_held(held, generators, sessions, records, taken)?;
+    Ok(course)
 }
 
 /// A drill before its first session.
 fn begin(alloc: Global, seed: u64) -> Result<Course, NoMemory>
     ensures count { IfOk result (λ c. vec_len c.sessions ≡ 0) }
     ensures records { IfOk result (λ c. c.records ≡ 0) }
-    ensures limits { IfOk result (λ c. book_limits c.book ≡ drill_limits) }
+    ensures first { IfOk result (λ c. IsFirst c.book) }
+    ensures sessions { IfOk result (λ c. c.sessions.items ≡ []) }
+    ensures place { IfOk result (λ c. c.generators.calls.value ≡ seed) }
 {
+    let book = open_book(alloc)?;
     Ok(Course {
-        book: open_book(alloc)?,
+        book,
         generators: seeded(seed),
         sessions: Vec::new(alloc),
         records: 0,
+        taken: true,
     })
 }
 
@@ -271,6 +372,8 @@ pub fn hold_all(alloc: Global, plan: Plan) -> Result<Drilled, NoMemory>
     ensures count { IfOk result (λ d. vec_len d.sessions ≡ session_count plan.calls) }
     ensures legal { IfOk result (λ d. Legal d.log.width (reverse d.log.entries)) }
     ensures limits { IfOk result (λ d. log_limits d.log ≡ drill_limits) }
+    ensures held { IfOk result (λ d. AreAllHeld plan.seed plan.calls d.sessions.items d.log.entries
+        d.taken) }
 {
     let mut course = begin(alloc, plan.seed)?;
     for number in 0..session_count(plan.calls) {
@@ -280,11 +383,13 @@ pub fn hold_all(alloc: Global, plan: Plan) -> Result<Drilled, NoMemory>
         book,
         sessions,
         records,
+        taken,
         ..
     } = course;
     Ok(Drilled {
         sessions,
         records,
         log: book.into_log(),
+        taken,
     })
 }

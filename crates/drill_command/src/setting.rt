@@ -1,19 +1,30 @@
 //! What both ends of a drill begin with.
 
-ghost use Rattle.std.specs.Prelude.{◌≡◌, IfOk, true};
+ghost use Rattle.std.specs.Prelude.{◌≡◌, IfOk, true, [], ◌∷◌};
+ghost use Rattle.gss_base.specs.declared.mech.MechKind.TheVariants as kinds;
+ghost use Rattle.scram_mech.specs.Verifiers.{line_text, line_with};
 ghost use Rattle.spnego_core.specs.InitMech.{is_own_list};
+ghost use Rattle.pair_laws.specs.Resting.{RestsAt};
+ghost use Rattle.drill_command.specs.Fitting.{CredOpens, FitLaw};
+ghost use Rattle.drill_command.specs.Generator.{octets_from, after_steps};
 ghost use Rattle.drill_command.specs.Limits.{book_limits, drill_limits};
 ghost use Rattle.drill_command.specs.Sessions.{moment_of, kind_of, service_of};
+ghost use Rattle.drill_command.specs.Setting.{server_name, client_name, server_key, drill_keytab};
+ghost use Rattle.drill_command.specs.Setting.{user_name, user_secret, drill_verifiers, drill_offer};
+ghost use Rattle.drill_command.specs.Setting.{drill_acceptor, drill_credential, drill_start};
 
 use crate::generator::Generator;
 use accept_book::{Book, Limits};
-use files_command::{DRAWS, ServiceKey, credential_for, write_keytab};
-use gss_base::{MechKind, Principal};
+use files_command::{DRAWS, NoFile, ServiceKey, credential_for, write_keytab};
+use gss_base::{MechKind, NameRefusal, Principal};
 use gss_client::{Service, Start};
 use krb_derive::Key;
-use krb_files::{Keytab, read_keytab};
-use scram_mech::{Verifiers, make_verifier, read_verifiers};
-use sec_base::{Draw, Items, Moment, NoMemory, Text};
+use krb_files::{FileRefusal, FileWhy, Keytab, read_keytab};
+use pair_laws::prove_rests;
+use scram_mech::{
+    ScramRefusal, VerifierRefusal, Verifiers, make_verifier, prove_laws, read_verifiers,
+};
+use sec_base::{Draw, Items, Moment, NoMemory, Octets, Text};
 use spnego_core::{AcceptSetup, InitSetup, MechCred};
 use std::alloc::Global;
 
@@ -56,17 +67,33 @@ const LIMITS: Limits = Limits {
 /// The second of the first session.
 const START: u64 = 1_000_000;
 
-/// The principal of a text that spells one, so that nothing but memory may want.
-fn principal(alloc: Global, text: &str) -> Result<Principal, NoMemory> {
-    match Principal::parse(alloc, text) {
+/// The server's name.
+fn server_name(alloc: Global) -> Result<Principal, NoMemory>
+    ensures { IfOk result (λ name. name ≡ server_name) }
+{
+    match Principal::parse(alloc, SERVER) {
         Ok(name) => Ok(name),
-        Err(_) => Err(NoMemory),
+        Err(NameRefusal::NoMemory) => Err(NoMemory),
+        Err(_) => unreachable!(),
+    }
+}
+
+/// The name of who calls by Kerberos.
+fn client_name(alloc: Global) -> Result<Principal, NoMemory>
+    ensures { IfOk result (λ name. name ≡ client_name) }
+{
+    match Principal::parse(alloc, CLIENT) {
+        Ok(name) => Ok(name),
+        Err(NameRefusal::NoMemory) => Err(NoMemory),
+        Err(_) => unreachable!(),
     }
 }
 
 /// The server's key.
-fn server_key(alloc: Global) -> Result<ServiceKey, NoMemory> {
-    let server = principal(alloc, SERVER)?;
+fn server_key(alloc: Global) -> Result<ServiceKey, NoMemory>
+    ensures { IfOk result (λ key. key ≡ server_key) }
+{
+    let server = server_name(alloc)?;
     let key = SERVER_KEY;
     Ok(ServiceKey {
         server,
@@ -76,28 +103,51 @@ fn server_key(alloc: Global) -> Result<ServiceKey, NoMemory> {
 }
 
 /// A keytab with the server's key.
-fn keytab(alloc: Global) -> Result<Keytab, NoMemory> {
+fn keytab(alloc: Global) -> Result<Keytab, NoMemory>
+    ensures { IfOk result (λ keys. keys ≡ drill_keytab) }
+{
     let key = server_key(alloc)?;
     let file = write_keytab(alloc, &key)?;
     match read_keytab(alloc, file.as_slice()) {
         Ok(keys) => Ok(keys),
-        Err(_) => Err(NoMemory),
+        Err(
+            FileRefusal {
+                why: FileWhy::NoMemory,
+                ..
+            },
+        ) => Err(NoMemory),
+        Err(_) => unreachable!(),
+    }
+}
+
+/// The line of the user in a file of verifiers.
+fn verifier_line(alloc: Global) -> Result<Octets, NoMemory>
+    ensures { IfOk result (λ line. line ≡ line_text (line_with user_name user_secret)) }
+{
+    match make_verifier(alloc, USER, USER, &SALT, ROUNDS) {
+        Ok(line) => Ok(line),
+        Err(ScramRefusal::NoMemory) => Err(NoMemory),
+        Err(_) => unreachable!(),
     }
 }
 
 /// The verifier of the user.
-fn verifiers(alloc: Global) -> Result<Verifiers, NoMemory> {
-    match make_verifier(alloc, USER, USER, &SALT, ROUNDS) {
-        Ok(line) => match read_verifiers(alloc, line.as_slice()) {
-            Ok(users) => Ok(users),
-            Err(_) => Err(NoMemory),
-        },
-        Err(_) => Err(NoMemory),
+fn verifiers(alloc: Global) -> Result<Verifiers, NoMemory>
+    ensures { IfOk result (λ users. users ≡ drill_verifiers) }
+{
+    prove_laws();
+    let line = verifier_line(alloc)?;
+    match read_verifiers(alloc, line.as_slice()) {
+        Ok(users) => Ok(users),
+        Err(VerifierRefusal::NoMemory) => Err(NoMemory),
+        Err(_) => unreachable!(),
     }
 }
 
 /// Both mechanisms, Kerberos first.
-fn offer(alloc: Global) -> Result<Items<MechKind>, NoMemory> {
+fn offer(alloc: Global) -> Result<Items<MechKind>, NoMemory>
+    ensures { IfOk result (λ offer. offer ≡ drill_offer) }
+{
     let mut mechanisms = Vec::with_capacity(alloc, 2)?;
     mechanisms.push_reserved(MechKind::Kerberos);
     mechanisms.push_reserved(MechKind::Scram);
@@ -105,8 +155,10 @@ fn offer(alloc: Global) -> Result<Items<MechKind>, NoMemory> {
 }
 
 /// What the server begins with.
-fn acceptor(alloc: Global) -> Result<AcceptSetup, NoMemory> {
-    let own = principal(alloc, SERVER)?;
+fn acceptor(alloc: Global) -> Result<AcceptSetup, NoMemory>
+    ensures { IfOk result (λ setup. setup ≡ drill_acceptor) }
+{
+    let own = server_name(alloc)?;
     let keys = keytab(alloc)?;
     let users = verifiers(alloc)?;
     let mechanisms = offer(alloc)?;
@@ -131,15 +183,20 @@ pub fn moment_of(number: u32) -> Moment
 
 /// The book of a drill, at the moment of its first session.
 pub fn open_book(alloc: Global) -> Result<Book, NoMemory>
-    ensures { IfOk result (λ book. book_limits book ≡ drill_limits) }
+    ensures limits { IfOk result (λ book. book_limits book ≡ drill_limits) }
+    ensures setup { IfOk result (λ book. book.setup ≡ drill_acceptor) }
+    // and it has no entry and is at rest
+    ensures history { IfOk result (λ book. book.core.history ≡ []) }
+    ensures rests { IfOk result (λ book. RestsAt 0 (moment_of 0) book.core) }
 {
+    prove_rests();
     let setup = acceptor(alloc)?;
     let book = Book::open(alloc, setup, LIMITS, moment_of(0))?;
     Ok(book)
 }
 
 /// The mechanism of a session.
-fn kind_of(number: u32) -> MechKind
+pub fn kind_of(number: u32) -> MechKind
     ensures { result ≡ kind_of number }
 {
     if number % 2 == 0 {
@@ -161,24 +218,33 @@ fn service_of(number: u32) -> Service
 }
 
 /// The client's ticket.
-fn ticket(alloc: Global) -> Result<MechCred, NoMemory> {
-    let client = principal(alloc, CLIENT)?;
+fn ticket(alloc: Global) -> Result<MechCred, NoMemory>
+    ensures is { IfOk result (λ cred. cred ≡ drill_credential kinds.Kerberos) }
+    ensures opens { IfOk result (λ _. CredOpens kinds.Kerberos) }
+{
+    let client = client_name(alloc)?;
     let key = server_key(alloc)?;
     match credential_for(alloc, client, key, SINCE, UNTIL, &TICKET_DRAWS) {
         Ok(granted) => Ok(MechCred::Kerberos(granted)),
-        Err(_) => Err(NoMemory),
+        Err(NoFile::NoMemory) => Err(NoMemory),
+        Err(NoFile::Usage) => unreachable!(),
     }
 }
 
 /// The user and the password.
-fn login(alloc: Global) -> Result<MechCred, NoMemory> {
+fn login(alloc: Global) -> Result<MechCred, NoMemory>
+    ensures { IfOk result (λ cred. cred ≡ drill_credential kinds.Scram) }
+{
     let user = Text::of(alloc, USER)?;
     let password = Text::of(alloc, USER)?;
     Ok(MechCred::Scram { user, password })
 }
 
 /// The client's credential of a mechanism.
-fn credential(alloc: Global, kind: MechKind) -> Result<MechCred, NoMemory> {
+fn credential(alloc: Global, kind: MechKind) -> Result<MechCred, NoMemory>
+    ensures is { IfOk result (λ cred. cred ≡ drill_credential kind) }
+    ensures opens { IfOk result (λ _. CredOpens kind) }
+{
     match kind {
         MechKind::Kerberos => ticket(alloc),
         MechKind::Scram => login(alloc),
@@ -187,7 +253,8 @@ fn credential(alloc: Global, kind: MechKind) -> Result<MechCred, NoMemory> {
 
 /// The client's list of one mechanism.
 fn list_of(alloc: Global, kind: MechKind) -> Result<Items<MechCred>, NoMemory>
-    ensures { IfOk result (λ list. is_own_list list ≡ true) }
+    ensures is { IfOk result (λ list. list ≡ drill_credential kind ∷ []) }
+    ensures opens { IfOk result (λ _. CredOpens kind) }
 {
     let only = credential(alloc, kind)?;
     let mut list = Vec::with_capacity(alloc, 1)?;
@@ -202,6 +269,12 @@ pub fn start_of(
     stamp: Moment,
     draw: &mut Generator,
 ) -> Result<Start, NoMemory>
+    ensures is { IfOk result
+        (λ start. start ≡ drill_start number stamp (octets_from 66 draw.old.value)) }
+    ensures place { IfOk result (λ _. draw.new.value ≡ after_steps 66 draw.old.value) }
+    // and the facts of it and of what the server begins with fit
+    ensures fits { stamp ≡ moment_of number
+        → IfOk result (λ start. FitLaw number start.setup) }
     ensures list { IfOk result (λ start. is_own_list start.setup.list ≡ true) }
     ensures service { IfOk result (λ start. start.service ≡ service_of number) }
     ensures stamp { IfOk result (λ start. start.setup.stamp ≡ stamp) }

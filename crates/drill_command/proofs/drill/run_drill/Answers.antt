@@ -1,6 +1,7 @@
 use Rattle.std.proofs.Common.{◌≡◌, ◌∙◌, ap, arith, Option, Some, None}
 use Rattle.drill_command.specs.declared.words.Plan.{Plan}
 use Rattle.drill_command.specs.Sessions.{session_count}
+use Rattle.drill_command.proofs.Chained.{held-by}
 use Rattle.drill_command.proofs.Saying.{known-said}
 use Rattle.drill_command.proofs.drill.run_drill.Goals as goal
 
@@ -30,3 +31,9 @@ returns-in-Some-clause-count g c = λ plan is e. c.run_plan.ensures.count e ∙ 
 
 pub returns-in-None-clause-said : goal.returns-in-None-clause-said
 returns-in-None-clause-said g c = λ t. (0, rw (← c.in-None.ensures.value) (known-said 2 (omega arith) c.unheld.ensures.status (c.unheld.ensures.said t)))
+
+pub returns-in-Some-clause-held : goal.returns-in-Some-clause-held
+returns-in-Some-clause-held g c = λ plan is e. held-by c.in-Some.plan plan c.run_plan.result.sessions.items c.run_plan.result.log.entries c.run_plan.result.taken (same-plan c.in-Some.ensures.value is) (c.run_plan.ensures.held e)
+
+pub returns-in-Some-clause-drilled : goal.returns-in-Some-clause-drilled
+returns-in-Some-clause-drilled g c = λ plan is e taken unrefused. (held-by c.in-Some.plan plan c.run_plan.result.sessions.items c.run_plan.result.log.entries c.run_plan.result.taken (same-plan c.in-Some.ensures.value is) (c.run_plan.ensures.held e)).done taken unrefused

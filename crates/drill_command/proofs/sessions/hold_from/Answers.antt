@@ -16,5 +16,5 @@ use Rattle.drill_command.proofs.sessions.hold_from.Goals as goal
 held : (gained : List Asked → Type 0) (width moment : ℕ) (start : Start) (wanted : List DueCall) (kept : List Kept) (starved : Bool) (outcome : Option Outcome) (results : List (List ℕ)) (ended : Option ClientRefusal) (wire : Wire) (parting : Parting) → TalkedOf false [] [] start wanted (record { taken = []; coming = []; written = [] }) wire outcome results parting → ended ≡ early_end parting → Loops gained width moment wire kept starved → Holds gained width moment start wanted kept starved outcome results ended
 held gained width moment start wanted kept starved outcome results ended wire parting t e l = record { wire = wire; parting = parting; talked = t; ends = e; looped = l }
 
-pub returns : goal.returns
-returns g c = ∥∥₁_map c.into_parts-book.ensures.looped (λ p. held _ _ _ _ _ _ _ _ _ _ _ _ (rw c.in_ok-link.ensures.wire at c.hold_calls-talk.ensures.told refl) c.early_end-ended.ensures (rw (c.requires.width, ← c.requires.moment, ← c.starved-starved.ensures) at p))
+pub returns-clause-held : goal.returns-clause-held
+returns-clause-held g c = ∥∥₁_map c.into_parts-book.ensures.looped (λ p. held _ _ _ _ _ _ _ _ _ _ _ _ (rw c.in_ok-link.ensures.wire at c.hold_calls-talk.ensures.told refl) c.early_end-ended.ensures (rw (c.requires.width, ← c.requires.moment, ← c.starved-starved.ensures) at p))

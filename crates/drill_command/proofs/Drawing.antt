@@ -1,0 +1,73 @@
+-- The calls of a drill are such as the service takes.
+use Rattle.std.proofs.Common.{◌≡◌, ◌≢◌, ◌<◌, ◌≤◌, ◌+◌, ◌*◌, ◌%◌, ◌/◌, ◌^◌, ℕ, zero, suc, List, [], ◌∷◌, length, refl, arith, slice_index, ap, sym, ◌∙◌}
+use Rattle.std.specs.List.{AllByRecursion}
+use Rattle.std.proofs.lemmas.Nat.{mod_below}
+use Rattle.rpc_msgs.specs.Words.{opaque}
+use Rattle.rpc_msgs.proofs.WordLengths.{length-opaque}
+use Rattle.rpcsec_bodies.specs.declared.service.Service.{Service}
+use Rattle.rpcsec_bodies.specs.declared.service.Service.TheVariants as services
+use Rattle.accept_book.specs.Honest.{IsOctets}
+use Rattle.gss_client.specs.declared.procedure.Procedure.{Procedure}
+use Rattle.gss_client.specs.declared.procedure.Procedure.TheVariants.{Null, Echo, Whoami, Post, Count}
+use Rattle.pair_laws.specs.Conferring.{DueCall}
+use Rattle.pair_laws.specs.Sessions.{IsProper}
+use Rattle.pair_laws.proofs.SessionParts.{opaque-octets}
+use Rattle.pair_laws.proofs.WordsAsked.{one-fits}
+use Rattle.drill_command.specs.Calls.{procedure_of, drawn_by, drawn_call, calls_from}
+use Rattle.drill_command.specs.Generator.{stepped, top_of, octets_from}
+
+-- ---- drawn octets
+
+one-more : (x : ℕ) (xs : List ℕ) → x < 256 → IsOctets xs → IsOctets (x ∷ xs)
+one-more x xs h hs zero = h
+one-more x xs h hs (suc i) = hs i
+
+none : IsOctets []
+none i = omega arith
+
+top-small : (x : ℕ) → top_of (stepped x) < 256
+top-small x = let h : stepped x < 18446744073709551616 = mod_below (x * 6364136223846793005 + 1442695040888963407) 18446744073709551616 (omega arith) in omega (arith, h)
+
+octets-small : (count x : ℕ) → IsOctets (octets_from count x)
+octets-small zero x = none
+octets-small (suc count) x = one-more (top_of (stepped x)) (octets_from count (stepped x)) (top-small x) (octets-small count (stepped x))
+
+octets-many : (count x : ℕ) → length (octets_from count x) ≡ count
+octets-many zero x = refl
+octets-many (suc count) x = ap suc (octets-many count (stepped x))
+
+-- ---- drawn calls
+
+opaque-small : (count x : ℕ) → count < 64 → length (opaque (octets_from count x)) ≤ 65540
+opaque-small count x h = omega (arith, h, length-opaque (octets_from count x), octets-many count x)
+
+proper-by : (service : Service) → service ≢ services.None → (procedure : Procedure) (x : ℕ) → IsProper service (drawn_by procedure x).call
+proper-by service some Null x = record { proper = refl; protected = λ e. absurd (some e); size = omega arith; octets = none }
+proper-by service some Echo x =
+    let count : ℕ = top_of (stepped x) % 64 in
+    let few : count < 64 = mod_below (top_of (stepped x)) 64 (omega arith) in
+    record {
+      proper = one-fits (octets_from count (stepped x)) (omega (arith, few, octets-many count (stepped x)));
+      protected = λ e. absurd (some e);
+      size = opaque-small count (stepped x) few;
+      octets = opaque-octets (octets_from count (stepped x)) (octets-small count (stepped x));
+    }
+proper-by service some Whoami x = record { proper = refl; protected = λ e. absurd (some e); size = omega arith; octets = none }
+proper-by service some Post x =
+    let count : ℕ = top_of (stepped x) % 64 in
+    let few : count < 64 = mod_below (top_of (stepped x)) 64 (omega arith) in
+    record {
+      proper = one-fits (octets_from count (stepped x)) (omega (arith, few, octets-many count (stepped x)));
+      protected = λ e. absurd (some e);
+      size = opaque-small count (stepped x) few;
+      octets = opaque-octets (octets_from count (stepped x)) (octets-small count (stepped x));
+    }
+proper-by service some Count x = record { proper = refl; protected = λ e. absurd (some e); size = omega arith; octets = none }
+
+pub all-proper : (service : Service) → service ≢ services.None → (count x : ℕ) → AllByRecursion (IsProper service) (calls_from count x)
+all-proper service some zero x = tt
+all-proper service some (suc count) x = (proper-by service some (procedure_of (top_of (stepped x) % 5)) (stepped x), all-proper service some count (drawn_call x).next)
+
+pub calls-many : (count x : ℕ) → length (calls_from count x) ≡ count
+calls-many zero x = refl
+calls-many (suc count) x = ap suc (calls-many count (drawn_call x).next)

@@ -1,0 +1,56 @@
+-- What a drill's sessions and log are where all goes well.
+use Rattle.std.specs.Prelude.{◌≡◌, ℕ, zero, suc, ◌+◌, List, [], ◌∷◌, ◌++◌, reverse, Some, None}
+use Rattle.spnego_core.specs.declared.outcome.Outcome.{Outcome}
+use Rattle.accept_book.specs.Booking.{names_of}
+use Rattle.accept_book.specs.History.{posts}
+use Rattle.accept_book.specs.declared.entry.Entry.{Entry}
+use Rattle.pair_laws.specs.Conferring.{DueCall}
+use Rattle.pair_laws.specs.Creation.{Enters}
+use Rattle.pair_laws.specs.Rows.{history_after, results_by}
+use Rattle.drill_command.specs.Calls.{calls_from, after_calls}
+use Rattle.drill_command.specs.Fitting.{tokens_for}
+use Rattle.drill_command.specs.Sessions.{session_count, calls_in, moment_of, kind_of}
+use Rattle.drill_command.specs.declared.session.DrillSession.{DrillSession}
+
+-- the generator's value before session `number` draws its calls
+abbrev pub value_before : ℕ → ℕ → ℕ → ℕ
+value_before seed calls zero = seed
+value_before seed calls (suc number) =
+    after_calls (calls_in calls number) (value_before seed calls number)
+
+-- the calls of session `number`
+abbrev pub calls_of : ℕ → ℕ → ℕ → List DueCall
+calls_of seed calls number =
+    calls_from (calls_in calls number) (value_before seed calls number)
+
+-- session `number` was answered without a refusal, and agreed on an outcome of its mechanism. It
+-- was answered the service's result of each call: nothing for NULL, its argument for ECHO, the
+-- initiator's name for WHOAMI, and how many posts there are so far, in all sessions, for POST and
+-- COUNT. The history, newest first, has the entries of its creation, its calls and its end before
+-- the old ones, and no other.
+pub record IsSession (number : ℕ) (wanted : List DueCall) (old new : List Entry)
+    (one : DrillSession) : Type 0 where
+  pub ended : one.ended ≡ None
+  pub agreed : Outcome
+  pub outcome : one.outcome ≡ Some agreed
+  pub mech : agreed.mech ≡ kind_of number
+  pub results : one.results.items ≡ results_by (posts old) agreed.initiator wanted
+  pub opened : List Entry
+  pub enters : Enters (number + 1) (moment_of number) (kind_of number)
+      (tokens_for (kind_of number)) old opened
+  pub names : enters.names ≡ names_of agreed
+  pub history : new ≡ history_after (number + 1) 1 wanted opened
+
+-- so many sessions one after the other, from an empty history to this one
+abbrev pub AreSessions : ℕ → ℕ → ℕ → List Entry → List DrillSession → Type 0
+AreSessions seed calls zero history sessions = (history ≡ []) × (sessions ≡ [])
+AreSessions seed calls (suc number) history sessions =
+    (before : List Entry) × (front : List DrillSession) × (one : DrillSession)
+    × AreSessions seed calls number before front
+    × (sessions ≡ front ++ one ∷ [])
+    × ∥ IsSession number (calls_of seed calls number) before history one ∥₁
+
+-- the sessions and the log of a drill with this seed and so many calls, each as it should be
+abbrev pub IsDrilled : ℕ → ℕ → List DrillSession → List Entry → Type 0
+IsDrilled seed calls sessions log =
+    AreSessions seed calls (session_count calls) (reverse log) sessions

@@ -1,0 +1,89 @@
+-- What a session does to a book at rest.
+use Rattle.std.specs.Prelude.{◌≡◌, ℕ, ◌+◌, ◌*◌, ◌<◌, ◌≤◌, ◌^◌, Bool, IsTrue, List, length, map}
+use Rattle.std.specs.Prelude.{take, Option, Some, None}
+use Rattle.std.specs.List.{AllByRecursion}
+use Rattle.gss_base.specs.declared.mech.MechKind.{MechKind}
+use Rattle.spnego_core.specs.Exchange.{HonestPair}
+use Rattle.spnego_core.specs.declared.outcome.Outcome.{Outcome}
+use Rattle.accept_book.specs.Booking.{BookOf, names_of}
+use Rattle.accept_book.specs.History.{posts}
+use Rattle.accept_book.specs.declared.entry.Entry.{Entry}
+use Rattle.gss_client.specs.declared.start.Start.{Start}
+use Rattle.gss_server.specs.declared.answer.Kept.{Kept}
+use Rattle.pair_laws.specs.Conferring.{DueCall}
+use Rattle.pair_laws.specs.Creation.{SameLimits, Enters}
+use Rattle.pair_laws.specs.Honest.{occasion_of}
+use Rattle.pair_laws.specs.Linked.{LinkedLaw, kept_of}
+use Rattle.pair_laws.specs.Resting.{RestsAt}
+use Rattle.pair_laws.specs.Rows.{history_after, results_by}
+use Rattle.pair_laws.specs.Running.{IsName}
+use Rattle.pair_laws.specs.Sessions.{IsProper}
+use Rattle.pair_laws.specs.Whole.{posts_behind}
+use Rattle.drill_command.specs.Fitting.{tokens_for}
+use Rattle.drill_command.specs.Paired.{IsPaired}
+use Rattle.drill_command.specs.Sessions.{moment_of, kind_of, service_of}
+use Rattle.drill_command.specs.Setting.{drill_acceptor}
+use Rattle.drill_command.specs.declared.session.DrillSession.{DrillSession}
+
+-- what is told of an outcome: a session on its key over a link that answers by a book at rest is
+-- done, and the initiator's name is one
+pub record LinkedTold (outcome : Outcome) : Type 0 where
+  pub laws : LinkedLaw outcome.key
+  pub name : IsName outcome.initiator
+
+-- the same, where there is an outcome
+abbrev pub IsLinkTold : Option Outcome → Type 0
+IsLinkTold outcome = (told : Outcome) → outcome ≡ Some told → LinkedTold told
+
+-- the session begins with a book at rest, which has places for these tokens and calls; the first
+-- answers, so many, took the tokens of an honest pair, and each call is one that the service takes
+pub record FitsRest (tokens : ℕ) (kind : MechKind) (count moment : ℕ) (start : Start)
+    (wanted : List DueCall) (book : BookOf) (kept : List Kept) : Type 0 where
+  pub enough : tokens ≤ length kept
+  pub pair : HonestPair book.setup start.setup kind
+      (map occasion_of (take tokens (kept_of kept)))
+  pub rests : RestsAt count moment book.core
+  pub number : count + 1 < 2 ^ 64
+  pub wide : 0 < book.core.width
+  pub table : 0 < book.core.table.limit
+  pub log : length book.core.history + 4 * tokens + length wanted < book.core.limit
+  pub each : AllByRecursion (IsProper start.service) wanted
+
+-- the session agreed on an outcome of this mechanism, and was answered the service's results of all
+-- its calls by the posts of the book; the book has the entries of its creation, its calls and its
+-- end in the log and nothing else, and rests again at every later moment
+pub record RestsAgain (tokens : ℕ) (kind : MechKind) (count moment : ℕ) (wanted : List DueCall)
+    (old new : BookOf) (outcome : Option Outcome) (results : List (List ℕ)) : Type 0 where
+  pub agreed : Outcome
+  pub outcome_is : outcome ≡ Some agreed
+  pub mech : agreed.mech ≡ kind
+  pub results_are : results ≡ results_by (posts old.core.history) agreed.initiator wanted
+  pub opened : List Entry
+  pub enters : Enters (count + 1) moment kind tokens old.core.history opened
+  pub names : enters.names ≡ names_of agreed
+  pub history : new.core.history ≡ history_after (count + 1) 1 wanted opened
+  pub posted : posts new.core.history ≡ posts_behind (posts old.core.history) wanted
+  pub grown : length new.core.history ≤ length old.core.history + 4 * tokens + length wanted + 1
+  pub limits : SameLimits old new
+  pub rests : (later : ℕ) → moment < later → RestsAt (count + 1) later new.core
+
+-- the next session begins with a book of the drill's server at rest, which has places for the
+-- tokens and the calls
+pub record FitsNext (number : ℕ) (wanted : List DueCall) (book : BookOf) : Type 0 where
+  pub setup : book.setup ≡ drill_acceptor
+  pub rests : RestsAt number (moment_of number) book.core
+  pub log : length book.core.history + 4 * tokens_for (kind_of number) + length wanted
+      < book.core.limit
+
+-- the session of this number, counted from 0, began at its moment with a start for its service, and
+-- was given these answers; where these took the tokens of an honest pair, and none of its calls was
+-- refused, it is done if it fits
+pub record IsNext (number : ℕ) (wanted : List DueCall) (old new : BookOf) (kept : List Kept)
+    (taken : Bool) (one : DrillSession) : Type 0 where
+  pub start : Start
+  pub stamp : start.setup.stamp ≡ moment_of number
+  pub service : start.service ≡ service_of number
+  pub paired : IsTrue taken → IsPaired number start.setup kept
+  pub rests : IsTrue taken → one.ended ≡ None → FitsNext number wanted old
+      → ∥ RestsAgain (tokens_for (kind_of number)) (kind_of number) number (moment_of number) wanted
+      old new one.outcome one.results.items ∥₁
