@@ -10,10 +10,10 @@ use Rattle.spnego_core.specs.declared.refusal.NegRefusal.{NegRefusal}
 use Rattle.spnego_core.specs.Accepting.{Accepted}
 use Rattle.context_table.specs.declared.slot.Slot.{Slot}
 use Rattle.context_table.specs.Places.{Places, slot_at, KeepsOthers}
-use Rattle.accept_book.specs.declared.answer.MarkRefusal.{MarkRefusal}
-use Rattle.accept_book.specs.History.{taken_of}
-use Rattle.accept_book.specs.Entering.{mark_refused}
-use Rattle.accept_book.specs.Stepping.{Context, context_of, kept_slot}
+use Rattle.accept_core.specs.declared.answer.MarkRefusal.{MarkRefusal}
+use Rattle.accept_core.specs.History.{taken_of}
+use Rattle.accept_core.specs.Entering.{mark_refused}
+use Rattle.accept_core.specs.Stepping.{Context, context_of, kept_slot}
 use Rattle.accept_book.specs.Booking.{Change, Same, Ends, Becomes, changed, Changed, without, lapsed_by, Stands, by_mark, by_step, mark_of, settled_of}
 
 pub changed_same : (table : Places AcceptEnd Outcome) → Changed table Same table

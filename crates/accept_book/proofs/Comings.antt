@@ -12,18 +12,18 @@ use Rattle.spnego_core.specs.declared.accept_end.AcceptStep.TheVariants as steps
 use Rattle.spnego_core.specs.declared.outcome.Outcome.{Outcome}
 use Rattle.spnego_core.specs.Accepting.{accept_step, mark_asked, step_after}
 use Rattle.context_table.specs.Places.{slot_at, live_of, state_of, held_after, KeepsOthers, IsPast}
-use Rattle.accept_book.specs.declared.entry.Entry.{Entry}
-use Rattle.accept_book.specs.declared.answer.MarkRefusal.{MarkRefusal}
-use Rattle.accept_book.specs.declared.answer.Next.{Next}
+use Rattle.accept_core.specs.declared.entry.Entry.{Entry}
+use Rattle.accept_core.specs.declared.answer.MarkRefusal.{MarkRefusal}
+use Rattle.accept_core.specs.declared.answer.Next.{Next}
 use Rattle.accept_book.specs.declared.book_answer.BookRefusal.{BookRefusal}
 use Rattle.accept_book.specs.declared.book_answer.NegAnswer.{NegAnswer}
 use Rattle.accept_book.specs.declared.book_answer.NegAnswer.TheVariants as answers
 use Rattle.accept_book.specs.declared.book_answer.Negotiated.{Negotiated}
-use Rattle.accept_book.specs.History.{Standing}
-use Rattle.accept_book.specs.Answers.{taken_by}
-use Rattle.accept_book.specs.Entering.{id_of, entered, mark_refused_in, after_mark, given, gained}
-use Rattle.accept_book.specs.Replays.{Accepting}
-use Rattle.accept_book.specs.Stepping.{has_place, context_of, context_after, until_of, kept_slot, SameWindows}
+use Rattle.accept_core.specs.History.{Standing}
+use Rattle.accept_core.specs.Answers.{taken_by}
+use Rattle.accept_core.specs.Entering.{id_of, entered, mark_refused_in, after_mark, given, gained}
+use Rattle.accept_core.specs.Replays.{Accepting}
+use Rattle.accept_core.specs.Stepping.{has_place, context_of, context_after, until_of, kept_slot, SameWindows}
 use Rattle.accept_book.specs.Booking.{Becomes, Ends, Changed, change_refused, lapsed_by, after_refusal, Stands, stands_of, raised, Outcomes, spends, leaves, refusal_of_mark, answer_with, next_of, mark_of, settled_of, by_mark, taken, by_step, begun, opened_by, negotiated}
 use Rattle.accept_book.specs.BookAnswers.{IsOutcome, ComesTo}
 use Rattle.accept_book.proofs.Changes.{changed_same, changed_entered, changed_held, owns_step}

@@ -7,9 +7,9 @@ use Rattle.context_table.specs.declared.slot.SlotState.{SlotState}
 use Rattle.context_table.specs.declared.slot.SlotState.TheVariants.{Negotiating, Held, Complete}
 use Rattle.context_table.specs.Slots.{IsOpened, IsHeldState}
 use Rattle.context_table.specs.Places.{Places, slot_at, KeepsOthers, IsHeld, held_after}
-use Rattle.accept_book.specs.declared.answer.Next.{Next}
-use Rattle.accept_book.specs.declared.answer.Next.TheVariants as nexts
-use Rattle.accept_book.specs.Stepping.{Context, context_of, context_after, slot_after, ends_at, SameWindow, SameWindows, Stays}
+use Rattle.accept_core.specs.declared.answer.Next.{Next}
+use Rattle.accept_core.specs.declared.answer.Next.TheVariants as nexts
+use Rattle.accept_core.specs.Stepping.{Context, context_of, context_after, slot_after, ends_at, SameWindow, SameWindows, Stays}
 
 -- ---- one slot
 

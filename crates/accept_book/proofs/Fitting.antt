@@ -42,12 +42,12 @@ use Rattle.context_table.specs.declared.slot.SlotState.TheVariants.{Negotiating,
 use Rattle.context_table.specs.Slots.{is_whole, HasState}
 use Rattle.context_table.specs.Places.{slot_at, is_complete, Marks}
 use Rattle.krb_derive.specs.declared.key.Key.{Key}
-use Rattle.accept_book.specs.Naming.{IsValueAt}
-use Rattle.accept_book.specs.declared.entry.Entry.{Entry}
-use Rattle.accept_book.specs.History.{has_auth}
-use Rattle.accept_book.specs.Entering.{id_of}
-use Rattle.accept_book.specs.Replays.{Accepting}
-use Rattle.accept_book.specs.Stepping.{Context, context_of, Stays}
+use Rattle.accept_core.specs.Naming.{IsValueAt}
+use Rattle.accept_core.specs.declared.entry.Entry.{Entry}
+use Rattle.accept_core.specs.History.{has_auth}
+use Rattle.accept_core.specs.Entering.{id_of}
+use Rattle.accept_core.specs.Replays.{Accepting}
+use Rattle.accept_core.specs.Stepping.{Context, context_of, Stays}
 use Rattle.accept_book.specs.Booking.{Fits, FitsState, FitsSlot, AllFit, OthersFit, AnsweredFits, StepFits, Stands, mark_of, settled_of, by_step, refuses, same_key, state_key, has_key, taken as taken_with}
 use Rattle.accept_book.specs.declared.book_answer.BookRefusal.TheVariants as refusals
 use Rattle.spnego_core.specs.declared.accept_end.AcceptStep.{AcceptStep}

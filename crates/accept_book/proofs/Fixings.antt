@@ -42,21 +42,21 @@ use Rattle.spnego_core.specs.AcceptMech.{request_taken, text_taken, proof_taken,
 use Rattle.spnego_core.specs.Accepting.{Fixed, Accepted, finished, gone_on, run, begun as mech_begun, token_for, started as mech_started, chose, begins, proceeds, settled, closes, accept_step}
 use Rattle.spnego_core.specs.AcceptLaws.{AcceptLaws, ByKerberos, ByScram, AfterStep, AfterAnswered, Stands as StandsBy, settled_of as owed_by}
 use Rattle.context_table.specs.Places.{Places, slot_at, live_of}
-use Rattle.accept_book.specs.declared.entry.Entry.{Entry}
-use Rattle.accept_book.specs.declared.entry.Entry.TheVariants.{Auth, Settled}
-use Rattle.accept_book.specs.declared.answer.Next.{Next}
-use Rattle.accept_book.specs.declared.answer.Next.TheVariants as nexts
+use Rattle.accept_core.specs.declared.entry.Entry.{Entry}
+use Rattle.accept_core.specs.declared.entry.Entry.TheVariants.{Auth, Settled}
+use Rattle.accept_core.specs.declared.answer.Next.{Next}
+use Rattle.accept_core.specs.declared.answer.Next.TheVariants as nexts
 use Rattle.accept_book.specs.declared.book_answer.Lease.{Lease}
 use Rattle.accept_book.specs.declared.book_answer.BookRefusal.{BookRefusal}
 use Rattle.accept_book.specs.declared.book_answer.NegAnswer.TheVariants as answers
-use Rattle.accept_book.specs.History.{taken_of, entry_at, standing, Unknown}
-use Rattle.accept_book.specs.Legal.{Legal}
-use Rattle.accept_book.specs.Entering.{id_of, lapsed, started, noted, finished as history_finished, entered}
-use Rattle.accept_book.specs.Stepping.{Context, context_of, context_after, until_of}
+use Rattle.accept_core.specs.History.{taken_of, entry_at, standing, Unknown}
+use Rattle.accept_core.specs.Legal.{Legal}
+use Rattle.accept_core.specs.Entering.{id_of, lapsed, started, noted, finished as history_finished, entered}
+use Rattle.accept_core.specs.Stepping.{Context, context_of, context_after, until_of}
 use Rattle.accept_book.specs.Booking.{Stands, Change, Becomes, changed, without, Changed, change_refused, Outcomes, lapsed_by, mark_of, next_of, settled_of, answer_with, names_of, negotiated}
 use Rattle.accept_book.specs.Found.{step_taken, found_of, fixes_of, stepped_from}
 use Rattle.accept_book.specs.BookLaws.{GoodContext, AllGood, Lasting, fixed_end, fixed_in, fixed_after, Takes, AddsAuth, AddsBy, FixesContext, FixesNone, Completes}
-use Rattle.accept_book.proofs.Appended.{silent}
+use Rattle.accept_core.proofs.Appended.{silent}
 use Rattle.accept_book.proofs.Founds.{TakenIs, taken_is, refused_is, without_is, others_are, own_is, good_from}
 
 -- ---- what a step of the machine leads to

@@ -13,12 +13,12 @@ use Rattle.context_table.specs.declared.slot.Slot.{Slot}
 use Rattle.context_table.specs.declared.slot.SlotState.{SlotState}
 use Rattle.context_table.specs.declared.slot.SlotState.TheVariants.{Negotiating, Held, Complete}
 use Rattle.context_table.specs.Places.{slot_at, live_of, state_of}
-use Rattle.accept_book.specs.declared.answer.MarkRefusal.{MarkRefusal}
+use Rattle.accept_core.specs.declared.answer.MarkRefusal.{MarkRefusal}
 use Rattle.accept_book.specs.declared.book_answer.BookRefusal.{BookRefusal}
 use Rattle.accept_book.specs.declared.book_answer.BookRefusal.TheVariants as refusals
-use Rattle.accept_book.specs.History.{Standing, Unknown, Open, Whole, Over, standing, taken_of, IsOpen}
-use Rattle.accept_book.specs.Entering.{mark_refused}
-use Rattle.accept_book.specs.Stepping.{Context, context_of}
+use Rattle.accept_core.specs.History.{Standing, Unknown, Open, Whole, Over, standing, taken_of, IsOpen}
+use Rattle.accept_core.specs.Entering.{mark_refused}
+use Rattle.accept_core.specs.Stepping.{Context, context_of}
 use Rattle.accept_book.specs.Booking.{Stands, Outcomes, Becomes, changed, without, mark_of, settled_of, leaves, by_mark, by_step, later_step, begun, opened_by, gone_on_by, negotiated}
 use Rattle.accept_book.specs.Found.{unless_refused, took, first_took, later_took, took_by, step_taken, end_before, stepped_from}
 use Rattle.accept_book.specs.BookLaws.{GoodContext, AllGood, Refuses}

@@ -23,10 +23,10 @@ use Rattle.rpcsec_bodies.specs.declared.service.Service.TheVariants as services
 use Rattle.rpcsec_bodies.specs.Opening.{unprotected}
 use Rattle.rpcsec_bodies.proofs.Taken.{checked-read, sealed-read}
 use Rattle.accept_book.specs.Served.{are_args}
-use Rattle.accept_book.specs.declared.answer.AdmitRefusal.{AdmitRefusal}
-use Rattle.accept_book.specs.declared.answer.AdmitRefusal.TheVariants.{Gone, AboveMax, Below, Repeat, LogFull}
+use Rattle.accept_core.specs.declared.answer.AdmitRefusal.{AdmitRefusal}
+use Rattle.accept_core.specs.declared.answer.AdmitRefusal.TheVariants.{Gone, AboveMax, Below, Repeat, LogFull}
 use Rattle.accept_book.specs.declared.book_answer.Lease.{Lease}
-use Rattle.accept_book.specs.declared.entry.Admitted.{Admitted}
+use Rattle.accept_core.specs.declared.entry.Admitted.{Admitted}
 use Rattle.accept_book.specs.RecordShown.{KeptAnswers, AskedLook, asking, Shown, handle_id, end_of, is_verified, taken_args, body_args}
 use Rattle.accept_book.specs.RecordRule.{unadmitted, admitted_ruling, ask_admit, data_ruling, call_ruling, record_ruling}
 use Rattle.accept_book.specs.Honest.{caller_of, ByIntegrity, ByPrivacy, Carries, Honest, rule_of_refusal, HonestRuled}

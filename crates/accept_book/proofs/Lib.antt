@@ -1,6 +1,3 @@
-pub mod Appended
-pub mod Steps
-pub mod Onces
 pub mod Fitting
 pub mod Opening
 pub mod Asking

@@ -10,14 +10,14 @@ use Rattle.spnego_core.specs.declared.accept_end.AcceptStep.{AcceptStep}
 use Rattle.spnego_core.specs.Accepting.{Accepted, accept_step}
 use Rattle.context_table.specs.declared.slot.Slot.{Slot}
 use Rattle.context_table.specs.Places.{Places, slot_at, state_of, held_after, KeepsOthers, IsPast}
-use Rattle.accept_book.specs.declared.entry.Entry.{Entry}
-use Rattle.accept_book.specs.declared.answer.MarkRefusal.{MarkRefusal}
-use Rattle.accept_book.specs.declared.answer.TakeRefusal.{TakeRefusal}
+use Rattle.accept_core.specs.declared.entry.Entry.{Entry}
+use Rattle.accept_core.specs.declared.answer.MarkRefusal.{MarkRefusal}
+use Rattle.accept_core.specs.declared.answer.TakeRefusal.{TakeRefusal}
 use Rattle.accept_book.specs.declared.book_answer.BookRefusal.TheVariants as refusals
-use Rattle.accept_book.specs.History.{Standing, Unknown, Open, Whole, Over, taken_of}
-use Rattle.accept_book.specs.Answers.{taken_by}
-use Rattle.accept_book.specs.Entering.{mark_refused, finished, noted}
-use Rattle.accept_book.specs.Stepping.{ends_at, context_after}
+use Rattle.accept_core.specs.History.{Standing, Unknown, Open, Whole, Over, taken_of}
+use Rattle.accept_core.specs.Answers.{taken_by}
+use Rattle.accept_core.specs.Entering.{mark_refused, finished, noted}
+use Rattle.accept_core.specs.Stepping.{ends_at, context_after}
 use Rattle.accept_book.proofs.Contexts.{same_ends}
 use Rattle.accept_book.specs.Booking.{Becomes, Stands, answer_with, next_of, mark_of, settled_of, refusal_of_mark, refuses, by_mark, taken, by_step, opened_by}
 

@@ -14,13 +14,13 @@ use Rattle.spnego_core.specs.Accepting.{Accepted, accept_step}
 use Rattle.spnego_core.specs.AcceptLaws.{AcceptLaws}
 use Rattle.spnego_core.specs.Reasons.{neg_wants_memory}
 use Rattle.context_table.specs.Places.{slot_at, live_of, state_of}
-use Rattle.accept_book.specs.declared.answer.MarkRefusal.{MarkRefusal}
-use Rattle.accept_book.specs.declared.answer.MarkRefusal.TheVariants as marks
+use Rattle.accept_core.specs.declared.answer.MarkRefusal.{MarkRefusal}
+use Rattle.accept_core.specs.declared.answer.MarkRefusal.TheVariants as marks
 use Rattle.accept_book.specs.declared.book_answer.BookRefusal.TheVariants as refusals
 use Rattle.accept_book.specs.declared.book_answer.NegAnswer.{NegAnswer}
 use Rattle.accept_book.specs.declared.book_answer.NegAnswer.TheVariants as answers
-use Rattle.accept_book.specs.History.{Standing, Unknown, Open, Whole, Over, standing, taken_of}
-use Rattle.accept_book.specs.Entering.{id_of, mark_refused}
+use Rattle.accept_core.specs.History.{Standing, Unknown, Open, Whole, Over, standing, taken_of}
+use Rattle.accept_core.specs.Entering.{id_of, mark_refused}
 use Rattle.accept_book.specs.Booking.{Stands, Outcomes, answer_after, answer_with, mark_of, settled_of, refusal_of_mark, by_mark, by_step, later_step, begun, opened_by, gone_on_by, negotiated}
 
 -- an answer has a reason where it refuses by an end

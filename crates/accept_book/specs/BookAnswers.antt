@@ -2,23 +2,23 @@
 use Rattle.std.specs.Prelude.{◌≡◌, ◌≢◌, ◌↔◌, ℕ, List, length, Option, None, Result, OnErr, IfOk}
 use Rattle.std.specs.Prelude.{IsOk}
 use Rattle.context_table.specs.Places.{IsPast, slot_at, HasValue, Marks, KeepsOthers}
-use Rattle.accept_book.specs.History.{standing}
-use Rattle.accept_book.specs.Answers.{or_refused, after, admitted, receipt_of}
-use Rattle.accept_book.specs.Entering.{given, gained}
-use Rattle.accept_book.specs.Replays.{Accepting, Keeps}
+use Rattle.accept_core.specs.History.{standing}
+use Rattle.accept_core.specs.Answers.{or_refused, after, admitted, receipt_of}
+use Rattle.accept_core.specs.Entering.{given, gained}
+use Rattle.accept_core.specs.Replays.{Accepting, Keeps}
 use Rattle.accept_book.specs.Looking.{IsLooked}
-use Rattle.accept_book.specs.Stepping.{SameWindows}
+use Rattle.accept_core.specs.Stepping.{SameWindows}
 use Rattle.accept_book.specs.Booking.{BookOf, Stands, Outcomes, spends, negotiated, raised, Changed}
 use Rattle.accept_book.specs.Booking.{NotesMoment, LeasedBy, lease_refused, FreeFor}
-use Rattle.accept_book.specs.declared.answer.AdmitRefusal.{AdmitRefusal}
-use Rattle.accept_book.specs.declared.answer.LookRefusal.{LookRefusal}
+use Rattle.accept_core.specs.declared.answer.AdmitRefusal.{AdmitRefusal}
+use Rattle.accept_core.specs.declared.answer.LookRefusal.{LookRefusal}
 use Rattle.accept_book.specs.declared.book_answer.Lease.{Lease}
 use Rattle.accept_book.specs.declared.book_answer.Negotiated.{Negotiated}
 use Rattle.accept_book.specs.declared.book_answer.NegAnswer.TheVariants.{NoMemory}
-use Rattle.accept_book.specs.declared.entry.Admitted.{Admitted}
-use Rattle.accept_book.specs.declared.entry.EndCause.TheVariants.{Destroyed}
-use Rattle.accept_book.specs.declared.entry.Entry.TheVariants.{Call, Ended}
-use Rattle.accept_book.specs.declared.entry.Receipt.{Receipt}
+use Rattle.accept_core.specs.declared.entry.Admitted.{Admitted}
+use Rattle.accept_core.specs.declared.entry.EndCause.TheVariants.{Destroyed}
+use Rattle.accept_core.specs.declared.entry.Entry.TheVariants.{Call, Ended}
+use Rattle.accept_core.specs.declared.entry.Receipt.{Receipt}
 use Rattle.spnego_core.specs.declared.accept_end.AcceptEnd.{AcceptEnd}
 use Rattle.spnego_core.specs.declared.outcome.Outcome.{Outcome}
 

@@ -16,16 +16,16 @@ use Rattle.spnego_core.specs.AcceptLaws.{GoodAccept, ByKerberos, ByScram, Fixes,
 use Rattle.context_table.specs.declared.slot.SlotState.{SlotState}
 use Rattle.context_table.specs.declared.slot.SlotState.TheVariants.{Negotiating, Held, Complete}
 use Rattle.context_table.specs.Places.{Places, slot_at}
-use Rattle.accept_book.specs.declared.entry.Entry.{Entry}
-use Rattle.accept_book.specs.declared.entry.Entry.TheVariants.{Auth, Settled}
+use Rattle.accept_core.specs.declared.entry.Entry.{Entry}
+use Rattle.accept_core.specs.declared.entry.Entry.TheVariants.{Auth, Settled}
 use Rattle.accept_book.specs.declared.book_answer.Lease.{Lease}
 use Rattle.accept_book.specs.declared.book_answer.BookRefusal.{BookRefusal}
 use Rattle.accept_book.specs.declared.book_answer.BookRefusal.TheVariants as refusals
 use Rattle.accept_book.specs.declared.book_answer.NegAnswer.TheVariants as answers
-use Rattle.accept_book.specs.History.{standing, taken_of, entry_at, IsOpen, Unknown}
-use Rattle.accept_book.specs.Legal.{Legal}
-use Rattle.accept_book.specs.Entering.{id_of}
-use Rattle.accept_book.specs.Stepping.{Context, context_of}
+use Rattle.accept_core.specs.History.{standing, taken_of, entry_at, IsOpen, Unknown}
+use Rattle.accept_core.specs.Legal.{Legal}
+use Rattle.accept_core.specs.Entering.{id_of}
+use Rattle.accept_core.specs.Stepping.{Context, context_of}
 use Rattle.accept_book.specs.Booking.{Stands, changed, Changed, change_refused, Outcomes}
 use Rattle.accept_book.specs.Booking.{answer_with, settled_of, names_of, negotiated}
 use Rattle.accept_book.specs.Found.{step_taken, found_of, fixes_of, stepped_from}

@@ -24,28 +24,28 @@ use Rattle.context_table.specs.declared.slot.Slot.{Slot}
 use Rattle.context_table.specs.declared.slot.SlotState.{SlotState}
 use Rattle.context_table.specs.declared.slot.SlotState.TheVariants.{Negotiating, Held, Complete}
 use Rattle.context_table.specs.Places.{Places, slot_at, live_of, state_of}
-use Rattle.accept_book.specs.declared.entry.Entry.{Entry}
-use Rattle.accept_book.specs.declared.entry.Entry.TheVariants.{Ended}
-use Rattle.accept_book.specs.declared.entry.EndCause.TheVariants.{Refused}
-use Rattle.accept_book.specs.declared.answer.MarkRefusal.{MarkRefusal}
-use Rattle.accept_book.specs.declared.answer.MarkRefusal.TheVariants as marks
-use Rattle.accept_book.specs.declared.answer.AdmitRefusal.{AdmitRefusal}
-use Rattle.accept_book.specs.declared.answer.AdmitRefusal.TheVariants as admits
-use Rattle.accept_book.specs.declared.answer.LookRefusal.{LookRefusal}
-use Rattle.accept_book.specs.declared.answer.LookRefusal.TheVariants as looks
-use Rattle.accept_book.specs.declared.answer.Next.{Next}
-use Rattle.accept_book.specs.declared.answer.Next.TheVariants as nexts
+use Rattle.accept_core.specs.declared.entry.Entry.{Entry}
+use Rattle.accept_core.specs.declared.entry.Entry.TheVariants.{Ended}
+use Rattle.accept_core.specs.declared.entry.EndCause.TheVariants.{Refused}
+use Rattle.accept_core.specs.declared.answer.MarkRefusal.{MarkRefusal}
+use Rattle.accept_core.specs.declared.answer.MarkRefusal.TheVariants as marks
+use Rattle.accept_core.specs.declared.answer.AdmitRefusal.{AdmitRefusal}
+use Rattle.accept_core.specs.declared.answer.AdmitRefusal.TheVariants as admits
+use Rattle.accept_core.specs.declared.answer.LookRefusal.{LookRefusal}
+use Rattle.accept_core.specs.declared.answer.LookRefusal.TheVariants as looks
+use Rattle.accept_core.specs.declared.answer.Next.{Next}
+use Rattle.accept_core.specs.declared.answer.Next.TheVariants as nexts
 use Rattle.accept_book.specs.declared.book_answer.Lease.{Lease}
 use Rattle.accept_book.specs.declared.book_answer.BookRefusal.{BookRefusal}
 use Rattle.accept_book.specs.declared.book_answer.BookRefusal.TheVariants as refusals
 use Rattle.accept_book.specs.declared.book_answer.NegAnswer.{NegAnswer}
 use Rattle.accept_book.specs.declared.book_answer.NegAnswer.TheVariants as answers
-use Rattle.accept_book.specs.History.{Standing, Unknown, Open, Whole, Over, standing, has_auth}
-use Rattle.accept_book.specs.History.{taken_of}
-use Rattle.accept_book.specs.Answers.{refused, Free}
-use Rattle.accept_book.specs.Entering.{id_of, entered, mark_refused}
-use Rattle.accept_book.specs.Replays.{Accepting, Naming}
-use Rattle.accept_book.specs.Stepping.{has_place, Context, context_of, context_after, until_of}
+use Rattle.accept_core.specs.History.{Standing, Unknown, Open, Whole, Over, standing, has_auth}
+use Rattle.accept_core.specs.History.{taken_of}
+use Rattle.accept_core.specs.Answers.{refused, Free}
+use Rattle.accept_core.specs.Entering.{id_of, entered, mark_refused}
+use Rattle.accept_core.specs.Replays.{Accepting, Naming}
+use Rattle.accept_core.specs.Stepping.{has_place, Context, context_of, context_after, until_of}
 
 -- the digest by which the log knows an outcome: SHA-1 of both names, each with an octet 00 after
 -- it, the key's octets, and 01 if the key is the acceptor's subkey, else 00

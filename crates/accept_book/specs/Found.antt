@@ -9,9 +9,9 @@ use Rattle.spnego_core.specs.declared.accept_end.AcceptEnd.{AcceptEnd}
 use Rattle.spnego_core.specs.declared.accept_end.AcceptEnd.TheVariants as ends
 use Rattle.spnego_core.specs.Accepting.{Fixed, Accepted, accept_step}
 use Rattle.context_table.specs.Places.{slot_at, live_of, state_of}
-use Rattle.accept_book.specs.declared.answer.MarkRefusal.{MarkRefusal}
-use Rattle.accept_book.specs.History.{Standing, Unknown, Open, Whole, Over, standing, taken_of}
-use Rattle.accept_book.specs.Entering.{mark_refused}
+use Rattle.accept_core.specs.declared.answer.MarkRefusal.{MarkRefusal}
+use Rattle.accept_core.specs.History.{Standing, Unknown, Open, Whole, Over, standing, taken_of}
+use Rattle.accept_core.specs.Entering.{mark_refused}
 use Rattle.accept_book.specs.Booking.{Stands, mark_of, later_step}
 
 -- a step is taken unless the machine refuses the token or the cache the step's mark

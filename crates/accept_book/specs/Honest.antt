@@ -15,11 +15,11 @@ use Rattle.krb_tokens.specs.Wrap.{wrap_of}
 use Rattle.krb_tokens.specs.Tokens.{IsMicOf, IsWrapOf}
 use Rattle.spnego_core.specs.Outcome.{token_end}
 use Rattle.accept_book.specs.Served.{are_args, result_of}
-use Rattle.accept_book.specs.declared.answer.AdmitRefusal.{AdmitRefusal}
-use Rattle.accept_book.specs.declared.answer.AdmitRefusal.TheVariants.{Gone, AboveMax, Below}
-use Rattle.accept_book.specs.declared.answer.AdmitRefusal.TheVariants.{Repeat, LogFull}
+use Rattle.accept_core.specs.declared.answer.AdmitRefusal.{AdmitRefusal}
+use Rattle.accept_core.specs.declared.answer.AdmitRefusal.TheVariants.{Gone, AboveMax, Below}
+use Rattle.accept_core.specs.declared.answer.AdmitRefusal.TheVariants.{Repeat, LogFull}
 use Rattle.accept_book.specs.declared.book_answer.Lease.{Lease}
-use Rattle.accept_book.specs.declared.entry.Admitted.{Admitted}
+use Rattle.accept_core.specs.declared.entry.Admitted.{Admitted}
 use Rattle.accept_book.specs.RecordShown.{KeptAnswers, Admit, AskedLook, AskedAdmit, handle_id}
 use Rattle.accept_book.specs.RecordShown.{end_of, result_body}
 use Rattle.accept_book.specs.RecordRule.{record_ruling}

@@ -1,6 +1,6 @@
 -- What a look leaves.
 use Rattle.std.specs.Prelude.{◌≡◌, ℕ, max}
-use Rattle.accept_book.specs.Replays.{Accepting}
+use Rattle.accept_core.specs.Replays.{Accepting}
 
 -- a moment was seen, and nothing else changed but which marks are held
 pub record IsLooked {N S : Type 0} (old : Accepting N S) (now : ℕ) (new : Accepting N S) : Type 0

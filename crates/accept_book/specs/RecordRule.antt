@@ -23,17 +23,17 @@ use Rattle.rpcsec_msgs.specs.declared.numbers.TheConstants.{RPCSEC_GSS_CONTINUE_
 use Rattle.rpcsec_msgs.specs.declared.numbers.TheConstants.{RPC_GSS_SVC_NONE}
 use Rattle.rpcsec_msgs.specs.declared.cred.CredRefusal.{CredRefusal}
 use Rattle.accept_book.specs.Served.{one_opaque, are_args, result_of}
-use Rattle.accept_book.specs.declared.answer.AdmitRefusal.{AdmitRefusal}
-use Rattle.accept_book.specs.declared.answer.AdmitRefusal.TheVariants as admits
-use Rattle.accept_book.specs.declared.answer.LookRefusal.{LookRefusal}
-use Rattle.accept_book.specs.declared.answer.LookRefusal.TheVariants as looks
+use Rattle.accept_core.specs.declared.answer.AdmitRefusal.{AdmitRefusal}
+use Rattle.accept_core.specs.declared.answer.AdmitRefusal.TheVariants as admits
+use Rattle.accept_core.specs.declared.answer.LookRefusal.{LookRefusal}
+use Rattle.accept_core.specs.declared.answer.LookRefusal.TheVariants as looks
 use Rattle.accept_book.specs.declared.book_answer.BookRefusal.TheVariants as books
 use Rattle.accept_book.specs.declared.book_answer.Lease.{Lease}
 use Rattle.accept_book.specs.declared.book_answer.NegAnswer.{NegAnswer}
 use Rattle.accept_book.specs.declared.book_answer.NegAnswer.TheVariants as steps
 use Rattle.accept_book.specs.declared.book_answer.Negotiated.{Negotiated}
-use Rattle.accept_book.specs.declared.entry.Admitted.{Admitted}
-use Rattle.accept_book.specs.declared.entry.Receipt.{Receipt}
+use Rattle.accept_core.specs.declared.entry.Admitted.{Admitted}
+use Rattle.accept_core.specs.declared.entry.Receipt.{Receipt}
 use Rattle.accept_book.specs.declared.rule.Rule.TheVariants as rules
 use Rattle.accept_book.specs.RecordShown.{KeptAnswers, Negotiate, Look, Admit, End, AskedStep}
 use Rattle.accept_book.specs.RecordShown.{AskedLook, AskedAdmit, AskedEnd, Ruling, by, undecided}

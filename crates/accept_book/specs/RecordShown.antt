@@ -20,14 +20,14 @@ use Rattle.krb_tokens.specs.declared.end.Side.TheVariants.{Acceptor}
 use Rattle.krb_tokens.specs.declared.end.TokenEnd.{TokenEnd}
 use Rattle.spnego_core.specs.Outcome.{token_end}
 use Rattle.accept_book.specs.Statuses.{major_status, book_error, book_number}
-use Rattle.accept_book.specs.declared.answer.AdmitRefusal.{AdmitRefusal}
-use Rattle.accept_book.specs.declared.answer.LookRefusal.{LookRefusal}
+use Rattle.accept_core.specs.declared.answer.AdmitRefusal.{AdmitRefusal}
+use Rattle.accept_core.specs.declared.answer.LookRefusal.{LookRefusal}
 use Rattle.accept_book.specs.declared.book_answer.BookRefusal.{BookRefusal}
 use Rattle.accept_book.specs.declared.book_answer.BookRefusal.TheVariants as books
 use Rattle.accept_book.specs.declared.book_answer.Lease.{Lease}
 use Rattle.accept_book.specs.declared.book_answer.Negotiated.{Negotiated}
-use Rattle.accept_book.specs.declared.entry.Admitted.{Admitted}
-use Rattle.accept_book.specs.declared.entry.Receipt.{Receipt}
+use Rattle.accept_core.specs.declared.entry.Admitted.{Admitted}
+use Rattle.accept_core.specs.declared.entry.Receipt.{Receipt}
 use Rattle.accept_book.specs.declared.rule.Rule.{Rule}
 use Rattle.accept_book.specs.Rules.{rule_number}
 

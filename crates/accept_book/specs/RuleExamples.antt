@@ -3,7 +3,7 @@
 use Rattle.std.specs.Prelude.{◌≡◌, ℕ, List, [], ◌∷◌, ◌++◌, Option, Some, None, Err}
 use Rattle.rpc_msgs.specs.Words.{word}
 use Rattle.spnego_core.specs.declared.refusal.NegRefusal.TheVariants.{Defective}
-use Rattle.accept_book.specs.declared.answer.LookRefusal.TheVariants as looks
+use Rattle.accept_core.specs.declared.answer.LookRefusal.TheVariants as looks
 use Rattle.accept_book.specs.declared.book_answer.BookRefusal.TheVariants as books
 use Rattle.accept_book.specs.declared.book_answer.NegAnswer.{NegAnswer}
 use Rattle.accept_book.specs.declared.book_answer.NegAnswer.TheVariants as steps

@@ -2,8 +2,8 @@
 use Rattle.std.specs.Prelude.{ℕ, ◌≤◌, Option}
 use Rattle.accept_book.specs.BookAnswers.{ComesTo}
 use Rattle.accept_book.specs.Booking.{Outcomes, stands_of, token_size, AllFit, OthersFit}
-use Rattle.accept_book.specs.Ready.{ReadyFor}
-use Rattle.accept_book.specs.Replays.{Accepting, Keeps}
+use Rattle.accept_core.specs.Ready.{ReadyFor}
+use Rattle.accept_core.specs.Replays.{Accepting, Keeps}
 use Rattle.accept_book.specs.declared.book_answer.Negotiated.{Negotiated}
 use Rattle.spnego_core.specs.declared.accept_end.AcceptEnd.{AcceptEnd}
 use Rattle.spnego_core.specs.declared.outcome.Outcome.{Outcome}

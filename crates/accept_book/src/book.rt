@@ -5,12 +5,12 @@ ghost use Rattle.gss_base.specs.Mech.{is_kerberos};
 ghost use Rattle.spnego_core.specs.Accepting.{IsSettled, accept_step};
 ghost use Rattle.spnego_core.specs.Sizes.{ShortAccept};
 ghost use Rattle.context_table.specs.Places.{slot_at, phase_of};
-ghost use Rattle.accept_book.specs.Phases.{PhaseBy};
-ghost use Rattle.accept_book.specs.declared.entry.Entry.{Entry};
-ghost use Rattle.accept_book.specs.History.{standing, posts};
-ghost use Rattle.accept_book.specs.Entering.{auth_of, auth_after, given, gained};
-ghost use Rattle.accept_book.specs.Replays.{Keeps, Replays};
-ghost use Rattle.accept_book.specs.Legal.{Legal};
+ghost use Rattle.accept_core.specs.Phases.{PhaseBy};
+ghost use Rattle.accept_core.specs.declared.entry.Entry.{Entry};
+ghost use Rattle.accept_core.specs.History.{standing, posts};
+ghost use Rattle.accept_core.specs.Entering.{auth_of, auth_after, given, gained};
+ghost use Rattle.accept_core.specs.Replays.{Keeps, Replays};
+ghost use Rattle.accept_core.specs.Legal.{Legal};
 ghost use Rattle.accept_book.specs.BookAnswers.{ComesTo};
 ghost use Rattle.accept_book.specs.Tokens.{AwaitsStep, TookToken};
 ghost use Rattle.accept_book.specs.Booking.{names_of, by_outcome, Fits, AllFit};
@@ -18,12 +18,11 @@ ghost use Rattle.accept_book.specs.Booking.{StepFits, token_size, mark_of, settl
 ghost use Rattle.accept_book.specs.Booking.{spends, by_step, begun, opened_by, taken, negotiated};
 ghost use Rattle.accept_book.specs.Booking.{refusal_of_mark, has_key};
 
-use crate::acceptance::{Core, blank};
-use crate::answer::{AdmitRefusal, LookRefusal, MarkRefusal, Next, RoomRefusal};
 use crate::book_answer::{BookRefusal, Lease, NegAnswer, Negotiated};
-use crate::entry::{Admitted, Limits, Receipt, Receipts};
-use crate::log::Log;
-use crate::named::Named;
+use accept_core::{
+    AdmitRefusal, Admitted, Core, Limits, Log, LookRefusal, MarkRefusal, Named, Next, Receipt,
+    Receipts, RoomRefusal, blank,
+};
 use context_table::Phase;
 use gss_base::{Mark, MechKind};
 use krb_derive::Key;
@@ -48,17 +47,31 @@ pub fn names_of(outcome: &Outcome) -> [u8; 20]
     hasher.finalize()
 }
 
-impl Named for Outcome {
+/// An outcome as the value of a complete context. Contracts see the outcome.
+#[derive(Drop)]
+pub struct Agreed {
+    outcome: Outcome,
+}
+
+impl Model for Agreed {
+    ghost use Rattle.spnego_core.specs.declared.outcome.Outcome.{Outcome as OutcomeIs};
+
+    ghost Value = { OutcomeIs };
+
+    ghost view = { λ a. a.outcome };
+}
+
+impl Named for Agreed {
     ghost mech_of = { λ o. o.mech };
 
     ghost names_of = { names_of };
 
     fn mech(&self) -> MechKind {
-        self.mech
+        self.outcome.mech
     }
 
     fn names(&self) -> [u8; 20] {
-        names_of(self)
+        names_of(&self.outcome)
     }
 }
 
@@ -68,7 +81,7 @@ impl Named for Outcome {
 #[derive(Drop)]
 pub struct Book {
     setup: AcceptSetup,
-    core: Core<AcceptEnd, Outcome>,
+    core: Core<AcceptEnd, Agreed>,
 }
 
 impl Model for Book {
@@ -100,7 +113,7 @@ fn one_receipt(receipt: Receipt) -> Receipts
 }
 
 // A token that isn't taken once it was read: a later one ends its context.
-fn refuse(core: &mut Core<AcceptEnd, Outcome>, id: Option<u64>, answer: NegAnswer) -> Negotiated
+fn refuse(core: &mut Core<AcceptEnd, Agreed>, id: Option<u64>, answer: NegAnswer) -> Negotiated
     requires ready { AwaitsStep core.old id }
     ensures answer { result.answer ≡ answer }
     ensures comes { ComesTo (stands_of core.old) id
@@ -136,7 +149,7 @@ fn refusal_of_mark(refusal: MarkRefusal) -> BookRefusal
 
 // What a step comes to once it was made. Its mark is given apart.
 fn go_on(
-    core: &mut Core<AcceptEnd, Outcome>,
+    core: &mut Core<AcceptEnd, Agreed>,
     id: Option<u64>,
     mark: Option<Mark>,
     end: AcceptEnd,
@@ -162,7 +175,7 @@ fn go_on(
 }
 
 fn settle(
-    core: &mut Core<AcceptEnd, Outcome>,
+    core: &mut Core<AcceptEnd, Agreed>,
     id: Option<u64>,
     mark: Option<Mark>,
     outcome: Outcome,
@@ -180,7 +193,7 @@ fn settle(
     let step = Next::Settled {
         mech: outcome.mech,
         names: names_of(&outcome),
-        value: outcome,
+        value: Agreed { outcome },
         ends,
     };
     match core.enter(id, mark, step) {
@@ -199,7 +212,7 @@ fn settle(
 }
 
 fn finish(
-    core: &mut Core<AcceptEnd, Outcome>,
+    core: &mut Core<AcceptEnd, Agreed>,
     id: Option<u64>,
     mark: Option<Mark>,
     step: AcceptStep,
@@ -220,7 +233,7 @@ fn finish(
 }
 
 // A step with its mark, where it asks for the repeat test.
-fn enter(core: &mut Core<AcceptEnd, Outcome>, id: Option<u64>, step: AcceptStep) -> Negotiated
+fn enter(core: &mut Core<AcceptEnd, Agreed>, id: Option<u64>, step: AcceptStep) -> Negotiated
     requires ready { AwaitsStep core.old id }
     requires fits { StepFits step (auth_of id core.old.history) }
     requires short { ShortAccept step }
@@ -252,7 +265,7 @@ fn leave(answer: NegAnswer) -> Negotiated
 fn take_step(
     alloc: Global,
     setup: &AcceptSetup,
-    core: &mut Core<AcceptEnd, Outcome>,
+    core: &mut Core<AcceptEnd, Agreed>,
     id: Option<u64>,
     end: AcceptEnd,
     token: &[u8],
@@ -276,7 +289,7 @@ fn take_step(
 fn begin(
     alloc: Global,
     setup: &AcceptSetup,
-    core: &mut Core<AcceptEnd, Outcome>,
+    core: &mut Core<AcceptEnd, Agreed>,
     token: &[u8],
     now: Moment,
     draws: &[u8; 66],
@@ -305,7 +318,7 @@ fn begin(
 fn proceed(
     alloc: Global,
     setup: &AcceptSetup,
-    core: &mut Core<AcceptEnd, Outcome>,
+    core: &mut Core<AcceptEnd, Agreed>,
     id: u64,
     token: &[u8],
     now: Moment,
@@ -331,7 +344,7 @@ fn proceed(
 fn continue_with(
     alloc: Global,
     setup: &AcceptSetup,
-    core: &mut Core<AcceptEnd, Outcome>,
+    core: &mut Core<AcceptEnd, Agreed>,
     id: u64,
     token: &[u8],
     now: Moment,
@@ -351,12 +364,12 @@ fn continue_with(
 }
 
 // Whether a context is complete with the lease's key.
-fn holds_key(core: &Core<AcceptEnd, Outcome>, lease: &Lease) -> bool
+fn holds_key(core: &Core<AcceptEnd, Agreed>, lease: &Lease) -> bool
     ensures { result ≡ has_key (slot_at core.now.table lease.now.id) lease.now.outcome.key }
 {
     match core.value(lease.id) {
         None => false,
-        Some(outcome) => outcome.key.bytes() == lease.outcome.key.bytes(),
+        Some(agreed) => agreed.outcome.key.bytes() == lease.outcome.key.bytes(),
     }
 }
 
@@ -427,9 +440,9 @@ impl Book {
     {
         self.core.raise(now);
         match self.core.peek(id, now) {
-            Ok((outcome, ends)) => Ok(Lease {
+            Ok((agreed, ends)) => Ok(Lease {
                 id,
-                outcome: *outcome,
+                outcome: agreed.outcome,
                 ends,
             }),
             Err(refusal) => Err(refusal),

@@ -3,7 +3,7 @@
 ghost use Rattle.std.specs.Prelude.{◌≡◌};
 ghost use Rattle.accept_book.specs.Statuses.{book_number};
 
-use crate::entry::Receipts;
+use accept_core::Receipts;
 use sec_base::{Moment, Octets};
 use spnego_core::{NegRefusal, Outcome};
 

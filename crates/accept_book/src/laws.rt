@@ -1,29 +1,12 @@
-//! Laws over all legal histories.
+//! Laws of a book, and of the rule of a record.
 ghost use Rattle.accept_book.specs.Asking.{AsksLaws};
 ghost use Rattle.accept_book.specs.BookLaws.{BookLaws};
-ghost use Rattle.accept_book.specs.Examples.{Examples};
 ghost use Rattle.accept_book.specs.Honest.{HonestLaw, HonestMade};
-ghost use Rattle.accept_book.specs.Once.{CallsOnce, MarksOnce};
 ghost use Rattle.accept_book.specs.RuleExamples.{RulesByHand};
 
 use crate::book_answer::Lease;
 use krb_derive::SealKeys;
 use spnego_core::prove_accept_laws;
-
-/// No number of a context stands twice in a legal history.
-pub fn calls_once()
-    ensures { CallsOnce }
-{}
-
-/// No authenticator stands twice in a legal history.
-pub fn marks_once()
-    ensures { MarksOnce }
-{}
-
-/// Histories by hand: a legal one with all kinds of entries, and for each condition what may follow and what may not.
-pub fn histories_by_hand()
-    ensures { Examples }
-{}
 
 /// Rules of records by hand: what single records are answered, given what was answered to the questions that they ask.
 pub fn rules_by_hand()

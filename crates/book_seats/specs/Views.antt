@@ -7,7 +7,7 @@ use Rattle.atomic_table.specs.Table.{State, Me, Step}
 use Rattle.atomic_table.specs.Seated.{TableId}
 use Rattle.atomic_table.specs.declared.shared.Seat.{Seat}
 use Rattle.accept_book.specs.RecordShown.{Asked, AskedLook}
-use Rattle.accept_book.specs.declared.answer.LookRefusal.TheVariants.{NoContext}
+use Rattle.accept_core.specs.declared.answer.LookRefusal.TheVariants.{NoContext}
 use Rattle.book_seats.specs.Notes.{Note, StartsWith, asked_by}
 
 -- the name of no table

@@ -10,7 +10,7 @@ use std::marker::{Brand, Model, PhantomData};
 pub trait Room {
     ghost use Rattle.atomic_table.specs.Seated.{TableId};
     ghost use Rattle.accept_book.specs.Booking.{BookOf};
-    ghost use Rattle.accept_book.specs.declared.entry.Limits.{Limits};
+    ghost use Rattle.accept_core.specs.declared.entry.Limits.{Limits};
 
     ghost table: { TableId };
 

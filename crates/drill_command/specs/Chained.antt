@@ -3,7 +3,7 @@ use Rattle.std.specs.Prelude.{◌≡◌, ℕ, zero, suc, Bool, ◌&&◌, IsTrue,
 use Rattle.std.specs.Prelude.{None}
 use Rattle.std.specs.List.{AllByRecursion}
 use Rattle.accept_book.specs.Booking.{BookOf}
-use Rattle.accept_book.specs.declared.entry.Entry.{Entry}
+use Rattle.accept_core.specs.declared.entry.Entry.{Entry}
 use Rattle.gss_server.specs.declared.answer.Kept.{Kept}
 use Rattle.pair_laws.specs.Conferring.{DueCall}
 use Rattle.pair_laws.specs.Resting.{RestsAt}

@@ -2,7 +2,7 @@
 -- contexts and marks it may have.
 use Rattle.std.specs.Prelude.{ℕ, List, [], ◌∷◌}
 use Rattle.accept_book.specs.Booking.{BookOf}
-use Rattle.accept_book.specs.Logs.{LogOf}
+use Rattle.accept_core.specs.Logs.{LogOf}
 
 -- those of a book
 abbrev pub book_limits : BookOf → List ℕ

@@ -5,9 +5,9 @@ use Rattle.std.specs.Fmt.{decimal}
 use Rattle.hex.specs.Hex.{encode_lower}
 use Rattle.sha1.specs.Sha1.{sha1}
 use Rattle.rpc_msgs.specs.declared.numbers.TheConstants.{POST}
-use Rattle.accept_book.specs.Logs.{LogOf}
-use Rattle.accept_book.specs.declared.entry.Entry.{Entry}
-use Rattle.accept_book.specs.declared.entry.Entry.TheVariants as entries
+use Rattle.accept_core.specs.Logs.{LogOf}
+use Rattle.accept_core.specs.declared.entry.Entry.{Entry}
+use Rattle.accept_core.specs.declared.entry.Entry.TheVariants as entries
 use Rattle.drill_command.specs.declared.session.DrillSession.{DrillSession}
 use Rattle.drill_command.specs.declared.words.Plan.{Plan}
 

@@ -6,8 +6,8 @@ use Rattle.gss_base.specs.declared.mech.MechKind.{MechKind}
 use Rattle.spnego_core.specs.Exchange.{HonestPair}
 use Rattle.spnego_core.specs.declared.outcome.Outcome.{Outcome}
 use Rattle.accept_book.specs.Booking.{BookOf, names_of}
-use Rattle.accept_book.specs.History.{posts}
-use Rattle.accept_book.specs.declared.entry.Entry.{Entry}
+use Rattle.accept_core.specs.History.{posts}
+use Rattle.accept_core.specs.declared.entry.Entry.{Entry}
 use Rattle.gss_client.specs.declared.start.Start.{Start}
 use Rattle.gss_server.specs.declared.answer.Kept.{Kept}
 use Rattle.pair_laws.specs.Conferring.{DueCall}

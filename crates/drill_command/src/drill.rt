@@ -3,7 +3,7 @@
 ghost use Rattle.std.specs.Prelude.{◌≡◌, ◌≢◌, ◌⊎◌, ◌≤◌, ℕ, [], length, Some, None, IfOk};
 ghost use Rattle.std.specs.Prelude.{IsTrue, string_bytes, reverse, vec_len};
 ghost use Rattle.std.specs.List.{AllByRecursion};
-ghost use Rattle.accept_book.specs.Legal.{Legal};
+ghost use Rattle.accept_core.specs.Legal.{Legal};
 ghost use Rattle.sec_base.specs.Answers.{Rose};
 ghost use Rattle.cli_base.specs.Lines.{SaysLine, Says};
 ghost use Rattle.drill_command.specs.Chained.{AreAllHeld, IsUnrefused};

@@ -7,7 +7,7 @@ ghost use Rattle.gss_base.specs.declared.mech.MechKind.{MechKind};
 ghost use Rattle.pair_laws.specs.Linked.{IsTakenBy, kept_of};
 ghost use Rattle.pair_laws.specs.Rows.{IsKeptBy};
 ghost use Rattle.drill_command.specs.Rested.{IsLinkTold, FitsRest, RestsAgain, IsNext};
-ghost use Rattle.accept_book.specs.Legal.{Legal};
+ghost use Rattle.accept_core.specs.Legal.{Legal};
 ghost use Rattle.spnego_core.specs.InitMech.{is_own_list};
 ghost use Rattle.gss_server.specs.Asking.{BookAnswers};
 ghost use Rattle.gate_models.specs.Looping.{Since};

@@ -2,18 +2,18 @@
 -- else LogFull to a step, NoContext to a look, and Gone to an admission or an end. Whatever it was,
 -- the next answer is used up.
 use Rattle.std.specs.Prelude.{◌≡◌, List, [], ◌∷◌, drop, Result, Err}
-use Rattle.accept_book.specs.Entering.{given}
+use Rattle.accept_core.specs.Entering.{given}
 use Rattle.accept_book.specs.RecordShown.{Asked, AskedStep, AskedLook, AskedAdmit, AskedEnd}
-use Rattle.accept_book.specs.declared.answer.AdmitRefusal.{AdmitRefusal}
-use Rattle.accept_book.specs.declared.answer.AdmitRefusal.TheVariants.{Gone}
-use Rattle.accept_book.specs.declared.answer.LookRefusal.{LookRefusal}
-use Rattle.accept_book.specs.declared.answer.LookRefusal.TheVariants.{NoContext}
+use Rattle.accept_core.specs.declared.answer.AdmitRefusal.{AdmitRefusal}
+use Rattle.accept_core.specs.declared.answer.AdmitRefusal.TheVariants.{Gone}
+use Rattle.accept_core.specs.declared.answer.LookRefusal.{LookRefusal}
+use Rattle.accept_core.specs.declared.answer.LookRefusal.TheVariants.{NoContext}
 use Rattle.accept_book.specs.declared.book_answer.BookRefusal.TheVariants.{LogFull}
 use Rattle.accept_book.specs.declared.book_answer.Lease.{Lease}
 use Rattle.accept_book.specs.declared.book_answer.NegAnswer.TheVariants.{Refused}
 use Rattle.accept_book.specs.declared.book_answer.Negotiated.{Negotiated}
-use Rattle.accept_book.specs.declared.entry.Admitted.{Admitted}
-use Rattle.accept_book.specs.declared.entry.Receipt.{Receipt}
+use Rattle.accept_core.specs.declared.entry.Admitted.{Admitted}
+use Rattle.accept_core.specs.declared.entry.Receipt.{Receipt}
 use Rattle.gate_models.specs.declared.gate_answer.GateAnswer.{GateAnswer}
 use Rattle.gate_models.specs.declared.gate_answer.GateAnswer.TheVariants as answers
 

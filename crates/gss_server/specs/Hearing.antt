@@ -3,12 +3,12 @@ use Rattle.std.specs.Prelude.{ℕ, ◌+◌, Bool, if◌then◌else◌, is_some, 
 use Rattle.std.specs.Prelude.{Result}
 use Rattle.rpc_msgs.specs.Calls.{call_value}
 use Rattle.accept_book.specs.RecordShown.{Shown, KeptAnswers, handle_of}
-use Rattle.accept_book.specs.declared.answer.AdmitRefusal.{AdmitRefusal}
-use Rattle.accept_book.specs.declared.answer.LookRefusal.{LookRefusal}
+use Rattle.accept_core.specs.declared.answer.AdmitRefusal.{AdmitRefusal}
+use Rattle.accept_core.specs.declared.answer.LookRefusal.{LookRefusal}
 use Rattle.accept_book.specs.declared.book_answer.Lease.{Lease}
 use Rattle.accept_book.specs.declared.book_answer.Negotiated.{Negotiated}
-use Rattle.accept_book.specs.declared.entry.Admitted.{Admitted}
-use Rattle.accept_book.specs.declared.entry.Receipt.{Receipt}
+use Rattle.accept_core.specs.declared.entry.Admitted.{Admitted}
+use Rattle.accept_core.specs.declared.entry.Receipt.{Receipt}
 use Rattle.gss_server.specs.declared.answer.Kept.{Kept}
 use Rattle.gss_server.specs.declared.heard.Heard.{Heard}
 

@@ -3,10 +3,10 @@ use Rattle.std.specs.Prelude.{◌≡◌, ◌≤◌, ℕ, ◌+◌, Bool, IsTrue, 
 use Rattle.sha1.specs.Sha1.{sha1}
 use Rattle.spnego_core.specs.declared.accept_end.AcceptEnd.{AcceptEnd}
 use Rattle.spnego_core.specs.declared.outcome.Outcome.{Outcome}
-use Rattle.accept_book.specs.Replays.{Accepting}
+use Rattle.accept_core.specs.Replays.{Accepting}
 use Rattle.accept_book.specs.RecordShown.{Asked, AskedStep, AskedLook, AskedAdmit, AskedEnd}
 use Rattle.accept_book.specs.declared.book_answer.NegAnswer.{NegAnswer}
-use Rattle.accept_book.specs.declared.entry.Limits.{Limits}
+use Rattle.accept_core.specs.declared.entry.Limits.{Limits}
 use Rattle.accept_book.specs.declared.book_answer.NegAnswer.TheVariants as steps
 use Rattle.gss_server.specs.declared.told.StepTold.{StepTold}
 use Rattle.gss_server.specs.declared.told.StepTold.TheVariants as tolds

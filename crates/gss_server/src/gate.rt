@@ -15,7 +15,7 @@ pub trait Gate {
     ghost use Rattle.accept_book.specs.RecordShown.{Asked, AskedStep, AskedLook, AskedAdmit};
     ghost use Rattle.accept_book.specs.RecordShown.{AskedEnd};
     ghost use Rattle.accept_book.specs.Booking.{token_size};
-    ghost use Rattle.accept_book.specs.declared.entry.Limits.{Limits};
+    ghost use Rattle.accept_core.specs.declared.entry.Limits.{Limits};
     ghost use Rattle.gss_server.specs.Telling.{Tells};
     ghost use Rattle.gss_server.specs.declared.told.Told.{Told};
 

@@ -5,7 +5,7 @@ ghost use Rattle.std.specs.Prelude.{◌≡◌};
 use crate::books::{say_admitted, say_ended, say_receipt};
 use crate::connections::limits_of;
 use crate::entries;
-use accept_book::{Core, Entered, Named, Next};
+use accept_core::{Core, Entered, Named, Next};
 use gss_base::MechKind;
 use sec_base::Moment;
 use std::alloc::Global;

@@ -2,14 +2,14 @@
 
 ghost use Rattle.std.specs.Prelude.{◌≡◌, IfSome};
 ghost use Rattle.std.specs.List.{AllByRecursion};
-ghost use Rattle.server_command.specs.Desks.{IsFresh};
+ghost use Rattle.server_desks.specs.Desks.{IsFresh};
 
 use crate::servers::{MemDesk, desk, octets_of};
 use accept_book::{AdmitRefusal, Admitted, Lease, LookRefusal, Negotiated, Receipt};
 use gate_models::ListGate;
 use gss_server::Gate;
 use sec_base::Moment;
-use server_command::{Job, run_desks};
+use server_desks::{Job, run_desks};
 use std::alloc::Global;
 use std::sync::atomic::AtomicU64;
 use std::sync::atomic::Ordering::SeqCst;

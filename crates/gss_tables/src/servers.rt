@@ -3,11 +3,12 @@
 ghost use Rattle.std.specs.Prelude.{◌≡◌, true, IfSome};
 ghost use Rattle.sec_base.specs.MemPort.{none_closed};
 ghost use Rattle.std.specs.List.{AllByRecursion};
-ghost use Rattle.server_command.specs.Desks.{IsFresh};
+ghost use Rattle.server_desks.specs.Desks.{IsFresh};
 
 use gss_server::{KeepAll, KeepReceipts, Served};
 use sec_base::{Link, MemClock, MemDraw, MemLink, MemPort, MemShelf, Moment, Text};
-use server_command::{Desk, run_server};
+use server_command::run_server;
+use server_desks::Desk;
 use std::alloc::Global;
 use std::sync::Wait;
 use std::thread::Threads;

@@ -3,12 +3,14 @@
 
 ghost use Rattle.std.specs.Prelude.{IfOk};
 ghost use Rattle.std.specs.List.{AllByRecursion};
-ghost use Rattle.server_command.specs.Desks.{IsFresh};
+ghost use Rattle.server_desks.specs.Desks.{IsFresh};
 
 use drill_command::{is_drill, run_drill};
 use gss_server::{KeepNothing, KeepReceipts};
 use sec_base::{Clock, Port, Text};
-use server_command::{Desk, address_of, run_server};
+use server_command::run_server;
+use server_desks::Desk;
+use server_options::address_of;
 use std::net::{Net, TcpListener, TcpStream};
 use std::process::ExitCode;
 use std::sync::Wait;

@@ -5,18 +5,18 @@ use Rattle.sha1.specs.Sha1.{sha1}
 use Rattle.krb_derive.specs.declared.sealing.SealKeys.{SealKeys}
 use Rattle.krb_derive.specs.Kept.{ForSealing}
 use Rattle.rpc_msgs.specs.Calls.{CallValue}
-use Rattle.accept_book.specs.Answers.{admitted}
+use Rattle.accept_core.specs.Answers.{admitted}
 use Rattle.context_table.specs.Places.{KeepsOthers}
 use Rattle.accept_book.specs.Booking.{BookOf, NotesMoment}
 use Rattle.accept_book.specs.Honest.{Honest, caller_of}
 use Rattle.accept_book.specs.RecordShown.{KeptAnswers, Asked, AskedLook, AskedAdmit, Ruling, Shown, asking, handle_id}
 use Rattle.accept_book.specs.RecordRule.{record_ruling, call_ruling, ask_look, ask_admit, looked_ruling}
-use Rattle.accept_book.specs.declared.answer.AdmitRefusal.{AdmitRefusal}
-use Rattle.accept_book.specs.declared.answer.LookRefusal.{LookRefusal}
+use Rattle.accept_core.specs.declared.answer.AdmitRefusal.{AdmitRefusal}
+use Rattle.accept_core.specs.declared.answer.LookRefusal.{LookRefusal}
 use Rattle.accept_book.specs.declared.book_answer.Lease.{Lease}
-use Rattle.accept_book.specs.declared.entry.Admitted.{Admitted}
-use Rattle.accept_book.specs.declared.entry.Entry.{Entry}
-use Rattle.accept_book.specs.declared.entry.Entry.TheVariants.{Call}
+use Rattle.accept_core.specs.declared.entry.Admitted.{Admitted}
+use Rattle.accept_core.specs.declared.entry.Entry.{Entry}
+use Rattle.accept_core.specs.declared.entry.Entry.TheVariants.{Call}
 use Rattle.accept_book.proofs.HonestRecords.{shown_by, honest-ruling, honest-ruled}
 use Rattle.gss_server.specs.Answers.{IsDecided}
 use Rattle.gss_server.specs.Asking.{Asking, BookAnswers}

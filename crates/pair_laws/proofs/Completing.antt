@@ -30,12 +30,12 @@ use Rattle.spnego_core.specs.Exchange as exchange
 use Rattle.replay_cache.specs.Taking.{cache_verdict}
 use Rattle.replay_cache.specs.declared.cache.CacheVerdict.TheVariants.{Taken}
 use Rattle.context_table.specs.Places.{live_of}
-use Rattle.accept_book.specs.History.{taken_of}
-use Rattle.accept_book.specs.Entering.{id_of}
+use Rattle.accept_core.specs.History.{taken_of}
+use Rattle.accept_core.specs.Entering.{id_of}
 use Rattle.accept_book.specs.Booking.{Changed, Outcomes, negotiated, raised, answer_with, token_size, later_step}
 use Rattle.accept_book.specs.RecordShown.{KeptAnswers, Ruling, AskedStep, asking, handle_of}
 use Rattle.accept_book.specs.RecordRule.{stepped, record_ruling}
-use Rattle.accept_book.specs.Replays.{Accepting}
+use Rattle.accept_core.specs.Replays.{Accepting}
 use Rattle.accept_book.specs.declared.book_answer.Lease.{Lease}
 use Rattle.accept_book.specs.declared.book_answer.NegAnswer.{NegAnswer}
 use Rattle.accept_book.specs.declared.book_answer.Negotiated.{Negotiated}

@@ -5,8 +5,8 @@ use Rattle.rpc_msgs.specs.Records.{Fragments, last_fragment}
 use Rattle.context_table.specs.Places.{slot_at, live_of}
 use Rattle.spnego_core.specs.declared.accept_end.AcceptEnd.TheVariants as ends
 use Rattle.accept_book.specs.Booking.{BookOf}
-use Rattle.accept_book.specs.History.{opened, standing}
-use Rattle.accept_book.specs.Stepping.{context_of}
+use Rattle.accept_core.specs.History.{opened, standing}
+use Rattle.accept_core.specs.Stepping.{context_of}
 use Rattle.pair_laws.proofs.Resting.{no-slots}
 use Rattle.std.proofs.lemmas.List.{append-nil}
 use Rattle.gss_base.specs.declared.mech.MechKind.{MechKind}
@@ -27,7 +27,7 @@ use Rattle.pair_laws.proofs.Completing.{tokens-few, opens-four}
 use Rattle.pair_laws.proofs.Creating.{created-is}
 use Rattle.pair_laws.proofs.Readiness.{ready-at-rest, holds-after, marks-after}
 use Rattle.gss_base.specs.Mech.{is_kerberos}
-use Rattle.accept_book.specs.declared.entry.Entry.TheVariants.{Settled}
+use Rattle.accept_core.specs.declared.entry.Entry.TheVariants.{Settled}
 use Rattle.pair_laws.proofs.Opens.{Due, opens-on}
 
 -- ---- the exchange

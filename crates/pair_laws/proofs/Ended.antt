@@ -19,14 +19,14 @@ use Rattle.spnego_core.specs.Outcome.{token_end}
 use Rattle.accept_book.specs.Honest.{caller_of}
 use Rattle.accept_book.specs.RecordShown.{KeptAnswers, Shown, Ruling, AskedLook, AskedEnd, asking, handle_of, end_of, is_verified}
 use Rattle.accept_book.specs.RecordRule.{record_ruling, call_ruling, destroy_ruling, ask_look, looked_ruling, ask_end, ended_ruling}
-use Rattle.accept_book.specs.Answers.{receipt_of}
+use Rattle.accept_core.specs.Answers.{receipt_of}
 use Rattle.accept_book.specs.Booking.{BookOf, NotesMoment}
-use Rattle.accept_book.specs.declared.answer.AdmitRefusal.{AdmitRefusal}
-use Rattle.accept_book.specs.declared.answer.LookRefusal.{LookRefusal}
-use Rattle.accept_book.specs.declared.entry.Entry.{Entry}
-use Rattle.accept_book.specs.declared.entry.Entry.TheVariants.{Ended}
-use Rattle.accept_book.specs.declared.entry.EndCause.TheVariants.{Destroyed}
-use Rattle.accept_book.specs.declared.entry.Receipt.{Receipt}
+use Rattle.accept_core.specs.declared.answer.AdmitRefusal.{AdmitRefusal}
+use Rattle.accept_core.specs.declared.answer.LookRefusal.{LookRefusal}
+use Rattle.accept_core.specs.declared.entry.Entry.{Entry}
+use Rattle.accept_core.specs.declared.entry.Entry.TheVariants.{Ended}
+use Rattle.accept_core.specs.declared.entry.EndCause.TheVariants.{Destroyed}
+use Rattle.accept_core.specs.declared.entry.Receipt.{Receipt}
 use Rattle.context_table.specs.Places.{slot_at, KeepsOthers}
 use Rattle.gss_server.specs.Answers.{IsDecided}
 use Rattle.gss_server.specs.Asking.{Asking, BookAnswers}

@@ -7,13 +7,13 @@ use Rattle.gss_base.specs.declared.mech.MechKind.{MechKind}
 use Rattle.replay_cache.specs.declared.cache.TakenMark.{TakenMark}
 use Rattle.spnego_core.specs.declared.outcome.Outcome.{Outcome}
 use Rattle.spnego_core.specs.declared.accept_end.AcceptEnd.{AcceptEnd}
-use Rattle.accept_book.specs.declared.answer.Next.{Next}
-use Rattle.accept_book.specs.declared.answer.Next.TheVariants as nexts
-use Rattle.accept_book.specs.declared.entry.Entry.{Entry}
-use Rattle.accept_book.specs.declared.entry.Entry.TheVariants.{Opened, Settled}
+use Rattle.accept_core.specs.declared.answer.Next.{Next}
+use Rattle.accept_core.specs.declared.answer.Next.TheVariants as nexts
+use Rattle.accept_core.specs.declared.entry.Entry.{Entry}
+use Rattle.accept_core.specs.declared.entry.Entry.TheVariants.{Opened, Settled}
 use Rattle.accept_book.specs.Booking.{taken}
-use Rattle.accept_book.specs.Entering.{id_of, lapsed, started, noted, finished, entered}
-use Rattle.accept_book.specs.History.{opened, numbers, posts, taken_of}
+use Rattle.accept_core.specs.Entering.{id_of, lapsed, started, noted, finished, entered}
+use Rattle.accept_core.specs.History.{opened, numbers, posts, taken_of}
 
 -- ---- what a step enters into the history
 

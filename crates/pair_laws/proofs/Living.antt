@@ -14,18 +14,18 @@ use Rattle.context_table.specs.declared.slot.SlotState.TheVariants.{Negotiating,
 use Rattle.krb_derive.specs.Key.{key_octets}
 use Rattle.spnego_core.specs.declared.accept_end.AcceptEnd.{AcceptEnd}
 use Rattle.spnego_core.specs.declared.outcome.Outcome.{Outcome}
-use Rattle.accept_book.specs.History.{Whole, standing, numbers}
-use Rattle.accept_book.specs.Answers.{admitted, or_refused, receipt_of, after}
+use Rattle.accept_core.specs.History.{Whole, standing, numbers}
+use Rattle.accept_core.specs.Answers.{admitted, or_refused, receipt_of, after}
 use Rattle.accept_book.specs.Booking.{BookOf, NotesMoment, names_of, has_key, lease_refused, LeasedBy}
-use Rattle.accept_book.specs.declared.answer.AdmitRefusal.{AdmitRefusal}
-use Rattle.accept_book.specs.declared.answer.LookRefusal.{LookRefusal}
+use Rattle.accept_core.specs.declared.answer.AdmitRefusal.{AdmitRefusal}
+use Rattle.accept_core.specs.declared.answer.LookRefusal.{LookRefusal}
 use Rattle.accept_book.specs.declared.book_answer.Lease.{Lease}
-use Rattle.accept_book.specs.declared.entry.Admitted.{Admitted}
-use Rattle.accept_book.specs.declared.entry.Entry.{Entry}
-use Rattle.accept_book.specs.declared.entry.Receipt.{Receipt}
-use Rattle.accept_book.specs.declared.entry.Entry.TheVariants.{Call, Ended}
-use Rattle.accept_book.specs.declared.entry.EndCause.TheVariants.{Destroyed}
-use Rattle.accept_book.specs.Replays.{Keeps}
+use Rattle.accept_core.specs.declared.entry.Admitted.{Admitted}
+use Rattle.accept_core.specs.declared.entry.Entry.{Entry}
+use Rattle.accept_core.specs.declared.entry.Receipt.{Receipt}
+use Rattle.accept_core.specs.declared.entry.Entry.TheVariants.{Call, Ended}
+use Rattle.accept_core.specs.declared.entry.EndCause.TheVariants.{Destroyed}
+use Rattle.accept_core.specs.Replays.{Keeps}
 use Rattle.accept_book.specs.BookAnswers.{BookLooked, BookAdmitted, BookEnded}
 use Rattle.pair_laws.specs.Live.{IsLiveAt, IsSeen, IsCalled, IsOver}
 

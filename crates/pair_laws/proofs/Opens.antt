@@ -9,10 +9,10 @@ use Rattle.spnego_core.specs.declared.outcome.Outcome.{Outcome}
 use Rattle.spnego_core.specs.declared.setup.AcceptSetup.{AcceptSetup}
 use Rattle.spnego_core.specs.declared.accept_end.AcceptEnd.{AcceptEnd}
 use Rattle.spnego_core.specs.declared.accept_end.AcceptStep.TheVariants as steps
-use Rattle.accept_book.specs.declared.entry.Entry.{Entry}
+use Rattle.accept_core.specs.declared.entry.Entry.{Entry}
 use Rattle.accept_book.specs.Booking.{BookOf, Fits, mark_of, NotesMoment, names_of}
-use Rattle.accept_book.specs.Entering.{id_of, entered, noted}
-use Rattle.accept_book.specs.History.{posts}
+use Rattle.accept_core.specs.Entering.{id_of, entered, noted}
+use Rattle.accept_core.specs.History.{posts}
 use Rattle.pair_laws.proofs.Settling.{ComesTo}
 use Rattle.std.proofs.lemmas.List.{append-nil}
 use Rattle.spnego_core.specs.Exchange as exchange
@@ -41,8 +41,8 @@ use Rattle.pair_laws.proofs.Entries.{first-going, first-settled}
 use Rattle.pair_laws.proofs.Rows.{same-front}
 use Rattle.gss_base.specs.declared.mark.Mark.{Mark}
 use Rattle.gss_base.specs.Mech.{is_kerberos}
-use Rattle.accept_book.specs.declared.answer.Next.TheVariants as nexts
-use Rattle.accept_book.specs.declared.entry.Entry.TheVariants.{Went, Settled}
+use Rattle.accept_core.specs.declared.answer.Next.TheVariants as nexts
+use Rattle.accept_core.specs.declared.entry.Entry.TheVariants.{Went, Settled}
 use Rattle.pair_laws.proofs.Tokens.{no-id, turn-opens}
 
 -- ---- turn by turn

@@ -23,16 +23,16 @@ use Rattle.spnego_core.specs.declared.accept_end.Answered.{Answered}
 use Rattle.spnego_core.specs.declared.accept_end.Answered.TheVariants as afters
 use Rattle.spnego_core.specs.Accepting.{accept_step, step_of, gone_on, step_after, mark_asked}
 use Rattle.spnego_core.specs.Exchange.{passed, passed_of}
-use Rattle.accept_book.specs.declared.answer.MarkRefusal.{MarkRefusal}
+use Rattle.accept_core.specs.declared.answer.MarkRefusal.{MarkRefusal}
 use Rattle.accept_book.specs.declared.book_answer.BookRefusal.{BookRefusal}
 use Rattle.accept_book.specs.declared.book_answer.NegAnswer.TheVariants as answers
-use Rattle.accept_book.specs.declared.entry.Entry.{Entry}
-use Rattle.accept_book.specs.Answers.{mark_refusal}
+use Rattle.accept_core.specs.declared.entry.Entry.{Entry}
+use Rattle.accept_core.specs.Answers.{mark_refusal}
 use Rattle.accept_book.specs.Booking.{Stands, Becomes, Changed, changed, without, Outcomes, Fits, AnsweredFits, StepFits, raised, lapsed_by, next_of, answer_with, mark_of, settled_of, taken, by_mark, refusal_of_mark, negotiated}
-use Rattle.accept_book.specs.Entering.{id_of, started, entered}
-use Rattle.accept_book.specs.History.{opened, numbers, taken_of}
-use Rattle.accept_book.specs.Replays.{Accepting}
-use Rattle.accept_book.specs.Stepping.{Context, context_of, context_after, until_of}
+use Rattle.accept_core.specs.Entering.{id_of, started, entered}
+use Rattle.accept_core.specs.History.{opened, numbers, taken_of}
+use Rattle.accept_core.specs.Replays.{Accepting}
+use Rattle.accept_core.specs.Stepping.{Context, context_of, context_after, until_of}
 use Rattle.accept_book.proofs.Fitting.{by_ok}
 use Rattle.pair_laws.specs.Resting.{IsBefore, RestsAt, MarksRest, HoldsOne}
 use Rattle.pair_laws.proofs.Resting.{is-taken, all-later}

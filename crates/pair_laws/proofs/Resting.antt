@@ -16,11 +16,11 @@ use Rattle.spnego_core.specs.declared.outcome.Outcome.{Outcome}
 use Rattle.spnego_core.specs.declared.setup.AcceptSetup.{AcceptSetup}
 use Rattle.sha1.specs.Sha1.{sha1}
 use Rattle.accept_book.specs.Booking.{BookOf}
-use Rattle.accept_book.specs.History.{opened, numbers, taken_of}
+use Rattle.accept_core.specs.History.{opened, numbers, taken_of}
 use Rattle.accept_book.specs.RecordShown.{KeptAnswers}
-use Rattle.accept_book.specs.Replays.{Accepting}
-use Rattle.accept_book.specs.declared.entry.Entry.{Entry}
-use Rattle.accept_book.specs.declared.entry.Entry.TheVariants.{Call}
+use Rattle.accept_core.specs.Replays.{Accepting}
+use Rattle.accept_core.specs.declared.entry.Entry.{Entry}
+use Rattle.accept_core.specs.declared.entry.Entry.TheVariants.{Call}
 use Rattle.gss_client.specs.Procedure.{procedure_number}
 use Rattle.pair_laws.specs.Conferring.{DueCall}
 use Rattle.pair_laws.specs.Opening.{HasPlaces}

@@ -10,12 +10,12 @@ use Rattle.context_table.specs.Places.{slot_at}
 use Rattle.spnego_core.specs.declared.accept_end.AcceptEnd.{AcceptEnd}
 use Rattle.spnego_core.specs.declared.outcome.Outcome.{Outcome}
 use Rattle.accept_book.specs.Booking.{BookOf, NotesMoment}
-use Rattle.accept_book.specs.History.{standing, numbers, posts}
+use Rattle.accept_core.specs.History.{standing, numbers, posts}
 use Rattle.accept_book.specs.Served.{result_of}
 use Rattle.accept_book.specs.RecordShown.{KeptAnswers, Asked}
-use Rattle.accept_book.specs.Replays.{Accepting}
+use Rattle.accept_core.specs.Replays.{Accepting}
 use Rattle.accept_book.specs.declared.book_answer.Lease.{Lease}
-use Rattle.accept_book.specs.declared.entry.Entry.{Entry}
+use Rattle.accept_core.specs.declared.entry.Entry.{Entry}
 use Rattle.rpcsec_bodies.specs.declared.service.Service.{Service}
 use Rattle.gss_client.specs.Procedure.{procedure_number}
 use Rattle.gss_server.specs.Asking.{Asking, BookAnswers}

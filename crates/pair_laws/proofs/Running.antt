@@ -8,7 +8,7 @@ use Rattle.krb_derive.specs.Kept.{ForSealing}
 use Rattle.rpc_msgs.specs.Records.{last_fragment}
 use Rattle.spnego_core.specs.declared.setup.AcceptSetup.{AcceptSetup}
 use Rattle.accept_book.specs.Served.{result_of}
-use Rattle.accept_book.specs.History.{posts}
+use Rattle.accept_core.specs.History.{posts}
 use Rattle.accept_book.specs.declared.book_answer.Lease.{Lease}
 use Rattle.gss_client.specs.declared.conversation.Parting.TheVariants.{Spent, Foreign}
 use Rattle.gss_client.specs.declared.procedure.Procedure.{Procedure}

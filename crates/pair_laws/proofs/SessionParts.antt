@@ -22,9 +22,9 @@ use Rattle.context_table.specs.Places.{HasValue}
 use Rattle.spnego_core.specs.declared.accept_end.AcceptEnd.{AcceptEnd}
 use Rattle.spnego_core.specs.declared.outcome.Outcome.{Outcome}
 use Rattle.accept_book.specs.Booking.{BookOf}
-use Rattle.accept_book.specs.History.{numbers}
+use Rattle.accept_core.specs.History.{numbers}
 use Rattle.accept_book.specs.Honest.{IsOctets, data_header}
-use Rattle.accept_book.specs.Replays.{Accepting}
+use Rattle.accept_core.specs.Replays.{Accepting}
 use Rattle.accept_book.specs.Served.{are_args, result_of}
 use Rattle.accept_book.specs.declared.book_answer.Lease.{Lease}
 use Rattle.gss_client.specs.declared.conversation.Parting.TheVariants.{Finished, Spent}

@@ -21,12 +21,12 @@ use Rattle.context_table.specs.declared.slot.SlotState.{SlotState}
 use Rattle.context_table.specs.declared.slot.SlotState.TheVariants.{Negotiating, Complete}
 use Rattle.context_table.specs.Slots.{HasState}
 use Rattle.context_table.specs.Places.{slot_at, live_of, state_of, HasValue}
-use Rattle.accept_book.specs.declared.entry.Entry.{Entry}
-use Rattle.accept_book.specs.declared.answer.Next.TheVariants as nexts
-use Rattle.accept_book.specs.History.{Open, Whole, opened, taken_of, standing}
-use Rattle.accept_book.specs.Entering.{id_of, entered}
-use Rattle.accept_book.specs.Replays.{Accepting}
-use Rattle.accept_book.specs.Stepping.{Context, context_of, context_after, until_of}
+use Rattle.accept_core.specs.declared.entry.Entry.{Entry}
+use Rattle.accept_core.specs.declared.answer.Next.TheVariants as nexts
+use Rattle.accept_core.specs.History.{Open, Whole, opened, taken_of, standing}
+use Rattle.accept_core.specs.Entering.{id_of, entered}
+use Rattle.accept_core.specs.Replays.{Accepting}
+use Rattle.accept_core.specs.Stepping.{Context, context_of, context_after, until_of}
 use Rattle.accept_book.specs.Booking.{Stands, Change, Becomes, Changed, Outcomes, raised, lapsed_by, next_of, answer_with, mark_of, settled_of, taken, by_step, later_step, negotiated, names_of}
 use Rattle.pair_laws.specs.Booked.{Around, end_in, IsLeftAlone, id_in}
 use Rattle.pair_laws.specs.Live.{lease_on, IsWhole}

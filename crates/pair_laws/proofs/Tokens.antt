@@ -15,11 +15,11 @@ use Rattle.spnego_core.specs.declared.accept_end.AcceptStep.{AcceptStep}
 use Rattle.spnego_core.specs.declared.accept_end.AcceptStep.TheVariants as steps
 use Rattle.spnego_core.specs.Accepting.{accept_step, step_of, mark_asked}
 use Rattle.spnego_core.specs.Exchange.{passed, answered_on}
-use Rattle.accept_book.specs.declared.entry.Entry.{Entry}
+use Rattle.accept_core.specs.declared.entry.Entry.{Entry}
 use Rattle.accept_book.specs.Booking.{BookOf, Change, Changed, Outcomes, Fits, StepFits, raised, lapsed_by, next_of, mark_of, later_step, negotiated, NotesMoment}
-use Rattle.accept_book.specs.Entering.{id_of, entered}
-use Rattle.accept_book.specs.History.{taken_of, posts}
-use Rattle.accept_book.specs.Stepping.{context_after, until_of}
+use Rattle.accept_core.specs.Entering.{id_of, entered}
+use Rattle.accept_core.specs.History.{taken_of, posts}
+use Rattle.accept_core.specs.Stepping.{context_after, until_of}
 use Rattle.accept_book.proofs.Fitting.{step_of_fits}
 use Rattle.pair_laws.proofs.Settling.{ComesTo, later-end}
 use Rattle.rpcsec_bodies.specs.declared.service.Service.{Service}

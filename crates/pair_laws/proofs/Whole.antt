@@ -11,12 +11,12 @@ use Rattle.seq_window.specs.Marks.{greatest}
 use Rattle.spnego_core.specs.declared.accept_end.AcceptEnd.{AcceptEnd}
 use Rattle.spnego_core.specs.declared.outcome.Outcome.{Outcome}
 use Rattle.accept_book.specs.Booking.{BookOf, names_of}
-use Rattle.accept_book.specs.History.{opened, posts, numbers, Whole, standing}
+use Rattle.accept_core.specs.History.{opened, posts, numbers, Whole, standing}
 use Rattle.accept_book.specs.RecordShown.{KeptAnswers}
-use Rattle.accept_book.specs.Replays.{Accepting}
+use Rattle.accept_core.specs.Replays.{Accepting}
 use Rattle.accept_book.specs.declared.book_answer.Lease.{Lease}
-use Rattle.accept_book.specs.declared.entry.Entry.{Entry}
-use Rattle.accept_book.specs.declared.entry.Entry.TheVariants.{Call, Opened, Went, Settled}
+use Rattle.accept_core.specs.declared.entry.Entry.{Entry}
+use Rattle.accept_core.specs.declared.entry.Entry.TheVariants.{Call, Opened, Went, Settled}
 use Rattle.gss_client.specs.Procedure.{procedure_number}
 use Rattle.gss_client.specs.Session.{SessionState}
 use Rattle.gss_client.specs.Talk.{created_from}
@@ -46,7 +46,7 @@ use Rattle.std.specs.Prelude.{◌==◌}
 use Rattle.std.proofs.lemmas.Bool.Decides.{nat_tests}
 use Rattle.std.proofs.lemmas.List.{length-take}
 use Rattle.gss_base.specs.declared.mark.Mark.{Mark}
-use Rattle.accept_book.specs.Entering.{noted}
+use Rattle.accept_core.specs.Entering.{noted}
 
 -- ---- one book behind the creation
 

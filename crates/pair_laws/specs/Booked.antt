@@ -10,9 +10,9 @@ use Rattle.spnego_core.specs.Accepting.{step_of, mark_asked}
 use Rattle.replay_cache.specs.Taking.{cache_verdict}
 use Rattle.replay_cache.specs.declared.cache.CacheVerdict.TheVariants.{Taken}
 use Rattle.context_table.specs.Places.{Places, slot_at, live_of, state_of, IsPast}
-use Rattle.accept_book.specs.History.{opened, taken_of, standing}
-use Rattle.accept_book.specs.Replays.{Accepting}
-use Rattle.accept_book.specs.Stepping.{context_of}
+use Rattle.accept_core.specs.History.{opened, taken_of, standing}
+use Rattle.accept_core.specs.Replays.{Accepting}
+use Rattle.accept_core.specs.Stepping.{context_of}
 use Rattle.accept_book.specs.Booking.{Changed, negotiated, raised, token_size, later_step}
 use Rattle.accept_book.specs.RecordShown.{KeptAnswers, AskedStep}
 use Rattle.accept_book.specs.RecordRule.{record_ruling}

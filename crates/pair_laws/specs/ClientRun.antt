@@ -7,7 +7,7 @@ use Rattle.seq_window.specs.Marks.{greatest}
 use Rattle.spnego_core.specs.declared.setup.AcceptSetup.{AcceptSetup}
 use Rattle.spnego_core.specs.declared.setup.MechCred.{MechCred}
 use Rattle.spnego_core.specs.declared.outcome.Outcome.{Outcome}
-use Rattle.accept_book.specs.History.{numbers}
+use Rattle.accept_core.specs.History.{numbers}
 use Rattle.accept_book.specs.Honest.{IsOctets}
 use Rattle.rpcsec_bodies.specs.declared.service.Service.TheVariants as services
 use Rattle.gss_client.specs.declared.start.Start.{Start}

@@ -17,15 +17,15 @@ use Rattle.spnego_core.specs.declared.accept_end.AcceptStep.TheVariants as steps
 use Rattle.spnego_core.specs.declared.outcome.Outcome.{Outcome}
 use Rattle.spnego_core.specs.declared.setup.AcceptSetup.{AcceptSetup}
 use Rattle.accept_book.specs.Booking.{BookOf, token_size, later_step}
-use Rattle.accept_book.specs.Entering.{noted}
-use Rattle.accept_book.specs.History.{numbers, posts}
+use Rattle.accept_core.specs.Entering.{noted}
+use Rattle.accept_core.specs.History.{numbers, posts}
 use Rattle.accept_book.specs.RecordShown.{KeptAnswers}
-use Rattle.accept_book.specs.Replays.{Accepting}
+use Rattle.accept_core.specs.Replays.{Accepting}
 use Rattle.accept_book.specs.declared.book_answer.BookRefusal.{BookRefusal}
 use Rattle.accept_book.specs.declared.book_answer.NegAnswer.TheVariants.{Refused}
 use Rattle.accept_book.specs.declared.book_answer.Negotiated.{Negotiated}
-use Rattle.accept_book.specs.declared.entry.Entry.{Entry}
-use Rattle.accept_book.specs.declared.entry.Entry.TheVariants.{Opened, Went, Settled}
+use Rattle.accept_core.specs.declared.entry.Entry.{Entry}
+use Rattle.accept_core.specs.declared.entry.Entry.TheVariants.{Opened, Went, Settled}
 use Rattle.gss_client.specs.Talk.{created_from}
 use Rattle.gss_client.specs.declared.start.Start.{Start}
 use Rattle.gss_server.specs.Connections.{octets_of}

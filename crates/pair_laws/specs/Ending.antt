@@ -5,7 +5,7 @@ use Rattle.rpc_msgs.specs.Records.{last_fragment}
 use Rattle.accept_book.specs.RecordShown.{KeptAnswers, AskedLook, AskedEnd}
 use Rattle.accept_book.specs.RecordRule.{record_ruling}
 use Rattle.accept_book.specs.declared.book_answer.Lease.{Lease}
-use Rattle.accept_book.specs.declared.entry.Receipt.{Receipt}
+use Rattle.accept_core.specs.declared.entry.Receipt.{Receipt}
 use Rattle.rpcsec_bodies.specs.declared.service.Service.{Service}
 use Rattle.gss_client.specs.Calling.{destroy_call}
 use Rattle.gss_client.specs.Talk.{destroys}

@@ -7,7 +7,7 @@ use Rattle.accept_book.specs.Served.{are_args, result_of}
 use Rattle.accept_book.specs.RecordShown.{KeptAnswers, handle_of}
 use Rattle.accept_book.specs.RecordRule.{record_ruling}
 use Rattle.accept_book.specs.declared.book_answer.Lease.{Lease}
-use Rattle.accept_book.specs.declared.entry.Admitted.{Admitted}
+use Rattle.accept_core.specs.declared.entry.Admitted.{Admitted}
 use Rattle.rpcsec_bodies.specs.declared.service.Service.{Service}
 use Rattle.rpcsec_bodies.specs.declared.service.Service.TheVariants as services
 use Rattle.gss_client.specs.Calling.{data_call}

@@ -6,7 +6,7 @@ use Rattle.rpc_msgs.specs.Records.{last_fragment}
 use Rattle.spnego_core.specs.declared.setup.AcceptSetup.{AcceptSetup}
 use Rattle.spnego_core.specs.declared.accept_end.AcceptEnd.{AcceptEnd}
 use Rattle.spnego_core.specs.declared.outcome.Outcome.{Outcome}
-use Rattle.accept_book.specs.Replays.{Accepting}
+use Rattle.accept_core.specs.Replays.{Accepting}
 use Rattle.accept_book.specs.RecordShown.{KeptAnswers, handle_of}
 use Rattle.accept_book.specs.RecordRule.{record_ruling}
 use Rattle.accept_book.specs.declared.book_answer.Lease.{Lease}

@@ -9,13 +9,13 @@ use Rattle.rpc_msgs.specs.Records.{Fragments}
 use Rattle.spnego_core.specs.Exchange.{HonestPair}
 use Rattle.spnego_core.specs.declared.outcome.Outcome.{Outcome}
 use Rattle.accept_book.specs.Booking.{BookOf, names_of}
-use Rattle.accept_book.specs.History.{posts}
+use Rattle.accept_core.specs.History.{posts}
 use Rattle.accept_book.specs.RecordShown.{KeptAnswers}
 use Rattle.accept_book.specs.declared.book_answer.NegAnswer.{NegAnswer}
 use Rattle.accept_book.specs.declared.book_answer.NegAnswer.TheVariants.{Going, Settled, Refused}
 use Rattle.accept_book.specs.declared.book_answer.NegAnswer.TheVariants.{NoMemory}
 use Rattle.accept_book.specs.declared.book_answer.Negotiated.{Negotiated}
-use Rattle.accept_book.specs.declared.entry.Entry.{Entry}
+use Rattle.accept_core.specs.declared.entry.Entry.{Entry}
 use Rattle.gss_client.specs.declared.start.Start.{Start}
 use Rattle.gss_server.specs.Connections.{octets_of, written_in}
 use Rattle.gss_server.specs.Hearing.{kept_answers}

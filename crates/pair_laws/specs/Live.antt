@@ -5,17 +5,17 @@ use Rattle.seq_window.specs.Marks.{greatest}
 use Rattle.context_table.specs.Places.{slot_at, HasValue}
 use Rattle.spnego_core.specs.declared.accept_end.AcceptEnd.{AcceptEnd}
 use Rattle.spnego_core.specs.declared.outcome.Outcome.{Outcome}
-use Rattle.accept_book.specs.History.{Whole, standing, numbers}
-use Rattle.accept_book.specs.Answers.{admitted, receipt_of}
+use Rattle.accept_core.specs.History.{Whole, standing, numbers}
+use Rattle.accept_core.specs.Answers.{admitted, receipt_of}
 use Rattle.accept_book.specs.Booking.{BookOf, names_of}
-use Rattle.accept_book.specs.Replays.{Accepting}
-use Rattle.accept_book.specs.declared.answer.AdmitRefusal.{AdmitRefusal}
-use Rattle.accept_book.specs.declared.answer.LookRefusal.{LookRefusal}
+use Rattle.accept_core.specs.Replays.{Accepting}
+use Rattle.accept_core.specs.declared.answer.AdmitRefusal.{AdmitRefusal}
+use Rattle.accept_core.specs.declared.answer.LookRefusal.{LookRefusal}
 use Rattle.accept_book.specs.declared.book_answer.Lease.{Lease}
-use Rattle.accept_book.specs.declared.entry.Admitted.{Admitted}
-use Rattle.accept_book.specs.declared.entry.Receipt.{Receipt}
-use Rattle.accept_book.specs.declared.entry.Entry.TheVariants.{Call, Ended}
-use Rattle.accept_book.specs.declared.entry.EndCause.TheVariants.{Destroyed}
+use Rattle.accept_core.specs.declared.entry.Admitted.{Admitted}
+use Rattle.accept_core.specs.declared.entry.Receipt.{Receipt}
+use Rattle.accept_core.specs.declared.entry.Entry.TheVariants.{Call, Ended}
+use Rattle.accept_core.specs.declared.entry.EndCause.TheVariants.{Destroyed}
 
 -- what a look at a context shows: its id, its outcome and its end
 abbrev pub lease_on : ℕ → Outcome → ℕ → Lease

@@ -15,10 +15,10 @@ use Rattle.spnego_core.specs.declared.accept_end.AcceptStep.TheVariants as steps
 use Rattle.spnego_core.specs.declared.outcome.Outcome.{Outcome}
 use Rattle.spnego_core.specs.declared.setup.AcceptSetup.{AcceptSetup}
 use Rattle.accept_book.specs.Booking.{BookOf}
-use Rattle.accept_book.specs.Entering.{id_of}
-use Rattle.accept_book.specs.History.{opened, numbers, taken_of}
+use Rattle.accept_core.specs.Entering.{id_of}
+use Rattle.accept_core.specs.History.{opened, numbers, taken_of}
 use Rattle.accept_book.specs.RecordShown.{KeptAnswers}
-use Rattle.accept_book.specs.Replays.{Accepting}
+use Rattle.accept_core.specs.Replays.{Accepting}
 use Rattle.pair_laws.specs.Conferring.{DueCall}
 use Rattle.pair_laws.specs.Opening.{HasPlaces}
 use Rattle.pair_laws.specs.Rows.{RowLeaves, answers_of}

@@ -9,15 +9,15 @@ use Rattle.rpc_msgs.specs.Records.{Fragments, octets_in, last_fragment, IsRecord
 use Rattle.rpc_msgs.specs.Records.{IsTooLong, IsTooMany}
 use Rattle.context_table.specs.Places.{slot_at, KeepsOthers}
 use Rattle.accept_book.specs.Booking.{BookOf}
-use Rattle.accept_book.specs.History.{posts}
+use Rattle.accept_core.specs.History.{posts}
 use Rattle.accept_book.specs.Honest.{IsOctets}
 use Rattle.accept_book.specs.RecordRule.{record_ruling}
 use Rattle.accept_book.specs.RecordShown.{KeptAnswers}
 use Rattle.accept_book.specs.Served.{result_of}
 use Rattle.accept_book.specs.declared.book_answer.Lease.{Lease}
-use Rattle.accept_book.specs.declared.entry.EndCause.TheVariants.{Destroyed}
-use Rattle.accept_book.specs.declared.entry.Entry.{Entry}
-use Rattle.accept_book.specs.declared.entry.Entry.TheVariants.{Call, Ended}
+use Rattle.accept_core.specs.declared.entry.EndCause.TheVariants.{Destroyed}
+use Rattle.accept_core.specs.declared.entry.Entry.{Entry}
+use Rattle.accept_core.specs.declared.entry.Entry.TheVariants.{Call, Ended}
 use Rattle.rpcsec_bodies.specs.declared.service.Service.{Service}
 use Rattle.gss_client.specs.Procedure.{procedure_number}
 use Rattle.gss_client.specs.Session.{SessionState}

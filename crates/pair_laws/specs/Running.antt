@@ -13,15 +13,15 @@ use Rattle.spnego_core.specs.declared.setup.AcceptSetup.{AcceptSetup}
 use Rattle.spnego_core.specs.declared.accept_end.AcceptEnd.{AcceptEnd}
 use Rattle.spnego_core.specs.declared.outcome.Outcome.{Outcome}
 use Rattle.accept_book.specs.Booking.{BookOf}
-use Rattle.accept_book.specs.History.{standing, numbers, posts}
+use Rattle.accept_core.specs.History.{standing, numbers, posts}
 use Rattle.accept_book.specs.Honest.{IsOctets}
 use Rattle.accept_book.specs.RecordShown.{KeptAnswers}
 use Rattle.accept_book.specs.RecordRule.{record_ruling}
-use Rattle.accept_book.specs.Replays.{Accepting}
+use Rattle.accept_core.specs.Replays.{Accepting}
 use Rattle.accept_book.specs.Served.{are_args, result_of}
 use Rattle.accept_book.specs.declared.book_answer.Lease.{Lease}
-use Rattle.accept_book.specs.declared.entry.Entry.TheVariants.{Call, Ended}
-use Rattle.accept_book.specs.declared.entry.EndCause.TheVariants.{Destroyed}
+use Rattle.accept_core.specs.declared.entry.Entry.TheVariants.{Call, Ended}
+use Rattle.accept_core.specs.declared.entry.EndCause.TheVariants.{Destroyed}
 use Rattle.gss_client.specs.declared.conversation.Parting.{Parting}
 use Rattle.gss_client.specs.declared.conversation.Parting.TheVariants.{Finished, Spent}
 use Rattle.gss_client.specs.declared.procedure.Procedure.{Procedure}

@@ -7,7 +7,7 @@ use Rattle.krb_derive.specs.declared.key.Key.{Key}
 use Rattle.rpc_msgs.specs.Records.{last_fragment}
 use Rattle.seq_window.specs.Marks.{greatest}
 use Rattle.spnego_core.specs.declared.setup.AcceptSetup.{AcceptSetup}
-use Rattle.accept_book.specs.History.{numbers, posts}
+use Rattle.accept_core.specs.History.{numbers, posts}
 use Rattle.accept_book.specs.Honest.{IsOctets}
 use Rattle.accept_book.specs.Served.{are_args, result_of}
 use Rattle.accept_book.specs.declared.book_answer.Lease.{Lease}

@@ -3,13 +3,13 @@
 use Rattle.std.specs.Prelude.{◌≡◌, ℕ, ◌+◌, ◌<◌, ◌≤◌, List, ◌∷◌, length, None, Some, Ok}
 use Rattle.sha1.specs.Sha1.{sha1}
 use Rattle.context_table.specs.Places.{slot_at, KeepsOthers}
-use Rattle.accept_book.specs.Answers.{admitted, receipt_of}
+use Rattle.accept_core.specs.Answers.{admitted, receipt_of}
 use Rattle.accept_book.specs.Booking.{BookOf, NotesMoment}
 use Rattle.accept_book.specs.RecordShown.{KeptAnswers}
 use Rattle.accept_book.specs.RecordRule.{record_ruling}
 use Rattle.accept_book.specs.declared.book_answer.Lease.{Lease}
-use Rattle.accept_book.specs.declared.entry.Entry.TheVariants.{Call, Ended}
-use Rattle.accept_book.specs.declared.entry.EndCause.TheVariants.{Destroyed}
+use Rattle.accept_core.specs.declared.entry.Entry.TheVariants.{Call, Ended}
+use Rattle.accept_core.specs.declared.entry.EndCause.TheVariants.{Destroyed}
 use Rattle.rpcsec_bodies.specs.declared.service.Service.{Service}
 use Rattle.gss_client.specs.Calling.{data_call, destroy_call}
 use Rattle.gss_server.specs.Answers.{IsDecided}

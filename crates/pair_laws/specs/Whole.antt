@@ -6,12 +6,12 @@ use Rattle.krb_derive.specs.declared.key.Key.{Key}
 use Rattle.rpc_msgs.specs.Records.{Fragments}
 use Rattle.spnego_core.specs.declared.outcome.Outcome.{Outcome}
 use Rattle.accept_book.specs.Booking.{BookOf, names_of}
-use Rattle.accept_book.specs.History.{posts}
+use Rattle.accept_core.specs.History.{posts}
 use Rattle.accept_book.specs.RecordShown.{KeptAnswers}
 use Rattle.accept_book.specs.declared.book_answer.Lease.{Lease}
 use Rattle.accept_book.specs.declared.book_answer.NegAnswer.TheVariants.{Settled}
 use Rattle.accept_book.specs.declared.book_answer.Negotiated.{Negotiated}
-use Rattle.accept_book.specs.declared.entry.Entry.{Entry}
+use Rattle.accept_core.specs.declared.entry.Entry.{Entry}
 use Rattle.gss_client.specs.Talk.{created_from}
 use Rattle.gss_client.specs.declared.start.Start.{Start}
 use Rattle.pair_laws.specs.Conferring.{DueCall, talk_of}

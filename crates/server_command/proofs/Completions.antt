@@ -9,14 +9,14 @@ use Rattle.scram_mech.specs.declared.verifiers.Verifier.{Verifier}
 use Rattle.cli_base.specs.Files.{LoadsFile, FromShelf, file_in}
 use Rattle.cli_base.specs.declared.files.FileStop.{FileStop}
 use Rattle.cli_base.specs.declared.files.FileStop.TheVariants as stops
-use Rattle.server_command.specs.Desks.{is_begun}
-use Rattle.server_command.specs.Keys.{BehindKeytab, keytab_in, verifiers_in, keys_with}
+use Rattle.server_options.specs.Lines.{is_begun}
+use Rattle.server_options.specs.Keys.{BehindKeytab, keytab_in, verifiers_in, keys_with}
 use Rattle.server_command.specs.Runs.{EndsBy, Begins, AreValid}
-use Rattle.server_command.specs.declared.ending.RunEnd.{RunEnd}
-use Rattle.server_command.specs.declared.ending.RunEnd.TheVariants.{NoMemory, Served}
-use Rattle.server_command.specs.declared.keys.Keys.{Keys}
-use Rattle.server_command.specs.declared.options.Files.{Files}
-use Rattle.server_command.specs.declared.options.Options.{Options}
+use Rattle.server_options.specs.declared.ending.RunEnd.{RunEnd}
+use Rattle.server_options.specs.declared.ending.RunEnd.TheVariants.{NoMemory, Served}
+use Rattle.server_options.specs.declared.keys.Keys.{Keys}
+use Rattle.server_options.specs.declared.options.Files.{Files}
+use Rattle.server_options.specs.declared.options.Options.{Options}
 
 ok-err : {A : Type 0} (value : A) (stop : RunEnd) → ◌≡◌ {A = Result A RunEnd} (Ok value) (Err stop) → ⊥
 ok-err value stop e = cc

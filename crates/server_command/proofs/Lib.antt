@@ -1,10 +1,3 @@
 pub mod Completions
-pub mod DeskRuns
-pub mod Ends
-pub mod Formed
-pub mod InStep
-pub mod KeyNames
 pub mod Noting
-pub mod Numbers
 pub mod Sides
-pub mod StatusLines

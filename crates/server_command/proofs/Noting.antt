@@ -14,11 +14,11 @@ use Rattle.book_seats.specs.Notes.{Note, asked_by}
 use Rattle.book_seats.specs.Views.{ClerkOf}
 use Rattle.book_seats.specs.Histories.{AnsweredBy}
 use Rattle.book_seats.proofs.Moves.{of-append, of-own}
-use Rattle.server_command.specs.Desks.{ServedOf, ServedLink, LinksServed, DeskServed}
+use Rattle.server_desks.specs.Desks.{ServedOf, ServedLink, LinksServed, DeskServed}
 use Rattle.server_command.specs.SideBySide.{Noted}
-use Rattle.server_command.specs.declared.desk.Desk.{Desk}
-use Rattle.server_command.specs.declared.desk.DeskEnd.{DeskEnd}
-use Rattle.server_command.proofs.DeskRuns.{served-as}
+use Rattle.server_desks.specs.declared.desk.Desk.{Desk}
+use Rattle.server_desks.specs.declared.desk.DeskEnd.{DeskEnd}
+use Rattle.server_desks.proofs.DeskRuns.{served-as}
 
 -- ---- one state follows another
 

@@ -7,24 +7,25 @@ use Rattle.sec_base.specs.declared.link.Link as links
 use Rattle.sec_base.specs.declared.clock.Clock as clocks
 use Rattle.sec_base.specs.declared.draw.Draw as draws
 use Rattle.accept_book.specs.Booking.{BookOf}
-use Rattle.accept_book.specs.Logs.{LogOf}
+use Rattle.accept_core.specs.Logs.{LogOf}
 use Rattle.gss_server.specs.Telling.{limits_of}
 use Rattle.gss_server.specs.declared.answer.Kept.{Kept}
 use Rattle.gss_server.specs.declared.connection.Served.{Served}
 use Rattle.gss_server.specs.declared.keeper.Keeper as keepers
-use Rattle.server_command.specs.Desks.{IsFresh, IsSmall, is_begun}
+use Rattle.server_desks.specs.Desks.{IsFresh, IsSmall}
+use Rattle.server_options.specs.Lines.{is_begun}
 use Rattle.server_command.specs.Runs.{HasLimits}
 use Rattle.server_command.specs.SideBySide.{SideBySide, IsUnder}
 use Rattle.server_command.specs.Through.{IsOpened}
-use Rattle.server_command.specs.declared.desk.Desk.{Desk}
-use Rattle.server_command.specs.declared.desk.DeskEnd.TheVariants.{PortFault}
-use Rattle.server_command.specs.declared.ending.RunEnd.{RunEnd}
-use Rattle.server_command.specs.declared.ending.RunEnd.TheVariants as whole
-use Rattle.server_command.specs.declared.keys.Keys.{Keys}
-use Rattle.server_command.specs.declared.options.Options.{Options}
-use Rattle.server_command.proofs.DeskRuns.{desk-small}
-use Rattle.server_command.proofs.Ends.{all-done}
-use Rattle.server_command.proofs.InStep.{there, at-place, by-places}
+use Rattle.server_desks.specs.declared.desk.Desk.{Desk}
+use Rattle.server_desks.specs.declared.desk.DeskEnd.TheVariants.{PortFault}
+use Rattle.server_options.specs.declared.ending.RunEnd.{RunEnd}
+use Rattle.server_options.specs.declared.ending.RunEnd.TheVariants as whole
+use Rattle.server_options.specs.declared.keys.Keys.{Keys}
+use Rattle.server_options.specs.declared.options.Options.{Options}
+use Rattle.server_desks.proofs.DeskRuns.{desk-small}
+use Rattle.server_desks.proofs.Ends.{all-done}
+use Rattle.server_desks.proofs.InStep.{there, at-place, by-places}
 
 module _ {P C D K M L Q R : Type 0} {begins : BookOf → Type 0} {width most : ℕ} {port : ports.Ghosts P L} {link : links.Ghosts L} {clock : clocks.Ghosts C} {draw : draws.Ghosts D} {keeper : keepers.Ghosts K Kept Q} {kept : keepers.Ghosts M (Served L) R} {olds news : List (Desk P C D K M)} {end : RunEnd} {log : LogOf} where
   -- desks that began with nothing are small

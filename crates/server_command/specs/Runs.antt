@@ -10,17 +10,18 @@ use Rattle.cli_base.specs.Files.{file_in}
 use Rattle.krb_files.specs.declared.keytab.Entry.{Entry}
 use Rattle.scram_mech.specs.Verifiers.{verifiers_of}
 use Rattle.scram_mech.specs.declared.verifiers.Verifier.{Verifier}
-use Rattle.accept_book.specs.Logs.{LogOf}
-use Rattle.server_command.specs.Desks.{is_begun, all_connections, all_records}
-use Rattle.server_command.specs.Keys.{FromFiles}
-use Rattle.server_command.specs.Lines.{Named}
-use Rattle.server_command.specs.declared.desk.Desk.{Desk}
-use Rattle.server_command.specs.declared.ending.Counts.{Counts}
-use Rattle.server_command.specs.declared.ending.RunEnd.{RunEnd}
-use Rattle.server_command.specs.declared.ending.RunEnd.TheVariants.{NoMemory}
-use Rattle.server_command.specs.declared.keys.Keys.{Keys}
-use Rattle.server_command.specs.declared.options.Files.{Files}
-use Rattle.server_command.specs.declared.options.Options.{Options}
+use Rattle.accept_core.specs.Logs.{LogOf}
+use Rattle.server_desks.specs.Desks.{all_connections, all_records}
+use Rattle.server_options.specs.Lines.{is_begun}
+use Rattle.server_options.specs.Keys.{FromFiles}
+use Rattle.server_options.specs.Lines.{Named}
+use Rattle.server_desks.specs.declared.desk.Desk.{Desk}
+use Rattle.server_options.specs.declared.ending.Counts.{Counts}
+use Rattle.server_options.specs.declared.ending.RunEnd.{RunEnd}
+use Rattle.server_options.specs.declared.ending.RunEnd.TheVariants.{NoMemory}
+use Rattle.server_options.specs.declared.keys.Keys.{Keys}
+use Rattle.server_options.specs.declared.options.Files.{Files}
+use Rattle.server_options.specs.declared.options.Options.{Options}
 use Rattle.cli_base.specs.declared.given.WordsRefusal.{WordsRefusal}
 
 -- the files of the keys, in the order in which they are asked for; words that aren't in the command
@@ -82,10 +83,6 @@ counts_of desks log = record {
       all_records desks;
   entries = length log.entries;
 }
-
--- no book was opened
-abbrev pub no_log : LogOf
-no_log = record { entries = []; width = 0; limit = 0; contexts = 0; marks = 0 }
 
 -- ---- the same of a shelf before and after
 

@@ -5,27 +5,22 @@ use Rattle.sec_base.specs.declared.link.Link as links
 use Rattle.sec_base.specs.declared.clock.Clock as clocks
 use Rattle.sec_base.specs.declared.draw.Draw as draws
 use Rattle.accept_book.specs.Booking.{BookOf}
-use Rattle.accept_book.specs.Logs.{LogOf}
+use Rattle.accept_core.specs.Logs.{LogOf}
 use Rattle.accept_book.specs.RecordShown.{Asked}
-use Rattle.accept_book.specs.declared.entry.Limits.{Limits}
+use Rattle.accept_core.specs.declared.entry.Limits.{Limits}
 use Rattle.gss_server.specs.Asking.{Asking, BookAnswers}
 use Rattle.gss_server.specs.declared.answer.Kept.{Kept}
 use Rattle.gss_server.specs.declared.connection.Served.{Served}
 use Rattle.gss_server.specs.declared.keeper.Keeper as keepers
 use Rattle.book_seats.specs.Notes.{Note, asked_by, questions_of}
-use Rattle.server_command.specs.Desks.{DeskServed, end_behind}
+use Rattle.server_desks.specs.Desks.{DeskServed, end_behind}
 use Rattle.server_command.specs.Through.{IsOpened, IsLogOf}
-use Rattle.server_command.specs.declared.desk.Desk.{Desk}
-use Rattle.server_command.specs.declared.desk.DeskEnd.{DeskEnd}
-use Rattle.server_command.specs.declared.ending.RunEnd.{RunEnd}
-use Rattle.server_command.specs.declared.ending.RunEnd.TheVariants as whole
-use Rattle.server_command.specs.declared.keys.Keys.{Keys}
-use Rattle.server_command.specs.declared.options.Options.{Options}
-
--- of a thing in one list and the one at the same place in another, whatever the place
-abbrev pub InStep : {A B : Type 0} → List A → List B → (ℕ → A → B → Type 0) → Type 0
-InStep {A} {B} xs ys Both = (place : ℕ) (x : A) (y : B) → slice_get xs place ≡ Some x
-    → slice_get ys place ≡ Some y → Both place x y
+use Rattle.server_desks.specs.declared.desk.Desk.{Desk}
+use Rattle.server_desks.specs.declared.desk.DeskEnd.{DeskEnd}
+use Rattle.server_options.specs.declared.ending.RunEnd.{RunEnd}
+use Rattle.server_options.specs.declared.ending.RunEnd.TheVariants as whole
+use Rattle.server_options.specs.declared.keys.Keys.{Keys}
+use Rattle.server_options.specs.declared.options.Options.{Options}
 
 -- a log was kept under these limits
 pub record IsUnder (limits : Limits) (log : LogOf) : Type 0 where

@@ -2,11 +2,10 @@
 use Rattle.std.specs.Prelude.{◌≡◌, ℕ, List, [], ◌∷◌, reverse}
 use Rattle.gss_base.specs.declared.mech.MechKind.TheVariants.{Kerberos, Scram}
 use Rattle.accept_book.specs.Booking.{BookOf}
-use Rattle.accept_book.specs.Logs.{LogOf}
-use Rattle.server_command.specs.Runs.{no_log}
-use Rattle.server_command.specs.declared.desk.Desk.{Desk}
-use Rattle.server_command.specs.declared.keys.Keys.{Keys}
-use Rattle.server_command.specs.declared.options.Options.{Options}
+use Rattle.accept_core.specs.Logs.{LogOf, no_log}
+use Rattle.server_desks.specs.declared.desk.Desk.{Desk}
+use Rattle.server_options.specs.declared.keys.Keys.{Keys}
+use Rattle.server_options.specs.declared.options.Options.{Options}
 
 -- a book as it is opened: for the own name, with these keys and the bindings of the options, to
 -- both mechanisms, under the options' limits, without contexts

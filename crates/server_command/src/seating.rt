@@ -3,22 +3,22 @@
 ghost use Rattle.std.specs.Prelude.{◌≡◌, ◌≢◌, ◌⊎◌, ◌<◌, ◌≤◌, [], true, IfOk, OnErr, vec_len};
 ghost use Rattle.std.specs.Prelude.{reverse};
 ghost use Rattle.std.specs.List.{AllByRecursion};
-ghost use Rattle.accept_book.specs.Legal.{Legal};
+ghost use Rattle.accept_core.specs.Legal.{Legal};
 ghost use Rattle.gss_server.specs.Telling.{limits_of};
 ghost use Rattle.book_seats.specs.Views.{writer};
-ghost use Rattle.server_command.specs.Desks.{IsFresh, IsSmall, NamesADesk, is_begun};
-ghost use Rattle.server_command.specs.Runs.{no_log};
+ghost use Rattle.server_desks.specs.Desks.{IsFresh, IsSmall, NamesADesk};
+ghost use Rattle.server_options.specs.Lines.{is_begun};
+ghost use Rattle.accept_core.specs.Logs.{no_log};
 ghost use Rattle.server_command.specs.Through.{NoBook};
 ghost use Rattle.server_command.specs.SideBySide.{SideBySide, IsUnder};
 
-use crate::desk::Desk;
-use crate::ending::RunEnd;
-use crate::jobs::{end_of, run_desks};
 use crate::staffing::{compare_all, hire_all, rise_all, rooms, seat_all};
 use accept_book::{Book, Log};
 use book_seats::{Board, Hall, Room, Shared, Token, Writer, open_board, open_hall};
 use gss_server::{Keeper, Kept, Served};
 use sec_base::{Clock, Draw, NoMemory, Port};
+use server_desks::{Desk, end_of, run_desks};
+use server_options::RunEnd;
 use std::alloc::Global;
 use std::marker::Brand;
 use std::mem;

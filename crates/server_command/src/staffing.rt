@@ -2,11 +2,11 @@
 
 ghost use Rattle.std.specs.Prelude.{◌≡◌, ◌≤◌, [], vec_len, vec_capacity, IfOk};
 ghost use Rattle.book_seats.specs.Notes.{asked_by};
-ghost use Rattle.server_command.specs.SideBySide.{InStep};
+ghost use Rattle.server_desks.specs.Desks.{InStep};
 
-use crate::jobs::Job;
 use book_seats::{Clerk, Hall, Room, Seat, Shared, Writer};
 use sec_base::NoMemory;
+use server_desks::Job;
 use std::alloc::Global;
 use std::sync::Mutex;
 

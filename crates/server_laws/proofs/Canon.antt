@@ -10,27 +10,27 @@ use Rattle.spnego_core.specs.declared.accept_end.AcceptEnd.{AcceptEnd}
 use Rattle.spnego_core.specs.declared.outcome.Outcome.{Outcome}
 use Rattle.context_table.specs.declared.slot.Slot.{Slot}
 use Rattle.context_table.specs.Places.{Places, slot_in, slot_at, IsPast, HasValue, Marks, KeepsOthers}
-use Rattle.accept_book.specs.declared.answer.AdmitRefusal.{AdmitRefusal}
-use Rattle.accept_book.specs.declared.answer.AdmitRefusal.TheVariants as admits
-use Rattle.accept_book.specs.declared.answer.LookRefusal.{LookRefusal}
+use Rattle.accept_core.specs.declared.answer.AdmitRefusal.{AdmitRefusal}
+use Rattle.accept_core.specs.declared.answer.AdmitRefusal.TheVariants as admits
+use Rattle.accept_core.specs.declared.answer.LookRefusal.{LookRefusal}
 use Rattle.accept_book.specs.declared.book_answer.Lease.{Lease}
 use Rattle.accept_book.specs.declared.book_answer.NegAnswer.TheVariants as answers
 use Rattle.accept_book.specs.declared.book_answer.Negotiated.{Negotiated}
-use Rattle.accept_book.specs.declared.entry.Admitted.{Admitted}
-use Rattle.accept_book.specs.declared.entry.EndCause.{EndCause}
-use Rattle.accept_book.specs.declared.entry.EndCause.TheVariants.{Destroyed}
-use Rattle.accept_book.specs.declared.entry.Entry.{Entry}
-use Rattle.accept_book.specs.declared.entry.Entry.TheVariants.{Call, Ended}
-use Rattle.accept_book.specs.declared.entry.Receipt.{Receipt}
-use Rattle.accept_book.specs.Answers.{or_refused, after, refused, admitted, receipt_of}
-use Rattle.accept_book.specs.History.{Standing, Over, standing, numbers, opened, latest, taken_of}
-use Rattle.accept_book.specs.Legal.{Legal}
-use Rattle.accept_book.specs.Replays.{Accepting, SameSlot}
-use Rattle.accept_book.specs.Stepping.{Context, context_of, SameWindow, SameWindows}
+use Rattle.accept_core.specs.declared.entry.Admitted.{Admitted}
+use Rattle.accept_core.specs.declared.entry.EndCause.{EndCause}
+use Rattle.accept_core.specs.declared.entry.EndCause.TheVariants.{Destroyed}
+use Rattle.accept_core.specs.declared.entry.Entry.{Entry}
+use Rattle.accept_core.specs.declared.entry.Entry.TheVariants.{Call, Ended}
+use Rattle.accept_core.specs.declared.entry.Receipt.{Receipt}
+use Rattle.accept_core.specs.Answers.{or_refused, after, refused, admitted, receipt_of}
+use Rattle.accept_core.specs.History.{Standing, Over, standing, numbers, opened, latest, taken_of}
+use Rattle.accept_core.specs.Legal.{Legal}
+use Rattle.accept_core.specs.Replays.{Accepting, SameSlot}
+use Rattle.accept_core.specs.Stepping.{Context, context_of, SameWindow, SameWindows}
 use Rattle.accept_book.specs.Booking.{BookOf, by_outcome, Outcomes, changed, raised, spends, negotiated, has_key, lease_refused, FreeFor}
 use Rattle.accept_book.specs.BookAnswers.{IsOutcome, ComesTo, BookStepped, BookLooked, BookAdmitted, BookEnded}
 use Rattle.accept_book.specs.RecordShown.{Asked, AskedStep, AskedLook, AskedAdmit, AskedEnd}
-use Rattle.accept_book.proofs.Appended.{Silent, silent}
+use Rattle.accept_core.proofs.Appended.{Silent, silent}
 use Rattle.gss_server.specs.Asking.{BookAnswers}
 use Rattle.world_laws.specs.Events.{IsBook}
 use Rattle.world_laws.proofs.Answering.{memory-cases}

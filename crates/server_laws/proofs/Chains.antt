@@ -1,8 +1,8 @@
 -- A chain of a book's answers is one of legal books, each as its log has it.
 use Rattle.std.proofs.Common.{ℕ, max, ap, sym, subst, List, [], ◌∷◌, ◌++◌, Option, None}
-use Rattle.accept_book.specs.declared.entry.Entry.{Entry}
+use Rattle.accept_core.specs.declared.entry.Entry.{Entry}
 use Rattle.accept_book.specs.Booking.{BookOf}
-use Rattle.accept_book.specs.Legal.{Legal}
+use Rattle.accept_core.specs.Legal.{Legal}
 use Rattle.accept_book.specs.RecordShown.{Asked, AskedStep, AskedLook, AskedAdmit, AskedEnd}
 use Rattle.gss_server.specs.Asking.{Asking, BookAnswers}
 use Rattle.world_laws.specs.State.{InHand}

@@ -18,18 +18,18 @@ use Rattle.context_table.specs.declared.slot.SlotState.{SlotState}
 use Rattle.context_table.specs.declared.slot.SlotState.TheVariants.{Negotiating, Held, Complete}
 use Rattle.context_table.specs.Slots.{state_taken}
 use Rattle.context_table.specs.Places.{Places, slot_at, live_of, state_of}
-use Rattle.accept_book.specs.declared.answer.MarkRefusal.{MarkRefusal}
-use Rattle.accept_book.specs.declared.answer.Next.{Next}
-use Rattle.accept_book.specs.declared.answer.Next.TheVariants as nexts
+use Rattle.accept_core.specs.declared.answer.MarkRefusal.{MarkRefusal}
+use Rattle.accept_core.specs.declared.answer.Next.{Next}
+use Rattle.accept_core.specs.declared.answer.Next.TheVariants as nexts
 use Rattle.accept_book.specs.declared.book_answer.BookRefusal.{BookRefusal}
 use Rattle.accept_book.specs.declared.book_answer.BookRefusal.TheVariants as refusals
 use Rattle.accept_book.specs.declared.book_answer.NegAnswer.{NegAnswer}
-use Rattle.accept_book.specs.declared.entry.Entry.{Entry}
-use Rattle.accept_book.specs.declared.entry.Entry.TheVariants.{Opened}
-use Rattle.accept_book.specs.History.{Standing, Unknown, Open, Whole, Over, standing, numbers, opened, latest, taken_of, IsGone}
-use Rattle.accept_book.specs.Entering.{id_of, lapsed, noted, finished, entered, mark_refused}
-use Rattle.accept_book.specs.Replays.{SameState, end_of_opened}
-use Rattle.accept_book.specs.Stepping.{has_place, Context, context_of, context_after, until_of, ends_at}
+use Rattle.accept_core.specs.declared.entry.Entry.{Entry}
+use Rattle.accept_core.specs.declared.entry.Entry.TheVariants.{Opened}
+use Rattle.accept_core.specs.History.{Standing, Unknown, Open, Whole, Over, standing, numbers, opened, latest, taken_of, IsGone}
+use Rattle.accept_core.specs.Entering.{id_of, lapsed, noted, finished, entered, mark_refused}
+use Rattle.accept_core.specs.Replays.{SameState, end_of_opened}
+use Rattle.accept_core.specs.Stepping.{has_place, Context, context_of, context_after, until_of, ends_at}
 use Rattle.accept_book.specs.Booking.{by_outcome, names_of, Stands, Outcomes, Becomes, changed, without, lapsed_by, leaves, spends, next_answered, next_of, answer_with, mark_of, settled_of, by_mark, by_step, later_step, begun, opened_by, gone_on_by, negotiated}
 
 -- ---- contexts and the log

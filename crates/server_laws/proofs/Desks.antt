@@ -8,10 +8,10 @@ use Rattle.sec_base.specs.declared.clock.Clock as clocks
 use Rattle.sec_base.specs.declared.draw.Draw as draws
 use Rattle.rpc_msgs.specs.Records.{Fragments, octets_in}
 use Rattle.accept_book.specs.Booking.{BookOf}
-use Rattle.accept_book.specs.Legal.{Legal}
-use Rattle.accept_book.specs.Logs.{LogOf}
+use Rattle.accept_core.specs.Legal.{Legal}
+use Rattle.accept_core.specs.Logs.{LogOf}
 use Rattle.accept_book.specs.RecordShown.{Asked}
-use Rattle.accept_book.specs.declared.entry.Entry.{Entry}
+use Rattle.accept_core.specs.declared.entry.Entry.{Entry}
 use Rattle.gss_server.specs.Asking.{Asking, BookAnswers}
 use Rattle.gss_server.specs.Connections.{ruling_for, asked_for, asked_in, AllInOrder, AllExact, AllDecided, LastWanted, IsAnswered}
 use Rattle.gss_server.specs.declared.answer.Kept.{Kept}
@@ -21,13 +21,13 @@ use Rattle.gss_server.specs.declared.connection.Served.{Served}
 use Rattle.gss_server.specs.declared.keeper.Keeper as keepers
 use Rattle.gss_server.proofs.Turning.{all-push}
 use Rattle.book_seats.specs.Notes.{Note, asked_by, questions_of}
-use Rattle.server_command.specs.Desks.{ServedOf, ServedLink, LinksServed, DeskServed}
+use Rattle.server_desks.specs.Desks.{ServedOf, ServedLink, LinksServed, DeskServed}
 use Rattle.server_command.specs.SideBySide.{Noted}
 use Rattle.server_command.specs.Through.{IsOpened, IsLogOf}
-use Rattle.server_command.specs.declared.desk.Desk.{Desk}
-use Rattle.server_command.specs.declared.desk.DeskEnd.{DeskEnd}
-use Rattle.server_command.specs.declared.keys.Keys.{Keys}
-use Rattle.server_command.specs.declared.options.Options.{Options}
+use Rattle.server_desks.specs.declared.desk.Desk.{Desk}
+use Rattle.server_desks.specs.declared.desk.DeskEnd.{DeskEnd}
+use Rattle.server_options.specs.declared.keys.Keys.{Keys}
+use Rattle.server_options.specs.declared.options.Options.{Options}
 use Rattle.world_laws.specs.State.{InHand, World}
 use Rattle.server_laws.specs.Beside.{AreFree}
 use Rattle.server_laws.specs.Served.{IsOver, Meanwhile}

@@ -1,16 +1,16 @@
 -- The receipts of a book's answers are the entries that its log gained.
 use Rattle.std.proofs.Common.{◌≡◌, ◌≤◌, ◌+◌, ℕ, max, List, [], ◌∷◌, ◌++◌, append_assoc, length, length-append, append-nil, Option, Some, None, Result, Ok, Err, refl, sym, ap, ◌∙◌, subst, arith}
 use Rattle.std.specs.List.{flat_map}
-use Rattle.accept_book.specs.Answers.{or_refused, after, admitted, receipt_of}
+use Rattle.accept_core.specs.Answers.{or_refused, after, admitted, receipt_of}
 use Rattle.accept_book.specs.BookAnswers.{BookStepped}
 use Rattle.accept_book.specs.Booking.{BookOf}
-use Rattle.accept_book.specs.Entering.{gained}
+use Rattle.accept_core.specs.Entering.{gained}
 use Rattle.accept_book.specs.RecordShown.{Asked, AskedStep, AskedLook, AskedAdmit, AskedEnd}
-use Rattle.accept_book.specs.declared.answer.AdmitRefusal.{AdmitRefusal}
-use Rattle.accept_book.specs.declared.entry.Admitted.{Admitted}
-use Rattle.accept_book.specs.declared.entry.Entry.{Entry}
-use Rattle.accept_book.specs.declared.entry.Receipt.{Receipt}
-use Rattle.accept_book.proofs.Steps.{gained-none, gained-more}
+use Rattle.accept_core.specs.declared.answer.AdmitRefusal.{AdmitRefusal}
+use Rattle.accept_core.specs.declared.entry.Admitted.{Admitted}
+use Rattle.accept_core.specs.declared.entry.Entry.{Entry}
+use Rattle.accept_core.specs.declared.entry.Receipt.{Receipt}
+use Rattle.accept_core.proofs.Steps.{gained-none, gained-more}
 use Rattle.gss_server.specs.Asking.{Asking, BookAnswers}
 use Rattle.gss_server.specs.Receipts.{of_call, of_end}
 use Rattle.book_seats.specs.Notes.{Note, asked_by, questions_of}

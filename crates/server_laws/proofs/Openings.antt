@@ -1,13 +1,13 @@
 -- What an opened book answered, and its log, are a run of the world.
 use Rattle.std.proofs.Common.{◌≡◌, ◌∙◌, ℕ, refl, sym, subst, arith, List, []}
 use Rattle.accept_book.specs.Booking.{BookOf}
-use Rattle.accept_book.specs.Legal.{Legal}
+use Rattle.accept_core.specs.Legal.{Legal}
 use Rattle.accept_book.specs.RecordShown.{Asked}
-use Rattle.accept_book.specs.declared.entry.Entry.{Entry}
+use Rattle.accept_core.specs.declared.entry.Entry.{Entry}
 use Rattle.gss_server.specs.Asking.{Asking, BookAnswers}
 use Rattle.server_command.specs.Through.{IsOpened}
-use Rattle.server_command.specs.declared.keys.Keys.{Keys}
-use Rattle.server_command.specs.declared.options.Options.{Options}
+use Rattle.server_options.specs.declared.keys.Keys.{Keys}
+use Rattle.server_options.specs.declared.options.Options.{Options}
 use Rattle.world_laws.specs.Events.{IsBook}
 use Rattle.world_laws.specs.State.{World}
 use Rattle.server_laws.specs.Served.{AllAnswered, LegalAnswers}

@@ -2,9 +2,9 @@
 use Rattle.std.specs.Prelude.{◌≡◌, ◌≤◌, ℕ, List, [], length, Some}
 use Rattle.std.specs.List.{flat_map}
 use Rattle.accept_book.specs.Booking.{BookOf}
-use Rattle.accept_book.specs.Entering.{given, gained}
+use Rattle.accept_core.specs.Entering.{given, gained}
 use Rattle.accept_book.specs.RecordShown.{Asked, AskedStep, AskedLook, AskedAdmit, AskedEnd}
-use Rattle.accept_book.specs.declared.entry.Receipt.{Receipt}
+use Rattle.accept_core.specs.declared.entry.Receipt.{Receipt}
 use Rattle.gss_server.specs.Asking.{Asking, BookAnswers}
 use Rattle.gss_server.specs.Receipts.{of_call, of_end}
 use Rattle.book_seats.specs.Notes.{Note, asked_by, questions_of}

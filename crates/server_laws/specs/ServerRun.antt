@@ -8,10 +8,10 @@ use Rattle.sec_base.specs.declared.draw.Draw as draws
 use Rattle.gss_base.specs.declared.mech.MechKind.TheVariants.{Kerberos, Scram}
 use Rattle.rpc_msgs.specs.Records.{Fragments}
 use Rattle.accept_book.specs.Booking.{BookOf}
-use Rattle.accept_book.specs.Legal.{Legal}
-use Rattle.accept_book.specs.Logs.{LogOf}
+use Rattle.accept_core.specs.Legal.{Legal}
+use Rattle.accept_core.specs.Logs.{LogOf}
 use Rattle.accept_book.specs.RecordShown.{Asked}
-use Rattle.accept_book.specs.declared.entry.Entry.{Entry}
+use Rattle.accept_core.specs.declared.entry.Entry.{Entry}
 use Rattle.gss_server.specs.Asking.{BookAnswers}
 use Rattle.gss_server.specs.Connections.{in_order}
 use Rattle.gss_server.specs.Hearing.{kept_answers}
@@ -19,14 +19,14 @@ use Rattle.gss_server.specs.declared.answer.Kept.{Kept}
 use Rattle.gss_server.specs.declared.connection.Served.{Served}
 use Rattle.gss_server.specs.declared.keeper.Keeper as keepers
 use Rattle.book_seats.specs.Notes.{Note, asked_by}
-use Rattle.server_command.specs.Desks.{ServedOf, LinksServed, DeskServed}
+use Rattle.server_desks.specs.Desks.{ServedOf, LinksServed, DeskServed}
 use Rattle.server_command.specs.SideBySide.{Noted, OneHistory}
 use Rattle.server_command.specs.Through.{IsOpened}
-use Rattle.server_command.specs.declared.desk.Desk.{Desk}
-use Rattle.server_command.specs.declared.desk.DeskEnd.{DeskEnd}
-use Rattle.server_command.specs.declared.ending.RunEnd.{RunEnd}
-use Rattle.server_command.specs.declared.keys.Keys.{Keys}
-use Rattle.server_command.specs.declared.options.Options.{Options}
+use Rattle.server_desks.specs.declared.desk.Desk.{Desk}
+use Rattle.server_desks.specs.declared.desk.DeskEnd.{DeskEnd}
+use Rattle.server_options.specs.declared.ending.RunEnd.{RunEnd}
+use Rattle.server_options.specs.declared.keys.Keys.{Keys}
+use Rattle.server_options.specs.declared.options.Options.{Options}
 use Rattle.world_laws.specs.Events.{IsBook}
 use Rattle.world_laws.specs.State.{InHand, World}
 use Rattle.server_laws.specs.Beside.{AreFree, RunsBeside}

@@ -3,12 +3,12 @@ use Rattle.std.proofs.Common.{◌≡◌, ◌⊎◌, inl, inr, ℕ, true, refl, s
 use Rattle.std.proofs.lemmas.Bool.{eqb-true}
 use Rattle.std.proofs.lemmas.Option.{none-some}
 use Rattle.sha1.specs.Sha1.{sha1}
-use Rattle.accept_book.specs.declared.answer.AdmitRefusal.{AdmitRefusal}
+use Rattle.accept_core.specs.declared.answer.AdmitRefusal.{AdmitRefusal}
 use Rattle.accept_book.specs.declared.book_answer.Lease.{Lease}
-use Rattle.accept_book.specs.declared.entry.Admitted.{Admitted}
-use Rattle.accept_book.specs.declared.entry.Entry.{Entry}
-use Rattle.accept_book.specs.declared.entry.Entry.TheVariants.{Call}
-use Rattle.accept_book.specs.Answers.{or_refused, after}
+use Rattle.accept_core.specs.declared.entry.Admitted.{Admitted}
+use Rattle.accept_core.specs.declared.entry.Entry.{Entry}
+use Rattle.accept_core.specs.declared.entry.Entry.TheVariants.{Call}
+use Rattle.accept_core.specs.Answers.{or_refused, after}
 use Rattle.accept_book.specs.Booking.{BookOf, lease_refused}
 use Rattle.accept_book.specs.BookAnswers.{BookAdmitted}
 use Rattle.accept_book.specs.Honest.{HonestLaw, HonestRuled}

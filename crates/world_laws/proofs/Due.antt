@@ -10,17 +10,17 @@ use Rattle.rpc_msgs.specs.declared.xdr_reader.XdrRefusal.{XdrRefusal}
 use Rattle.rpcsec_msgs.specs.Cred.{CredValue, cred_at}
 use Rattle.rpcsec_msgs.specs.declared.cred.CredRefusal.{CredRefusal}
 use Rattle.accept_book.specs.Served.{one_opaque, are_args}
-use Rattle.accept_book.specs.declared.answer.AdmitRefusal.{AdmitRefusal}
-use Rattle.accept_book.specs.declared.answer.AdmitRefusal.TheVariants as admits
-use Rattle.accept_book.specs.declared.answer.LookRefusal.{LookRefusal}
-use Rattle.accept_book.specs.declared.answer.LookRefusal.TheVariants as looks
+use Rattle.accept_core.specs.declared.answer.AdmitRefusal.{AdmitRefusal}
+use Rattle.accept_core.specs.declared.answer.AdmitRefusal.TheVariants as admits
+use Rattle.accept_core.specs.declared.answer.LookRefusal.{LookRefusal}
+use Rattle.accept_core.specs.declared.answer.LookRefusal.TheVariants as looks
 use Rattle.accept_book.specs.declared.book_answer.BookRefusal.TheVariants as books
 use Rattle.accept_book.specs.declared.book_answer.Lease.{Lease}
 use Rattle.accept_book.specs.declared.book_answer.NegAnswer.{NegAnswer}
 use Rattle.accept_book.specs.declared.book_answer.NegAnswer.TheVariants as steps
 use Rattle.accept_book.specs.declared.book_answer.Negotiated.{Negotiated}
-use Rattle.accept_book.specs.declared.entry.Admitted.{Admitted}
-use Rattle.accept_book.specs.declared.entry.Receipt.{Receipt}
+use Rattle.accept_core.specs.declared.entry.Admitted.{Admitted}
+use Rattle.accept_core.specs.declared.entry.Receipt.{Receipt}
 use Rattle.accept_book.specs.RecordShown.{KeptAnswers, Question, Negotiate, Look, Admit, End, Ruling, waiting, Shown, handle_id, body_args, end_of, is_verified}
 use Rattle.accept_book.specs.RecordRule.{is_other_program, is_other_version_of_it, is_misplaced, plain_ruling, stepped, ask_step, continued, token_ruling, creation_ruling, unadmitted, ask_admit, args_ruling, data_ruling, ask_end, destroy_ruling, looked_ruling, ask_look, id_ruling, cred_ruling, call_ruling, read_ruling, record_ruling}
 

@@ -25,7 +25,7 @@ use Rattle.accept_book.specs.declared.book_answer.NegAnswer.TheVariants as answe
 use Rattle.accept_book.specs.declared.book_answer.Negotiated.{Negotiated}
 use Rattle.accept_book.specs.Booking.{raised}
 use Rattle.accept_book.specs.BookLaws.{AllGood, Takes, FixesContext}
-use Rattle.accept_book.specs.Entering.{id_of}
+use Rattle.accept_core.specs.Entering.{id_of}
 use Rattle.accept_book.specs.Found.{step_taken, found_of, fixes_of, stepped_from}
 use Rattle.accept_book.specs.RecordShown.{Asked, AskedStep, AskedLook, AskedAdmit, AskedEnd}
 use Rattle.world_laws.specs.Deeds.{Opened, Deed, quiet}

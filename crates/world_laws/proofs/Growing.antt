@@ -8,9 +8,9 @@ use Rattle.spnego_core.specs.declared.outcome.Outcome.{Outcome}
 use Rattle.spnego_core.specs.declared.setup.InitSetup.{InitSetup}
 use Rattle.context_table.specs.Places.{IsPast}
 use Rattle.spnego_core.proofs.Makings.{among_front}
-use Rattle.accept_book.specs.declared.entry.Entry.{Entry}
+use Rattle.accept_core.specs.declared.entry.Entry.{Entry}
 use Rattle.accept_book.specs.Booking.{BookOf}
-use Rattle.accept_book.specs.History.{entry_at}
+use Rattle.accept_core.specs.History.{entry_at}
 use Rattle.accept_book.specs.RecordShown.{Negotiate, Asked, AskedStep, AskedLook, AskedAdmit, AskedEnd}
 use Rattle.gss_client.specs.Session.{SessionState}
 use Rattle.world_laws.specs.declared.stage.Stage.{Stage}

@@ -1,6 +1,6 @@
 -- The headline, assembled.
 use Rattle.std.proofs.Common.{sym, subst, List, [], ◌∷◌}
-use Rattle.accept_book.proofs.Onces.{calls-once, marks-once}
+use Rattle.accept_core.proofs.Onces.{calls-once, marks-once}
 use Rattle.world_laws.specs.declared.event.WorldEvent.{WorldEvent}
 use Rattle.world_laws.specs.State.{World}
 use Rattle.world_laws.specs.Events.{IsBook, Run}

@@ -9,16 +9,16 @@ use Rattle.context_table.specs.Places.{Places, IsPast, slot_at}
 use Rattle.accept_book.specs.declared.book_answer.NegAnswer.{NegAnswer}
 use Rattle.accept_book.specs.declared.book_answer.NegAnswer.TheVariants as answers
 use Rattle.accept_book.specs.declared.book_answer.Negotiated.{Negotiated}
-use Rattle.accept_book.specs.declared.entry.Entry.{Entry}
-use Rattle.accept_book.specs.declared.entry.Entry.TheVariants.{Settled}
+use Rattle.accept_core.specs.declared.entry.Entry.{Entry}
+use Rattle.accept_core.specs.declared.entry.Entry.TheVariants.{Settled}
 use Rattle.accept_book.specs.Booking.{BookOf, by_outcome}
 use Rattle.accept_book.specs.BookLaws.{GoodContext, BookLaws}
-use Rattle.accept_book.specs.Entering.{id_of}
+use Rattle.accept_core.specs.Entering.{id_of}
 use Rattle.accept_book.specs.Found.{fixes_of}
-use Rattle.accept_book.specs.History.{Unknown, standing, numbers}
+use Rattle.accept_core.specs.History.{Unknown, standing, numbers}
 use Rattle.accept_book.specs.RecordShown.{Asked, AskedStep, AskedLook, AskedAdmit, AskedEnd}
-use Rattle.accept_book.specs.Replays.{SameSlot}
-use Rattle.accept_book.specs.Stepping.{context_of}
+use Rattle.accept_core.specs.Replays.{SameSlot}
+use Rattle.accept_core.specs.Stepping.{context_of}
 use Rattle.gss_client.specs.Session.{SessionState}
 use Rattle.accept_book.specs.BookAnswers.{BookStepped}
 use Rattle.gss_server.specs.Asking.{BookAnswers}

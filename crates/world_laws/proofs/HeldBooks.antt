@@ -7,22 +7,22 @@ use Rattle.spnego_core.specs.declared.setup.AcceptSetup.{AcceptSetup}
 use Rattle.spnego_core.specs.Accepting.{Fixed, Accepted}
 use Rattle.context_table.specs.declared.slot.Slot.{Slot as TableSlot}
 use Rattle.context_table.specs.Places.{Places, IsPast, slot_at, Marks, KeepsOthers}
-use Rattle.accept_book.specs.declared.answer.AdmitRefusal.{AdmitRefusal}
-use Rattle.accept_book.specs.declared.answer.LookRefusal.{LookRefusal}
+use Rattle.accept_core.specs.declared.answer.AdmitRefusal.{AdmitRefusal}
+use Rattle.accept_core.specs.declared.answer.LookRefusal.{LookRefusal}
 use Rattle.accept_book.specs.declared.book_answer.Lease.{Lease}
 use Rattle.accept_book.specs.declared.book_answer.NegAnswer.TheVariants as answers
 use Rattle.accept_book.specs.declared.book_answer.Negotiated.{Negotiated}
-use Rattle.accept_book.specs.declared.entry.Admitted.{Admitted}
-use Rattle.accept_book.specs.declared.entry.EndCause.TheVariants.{Destroyed}
-use Rattle.accept_book.specs.declared.entry.Entry.{Entry}
-use Rattle.accept_book.specs.declared.entry.Entry.TheVariants.{Call, Ended}
-use Rattle.accept_book.specs.declared.entry.Receipt.{Receipt}
-use Rattle.accept_book.specs.Answers.{after}
+use Rattle.accept_core.specs.declared.entry.Admitted.{Admitted}
+use Rattle.accept_core.specs.declared.entry.EndCause.TheVariants.{Destroyed}
+use Rattle.accept_core.specs.declared.entry.Entry.{Entry}
+use Rattle.accept_core.specs.declared.entry.Entry.TheVariants.{Call, Ended}
+use Rattle.accept_core.specs.declared.entry.Receipt.{Receipt}
+use Rattle.accept_core.specs.Answers.{after}
 use Rattle.accept_book.specs.Booking.{BookOf, raised, changed, change_refused, lease_refused}
 use Rattle.accept_book.specs.BookLaws.{GoodContext, AllGood, BookLaws}
-use Rattle.accept_book.specs.Entering.{id_of}
+use Rattle.accept_core.specs.Entering.{id_of}
 use Rattle.accept_book.specs.Found.{step_taken, fixes_of}
-use Rattle.accept_book.specs.Stepping.{Context as Slot, context_of}
+use Rattle.accept_core.specs.Stepping.{Context as Slot, context_of}
 use Rattle.accept_book.specs.BookAnswers.{BookStepped, BookLooked, BookAdmitted, BookEnded}
 use Rattle.world_laws.specs.State.{Context, World}
 use Rattle.world_laws.specs.Events.{IsBook}

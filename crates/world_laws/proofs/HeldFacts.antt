@@ -10,12 +10,12 @@ use Rattle.spnego_core.specs.AcceptMech.{ByRequest}
 use Rattle.spnego_core.specs.Choice.{best}
 use Rattle.context_table.specs.Places.{Places, slot_at}
 use Rattle.accept_book.specs.declared.book_answer.Lease.{Lease}
-use Rattle.accept_book.specs.declared.entry.Entry.{Entry}
-use Rattle.accept_book.specs.declared.entry.Entry.TheVariants.{Auth, Settled}
+use Rattle.accept_core.specs.declared.entry.Entry.{Entry}
+use Rattle.accept_core.specs.declared.entry.Entry.TheVariants.{Auth, Settled}
 use Rattle.accept_book.specs.Booking.{names_of}
 use Rattle.accept_book.specs.BookLaws.{AllGood, Lasting, fixed_in}
-use Rattle.accept_book.specs.History.{opened, entry_at}
-use Rattle.accept_book.specs.Stepping.{Context as Slot, context_of}
+use Rattle.accept_core.specs.History.{opened, entry_at}
+use Rattle.accept_core.specs.Stepping.{Context as Slot, context_of}
 use Rattle.world_laws.specs.State.{InHand, Context, World}
 use Rattle.world_laws.specs.Events.{IsBook}
 use Rattle.world_laws.proofs.Invariants.{FixedAs, WasOpened, HasAuthEntry, Held}

@@ -4,13 +4,13 @@ use Rattle.std.proofs.lemmas.Bool.{cases_eq, eq-eqb, ne_eqb}
 use Rattle.std.proofs.lemmas.Option.{none-some, same_Some}
 use Rattle.gss_base.specs.declared.mark.Mark.{Mark}
 use Rattle.gss_base.specs.declared.mech.MechKind.{MechKind}
-use Rattle.accept_book.specs.declared.entry.Entry.{Entry}
-use Rattle.accept_book.specs.declared.entry.Entry.TheVariants.{Opened, Auth, Went, Settled, Call, Ended}
-use Rattle.accept_book.specs.declared.entry.EndCause.TheVariants.{Refused, Lapsed}
-use Rattle.accept_book.specs.History.{opened, entry_at}
-use Rattle.accept_book.specs.Answers.{after}
+use Rattle.accept_core.specs.declared.entry.Entry.{Entry}
+use Rattle.accept_core.specs.declared.entry.Entry.TheVariants.{Opened, Auth, Went, Settled, Call, Ended}
+use Rattle.accept_core.specs.declared.entry.EndCause.TheVariants.{Refused, Lapsed}
+use Rattle.accept_core.specs.History.{opened, entry_at}
+use Rattle.accept_core.specs.Answers.{after}
 use Rattle.accept_book.specs.Booking.{after_refusal}
-use Rattle.accept_book.specs.Entering.{lapsed, started, noted}
+use Rattle.accept_core.specs.Entering.{lapsed, started, noted}
 
 pub at-head : (place : ℕ) (entry : Entry) (h : List Entry) → place ≡ length h → entry_at place (entry ∷ h) ≡ Some entry
 at-head place entry h e = rw (eq-eqb place (length h) e) refl

@@ -5,14 +5,14 @@ use Rattle.std.proofs.lemmas.Option.{none-some}
 use Rattle.spnego_core.specs.declared.accept_end.AcceptEnd.{AcceptEnd}
 use Rattle.spnego_core.specs.declared.outcome.Outcome.{Outcome}
 use Rattle.context_table.specs.declared.slot.Slot.{Slot as TableSlot}
-use Rattle.accept_book.specs.declared.entry.Entry.{Entry}
-use Rattle.accept_book.specs.declared.entry.Entry.TheVariants.{Opened, Auth, Went, Settled, Call, Ended}
+use Rattle.accept_core.specs.declared.entry.Entry.{Entry}
+use Rattle.accept_core.specs.declared.entry.Entry.TheVariants.{Opened, Auth, Went, Settled, Call, Ended}
 use Rattle.accept_book.specs.Booking.{by_outcome}
 use Rattle.accept_book.specs.BookLaws.{Lasting, fixed_in}
-use Rattle.accept_book.specs.History.{Standing, Unknown, Open, Whole, Over, standing, numbers, IsOpen, IsLive}
-use Rattle.accept_book.specs.Legal.{Legal}
-use Rattle.accept_book.specs.Replays.{SameSlot}
-use Rattle.accept_book.specs.Stepping.{context_of}
+use Rattle.accept_core.specs.History.{Standing, Unknown, Open, Whole, Over, standing, numbers, IsOpen, IsLive}
+use Rattle.accept_core.specs.Legal.{Legal}
+use Rattle.accept_core.specs.Replays.{SameSlot}
+use Rattle.accept_core.specs.Stepping.{context_of}
 use Rattle.world_laws.proofs.Invariants.{WasOpened}
 use Rattle.world_laws.proofs.HeldHistory.{grows-one, at-head}
 

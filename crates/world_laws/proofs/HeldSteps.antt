@@ -11,14 +11,14 @@ use Rattle.context_table.specs.declared.slot.SlotState.{SlotState}
 use Rattle.context_table.specs.declared.slot.SlotState.TheVariants.{Negotiating, Held, Complete}
 use Rattle.context_table.specs.Places.{Places, slot_at, state_of}
 use Rattle.context_table.specs.Slots.{state_taken}
-use Rattle.accept_book.specs.declared.entry.Entry.{Entry}
+use Rattle.accept_core.specs.declared.entry.Entry.{Entry}
 use Rattle.accept_book.specs.Booking.{Stands, Change, Changed, changed, negotiated, by_outcome}
 use Rattle.accept_book.specs.BookLaws.{fixed_in, fixed_state, fixed_end, Takes}
-use Rattle.accept_book.specs.Entering.{id_of}
+use Rattle.accept_core.specs.Entering.{id_of}
 use Rattle.accept_book.specs.Found.{end_before, stepped_from}
-use Rattle.accept_book.specs.History.{Standing, Unknown, Open, Whole, Over, standing, numbers, IsOpen}
-use Rattle.accept_book.specs.Replays.{SameState, SameSlot}
-use Rattle.accept_book.specs.Stepping.{Context as Slot, context_of}
+use Rattle.accept_core.specs.History.{Standing, Unknown, Open, Whole, Over, standing, numbers, IsOpen}
+use Rattle.accept_core.specs.Replays.{SameState, SameSlot}
+use Rattle.accept_core.specs.Stepping.{Context as Slot, context_of}
 use Rattle.world_laws.specs.State.{Context}
 use Rattle.world_laws.proofs.HeldFacts.{contexts_of, Facts}
 use Rattle.world_laws.proofs.HeldTurns.{Turned, turned-either}

@@ -17,16 +17,16 @@ use Rattle.context_table.specs.declared.slot.Slot.{Slot as TableSlot}
 use Rattle.context_table.specs.declared.slot.SlotState.TheVariants.{Complete}
 use Rattle.context_table.specs.Places.{Places, slot_at}
 use Rattle.accept_book.specs.declared.book_answer.Lease.{Lease}
-use Rattle.accept_book.specs.declared.entry.Entry.{Entry}
-use Rattle.accept_book.specs.declared.entry.Entry.TheVariants.{Auth, Settled}
-use Rattle.accept_book.proofs.Appended.{lives-opened}
+use Rattle.accept_core.specs.declared.entry.Entry.{Entry}
+use Rattle.accept_core.specs.declared.entry.Entry.TheVariants.{Auth, Settled}
+use Rattle.accept_core.proofs.Appended.{lives-opened}
 use Rattle.accept_book.specs.Booking.{Stands, Change, changed, change_refused, negotiated, by_outcome, names_of}
 use Rattle.accept_book.specs.BookLaws.{Lasting, fixed_in, fixed_end, fixed_after, Takes, AddsBy, FixesContext, AllGood, Refuses, BookLaws}
-use Rattle.accept_book.specs.Entering.{id_of}
+use Rattle.accept_core.specs.Entering.{id_of}
 use Rattle.accept_book.specs.Found.{stepped_from, step_taken, fixes_of}
-use Rattle.accept_book.specs.History.{entry_at}
-use Rattle.accept_book.specs.Replays.{Replays}
-use Rattle.accept_book.specs.Stepping.{Context as Slot, context_of}
+use Rattle.accept_core.specs.History.{entry_at}
+use Rattle.accept_core.specs.Replays.{Replays}
+use Rattle.accept_core.specs.Stepping.{Context as Slot, context_of}
 use Rattle.world_laws.specs.State.{Context}
 use Rattle.world_laws.specs.Lanes.{context_with}
 use Rattle.world_laws.proofs.HeldFacts.{AuthIn, SettledAs, Contexts, contexts_of, Slots, AllSettled, Facts, more-settled}

@@ -13,18 +13,18 @@ use Rattle.spnego_core.specs.declared.refusal.NegRefusal.{NegRefusal}
 use Rattle.spnego_core.specs.declared.setup.AcceptSetup.{AcceptSetup}
 use Rattle.spnego_core.specs.Accepting.{Accepted, accept_step}
 use Rattle.context_table.specs.Places.{slot_at, live_of, state_of}
-use Rattle.accept_book.specs.declared.answer.MarkRefusal.{MarkRefusal}
-use Rattle.accept_book.specs.declared.answer.Next.TheVariants as nexts
+use Rattle.accept_core.specs.declared.answer.MarkRefusal.{MarkRefusal}
+use Rattle.accept_core.specs.declared.answer.Next.TheVariants as nexts
 use Rattle.accept_book.specs.declared.book_answer.BookRefusal.{BookRefusal}
 use Rattle.accept_book.specs.declared.book_answer.BookRefusal.TheVariants as refusals
 use Rattle.accept_book.specs.declared.book_answer.Lease.{Lease}
 use Rattle.accept_book.specs.declared.book_answer.NegAnswer.{NegAnswer}
 use Rattle.accept_book.specs.declared.book_answer.NegAnswer.TheVariants as answers
-use Rattle.accept_book.specs.declared.entry.Entry.{Entry}
-use Rattle.accept_book.specs.declared.entry.Entry.TheVariants.{Went, Settled}
+use Rattle.accept_core.specs.declared.entry.Entry.{Entry}
+use Rattle.accept_core.specs.declared.entry.Entry.TheVariants.{Went, Settled}
 use Rattle.accept_book.specs.Booking.{Stands, Outcomes, names_of, leaves, by_mark, by_step, mark_of, settled_of, later_step, begun, opened_by, gone_on_by, negotiated}
-use Rattle.accept_book.specs.Entering.{id_of, started, noted, entered, mark_refused}
-use Rattle.accept_book.specs.History.{Standing, Unknown, Open, Whole, Over, standing, taken_of}
+use Rattle.accept_core.specs.Entering.{id_of, started, noted, entered, mark_refused}
+use Rattle.accept_core.specs.History.{Standing, Unknown, Open, Whole, Over, standing, taken_of}
 use Rattle.world_laws.proofs.HeldHistory.{Quiet, quiet-same, quiet-one, quiet-then, quiet-refusal, quiet-started, quiet-noted}
 
 pub record Done (h : List Entry) (answer : NegAnswer) (new : List Entry) : Type 0 where

@@ -9,11 +9,11 @@ use Rattle.spnego_core.specs.declared.outcome.Outcome.{Outcome}
 use Rattle.spnego_core.specs.declared.setup.AcceptSetup.{AcceptSetup}
 use Rattle.spnego_core.specs.AcceptMech.{ByRequest}
 use Rattle.spnego_core.specs.Choice.{best}
-use Rattle.accept_book.specs.declared.entry.Entry.{Entry}
-use Rattle.accept_book.specs.declared.entry.Entry.TheVariants.{Opened, Auth}
+use Rattle.accept_core.specs.declared.entry.Entry.{Entry}
+use Rattle.accept_core.specs.declared.entry.Entry.TheVariants.{Opened, Auth}
 use Rattle.accept_book.specs.BookLaws.{Lasting, fixed_in}
-use Rattle.accept_book.specs.History.{opened}
-use Rattle.accept_book.specs.Stepping.{Context as Slot}
+use Rattle.accept_core.specs.History.{opened}
+use Rattle.accept_core.specs.Stepping.{Context as Slot}
 use Rattle.world_laws.specs.State.{Context}
 use Rattle.world_laws.proofs.Invariants.{WasOpened}
 use Rattle.world_laws.proofs.HeldLists.{get-last, get-cases}

@@ -32,13 +32,13 @@ use Rattle.spnego_core.specs.ListMic.{is_list_mic, mic_making, mic_found}
 use Rattle.spnego_core.specs.Outcome.{outcome_of}
 use Rattle.context_table.specs.Places.{slot_at}
 use Rattle.accept_book.specs.declared.book_answer.Lease.{Lease}
-use Rattle.accept_book.specs.declared.entry.Entry.TheVariants.{Settled}
+use Rattle.accept_core.specs.declared.entry.Entry.TheVariants.{Settled}
 use Rattle.accept_book.specs.Booking.{names_of}
 use Rattle.accept_book.specs.BookLaws.{AllGood, Lasting, fixed_in}
-use Rattle.accept_book.specs.History.{opened, entry_at}
+use Rattle.accept_core.specs.History.{opened, entry_at}
 use Rattle.accept_book.specs.RecordShown.{end_of}
 use Rattle.accept_book.specs.Served.{are_args, result_of}
-use Rattle.accept_book.specs.Stepping.{Context as Slot, context_of}
+use Rattle.accept_core.specs.Stepping.{Context as Slot, context_of}
 use Rattle.spnego_core.specs.declared.accept_end.AcceptEnd.{AcceptEnd}
 use Rattle.gss_client.specs.Session.{SessionState}
 use Rattle.world_laws.specs.declared.stage.Stage.{Stage}

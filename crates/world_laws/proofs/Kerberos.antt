@@ -25,10 +25,10 @@ use Rattle.spnego_core.specs.declared.setup.MechCred.TheVariants as creds
 use Rattle.spnego_core.specs.AcceptMech.{Basis, ByRequest, ByProof}
 use Rattle.spnego_core.specs.InitMech.{cred_for}
 use Rattle.spnego_core.specs.Outcome.{outcome_of}
-use Rattle.accept_book.specs.declared.entry.Entry.{Entry}
-use Rattle.accept_book.specs.declared.entry.Entry.TheVariants.{Auth}
-use Rattle.accept_book.specs.History.{entry_at}
-use Rattle.accept_book.proofs.Onces.{marks-once}
+use Rattle.accept_core.specs.declared.entry.Entry.{Entry}
+use Rattle.accept_core.specs.declared.entry.Entry.TheVariants.{Auth}
+use Rattle.accept_core.specs.History.{entry_at}
+use Rattle.accept_core.proofs.Onces.{marks-once}
 use Rattle.world_laws.specs.State.{Context, World}
 use Rattle.world_laws.specs.Premises.{Marking, GuardedSession, GuardedBasis, BuiltKey, OnTicket, Fresh, HasTicket}
 use Rattle.world_laws.specs.Agreement.{Partner, HasPartner}

@@ -1,7 +1,7 @@
 -- What a turn leaves of a lane.
 use Rattle.std.proofs.Common.{◌≡◌, ◌∙◌, inl, inr, ℕ, true, false, refl, ap, sym, subst, List, max, Option, Some, None, Result, true≢false}
 use Rattle.accept_book.specs.Booking.{BookOf}
-use Rattle.accept_book.specs.declared.answer.LookRefusal.{LookRefusal}
+use Rattle.accept_core.specs.declared.answer.LookRefusal.{LookRefusal}
 use Rattle.accept_book.specs.declared.book_answer.Lease.{Lease}
 use Rattle.accept_book.specs.RecordShown.{KeptAnswers, Asked, AskedStep, AskedLook, AskedAdmit, AskedEnd, Ruling}
 use Rattle.accept_book.specs.RecordRule.{record_ruling}

@@ -11,15 +11,15 @@ use Rattle.spnego_core.specs.declared.accept_end.AcceptEnd.TheVariants as ends
 use Rattle.spnego_core.specs.declared.accept_end.AcceptStep.{AcceptStep}
 use Rattle.spnego_core.specs.Accepting.{Accepted, accept_step}
 use Rattle.context_table.specs.Places.{slot_at, live_of, state_of}
-use Rattle.accept_book.specs.declared.answer.MarkRefusal.{MarkRefusal}
-use Rattle.accept_book.specs.declared.answer.Next.{Next}
-use Rattle.accept_book.specs.declared.answer.Next.TheVariants as nexts
-use Rattle.accept_book.specs.declared.entry.EndCause.{EndCause}
-use Rattle.accept_book.specs.declared.entry.EndCause.TheVariants as causes
-use Rattle.accept_book.specs.declared.entry.Entry.{Entry}
-use Rattle.accept_book.specs.declared.entry.Entry.TheVariants.{Opened, Auth, Went, Settled, Call, Ended}
-use Rattle.accept_book.specs.History.{Standing, Unknown, Open, Whole, Over, standing, taken_of}
-use Rattle.accept_book.specs.Entering.{id_of, lapsed, started, noted, finished, entered, mark_refused}
+use Rattle.accept_core.specs.declared.answer.MarkRefusal.{MarkRefusal}
+use Rattle.accept_core.specs.declared.answer.Next.{Next}
+use Rattle.accept_core.specs.declared.answer.Next.TheVariants as nexts
+use Rattle.accept_core.specs.declared.entry.EndCause.{EndCause}
+use Rattle.accept_core.specs.declared.entry.EndCause.TheVariants as causes
+use Rattle.accept_core.specs.declared.entry.Entry.{Entry}
+use Rattle.accept_core.specs.declared.entry.Entry.TheVariants.{Opened, Auth, Went, Settled, Call, Ended}
+use Rattle.accept_core.specs.History.{Standing, Unknown, Open, Whole, Over, standing, taken_of}
+use Rattle.accept_core.specs.Entering.{id_of, lapsed, started, noted, finished, entered, mark_refused}
 use Rattle.accept_book.specs.Booking.{Stands, Outcomes, mark_of, next_of, settled_of, after_refusal, by_mark, by_step, later_step, begun, opened_by, gone_on_by, negotiated}
 
 -- a call, or an end by a call

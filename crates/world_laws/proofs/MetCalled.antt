@@ -19,19 +19,19 @@ use Rattle.context_table.specs.declared.slot.SlotState.{SlotState}
 use Rattle.context_table.specs.declared.slot.SlotState.TheVariants as states
 use Rattle.context_table.specs.Slots.{HasState}
 use Rattle.context_table.specs.Places.{Places, slot_at, HasValue}
-use Rattle.accept_book.specs.declared.answer.LookRefusal.{LookRefusal}
+use Rattle.accept_core.specs.declared.answer.LookRefusal.{LookRefusal}
 use Rattle.accept_book.specs.declared.book_answer.Lease.{Lease}
-use Rattle.accept_book.specs.declared.entry.Entry.{Entry}
-use Rattle.accept_book.specs.declared.entry.Entry.TheVariants.{Call}
+use Rattle.accept_core.specs.declared.entry.Entry.{Entry}
+use Rattle.accept_core.specs.declared.entry.Entry.TheVariants.{Call}
 use Rattle.accept_book.specs.BookAnswers.{BookLooked}
 use Rattle.accept_book.specs.Booking.{BookOf, names_of, has_key, LeasedBy}
 use Rattle.accept_book.specs.BookLaws.{Lasting, fixed_state}
-use Rattle.accept_book.specs.History.{Standing, Whole, standing, numbers, is_whole}
+use Rattle.accept_core.specs.History.{Standing, Whole, standing, numbers, is_whole}
 use Rattle.accept_book.specs.Honest.{Honest, HonestLaw, caller_of}
 use Rattle.accept_book.specs.Looking.{IsLooked}
 use Rattle.accept_book.specs.RecordShown.{Question, Negotiate, Look, Admit, End, Asked, AskedStep, AskedLook, AskedAdmit, AskedEnd, handle_id}
 use Rattle.accept_book.specs.Served.{are_args}
-use Rattle.accept_book.specs.Stepping.{context_of}
+use Rattle.accept_core.specs.Stepping.{context_of}
 use Rattle.gss_client.specs.Session.{SessionState, session_after}
 use Rattle.gss_server.specs.Asking.{BookAnswers}
 use Rattle.world_laws.specs.declared.event.Happened.{Happened}

@@ -27,7 +27,7 @@ use Rattle.spnego_core.specs.Outcome.{token_end}
 use Rattle.accept_book.specs.declared.book_answer.Lease.{Lease}
 use Rattle.accept_book.specs.Honest.{Honest, data_header, made_call}
 use Rattle.accept_book.specs.RecordRule.{record_ruling, call_ruling, ask_look, id_ruling}
-use Rattle.accept_book.specs.declared.answer.LookRefusal.{LookRefusal}
+use Rattle.accept_core.specs.declared.answer.LookRefusal.{LookRefusal}
 use Rattle.accept_book.specs.RecordShown.{KeptAnswers, Look, Ruling, Shown, handle_of, handle_id}
 use Rattle.accept_book.specs.Served.{are_args}
 use Rattle.accept_book.proofs.HonestMakings.{mic-made}

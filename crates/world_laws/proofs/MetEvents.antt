@@ -30,19 +30,19 @@ use Rattle.spnego_core.specs.Exchange.{passed}
 use Rattle.spnego_core.specs.Initiating.{Started, Initiated, init_start, step_of}
 use Rattle.spnego_core.specs.Outcome.{token_end}
 use Rattle.context_table.specs.Places.{slot_at, live_of, IsPast}
-use Rattle.accept_book.specs.declared.answer.MarkRefusal.{MarkRefusal}
+use Rattle.accept_core.specs.declared.answer.MarkRefusal.{MarkRefusal}
 use Rattle.accept_book.specs.declared.book_answer.NegAnswer.{NegAnswer}
 use Rattle.accept_book.specs.declared.book_answer.NegAnswer.TheVariants as answers
 use Rattle.accept_book.specs.declared.book_answer.Negotiated.{Negotiated}
-use Rattle.accept_book.specs.Answers.{mark_refusal}
+use Rattle.accept_core.specs.Answers.{mark_refusal}
 use Rattle.accept_book.specs.BookAnswers.{IsOutcome, BookStepped}
 use Rattle.accept_book.specs.Booking.{BookOf, Outcomes, NotesMoment, raised, mark_of, settled_of, next_of, answer_with, by_step, by_mark, negotiated, lapsed_by, Becomes}
-use Rattle.accept_book.specs.Entering.{id_of, entered, mark_refused}
+use Rattle.accept_core.specs.Entering.{id_of, entered, mark_refused}
 use Rattle.accept_book.specs.Found.{step_taken, makes_of, found_of, fixes_of, end_before, stepped_from}
-use Rattle.accept_book.specs.History.{numbers, taken_of}
+use Rattle.accept_core.specs.History.{numbers, taken_of}
 use Rattle.accept_book.specs.RecordRule.{stepped, ask_step, record_ruling}
 use Rattle.accept_book.specs.RecordShown.{KeptAnswers, Question, Negotiate, Look, Admit, End, Asked, AskedStep, AskedLook, AskedAdmit, AskedEnd, Ruling, handle_of}
-use Rattle.accept_book.specs.Stepping.{context_after, until_of}
+use Rattle.accept_core.specs.Stepping.{context_after, until_of}
 use Rattle.gss_client.specs.declared.creation.Created.{Created}
 use Rattle.gss_client.specs.declared.creation.Created.TheVariants as created
 use Rattle.gss_client.specs.declared.refusal.ClientRefusal.{ClientRefusal}

@@ -6,9 +6,9 @@ use Rattle.gss_base.specs.declared.mech.MechKind.{MechKind}
 use Rattle.scram_mech.specs.MechMaking.{MechMaking, AmongMakings}
 use Rattle.spnego_core.proofs.Makings.{among_front, among_back}
 use Rattle.accept_book.specs.declared.book_answer.Lease.{Lease}
-use Rattle.accept_book.specs.declared.entry.Entry.TheVariants.{Call}
+use Rattle.accept_core.specs.declared.entry.Entry.TheVariants.{Call}
 use Rattle.accept_book.specs.Booking.{names_of}
-use Rattle.accept_book.specs.History.{entry_at}
+use Rattle.accept_core.specs.History.{entry_at}
 use Rattle.accept_book.specs.Honest.{HonestLaw}
 use Rattle.accept_book.specs.Served.{are_args}
 use Rattle.accept_book.specs.RecordShown.{handle_of}

@@ -47,7 +47,7 @@ use Rattle.spnego_core.proofs.MechRounds.{request_begins, request-begins}
 use Rattle.spnego_core.proofs.Spelled.{token_short}
 use Rattle.spnego_core.proofs.Turns.{MayCome, chosen_on, end_at, Hears, hears_first, hears_later}
 use Rattle.accept_book.specs.Booking.{BookOf}
-use Rattle.accept_book.specs.History.{taken_of}
+use Rattle.accept_core.specs.History.{taken_of}
 use Rattle.world_laws.specs.Lanes.{request_of}
 use Rattle.world_laws.specs.Meeting.{occasions_at, ReadyFor}
 use Rattle.world_laws.specs.Premises.{Marking}

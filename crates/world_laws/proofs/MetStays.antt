@@ -12,12 +12,12 @@ use Rattle.spnego_core.specs.declared.accept_end.AcceptStep.TheVariants as accep
 use Rattle.spnego_core.specs.declared.outcome.Outcome.{Outcome}
 use Rattle.spnego_core.specs.Accepting.{Fixed}
 use Rattle.context_table.specs.Places.{live_of}
-use Rattle.accept_book.specs.declared.answer.Next.TheVariants as nexts
-use Rattle.accept_book.specs.declared.entry.Entry.{Entry}
-use Rattle.accept_book.specs.declared.entry.Entry.TheVariants.{Settled}
+use Rattle.accept_core.specs.declared.answer.Next.TheVariants as nexts
+use Rattle.accept_core.specs.declared.entry.Entry.{Entry}
+use Rattle.accept_core.specs.declared.entry.Entry.TheVariants.{Settled}
 use Rattle.accept_book.specs.Booking.{Outcomes, raised, mark_of, next_of, names_of}
-use Rattle.accept_book.specs.Entering.{id_of, started, noted, entered}
-use Rattle.accept_book.specs.History.{Whole, standing, numbers, taken_of}
+use Rattle.accept_core.specs.Entering.{id_of, started, noted, entered}
+use Rattle.accept_core.specs.History.{Whole, standing, numbers, taken_of}
 use Rattle.pair_laws.proofs.Settling.{Came, Negotiates, goes-after}
 use Rattle.world_laws.specs.Deeds.{Deed}
 use Rattle.world_laws.specs.Premises.{WasSettled}

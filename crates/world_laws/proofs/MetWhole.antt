@@ -24,10 +24,10 @@ use Rattle.spnego_core.specs.Exchange.{rounds_of, tokens_of}
 use Rattle.spnego_core.specs.InitMech.{kinds_of, cred_for}
 use Rattle.spnego_core.specs.Initiating.{Started, own_list, init_start}
 use Rattle.spnego_core.proofs.Makings.{among_split}
-use Rattle.accept_book.specs.declared.entry.Entry.{Entry}
+use Rattle.accept_core.specs.declared.entry.Entry.{Entry}
 use Rattle.context_table.specs.Places.{live_of}
 use Rattle.accept_book.specs.Booking.{BookOf, names_of}
-use Rattle.accept_book.specs.History.{Whole, opened, numbers, taken_of}
+use Rattle.accept_core.specs.History.{Whole, opened, numbers, taken_of}
 use Rattle.gss_client.specs.Session.{SessionState, xid_after}
 use Rattle.pair_laws.proofs.Ruling.{IsId}
 use Rattle.world_laws.specs.declared.event.Happened.{Happened}

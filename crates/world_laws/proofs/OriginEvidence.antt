@@ -19,10 +19,10 @@ use Rattle.rpcsec_msgs.specs.Bodies.{checked_at, sealed_at}
 use Rattle.rpcsec_msgs.specs.Cred.{CredValue}
 use Rattle.scram_mech.specs.MechMaking.{OfType, MechMaking, AmongMakings, typed}
 use Rattle.accept_book.specs.declared.book_answer.Lease.{Lease}
-use Rattle.accept_book.specs.declared.entry.EndCause.TheVariants.{Destroyed}
-use Rattle.accept_book.specs.declared.entry.Entry.TheVariants.{Call, Ended}
+use Rattle.accept_core.specs.declared.entry.EndCause.TheVariants.{Destroyed}
+use Rattle.accept_core.specs.declared.entry.Entry.TheVariants.{Call, Ended}
 use Rattle.accept_book.specs.Booking.{lease_refused}
-use Rattle.accept_book.specs.History.{entry_at}
+use Rattle.accept_core.specs.History.{entry_at}
 use Rattle.accept_book.specs.RecordShown.{KeptAnswers, Admit, End, Asked, AskedStep, AskedLook, AskedAdmit, AskedEnd, end_of}
 use Rattle.world_laws.specs.declared.event.WorldEvent.{WorldEvent}
 use Rattle.world_laws.specs.Deeds.{Deed}

@@ -3,11 +3,11 @@ use Rattle.std.proofs.Common.{◌≡◌, ◌⊎◌, inl, inr, ℕ, Bool, true, f
 use Rattle.std.specs.Prelude.{◌==◌, if◌then◌else◌}
 use Rattle.std.proofs.lemmas.Option.{same_Some}
 use Rattle.context_table.specs.Places.{IsPast}
-use Rattle.accept_book.specs.declared.answer.AdmitRefusal.{AdmitRefusal}
+use Rattle.accept_core.specs.declared.answer.AdmitRefusal.{AdmitRefusal}
 use Rattle.accept_book.specs.declared.book_answer.Negotiated.{Negotiated}
-use Rattle.accept_book.specs.declared.entry.Entry.{Entry}
-use Rattle.accept_book.specs.History.{entry_at}
-use Rattle.accept_book.specs.Answers.{after, or_refused}
+use Rattle.accept_core.specs.declared.entry.Entry.{Entry}
+use Rattle.accept_core.specs.History.{entry_at}
+use Rattle.accept_core.specs.Answers.{after, or_refused}
 use Rattle.accept_book.specs.Booking.{BookOf, raised}
 use Rattle.accept_book.specs.BookAnswers.{BookStepped}
 use Rattle.world_laws.proofs.Answering.{memory-cases}

@@ -45,17 +45,17 @@ use Rattle.context_table.specs.declared.slot.SlotState.{SlotState}
 use Rattle.context_table.specs.declared.slot.SlotState.TheVariants as states
 use Rattle.context_table.specs.declared.slot.SlotState.TheVariants.{Negotiating, Complete}
 use Rattle.context_table.specs.Places.{Places, IsPast, live_of}
-use Rattle.accept_book.specs.declared.entry.Entry.{Entry}
+use Rattle.accept_core.specs.declared.entry.Entry.{Entry}
 use Rattle.accept_book.specs.declared.book_answer.NegAnswer.{NegAnswer}
 use Rattle.accept_book.specs.declared.book_answer.NegAnswer.TheVariants as answers
 use Rattle.accept_book.specs.declared.book_answer.Negotiated.{Negotiated}
 use Rattle.accept_book.specs.BookAnswers.{BookStepped}
 use Rattle.accept_book.specs.Booking.{BookOf, Stands, Change, changed, lapsed_by, next_of, raised, settled_of, negotiated, Outcomes}
 use Rattle.accept_book.specs.BookLaws.{AllGood, BookLaws}
-use Rattle.accept_book.specs.Entering.{id_of}
+use Rattle.accept_core.specs.Entering.{id_of}
 use Rattle.accept_book.specs.Found.{step_taken, fixes_of, stepped_from}
 use Rattle.accept_book.specs.RecordShown.{Asked, AskedStep, AskedLook, AskedAdmit, AskedEnd}
-use Rattle.accept_book.specs.Stepping.{Context as Slot, context_after, until_of}
+use Rattle.accept_core.specs.Stepping.{Context as Slot, context_after, until_of}
 use Rattle.accept_book.proofs.Founds.{taken_is, own_is}
 use Rattle.gss_server.specs.Asking.{BookAnswers}
 use Rattle.world_laws.specs.declared.event.WorldEvent.{WorldEvent}

@@ -13,7 +13,7 @@ use Rattle.accept_book.specs.declared.book_answer.NegAnswer.TheVariants as answe
 use Rattle.accept_book.specs.declared.book_answer.Negotiated.{Negotiated}
 use Rattle.accept_book.specs.BookLaws.{AllGood, FixesContext}
 use Rattle.accept_book.specs.Booking.{Stands, raised}
-use Rattle.accept_book.specs.Entering.{id_of}
+use Rattle.accept_core.specs.Entering.{id_of}
 use Rattle.accept_book.specs.Found.{step_taken, stepped_from, makes_of, fixes_of}
 use Rattle.accept_book.specs.RecordRule.{stepped}
 use Rattle.accept_book.specs.RecordShown.{KeptAnswers, Negotiate, AskedStep, Ruling, asking}

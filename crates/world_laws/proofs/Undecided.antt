@@ -1,12 +1,12 @@
 -- While a question is due, no rule decides.
 use Rattle.std.proofs.Common.{◌≡◌, ℕ, refl, sym, ◌∙◌, ap, arith, List, Option, Some, None, Result}
 use Rattle.std.proofs.lemmas.Option.{none-some}
-use Rattle.accept_book.specs.declared.answer.AdmitRefusal.{AdmitRefusal}
-use Rattle.accept_book.specs.declared.answer.LookRefusal.{LookRefusal}
+use Rattle.accept_core.specs.declared.answer.AdmitRefusal.{AdmitRefusal}
+use Rattle.accept_core.specs.declared.answer.LookRefusal.{LookRefusal}
 use Rattle.accept_book.specs.declared.book_answer.Lease.{Lease}
 use Rattle.accept_book.specs.declared.book_answer.Negotiated.{Negotiated}
-use Rattle.accept_book.specs.declared.entry.Admitted.{Admitted}
-use Rattle.accept_book.specs.declared.entry.Receipt.{Receipt}
+use Rattle.accept_core.specs.declared.entry.Admitted.{Admitted}
+use Rattle.accept_core.specs.declared.entry.Receipt.{Receipt}
 use Rattle.accept_book.specs.RecordShown.{KeptAnswers, Question, Ruling}
 use Rattle.accept_book.specs.RecordRule.{record_ruling}
 use Rattle.world_laws.specs.declared.event.Happened.{Happened}

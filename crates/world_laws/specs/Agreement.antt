@@ -19,12 +19,12 @@ use Rattle.spnego_core.specs.InitMech.{cred_for}
 use Rattle.spnego_core.specs.Initiating.{own_list}
 use Rattle.context_table.specs.declared.slot.SlotState.TheVariants.{Complete}
 use Rattle.context_table.specs.Places.{slot_at}
-use Rattle.accept_book.specs.declared.entry.Entry.{Entry}
-use Rattle.accept_book.specs.declared.entry.Entry.TheVariants.{Opened, Auth, Settled}
+use Rattle.accept_core.specs.declared.entry.Entry.{Entry}
+use Rattle.accept_core.specs.declared.entry.Entry.TheVariants.{Opened, Auth, Settled}
 use Rattle.accept_book.specs.Booking.{names_of}
 use Rattle.accept_book.specs.BookLaws.{fixed_in}
-use Rattle.accept_book.specs.History.{entry_at}
-use Rattle.accept_book.specs.Stepping.{Context as Slot, context_of}
+use Rattle.accept_core.specs.History.{entry_at}
+use Rattle.accept_core.specs.Stepping.{Context as Slot, context_of}
 use Rattle.world_laws.specs.declared.event.WorldEvent.{WorldEvent}
 use Rattle.world_laws.specs.declared.stage.Stage.TheVariants.{Ready}
 use Rattle.world_laws.specs.State.{Context, World}

@@ -4,8 +4,8 @@ use Rattle.std.specs.Prelude.{slice_get, Option, Some, None}
 use Rattle.spnego_core.specs.declared.setup.InitSetup.{InitSetup}
 use Rattle.spnego_core.specs.InitMech.{is_own_list}
 use Rattle.accept_book.specs.Booking.{BookOf, by_outcome}
-use Rattle.accept_book.specs.History.{posts}
-use Rattle.accept_book.specs.Replays.{Replays}
+use Rattle.accept_core.specs.History.{posts}
+use Rattle.accept_core.specs.Replays.{Replays}
 use Rattle.accept_book.specs.Served.{are_args}
 use Rattle.gss_client.specs.Session.{SessionState}
 use Rattle.world_laws.specs.declared.stage.Stage.{Stage}

@@ -4,10 +4,10 @@ use Rattle.std.specs.Prelude.{◌≡◌, ◌⊎◌, ℕ, List, [], ◌∷◌, sl
 use Rattle.gss_base.specs.declared.mark.Mark.{Mark}
 use Rattle.sha1.specs.Sha1.{sha1}
 use Rattle.accept_book.specs.declared.book_answer.Lease.{Lease}
-use Rattle.accept_book.specs.declared.entry.Entry.{Entry}
-use Rattle.accept_book.specs.declared.entry.Entry.TheVariants.{Auth, Call}
+use Rattle.accept_core.specs.declared.entry.Entry.{Entry}
+use Rattle.accept_core.specs.declared.entry.Entry.TheVariants.{Auth, Call}
 use Rattle.accept_book.specs.Booking.{FreeFor}
-use Rattle.accept_book.specs.History.{entry_at}
+use Rattle.accept_core.specs.History.{entry_at}
 use Rattle.accept_book.specs.Honest.{caller_of, Honest, HonestLaw}
 use Rattle.accept_book.specs.RecordShown.{handle_id}
 use Rattle.world_laws.specs.declared.event.Happened.TheVariants.{Sent, Refused}

@@ -17,9 +17,9 @@ use Rattle.spnego_core.specs.declared.setup.MechCred.{MechCred}
 use Rattle.spnego_core.specs.declared.setup.MechCred.TheVariants as creds
 use Rattle.spnego_core.specs.Exchange.{Occasion, HonestPair}
 use Rattle.context_table.specs.Places.{live_of}
-use Rattle.accept_book.specs.declared.entry.Entry.TheVariants.{Call}
+use Rattle.accept_core.specs.declared.entry.Entry.TheVariants.{Call}
 use Rattle.accept_book.specs.Booking.{BookOf, names_of}
-use Rattle.accept_book.specs.History.{Whole, standing, numbers, entry_at, taken_of}
+use Rattle.accept_core.specs.History.{Whole, standing, numbers, entry_at, taken_of}
 use Rattle.accept_book.specs.RecordShown.{handle_of}
 use Rattle.rpcsec_bodies.specs.declared.service.Service.TheVariants.{Integrity}
 use Rattle.gss_client.specs.Talk.{begun}

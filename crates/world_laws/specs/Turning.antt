@@ -5,7 +5,7 @@ use Rattle.std.specs.Prelude.{Err}
 use Rattle.context_table.specs.Places.{IsPast}
 use Rattle.accept_book.specs.Booking.{BookOf}
 use Rattle.accept_book.specs.RecordShown.{Asked, AskedStep, AskedLook, AskedAdmit, AskedEnd}
-use Rattle.accept_book.specs.declared.answer.LookRefusal.{LookRefusal}
+use Rattle.accept_core.specs.declared.answer.LookRefusal.{LookRefusal}
 use Rattle.accept_book.specs.declared.book_answer.Lease.{Lease}
 use Rattle.gss_server.specs.Asking.{BookAnswers}
 use Rattle.gss_server.specs.declared.answer.Reply.{Reply}

@@ -1,5 +1,5 @@
 use Rattle.std.proofs.Common.{◌∙◌, sym, arith, length}
-use Rattle.accept_book.proofs.Steps.{gained-none}
+use Rattle.accept_core.proofs.Steps.{gained-none}
 use Rattle.accept_book.proofs.book.leave.Goals as goal
 
 pub returns-clause-receipts : goal.returns-clause-receipts

@@ -1,5 +1,5 @@
 use Rattle.std.proofs.Common.{rules, Some, refl}
-use Rattle.accept_book.specs.History.{standing}
+use Rattle.accept_core.specs.History.{standing}
 use Rattle.accept_book.proofs.Comings.{comes_left, comes_held}
 use Rattle.accept_book.proofs.book.proceed.Goals as goal
 

@@ -1,5 +1,5 @@
 use Rattle.std.proofs.Common.{◌∙◌, None, Some, refl, sym, arith, length}
-use Rattle.accept_book.proofs.Steps.{gained-none, gained-more}
+use Rattle.accept_core.proofs.Steps.{gained-none, gained-more}
 use Rattle.accept_book.proofs.Changes.{changed_same, changed_gone}
 use Rattle.accept_book.proofs.Contexts.{same_windows, windows_gone}
 use Rattle.accept_book.proofs.Comings.{comes_spent}

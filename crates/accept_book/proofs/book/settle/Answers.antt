@@ -1,6 +1,6 @@
 use Rattle.std.proofs.Common.{ℕ, List, refl, ap, rules}
 use Rattle.spnego_core.specs.declared.accept_end.AcceptStep.TheVariants as steps
-use Rattle.accept_book.specs.declared.answer.Next.TheVariants as nexts
+use Rattle.accept_core.specs.declared.answer.Next.TheVariants as nexts
 use Rattle.accept_book.specs.declared.book_answer.NegAnswer.TheVariants as answers
 use Rattle.accept_book.proofs.Contexts.{windows_entered}
 use Rattle.accept_book.proofs.Comings.{comes_taken, comes_refused}

@@ -1,6 +1,6 @@
 use Rattle.std.proofs.Common.{◌≡◌, refl, sym, ◌∙◌, arith}
-use Rattle.server_command.proofs.DeskRuns.{fresh-small}
-use Rattle.server_command.proofs.Ends.{begun-behind, names-one}
+use Rattle.server_desks.proofs.DeskRuns.{fresh-small}
+use Rattle.server_desks.proofs.Ends.{begun-behind, names-one}
 use Rattle.server_command.proofs.Sides.{side-small}
 use Rattle.server_command.proofs.seating.run_book.Goals as goal
 

@@ -1,6 +1,6 @@
 use Rattle.std.proofs.Common.{List, [], ℕ, sym, subst}
 use Rattle.cli_base.specs.Lines.{Says}
-use Rattle.server_command.proofs.StatusLines.{end-line}
+use Rattle.server_options.proofs.StatusLines.{end-line}
 use Rattle.server_command.proofs.server.finish.Goals as goal
 
 pub returns-clause-said : goal.returns-clause-said

@@ -1,7 +1,7 @@
 use Rattle.std.proofs.Common.{inl, inr, ⊎_elim, sym, subst}
 use Rattle.accept_book.specs.Booking.{BookOf}
 use Rattle.server_command.specs.Through.{IsOpened}
-use Rattle.server_command.proofs.DeskRuns.{fresh-small}
+use Rattle.server_desks.proofs.DeskRuns.{fresh-small}
 use Rattle.server_command.proofs.Sides.{began-as, limits-as}
 use Rattle.server_command.proofs.server.open_and_serve.Goals as goal
 

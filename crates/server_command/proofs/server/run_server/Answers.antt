@@ -1,8 +1,8 @@
 use Rattle.std.proofs.Common.{◌≡◌, [], Result, Ok, subst}
-use Rattle.server_command.specs.declared.ending.Counts.{Counts}
-use Rattle.server_command.specs.declared.options.Options.{Options}
+use Rattle.server_options.specs.declared.ending.Counts.{Counts}
+use Rattle.server_options.specs.declared.options.Options.{Options}
 use Rattle.cli_base.specs.declared.given.WordsRefusal.{WordsRefusal}
-use Rattle.server_command.specs.Lines.{Named}
+use Rattle.server_options.specs.Lines.{Named}
 use Rattle.server_command.specs.Runs.{AreValid}
 use Rattle.server_command.proofs.Completions.{completed}
 use Rattle.server_command.proofs.Sides.{begun-served, side-served}

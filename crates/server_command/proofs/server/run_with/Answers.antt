@@ -1,6 +1,6 @@
 use Rattle.std.proofs.Common.{inl, inr, ⊎_elim, ap, sym}
-use Rattle.server_command.specs.Desks.{is_begun}
-use Rattle.server_command.proofs.KeyNames.{key-names}
+use Rattle.server_options.specs.Lines.{is_begun}
+use Rattle.server_options.proofs.KeyNames.{key-names}
 use Rattle.server_command.proofs.server.run_with.Goals as goal
 
 pub returns-in-Ok-clause-said : goal.returns-in-Ok-clause-said

@@ -1,7 +1,7 @@
 use Rattle.std.proofs.Common.{rules, ◌≡◌, ℕ, List, [], ◌∷◌, ◌++◌, refl, sym, ap, ◌∙◌, subst}
 use Rattle.std.specs.Vec.Iter.{into_iter_items}
 use Rattle.book_seats.specs.Notes.{asked_by}
-use Rattle.server_command.proofs.InStep.{moves-more}
+use Rattle.server_desks.proofs.InStep.{moves-more}
 use Rattle.server_command.proofs.staffing.compare_all.Goals as goal
 
 pub loop-one-preserved : goal.loop-one-preserved

@@ -1,7 +1,7 @@
 use Rattle.std.proofs.Common.{◌≡◌, ◌≤◌, ℕ, [], length, vec_len, vec_capacity}
 use Rattle.std.specs.Vec.Iter.{into_iter_items}
 use Rattle.book_seats.specs.Notes.{asked_by}
-use Rattle.server_command.proofs.InStep.{Moves}
+use Rattle.server_desks.proofs.InStep.{Moves}
 use Rattle.server_command.proofs.staffing.compare_all.Given as goal
 
 abbrev pub invariant-loop-one : goal.invariant-loop-one

@@ -1,6 +1,6 @@
 use Rattle.std.proofs.Common.{rules, ◌≡◌, ◌+◌, ℕ, List, [], ◌∷◌, ◌++◌, length, length-append, refl, sym, ap, ◌∙◌, arith}
 use Rattle.std.specs.Vec.Iter.{into_iter_items}
-use Rattle.server_command.proofs.InStep.{moves-more}
+use Rattle.server_desks.proofs.InStep.{moves-more}
 use Rattle.server_command.proofs.staffing.hire_all.Goals as goal
 
 pub loop-desk-preserved : goal.loop-desk-preserved

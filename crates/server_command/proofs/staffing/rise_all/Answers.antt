@@ -1,6 +1,6 @@
 use Rattle.std.proofs.Common.{rules, ◌≡◌, ℕ, List, [], ◌∷◌, ◌++◌, refl, sym, ap, ◌∙◌, subst}
 use Rattle.std.specs.Vec.Iter.{into_iter_items}
-use Rattle.server_command.proofs.InStep.{moves-more}
+use Rattle.server_desks.proofs.InStep.{moves-more}
 use Rattle.server_command.proofs.staffing.rise_all.Goals as goal
 
 pub loop-job-preserved : goal.loop-job-preserved

@@ -1,6 +1,6 @@
 use Rattle.std.proofs.Common.{◌≡◌, ◌≤◌, ℕ, [], length, vec_len, vec_capacity}
 use Rattle.std.specs.Vec.Iter.{into_iter_items}
-use Rattle.server_command.proofs.InStep.{Moves}
+use Rattle.server_desks.proofs.InStep.{Moves}
 use Rattle.server_command.proofs.staffing.rise_all.Given as goal
 
 abbrev pub invariant-loop-job : goal.invariant-loop-job

@@ -1,0 +1,16 @@
+use Rattle.std.proofs.Common.{◌∙◌, sym, reverse}
+use Rattle.accept_core.specs.Replays.{Naming}
+use Rattle.accept_core.proofs.Appended.{replays-back}
+use Rattle.accept_core.proofs.acceptance.Core.put_back.Goals as goal
+
+pub invariant_of-self : goal.invariant_of-self
+invariant_of-self g c =
+    let naming : Naming g.row.S.Denot = record { mech = g.S.Named.mech_of; names = g.S.Named.names_of } in
+    record {
+      replays = replays-back naming c.self.inside.log.width c.self.inside.posts (reverse c.self.inside.log.entries) c.self.inside.table c.put_back.new.self c.self.inside.cache c.args.id c.args.state c.self.invariant.replays (rw (← c.self.view_is) at c.requires.held) c.put_back.ensures.slot c.put_back.ensures.others;
+      ids = c.self.invariant.ids;
+      few = c.self.invariant.few;
+      small = c.self.invariant.small;
+      contexts = c.self.invariant.contexts ∙ sym c.put_back.ensures.others.limit;
+      marks = c.self.invariant.marks;
+    }

@@ -1,0 +1,12 @@
+pub mod History
+pub mod Legal
+pub mod Replays
+pub mod Answers
+pub mod Entering
+pub mod Logs
+pub mod Once
+pub mod Examples
+pub mod Stepping
+pub mod Ready
+pub mod Phases
+pub mod Naming

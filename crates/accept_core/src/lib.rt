@@ -1,0 +1,17 @@
+//! The plain state that an acceptor's threads share, over any kind of context: those that live, the authenticators that were taken, and the log.
+//!
+//! The log has each authenticator and each number of a context at most once, and every step keeps that.
+#![tactic(auto)]
+
+mod acceptance;
+mod answer;
+mod entry;
+pub mod laws;
+mod log;
+mod named;
+
+pub use acceptance::{Core, blank};
+pub use answer::{AdmitRefusal, Entered, LookRefusal, MarkRefusal, Next, RoomRefusal, TakeRefusal};
+pub use entry::{Admitted, EndCause, Entry, Limits, Receipt, Receipts};
+pub use log::Log;
+pub use named::Named;

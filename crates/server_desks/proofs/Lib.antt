@@ -1,0 +1,3 @@
+pub mod DeskRuns
+pub mod Ends
+pub mod InStep

@@ -1,0 +1,135 @@
+//! A desk: a port, and who is given what its connections come to.
+
+ghost use Rattle.std.specs.Prelude.{◌≡◌, ◌*◌, ◌<◌, ◌≤◌, false};
+ghost use Rattle.server_desks.specs.Desks.{IsFresh, DeskServed, DeskAdds, is_starved};
+
+use gss_server::{ConnEnd, Gate, Keeper, Kept, Served, serve_link};
+use sec_base::{Clock, Draw, Port};
+use std::alloc::Global;
+
+/// A port with the clock and the draw that serve its connections, who is given the answers to their
+/// records, who is given the links that were served, and how many connections and records it served.
+#[derive(Drop)]
+pub struct Desk<P, C, D, K, S> {
+    pub port: P,
+    pub clock: C,
+    pub draw: D,
+    /// Is given what is kept of each answer.
+    pub keeper: K,
+    /// Is given each link that was served, closed.
+    pub links: S,
+    pub connections: u32,
+    pub records: u64,
+}
+
+/// Why a desk stopped.
+#[derive(Clone, Copy, Debug, PartialEq, Eq)]
+pub enum DeskEnd {
+    /// Its port has no further link, or the stated number was served.
+    Done,
+    /// Its port failed, and the port's count of faults rose.
+    PortFault,
+    /// There was no memory.
+    NoMemory,
+}
+
+impl<P, C, D, K, S> Desk<P, C, D, K, S> {
+    /// A desk that has served nothing yet.
+    pub fn new(port: P, clock: C, draw: D, keeper: K, links: S) -> Desk<P, C, D, K, S>
+        ensures fresh { IsFresh result }
+        ensures port { result.port ≡ port }
+        ensures clock { result.clock ≡ clock }
+        ensures draw { result.draw ≡ draw }
+        ensures keeper { result.keeper ≡ keeper }
+        ensures links { result.links ≡ links }
+    {
+        Desk {
+            port,
+            clock,
+            draw,
+            keeper,
+            links,
+            connections: 0,
+            records: 0,
+        }
+    }
+}
+
+/// Serves the links of a desk's port, one after the other, at most `connections`, with windows of this width.
+pub fn serve_desk<P: Port, G: Gate, C: Clock, D: Draw, K: Keeper<Kept>, S: Keeper<Served<P::Link>>>(
+    alloc: Global,
+    desk: &mut Desk<P, C, D, K, S>,
+    gate: &mut G,
+    connections: u32,
+    width: u32,
+) -> DeskEnd
+where
+    P::Link: Drop,
+    requires { IsFresh desk.old }
+    // It served the first links of its port, in order, each from the state of the gate that the one before left; the keepers were given
+    // the answers and the links, and the clock and the draw gave what the answers hold, and nothing else.
+    ensures served { DeskServed G.answers width connections P.Port P.Link.Link C.Clock D.Draw
+        K.Keeper S.Keeper gate.old desk.old result desk.new gate.new }
+    ensures faults { P.faults desk.old.port ≤ P.faults desk.new.port }
+    ensures limits { G.limits gate.new ≡ G.limits gate.old }
+{
+    for number in 0..connections {
+        if desk.links.make_room().is_err() {
+            return DeskEnd::NoMemory;
+        }
+        match desk.port.accept() {
+            Err(_) => return DeskEnd::PortFault,
+            Ok(None) => return DeskEnd::Done,
+            Ok(Some(link)) => {
+                if is_starved(serve_next(alloc, desk, link, gate, width)) {
+                    return DeskEnd::NoMemory;
+                }
+            }
+        }
+    }
+    DeskEnd::Done
+}
+
+/// Whether a connection ended for want of memory.
+fn is_starved(end: ConnEnd) -> bool
+    ensures { result ≡ is_starved end }
+{
+    match end {
+        ConnEnd::NoMemory => true,
+        _ => false,
+    }
+}
+
+/// Serves a link that the port gave, and counts it.
+fn serve_next<P: Port, G: Gate, C: Clock, D: Draw, K: Keeper<Kept>, S: Keeper<Served<P::Link>>>(
+    alloc: Global,
+    desk: &mut Desk<P, C, D, K, S>,
+    link: P::Link,
+    gate: &mut G,
+    width: u32,
+) -> ConnEnd
+where
+    P::Link: Drop,
+    requires unclosed { P.Link.closed link ≡ false }
+    requires ready { S.ready desk.old.links }
+    requires few { desk.old.connections < 4294967295 }
+    requires small { desk.old.records ≤ 65536 * desk.old.connections }
+    ensures served { DeskAdds G.answers width P.Link.Link C.Clock D.Draw K.Keeper S.Keeper gate.old
+        desk.old link result desk.new gate.new }
+    ensures port { desk.new.port ≡ desk.old.port }
+    ensures small { desk.new.records ≤ 65536 * desk.new.connections }
+    ensures limits { G.limits gate.new ≡ G.limits gate.old }
+{
+    let Desk {
+        clock,
+        draw,
+        keeper,
+        ..
+    } = desk;
+    let served = serve_link(alloc, link, keeper, gate, clock, draw, width);
+    let end = served.end;
+    desk.connections += 1;
+    desk.records += served.records as u64;
+    desk.links.keep(served);
+    end
+}

@@ -1,0 +1,4 @@
+pub mod Formed
+pub mod KeyNames
+pub mod Numbers
+pub mod StatusLines

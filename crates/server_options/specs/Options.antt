@@ -1,0 +1,111 @@
+-- The words of the server: which are in its command, and what they ask for.
+use Rattle.std.specs.Prelude.{ℕ, ◌<◌, ◌≤◌, Bool, false, ◌&&◌, not, nat_eq, List, []}
+use Rattle.std.specs.Prelude.{◌∷◌, length, codes, Option, Some, None, Result, Ok, Err}
+use Rattle.std.specs.Prelude.{if◌then◌else◌}
+use lib.Pointwise.{pointwise}
+use Rattle.gss_base.specs.Name.{Name}
+use Rattle.gss_base.specs.Signs.{parsed}
+use Rattle.gss_base.specs.declared.principal.NameRefusal.{NameRefusal}
+use Rattle.cli_base.specs.Given.{◌>>=◌, demanded, number_given, data_given}
+use Rattle.cli_base.specs.Words.{are_words, value_of, first_word, plain_of}
+use Rattle.cli_base.specs.declared.given.WordsRefusal.{WordsRefusal}
+use Rattle.cli_base.specs.declared.given.WordsRefusal.TheVariants.{Usage}
+use Rattle.server_options.specs.declared.options.Files.{Files}
+use Rattle.server_options.specs.declared.options.Numbers.{Numbers}
+use Rattle.server_options.specs.declared.options.Options.{Options}
+
+-- the names of the options
+abbrev pub names : List (List ℕ)
+names = codes "--keytab" ∷ codes "--verifiers" ∷ codes "--name" ∷ codes "--bind" ∷ codes "--window"
+    ∷ codes "--connections" ∷ codes "--contexts" ∷ codes "--marks" ∷ codes "--log" ∷ []
+
+-- an address stands first; `drill` is none
+abbrev pub is_address : Option (List ℕ) → Bool
+is_address None = false
+is_address (Some word) = not (pointwise nat_eq word (codes "drill"))
+
+-- the address, then options: each of these names, once, with its value
+abbrev pub is_command : List (List ℕ) → Bool
+is_command words =
+    is_address (first_word words) && (nat_eq (length (plain_of words)) 1 && are_words names words)
+
+-- words that don't have the form of the command are refused
+abbrev pub formed : List (List ℕ) → Result (Unit {0}) WordsRefusal
+formed words = demanded (is_command words)
+
+-- the own name that was read, else the words are refused
+abbrev pub name_by : Result Name NameRefusal → Result Name WordsRefusal
+name_by (Ok name) = Ok name
+name_by (Err refusal) = Err Usage
+
+-- the files of the keys, both of which are required
+abbrev pub files_given : Option (List ℕ) → Option (List ℕ) → Result Files WordsRefusal
+files_given None verifiers = Err Usage
+files_given (Some keytab) None = Err Usage
+files_given (Some keytab) (Some verifiers) =
+    Ok (record { keytab = keytab; verifiers = verifiers })
+
+-- the own name, which is required
+abbrev pub name_given : Option (List ℕ) → Result Name WordsRefusal
+name_given None = Err Usage
+name_given (Some text) = name_by (parsed text)
+
+-- the numbers of the options
+abbrev pub numbers_given : List (List ℕ) → Result Numbers WordsRefusal
+numbers_given words = do
+  window ← number_given 1 1024 128 (value_of (codes "--window") words)
+  connections ← number_given 1 1000000 1000 (value_of (codes "--connections") words)
+  contexts ← number_given 1 65536 1024 (value_of (codes "--contexts") words)
+  marks ← number_given 1 1000000 65536 (value_of (codes "--marks") words)
+  log ← number_given 16 4000000 262144 (value_of (codes "--log") words)
+  Ok (record
+      { window = window; connections = connections; contexts = contexts; marks = marks; log = log })
+
+-- what the options of words in the command ask for
+unfoldable pub options_in : List (List ℕ) → Result Options WordsRefusal
+options_in words = do
+  files ← files_given (value_of (codes "--keytab") words) (value_of (codes "--verifiers") words)
+  name ← name_given (value_of (codes "--name") words)
+  bound ← data_given (value_of (codes "--bind") words)
+  window ← number_given 1 1024 128 (value_of (codes "--window") words)
+  connections ← number_given 1 1000000 1000 (value_of (codes "--connections") words)
+  contexts ← number_given 1 65536 1024 (value_of (codes "--contexts") words)
+  marks ← number_given 1 1000000 65536 (value_of (codes "--marks") words)
+  log ← number_given 16 4000000 262144 (value_of (codes "--log") words)
+  Ok (record {
+    files = files;
+    name = name;
+    bindings = bound;
+    window = window;
+    connections =
+        connections;
+    contexts = contexts;
+    marks = marks;
+    log = log;
+  })
+
+-- what the words ask for, refused exactly where they aren't in the command
+unfoldable pub options_of : List (List ℕ) → Result Options WordsRefusal
+options_of words = do
+  formed ← formed words
+  options_in words
+
+-- the limits of the numbers
+pub record AreRanged (numbers : Numbers) : Type 0 where
+  pub some_window : 0 < numbers.window
+  pub window : numbers.window ≤ 1024
+  pub connections : numbers.connections ≤ 1000000
+  pub contexts : numbers.contexts ≤ 65536
+  pub some_mark : 0 < numbers.marks
+  pub marks : numbers.marks ≤ 1000000
+  pub log : numbers.log ≤ 4000000
+
+-- the limits of the options
+pub record IsRanged (options : Options) : Type 0 where
+  pub some_window : 0 < options.window
+  pub window : options.window ≤ 1024
+  pub connections : options.connections ≤ 1000000
+  pub contexts : options.contexts ≤ 65536
+  pub some_mark : 0 < options.marks
+  pub marks : options.marks ≤ 1000000
+  pub log : options.log ≤ 4000000

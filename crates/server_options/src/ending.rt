@@ -1,0 +1,134 @@
+//! How the run of the server ends, and the line that says so.
+
+ghost use Rattle.std.specs.Prelude.{◌≡◌, ◌≢◌, ◌≤◌, IsTrue};
+ghost use Rattle.sec_base.specs.Answers.{Rose};
+ghost use Rattle.cli_base.specs.Lines.{Says};
+ghost use Rattle.server_options.specs.Lines.{file_of, no_key_line, served_line, status_of};
+ghost use Rattle.server_options.specs.Lines.{line_of};
+
+use cli_base::{FileStop, OUT_OF_MEMORY, say, say_made, say_stop};
+use sec_base::Sink;
+use std::alloc::Global;
+use std::marker::Model;
+
+/// The line of words that aren't in the command.
+pub const USAGE: &str =
+    "usage: gssrpcd ADDRESS --keytab FILE --verifiers FILE --name PRINCIPAL [options]\n";
+
+/// A file of the server's keys.
+#[derive(Clone, Copy, Debug, PartialEq, Eq)]
+pub enum KeyFile {
+    Keytab,
+    Verifiers,
+}
+
+/// How the run ended, before its line was written.
+#[derive(Clone, Copy, Debug, PartialEq, Eq)]
+pub enum RunEnd {
+    /// The words aren't in the command.
+    Usage,
+    /// This file can't be loaded, and the shelf's count of faults rose.
+    CannotLoad { file: KeyFile },
+    /// This file has too many octets, or isn't of its format: a keytab from this place on, verifiers in the line of this number.
+    Bad { file: KeyFile, at: usize },
+    /// The keytab has no key for the own name.
+    NoKey,
+    /// The port of this desk, counted from 1, failed, and its count of faults rose.
+    PortFault { desk: usize },
+    /// There was no memory.
+    NoMemory,
+    /// All connections were served.
+    Served,
+}
+
+/// What a run served, and how many entries its log has.
+#[derive(Clone, Copy, Debug, PartialEq, Eq)]
+pub struct Counts {
+    pub connections: u128,
+    pub records: u128,
+    pub entries: u64,
+}
+
+/// What the words of a run name, as its line says it: the files of the keys, and the own name's text form. Each is empty where the words aren't in the command.
+#[derive(Debug, Drop)]
+pub struct Names<'a> {
+    pub keytab: &'a str,
+    pub verifiers: &'a str,
+    pub own: &'a str,
+}
+
+impl<'a> Model for Names<'a> {
+    ghost use Rattle.server_options.specs.Lines.{Named};
+
+    ghost Value = { Named };
+
+    ghost view = { λ n.
+        record { keytab = n.keytab.now; verifiers = n.verifiers.now; own = n.own.now } };
+}
+
+impl<'a> Names<'a> {
+    /// The name of a file.
+    fn of(&self, file: KeyFile) -> &'a str
+        ensures { result.now ≡ file_of self.now file }
+    {
+        match file {
+            KeyFile::Keytab => self.keytab,
+            KeyFile::Verifiers => self.verifiers,
+        }
+    }
+}
+
+/// Says that the keytab has no key for this name.
+fn say_unkeyed<O: Sink>(alloc: Global, err: &mut O, own: &str) -> u8
+    ensures status { result ≢ 6 → result ≢ 8 → result ≡ 4 }
+    ensures fault { result ≡ 6 → Rose (O.faults err.old) (O.faults err.new) }
+    ensures said { IsTrue (O.tells err.old)
+        → Says (O.written err.old) (O.written err.new) result (no_key_line own.now) }
+{
+    say_made(err, 4, format!(in alloc; "no key for {own}\n"))
+}
+
+/// Writes the line of an end, and answers its status; 8 also where there was no memory for the line, and 6 where it can't be written.
+pub fn say_end<O: Sink>(
+    alloc: Global,
+    err: &mut O,
+    names: &Names<'_>,
+    counts: &Counts,
+    end: RunEnd,
+) -> u8
+    ensures status { result ≢ 6 → result ≢ 8 → result ≡ status_of end }
+    ensures fault { result ≡ 6 → Rose (O.faults err.old) (O.faults err.new) }
+    ensures said { IsTrue (O.tells err.old) → Says (O.written err.old) (O.written err.new) result
+        (line_of names.now counts.now end) }
+{
+    match end {
+        RunEnd::Usage => say(err, 2, USAGE),
+        RunEnd::CannotLoad { file } => say_stop(alloc, err, names.of(file), FileStop::CannotLoad),
+        RunEnd::Bad { file, at } => say_stop(alloc, err, names.of(file), FileStop::Bad { at }),
+        RunEnd::NoKey => say_unkeyed(alloc, err, names.own),
+        RunEnd::PortFault { desk } => {
+            say_made(err, 5, format!(in alloc; "port fault at desk {desk}\n"))
+        }
+        RunEnd::NoMemory => say(err, 8, OUT_OF_MEMORY),
+        RunEnd::Served => say_served(alloc, err, counts),
+    }
+}
+
+/// Says what was served.
+fn say_served<O: Sink>(alloc: Global, err: &mut O, counts: &Counts) -> u8
+    ensures status { result ≢ 6 → result ≢ 8 → result ≡ 0 }
+    ensures fault { result ≡ 6 → Rose (O.faults err.old) (O.faults err.new) }
+    ensures said { IsTrue (O.tells err.old)
+        → Says (O.written err.old) (O.written err.new) result (served_line counts.now) }
+{
+    let Counts {
+        connections,
+        records,
+        entries,
+    } = *counts;
+    say_made(
+        err,
+        0,
+        format!(in alloc; "served {connections} connections {records} records {entries} entries\n"),
+    )
+}

@@ -1,0 +1,181 @@
+//! The words of the server.
+
+ghost use Rattle.std.specs.Prelude.{◌≡◌, IfOk, codes};
+ghost use Rattle.sec_base.specs.Answers.{Gives};
+ghost use Rattle.cli_base.specs.Words.{value_of};
+ghost use Rattle.server_options.specs.Options.{is_command, formed, name_by, files_given};
+ghost use Rattle.server_options.specs.Options.{name_given, numbers_given, options_in, options_of};
+ghost use Rattle.server_options.specs.Options.{AreRanged, IsRanged};
+ghost use Rattle.gss_base.specs.Signs.{parsed};
+
+pub use cli_base::{WordsRefusal, address_of};
+use cli_base::{are_words, count_plain, demand, first_word};
+use cli_words::{Line, bindings_given, number_given, server_line, texts_of};
+use gss_base::{Bindings, NameRefusal, Principal};
+use sec_base::Text;
+use std::alloc::Global;
+
+/// The files of the server's keys.
+#[derive(Debug, Drop)]
+pub struct Files {
+    pub keytab: Text,
+    /// The users of SCRAM.
+    pub verifiers: Text,
+}
+
+/// What the words of the server ask for.
+#[derive(Debug, Drop)]
+pub struct Options {
+    pub files: Files,
+    /// The own name.
+    pub name: Principal,
+    pub bindings: Option<Bindings>,
+    /// The width of the windows, in numbers.
+    pub window: u32,
+    /// How many connections a desk serves.
+    pub connections: u32,
+    /// How many contexts live at once.
+    pub contexts: u32,
+    /// How many marks of authenticators are held at once.
+    pub marks: u32,
+    /// How many entries the log may have.
+    pub log: u32,
+}
+
+/// Whether the words are an address and options with their values.
+fn is_command(words: &[Text]) -> bool
+    ensures { result ≡ is_command words.now }
+{
+    let named = match first_word(words) {
+        Some(address) => address != "drill",
+        None => false,
+    };
+    named
+        && count_plain(words) == 1
+        && are_words(
+            words,
+            &[
+                "--keytab",
+                "--verifiers",
+                "--name",
+                "--bind",
+                "--window",
+                "--connections",
+                "--contexts",
+                "--marks",
+                "--log",
+            ],
+        )
+}
+
+/// Refuses words that don't have the form of the command.
+fn demand_form(words: &[Text]) -> Result<(), WordsRefusal>
+    ensures { result ≡ formed words.now }
+{
+    demand(is_command(words))
+}
+
+/// The own name of this text.
+fn name_of(alloc: Global, text: &str) -> Result<Principal, WordsRefusal>
+    ensures { Gives WordsRefusal.NoMemory (λ name. name) result (name_by (parsed text.now)) }
+{
+    match Principal::parse(alloc, text) {
+        Ok(name) => Ok(name),
+        Err(NameRefusal::NoMemory) => Err(WordsRefusal::NoMemory),
+        Err(_) => Err(WordsRefusal::Usage),
+    }
+}
+
+/// The files of the keys, both of which are required.
+fn files_given(alloc: Global, line: &Line<'_>) -> Result<Files, WordsRefusal>
+    ensures { Gives WordsRefusal.NoMemory (λ files. files) result (files_given
+        (value_of (codes "--keytab") line.now) (value_of (codes "--verifiers") line.now)) }
+{
+    match line.value("--keytab") {
+        None => Err(WordsRefusal::Usage),
+        Some(keytab) => match line.value("--verifiers") {
+            None => Err(WordsRefusal::Usage),
+            Some(verifiers) => {
+                let keytab = Text::of(alloc, keytab)?;
+                let verifiers = Text::of(alloc, verifiers)?;
+                Ok(Files { keytab, verifiers })
+            }
+        },
+    }
+}
+
+/// The own name, which is required.
+fn name_given(alloc: Global, line: &Line<'_>) -> Result<Principal, WordsRefusal>
+    ensures { Gives WordsRefusal.NoMemory (λ name. name) result
+        (name_given (value_of (codes "--name") line.now)) }
+{
+    match line.value("--name") {
+        None => Err(WordsRefusal::Usage),
+        Some(name) => name_of(alloc, name),
+    }
+}
+
+/// The numbers of the options.
+#[derive(Clone, Copy)]
+struct Numbers {
+    window: u32,
+    connections: u32,
+    contexts: u32,
+    marks: u32,
+    log: u32,
+}
+
+/// The numbers that a line asks for.
+fn numbers_given(line: &Line<'_>) -> Result<Numbers, WordsRefusal>
+    ensures value { result ≡ numbers_given line.now }
+    ensures range { IfOk result AreRanged }
+{
+    let window = number_given(line, "--window", 1, 1024, 128)?;
+    let connections = number_given(line, "--connections", 1, 1_000_000, 1000)?;
+    let contexts = number_given(line, "--contexts", 1, 65536, 1024)?;
+    let marks = number_given(line, "--marks", 1, 1_000_000, 65536)?;
+    let log = number_given(line, "--log", 16, 4_000_000, 262_144)?;
+    Ok(Numbers {
+        window,
+        connections,
+        contexts,
+        marks,
+        log,
+    })
+}
+
+/// What a line's options ask for.
+#[tactic(auto, unfolding(crate::specs::Options::options_in))]
+fn options_in(alloc: Global, line: &Line<'_>) -> Result<Options, WordsRefusal>
+    ensures value { Gives WordsRefusal.NoMemory (λ options. options) result (options_in line.now) }
+    ensures range { IfOk result IsRanged }
+{
+    let files = files_given(alloc, line)?;
+    let name = name_given(alloc, line)?;
+    let bindings = bindings_given(alloc, line)?;
+    match numbers_given(line) {
+        Ok(numbers) => Ok(Options {
+            files,
+            name,
+            bindings,
+            window: numbers.window,
+            connections: numbers.connections,
+            contexts: numbers.contexts,
+            marks: numbers.marks,
+            log: numbers.log,
+        }),
+        Err(refusal) => Err(refusal),
+    }
+}
+
+/// What the words ask for. Those in the command are read by `clap`.
+#[tactic(auto, unfolding(crate::specs::Options::options_of))]
+pub fn read_options(alloc: Global, words: &[Text]) -> Result<Options, WordsRefusal>
+    ensures value { Gives WordsRefusal.NoMemory (λ options. options) result (options_of words.now) }
+    ensures range { IfOk result IsRanged }
+{
+    demand_form(words)?;
+    let texts = texts_of(alloc, words)?;
+    let line = server_line(alloc, texts.as_slice())?;
+    options_in(alloc, &line)
+}
