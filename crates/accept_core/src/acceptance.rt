@@ -731,8 +731,10 @@ fn receipts_of(entries: &[Entry], from: usize) -> Receipts
     Receipts { count, list }
 }
 
-/// A receipt of nothing, for the places of a list that no entry has.
-pub fn blank() -> Receipt {
+/// A receipt of nothing, for the places of a list behind its count.
+pub fn blank() -> Receipt
+    ensures { result ≡ record { place = 0; entry = Entry.Ended 0 EndCause.Lapsed } }
+{
     Receipt {
         place: 0,
         entry: Entry::Ended {
