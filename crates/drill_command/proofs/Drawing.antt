@@ -12,9 +12,9 @@ use Rattle.gss_client.specs.declared.procedure.Procedure.TheVariants.{Null, Echo
 use Rattle.pair_laws.specs.Conferring.{DueCall}
 use Rattle.pair_laws.specs.Sessions.{IsProper}
 use Rattle.pair_laws.proofs.SessionParts.{opaque-octets}
-use Rattle.pair_laws.proofs.WordsAsked.{one-fits}
+use Rattle.pair_laws.proofs.SpelledAlone.{one-fits}
 use Rattle.drill_command.specs.Calls.{procedure_of, drawn_by, drawn_call, calls_from}
-use Rattle.drill_command.specs.Generator.{stepped, top_of, octets_from}
+use Rattle.drill_plan.specs.Generator.{stepped, top_of, octets_from}
 
 -- ---- drawn octets
 

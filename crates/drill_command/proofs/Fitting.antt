@@ -43,12 +43,13 @@ use Rattle.spnego_core.specs.InitMech.{init_begun}
 use Rattle.spnego_core.specs.Initiating.{init_start}
 use Rattle.spnego_core.proofs.ShortTexts.{nonce_length}
 use Rattle.pair_laws.specs.Meeting.{CredMeets, Meets}
-use Rattle.drill_command.specs.Generator.{stepped, top_of, octets_from}
-use Rattle.drill_command.specs.Sessions.{moment_of, kind_of}
-use Rattle.drill_command.specs.Setting.{client_name, server_name, server_key, ticket_draws, drill_ticket, drill_keytab, drill_acceptor, drill_setup, user_name, drill_verifiers}
-use Rattle.drill_command.specs.Fitting.{CredOpens, IsGiven, tokens_for, FitLaw}
-use Rattle.drill_command.proofs.Ticket.{spelled-few, drill_part, drill_cipher}
-use Rattle.drill_command.proofs.Verifying.{drill_bytes}
+use Rattle.drill_plan.specs.Generator.{stepped, top_of, octets_from}
+use Rattle.drill_plan.specs.Sessions.{moment_of, kind_of}
+use Rattle.drill_plan.specs.Setting.{client_name, server_name, server_key, ticket_draws, drill_ticket, drill_keytab, drill_acceptor, drill_setup, user_name, drill_verifiers}
+use Rattle.drill_command.specs.Fitting.{IsGiven, tokens_for, FitLaw}
+use Rattle.drill_plan.specs.Setting.{CredOpens}
+use Rattle.drill_plan.proofs.Ticket.{spelled-few, drill_part, drill_cipher}
+use Rattle.drill_plan.proofs.Verifying.{drill_bytes}
 
 -- ---- what is drawn
 

@@ -4,7 +4,5 @@ pub mod Fitting
 pub mod Joining
 pub mod Limits
 pub mod Rested
-pub mod Saying
 pub mod Stepping
-pub mod Ticket
-pub mod Verifying
+pub mod Worked

@@ -10,7 +10,7 @@ use Rattle.gss_server.specs.Asking.{Asking, BookAnswers}
 use Rattle.gss_server.specs.Connections.{asked_for, asked_in}
 use Rattle.gss_server.specs.declared.answer.Kept.{Kept}
 use Rattle.gate_models.specs.Looping.{Rest, Looped, Since}
-use Rattle.drill_command.specs.Limits.{book_limits}
+use Rattle.drill_plan.specs.Limits.{book_limits}
 
 same : (old new : BookOf) → new.core.width ≡ old.core.width → new.core.limit ≡ old.core.limit → new.core.table.limit ≡ old.core.table.limit → new.core.cache.capacity ≡ old.core.cache.capacity → book_limits new ≡ book_limits old
 same old new w l c m = rw (w, l, c, m) refl

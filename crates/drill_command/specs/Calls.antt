@@ -7,7 +7,7 @@ use Rattle.gss_client.specs.declared.procedure.Procedure.{Procedure}
 use Rattle.gss_client.specs.declared.procedure.Procedure.TheVariants.{Null, Echo, Whoami, Post}
 use Rattle.gss_client.specs.declared.procedure.Procedure.TheVariants.{Count}
 use Rattle.pair_laws.specs.Conferring.{DueCall}
-use Rattle.drill_command.specs.Generator.{stepped, top_of, octets_from, after_steps}
+use Rattle.drill_plan.specs.Generator.{stepped, top_of, octets_from, after_steps}
 
 -- a call that was drawn, and the generator's value then
 pub record Drawn : Type 0 where

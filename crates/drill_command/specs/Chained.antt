@@ -1,43 +1,35 @@
 -- The sessions of a drill, one after the other over one book.
-use Rattle.std.specs.Prelude.{◌≡◌, ℕ, zero, suc, Bool, ◌&&◌, IsTrue, List, [], ◌∷◌, ◌++◌, reverse}
-use Rattle.std.specs.Prelude.{None}
-use Rattle.std.specs.List.{AllByRecursion}
+use Rattle.std.specs.Prelude.{◌≡◌, ℕ, zero, suc, List, [], ◌∷◌, ◌++◌, reverse}
 use Rattle.accept_book.specs.Booking.{BookOf}
 use Rattle.accept_core.specs.declared.entry.Entry.{Entry}
 use Rattle.gss_server.specs.declared.answer.Kept.{Kept}
 use Rattle.pair_laws.specs.Conferring.{DueCall}
 use Rattle.pair_laws.specs.Resting.{RestsAt}
-use Rattle.drill_command.specs.Drilled.{value_before, calls_of, IsDrilled}
-use Rattle.drill_command.specs.Limits.{book_limits, drill_limits}
+use Rattle.drill_command.specs.Drilled.{calls_of, IsDrilled}
+use Rattle.drill_plan.specs.Limits.{book_limits, drill_limits}
 use Rattle.drill_command.specs.Rested.{IsNext}
-use Rattle.drill_command.specs.Sessions.{session_count, moment_of}
-use Rattle.drill_command.specs.Setting.{drill_acceptor}
-use Rattle.drill_command.specs.declared.session.DrillSession.{DrillSession}
+use Rattle.drill_plan.specs.Sessions.{session_count, moment_of}
+use Rattle.drill_plan.specs.Setting.{drill_acceptor}
+use Rattle.drill_plan.specs.declared.session.DrillSession.{DrillSession}
 
--- a session of these calls was held behind others, from one book to another; `taken` says whether
--- all answers so far took the tokens of honest pairs
-pub record IsAdded (number : ℕ) (wanted : List DueCall) (old new : BookOf)
-    (sessions sessions' : List DrillSession) (taken taken' : Bool) : Type 0 where
+-- a session of these calls was held behind others, from one book to another; the client's generator
+-- had this value
+pub record IsAdded (number client : ℕ) (wanted : List DueCall) (old new : BookOf)
+    (sessions sessions' : List DrillSession) : Type 0 where
   pub one : DrillSession
   pub kept : List Kept
-  pub own : Bool
-  pub next : IsNext number wanted old new kept own one
+  pub next : IsNext number client wanted old new kept one
   pub added : sessions' ≡ sessions ++ one ∷ []
-  pub all : taken' ≡ (taken && own)
 
 -- so many sessions were held, each over the book that the one before it left
-abbrev pub AreHeld : ℕ → ℕ → ℕ → BookOf → BookOf → List DrillSession → Bool → Type 0
-AreHeld seed calls zero first book sessions taken = (book ≡ first) × (sessions ≡ [])
-AreHeld seed calls (suc number) first book sessions taken =
-    (before : BookOf) × (front : List DrillSession) × (held : Bool)
-    × AreHeld seed calls number first before front held
-    × IsAdded number (calls_of seed calls number) before book front sessions held taken
+abbrev pub AreHeld : ℕ → ℕ → ℕ → BookOf → BookOf → List DrillSession → Type 0
+AreHeld seed calls zero first book sessions = (book ≡ first) × (sessions ≡ [])
+AreHeld seed calls (suc number) first book sessions =
+    (before : BookOf) × (front : List DrillSession) × (client : ℕ)
+    × AreHeld seed calls number first before front
+    × IsAdded number client (calls_of seed calls number) before book front sessions
 
 -- ---- all sessions
-
--- a session was answered without a refusal
-abbrev pub IsUnrefused : DrillSession → Type 0
-IsUnrefused one = one.ended ≡ None
 
 -- a drill's book before the first session: it has the server's setup and limits, and no entry, and
 -- is at rest
@@ -48,14 +40,12 @@ pub record IsFirst (book : BookOf) : Type 0 where
   pub rests : RestsAt 0 (moment_of 0) book.core
 
 -- all sessions of a drill were held, from its first book on; the last one left the book with this
--- log. Where the answers took the tokens of honest pairs, and no session was refused, the sessions
--- and the log are as they should be.
-pub record AreAllHeld (seed calls : ℕ) (sessions : List DrillSession) (log : List Entry)
-    (taken : Bool) : Type 0 where
-  pub first : BookOf
-  pub last : BookOf
-  pub begins : IsFirst first
-  pub held : AreHeld seed calls (session_count calls) first last sessions taken
-  pub log_is : reverse log ≡ last.core.history
-  pub done : IsTrue taken → AllByRecursion IsUnrefused sessions
-      → IsDrilled seed calls sessions log
+-- log. The sessions and the log are as they should be.
+pub record AreAllHeld (seed calls : ℕ) (sessions : List DrillSession) (log : List Entry) : Type 0
+  where
+    pub first : BookOf
+    pub last : BookOf
+    pub begins : IsFirst first
+    pub held : AreHeld seed calls (session_count calls) first last sessions
+    pub log_is : reverse log ≡ last.core.history
+    pub done : IsDrilled seed calls sessions log

@@ -1,4 +1,4 @@
--- What a drill's sessions and log are where all goes well.
+-- What a drill's sessions and log are.
 use Rattle.std.specs.Prelude.{◌≡◌, ℕ, zero, suc, ◌+◌, List, [], ◌∷◌, ◌++◌, reverse, Some, None}
 use Rattle.spnego_core.specs.declared.outcome.Outcome.{Outcome}
 use Rattle.accept_book.specs.Booking.{names_of}
@@ -7,10 +7,12 @@ use Rattle.accept_core.specs.declared.entry.Entry.{Entry}
 use Rattle.pair_laws.specs.Conferring.{DueCall}
 use Rattle.pair_laws.specs.Creation.{Enters}
 use Rattle.pair_laws.specs.Rows.{history_after, results_by}
+use Rattle.pair_laws.specs.Walking.{HasNames}
 use Rattle.drill_command.specs.Calls.{calls_from, after_calls}
 use Rattle.drill_command.specs.Fitting.{tokens_for}
-use Rattle.drill_command.specs.Sessions.{session_count, calls_in, moment_of, kind_of}
-use Rattle.drill_command.specs.declared.session.DrillSession.{DrillSession}
+use Rattle.drill_plan.specs.Sessions.{session_count, calls_in, moment_of, kind_of}
+use Rattle.drill_plan.specs.Setting.{drill_credential}
+use Rattle.drill_plan.specs.declared.session.DrillSession.{DrillSession}
 
 -- the generator's value before session `number` draws its calls
 abbrev pub value_before : ℕ → ℕ → ℕ → ℕ
@@ -23,17 +25,18 @@ abbrev pub calls_of : ℕ → ℕ → ℕ → List DueCall
 calls_of seed calls number =
     calls_from (calls_in calls number) (value_before seed calls number)
 
--- session `number` was answered without a refusal, and agreed on an outcome of its mechanism. It
--- was answered the service's result of each call: nothing for NULL, its argument for ECHO, the
--- initiator's name for WHOAMI, and how many posts there are so far, in all sessions, for POST and
--- COUNT. The history, newest first, has the entries of its creation, its calls and its end before
--- the old ones, and no other.
+-- session `number` was answered without a refusal, and agreed on an outcome of its mechanism, with
+-- the names of its credential. It was answered the service's result of each call: nothing for NULL,
+-- its argument for ECHO, the initiator's name for WHOAMI, and how many posts there are so far, in
+-- all sessions, for POST and COUNT. The history, newest first, has the entries of its creation, its
+-- calls and its end before the old ones, and no other.
 pub record IsSession (number : ℕ) (wanted : List DueCall) (old new : List Entry)
     (one : DrillSession) : Type 0 where
   pub ended : one.ended ≡ None
   pub agreed : Outcome
   pub outcome : one.outcome ≡ Some agreed
   pub mech : agreed.mech ≡ kind_of number
+  pub named : HasNames (drill_credential (kind_of number)) agreed
   pub results : one.results.items ≡ results_by (posts old) agreed.initiator wanted
   pub opened : List Entry
   pub enters : Enters (number + 1) (moment_of number) (kind_of number)

@@ -1,23 +1,14 @@
 -- The facts of a drill's two ends fit.
-use Rattle.std.specs.Prelude.{◌≡◌, ℕ, ◌<◌, List, [], ◌∷◌, length}
+use Rattle.std.specs.Prelude.{◌≡◌, ℕ, ◌<◌, List, length}
 use Rattle.std.specs.List.{AllByRecursion}
 use Rattle.base64.specs.GeneralPurpose.{IsBytes}
 use Rattle.gss_base.specs.declared.mech.MechKind.{MechKind}
 use Rattle.gss_base.specs.declared.mech.MechKind.TheVariants as kinds
-use Rattle.ap_exchange.specs.Draws.{drawn_confounder}
-use Rattle.files_command.specs.Making.{TicketOpens}
 use Rattle.spnego_core.specs.declared.setup.InitSetup.{InitSetup}
 use Rattle.spnego_core.specs.Exchange.{Occasion}
 use Rattle.pair_laws.specs.Meeting.{Meets}
-use Rattle.drill_command.specs.Sessions.{moment_of, kind_of}
-use Rattle.drill_command.specs.Setting.{client_name, server_key, ticket_draws, drill_ticket}
-use Rattle.drill_command.specs.Setting.{drill_acceptor}
-
--- what a credential of a mechanism seals opens again: what the ticket seals, under the server's key
-abbrev pub CredOpens : MechKind → Type 0
-CredOpens kinds.Kerberos = TicketOpens client_name server_key drill_ticket.session 1000000 1086400
-    (drawn_confounder ticket_draws)
-CredOpens kinds.Scram = Unit {0}
+use Rattle.drill_plan.specs.Sessions.{moment_of, kind_of}
+use Rattle.drill_plan.specs.Setting.{drill_acceptor}
 
 -- what the server is given with a token in a session: the session's moment, and 66 drawn octets
 pub record IsGiven (number : ℕ) (occasion : Occasion) : Type 0 where

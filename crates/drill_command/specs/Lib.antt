@@ -2,13 +2,6 @@ pub mod Calls
 pub mod Chained
 pub mod Drilled
 pub mod Fitting
-pub mod Generator
 pub mod Held
-pub mod Limits
-pub mod Lines
-pub mod Numbers
 pub mod Paired
 pub mod Rested
-pub mod Sessions
-pub mod Setting
-pub mod Words

@@ -1,7 +1,8 @@
 -- What a session does to a book at rest.
-use Rattle.std.specs.Prelude.{◌≡◌, ℕ, ◌+◌, ◌*◌, ◌<◌, ◌≤◌, ◌^◌, Bool, IsTrue, List, length, map}
-use Rattle.std.specs.Prelude.{take, Option, Some, None}
+use Rattle.std.specs.Prelude.{◌≡◌, ℕ, ◌+◌, ◌*◌, ◌<◌, ◌≤◌, ◌^◌, List, length, map, Option, Some}
+use Rattle.std.specs.Prelude.{None}
 use Rattle.std.specs.List.{AllByRecursion}
+use Rattle.sec_base.specs.Moment.{greatest_moment}
 use Rattle.gss_base.specs.declared.mech.MechKind.{MechKind}
 use Rattle.spnego_core.specs.Exchange.{HonestPair}
 use Rattle.spnego_core.specs.declared.outcome.Outcome.{Outcome}
@@ -11,19 +12,21 @@ use Rattle.accept_core.specs.declared.entry.Entry.{Entry}
 use Rattle.gss_client.specs.declared.start.Start.{Start}
 use Rattle.gss_server.specs.declared.answer.Kept.{Kept}
 use Rattle.pair_laws.specs.Conferring.{DueCall}
-use Rattle.pair_laws.specs.Creation.{SameLimits, Enters}
+use Rattle.pair_laws.specs.Creation.{SameLimits, Enters, padded}
 use Rattle.pair_laws.specs.Honest.{occasion_of}
 use Rattle.pair_laws.specs.Linked.{LinkedLaw, kept_of}
 use Rattle.pair_laws.specs.Resting.{RestsAt}
 use Rattle.pair_laws.specs.Rows.{history_after, results_by}
 use Rattle.pair_laws.specs.Running.{IsName}
 use Rattle.pair_laws.specs.Sessions.{IsProper}
+use Rattle.pair_laws.specs.Walking.{IsNamed}
 use Rattle.pair_laws.specs.Whole.{posts_behind}
 use Rattle.drill_command.specs.Fitting.{tokens_for}
+use Rattle.drill_plan.specs.Generator.{octets_from}
 use Rattle.drill_command.specs.Paired.{IsPaired}
-use Rattle.drill_command.specs.Sessions.{moment_of, kind_of, service_of}
-use Rattle.drill_command.specs.Setting.{drill_acceptor}
-use Rattle.drill_command.specs.declared.session.DrillSession.{DrillSession}
+use Rattle.drill_plan.specs.Sessions.{moment_of, kind_of}
+use Rattle.drill_plan.specs.Setting.{drill_acceptor, drill_start}
+use Rattle.drill_plan.specs.declared.session.DrillSession.{DrillSession}
 
 -- what is told of an outcome: a session on its key over a link that answers by a book at rest is
 -- done, and the initiator's name is one
@@ -35,29 +38,36 @@ pub record LinkedTold (outcome : Outcome) : Type 0 where
 abbrev pub IsLinkTold : Option Outcome → Type 0
 IsLinkTold outcome = (told : Outcome) → outcome ≡ Some told → LinkedTold told
 
--- the session begins with a book at rest, which has places for these tokens and calls; the first
--- answers, so many, took the tokens of an honest pair, and each call is one that the service takes
+-- the session begins at this moment, its client's stamp, with a book at rest, which has places for
+-- these tokens and calls; with what was drawn for the first answers, so many, both ends are an
+-- honest pair; there are numbers enough, and each call is one that the service takes
 pub record FitsRest (tokens : ℕ) (kind : MechKind) (count moment : ℕ) (start : Start)
     (wanted : List DueCall) (book : BookOf) (kept : List Kept) : Type 0 where
-  pub enough : tokens ≤ length kept
   pub pair : HonestPair book.setup start.setup kind
-      (map occasion_of (take tokens (kept_of kept)))
+      (padded moment tokens (map occasion_of (kept_of kept)))
+  pub known : moment ≤ greatest_moment
+  pub stamp : start.setup.stamp ≡ moment
   pub rests : RestsAt count moment book.core
   pub number : count + 1 < 2 ^ 64
   pub wide : 0 < book.core.width
   pub table : 0 < book.core.table.limit
+  pub cache : count < book.core.cache.capacity
   pub log : length book.core.history + 4 * tokens + length wanted < book.core.limit
+  pub numbers : length wanted < 0x80000000
   pub each : AllByRecursion (IsProper start.service) wanted
 
--- the session agreed on an outcome of this mechanism, and was answered the service's results of all
--- its calls by the posts of the book; the book has the entries of its creation, its calls and its
--- end in the log and nothing else, and rests again at every later moment
-pub record RestsAgain (tokens : ℕ) (kind : MechKind) (count moment : ℕ) (wanted : List DueCall)
-    (old new : BookOf) (outcome : Option Outcome) (results : List (List ℕ)) : Type 0 where
+-- the session wasn't refused, agreed on an outcome of this mechanism with its credential's names,
+-- and was answered the service's results of all its calls by the posts of the book; the book has
+-- the entries of its creation, its calls and its end in the log and nothing else, and rests again
+-- at every later moment
+pub record RestsAgain (tokens : ℕ) (kind : MechKind) (count moment : ℕ) (start : Start)
+    (wanted : List DueCall) (old new : BookOf) (one : DrillSession) : Type 0 where
+  pub ended : one.ended ≡ None
   pub agreed : Outcome
-  pub outcome_is : outcome ≡ Some agreed
+  pub outcome : one.outcome ≡ Some agreed
   pub mech : agreed.mech ≡ kind
-  pub results_are : results ≡ results_by (posts old.core.history) agreed.initiator wanted
+  pub named : IsNamed start.setup kind agreed
+  pub results : one.results.items ≡ results_by (posts old.core.history) agreed.initiator wanted
   pub opened : List Entry
   pub enters : Enters (count + 1) moment kind tokens old.core.history opened
   pub names : enters.names ≡ names_of agreed
@@ -68,22 +78,22 @@ pub record RestsAgain (tokens : ℕ) (kind : MechKind) (count moment : ℕ) (wan
   pub rests : (later : ℕ) → moment < later → RestsAt (count + 1) later new.core
 
 -- the next session begins with a book of the drill's server at rest, which has places for the
--- tokens and the calls
+-- tokens and the calls, and there are numbers enough for these
 pub record FitsNext (number : ℕ) (wanted : List DueCall) (book : BookOf) : Type 0 where
   pub setup : book.setup ≡ drill_acceptor
   pub rests : RestsAt number (moment_of number) book.core
   pub log : length book.core.history + 4 * tokens_for (kind_of number) + length wanted
       < book.core.limit
+  pub numbers : length wanted < 0x80000000
 
--- the session of this number, counted from 0, began at its moment with a start for its service, and
--- was given these answers; where these took the tokens of an honest pair, and none of its calls was
--- refused, it is done if it fits
-pub record IsNext (number : ℕ) (wanted : List DueCall) (old new : BookOf) (kept : List Kept)
-    (taken : Bool) (one : DrillSession) : Type 0 where
+-- the session of this number, counted from 0, began at its moment with a drill's start, by octets
+-- of the client's generator, which had this value, and was given these answers, by which both ends
+-- are an honest pair; it is done if it fits
+pub record IsNext (number client : ℕ) (wanted : List DueCall) (old new : BookOf)
+    (kept : List Kept) (one : DrillSession) : Type 0 where
   pub start : Start
-  pub stamp : start.setup.stamp ≡ moment_of number
-  pub service : start.service ≡ service_of number
-  pub paired : IsTrue taken → IsPaired number start.setup kept
-  pub rests : IsTrue taken → one.ended ≡ None → FitsNext number wanted old
-      → ∥ RestsAgain (tokens_for (kind_of number)) (kind_of number) number (moment_of number) wanted
-      old new one.outcome one.results.items ∥₁
+  pub begun : start ≡ drill_start number (moment_of number) (octets_from 66 client)
+  pub paired : IsPaired number start.setup kept
+  pub rests : FitsNext number wanted old
+      → ∥ RestsAgain (tokens_for (kind_of number)) (kind_of number) number (moment_of number) start
+      wanted old new one ∥₁

@@ -2,11 +2,11 @@
 
 ghost use Rattle.std.specs.Prelude.{◌≡◌, ◌≤◌, ◌%◌, length, IfOk, OnOk};
 ghost use Rattle.rpc_msgs.specs.Words.{opaque};
-ghost use Rattle.drill_command.specs.Generator.{stepped, top_of, octets_from, after_steps};
+ghost use Rattle.drill_plan.specs.Generator.{stepped, top_of, octets_from, after_steps};
 ghost use Rattle.drill_command.specs.Calls.{procedure_of, takes_octets, drawn_call, calls_from};
 ghost use Rattle.drill_command.specs.Calls.{after_calls};
 
-use crate::generator::Generator;
+use drill_plan::Generator;
 use gss_client::Procedure;
 use pair_laws::DueCall;
 use rpc_msgs::XdrWriter;

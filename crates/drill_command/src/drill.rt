@@ -2,29 +2,24 @@
 
 ghost use Rattle.std.specs.Prelude.{◌≡◌, ◌≢◌, ◌⊎◌, ◌≤◌, ℕ, [], length, Some, None, IfOk};
 ghost use Rattle.std.specs.Prelude.{IsTrue, string_bytes, reverse, vec_len};
-ghost use Rattle.std.specs.List.{AllByRecursion};
 ghost use Rattle.accept_core.specs.Legal.{Legal};
+ghost use Rattle.accept_core.specs.Logs.{no_log};
 ghost use Rattle.sec_base.specs.Answers.{Rose};
 ghost use Rattle.cli_base.specs.Lines.{SaysLine, Says};
-ghost use Rattle.drill_command.specs.Chained.{AreAllHeld, IsUnrefused};
+ghost use Rattle.drill_command.specs.Chained.{AreAllHeld};
 ghost use Rattle.drill_command.specs.Drilled.{IsDrilled};
-ghost use Rattle.drill_command.specs.Lines.{drill_text, served_line, due_line, Prints, no_log};
-ghost use Rattle.drill_command.specs.Limits.{log_limits, drill_limits};
-ghost use Rattle.drill_command.specs.Sessions.{session_count};
-ghost use Rattle.drill_command.specs.Words.{plan_of};
+ghost use Rattle.drill_plan.specs.Lines.{drill_text, served_line, due_line, Prints};
+ghost use Rattle.drill_plan.specs.Limits.{log_limits, drill_limits};
+ghost use Rattle.drill_plan.specs.Sessions.{session_count};
+ghost use Rattle.drill_plan.specs.Words.{plan_of};
 
-use crate::lines::{served, summary};
-use crate::session::DrillSession;
 use crate::sessions::{Drilled, hold_all};
-use crate::words::{Plan, read_plan};
 use accept_book::Log;
 use cli_base::{OUT_OF_MEMORY, say};
+use drill_plan::{DrillSession, Plan, read_plan, served, summary};
 use sec_base::{NoMemory, Sink, Text};
+use server_options::USAGE;
 use std::alloc::Global;
-
-/// The line of status 2.
-const USAGE: &str =
-    "usage: gssrpcd ADDRESS --keytab FILE --verifiers FILE --name PRINCIPAL [options]\n";
 
 /// What a drill came to.
 #[derive(Drop)]
@@ -35,8 +30,6 @@ pub struct DrillEnd {
     pub sessions: Vec<DrillSession>,
     /// The log of the book, which is empty and has no limits where no drill was held to its end.
     pub log: Log,
-    /// Whether all answers came at their sessions' moments and took the tokens of honest pairs; false where no drill was held to its end.
-    pub taken: bool,
 }
 
 /// Says why no drill was held to its end.
@@ -54,7 +47,6 @@ fn unheld<O: Sink>(alloc: Global, err: &mut O, status: u8, line: &str) -> DrillE
         status,
         sessions: Vec::new(alloc),
         log: Log::empty(alloc),
-        taken: false,
     }
 }
 
@@ -102,23 +94,16 @@ fn report<O: Sink>(alloc: Global, drilled: Drilled, out: &mut O, err: &mut O) ->
         (length result.log.entries)) }
     ensures held { result.status ≡ 0 → result.sessions ≡ drilled.sessions }
     ensures log { result.status ≡ 0 → result.log ≡ drilled.log }
-    ensures taken { result.status ≡ 0 → result.taken ≡ drilled.taken }
     ensures legal { Legal result.log.width (reverse result.log.entries) }
 {
     match texts_of(alloc, &drilled) {
         Ok((lines, line)) => {
             let status = print(lines.as_str(), line.as_str(), out, err);
-            let Drilled {
-                sessions,
-                log,
-                taken,
-                ..
-            } = drilled;
+            let Drilled { sessions, log, .. } = drilled;
             DrillEnd {
                 status,
                 sessions,
                 log,
-                taken,
             }
         }
         Err(_) => unheld(alloc, err, 8, OUT_OF_MEMORY),
@@ -140,8 +125,8 @@ fn run_plan<O: Sink>(alloc: Global, plan: Plan, out: &mut O, err: &mut O) -> Dri
         → vec_len result.sessions ≡ session_count plan.calls }
     ensures legal { Legal result.log.width (reverse result.log.entries) }
     ensures limits { result.status ≡ 0 → log_limits result.log ≡ drill_limits }
-    ensures held { result.status ≡ 0 → AreAllHeld plan.seed plan.calls result.sessions.items
-        result.log.entries result.taken }
+    ensures held { result.status ≡ 0
+        → AreAllHeld plan.seed plan.calls result.sessions.items result.log.entries }
 {
     match hold_all(alloc, plan) {
         Ok(drilled) => report(alloc, drilled, out, err),
@@ -176,10 +161,9 @@ pub fn run_drill<O: Sink>(alloc: Global, words: &[Text], out: &mut O, err: &mut 
     ensures limits { result.status ≡ 0 → log_limits result.log ≡ drill_limits }
     // The sessions were held one after the other over one book, which has this log in the end.
     ensures held { (plan : Plan) → plan_of words.now ≡ Some plan → result.status ≡ 0
-        → AreAllHeld plan.seed plan.calls result.sessions.items result.log.entries result.taken }
-    // Where its answers took their tokens and no session was refused, the sessions and the log are those of the drill.
+        → AreAllHeld plan.seed plan.calls result.sessions.items result.log.entries }
+    // No session was refused, and the sessions and the log are those of the drill.
     ensures drilled { (plan : Plan) → plan_of words.now ≡ Some plan → result.status ≡ 0
-        → IsTrue result.taken → AllByRecursion IsUnrefused result.sessions.items
         → IsDrilled plan.seed plan.calls result.sessions.items result.log.entries }
 {
     match read_plan(words) {

@@ -3,15 +3,9 @@
 
 mod calls;
 mod drill;
-mod generator;
-mod lines;
+mod ends;
 mod meeting;
-mod numbers;
-mod session;
+mod opening;
 mod sessions;
-mod setting;
-mod words;
 
 pub use drill::{DrillEnd, run_drill};
-pub use session::DrillSession;
-pub use words::is_drill;

@@ -1,18 +1,18 @@
-//! Whether the two ends of a session are an honest pair.
+//! The two ends of a session are an honest pair.
 
-ghost use Rattle.std.specs.Prelude.{◌≡◌, ◌<◌, IfOk, IsTrue, map, take};
+ghost use Rattle.std.specs.Prelude.{◌≡◌, ◌<◌, ℕ, IfOk, map, take, slice_get};
 ghost use Rattle.std.specs.List.{AllByRecursion};
+ghost use Rattle.pair_laws.specs.Creation.{padded};
 ghost use Rattle.pair_laws.specs.Honest.{occasion_of};
 ghost use Rattle.pair_laws.specs.Linked.{kept_of};
 ghost use Rattle.pair_laws.specs.Meeting.{IsDrawn, drawn_on};
 ghost use Rattle.drill_command.specs.Fitting.{tokens_for};
-ghost use Rattle.drill_command.specs.Generator.{octets_from};
-ghost use Rattle.drill_command.specs.Paired.{AreOnTime, IsPaired};
-ghost use Rattle.drill_command.specs.Sessions.{moment_of, kind_of};
-ghost use Rattle.drill_command.specs.Setting.{drill_start};
+ghost use Rattle.drill_plan.specs.Generator.{octets_from};
+ghost use Rattle.drill_command.specs.Paired.{AreOnTime, IsPaired, drawn_from};
+ghost use Rattle.drill_plan.specs.Sessions.{moment_of, kind_of};
+ghost use Rattle.drill_plan.specs.Setting.{drill_start};
 
-use crate::generator::Generator;
-use crate::setting::{kind_of, moment_of, start_of};
+use drill_plan::{Generator, kind_of, moment_of, start_of};
 use gss_base::MechKind;
 use gss_client::Start;
 use gss_server::Kept;
@@ -43,37 +43,47 @@ fn drawn_for(one: &Kept) -> [u8; 66]
     first
 }
 
-/// What was drawn for each of these answers' tokens.
-fn drawn_all(alloc: Global, kept: &[Kept]) -> Result<Vec<[u8; 66]>, NoMemory>
-    ensures is { IfOk result (λ d. d.items ≡ drawn_on (map occasion_of (kept_of kept.now))) }
+/// What counts as drawn for the token of this place: zeros where it has no answer.
+fn drawn_at(kept: &[Kept], place: usize) -> [u8; 66]
+    ensures is { result ≡ drawn_from (slice_get kept.now place) }
+    ensures drawn { IsDrawn result }
+{
+    match kept.get(place) {
+        Some(one) => drawn_for(one),
+        None => [0; 66],
+    }
+}
+
+/// What counts as drawn for each of so many tokens.
+fn drawn_all(alloc: Global, kept: &[Kept], tokens: usize) -> Result<Vec<[u8; 66]>, NoMemory>
+    ensures is { IfOk result (λ d. (moment : ℕ)
+        → d.items ≡ drawn_on (padded moment tokens (map occasion_of (kept_of kept.now)))) }
     ensures drawn { IfOk result (λ d. AllByRecursion IsDrawn d.items) }
 {
     let mut all = Vec::new(alloc);
-    for one in kept {
-        all.push(drawn_for(one))?;
+    for place in 0..tokens {
+        all.push(drawn_at(kept, place))?;
     }
     Ok(all)
 }
 
-/// Whether there is an answer for each token of a session, whose client began with this generator. Where there is, the two ends are an honest pair.
-pub fn are_paired(
+/// Does nothing that stays; its contract says, where there was memory, that the two ends of a session, whose client began with this generator, are
+/// an honest pair if the answers came at the session's moment.
+pub fn prove_paired(
     alloc: Global,
     number: u32,
     draw: Generator,
     kept: &[Kept],
-) -> Result<bool, NoMemory>
+) -> Result<(), NoMemory>
     requires { number < 86400 }
-    ensures { IfOk result (λ told. IsTrue told → AreOnTime number kept.now → IsPaired number
+    ensures { IfOk result (λ _. AreOnTime number kept.now → IsPaired number
         (drill_start number (moment_of number) (octets_from 66 draw.value)).setup kept.now) }
 {
     let tokens = tokens_for(kind_of(number));
-    if kept.len() < tokens {
-        return Ok(false);
-    }
     let mut draw = draw;
     let start = start_of(alloc, number, moment_of(number), &mut draw)?;
-    let draws = drawn_all(alloc, &kept[..tokens])?;
+    let draws = drawn_all(alloc, kept, tokens)?;
     let Start { setup, .. } = start;
     prove_meeting(alloc, setup, draws.as_slice())?;
-    Ok(true)
+    Ok(())
 }

@@ -1,33 +1,35 @@
 //! The sessions of a drill, one after the other over one book.
 
-ghost use Rattle.std.specs.Prelude.{◌≡◌, ◌≤◌, ◌<◌, ◌+◌, ◌*◌, ◌%◌, ◌^◌, IfOk, true, vec_len};
-ghost use Rattle.std.specs.Prelude.{reverse, IsTrue, OnOk, false, None, ℕ, [], ◌∷◌, ◌++◌, ◌&&◌};
+ghost use Rattle.std.specs.Prelude.{◌≡◌, ◌≢◌, ◌⊎◌, ◌≤◌, ◌<◌, ◌+◌, ◌*◌, ◌%◌, ◌^◌, IfOk, OnOk, true};
+ghost use Rattle.std.specs.Prelude.{false, vec_len, reverse, Some, ℕ, [], ◌∷◌, ◌++◌};
 ghost use Rattle.std.specs.List.{AllByRecursion};
 ghost use Rattle.gss_base.specs.declared.mech.MechKind.{MechKind};
-ghost use Rattle.pair_laws.specs.Linked.{IsTakenBy, kept_of};
-ghost use Rattle.pair_laws.specs.Rows.{IsKeptBy};
+ghost use Rattle.pair_laws.specs.Creation.{IsAt};
+ghost use Rattle.pair_laws.specs.Linked.{kept_of};
+ghost use Rattle.drill_command.specs.Paired.{HasOctets};
 ghost use Rattle.drill_command.specs.Rested.{IsLinkTold, FitsRest, RestsAgain, IsNext};
 ghost use Rattle.accept_core.specs.Legal.{Legal};
 ghost use Rattle.spnego_core.specs.InitMech.{is_own_list};
 ghost use Rattle.gss_server.specs.Asking.{BookAnswers};
 ghost use Rattle.gate_models.specs.Looping.{Since};
-ghost use Rattle.drill_command.specs.Sessions.{calls_in, session_count};
+ghost use Rattle.drill_plan.specs.Generator.{octets_from};
+ghost use Rattle.drill_plan.specs.Sessions.{calls_in, session_count, moment_of};
+ghost use Rattle.drill_plan.specs.Setting.{drill_start};
 ghost use Rattle.drill_command.specs.Calls.{calls_from, after_calls};
 ghost use Rattle.drill_command.specs.Chained.{IsAdded, IsFirst, AreAllHeld};
 ghost use Rattle.drill_command.specs.Held.{Holds};
-ghost use Rattle.drill_command.specs.Limits.{book_limits, log_limits, drill_limits};
+ghost use Rattle.drill_plan.specs.Limits.{book_limits, log_limits, drill_limits};
 
 use crate::calls::draw_calls;
-use crate::generator::Generator;
-use crate::meeting::are_paired;
-use crate::session::{DrillSession, early_end};
-use crate::setting::{WIDTH, moment_of, open_book, start_of};
-use crate::words::Plan;
+use crate::ends::early_end;
+use crate::meeting::prove_paired;
+use crate::opening::open_book;
 use accept_book::{Book, Log};
+use drill_plan::{DrillSession, Generator, Plan, WIDTH, moment_of, start_of};
 use gate_models::{Beginning, LoopLink};
 use gss_client::{ClientRefusal, Start, Talk};
 use gss_server::Kept;
-use pair_laws::{DueCall, are_taken, hold_calls, prove_links, tell_name};
+use pair_laws::{DueCall, hold_calls, prove_created, prove_links, tell_kept, tell_name};
 use sec_base::{Moment, NoMemory};
 use spnego_core::Outcome;
 use std::alloc::Global;
@@ -45,8 +47,6 @@ pub struct Held {
     pub kept: Vec<Kept>,
     /// Whether an answer wanted memory.
     pub starved: bool,
-    /// Whether all answers came at the session's moment and took their tokens, those of an honest pair in a drill.
-    pub taken: bool,
 }
 
 /// Does nothing that stays: what is told of an outcome, where there is one.
@@ -77,10 +77,9 @@ fn hold_from<J: Beginning<Book>>(
     ensures held { IfOk result (λ h. ∥ Holds (λ asked. Since J.begins BookAnswers h.book asked)
         128 now start calls.now h.kept.items h.starved h.session.outcome
         h.session.results.items h.session.ended ∥₁) }
-    ensures taken { IfOk result (λ h. IsTrue h.taken
-        → AllByRecursion (IsTakenBy now) (kept_of h.kept.items)) }
-    ensures kept { IfOk result (λ h. IsTrue h.taken
-        → AllByRecursion (IsKeptBy now) h.kept.items) }
+    // and a fault of the link is want of memory
+    ensures fault { IfOk result
+        (λ h. h.session.ended ≡ Some ClientRefusal.LinkFault → h.starved ≡ true) }
 {
     let mut link: LoopLink<Book, Generator, J> = LoopLink::new(alloc, book, now, server, WIDTH)?;
     let talk = hold_calls(alloc, &mut link, client, start, calls);
@@ -92,7 +91,6 @@ fn hold_from<J: Beginning<Book>>(
         parting,
     } = talk;
     let ended = early_end(parting);
-    let taken = are_taken(kept.as_slice(), now);
     Ok(Held {
         session: DrillSession {
             outcome,
@@ -103,7 +101,6 @@ fn hold_from<J: Beginning<Book>>(
         server,
         kept,
         starved,
-        taken,
     })
 }
 
@@ -123,19 +120,19 @@ pub fn hold_session(
         (λ asked. Since (λ b. b ≡ book) BookAnswers h.book asked) 128 now start calls.now
         h.kept.items h.starved h.session.outcome h.session.results.items h.session.ended ∥₁) }
     ensures limits { IfOk result (λ h. book_limits h.book ≡ book_limits book) }
-    ensures taken { IfOk result (λ h. IsTrue h.taken
-        → AllByRecursion (IsTakenBy now) (kept_of h.kept.items)) }
-    ensures kept { IfOk result (λ h. IsTrue h.taken
-        → AllByRecursion (IsKeptBy now) h.kept.items) }
-    // Where all its calls were answered, its answers took their tokens, and it fits a book at rest, it is done, and the book rests again.
-    ensures rests { IfOk result (λ h. IsTrue h.taken → h.starved ≡ false
-        → h.session.ended ≡ None → (tokens : ℕ) (kind : MechKind) (count : ℕ)
+    ensures moments { IfOk result (λ h. AllByRecursion (IsAt now) (kept_of h.kept.items)) }
+    ensures octets { IfOk result (λ h. AllByRecursion HasOctets h.kept.items) }
+    // Where no memory was wanted and it fits a book at rest, it is done, and the book rests again.
+    ensures rests { IfOk result (λ h. h.starved ≡ false
+        → h.session.ended ≢ Some ClientRefusal.NoMemory
+        → (tokens : ℕ) (kind : MechKind) (count : ℕ)
         → FitsRest tokens kind count now start calls.now book h.kept.items
-        → ∥ RestsAgain tokens kind count now calls.now book h.book h.session.outcome
-        h.session.results.items ∥₁) }
+        → ∥ RestsAgain tokens kind count now start calls.now book h.book h.session ∥₁) }
 {
+    prove_created();
     let held = hold_from::<Brand>(alloc, book, now, server, client, start, calls)?;
     tell_link(&held.session.outcome);
+    tell_kept(held.kept.as_slice());
     Ok(held)
 }
 
@@ -155,8 +152,6 @@ struct Course {
     sessions: Vec<DrillSession>,
     /// How many records were answered.
     records: u128,
-    /// Whether all answers came at their sessions' moments and took the tokens of honest pairs.
-    taken: bool,
 }
 
 /// What a drill came to.
@@ -165,8 +160,6 @@ pub struct Drilled {
     pub sessions: Vec<DrillSession>,
     pub records: u128,
     pub log: Log,
-    /// Whether all answers came at their sessions' moments and took the tokens of honest pairs.
-    pub taken: bool,
 }
 
 /// The generators that a seed begins.
@@ -186,15 +179,20 @@ fn seeded(seed: u64) -> Generators
     }
 }
 
-/// Whether memory wanted at either end.
+/// Whether memory was wanted at either end.
 fn is_starved(held: &Held) -> bool
-    ensures { held.now.starved ≡ true → result ≡ true }
+    ensures fed { result ≡ false → held.now.starved ≡ false }
+    ensures remembered { result ≡ false → held.now.session.ended ≢ Some ClientRefusal.NoMemory }
+    ensures wanted { result ≡ true → (held.now.starved ≡ true)
+        ⊎ (held.now.session.ended ≡ Some ClientRefusal.NoMemory) }
 {
-    let wanted = match held.session.ended {
-        Some(ClientRefusal::NoMemory) | Some(ClientRefusal::LinkFault) => true,
+    if held.starved {
+        return true;
+    }
+    match held.session.ended {
+        Some(ClientRefusal::NoMemory) => true,
         _ => false,
-    };
-    held.starved || wanted
+    }
 }
 
 /// How many sessions make so many calls.
@@ -220,20 +218,25 @@ fn add_held(
     generators: Generators,
     sessions: Vec<DrillSession>,
     records: u128,
-    taken: bool,
 ) -> Result<Course, NoMemory>
     requires few { vec_len sessions ≤ 100 }
     requires records { records ≤ vec_len sessions * 18446744073709551616 }
     ensures count { IfOk result (λ c. vec_len c.sessions ≡ vec_len sessions + 1) }
     ensures records { IfOk result (λ c. c.records ≤ vec_len c.sessions * 18446744073709551616) }
     ensures fed { IfOk result (λ c. held.starved ≡ false) }
+    ensures remembered { IfOk result (λ c. held.session.ended ≢ Some ClientRefusal.NoMemory) }
     ensures book { IfOk result (λ c. c.book ≡ held.book) }
     ensures sessions { IfOk result (λ c. c.sessions.items
         ≡ sessions.items ++ held.session ∷ []) }
-    ensures taken { IfOk result (λ c. c.taken ≡ (taken && held.taken)) }
     ensures calls { IfOk result (λ c. c.generators.calls ≡ generators.calls) }
+    ensures client { IfOk result (λ c. c.generators.client ≡ generators.client) }
+    ensures server { IfOk result (λ c. c.generators.server ≡ held.server) }
 {
-    if is_starved(&held) {
+    let mut sessions = sessions;
+    // (what is large is let go by one call, at each way out)
+    if is_starved(&held) || sessions.reserve(1).is_err() {
+        drop(held);
+        drop(sessions);
         return Err(NoMemory);
     }
     let Held {
@@ -241,11 +244,11 @@ fn add_held(
         book,
         server,
         kept,
-        taken: own,
         ..
     } = held;
-    let mut sessions = sessions;
-    sessions.push(session)?;
+    let count = kept.len() as u128;
+    drop(kept);
+    sessions.push_reserved(session);
     Ok(Course {
         book,
         generators: Generators {
@@ -254,38 +257,37 @@ fn add_held(
             server,
         },
         sessions,
-        records: records + kept.len() as u128,
-        taken: taken && own,
+        records: records + count,
     })
 }
 
-/// The same session; its answers are taken where they also make the two ends an honest pair.
-fn taken_by(held: Held, paired: bool) -> Held
-    ensures session { result.session ≡ held.session }
-    ensures book { result.book ≡ held.book }
-    ensures kept { result.kept ≡ held.kept }
-    ensures starved { result.starved ≡ held.starved }
-    ensures taken { result.taken ≡ (held.taken && paired) }
+/// The calls of the next session, and what its client begins with.
+fn due_of(
+    alloc: Global,
+    generators: &mut Generators,
+    number: u32,
+    count: u32,
+) -> Result<(Vec<DueCall>, Start), NoMemory>
+    ensures calls { IfOk result (λ due. due.0.items
+        ≡ calls_from count generators.old.calls.value) }
+    ensures start { IfOk result (λ due. due.1 ≡ drill_start number (moment_of number)
+        (octets_from 66 generators.old.client.value)) }
+    ensures list { IfOk result (λ due. is_own_list due.1.setup.list ≡ true) }
+    ensures place { OnOk result (generators.new.calls.value
+        ≡ after_calls count generators.old.calls.value) }
+    ensures server { generators.new.server ≡ generators.old.server }
 {
-    let Held {
-        session,
-        book,
-        server,
-        kept,
-        starved,
-        taken,
-    } = held;
-    Held {
-        session,
-        book,
-        server,
-        kept,
-        starved,
-        taken: taken && paired,
+    let calls = draw_calls(alloc, &mut generators.calls, count)?;
+    match start_of(alloc, number, moment_of(number), &mut generators.client) {
+        Ok(start) => Ok((calls, start)),
+        Err(none) => {
+            drop(calls);
+            Err(none)
+        }
     }
 }
 
-/// Draws the calls of the next session and holds it; its answers are taken where they also make the two ends an honest pair.
+/// Draws the calls of the next session and holds it.
 fn next_session(
     alloc: Global,
     book: Book,
@@ -297,15 +299,22 @@ fn next_session(
     requires limits { book_limits book ≡ drill_limits }
     ensures limits { IfOk result (λ h. book_limits h.book ≡ book_limits book) }
     ensures next { IfOk result (λ h. h.starved ≡ false
-        → IsNext number (calls_from count generators.old.calls.value) book h.book h.kept.items
-        h.taken h.session) }
+        → h.session.ended ≢ Some ClientRefusal.NoMemory
+        → IsNext number generators.old.client.value
+        (calls_from count generators.old.calls.value) book h.book h.kept.items h.session) }
     ensures place { OnOk result (generators.new.calls.value
         ≡ after_calls count generators.old.calls.value) }
 {
-    let calls = draw_calls(alloc, &mut generators.calls, count)?;
     let now = moment_of(number);
     let client = generators.client;
-    let start = start_of(alloc, number, now, &mut generators.client)?;
+    // (what is large is let go by one call, at each way out)
+    let (calls, start) = match due_of(alloc, generators, number, count) {
+        Ok(due) => due,
+        Err(none) => {
+            drop(book);
+            return Err(none);
+        }
+    };
     let server = generators.server;
     let held = hold_session(
         alloc,
@@ -315,9 +324,16 @@ fn next_session(
         &mut generators.client,
         start,
         calls.as_slice(),
-    )?;
-    let paired = are_paired(alloc, number, client, held.kept.as_slice())?;
-    Ok(taken_by(held, paired))
+    );
+    drop(calls);
+    let held = held?;
+    match prove_paired(alloc, number, client, held.kept.as_slice()) {
+        Ok(()) => Ok(held),
+        Err(none) => {
+            drop(held);
+            Err(none)
+        }
+    }
 }
 
 /// Holds the next session of a drill.
@@ -329,9 +345,9 @@ fn go_on(alloc: Global, course: Course, number: u32, count: u32) -> Result<Cours
     ensures count { IfOk result (λ c. vec_len c.sessions ≡ vec_len course.sessions + 1) }
     ensures records { IfOk result (λ c. c.records ≤ vec_len c.sessions * 18446744073709551616) }
     ensures limits { IfOk result (λ c. book_limits c.book ≡ book_limits course.book) }
-    ensures added { IfOk result (λ c. IsAdded number
+    ensures added { IfOk result (λ c. IsAdded number course.generators.client.value
         (calls_from count course.generators.calls.value) course.book c.book
-        course.sessions.items c.sessions.items course.taken c.taken) }
+        course.sessions.items c.sessions.items) }
     ensures place { IfOk result (λ c. c.generators.calls.value
         ≡ after_calls count course.generators.calls.value) }
 {
@@ -340,11 +356,10 @@ fn go_on(alloc: Global, course: Course, number: u32, count: u32) -> Result<Cours
         generators,
         sessions,
         records,
-        taken,
     } = course;
     let mut generators = generators;
     let held = next_session(alloc, book, &mut generators, number, count)?;
-    let course = add_held(held, generators, sessions, records, taken)?;
+    let course = add_held(held, generators, sessions, records)?;
     Ok(course)
 }
 
@@ -362,7 +377,6 @@ fn begin(alloc: Global, seed: u64) -> Result<Course, NoMemory>
         generators: seeded(seed),
         sessions: Vec::new(alloc),
         records: 0,
-        taken: true,
     })
 }
 
@@ -372,8 +386,8 @@ pub fn hold_all(alloc: Global, plan: Plan) -> Result<Drilled, NoMemory>
     ensures count { IfOk result (λ d. vec_len d.sessions ≡ session_count plan.calls) }
     ensures legal { IfOk result (λ d. Legal d.log.width (reverse d.log.entries)) }
     ensures limits { IfOk result (λ d. log_limits d.log ≡ drill_limits) }
-    ensures held { IfOk result (λ d. AreAllHeld plan.seed plan.calls d.sessions.items d.log.entries
-        d.taken) }
+    ensures held { IfOk result
+        (λ d. AreAllHeld plan.seed plan.calls d.sessions.items d.log.entries) }
 {
     let mut course = begin(alloc, plan.seed)?;
     for number in 0..session_count(plan.calls) {
@@ -383,13 +397,11 @@ pub fn hold_all(alloc: Global, plan: Plan) -> Result<Drilled, NoMemory>
         book,
         sessions,
         records,
-        taken,
         ..
     } = course;
     Ok(Drilled {
         sessions,
         records,
         log: book.into_log(),
-        taken,
     })
 }

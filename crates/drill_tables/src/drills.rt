@@ -42,7 +42,7 @@ fn say_lines(said: &mut Said, sink: &MemSink) {
     }
 }
 
-/// Drills, by their words and by the sink that fails: `out`, `err` or `-`. One whose answers didn't all take their tokens says so behind its status.
+/// Drills, by their words and by the sink that fails: `out`, `err` or `-`.
 pub struct Drills;
 
 impl Rows for Drills {
@@ -58,9 +58,6 @@ impl Rows for Drills {
         let mut err = sink(alloc, failing == "err");
         let end = run_drill(alloc, words.as_slice(), &mut out, &mut err);
         said.number(end.status as u64);
-        if end.status == 0 && !end.taken {
-            said.word("untaken");
-        }
         say_lines(said, &out);
         say_lines(said, &err);
     }

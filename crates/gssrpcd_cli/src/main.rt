@@ -5,7 +5,8 @@ ghost use Rattle.std.specs.Prelude.{IfOk};
 ghost use Rattle.std.specs.List.{AllByRecursion};
 ghost use Rattle.server_desks.specs.Desks.{IsFresh};
 
-use drill_command::{is_drill, run_drill};
+use drill_command::run_drill;
+use drill_plan::is_drill;
 use gss_server::{KeepNothing, KeepReceipts};
 use sec_base::{Clock, Port, Text};
 use server_command::run_server;

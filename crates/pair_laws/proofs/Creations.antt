@@ -10,7 +10,6 @@ use Rattle.accept_core.specs.Stepping.{context_of}
 use Rattle.pair_laws.proofs.Resting.{no-slots}
 use Rattle.std.proofs.lemmas.List.{append-nil}
 use Rattle.gss_base.specs.declared.mech.MechKind.{MechKind}
-use Rattle.spnego_core.proofs.Exchanges.{exchanges}
 use Rattle.gss_client.specs.declared.creation.Offer.{Offer}
 use Rattle.gss_client.specs.declared.start.Start.{Start}
 use Rattle.gss_client.specs.Rank.{replies_left}
@@ -19,16 +18,20 @@ use Rattle.gss_client.specs.Talk.{creates, created_from}
 use Rattle.gss_client.specs.Talking.{Said}
 use Rattle.pair_laws.specs.Booked.{IsLeftAlone, id_in}
 use Rattle.pair_laws.specs.Conversing.{replied, IsWithin}
-use Rattle.pair_laws.specs.Creation.{around_of, records_of, IsCreation, CreationRuns, history_with, AreTimed}
+use Rattle.pair_laws.specs.Creation.{around_of, records_of, IsCreation, CreationRuns, CreatesOn, IsAt, history_with}
 use Rattle.pair_laws.specs.Honest.{occasion_of}
 use Rattle.pair_laws.specs.Rows.{InRow, answers_of}
 use Rattle.pair_laws.specs.Running.{Turn, sent_in, heard_in}
 use Rattle.pair_laws.proofs.Completing.{tokens-few, opens-four}
 use Rattle.pair_laws.proofs.Creating.{created-is}
-use Rattle.pair_laws.proofs.Readiness.{ready-at-rest, holds-after, marks-after}
+use Rattle.pair_laws.proofs.Readiness.{ready-at-rest, holds-after}
 use Rattle.gss_base.specs.Mech.{is_kerberos}
 use Rattle.accept_core.specs.declared.entry.Entry.TheVariants.{Settled}
-use Rattle.pair_laws.proofs.Opens.{Due, opens-on}
+use Rattle.pair_laws.proofs.Opens.{Due, occasions_on, opens-on}
+use Rattle.pair_laws.proofs.Walks.{walked}
+use Rattle.pair_laws.specs.Walking.{Walks, Walked}
+use Rattle.spnego_core.specs.Exchange.{Occasion}
+use Rattle.accept_book.specs.RecordShown.{KeptAnswers}
 
 -- ---- the exchange
 
@@ -66,10 +69,16 @@ first-id width lasts count [] old middle r e h = lit< tt
 first-id width lasts count (turn ∷ front) old middle r e h =
     let same : opened turn.before.core.history ≡ count = ap (λ (b : BookOf). opened b.core.history) r.0 ∙ e in subst (λ (n : ℕ). n + 1 < 2 ^ 64) (sym same) h
 
+pub all-at : (moment : ℕ) (kept : List KeptAnswers) → AllByRecursion (IsAt moment) kept → AllByRecursion (λ occasion. occasion.now ≡ moment) (map occasion_of kept)
+all-at moment [] a = tt
+all-at moment (one ∷ more) a = (a.0, all-at moment more a.1)
+
 pub creation-runs : (width lasts : ℕ) (start : Start) (kind : MechKind) (count moment : ℕ) (stream more : List ℕ) (old new : BookOf) (front back : List Turn) (records : List Fragments) (tail rest : List ℕ) → IsCreation width lasts start kind count moment stream more old new front back records tail rest
     → CreationRuns width lasts start kind count moment stream more old new front back records tail rest
 creation-runs width lasts start kind count moment stream more old new front back records tail rest x =
-    let a = exchanges old.setup start.setup kind (map occasion_of (answers_of front)) x.pair in
+    let occasions : List Occasion = map occasion_of (answers_of front) in
+    let found : Walked old.setup start.setup kind moment occasions x.pair.started = walked old.setup start.setup kind moment occasions x.pair (all-at moment (answers_of front) x.moments) x.known in
+    let a : Walked old.setup start.setup kind moment (occasions_on front []) x.pair.started = subst (λ (os : List Occasion). Walked old.setup start.setup kind moment os x.pair.started) (sym (append-nil occasions)) found in
     let started = x.pair.started in
     let left : ℕ = replies_left started.end in
     let offer : Offer = record { end = started.end; handle = []; token = started.token } in
@@ -78,33 +87,32 @@ creation-runs width lasts start kind count moment stream more old new front back
     let few : length front ≤ 4 = omega (arith, occasions-long front, x.pair.counted, tokens-few old.setup start.setup kind) in
     let live = no-slots old.core.table.slots x.rests.empty in
     let places : live_of old.core.table < old.core.table.limit = omega (arith, live, x.table) in
-    let Timed : Type 0 = AreTimed old.setup count moment old.core front in
-    let d : Due Timed old.setup width lasts left start.service start.first 1 None ends.New started.end started.token front back records tail rest stream more a.outcome count moment false old new = record {
+    let turns : length (occasions_on front []) ≤ left = subst (λ (os : List Occasion). length os ≤ left) (sym (append-nil occasions)) (omega (arith, x.pair.counted, tokens-few old.setup start.setup kind, four)) in
+    let d : Due old.setup width lasts left start.service start.first 1 None ends.New started.end started.token front [] back records tail rest stream more a.outcome count moment false old new = record {
       some_width = x.some_width;
       width_fits = x.width_fits;
       xids = omega (arith, few);
-      turns = omega (arith, few, four);
+      turns = turns;
       number = x.number;
       is_id = tt;
       few = x.pair.short;
       own = ap (λ (n : ℕ). n + 1) x.rests.ids;
       comes = refl;
       fits = refl;
-      ready = ready-at-rest Timed count moment old.core x.rests (λ t. t.rest);
+      ready = ready-at-rest count moment old.core x.rests;
       set = refl;
       log = x.log;
       table = λ none. places;
-      cache = λ t. t.room;
+      cache = x.cache;
       completes = a.completes;
-      opening = x.opening;
-      timed = λ t. t.on;
-      unrefused = x.marks;
+      walks = subst (λ (stamp : ℕ). Walks old.setup stamp moment (occasions_on front []) ends.New started.end started.token a.outcome a.completes) x.stamp a.walks;
+      moments = x.moments;
       row = x.row;
       cuts = x.cuts;
       written = sym (ap (λ (s : Said SessionState). s.written ++ more) is) ∙ x.written;
       heard = x.heard;
     } in
-    let o = opens-on Timed old.setup width lasts left start.service start.first 1 None ends.New started.end started.token front back records tail rest stream more a.outcome count moment false old new d in
+    let o = opens-on old.setup width lasts left start.service start.first 1 None ends.New started.end started.token front back records tail rest stream more a.outcome count moment false old new d in
     record {
       exchange = record {
         converses = record {
@@ -148,9 +156,12 @@ creation-runs width lasts start kind count moment stream more old new front back
         lasts = o.lasting;
         is = o.entries ∙ ap (λ (k : MechKind). history_with (count + 1) moment (Settled (count + 1) k o.names o.lasting moment) false o.marks old.core.history) a.mech;
       };
+      lasting = o.stays;
       grown = o.grown;
       posted = o.posted;
-      marks = λ timed later h. marks-after Timed count moment o.marked o.middle.core o.own o.ready timed later h;
-      holds = λ later h. holds-after Timed count moment o.marked o.middle.core o.own o.ready later h;
+      holds = λ later h. holds-after count moment o.marked o.middle.core o.own o.ready later h;
       unused = o.ready.uncalled (count + 1) (omega arith);
+      agreed = a.outcome;
+      created = subst (λ (s : Said SessionState). CreatesOn s a.outcome) (sym is) o.created;
+      named = a.named;
     }

@@ -2,7 +2,7 @@ pub mod Settling
 pub mod Ruling
 pub mod Granting
 mod Creating
-mod Completing
+pub mod Completing
 mod Answered
 mod Living
 mod CallTurns
@@ -16,13 +16,14 @@ mod Opening
 mod Resting
 mod Entries
 mod Readiness
+mod Walks
 mod Tokens
 mod Opens
 mod Creations
+mod EachToken
 mod Whole
 pub mod Linked
 mod Meetings
 mod InConference
 mod WholeConference
-pub mod WordsAsked
-mod ClientRuns
+pub mod SpelledAlone

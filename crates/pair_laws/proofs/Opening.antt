@@ -50,8 +50,9 @@ pub record AnsweredStep (width : ℕ) (id : Option ℕ) (token octets : List ℕ
   pub stepped : BookStepped old new id token kept.now (take 66 kept.draws) answer
   pub some : answer.answer ≢ steps.NoMemory
 
-pub answered-step : (service : Service) (xid width : ℕ) (id : Option ℕ) (token : List ℕ) (kept : KeptAnswers) (old new : BookOf) → FitsCreation xid id token → IsStepped width (creation_of service xid id token) kept old new → AnsweredStep width id token (creation_of service xid id token) kept old new
-answered-step service xid width id token kept old new f s = by-kept kept.negotiated refl
+pub answered-step : (service : Service) (xid width : ℕ) (id : Option ℕ) (token : List ℕ) (kept : KeptAnswers) (old new : BookOf) → FitsCreation xid id token → IsDecided (record_ruling (creation_of service xid id token) kept width)
+    → Asking BookAnswers old (record_ruling (creation_of service xid id token) kept width).asked new → AnsweredStep width id token (creation_of service xid id token) kept old new
+answered-step service xid width id token kept old new f decided put = by-kept kept.negotiated refl
   where
     shown : Shown
     shown = creation_shown service xid id token kept width
@@ -67,13 +68,13 @@ answered-step service xid width id token kept old new f s = by-kept kept.negotia
 
     by-kept : (found : Option Negotiated) → kept.negotiated ≡ found → AnsweredStep width id token octets kept old new
     by-kept None e =
-        let d : IsDecided (ask_step shown id token None) = subst IsDecided (ruled ∙ ap (λ (n : Option Negotiated). ask_step shown id token n) e) s.decided in
+        let d : IsDecided (ask_step shown id token None) = subst IsDecided (ruled ∙ ap (λ (n : Option Negotiated). ask_step shown id token n) e) decided in
         absurd (omega (arith, d))
     by-kept (Some answer) e =
         let r : record_ruling octets kept width ≡ asking (AskedStep id token kept.now drawn answer) (stepped shown answer.answer) = ruled ∙ ap (λ (n : Option Negotiated). ask_step shown id token n) e in
         let one : (record_ruling octets kept width).asked ≡ AskedStep id token kept.now drawn answer ∷ [] = ap (λ (x : Ruling). x.asked) r ∙ ap (λ (zs : List Asked). AskedStep id token kept.now drawn answer ∷ zs) (asks-once shown answer.answer) in
-        let c : Asking BookAnswers old (AskedStep id token kept.now drawn answer ∷ []) new = subst (λ (zs : List Asked). Asking BookAnswers old zs new) one s.asked in
-        let due : IsDecided (asking (AskedStep id token kept.now drawn answer) (stepped shown answer.answer)) = subst IsDecided r s.decided in
+        let c : Asking BookAnswers old (AskedStep id token kept.now drawn answer ∷ []) new = subst (λ (zs : List Asked). Asking BookAnswers old zs new) one put in
+        let due : IsDecided (asking (AskedStep id token kept.now drawn answer) (stepped shown answer.answer)) = subst IsDecided r decided in
         record {
           answer = answer;
           is_kept = e;
@@ -85,7 +86,7 @@ answered-step service xid width id token kept old new f s = by-kept kept.negotia
 pub step-turn : (service : Service) (xid width : ℕ) (id : Option ℕ) (token : List ℕ) (kept : KeptAnswers) (old new : BookOf) → FitsCreation xid id token → IsStepped width (creation_of service xid id token) kept old new → HasPlaces old.setup old.core id token kept
     → IsBooked old.setup width (creation_of service xid id token) kept (record { before = old.core; after = new.core })
 step-turn service xid width id token kept old new f s p =
-    let a = answered-step service xid width id token kept old new f s in
+    let a = answered-step service xid width id token kept old new f s.decided s.asked in
     let o = a.stepped.comes.outcome p.past p.is_past a.some in record {
       id = id;
       token = token;

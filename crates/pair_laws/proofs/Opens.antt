@@ -1,5 +1,5 @@
 -- A creation in a row, token by token.
-use Rattle.std.proofs.Common.{◌≡◌, inl, ℕ, zero, suc, ◌+◌, ◌*◌, ◌<◌, ◌≤◌, ◌^◌, Bool, true, false, refl, ap, sym, subst, ◌∙◌, arith, List, [], ◌∷◌, ◌++◌, length, map, Option, Some, None, Ok, append_assoc, ◌⊎◌, inr}
+use Rattle.std.proofs.Common.{◌≡◌, ℕ, zero, suc, ◌+◌, ◌*◌, ◌<◌, ◌≤◌, ◌^◌, Bool, true, false, refl, ap, sym, subst, ◌∙◌, arith, List, [], ◌∷◌, ◌++◌, length, map, Option, Some, None, Ok, append_assoc}
 use Rattle.std.specs.Prelude.{◌||◌, is_some}
 use Rattle.std.specs.List.{AllByRecursion, flat_map}
 use Rattle.rpc_msgs.specs.Records.{Fragments, octets_in, frame, last_fragment, IsRecord}
@@ -16,6 +16,7 @@ use Rattle.accept_core.specs.History.{posts}
 use Rattle.pair_laws.proofs.Settling.{ComesTo}
 use Rattle.std.proofs.lemmas.List.{append-nil}
 use Rattle.spnego_core.specs.Exchange as exchange
+use Rattle.spnego_core.specs.Sizes.{IsShort}
 use Rattle.spnego_core.specs.declared.init_end.InitEnd.{InitEnd}
 use Rattle.accept_book.specs.RecordShown.{Ruling, handle_of}
 use Rattle.accept_book.specs.RecordRule.{record_ruling}
@@ -27,11 +28,12 @@ use Rattle.gss_client.specs.Talk.{begun, creates}
 use Rattle.gss_client.specs.Talking.{Said, said, after}
 use Rattle.gss_server.specs.Connections.{framed, octets_of}
 use Rattle.pair_laws.specs.Booked.{Booked}
-use Rattle.pair_laws.specs.Creation.{around_of, records_of, IsOpening, SameLimits, history_with, is_marked, MarksOn, IsUnrefused}
+use Rattle.pair_laws.specs.Creation.{around_of, records_of, IsAt, CreatesOn, SameLimits, history_with, is_marked}
 use Rattle.pair_laws.specs.Honest.{occasion_of}
 use Rattle.pair_laws.specs.Laws.{IsBehind}
 use Rattle.pair_laws.specs.Rows.{IsTurn, InRow, AreCuts, answers_of}
 use Rattle.pair_laws.specs.Running.{Turn, sent_in, heard_in}
+use Rattle.pair_laws.specs.Walking.{IsStamped, Walks}
 use Rattle.pair_laws.proofs.Completing.{next-xid}
 use Rattle.pair_laws.proofs.Creating.{creates-front, established, continued}
 use Rattle.pair_laws.proofs.Granting.{granting, creation-stands, granting-fits, going, creation-goes, going-fits}
@@ -43,39 +45,43 @@ use Rattle.gss_base.specs.declared.mark.Mark.{Mark}
 use Rattle.gss_base.specs.Mech.{is_kerberos}
 use Rattle.accept_core.specs.declared.answer.Next.TheVariants as nexts
 use Rattle.accept_core.specs.declared.entry.Entry.TheVariants.{Went, Settled}
-use Rattle.pair_laws.proofs.Tokens.{no-id, turn-opens}
+use Rattle.pair_laws.proofs.Tokens.{Turns, no-id, turn-opens}
 
 -- ---- turn by turn
 
--- a creation that is due, from some turn on
-pub record Due (Timed : Type 0) (setup : AcceptSetup) (width lasts left : ℕ) (service : Service) (first xid : ℕ) (id : Option ℕ) (acceptor : AcceptEnd) (initiator : InitEnd) (token : List ℕ) (front back : List Turn) (records : List Fragments) (tail rest stream more : List ℕ) (outcome : Outcome) (count moment : ℕ) (marked : Bool) (old new : BookOf) : Type 0 where
+-- the occasions of turns, and others behind them
+abbrev pub occasions_on : List Turn → List exchange.Occasion → List exchange.Occasion
+occasions_on front extra = map occasion_of (answers_of front) ++ extra
+
+-- a creation that is due, from some turn on; behind its turns further tokens may be due
+pub record Due (setup : AcceptSetup) (width lasts left : ℕ) (service : Service) (first xid : ℕ) (id : Option ℕ) (acceptor : AcceptEnd) (initiator : InitEnd) (token : List ℕ) (front : List Turn) (extra : List exchange.Occasion) (back : List Turn) (records : List Fragments) (tail rest stream more : List ℕ) (outcome : Outcome) (count moment : ℕ) (marked : Bool) (old new : BookOf) : Type 0 where
   pub some_width : 0 < width
   pub width_fits : width < 2 ^ 32
   pub xids : xid + length front < 2 ^ 32
-  pub turns : length front ≤ left
+  pub turns : length (occasions_on front extra) ≤ left
   pub number : count + 1 < 2 ^ 64
   pub is_id : IsId id
   pub few : length token ≤ 65536
   pub own : id_of id old.core.history ≡ count + 1
   pub comes : ComesTo id old.core acceptor
   pub fits : Fits acceptor marked
-  pub ready : Ready Timed id count moment marked old.core
+  pub ready : Ready id count moment marked old.core
   pub set : old.setup ≡ setup
   pub log : length old.core.history + 4 * length front ≤ old.core.limit
   pub table : id ≡ None → live_of old.core.table < old.core.table.limit
-  pub cache : Timed → count < old.core.cache.capacity
-  pub completes : exchange.Completes setup (map occasion_of (answers_of front)) acceptor initiator token outcome
-  pub opening : AllByRecursion (IsOpening moment) (answers_of front)
-  pub timed : Timed → AllByRecursion (MarksOn setup moment) front
-  pub unrefused : Timed ⊎ AllByRecursion IsUnrefused (answers_of front)
+  pub cache : count < old.core.cache.capacity
+  pub completes : exchange.Completes setup (occasions_on front extra) acceptor initiator token outcome
+  pub walks : Walks setup moment moment (occasions_on front extra) acceptor initiator token outcome completes
+  pub moments : AllByRecursion (IsAt moment) (answers_of front)
   pub row : InRow width lasts old (front ++ back) new
   pub cuts : AreCuts records (front ++ back)
   pub written : (creates left service first xid (proc_for id) (record { end = initiator; handle = handle_for id; token = token }) stream).written ++ more ≡ octets_of records ++ tail
   pub heard : stream ≡ flat_map (heard_in width) (front ++ back) ++ rest
 
-pub record Done (Timed : Type 0) (setup : AcceptSetup) (width lasts : ℕ) (id : Option ℕ) (outcome : Outcome) (before : Bool) (part : Said SessionState) (front back : List Turn) (tail more : List ℕ) (count moment : ℕ) (old new : BookOf) : Type 0 where
+pub record Done (setup : AcceptSetup) (width lasts : ℕ) (id : Option ℕ) (outcome : Outcome) (before : Bool) (part : Said SessionState) (front back : List Turn) (tail more : List ℕ) (count moment : ℕ) (old new : BookOf) : Type 0 where
   pub booked : Booked setup width (records_of front) (answers_of front) (map around_of front)
   pub wrote : part.written ≡ flat_map sent_in front
+  pub created : CreatesOn part outcome
   pub others : List Fragments
   pub cuts : AreCuts others back
   pub later : more ≡ octets_of others ++ tail
@@ -89,12 +95,14 @@ pub record Done (Timed : Type 0) (setup : AcceptSetup) (width lasts : ℕ) (id :
   pub marks : List (Option Mark)
   pub counted : length marks ≡ length front
   pub names : List ℕ
+  -- the end of the context that is settled
   pub lasting : ℕ
+  pub stays : moment ≤ lasting
   pub entries : middle.core.history ≡ history_with (count + 1) moment (Settled (count + 1) outcome.mech names lasting moment) (is_some id) marks old.core.history
   pub kerberos : before || is_marked marks ≡ is_kerberos outcome.mech
   pub own : ℕ
   pub marked : Bool
-  pub ready : Ready Timed (Some own) count moment marked middle.core
+  pub ready : Ready (Some own) count moment marked middle.core
 
 limits-of : (old new : BookOf) (now : ℕ) → NotesMoment old new now → SameLimits old new
 limits-of old new now n = record { setup = n.setup; limit = n.limit; width = n.width; contexts = n.contexts; capacity = n.capacity }
@@ -123,14 +131,6 @@ heard-reply width turn turns stream call reply rest heard is said_so =
     heard ∙ (append_assoc (heard_in width turn) (flat_map (heard_in width) turns) rest
     ∙ (ap (λ (o : List ℕ). framed (record_ruling o turn.kept width).reply ++ behind) is ∙ ap (λ (r : Option (List ℕ)). framed r ++ behind) said_so))
 
-one-of : {Timed P Q : Type 0} → Timed ⊎ (P × Q) → Timed ⊎ P
-one-of (inl timed) = inl timed
-one-of (inr all) = inr all.0
-
-more-of : {Timed P Q : Type 0} → Timed ⊎ (P × Q) → Timed ⊎ Q
-more-of (inl timed) = inl timed
-more-of (inr all) = inr all.1
-
 or-false : (b : Bool) → (b || false) ≡ b
 or-false true = refl
 or-false false = refl
@@ -157,10 +157,10 @@ more-entries : (own moment : ℕ) (settled : Entry) (id : Option ℕ) (mark : Op
 more-entries own moment settled id mark [] count e here old each = absurd (omega (arith, e))
 more-entries own moment settled id mark (two ∷ marks) count e here old each = each two marks
 
-opens-last : (Timed : Type 0) (setup : AcceptSetup) (width lasts left : ℕ) (service : Service) (first xid : ℕ) (id : Option ℕ) (acceptor : AcceptEnd) (initiator : InitEnd) (token : List ℕ) (turn : Turn) (back : List Turn) (cut : Fragments) (records : List Fragments) (tail rest stream more : List ℕ) (outcome : Outcome) (count moment : ℕ) (marked : Bool) (old new : BookOf)
-    → Due Timed setup width lasts (suc left) service first xid id acceptor initiator token (turn ∷ []) back (cut ∷ records) tail rest stream more outcome count moment marked old new
-    → Done Timed setup width lasts id outcome marked (creates (suc left) service first xid (proc_for id) (record { end = initiator; handle = handle_for id; token = token }) stream) (turn ∷ []) back tail more count moment old new
-opens-last Timed setup width lasts left service first xid id acceptor initiator token turn back cut records tail rest stream more outcome count moment marked old new d =
+opens-last : (setup : AcceptSetup) (width lasts left : ℕ) (service : Service) (first xid : ℕ) (id : Option ℕ) (acceptor : AcceptEnd) (initiator : InitEnd) (token : List ℕ) (turn : Turn) (back : List Turn) (cut : Fragments) (records : List Fragments) (tail rest stream more : List ℕ) (outcome : Outcome) (count moment : ℕ) (marked : Bool) (old new : BookOf)
+    → Due setup width lasts (suc left) service first xid id acceptor initiator token (turn ∷ []) [] back (cut ∷ records) tail rest stream more outcome count moment marked old new
+    → Done setup width lasts id outcome marked (creates (suc left) service first xid (proc_for id) (record { end = initiator; handle = handle_for id; token = token }) stream) (turn ∷ []) back tail more count moment old new
+opens-last setup width lasts left service first xid id acceptor initiator token turn back cut records tail rest stream more outcome count moment marked old new d =
     let offer : Offer = record { end = initiator; handle = handle_for id; token = token } in
     let call : List ℕ = creation_call service xid (proc_for id) (handle_for id) token in
     let done : exchange.IsDone setup (occasion_of turn.kept) acceptor initiator token outcome = d.completes in
@@ -172,9 +172,9 @@ opens-last Timed setup width lasts left service first xid id acceptor initiator 
     let written : (creates (suc left) service first xid (proc_for id) offer stream).written ++ more ≡ frame cut ++ (octets_of records ++ tail) = d.written ∙ append_assoc (frame cut) (octets_of records) tail in
     let is : turn.octets ≡ call = front-call left service first xid id initiator token turn cut stream more (octets_of records ++ tail) d.few d.cuts.0 d.cuts.1 written in
     let own : ℕ = id_of id turn.before.core.history in
-    let o = turn-opens Timed setup service width lasts xid id acceptor token count moment marked turn (steps.Done outcome done.lasts done.reply) xids d.is_id d.few v is (subst (λ (b : BookOf). id_of id b.core.history ≡ count + 1) before d.own) (subst (λ (b : BookOf). ComesTo id b.core acceptor) before d.comes) d.fits
-    (subst (λ (b : BookOf). Ready Timed id count moment marked b.core) before d.ready) d.opening.0 (λ t. (d.timed t).0) (one-of d.unrefused) (subst (λ (b : BookOf). b.setup ≡ setup) before d.set) (subst (λ (b : BookOf). length b.core.history + 4 ≤ b.core.limit) before log)
-    (subst (λ (b : BookOf). id ≡ None → live_of b.core.table < b.core.table.limit) before d.table) (λ t. subst (λ (b : BookOf). count < b.core.cache.capacity) before (d.cache t)) done.accepts in
+    let o = turn-opens setup service width lasts xid id acceptor token count moment marked turn (steps.Done outcome done.lasts done.reply) xids d.is_id d.few v is (subst (λ (b : BookOf). id_of id b.core.history ≡ count + 1) before d.own) (subst (λ (b : BookOf). ComesTo id b.core acceptor) before d.comes) d.fits
+    (subst (λ (b : BookOf). Ready id count moment marked b.core) before d.ready) d.moments.0 d.walks.0 d.walks.1 (subst (λ (b : BookOf). b.setup ≡ setup) before d.set) (subst (λ (b : BookOf). length b.core.history + 4 ≤ b.core.limit) before log)
+    (subst (λ (b : BookOf). id ≡ None → live_of b.core.table < b.core.table.limit) before d.table) (subst (λ (b : BookOf). count < b.core.cache.capacity) before d.cache) done.accepts in
     let reply : List ℕ = reply_octets (granting xid outcome own width done.reply) in
     let is_reply : (record_ruling call turn.kept width).reply ≡ Some reply = ap (λ (r : Ruling). r.reply) o.turned.ruled in
     let behind : List ℕ = flat_map (heard_in width) back ++ rest in
@@ -188,6 +188,7 @@ opens-last Timed setup width lasts left service first xid id acceptor initiator 
     record {
       booked = (o.booked, tt);
       wrote = wrote ∙ (ap last_fragment (sym is) ∙ sym (append-nil (last_fragment turn.octets)));
+      created = record { state = begun service first (xid_after xid) outcome (handle_of own); answer = ap (λ (s : Said SessionState). s.answer) all; outcome = refl };
       others = records;
       cuts = d.cuts.2;
       later = behind-front call (creates (suc left) service first xid (proc_for id) offer stream).written [] more (octets_of records ++ tail) cut (creation-fits service xid id token d.few) d.cuts.0 (wrote ∙ sym (append-nil (last_fragment call))) written;
@@ -202,6 +203,7 @@ opens-last Timed setup width lasts left service first xid id acceptor initiator 
       counted = refl;
       names = names_of outcome;
       lasting = done.lasts;
+      stays = d.walks.2;
       entries = subst (λ (b : BookOf). turn.after.core.history ≡ history_with (count + 1) moment (Settled (count + 1) outcome.mech (names_of outcome) done.lasts moment) (is_some id) (mark_of o.asked ∷ []) b.core.history) d.row.0
           (o.entered_so.history
           ∙ last-entry id o.entered_so.place o.past (mark_of o.asked) outcome done.lasts moment (count + 1) turn.before.core.history (subst (λ (b : BookOf). id_of id b.core.history ≡ count + 1) before d.own) o.placed);
@@ -211,33 +213,41 @@ opens-last Timed setup width lasts left service first xid id acceptor initiator 
       ready = o.ready;
     }
 
-opens-more : (Timed : Type 0) (setup : AcceptSetup) (width lasts left : ℕ) (service : Service) (first xid : ℕ) (id : Option ℕ) (acceptor : AcceptEnd) (initiator : InitEnd) (token : List ℕ) (turn next : Turn) (later back : List Turn) (cut : Fragments) (records : List Fragments) (tail rest stream more : List ℕ) (outcome : Outcome) (count moment : ℕ) (marked : Bool) (old new : BookOf)
-    → ((own : ℕ) (acceptor : AcceptEnd) (initiator : InitEnd) (token : List ℕ) (stream : List ℕ) (marked : Bool) (old : BookOf) → Due Timed setup width lasts left service first (xid + 1) (Some own) acceptor initiator token (next ∷ later) back records tail rest stream more outcome count moment marked old new
-    → Done Timed setup width lasts (Some own) outcome marked (creates left service first (xid + 1) 2 (record { end = initiator; handle = handle_of own; token = token }) stream) (next ∷ later) back tail more count moment old new)
-    → Due Timed setup width lasts (suc left) service first xid id acceptor initiator token (turn ∷ next ∷ later) back (cut ∷ records) tail rest stream more outcome count moment marked old new
-    → Done Timed setup width lasts id outcome marked (creates (suc left) service first xid (proc_for id) (record { end = initiator; handle = handle_for id; token = token }) stream) (turn ∷ next ∷ later) back tail more count moment old new
-opens-more Timed setup width lasts left service first xid id acceptor initiator token turn next later back cut records tail rest stream more outcome count moment marked old new ih d =
+-- what a turn leaves due that isn't the last: the client goes on with its next token
+pub record Stepped (setup : AcceptSetup) (width lasts left : ℕ) (service : Service) (first xid : ℕ) (id : Option ℕ) (acceptor : AcceptEnd) (initiator : InitEnd) (token : List ℕ) (turn : Turn) (front : List Turn) (extra : List exchange.Occasion) (back : List Turn) (records : List Fragments) (tail rest stream more : List ℕ) (outcome : Outcome) (count moment : ℕ) (marked : Bool) (new : BookOf) (g : exchange.GoesOn setup (occasion_of turn.kept) acceptor initiator token) : Type 0 where
+  pub is : turn.octets ≡ creation_call service xid (proc_for id) (handle_for id) token
+  pub opened : Turns setup service width xid id token (id_of id turn.before.core.history) count moment marked turn (steps.More g.acceptor_after g.reply)
+  pub behind : List ℕ
+  pub goes : creates (suc left) service first xid (proc_for id) (record { end = initiator; handle = handle_for id; token = token }) stream
+      ≡ after (last_fragment (creation_call service xid (proc_for id) (handle_for id) token)) (creates left service first (xid + 1) 2 (record { end = g.initiator_after; handle = handle_of (id_of id turn.before.core.history); token = g.further }) behind)
+  pub due : Due setup width lasts left service first (xid + 1) (Some (id_of id turn.before.core.history)) g.acceptor_after g.initiator_after g.further front extra back records tail rest behind more outcome count moment (marked_after marked opened.asked) turn.after new
+
+pub steps-on : (setup : AcceptSetup) (width lasts left : ℕ) (service : Service) (first xid : ℕ) (id : Option ℕ) (acceptor : AcceptEnd) (initiator : InitEnd) (token : List ℕ) (turn : Turn) (front : List Turn) (extra : List exchange.Occasion) (back : List Turn) (cut : Fragments) (records : List Fragments) (tail rest stream more : List ℕ) (outcome : Outcome) (count moment : ℕ) (marked : Bool) (old new : BookOf)
+    → Due setup width lasts (suc left) service first xid id acceptor initiator token (turn ∷ front) extra back (cut ∷ records) tail rest stream more outcome count moment marked old new
+    → (g : exchange.GoesOn setup (occasion_of turn.kept) acceptor initiator token) → IsStamped setup moment (occasion_of turn.kept) acceptor token → IsShort g.reply
+    → (c : exchange.Completes setup (occasions_on front extra) g.acceptor_after g.initiator_after g.further outcome) → Walks setup moment moment (occasions_on front extra) g.acceptor_after g.initiator_after g.further outcome c
+    → Stepped setup width lasts left service first xid id acceptor initiator token turn front extra back records tail rest stream more outcome count moment marked new g
+steps-on setup width lasts left service first xid id acceptor initiator token turn front extra back cut records tail rest stream more outcome count moment marked old new d g stamped short c walks =
     let offer : Offer = record { end = initiator; handle = handle_for id; token = token } in
     let call : List ℕ = creation_call service xid (proc_for id) (handle_for id) token in
-    let g = d.completes.0 in
-    let many : xid + suc (suc (length later)) < 2 ^ 32 = d.xids in
-    let enough : suc (suc (length later)) ≤ suc left = d.turns in
+    let many : xid + suc (length front) < 2 ^ 32 = d.xids in
+    let enough : suc (length (occasions_on front extra)) ≤ suc left = d.turns in
     let xids : xid < 2 ^ 32 = omega (arith, many) in
     let v : IsTurn width lasts turn = d.row.1 in
     let before : old ≡ turn.before = sym d.row.0 in
-    let room : length old.core.history + 4 * suc (suc (length later)) ≤ old.core.limit = d.log in
+    let room : length old.core.history + 4 * suc (length front) ≤ old.core.limit = d.log in
     let log : length old.core.history + 4 ≤ old.core.limit = omega (arith, room) in
     let written : (creates (suc left) service first xid (proc_for id) offer stream).written ++ more ≡ frame cut ++ (octets_of records ++ tail) = d.written ∙ append_assoc (frame cut) (octets_of records) tail in
     let is : turn.octets ≡ call = front-call left service first xid id initiator token turn cut stream more (octets_of records ++ tail) d.few d.cuts.0 d.cuts.1 written in
     let own : ℕ = id_of id turn.before.core.history in
     let own_is : own ≡ count + 1 = subst (λ (b : BookOf). id_of id b.core.history ≡ count + 1) before d.own in
-    let o = turn-opens Timed setup service width lasts xid id acceptor token count moment marked turn (steps.More g.acceptor_after g.reply) xids d.is_id d.few v is own_is (subst (λ (b : BookOf). ComesTo id b.core acceptor) before d.comes) d.fits
-    (subst (λ (b : BookOf). Ready Timed id count moment marked b.core) before d.ready) d.opening.0 (λ t. (d.timed t).0) (one-of d.unrefused) (subst (λ (b : BookOf). b.setup ≡ setup) before d.set) (subst (λ (b : BookOf). length b.core.history + 4 ≤ b.core.limit) before log)
-    (subst (λ (b : BookOf). id ≡ None → live_of b.core.table < b.core.table.limit) before d.table) (λ t. subst (λ (b : BookOf). count < b.core.cache.capacity) before (d.cache t)) g.accepts in
+    let o = turn-opens setup service width lasts xid id acceptor token count moment marked turn (steps.More g.acceptor_after g.reply) xids d.is_id d.few v is own_is (subst (λ (b : BookOf). ComesTo id b.core acceptor) before d.comes) d.fits
+    (subst (λ (b : BookOf). Ready id count moment marked b.core) before d.ready) d.moments.0 stamped short (subst (λ (b : BookOf). b.setup ≡ setup) before d.set) (subst (λ (b : BookOf). length b.core.history + 4 ≤ b.core.limit) before log)
+    (subst (λ (b : BookOf). id ≡ None → live_of b.core.table < b.core.table.limit) before d.table) (subst (λ (b : BookOf). count < b.core.cache.capacity) before d.cache) g.accepts in
     let reply : List ℕ = reply_octets (going xid own g.reply) in
     let is_reply : (record_ruling call turn.kept width).reply ≡ Some reply = ap (λ (r : Ruling). r.reply) o.turned.ruled in
-    let behind : List ℕ = flat_map (heard_in width) ((next ∷ later) ++ back) ++ rest in
-    let stream_is : stream ≡ last_fragment reply ++ behind = heard-reply width turn ((next ∷ later) ++ back) stream call reply rest d.heard is is_reply in
+    let behind : List ℕ = flat_map (heard_in width) (front ++ back) ++ rest in
+    let stream_is : stream ≡ last_fragment reply ++ behind = heard-reply width turn (front ++ back) stream call reply rest d.heard is is_reply in
     let further : Offer = record { end = g.initiator_after; handle = handle_of own; token = g.further } in
     let all : creates (suc left) service first xid (proc_for id) offer stream ≡ after (last_fragment call) (creates left service first (xid_after xid) 2 further behind) =
     ap (λ (zs : List ℕ). creates (suc left) service first xid (proc_for id) offer zs) stream_is
@@ -250,36 +260,63 @@ opens-more Timed setup width lasts left service first xid id acceptor initiator 
     behind-front call (creates (suc left) service first xid (proc_for id) offer stream).written part.written more (octets_of records ++ tail) cut (creation-fits service xid id token d.few) d.cuts.0 wrote written in
     let limits : SameLimits old turn.after = subst (λ (b : BookOf). SameLimits b turn.after) d.row.0 (limits-of turn.before turn.after turn.kept.now o.notes) in
     let grown : length turn.after.core.history ≤ length old.core.history + 4 = subst (λ (b : BookOf). length turn.after.core.history ≤ length b.core.history + 4) d.row.0 o.grown in
-    let n : Due Timed setup width lasts left service first (xid + 1) (Some own) g.acceptor_after g.initiator_after g.further (next ∷ later) back records tail rest behind more outcome count moment (marked_after marked o.asked) turn.after new = record {
-      some_width = d.some_width;
-      width_fits = d.width_fits;
-      xids = omega (arith, many);
-      turns = omega (arith, enough);
-      number = d.number;
-      is_id = subst (λ (i : ℕ). i < 2 ^ 64) (sym own_is) d.number;
-      few = g.short;
-      own = own_is;
-      comes = o.turned.goes_on g.acceptor_after g.reply refl;
-      fits = fits-after o.asked marked g.acceptor_after g.reply o.fits o.same;
-      ready = o.ready;
-      set = limits.setup ∙ d.set;
-      log = omega (arith, room, grown, limits.limit);
-      table = λ none. absurd (no-id own none);
-      cache = λ t. subst (λ (c : ℕ). count < c) (sym limits.capacity) (d.cache t);
-      completes = d.completes.1;
-      opening = d.opening.1;
-      timed = λ t. (d.timed t).1;
-      unrefused = more-of d.unrefused;
-      row = d.row.2;
-      cuts = d.cuts.2;
-      written = whole;
-      heard = refl;
-    } in
-    let r = ih own g.acceptor_after g.initiator_after g.further behind (marked_after marked o.asked) turn.after n in
+    record {
+      is = is;
+      opened = o;
+      behind = behind;
+      goes = all_next;
+      due = record {
+        some_width = d.some_width;
+        width_fits = d.width_fits;
+        xids = omega (arith, many);
+        turns = omega (arith, enough);
+        number = d.number;
+        is_id = subst (λ (i : ℕ). i < 2 ^ 64) (sym own_is) d.number;
+        few = g.short;
+        own = own_is;
+        comes = o.turned.goes_on g.acceptor_after g.reply refl;
+        fits = fits-after o.asked marked g.acceptor_after g.reply o.fits o.same;
+        ready = o.ready;
+        set = limits.setup ∙ d.set;
+        log = omega (arith, room, grown, limits.limit);
+        table = λ none. absurd (no-id own none);
+        cache = subst (λ (c : ℕ). count < c) (sym limits.capacity) d.cache;
+        completes = c;
+        walks = walks;
+        moments = d.moments.1;
+        row = d.row.2;
+        cuts = d.cuts.2;
+        written = whole;
+        heard = refl;
+      };
+    }
+
+opens-more : (setup : AcceptSetup) (width lasts left : ℕ) (service : Service) (first xid : ℕ) (id : Option ℕ) (acceptor : AcceptEnd) (initiator : InitEnd) (token : List ℕ) (turn next : Turn) (later back : List Turn) (cut : Fragments) (records : List Fragments) (tail rest stream more : List ℕ) (outcome : Outcome) (count moment : ℕ) (marked : Bool) (old new : BookOf)
+    → ((own : ℕ) (acceptor : AcceptEnd) (initiator : InitEnd) (token : List ℕ) (stream : List ℕ) (marked : Bool) (old : BookOf) → Due setup width lasts left service first (xid + 1) (Some own) acceptor initiator token (next ∷ later) [] back records tail rest stream more outcome count moment marked old new
+    → Done setup width lasts (Some own) outcome marked (creates left service first (xid + 1) 2 (record { end = initiator; handle = handle_of own; token = token }) stream) (next ∷ later) back tail more count moment old new)
+    → Due setup width lasts (suc left) service first xid id acceptor initiator token (turn ∷ next ∷ later) [] back (cut ∷ records) tail rest stream more outcome count moment marked old new
+    → Done setup width lasts id outcome marked (creates (suc left) service first xid (proc_for id) (record { end = initiator; handle = handle_for id; token = token }) stream) (turn ∷ next ∷ later) back tail more count moment old new
+opens-more setup width lasts left service first xid id acceptor initiator token turn next later back cut records tail rest stream more outcome count moment marked old new ih d =
+    let offer : Offer = record { end = initiator; handle = handle_for id; token = token } in
+    let call : List ℕ = creation_call service xid (proc_for id) (handle_for id) token in
+    let g = d.completes.0 in
+    let v : IsTurn width lasts turn = d.row.1 in
+    let own : ℕ = id_of id turn.before.core.history in
+    let own_is : own ≡ count + 1 = subst (λ (b : BookOf). id_of id b.core.history ≡ count + 1) (sym d.row.0) d.own in
+    let t = steps-on setup width lasts left service first xid id acceptor initiator token turn (next ∷ later) [] back cut records tail rest stream more outcome count moment marked old new d g d.walks.0 d.walks.1 d.completes.1 d.walks.2 in
+    let o = t.opened in
+    let further : Offer = record { end = g.initiator_after; handle = handle_of own; token = g.further } in
+    let part : Said SessionState = creates left service first (xid + 1) 2 further t.behind in
+    let is : turn.octets ≡ call = t.is in
+    let wrote : (creates (suc left) service first xid (proc_for id) offer stream).written ≡ last_fragment call ++ part.written = ap (λ (s : Said SessionState). s.written) t.goes in
+    let limits : SameLimits old turn.after = subst (λ (b : BookOf). SameLimits b turn.after) d.row.0 (limits-of turn.before turn.after turn.kept.now o.notes) in
+    let grown : length turn.after.core.history ≤ length old.core.history + 4 = subst (λ (b : BookOf). length turn.after.core.history ≤ length b.core.history + 4) d.row.0 o.grown in
+    let r = ih own g.acceptor_after g.initiator_after g.further t.behind (marked_after marked o.asked) turn.after t.due in
     let most : length r.middle.core.history ≤ length turn.after.core.history + 4 * suc (length later) = r.grown in
     record {
       booked = (o.booked, r.booked);
       wrote = wrote ∙ (ap (λ (zs : List ℕ). last_fragment call ++ zs) r.wrote ∙ ap (λ (q : List ℕ). last_fragment q ++ flat_map sent_in (next ∷ later)) (sym is));
+      created = record { state = r.created.state; answer = ap (λ (s : Said SessionState). s.answer) t.goes ∙ r.created.answer; outcome = r.created.outcome };
       others = r.others;
       cuts = r.cuts;
       later = r.later;
@@ -294,6 +331,7 @@ opens-more Timed setup width lasts left service first xid id acceptor initiator 
       counted = ap suc r.counted;
       names = r.names;
       lasting = r.lasting;
+      stays = r.stays;
       entries = r.entries
           ∙ more-entries (count + 1) moment (Settled (count + 1) outcome.mech r.names r.lasting moment) id (mark_of o.asked) r.marks (length later) r.counted turn.after.core.history old.core.history
           (λ two marks. ap (λ (hs : List Entry). history_with (count + 1) moment (Settled (count + 1) outcome.mech r.names r.lasting moment) true (two ∷ marks) hs) o.entered_so.history
@@ -305,14 +343,14 @@ opens-more Timed setup width lasts left service first xid id acceptor initiator 
       ready = r.ready;
     }
 
-pub opens-on : (Timed : Type 0) (setup : AcceptSetup) (width lasts left : ℕ) (service : Service) (first xid : ℕ) (id : Option ℕ) (acceptor : AcceptEnd) (initiator : InitEnd) (token : List ℕ) (front back : List Turn) (records : List Fragments) (tail rest stream more : List ℕ) (outcome : Outcome) (count moment : ℕ) (marked : Bool) (old new : BookOf)
-    → Due Timed setup width lasts left service first xid id acceptor initiator token front back records tail rest stream more outcome count moment marked old new
-    → Done Timed setup width lasts id outcome marked (creates left service first xid (proc_for id) (record { end = initiator; handle = handle_for id; token = token }) stream) front back tail more count moment old new
-opens-on Timed setup width lasts left service first xid id acceptor initiator token [] back records tail rest stream more outcome count moment marked old new d = absurd d.completes
-opens-on Timed setup width lasts zero service first xid id acceptor initiator token (turn ∷ front) back records tail rest stream more outcome count moment marked old new d = absurd (omega (arith, d.turns))
-opens-on Timed setup width lasts (suc left) service first xid id acceptor initiator token (turn ∷ front) back [] tail rest stream more outcome count moment marked old new d = absurd d.cuts
-opens-on Timed setup width lasts (suc left) service first xid id acceptor initiator token (turn ∷ []) back (cut ∷ records) tail rest stream more outcome count moment marked old new d =
-    opens-last Timed setup width lasts left service first xid id acceptor initiator token turn back cut records tail rest stream more outcome count moment marked old new d
-opens-on Timed setup width lasts (suc left) service first xid id acceptor initiator token (turn ∷ next ∷ later) back (cut ∷ records) tail rest stream more outcome count moment marked old new d =
-    opens-more Timed setup width lasts left service first xid id acceptor initiator token turn next later back cut records tail rest stream more outcome count moment marked old new
-    (λ own acceptor' initiator' token' stream' marked' old' d'. opens-on Timed setup width lasts left service first (xid + 1) (Some own) acceptor' initiator' token' (next ∷ later) back records tail rest stream' more outcome count moment marked' old' new d') d
+pub opens-on : (setup : AcceptSetup) (width lasts left : ℕ) (service : Service) (first xid : ℕ) (id : Option ℕ) (acceptor : AcceptEnd) (initiator : InitEnd) (token : List ℕ) (front back : List Turn) (records : List Fragments) (tail rest stream more : List ℕ) (outcome : Outcome) (count moment : ℕ) (marked : Bool) (old new : BookOf)
+    → Due setup width lasts left service first xid id acceptor initiator token front [] back records tail rest stream more outcome count moment marked old new
+    → Done setup width lasts id outcome marked (creates left service first xid (proc_for id) (record { end = initiator; handle = handle_for id; token = token }) stream) front back tail more count moment old new
+opens-on setup width lasts left service first xid id acceptor initiator token [] back records tail rest stream more outcome count moment marked old new d = absurd d.completes
+opens-on setup width lasts zero service first xid id acceptor initiator token (turn ∷ front) back records tail rest stream more outcome count moment marked old new d = absurd (omega (arith, d.turns))
+opens-on setup width lasts (suc left) service first xid id acceptor initiator token (turn ∷ front) back [] tail rest stream more outcome count moment marked old new d = absurd d.cuts
+opens-on setup width lasts (suc left) service first xid id acceptor initiator token (turn ∷ []) back (cut ∷ records) tail rest stream more outcome count moment marked old new d =
+    opens-last setup width lasts left service first xid id acceptor initiator token turn back cut records tail rest stream more outcome count moment marked old new d
+opens-on setup width lasts (suc left) service first xid id acceptor initiator token (turn ∷ next ∷ later) back (cut ∷ records) tail rest stream more outcome count moment marked old new d =
+    opens-more setup width lasts left service first xid id acceptor initiator token turn next later back cut records tail rest stream more outcome count moment marked old new
+    (λ own acceptor' initiator' token' stream' marked' old' d'. opens-on setup width lasts left service first (xid + 1) (Some own) acceptor' initiator' token' (next ∷ later) back records tail rest stream' more outcome count moment marked' old' new d') d

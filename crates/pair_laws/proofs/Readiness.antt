@@ -7,7 +7,6 @@ use Rattle.gss_base.specs.declared.mark.Mark.{Mark}
 use Rattle.gss_base.specs.Mech.{is_kerberos}
 use Rattle.replay_cache.specs.Taking.{cache_verdict}
 use Rattle.replay_cache.specs.declared.cache.CacheVerdict.{CacheVerdict}
-use Rattle.replay_cache.specs.declared.cache.CacheVerdict.TheVariants as verdicts
 use Rattle.replay_cache.specs.declared.cache.CacheVerdict.TheVariants.{Taken}
 use Rattle.replay_cache.specs.declared.cache.TakenMark.{TakenMark}
 use Rattle.context_table.specs.declared.slot.Slot.{Slot}
@@ -23,18 +22,15 @@ use Rattle.spnego_core.specs.declared.accept_end.Answered.{Answered}
 use Rattle.spnego_core.specs.declared.accept_end.Answered.TheVariants as afters
 use Rattle.spnego_core.specs.Accepting.{accept_step, step_of, gone_on, step_after, mark_asked}
 use Rattle.spnego_core.specs.Exchange.{passed, passed_of}
-use Rattle.accept_core.specs.declared.answer.MarkRefusal.{MarkRefusal}
-use Rattle.accept_book.specs.declared.book_answer.BookRefusal.{BookRefusal}
-use Rattle.accept_book.specs.declared.book_answer.NegAnswer.TheVariants as answers
 use Rattle.accept_core.specs.declared.entry.Entry.{Entry}
 use Rattle.accept_core.specs.Answers.{mark_refusal}
-use Rattle.accept_book.specs.Booking.{Stands, Becomes, Changed, changed, without, Outcomes, Fits, AnsweredFits, StepFits, raised, lapsed_by, next_of, answer_with, mark_of, settled_of, taken, by_mark, refusal_of_mark, negotiated}
+use Rattle.accept_book.specs.Booking.{Stands, Becomes, Changed, changed, without, Outcomes, Fits, AnsweredFits, StepFits, raised, lapsed_by, next_of, answer_with, mark_of, settled_of, taken, by_mark, negotiated}
 use Rattle.accept_core.specs.Entering.{id_of, started, entered}
 use Rattle.accept_core.specs.History.{opened, numbers, taken_of}
 use Rattle.accept_core.specs.Replays.{Accepting}
 use Rattle.accept_core.specs.Stepping.{Context, context_of, context_after, until_of}
 use Rattle.accept_book.proofs.Fitting.{by_ok}
-use Rattle.pair_laws.specs.Resting.{IsBefore, RestsAt, MarksRest, HoldsOne}
+use Rattle.pair_laws.specs.Resting.{IsBefore, RestsAt, HoldsOne}
 use Rattle.pair_laws.proofs.Resting.{is-taken, all-later}
 use Rattle.pair_laws.proofs.Settling.{ComesTo, steps-end}
 use Rattle.pair_laws.proofs.Entries.{number-entered, opened_for, open-entered, with_mark, mark-entered, all-with, long-more}
@@ -75,36 +71,36 @@ unmarked-pause asked marked pause f e = (subst (λ (s : AcceptStep). StepFits s 
 
 -- ---- where the book stands in a creation
 
--- no context lives but one with this id; so many ids were opened before it, and no later one was called; a mark of the session was taken or not, and where the marks are timed, they are those of earlier moments, and this one
-pub record Ready (Timed : Type 0) (id : Option ℕ) (count moment : ℕ) (marked : Bool) (core : Accepting AcceptEnd Outcome) : Type 0 where
+-- no context lives but one with this id; so many ids were opened before it, and no later one was called; a mark of the session was taken or not, and the others are those of earlier moments, at most one an id
+pub record Ready (id : Option ℕ) (count moment : ℕ) (marked : Bool) (core : Accepting AcceptEnd Outcome) : Type 0 where
   pub alone : (other : ℕ) → count + 1 ≢ other → slot_at core.table other ≡ None
   pub ids : opened core.history ≡ opened_for id count
   pub uncalled : (other : ℕ) → count < other → numbers other core.history ≡ []
   pub seen : core.cache.greatest ≤ moment
-  pub marks : Timed → (later : ℕ) → moment < later → AllByRecursion (IsBefore later) (taken_of core.history)
-  pub fresh : Timed → marked ≡ false → AllByRecursion (IsBefore moment) (taken_of core.history)
-  pub few : Timed → length (taken_of core.history) ≤ most_marks marked count
+  pub marks : (later : ℕ) → moment < later → AllByRecursion (IsBefore later) (taken_of core.history)
+  pub fresh : marked ≡ false → AllByRecursion (IsBefore moment) (taken_of core.history)
+  pub few : length (taken_of core.history) ≤ most_marks marked count
 
 below-later : (moment later : ℕ) → moment < later → moment ≤ later
 below-later moment later h = omega (arith, h)
 
-pub ready-at-rest : (Timed : Type 0) (count moment : ℕ) (core : Accepting AcceptEnd Outcome) → RestsAt count moment core → (Timed → MarksRest count moment core) → Ready Timed None count moment false core
-ready-at-rest Timed count moment core r m = record {
+pub ready-at-rest : (count moment : ℕ) (core : Accepting AcceptEnd Outcome) → RestsAt count moment core → Ready None count moment false core
+ready-at-rest count moment core r = record {
   alone = λ other apart. r.empty other;
   ids = r.ids;
   uncalled = r.uncalled;
   seen = r.seen;
-  marks = λ timed later h. all-later moment later (taken_of core.history) (below-later moment later h) (m timed).marks;
-  fresh = λ timed none. (m timed).marks;
-  few = λ timed. (m timed).few;
+  marks = λ later h. all-later moment later (taken_of core.history) (below-later moment later h) r.marks;
+  fresh = λ none. r.marks;
+  few = r.few;
 }
 
 -- a mark of this moment is taken
-pub ready-mark : (Timed : Type 0) (id : Option ℕ) (count moment : ℕ) (marked : Bool) (core : Accepting AcceptEnd Outcome) (mark : Mark) → Ready Timed id count moment marked core → Timed → marked ≡ false → mark.at ≡ moment → count < core.cache.capacity
+pub ready-mark : (id : Option ℕ) (count moment : ℕ) (marked : Bool) (core : Accepting AcceptEnd Outcome) (mark : Mark) → Ready id count moment marked core → marked ≡ false → mark.at ≡ moment → count < core.cache.capacity
     → cache_verdict core.cache.capacity (max core.cache.greatest moment) (taken_of core.history) mark ≡ Taken
-ready-mark Timed id count moment marked core mark r timed none at room =
-    let few : length (taken_of core.history) ≤ count = subst (λ (b : Bool). length (taken_of core.history) ≤ most_marks b count) none (r.few timed) in
-    is-taken count moment core.cache.capacity core.cache.greatest (taken_of core.history) mark at r.seen (r.fresh timed none) few room
+ready-mark id count moment marked core mark r none at room =
+    let few : length (taken_of core.history) ≤ count = subst (λ (b : Bool). length (taken_of core.history) ≤ most_marks b count) none r.few in
+    is-taken count moment core.cache.capacity core.cache.greatest (taken_of core.history) mark at r.seen (r.fresh none) few room
 
 without-none : (gone : Option ℕ) (other : ℕ) → without gone other None ≡ None
 without-none None other = refl
@@ -167,19 +163,19 @@ few-after marked (steps.WantsAuth pause) count place taken f h =
     let more = long-more taken (record { mark = mark_asked pause; place = place }) in
     omega (arith, less, more)
 
-pub ready-after : (Timed : Type 0) (id past : Option ℕ) (own count moment : ℕ) (marked : Bool) (asked step : AcceptStep) (old new : Accepting AcceptEnd Outcome) → id_of id old.history ≡ count + 1 → Ready Timed id count moment marked old → StepFits asked marked
-    → (Timed → (pause : AcceptPause) → asked ≡ steps.WantsAuth pause → (mark_asked pause).at ≡ moment) → Entered id past asked step old new moment → Ready Timed (Some own) count moment (marked_after marked asked) new
-ready-after Timed id past own count moment marked asked step old new own_is r fits at e = record {
+pub ready-after : (id past : Option ℕ) (own count moment : ℕ) (marked : Bool) (asked step : AcceptStep) (old new : Accepting AcceptEnd Outcome) → id_of id old.history ≡ count + 1 → Ready id count moment marked old → StepFits asked marked
+    → ((pause : AcceptPause) → asked ≡ steps.WantsAuth pause → (mark_asked pause).at ≡ moment) → Entered id past asked step old new moment → Ready (Some own) count moment (marked_after marked asked) new
+ready-after id past own count moment marked asked step old new own_is r fits at e = record {
   alone = λ other apart.
       alone-after (count + 1) e.gone e.after old.table new.table (subst (λ (n : ℕ). Changed old.table (Becomes e.gone n e.after) new.table) own_is e.contexts) other apart (r.alone other apart);
   ids = ap (λ (h : List Entry). opened h) e.history ∙ open-entered id e.place past (mark_of asked) (next_of step) moment count old.history r.ids;
   uncalled = λ other more. ap (λ (h : List Entry). numbers other h) e.history ∙ (number-entered other id e.place past (mark_of asked) (next_of step) moment old.history ∙ r.uncalled other more);
   seen = let s : old.cache.greatest ≤ moment = r.seen in subst (λ (n : ℕ). n ≤ moment) (sym e.greatest) (omega (arith, s));
-  marks = λ timed later h.
-      subst (λ (ts : List TakenMark). AllByRecursion (IsBefore later) ts) (sym taken_is) (all-with (IsBefore later) (mark_of asked) place (taken_of old.history) (r.marks timed later h) (λ one f. before-later timed later h one (mark-known asked one f)));
-  fresh = λ timed none. let n = no-more marked asked none in
-      subst (λ (ts : List TakenMark). AllByRecursion (IsBefore moment) ts) (sym (taken_is ∙ ap (λ (m : Option Mark). with_mark m place (taken_of old.history)) n.1)) (r.fresh timed n.0);
-  few = λ timed. subst (λ (ts : List TakenMark). length ts ≤ most_marks (marked_after marked asked) count) (sym taken_is) (few-after marked asked count place (taken_of old.history) fits (r.few timed));
+  marks = λ later h.
+      subst (λ (ts : List TakenMark). AllByRecursion (IsBefore later) ts) (sym taken_is) (all-with (IsBefore later) (mark_of asked) place (taken_of old.history) (r.marks later h) (λ one f. before-later later h one (mark-known asked one f)));
+  fresh = λ none. let n = no-more marked asked none in
+      subst (λ (ts : List TakenMark). AllByRecursion (IsBefore moment) ts) (sym (taken_is ∙ ap (λ (m : Option Mark). with_mark m place (taken_of old.history)) n.1)) (r.fresh n.0);
+  few = subst (λ (ts : List TakenMark). length ts ≤ most_marks (marked_after marked asked) count) (sym taken_is) (few-after marked asked count place (taken_of old.history) fits r.few);
 }
   where
     place : ℕ
@@ -188,23 +184,21 @@ ready-after Timed id past own count moment marked asked step old new own_is r fi
     taken_is : taken_of new.history ≡ with_mark (mark_of asked) place (taken_of old.history)
     taken_is = ap (λ (h : List Entry). taken_of h) e.history ∙ mark-entered id e.place past (mark_of asked) (next_of step) moment old.history
 
-    before-later : Timed → (later : ℕ) → moment < later → (one : Mark) → (pause : AcceptPause) × (asked ≡ steps.WantsAuth pause) × (one ≡ mark_asked pause) → one.at < later
-    before-later timed later h one k =
-        let same : one.at ≡ moment = ap (λ (m : Mark). m.at) k.2 ∙ at timed k.0 k.1 in omega (arith, h, same)
+    before-later : (later : ℕ) → moment < later → (one : Mark) → (pause : AcceptPause) × (asked ≡ steps.WantsAuth pause) × (one ≡ mark_asked pause) → one.at < later
+    before-later later h one k =
+        let same : one.at ≡ moment = ap (λ (m : Mark). m.at) k.2 ∙ at k.0 k.1 in omega (arith, h, same)
 
--- behind the last step one context lives
-pub holds-after : (Timed : Type 0) (count moment : ℕ) (marked : Bool) (core : Accepting AcceptEnd Outcome) (own : ℕ) → Ready Timed (Some own) count moment marked core → (later : ℕ) → moment < later → HoldsOne (count + 1) (count + 1) later core
-holds-after Timed count moment marked core own r later h = record {
+-- behind the last step one context lives, and there is at most one mark more
+pub holds-after : (count moment : ℕ) (marked : Bool) (core : Accepting AcceptEnd Outcome) (own : ℕ) → Ready (Some own) count moment marked core → (later : ℕ) → moment < later → HoldsOne (count + 1) (count + 1) later core
+holds-after count moment marked core own r later h = record {
   others = r.alone;
   own = omega arith;
   ids = r.ids;
   uncalled = λ other more. r.uncalled other (omega (arith, more));
   seen = let s : core.cache.greatest ≤ moment = r.seen in omega (arith, s, h);
+  marks = r.marks later h;
+  few = most marked r.few;
 }
-
--- and where the marks are timed, there is at most one more
-pub marks-after : (Timed : Type 0) (count moment : ℕ) (marked : Bool) (core : Accepting AcceptEnd Outcome) (own : ℕ) → Ready Timed (Some own) count moment marked core → Timed → (later : ℕ) → moment < later → MarksRest (count + 1) later core
-marks-after Timed count moment marked core own r timed later h = record { marks = r.marks timed later h; few = most marked (r.few timed) }
   where
     most : (b : Bool) → length (taken_of core.history) ≤ most_marks b count → length (taken_of core.history) ≤ count + 1
     most true f = f
@@ -226,38 +220,6 @@ taken-so book id past (steps.More end token) step e new = ap (λ (s : AcceptStep
 taken-so book id past (steps.Done outcome lasts token) step e new = ap (λ (s : AcceptStep). outcome_so book id past None s) e
 taken-so book id past (steps.WantsAuth pause) step e new =
     ap (λ (v : CacheVerdict). by_mark book id past (Some (mark_asked pause)) (step_after pause) (mark_refusal v)) (new pause refl) ∙ ap (λ (s : AcceptStep). outcome_so book id past (Some (mark_asked pause)) s) e
-
--- a mark that isn't refused is taken
-no-refusal : (verdict : CacheVerdict) → mark_refusal verdict ≡ None → verdict ≡ Taken
-no-refusal (verdicts.Stale greatest) e = absurd (some-refusal e)
-  where
-    some-refusal : {x : MarkRefusal} → ◌≡◌ {A = Option MarkRefusal} (Some x) None → ⊥
-    some-refusal f = cc
-no-refusal (verdicts.Repeat place) e = absurd (some-refusal e)
-  where
-    some-refusal : {x : MarkRefusal} → ◌≡◌ {A = Option MarkRefusal} (Some x) None → ⊥
-    some-refusal f = cc
-no-refusal verdicts.Full e = absurd (some-refusal e)
-  where
-    some-refusal : {x : MarkRefusal} → ◌≡◌ {A = Option MarkRefusal} (Some x) None → ⊥
-    some-refusal f = cc
-no-refusal verdicts.Taken e = refl
-
-unrefused-mark : (book : Stands) (id past : Option ℕ) (mark : Mark) (step : AcceptStep) (verdict : CacheVerdict) → ((refusal : BookRefusal) → (by_mark book id past (Some mark) step (mark_refusal verdict)).answer ≢ answers.Refused refusal) → verdict ≡ Taken
-unrefused-mark book id past mark step verdict h = by-refusal (mark_refusal verdict) refl
-  where
-    by-refusal : (refusal : Option MarkRefusal) → mark_refusal verdict ≡ refusal → verdict ≡ Taken
-    by-refusal None e = no-refusal verdict e
-    by-refusal (Some refusal) e = absurd (h (refusal_of_mark refusal) (ap (λ (r : Option MarkRefusal). (by_mark book id past (Some mark) step r).answer) e))
-
--- the mark that a step asks for is taken, where the book doesn't refuse the token
-pub unrefused-taken : (setup : AcceptSetup) (core : Accepting AcceptEnd Outcome) (id past : Option ℕ) (end : AcceptEnd) (token : List ℕ) (now : ℕ) (drawn : List ℕ) (asked : AcceptStep) → ComesTo id core end → length core.history + 4 ≤ core.limit → (id ≡ None → (live_of core.table < core.table.limit) ⊎ (is_some past ≡ true))
-    → step_of (accept_step setup end token now drawn) ≡ Ok asked → ((refusal : BookRefusal) → (negotiated setup (raised core now) id past token now drawn).answer ≢ answers.Refused refusal)
-    → (pause : AcceptPause) → asked ≡ steps.WantsAuth pause → cache_verdict core.cache.capacity (max core.cache.greatest now) (taken_of core.history) (mark_asked pause) ≡ Taken
-unrefused-taken setup core id past end token now drawn asked comes log table is h pause e =
-    let all : negotiated setup (raised core now) id past token now drawn ≡ taken (raised core now) id past (mark_of (steps.WantsAuth pause)) (settled_of (steps.WantsAuth pause)) =
-    steps-end setup core id past end token now drawn comes log table ∙ (by_ok (raised core now) id past (accept_step setup end token now drawn) asked is ∙ ap (λ (s : AcceptStep). taken (raised core now) id past (mark_of s) (settled_of s)) e) in
-    unrefused-mark (raised core now) id past (mark_asked pause) (step_after pause) (cache_verdict core.cache.capacity (max core.cache.greatest now) (taken_of core.history) (mark_asked pause)) (λ refusal f. h refusal (ap (λ (o : Outcomes). o.answer) all ∙ f))
 
 -- the step that is asked, where it is taken so
 pub asked-step : (r : Result AcceptStep NegRefusal) (step : AcceptStep) → passed_of r ≡ Ok step → (asked : AcceptStep) × (r ≡ Ok asked) × (passed asked ≡ step)

@@ -24,7 +24,7 @@ use Rattle.accept_core.specs.declared.entry.Entry.TheVariants.{Call}
 use Rattle.gss_client.specs.Procedure.{procedure_number}
 use Rattle.pair_laws.specs.Conferring.{DueCall}
 use Rattle.pair_laws.specs.Opening.{HasPlaces}
-use Rattle.pair_laws.specs.Resting.{IsBefore, RestsAt, MarksRest, RestGives, MarksAt, HoldsOne, IsBy}
+use Rattle.pair_laws.specs.Resting.{IsBefore, RestsAt, RestGives, MarksAt, HoldsOne, IsBy}
 use Rattle.pair_laws.specs.Rows.{history_after, greatest_after, RowLeaves, answers_of}
 use Rattle.pair_laws.specs.Running.{Turn}
 
@@ -117,21 +117,19 @@ rests-again id count moment first made turns old new h l by = record {
   ids = ap (λ (hs : List Entry). opened hs) l.history ∙ (opened-after id first made old.core.history ∙ h.ids);
   uncalled = λ other more. ap (λ (hs : List Entry). numbers other hs) l.history ∙ (called-after id first made old.core.history other (behind-own other more) ∙ h.uncalled other more);
   seen = subst (λ (n : ℕ). n ≤ moment) (sym l.greatest) (greatest-by moment old.core.cache.greatest turns h.seen by);
+  marks = subst (λ (ts : List TakenMark). AllByRecursion (IsBefore moment) ts) (sym taken) h.marks;
+  few = subst (λ (ts : List TakenMark). length ts ≤ count) (sym taken) h.few;
 }
   where
+    taken : taken_of new.core.history ≡ taken_of old.core.history
+    taken = ap (λ (hs : List Entry). taken_of hs) l.history ∙ taken-after id first made old.core.history
+
     behind-own : (other : ℕ) → count < other → (id == other) ≡ false
     behind-own other more = let own : id ≤ count = h.own in grind (arith, nat_tests)
 
     by-id : (other : ℕ) (same : Bool) → (id == other) ≡ same → slot_at new.core.table other ≡ None
     by-id other true e = subst (λ (n : ℕ). slot_at new.core.table n ≡ None) (same-ids id other e) l.gone
     by-id other false e = l.others.others other (apart-ids id other e) ∙ h.others other (apart-ids id other e)
-
-pub marks-again : (id count moment first : ℕ) (made : List DueCall) (turns : List Turn) (old new : BookOf) → MarksRest count moment old.core → RowLeaves id first made turns old new → MarksRest count moment new.core
-marks-again id count moment first made turns old new m l =
-    let taken : taken_of new.core.history ≡ taken_of old.core.history = ap (λ (hs : List Entry). taken_of hs) l.history ∙ taken-after id first made old.core.history in record {
-      marks = subst (λ (ts : List TakenMark). AllByRecursion (IsBefore moment) ts) (sym taken) m.marks;
-      few = subst (λ (ts : List TakenMark). length ts ≤ count) (sym taken) m.few;
-    }
 
 -- ---- the laws
 
@@ -141,19 +139,12 @@ rests-begin moment core history live seen = record {
   ids = ap (λ (h : List Entry). opened h) history;
   uncalled = λ id more. ap (λ (h : List Entry). numbers id h) history;
   seen = seen;
-}
-
-pub marks-begin : (moment : ℕ) (core : Accepting AcceptEnd Outcome) → core.history ≡ [] → MarksRest 0 moment core
-marks-begin moment core history = record {
   marks = subst (λ (h : List Entry). AllByRecursion (IsBefore moment) (taken_of h)) (sym history) tt;
   few = subst (λ (h : List Entry). length (taken_of h) ≤ 0) (sym history) (omega arith);
 }
 
 pub rests-on : (count moment later : ℕ) (core : Accepting AcceptEnd Outcome) → RestsAt count moment core → moment ≤ later → RestsAt count later core
-rests-on count moment later core r h = record { empty = r.empty; ids = r.ids; uncalled = r.uncalled; seen = omega (arith, r.seen, h) }
-
-pub marks-on : (count moment later : ℕ) (core : Accepting AcceptEnd Outcome) → MarksRest count moment core → moment ≤ later → MarksRest count later core
-marks-on count moment later core m h = record { marks = all-later moment later (taken_of core.history) h m.marks; few = m.few }
+rests-on count moment later core r h = record { empty = r.empty; ids = r.ids; uncalled = r.uncalled; seen = omega (arith, r.seen, h); marks = all-later moment later (taken_of core.history) h r.marks; few = r.few }
 
 pub rests-give : (count moment : ℕ) (core : Accepting AcceptEnd Outcome) → RestsAt count moment core → RestGives count moment core
 rests-give count moment core r = record {
@@ -162,13 +153,13 @@ rests-give count moment core r = record {
   next = ap (λ (n : ℕ). n + 1) r.ids;
 }
 
-pub marks-give : (count moment : ℕ) (core : Accepting AcceptEnd Outcome) (mark : Mark) → core.cache.greatest ≤ moment → MarksRest count moment core → mark.at ≡ moment → count < core.cache.capacity
+pub marks-give : (count moment : ℕ) (core : Accepting AcceptEnd Outcome) (mark : Mark) → RestsAt count moment core → mark.at ≡ moment → count < core.cache.capacity
     → cache_verdict core.cache.capacity (max core.cache.greatest moment) (taken_of core.history) mark ≡ Taken
-marks-give count moment core mark seen m at room = is-taken count moment core.cache.capacity core.cache.greatest (taken_of core.history) mark at seen m.marks m.few room
+marks-give count moment core mark r at room = is-taken count moment core.cache.capacity core.cache.greatest (taken_of core.history) mark at r.seen r.marks r.few room
 
-pub rests-open : (count moment : ℕ) (setup : AcceptSetup) (core : Accepting AcceptEnd Outcome) (token : List ℕ) (kept : KeptAnswers) → RestsAt count moment core → MarksRest count moment core → kept.now ≡ moment → length core.history + 4 ≤ core.limit → 0 < core.table.limit → count < core.cache.capacity → MarksAt setup moment token kept
+pub rests-open : (count moment : ℕ) (setup : AcceptSetup) (core : Accepting AcceptEnd Outcome) (token : List ℕ) (kept : KeptAnswers) → RestsAt count moment core → kept.now ≡ moment → length core.history + 4 ≤ core.limit → 0 < core.table.limit → count < core.cache.capacity → MarksAt setup moment token kept
     → HasPlaces setup core None token kept
-rests-open count moment setup core token kept r m now log places room marks =
+rests-open count moment setup core token kept r now log places room marks =
     let g = rests-give count moment core r in
     let few : live_of core.table < core.table.limit = omega (arith, g.live, places) in record {
       past = None;
@@ -176,5 +167,5 @@ rests-open count moment setup core token kept r m now log places room marks =
       log = log;
       table = λ first. inl few;
       mark = λ pause e.
-          subst (λ (n : ℕ). cache_verdict core.cache.capacity (max core.cache.greatest n) (taken_of core.history) (mark_asked pause) ≡ Taken) (sym now) (marks-give count moment core (mark_asked pause) r.seen m (marks pause e) room);
+          subst (λ (n : ℕ). cache_verdict core.cache.capacity (max core.cache.greatest n) (taken_of core.history) (mark_asked pause) ≡ Taken) (sym now) (marks-give count moment core (mark_asked pause) r (marks pause e) room);
     }

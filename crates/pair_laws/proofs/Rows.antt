@@ -111,6 +111,10 @@ same-first call more octets rest e = cc
 same-more : (call more octets rest : List ℕ) → whole call more ≡ whole octets rest → more ≡ rest
 same-more call more octets rest e = cc
 
+-- what is no record doesn't begin with a call
+pub none-first : (call more rest : List ℕ) → IsWithin call → IsNoRecord rest → last_fragment call ++ more ≡ rest → ⊥
+none-first call more rest few none e = (by-rest rest none).never call more (ap first_record (sym e) ∙ first-call call more few)
+
 -- a call in front of a stream is the first record, whatever cuts that has, and what follows is the same
 pub record SameFront (call more : List ℕ) (cut : Fragments) (rest : List ℕ) : Type 0 where
   pub call_is : call ≡ octets_in cut
@@ -126,7 +130,7 @@ reads [] [] [] rest few cuts none e = refl
 reads [] (cut ∷ records) (turn ∷ turns) rest few cuts none e =
     absurd (none-at.never (octets_in cut) (octets_of records ++ rest) (ap first_record (e ∙ append_assoc (frame cut) (octets_of records) rest) ∙ of-frame cut (octets_of records ++ rest) cuts.0))
 reads (call ∷ calls) [] [] rest few cuts none e =
-    absurd ((by-rest rest none).never call (flat_map last_fragment calls) (ap first_record (sym e) ∙ first-call call (flat_map last_fragment calls) few.0))
+    absurd (none-first call (flat_map last_fragment calls) rest few.0 none e)
 reads (call ∷ calls) (cut ∷ records) (turn ∷ turns) rest few cuts none e =
     let s = same-front call (flat_map last_fragment calls) cut (octets_of records ++ rest) few.0 cuts.0 (e ∙ append_assoc (frame cut) (octets_of records) rest) in
     let later : flat_map last_fragment calls ≡ flat_map sent_in turns = reads calls records turns rest few.1 cuts.2 none s.more_is in

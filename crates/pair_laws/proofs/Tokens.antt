@@ -1,5 +1,5 @@
 -- One token of a creation in a row: what the book makes of it.
-use Rattle.std.proofs.Common.{◌≡◌, ◌≢◌, inl, ℕ, ◌+◌, ◌<◌, ◌≤◌, ◌^◌, Bool, true, false, refl, ap, sym, subst, ◌∙◌, arith, List, length, max, take, Option, Some, None, Result, Ok, ◌⊎◌, inr}
+use Rattle.std.proofs.Common.{◌≡◌, ◌≢◌, inl, ℕ, ◌+◌, ◌<◌, ◌≤◌, ◌^◌, Bool, true, false, refl, ap, sym, subst, ◌∙◌, arith, List, length, max, take, Option, Some, None, Result, Ok}
 use Rattle.std.specs.Prelude.{◌==◌, nat_lt, IfSome, IsSomeAnd}
 use Rattle.std.proofs.lemmas.Bool.Decides.{nat_tests}
 use Rattle.replay_cache.specs.Taking.{cache_verdict}
@@ -13,12 +13,20 @@ use Rattle.spnego_core.specs.declared.accept_end.AcceptEnd.{AcceptEnd}
 use Rattle.spnego_core.specs.declared.accept_end.AcceptPause.{AcceptPause}
 use Rattle.spnego_core.specs.declared.accept_end.AcceptStep.{AcceptStep}
 use Rattle.spnego_core.specs.declared.accept_end.AcceptStep.TheVariants as steps
+use Rattle.spnego_core.specs.declared.accept_end.Answered.{Answered}
+use Rattle.spnego_core.specs.declared.accept_end.Answered.TheVariants as afters
+use Rattle.spnego_core.specs.Sizes.{ShortAccept, ShortAnswered}
 use Rattle.spnego_core.specs.Accepting.{accept_step, step_of, mark_asked}
 use Rattle.spnego_core.specs.Exchange.{passed, answered_on}
 use Rattle.accept_core.specs.declared.entry.Entry.{Entry}
-use Rattle.accept_book.specs.Booking.{BookOf, Change, Changed, Outcomes, Fits, StepFits, raised, lapsed_by, next_of, mark_of, later_step, negotiated, NotesMoment}
+use Rattle.accept_book.specs.declared.book_answer.NegAnswer.{NegAnswer}
+use Rattle.accept_book.specs.declared.book_answer.Negotiated.{Negotiated}
+use Rattle.accept_book.specs.Booking.{BookOf, Change, Changed, Outcomes, Fits, StepFits, raised, lapsed_by, next_of, mark_of, later_step, negotiated, NotesMoment, token_size, answer_with, answer_after}
 use Rattle.accept_core.specs.Entering.{id_of, entered}
 use Rattle.accept_core.specs.History.{taken_of, posts}
+use Rattle.accept_book.specs.RecordRule.{record_ruling}
+use Rattle.gss_server.specs.Answers.{IsDecided}
+use Rattle.gss_server.specs.Asking.{Asking, BookAnswers}
 use Rattle.accept_core.specs.Stepping.{context_after, until_of}
 use Rattle.accept_book.proofs.Fitting.{step_of_fits}
 use Rattle.pair_laws.proofs.Settling.{ComesTo, later-end}
@@ -26,15 +34,16 @@ use Rattle.rpcsec_bodies.specs.declared.service.Service.{Service}
 use Rattle.gss_client.specs.Calling.{creation_call}
 use Rattle.gss_client.specs.Talking.{after}
 use Rattle.pair_laws.specs.Booked.{end_in, IsBooked}
-use Rattle.pair_laws.specs.Creation.{around_of, IsOpening, MarksOn, IsUnrefused}
+use Rattle.pair_laws.specs.Creation.{around_of}
 use Rattle.pair_laws.specs.Honest.{occasion_of}
 use Rattle.pair_laws.specs.Opening.{creation_of, FitsCreation, HasPlaces, IsStepped}
 use Rattle.pair_laws.specs.Rows.{IsTurn}
 use Rattle.pair_laws.specs.Running.{Turn}
+use Rattle.pair_laws.specs.Walking.{IsStamped}
 use Rattle.pair_laws.proofs.Completing.{Turned, turned-by}
 use Rattle.pair_laws.proofs.Opening.{same-call, answered-step, step-turn}
 use Rattle.pair_laws.proofs.Ruling.{proc_for, handle_for, IsId}
-use Rattle.pair_laws.proofs.Readiness.{Ready, Entered, marked_after, unmarked-pause, ready-mark, ready-after, outcome_so, asked-step, comes-to, unrefused-taken}
+use Rattle.pair_laws.proofs.Readiness.{Ready, Entered, marked_after, unmarked-pause, ready-mark, ready-after, outcome_so, asked-step, comes-to}
 use Rattle.pair_laws.proofs.Entries.{posts-entered, long-entered}
 
 -- ---- which context is past, where one may live
@@ -81,20 +90,29 @@ past-of table own now alone = by-slot (slot_at table own) refl
 has-place : (live limit : ℕ) → live < limit → nat_lt live limit ≡ true
 has-place live limit h = grind (arith, nat_tests)
 
-either-way : {A B C : Type 0} → (A → C) → (B → C) → A ⊎ B → C
-either-way f g (inl a) = f a
-either-way f g (inr b) = g b
+-- the answer's token is the step's
+answered-size : (id : ℕ) (after : Answered) → ShortAnswered after → token_size (answer_after id after) ≤ 65536
+answered-size id (afters.More end token) h = h
+answered-size id (afters.Done outcome lasts token) h = h
+
+answer-size : (id : ℕ) (step : AcceptStep) → ShortAccept step → token_size (answer_with id step) ≤ 65536
+answer-size id (steps.More end token) h = h
+answer-size id (steps.Done outcome lasts token) h = h
+answer-size id (steps.WantsAuth pause) h = answered-size id pause.after h
+
+same-answer : (a b : Negotiated) → Some a ≡ Some b → a ≡ b
+same-answer a b e = cc
 
 -- ---- one turn
 
 -- a turn of a creation, by the step that its token comes to
-pub record Turns (Timed : Type 0) (setup : AcceptSetup) (service : Service) (width xid : ℕ) (id : Option ℕ) (token : List ℕ) (own count moment : ℕ) (marked : Bool) (turn : Turn) (step : AcceptStep) : Type 0 where
+pub record Turns (setup : AcceptSetup) (service : Service) (width xid : ℕ) (id : Option ℕ) (token : List ℕ) (own count moment : ℕ) (marked : Bool) (turn : Turn) (step : AcceptStep) : Type 0 where
   pub booked : IsBooked setup width turn.octets turn.kept (around_of turn)
   pub turned : Turned setup service width xid id token turn.kept (around_of turn) step
   pub asked : AcceptStep
   pub same : passed asked ≡ step
   pub fits : StepFits asked marked
-  pub ready : Ready Timed (Some own) count moment (marked_after marked asked) turn.after.core
+  pub ready : Ready (Some own) count moment (marked_after marked asked) turn.after.core
   pub notes : NotesMoment turn.before turn.after turn.kept.now
   pub grown : length turn.after.core.history ≤ length turn.before.core.history + 4
   pub posted : posts turn.after.core.history ≡ posts turn.before.core.history
@@ -102,31 +120,28 @@ pub record Turns (Timed : Type 0) (setup : AcceptSetup) (service : Service) (wid
   pub entered_so : Entered id past asked step turn.before.core turn.after.core moment
   pub placed : id ≡ None → entered_so.place ≡ true
 
-pub turn-opens : (Timed : Type 0) (setup : AcceptSetup) (service : Service) (width lasts xid : ℕ) (id : Option ℕ) (acceptor : AcceptEnd) (token : List ℕ) (count moment : ℕ) (marked : Bool) (turn : Turn) (step : AcceptStep) → xid < 2 ^ 32 → IsId id → length token ≤ 65536 → IsTurn width lasts turn
-    → turn.octets ≡ creation_call service xid (proc_for id) (handle_for id) token → id_of id turn.before.core.history ≡ count + 1 → ComesTo id turn.before.core acceptor → Fits acceptor marked → Ready Timed id count moment marked turn.before.core → IsOpening moment turn.kept → (Timed → MarksOn setup moment turn) → Timed ⊎ IsUnrefused turn.kept → turn.before.setup ≡ setup
-    → length turn.before.core.history + 4 ≤ turn.before.core.limit → (id ≡ None → live_of turn.before.core.table < turn.before.core.table.limit) → (Timed → count < turn.before.core.cache.capacity) → answered_on setup (occasion_of turn.kept) acceptor token ≡ Ok step
-    → Turns Timed setup service width xid id token (id_of id turn.before.core.history) count moment marked turn step
-turn-opens Timed setup service width lasts xid id acceptor token count moment marked turn step xids is_id few v is own_is comes fits ready op timed unrefused set log table room takes =
+pub turn-opens : (setup : AcceptSetup) (service : Service) (width lasts xid : ℕ) (id : Option ℕ) (acceptor : AcceptEnd) (token : List ℕ) (count moment : ℕ) (marked : Bool) (turn : Turn) (step : AcceptStep) → xid < 2 ^ 32 → IsId id → length token ≤ 65536 → IsTurn width lasts turn
+    → turn.octets ≡ creation_call service xid (proc_for id) (handle_for id) token → id_of id turn.before.core.history ≡ count + 1 → ComesTo id turn.before.core acceptor → Fits acceptor marked → Ready id count moment marked turn.before.core → turn.kept.now ≡ moment → IsStamped setup moment (occasion_of turn.kept) acceptor token → ShortAccept step → turn.before.setup ≡ setup
+    → length turn.before.core.history + 4 ≤ turn.before.core.limit → (id ≡ None → live_of turn.before.core.table < turn.before.core.table.limit) → count < turn.before.core.cache.capacity → answered_on setup (occasion_of turn.kept) acceptor token ≡ Ok step
+    → Turns setup service width xid id token (id_of id turn.before.core.history) count moment marked turn step
+turn-opens setup service width lasts xid id acceptor token count moment marked turn step xids is_id few v is own_is comes fits ready at_moment stamped short set log table room takes =
     let old : BookOf = turn.before in
     let now : ℕ = turn.kept.now in
     let drawn : List ℕ = take 66 turn.kept.draws in
     let here : turn.octets ≡ creation_of service xid id token = is ∙ sym (same-call service xid id token) in
     let f : FitsCreation xid id token = record { xid_fits = xids; id_fits = some-id id is_id; size = few } in
-    let s : IsStepped width (creation_of service xid id token) turn.kept old turn.after = subst (λ (o : List ℕ). IsStepped width o turn.kept old turn.after) here (record { decided = v.decided; asked = v.asked; size = op.size }) in
     let q = asked-step (step_of (accept_step setup acceptor token now drawn)) step takes in
     let step_fits : StepFits q.0 marked = step_of_fits setup acceptor token now drawn q.0 marked fits q.1 in
     let later_is : later_step setup (end_in old.core.table id) token now drawn ≡ accept_step setup acceptor token now drawn = later-end setup old.core id acceptor token now drawn comes in
-    let at : Timed → (pause : AcceptPause) → q.0 ≡ steps.WantsAuth pause → (mark_asked pause).at ≡ moment = λ t pause e. timed t service xid id token pause here (ap step_of later_is ∙ (q.1 ∙ ap (λ (a : AcceptStep). Ok a) e)) in
+    let at : (pause : AcceptPause) → q.0 ≡ steps.WantsAuth pause → (mark_asked pause).at ≡ moment = λ pause e. stamped pause (q.1 ∙ ap (λ (a : AcceptStep). Ok a) e) in
     let w = past-of old.core.table (count + 1) (max old.core.cache.greatest now) ready.alone in
-    let n = answered-step service xid width id token turn.kept old turn.after f s in
+    let decided : IsDecided (record_ruling (creation_of service xid id token) turn.kept width) = subst (λ (o : List ℕ). IsDecided (record_ruling o turn.kept width)) here v.decided in
+    let put : Asking BookAnswers old (record_ruling (creation_of service xid id token) turn.kept width).asked turn.after = subst (λ (o : List ℕ). Asking BookAnswers old (record_ruling o turn.kept width).asked turn.after) here v.asked in
+    let n = answered-step service xid width id token turn.kept old turn.after f decided put in
     let o = n.stepped.comes.outcome w.0 w.1 n.some in
-    let by-time : Timed → (pause : AcceptPause) → q.0 ≡ steps.WantsAuth pause → cache_verdict old.core.cache.capacity (max old.core.cache.greatest now) (taken_of old.core.history) (mark_asked pause) ≡ Taken =
-    λ t pause e. subst (λ (n : ℕ). cache_verdict old.core.cache.capacity (max old.core.cache.greatest n) (taken_of old.core.history) (mark_asked pause) ≡ Taken) (sym op.now)
-    (ready-mark Timed id count moment marked old.core (mark_asked pause) ready t (unmarked-pause q.0 marked pause step_fits e) (at t pause e) (room t)) in
-    let by-answer : IsUnrefused turn.kept → (pause : AcceptPause) → q.0 ≡ steps.WantsAuth pause → cache_verdict old.core.cache.capacity (max old.core.cache.greatest now) (taken_of old.core.history) (mark_asked pause) ≡ Taken =
-    λ u. unrefused-taken setup old.core id w.0 acceptor token now drawn q.0 comes log (λ none. inl (table none)) q.1
-    (λ refusal r. u n.answer refusal n.is_kept (o.answer ∙ (ap (λ (p : AcceptSetup). (negotiated p (raised old.core now) id w.0 token now drawn).answer) set ∙ r))) in
-    let fresh : (pause : AcceptPause) → q.0 ≡ steps.WantsAuth pause → cache_verdict old.core.cache.capacity (max old.core.cache.greatest now) (taken_of old.core.history) (mark_asked pause) ≡ Taken = either-way by-time by-answer unrefused in
+    let fresh : (pause : AcceptPause) → q.0 ≡ steps.WantsAuth pause → cache_verdict old.core.cache.capacity (max old.core.cache.greatest now) (taken_of old.core.history) (mark_asked pause) ≡ Taken =
+    λ pause e. subst (λ (n : ℕ). cache_verdict old.core.cache.capacity (max old.core.cache.greatest n) (taken_of old.core.history) (mark_asked pause) ≡ Taken) (sym at_moment)
+    (ready-mark id count moment marked old.core (mark_asked pause) ready (unmarked-pause q.0 marked pause step_fits e) (at pause e) room) in
     let places : HasPlaces setup old.core id token turn.kept = record {
       past = w.0;
       is_past = w.1;
@@ -134,19 +149,26 @@ turn-opens Timed setup service width lasts xid id acceptor token count moment ma
       table = λ none. inl (table none);
       mark = λ pause e. fresh pause (same-asked q.0 (steps.WantsAuth pause) (sym q.1 ∙ (ap step_of (sym later_is) ∙ e)));
     } in
-    let b : IsBooked old.setup width (creation_of service xid id token) turn.kept (around_of turn) = step-turn service xid width id token turn.kept old turn.after f s (subst (λ (p : AcceptSetup). HasPlaces p old.core id token turn.kept) (sym set) places) in
-    let here_b : IsBooked setup width turn.octets turn.kept (around_of turn) = subst (λ (p : AcceptSetup). IsBooked p width turn.octets turn.kept (around_of turn)) set (subst (λ (o : List ℕ). IsBooked old.setup width o turn.kept (around_of turn)) (sym here) b) in
     let so = comes-to setup old.core id w.0 acceptor token now drawn q.0 step comes log (λ none. inl (table none)) q.1 q.2 fresh in
     let all : negotiated old.setup (raised old.core now) id w.0 token now drawn ≡ outcome_so (raised old.core now) id w.0 (mark_of q.0) step = ap (λ (p : AcceptSetup). negotiated p (raised old.core now) id w.0 token now drawn) set ∙ so in
+    let answer_is : n.answer.answer ≡ answer_with (id_of id old.core.history) step = o.answer ∙ ap (λ (x : Outcomes). x.answer) all in
+    let size : token_size n.answer.answer ≤ 65536 = subst (λ (a : NegAnswer). token_size a ≤ 65536) (sym answer_is) (answer-size (id_of id old.core.history) step short) in
+    let s : IsStepped width (creation_of service xid id token) turn.kept old turn.after = record {
+      decided = decided;
+      asked = put;
+      size = λ answer e. subst (λ (a : Negotiated). token_size a.answer ≤ 65536) (same-answer n.answer answer (sym n.is_kept ∙ e)) size;
+    } in
+    let b : IsBooked old.setup width (creation_of service xid id token) turn.kept (around_of turn) = step-turn service xid width id token turn.kept old turn.after f s (subst (λ (p : AcceptSetup). HasPlaces p old.core id token turn.kept) (sym set) places) in
+    let here_b : IsBooked setup width turn.octets turn.kept (around_of turn) = subst (λ (p : AcceptSetup). IsBooked p width turn.octets turn.kept (around_of turn)) set (subst (λ (o : List ℕ). IsBooked old.setup width o turn.kept (around_of turn)) (sym here) b) in
     let history : turn.after.core.history ≡ entered id (nat_lt (live_of old.core.table) old.core.table.limit) w.0 (mark_of q.0) (next_of step) (max old.core.cache.greatest now) old.core.history = o.history ∙ ap (λ (x : Outcomes). x.history) all in
-    let moment_is : max old.core.cache.greatest now ≡ moment = let seen : old.core.cache.greatest ≤ moment = ready.seen in let same_now : now ≡ moment = op.now in omega (arith, seen, same_now) in
+    let moment_is : max old.core.cache.greatest now ≡ moment = let seen : old.core.cache.greatest ≤ moment = ready.seen in let same_now : now ≡ moment = at_moment in omega (arith, seen, same_now) in
     let e : Entered id w.0 q.0 step old.core turn.after.core moment = record {
       place = nat_lt (live_of old.core.table) old.core.table.limit;
       history = history ∙ ap (λ (m : ℕ). entered id (nat_lt (live_of old.core.table) old.core.table.limit) w.0 (mark_of q.0) (next_of step) m old.core.history) moment_is;
       gone = lapsed_by id (nat_lt (live_of old.core.table) old.core.table.limit) w.0;
       after = context_after (until_of id (max old.core.cache.greatest now) old.core.table) (next_of step);
       contexts = subst (λ (c : Change). Changed old.core.table c turn.after.core.table) (ap (λ (x : Outcomes). x.change) all) o.contexts;
-      greatest = n.stepped.notes.greatest ∙ ap (λ (m : ℕ). max old.core.cache.greatest m) op.now;
+      greatest = n.stepped.notes.greatest ∙ ap (λ (m : ℕ). max old.core.cache.greatest m) at_moment;
     } in
     record {
       booked = here_b;
@@ -154,7 +176,7 @@ turn-opens Timed setup service width lasts xid id acceptor token count moment ma
       asked = q.0;
       same = q.2;
       fits = step_fits;
-      ready = ready-after Timed id w.0 (id_of id old.core.history) count moment marked q.0 step old.core turn.after.core own_is ready step_fits at e;
+      ready = ready-after id w.0 (id_of id old.core.history) count moment marked q.0 step old.core turn.after.core own_is ready step_fits at e;
       notes = n.stepped.notes;
       grown = subst (λ (h : List Entry). length h ≤ length old.core.history + 4) (sym history) (long-entered id (nat_lt (live_of old.core.table) old.core.table.limit) w.0 (mark_of q.0) (next_of step) (max old.core.cache.greatest now) old.core.history);
       posted = ap (λ (h : List Entry). posts h) history ∙ posts-entered id (nat_lt (live_of old.core.table) old.core.table.limit) w.0 (mark_of q.0) (next_of step) (max old.core.cache.greatest now) old.core.history;

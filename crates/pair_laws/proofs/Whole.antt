@@ -1,5 +1,5 @@
 -- A whole session in a row is done.
-use Rattle.std.proofs.Common.{◌≡◌, ℕ, ◌+◌, ◌*◌, ◌<◌, ◌≤◌, refl, ap, sym, subst, ◌∙◌, arith, List, [], ◌∷◌, ◌++◌, length, append_assoc, map, drop, Some, Ok, Bool, true, false, Option}
+use Rattle.std.proofs.Common.{◌≡◌, ℕ, ◌+◌, ◌*◌, ◌<◌, ◌≤◌, refl, ap, sym, subst, ◌∙◌, arith, List, [], ◌∷◌, ◌++◌, length, append_assoc, map, drop, Some, Ok, Bool, true, false, Option, Result}
 use Rattle.std.specs.List.{AllByRecursion, flat_map}
 use Rattle.gss_base.specs.declared.mech.MechKind.{MechKind}
 use Rattle.krb_derive.specs.declared.key.Key.{Key}
@@ -22,21 +22,23 @@ use Rattle.gss_client.specs.Session.{SessionState}
 use Rattle.gss_client.specs.Talk.{created_from}
 use Rattle.gss_client.specs.Talking.{Said}
 use Rattle.gss_client.specs.Conversation.{Talk}
+use Rattle.gss_client.specs.declared.refusal.ClientRefusal.{ClientRefusal}
 use Rattle.gss_client.specs.declared.start.Start.{Start}
 use Rattle.pair_laws.specs.Booked.{Around, id_in}
 use Rattle.pair_laws.specs.Conferring.{DueCall, confers, by_opening, talk_of}
 use Rattle.pair_laws.specs.Creation.{around_of, Enters, history_with}
 use Rattle.pair_laws.specs.HonestCalls.{session_on}
-use Rattle.pair_laws.specs.Laws.{IsBehind, Settles}
+use Rattle.pair_laws.specs.Laws.{IsBehind}
 use Rattle.pair_laws.specs.Live.{lease_on, IsWhole, IsLiveAt}
 use Rattle.pair_laws.specs.Resting.{IsBy}
 use Rattle.pair_laws.specs.Rows.{IsSized, IsTurn, InRow, IsRow, RowLeaves, history_after, results_by, answers_of}
 use Rattle.pair_laws.specs.Running.{Turn, sent_in, Serves, calls_made, parting_of, IsName}
 use Rattle.pair_laws.specs.Sessions.{IsProper, HonestSession, made_of, results_in}
-use Rattle.pair_laws.specs.Whole.{IsSession, SessionDone, posts_behind, IsLasting}
+use Rattle.pair_laws.specs.Walking.{IsNamed}
+use Rattle.pair_laws.specs.Whole.{IsSession, SessionDone, posts_behind}
 use Rattle.pair_laws.proofs.Completing.{completes, few-answers, same-behind}
 use Rattle.pair_laws.proofs.Creations.{same-sent, creation-runs}
-use Rattle.pair_laws.proofs.Resting.{rests-again, marks-again}
+use Rattle.pair_laws.proofs.Resting.{rests-again}
 use Rattle.pair_laws.proofs.Rows.{reads, row-runs}
 use Rattle.pair_laws.proofs.Sessions.{session-runs}
 use Rattle.pair_laws.proofs.Answered.{handle-length}
@@ -89,15 +91,6 @@ sized service (call ∷ later) each = (each.0.size, sized service later each.1)
 some-outcome : (a b : Outcome) → Some a ≡ Some b → a ≡ b
 some-outcome a b e = cc
 
--- the context that was settled lasts
-settles-lasts : (moment width : ℕ) (lease : Lease) (records : List (List ℕ)) (front : List Turn) → Settles width lease records (answers_of front) → AllByRecursion (IsLasting moment) (answers_of front) → moment ≤ lease.ends
-settles-lasts moment width lease [] front s a = absurd s
-settles-lasts moment width lease (octets ∷ records) [] s a = absurd s
-settles-lasts moment width lease (last ∷ []) (turn ∷ []) s a = a.0 s.answer lease s.token s.is_kept s.settled
-settles-lasts moment width lease (last ∷ []) (turn ∷ next ∷ later) s a = absurd s
-settles-lasts moment width lease (octets ∷ other ∷ records) (turn ∷ []) s a = absurd s.1
-settles-lasts moment width lease (octets ∷ other ∷ records) (turn ∷ next ∷ later) s a = settles-lasts moment width lease (other ∷ records) (next ∷ later) s.1 a.1
-
 some-front : (front : List Turn) (books : List Around) (core : Accepting AcceptEnd Outcome) → IsBehind (answers_of front) books core → 0 < length front
 some-front [] books core b = absurd b
 some-front (turn ∷ front) books core b = omega arith
@@ -115,13 +108,20 @@ settled-stands id moment kind names lasts true mark (next ∷ marks) h = settled
 same-names : (a b : MechKind) (xs ys : List ℕ) (m n : ℕ) → Whole a xs m ≡ Whole b ys n → xs ≡ ys
 same-names a b xs ys m n e = cc
 
-entered-names : (id moment : ℕ) (kind : MechKind) (tokens : ℕ) (old new : List Entry) (outcome : Outcome) (lasts : ℕ) → (e : Enters id moment kind tokens old new) → 0 < tokens → standing id new ≡ Whole outcome.mech (names_of outcome) lasts → e.names ≡ names_of outcome
-entered-names id moment kind tokens old new outcome lasts e some stands = by-marks e.marks e.counted e.is
+same-lasts : (a b : MechKind) (xs ys : List ℕ) (m n : ℕ) → Whole a xs m ≡ Whole b ys n → m ≡ n
+same-lasts a b xs ys m n e = cc
+
+-- what the log says of the context that a creation enters
+entered-stands : (id moment : ℕ) (kind : MechKind) (tokens : ℕ) (old new : List Entry) → (e : Enters id moment kind tokens old new) → 0 < tokens → standing id new ≡ Whole kind e.names e.lasts
+entered-stands id moment kind tokens old new e some = by-marks e.marks e.counted e.is
   where
-    by-marks : (marks : List (Option Mark)) → length marks ≡ tokens → new ≡ history_with id moment (Settled id kind e.names e.lasts moment) false marks old → e.names ≡ names_of outcome
+    by-marks : (marks : List (Option Mark)) → length marks ≡ tokens → new ≡ history_with id moment (Settled id kind e.names e.lasts moment) false marks old → standing id new ≡ Whole kind e.names e.lasts
     by-marks [] counted is = absurd (omega (arith, counted, some))
-    by-marks (mark ∷ marks) counted is =
-        same-names kind outcome.mech e.names (names_of outcome) e.lasts lasts (sym (settled-stands id moment kind e.names e.lasts false mark marks old) ∙ (ap (λ (h : List Entry). standing id h) (sym is) ∙ stands))
+    by-marks (mark ∷ marks) counted is = ap (λ (h : List Entry). standing id h) is ∙ settled-stands id moment kind e.names e.lasts false mark marks old
+
+-- two sessions that a creation answers are one
+same-state : (a b : SessionState) (r : Result SessionState ClientRefusal) → r ≡ Ok a → r ≡ Ok b → a ≡ b
+same-state a b r e f = let both : Ok a ≡ Ok b = sym e ∙ f in cc
 
 long-after : (id number : ℕ) (made : List DueCall) (h : List Entry) → length (history_after id number made h) ≡ length h + length made + 1
 long-after id number [] h = omega arith
@@ -146,7 +146,8 @@ whole-done keys keys' key for for' width lasts start kind count moment due draws
     let same : c.outcome ≡ outcome = some-outcome c.outcome outcome (sym (ap (λ (t : Talk). t.outcome) talk_is) ∙ s.told) in
     let key_is : c.outcome.key ≡ key = ap (λ (o : Outcome). o.key) same ∙ s.key_is in
     let known : IsName c.outcome.initiator = subst (λ (o : Outcome). IsName o.initiator) (sym same) s.name in
-    let lasting : moment ≤ c.lasts = settles-lasts moment width lease x.converses.records front (subst (λ (ks : List KeptAnswers). Settles width lease x.converses.records ks) r.answers c.settles) s.lasting in
+    let agreed : r.agreed ≡ c.outcome =
+    sym r.created.outcome ∙ ap (λ (q : SessionState). q.outcome) (same-state r.created.state state (created_from start stream).answer r.created.answer (ap (λ (q : Said SessionState). q.answer) c.session)) in
     let both : wrote ++ (confers due state draws x.converses.rest).written ≡ wrote ++ s.more = sym (ap (λ (t : Talk). t.written) talk_is) ∙ (s.written ∙ ap (λ (zs : List ℕ). zs ++ s.more) created) in
     let few : length state.handle ≤ 64 = omega (arith, handle-length (id_in x.books)) in
     let q = writes due state draws x.converses.rest few (sized start.service due s.planned.each) s.planned.enough in
@@ -162,6 +163,11 @@ whole-done keys keys' key for for' width lasts start kind count moment due draws
     let limits = r.limits in
     let wide : 0 < r.middle.core.width = subst (λ (n : ℕ). 0 < n) (sym limits.width) s.wide in
     let live : IsLiveAt r.middle lease start.first = record { whole = subst (λ (o : Accepting AcceptEnd Outcome). IsWhole o lease) core_is c.whole; called = called; wide = wide } in
+    let enters = r.enters in
+    let entered : Whole kind enters.names enters.lasts ≡ Whole c.outcome.mech (names_of c.outcome) c.lasts =
+    sym (entered-stands (count + 1) moment kind (length front) old.core.history r.middle.core.history enters (some-front front (map around_of front) r.middle.core r.behind))
+    ∙ subst (λ (i : ℕ). standing i r.middle.core.history ≡ Whole c.outcome.mech (names_of c.outcome) c.lasts) id_is live.whole.stands in
+    let lasting : moment ≤ c.lasts = subst (λ (m : ℕ). moment ≤ m) (same-lasts kind c.outcome.mech enters.names (names_of c.outcome) enters.lasts c.lasts entered) r.lasting in
     let log : length old.core.history + 4 * length front + length due < old.core.limit = s.log in
     let row : IsRow width lease start.service start.first (1 + length x.answers) due draws x.converses.rest r.middle new back rest = record {
       id = x.number;
@@ -196,6 +202,7 @@ whole-done keys keys' key for for' width lasts start kind count moment due draws
     let grown : length r.middle.core.history ≤ length old.core.history + 4 * length front = r.grown in
     subst (λ (o : Outcome). SessionDone width start kind count moment due draws stream old new front back rest o) same (record {
       mech = c.mech ∙ r.kind_is;
+      named = subst (λ (o : Outcome). IsNamed start.setup kind o) agreed r.named;
       session = e.session
           ∙ (ap (λ (ws : List ℕ). record { written = ws; outcome = Some c.outcome; results = results_in made name back; parting = parting_of start.first (length due); undrawn = drop (16 * calls_made start.first (length due)) draws; rest = rest }) all
           ∙ ap (λ (rs : List (List ℕ)). record {
@@ -207,13 +214,11 @@ whole-done keys keys' key for for' width lasts start kind count moment due draws
             rest = rest;
           }) results);
       opened = r.middle.core.history;
-      enters = r.enters;
-      names = entered-names (count + 1) moment kind (length front) old.core.history r.middle.core.history c.outcome c.lasts r.enters (some-front front (map around_of front) r.middle.core r.behind)
-          (subst (λ (n : ℕ). standing n r.middle.core.history ≡ Whole c.outcome.mech (names_of c.outcome) c.lasts) id_is live.whole.stands);
+      enters = enters;
+      names = same-names kind c.outcome.mech enters.names (names_of c.outcome) enters.lasts c.lasts entered;
       history = history;
       posted = ap (λ (hs : List Entry). posts hs) history ∙ (posts-on (count + 1) start.first made r.middle.core.history ∙ ap (λ (n : ℕ). posts_behind n made) r.posted);
       grown = subst (λ (h : List Entry). length h ≤ length old.core.history + 4 * length front + length due + 1) (sym history) (omega (arith, long-after (count + 1) start.first made r.middle.core.history, length-take (calls_made start.first (length due)) due, grown));
-      marks = λ timed later more. marks-again (count + 1) (count + 1) later start.first made back r.middle new (r.marks timed later more) leaves;
       limits = record {
         setup = g.leaves.setup ∙ limits.setup;
         limit = g.leaves.limit ∙ limits.limit;

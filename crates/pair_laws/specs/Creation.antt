@@ -1,41 +1,34 @@
 -- A creation in a row: a session is created over a book in which no context lives, and nobody else
 -- asks the book anything meanwhile.
-use Rattle.std.specs.Prelude.{◌≡◌, ◌≢◌, ◌⊎◌, ℕ, ◌+◌, ◌*◌, ◌<◌, ◌≤◌, ◌^◌, Bool, true, false}
-use Rattle.std.specs.Prelude.{◌||◌, is_some, List, [], ◌∷◌, ◌++◌, length, map, take, Option}
-use Rattle.std.specs.Prelude.{Some, Ok}
+use Rattle.std.specs.Prelude.{◌≡◌, ℕ, zero, suc, ◌+◌, ◌*◌, ◌<◌, ◌≤◌, ◌^◌, Bool, true, false}
+use Rattle.std.specs.Prelude.{◌||◌, is_some, List, [], ◌∷◌, ◌++◌, length, map, replicate, Option}
+use Rattle.std.specs.Prelude.{Ok}
 use Rattle.std.specs.List.{AllByRecursion, flat_map}
+use Rattle.sec_base.specs.Moment.{greatest_moment}
 use Rattle.gss_base.specs.Mech.{is_kerberos}
 use Rattle.gss_base.specs.declared.mark.Mark.{Mark}
 use Rattle.gss_base.specs.declared.mech.MechKind.{MechKind}
 use Rattle.rpc_msgs.specs.Records.{Fragments}
-use Rattle.rpcsec_bodies.specs.declared.service.Service.{Service}
-use Rattle.spnego_core.specs.Accepting.{step_of, mark_asked}
-use Rattle.spnego_core.specs.Exchange.{HonestPair}
-use Rattle.spnego_core.specs.declared.accept_end.AcceptEnd.{AcceptEnd}
-use Rattle.spnego_core.specs.declared.accept_end.AcceptPause.{AcceptPause}
-use Rattle.spnego_core.specs.declared.accept_end.AcceptStep.TheVariants as steps
+use Rattle.spnego_core.specs.Exchange.{Occasion, HonestPair}
 use Rattle.spnego_core.specs.declared.outcome.Outcome.{Outcome}
-use Rattle.spnego_core.specs.declared.setup.AcceptSetup.{AcceptSetup}
-use Rattle.accept_book.specs.Booking.{BookOf, token_size, later_step}
+use Rattle.accept_book.specs.Booking.{BookOf}
 use Rattle.accept_core.specs.Entering.{noted}
 use Rattle.accept_core.specs.History.{numbers, posts}
 use Rattle.accept_book.specs.RecordShown.{KeptAnswers}
-use Rattle.accept_core.specs.Replays.{Accepting}
-use Rattle.accept_book.specs.declared.book_answer.BookRefusal.{BookRefusal}
-use Rattle.accept_book.specs.declared.book_answer.NegAnswer.TheVariants.{Refused}
-use Rattle.accept_book.specs.declared.book_answer.Negotiated.{Negotiated}
 use Rattle.accept_core.specs.declared.entry.Entry.{Entry}
 use Rattle.accept_core.specs.declared.entry.Entry.TheVariants.{Opened, Went, Settled}
+use Rattle.gss_client.specs.Session.{SessionState}
 use Rattle.gss_client.specs.Talk.{created_from}
+use Rattle.gss_client.specs.Talking.{Said}
 use Rattle.gss_client.specs.declared.start.Start.{Start}
 use Rattle.gss_server.specs.Connections.{octets_of}
-use Rattle.pair_laws.specs.Booked.{Around, end_in}
+use Rattle.pair_laws.specs.Booked.{Around}
 use Rattle.pair_laws.specs.Honest.{occasion_of, HonestExchange}
 use Rattle.pair_laws.specs.Laws.{IsBehind}
-use Rattle.pair_laws.specs.Opening.{creation_of}
-use Rattle.pair_laws.specs.Resting.{RestsAt, MarksRest, HoldsOne}
+use Rattle.pair_laws.specs.Resting.{RestsAt, HoldsOne}
 use Rattle.pair_laws.specs.Rows.{InRow, AreCuts, answers_of}
 use Rattle.pair_laws.specs.Running.{Turn, heard_in}
+use Rattle.pair_laws.specs.Walking.{IsNamed}
 
 -- how the book stands around a turn
 abbrev pub around_of : Turn → Around
@@ -45,33 +38,15 @@ around_of turn = record { before = turn.before.core; after = turn.after.core }
 abbrev pub records_of : List Turn → List (List ℕ)
 records_of turns = map (λ turn. turn.octets) turns
 
--- the mark that the token of the record asks for, where it does, is of this moment
-abbrev pub MarksOn : AcceptSetup → ℕ → Turn → Type 0
-MarksOn setup moment turn =
-    (service : Service) (xid : ℕ) (id : Option ℕ) (token : List ℕ) (pause : AcceptPause)
-    → turn.octets ≡ creation_of service xid id token
-    → step_of (later_step setup (end_in turn.before.core.table id) token turn.kept.now
-    (take 66 turn.kept.draws)) ≡ Ok (steps.WantsAuth pause)
-    → (mark_asked pause).at ≡ moment
+-- an answer came at this moment
+abbrev pub IsAt : ℕ → KeptAnswers → Type 0
+IsAt moment kept = kept.now ≡ moment
 
--- an answer to a token came at this moment, with a token of at most 65,536 octets
-pub record IsOpening (moment : ℕ) (kept : KeptAnswers) : Type 0 where
-  pub now : kept.now ≡ moment
-  pub size : (answer : Negotiated) → kept.negotiated ≡ Some answer
-      → token_size answer.answer ≤ 65536
-
--- the answer is no refusal
-abbrev pub IsUnrefused : KeptAnswers → Type 0
-IsUnrefused kept = (answer : Negotiated) (refusal : BookRefusal)
-    → kept.negotiated ≡ Some answer → answer.answer ≢ Refused refusal
-
--- at rest at most one mark an id was taken, the cache has room for one more, and each mark that
--- these tokens ask for is of this moment, and so is taken
-pub record AreTimed (setup : AcceptSetup) (count moment : ℕ) (core : Accepting AcceptEnd Outcome)
-    (front : List Turn) : Type 0 where
-  pub rest : MarksRest count moment core
-  pub room : count < core.cache.capacity
-  pub on : AllByRecursion (MarksOn setup moment) front
+-- a creation came to a session on this outcome
+pub record CreatesOn (part : Said SessionState) (agreed : Outcome) : Type 0 where
+  pub state : SessionState
+  pub answer : part.answer ≡ Ok state
+  pub outcome : state.outcome ≡ agreed
 
 -- whether a mark of an authenticator is among these
 abbrev pub is_marked : List (Option Mark) → Bool
@@ -109,8 +84,8 @@ pub record SameLimits (old new : BookOf) : Type 0 where
   pub capacity : new.core.cache.capacity ≡ old.core.cache.capacity
 
 -- turns in a row from a book at rest with places: those of a creation by an honest pair, with which
--- a session's writing and hearing begins, and those behind it; what was written reads as their
--- records, however these are cut
+-- a session's writing and hearing begins, all at the moment of the client's stamp, and those behind
+-- it; what was written reads as their records, however these are cut
 pub record IsCreation (width lasts : ℕ) (start : Start) (kind : MechKind) (count moment : ℕ)
     (stream more : List ℕ) (old new : BookOf) (front back : List Turn) (records : List Fragments)
     (tail rest : List ℕ) : Type 0 where
@@ -119,19 +94,20 @@ pub record IsCreation (width lasts : ℕ) (start : Start) (kind : MechKind) (cou
   pub width_fits : width < 2 ^ 32
   pub number : count + 1 < 2 ^ 64
   pub pair : HonestPair old.setup start.setup kind (map occasion_of (answers_of front))
-  pub opening : AllByRecursion (IsOpening moment) (answers_of front)
-  -- the marks that the tokens ask for are taken: by their time, or since no token was refused
-  pub marks : AreTimed old.setup count moment old.core front
-      ⊎ AllByRecursion IsUnrefused (answers_of front)
+  pub known : moment ≤ greatest_moment
+  pub stamp : start.setup.stamp ≡ moment
+  pub moments : AllByRecursion (IsAt moment) (answers_of front)
   pub row : InRow width lasts old (front ++ back) new
   pub log : length old.core.history + 4 * length front ≤ old.core.limit
   pub table : 0 < old.core.table.limit
+  pub cache : count < old.core.cache.capacity
   pub cuts : AreCuts records (front ++ back)
   pub written : (created_from start stream).written ++ more ≡ octets_of records ++ tail
   pub heard : stream ≡ flat_map (heard_in width) (front ++ back) ++ rest
 
 -- the exchange is honest, over these turns and no others; a book stands behind it in which the new
--- context alone lives, with the next id; no call of it was made, and nobody posted meanwhile
+-- context alone lives, with the next id, until this moment or longer; no call of it was made, and
+-- nobody posted meanwhile. The session has an outcome of the credential's names.
 pub record CreationRuns (width lasts : ℕ) (start : Start) (kind : MechKind) (count moment : ℕ)
     (stream more : List ℕ) (old new : BookOf) (front back : List Turn) (records : List Fragments)
     (tail rest : List ℕ) : Type 0 where
@@ -149,12 +125,14 @@ pub record CreationRuns (width lasts : ℕ) (start : Start) (kind : MechKind) (c
   pub row : InRow width lasts middle back new
   pub limits : SameLimits old middle
   pub enters : Enters (count + 1) moment kind (length front) old.core.history middle.core.history
+  pub lasting : moment ≤ enters.lasts
   pub grown : length middle.core.history ≤ length old.core.history + 4 * length front
   pub posted : posts middle.core.history ≡ posts old.core.history
   pub holds : (later : ℕ) → moment < later → HoldsOne (count + 1) (count + 1) later middle.core
-  pub marks : AreTimed old.setup count moment old.core front → (later : ℕ) → moment < later
-      → MarksRest (count + 1) later middle.core
   pub unused : numbers (count + 1) middle.core.history ≡ []
+  pub agreed : Outcome
+  pub created : CreatesOn (created_from start stream) agreed
+  pub named : IsNamed start.setup kind agreed
 
 -- every creation in a row is an honest exchange
 abbrev pub CreationLaw : Type 0
@@ -166,3 +144,15 @@ CreationLaw =
     rest
     → CreationRuns width lasts start kind count moment stream more old new front back records tail
     rest
+
+-- ---- as many answers as tokens
+
+-- an occasion at this moment for which nothing was drawn
+abbrev pub idle : ℕ → Occasion
+idle moment = record { now = moment; drawn = replicate 66 0 }
+
+-- so many of these occasions, and idle ones where there are fewer
+abbrev pub padded : ℕ → ℕ → List Occasion → List Occasion
+padded moment zero occasions = []
+padded moment (suc count) [] = idle moment ∷ padded moment count []
+padded moment (suc count) (occasion ∷ occasions) = occasion ∷ padded moment count occasions

@@ -13,8 +13,8 @@ pub mod Sessions
 pub mod Rows
 pub mod Opening
 pub mod Resting
+pub mod Walking
 pub mod Creation
 pub mod Whole
 pub mod Linked
 pub mod Meeting
-pub mod ClientRun

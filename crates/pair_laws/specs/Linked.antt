@@ -1,8 +1,9 @@
 -- A whole session over a link that answers by a book at rest: its records were answered one after
 -- the other, in whatever fragments they came.
 use Rattle.std.specs.Prelude.{◌≡◌, ℕ, ◌+◌, ◌*◌, ◌<◌, ◌≤◌, ◌^◌, List, [], ◌++◌, length, map}
-use Rattle.std.specs.Prelude.{take, drop, Option, Some, None}
+use Rattle.std.specs.Prelude.{drop, Some}
 use Rattle.std.specs.List.{AllByRecursion}
+use Rattle.sec_base.specs.Moment.{greatest_moment}
 use Rattle.gss_base.specs.declared.mech.MechKind.{MechKind}
 use Rattle.krb_derive.specs.declared.key.Key.{Key}
 use Rattle.rpc_msgs.specs.Records.{Fragments}
@@ -11,73 +12,72 @@ use Rattle.spnego_core.specs.declared.outcome.Outcome.{Outcome}
 use Rattle.accept_book.specs.Booking.{BookOf, names_of}
 use Rattle.accept_core.specs.History.{posts}
 use Rattle.accept_book.specs.RecordShown.{KeptAnswers}
-use Rattle.accept_book.specs.declared.book_answer.NegAnswer.{NegAnswer}
-use Rattle.accept_book.specs.declared.book_answer.NegAnswer.TheVariants.{Going, Settled, Refused}
-use Rattle.accept_book.specs.declared.book_answer.NegAnswer.TheVariants.{NoMemory}
-use Rattle.accept_book.specs.declared.book_answer.Negotiated.{Negotiated}
 use Rattle.accept_core.specs.declared.entry.Entry.{Entry}
 use Rattle.gss_client.specs.declared.start.Start.{Start}
 use Rattle.gss_server.specs.Connections.{octets_of, written_in}
 use Rattle.gss_server.specs.Hearing.{kept_answers}
 use Rattle.gss_server.specs.declared.answer.Kept.{Kept}
 use Rattle.pair_laws.specs.Conferring.{DueCall, talk_of}
-use Rattle.pair_laws.specs.Creation.{SameLimits, Enters}
+use Rattle.pair_laws.specs.Creation.{IsAt, SameLimits, Enters, padded}
 use Rattle.pair_laws.specs.Honest.{occasion_of}
 use Rattle.pair_laws.specs.Resting.{RestsAt}
 use Rattle.pair_laws.specs.Rows.{AreAnswered, IsNoRecord, history_after, results_by}
 use Rattle.pair_laws.specs.Running.{IsName, calls_made, parting_of}
 use Rattle.pair_laws.specs.Sessions.{ArePlanned, made_of}
+use Rattle.pair_laws.specs.Walking.{IsNamed}
 use Rattle.pair_laws.specs.Whole.{posts_behind}
 
 -- what was kept of answers, in the terms of the rule of a record
 abbrev pub kept_of : List Kept → List KeptAnswers
 kept_of answers = map kept_answers answers
 
--- an answer to a token goes on, or it settles a context that doesn't end before this moment; its
--- own token has at most 65,536 octets
-abbrev pub IsTakenAnswer : ℕ → NegAnswer → Type 0
-IsTakenAnswer moment (Going id token) = length token ≤ 65536
-IsTakenAnswer moment (Settled lease token) = (length token ≤ 65536) × (moment ≤ lease.ends)
-IsTakenAnswer moment (Refused refusal) = ⊥
-IsTakenAnswer moment NoMemory = ⊥
+-- what a session's talk wrote are these records and no other, which a book at rest answered, all
+-- of them at the moment of the client's stamp; with what was drawn for the first answers, so many,
+-- both ends are an honest pair
+pub record IsServed (width lasts tokens : ℕ) (start : Start) (kind : MechKind) (count moment : ℕ)
+    (due : List DueCall) (confounders stream : List ℕ) (old new : BookOf)
+    (records : List Fragments) (answers : List Kept) (tail : List ℕ) : Type 0 where
+  -- the link
+  pub answered : AreAnswered width lasts records answers old new
+  pub none : IsNoRecord tail
+  pub written : (talk_of start due confounders stream).written ≡ octets_of records ++ tail
+  pub heard : stream ≡ written_in width records answers
+  pub some_width : 0 < width
+  pub width_fits : width < 2 ^ 32
+  -- the answers
+  pub pair : HonestPair old.setup start.setup kind
+      (padded moment tokens (map occasion_of (kept_of answers)))
+  pub moments : AllByRecursion (IsAt moment) (kept_of answers)
+  pub known : moment ≤ greatest_moment
+  pub stamp : start.setup.stamp ≡ moment
+  -- the book
+  pub rests : RestsAt count moment old.core
+  pub number : count + 1 < 2 ^ 64
+  pub wide : 0 < old.core.width
+  pub table : 0 < old.core.table.limit
+  pub cache : count < old.core.cache.capacity
+  pub log : length old.core.history + 4 * tokens + length due < old.core.limit
+  -- the session
+  pub some : 0 < start.first
+  pub planned : ArePlanned start.service start.first due confounders
 
--- so is the answer that was kept, where one was
-abbrev pub IsTakenFrom : ℕ → Option Negotiated → Type 0
-IsTakenFrom moment None = Unit {0}
-IsTakenFrom moment (Some negotiated) = IsTakenAnswer moment negotiated.answer
+-- such a session is created: it tells an outcome
+abbrev pub CreatedLaw : Type 0
+CreatedLaw =
+    (width lasts tokens : ℕ) (start : Start) (kind : MechKind) (count moment : ℕ)
+    (due : List DueCall) (confounders stream : List ℕ) (old new : BookOf)
+    (records : List Fragments) (answers : List Kept) (tail : List ℕ)
+    → IsServed width lasts tokens start kind count moment due confounders stream old new records
+    answers tail
+    → (agreed : Outcome) × ((talk_of start due confounders stream).outcome ≡ Some agreed)
 
--- the answer came at this moment, and is such
-abbrev pub IsTakenBy : ℕ → KeptAnswers → Type 0
-IsTakenBy moment kept = (kept.now ≡ moment) × IsTakenFrom moment kept.negotiated
-
--- what a session's talk wrote are these records and no other, which a book at rest answered; the
--- first answers, so many, took the tokens of an honest pair; all of them came at one moment; and
--- the session tells this outcome, on this key
+-- the same of a session that tells this outcome, on this key
 pub record IsLinked (key : Key) (width lasts tokens : ℕ) (start : Start) (kind : MechKind)
     (count moment : ℕ) (due : List DueCall) (confounders stream : List ℕ) (old new : BookOf)
     (records : List Fragments) (answers : List Kept) (tail : List ℕ) (outcome : Outcome) : Type 0
   where
-    -- the link
-    pub answered : AreAnswered width lasts records answers old new
-    pub none : IsNoRecord tail
-    pub written : (talk_of start due confounders stream).written ≡ octets_of records ++ tail
-    pub heard : stream ≡ written_in width records answers
-    pub some_width : 0 < width
-    pub width_fits : width < 2 ^ 32
-    -- the answers
-    pub enough : tokens ≤ length answers
-    pub pair : HonestPair old.setup start.setup kind
-        (map occasion_of (take tokens (kept_of answers)))
-    pub taken : AllByRecursion (IsTakenBy moment) (kept_of answers)
-    -- the book
-    pub rests : RestsAt count moment old.core
-    pub number : count + 1 < 2 ^ 64
-    pub wide : 0 < old.core.width
-    pub table : 0 < old.core.table.limit
-    pub log : length old.core.history + 4 * tokens + length due < old.core.limit
-    -- the session
-    pub some : 0 < start.first
-    pub planned : ArePlanned start.service start.first due confounders
+    pub served : IsServed width lasts tokens start kind count moment due confounders stream old new
+        records answers tail
     pub told : (talk_of start due confounders stream).outcome ≡ Some outcome
     pub key_is : outcome.key ≡ key
     pub name : IsName outcome.initiator
@@ -89,6 +89,7 @@ pub record LinkedDone (tokens : ℕ) (start : Start) (kind : MechKind) (count mo
     (due : List DueCall) (confounders stream : List ℕ) (old new : BookOf) (outcome : Outcome)
     : Type 0 where
   pub mech : outcome.mech ≡ kind
+  pub named : IsNamed start.setup kind outcome
   pub results_are : (talk_of start due confounders stream).results
       ≡ results_by (posts old.core.history) outcome.initiator (made_of start.first due)
   pub parts : (talk_of start due confounders stream).parting

@@ -29,15 +29,12 @@ abbrev pub IsBefore : ℕ → TakenMark → Type 0
 IsBefore moment taken = taken.mark.at < moment
 
 -- no context lives, so many ids were opened and no other one called, and no moment behind this one
--- was seen
+-- was seen; at most one mark an id was taken, each before this moment
 pub record RestsAt (count moment : ℕ) (core : Accepting AcceptEnd Outcome) : Type 0 where
   pub empty : (id : ℕ) → slot_at core.table id ≡ None
   pub ids : opened core.history ≡ count
   pub uncalled : (id : ℕ) → count < id → numbers id core.history ≡ []
   pub seen : core.cache.greatest ≤ moment
-
--- at most one mark an id was taken, each before this moment
-pub record MarksRest (count moment : ℕ) (core : Accepting AcceptEnd Outcome) : Type 0 where
   pub marks : AllByRecursion (IsBefore moment) (taken_of core.history)
   pub few : length (taken_of core.history) ≤ count
 
@@ -62,6 +59,8 @@ pub record HoldsOne (id count moment : ℕ) (core : Accepting AcceptEnd Outcome)
   pub ids : opened core.history ≡ count
   pub uncalled : (other : ℕ) → count < other → numbers other core.history ≡ []
   pub seen : core.cache.greatest ≤ moment
+  pub marks : AllByRecursion (IsBefore moment) (taken_of core.history)
+  pub few : length (taken_of core.history) ≤ count
 
 -- an answer's moment isn't behind this one
 abbrev pub IsBy : ℕ → KeptAnswers → Type 0
@@ -78,25 +77,16 @@ pub record RestLaw : Type 0 where
   pub gives : (count moment : ℕ) (core : Accepting AcceptEnd Outcome)
       → RestsAt count moment core → RestGives count moment core
   pub opens : (count moment : ℕ) (setup : AcceptSetup) (core : Accepting AcceptEnd Outcome)
-      (token : List ℕ) (kept : KeptAnswers) → RestsAt count moment core
-      → MarksRest count moment core → kept.now ≡ moment → length core.history + 4 ≤ core.limit
-      → 0 < core.table.limit → count < core.cache.capacity → MarksAt setup moment token kept
-      → HasPlaces setup core None token kept
+      (token : List ℕ) (kept : KeptAnswers) → RestsAt count moment core → kept.now ≡ moment
+      → length core.history + 4 ≤ core.limit → 0 < core.table.limit → count < core.cache.capacity
+      → MarksAt setup moment token kept → HasPlaces setup core None token kept
   pub ends : (id count moment first : ℕ) (made : List DueCall) (turns : List Turn)
       (old new : BookOf) → HoldsOne id count moment old.core
       → RowLeaves id first made turns old new → AllByRecursion (IsBy moment) (answers_of turns)
       → RestsAt count moment new.core
-  -- the same of the marks: one of this moment, where the cache has room for one an id, is taken, as
-  -- it is neither stale nor a repeat
-  pub marks_begin : (moment : ℕ) (core : Accepting AcceptEnd Outcome) → core.history ≡ []
-      → MarksRest 0 moment core
-  pub marks_stay : (count moment later : ℕ) (core : Accepting AcceptEnd Outcome)
-      → MarksRest count moment core → moment ≤ later → MarksRest count later core
+  -- a mark of this moment, where the cache has room for one an id, is taken, as it is neither stale
+  -- nor a repeat
   pub marks_give : (count moment : ℕ) (core : Accepting AcceptEnd Outcome) (mark : Mark)
-      → core.cache.greatest ≤ moment → MarksRest count moment core → mark.at ≡ moment
-      → count < core.cache.capacity
+      → RestsAt count moment core → mark.at ≡ moment → count < core.cache.capacity
       → (cache_verdict core.cache.capacity (max core.cache.greatest moment) (taken_of core.history)
       mark ≡ Taken)
-  pub marks_end : (id count moment first : ℕ) (made : List DueCall) (turns : List Turn)
-      (old new : BookOf) → MarksRest count moment old.core
-      → RowLeaves id first made turns old new → MarksRest count moment new.core

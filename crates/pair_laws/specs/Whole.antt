@@ -7,24 +7,16 @@ use Rattle.rpc_msgs.specs.Records.{Fragments}
 use Rattle.spnego_core.specs.declared.outcome.Outcome.{Outcome}
 use Rattle.accept_book.specs.Booking.{BookOf, names_of}
 use Rattle.accept_core.specs.History.{posts}
-use Rattle.accept_book.specs.RecordShown.{KeptAnswers}
-use Rattle.accept_book.specs.declared.book_answer.Lease.{Lease}
-use Rattle.accept_book.specs.declared.book_answer.NegAnswer.TheVariants.{Settled}
-use Rattle.accept_book.specs.declared.book_answer.Negotiated.{Negotiated}
 use Rattle.accept_core.specs.declared.entry.Entry.{Entry}
 use Rattle.gss_client.specs.Talk.{created_from}
 use Rattle.gss_client.specs.declared.start.Start.{Start}
 use Rattle.pair_laws.specs.Conferring.{DueCall, talk_of}
-use Rattle.pair_laws.specs.Creation.{IsCreation, AreTimed, SameLimits, Enters}
-use Rattle.pair_laws.specs.Resting.{RestsAt, MarksRest, IsBy}
+use Rattle.pair_laws.specs.Creation.{IsCreation, SameLimits, Enters}
+use Rattle.pair_laws.specs.Resting.{RestsAt, IsBy}
 use Rattle.pair_laws.specs.Rows.{IsNoRecord, answers_of, history_after, posts_with, results_by}
 use Rattle.pair_laws.specs.Running.{Turn, sent_in, IsName, calls_made, parting_of}
 use Rattle.pair_laws.specs.Sessions.{ArePlanned, made_of}
-
--- a context that the answer settled lasts beyond this moment
-abbrev pub IsLasting : ℕ → KeptAnswers → Type 0
-IsLasting moment kept = (answer : Negotiated) (lease : Lease) (token : List ℕ)
-    → kept.negotiated ≡ Some answer → answer.answer ≡ Settled lease token → moment ≤ lease.ends
+use Rattle.pair_laws.specs.Walking.{IsNamed}
 
 -- turns in a row from a book at rest with places: those of a creation by an honest pair, and those
 -- of these calls and the end, all of them at one moment; what was written reads as their records
@@ -45,7 +37,6 @@ pub record IsSession (key : Key) (width lasts : ℕ) (start : Start) (kind : Mec
   pub some : 0 < start.first
   pub planned : ArePlanned start.service start.first due confounders
   pub moments : AllByRecursion (IsBy moment) (answers_of back)
-  pub lasting : AllByRecursion (IsLasting moment) (answers_of front)
   pub told : (talk_of start due confounders stream).outcome ≡ Some outcome
   pub key_is : outcome.key ≡ key
   pub name : IsName outcome.initiator
@@ -55,13 +46,15 @@ abbrev pub posts_behind : ℕ → List DueCall → ℕ
 posts_behind count [] = count
 posts_behind count (call ∷ later) = posts_behind (posts_with count call) later
 
--- the outcome is of the chosen mechanism; the session is answered the service's results by the
--- posts of the book, and parts with all calls made or its numbers spent; the book has its calls and
--- its end in the log, behind the entries of its creation, and rests again
+-- the outcome is of the chosen mechanism and has its credential's names; the session is answered
+-- the service's results by the posts of the book, and parts with all calls made or its numbers
+-- spent; the book has its calls and its end in the log, behind the entries of its creation, and
+-- rests again
 pub record SessionDone (width : ℕ) (start : Start) (kind : MechKind) (count moment : ℕ)
     (due : List DueCall) (confounders stream : List ℕ) (old new : BookOf) (front back : List Turn)
     (rest : List ℕ) (outcome : Outcome) : Type 0 where
   pub mech : outcome.mech ≡ kind
+  pub named : IsNamed start.setup kind outcome
   pub session : talk_of start due confounders stream ≡ record {
     written = flat_map sent_in (front ++ back);
     outcome = Some outcome;
@@ -80,8 +73,6 @@ pub record SessionDone (width : ℕ) (start : Start) (kind : MechKind) (count mo
   pub grown : length new.core.history
       ≤ length old.core.history + 4 * length front + length due + 1
   pub limits : SameLimits old new
-  pub marks : AreTimed old.setup count moment old.core front → (later : ℕ) → moment < later
-      → MarksRest (count + 1) later new.core
   pub rests : (later : ℕ) → moment < later → RestsAt (count + 1) later new.core
 
 -- every session in a row on this key is done

@@ -7,7 +7,7 @@ ghost use Rattle.spnego_core.specs.InitMech.{is_own_list};
 ghost use Rattle.gss_client.specs.Conversing.{Leaves};
 ghost use Rattle.pair_laws.specs.Holding.{ConferredOf, TalkedOf};
 
-use crate::run::tell_octets;
+use crate::told::tell_octets;
 use gss_client::{ClientRefusal, Conversation, Parting, Procedure, Session, Start, Talk};
 use sec_base::{Draw, Link, Octets};
 use std::alloc::Global;

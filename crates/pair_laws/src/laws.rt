@@ -5,7 +5,7 @@ ghost use Rattle.pair_laws.specs.Creation.{CreationLaw};
 ghost use Rattle.pair_laws.specs.Ending.{EndLaw};
 ghost use Rattle.pair_laws.specs.HonestCalls.{CallLaw};
 ghost use Rattle.pair_laws.specs.Laws.{PairLaw};
-ghost use Rattle.pair_laws.specs.Linked.{LinkedLaw};
+ghost use Rattle.pair_laws.specs.Linked.{CreatedLaw, LinkedLaw};
 ghost use Rattle.pair_laws.specs.Opening.{StepTurnLaw};
 ghost use Rattle.pair_laws.specs.Resting.{RestLaw};
 ghost use Rattle.pair_laws.specs.Rows.{ChainLaw, RowLaw};
@@ -101,8 +101,8 @@ pub fn prove_rests()
     ensures { RestLaw }
 {}
 
-/// Does nothing; its contract says that a creation whose turns are a row from a book at rest with places is an honest exchange, and what it leaves of
-/// the book.
+/// Does nothing; its contract says that a creation by an honest pair, whose turns are a row from a book at rest with places, all at the moment of the
+/// client's stamp, is an honest exchange: each token is taken, the session is created, and its context lasts. It says what that leaves of the book.
 pub fn prove_creations()
     ensures { CreationLaw }
 {}
@@ -115,6 +115,12 @@ pub fn prove_wholes(key: &Key)
     let _answers = SealKeys::of(key, 22);
     let _calls = SealKeys::of(key, 24);
 }
+
+/// Does nothing; its contract says that a session of an honest pair over a link that answers by a book at rest, all at the moment of the client's stamp,
+/// is created: it tells an outcome.
+pub fn prove_created()
+    ensures { CreatedLaw }
+{}
 
 /// Does nothing that stays; its contract says that a whole session on this key over a link that answers by a book at rest is done, by the link's records
 /// and the answers that were kept for them: it is created, is answered the service's results, and ends, and the book rests again.

@@ -2,17 +2,17 @@
 #![tactic(auto)]
 
 mod conference;
+mod kept;
 mod laws;
 mod meeting;
-mod run;
-mod taken;
+mod told;
 
 pub use conference::{DueCall, hold_calls};
+pub use kept::tell_kept;
 pub use laws::{
-    prove_call_turns, prove_calls, prove_chains, prove_creations, prove_end_turns, prove_ends,
-    prove_equal_calls, prove_links, prove_pair, prove_rests, prove_rows, prove_runs,
+    prove_call_turns, prove_calls, prove_chains, prove_created, prove_creations, prove_end_turns,
+    prove_ends, prove_equal_calls, prove_links, prove_pair, prove_rests, prove_rows, prove_runs,
     prove_sessions, prove_step_turns, prove_wholes,
 };
 pub use meeting::prove_meeting;
-pub use run::{complete_run, tell_name};
-pub use taken::are_taken;
+pub use told::tell_name;

@@ -1,6 +1,6 @@
 use Rattle.std.proofs.Common.{◌∙◌, ◌+◌, ℕ, [], ◌∷◌, length, ap, arith}
 use Rattle.std.proofs.lemmas.List.{length-append}
-use Rattle.drill_command.proofs.Stepping.{octets-more, octets-done, steps-more, steps-done}
+use Rattle.drill_plan.proofs.Steps.{octets-more, octets-done, steps-more, steps-done}
 use Rattle.drill_command.proofs.calls.draw_octets.Goals as goal
 
 pub loop-number-preserved : goal.loop-number-preserved

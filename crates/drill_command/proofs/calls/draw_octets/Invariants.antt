@@ -1,5 +1,5 @@
 use Rattle.std.proofs.Common.{◌≡◌, ◌-◌, ◌++◌, length}
-use Rattle.drill_command.specs.Generator.{octets_from, after_steps}
+use Rattle.drill_plan.specs.Generator.{octets_from, after_steps}
 use Rattle.drill_command.proofs.calls.draw_octets.Given as goal
 
 abbrev pub invariant-loop-number : goal.invariant-loop-number

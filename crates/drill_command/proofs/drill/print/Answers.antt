@@ -1,5 +1,5 @@
 use Rattle.std.proofs.Common.{arith, inr}
-use Rattle.drill_command.proofs.Saying.{known-said, printed-all}
+use Rattle.drill_plan.proofs.Saying.{known-said, printed-all}
 use Rattle.drill_command.proofs.drill.print.Goals as goal
 
 pub returns-in-Ok-clause-printed : goal.returns-in-Ok-clause-printed

@@ -1,8 +1,8 @@
 use Rattle.std.proofs.Common.{◌≡◌, ◌∙◌, ap, arith, Option, Some, None}
-use Rattle.drill_command.specs.declared.words.Plan.{Plan}
-use Rattle.drill_command.specs.Sessions.{session_count}
+use Rattle.drill_plan.specs.declared.words.Plan.{Plan}
+use Rattle.drill_plan.specs.Sessions.{session_count}
 use Rattle.drill_command.proofs.Chained.{held-by}
-use Rattle.drill_command.proofs.Saying.{known-said}
+use Rattle.drill_plan.proofs.Saying.{known-said}
 use Rattle.drill_command.proofs.drill.run_drill.Goals as goal
 
 same-plan : {read : Option Plan} {one other : Plan} → Some one ≡ read → read ≡ Some other → one ≡ other
@@ -33,7 +33,7 @@ pub returns-in-None-clause-said : goal.returns-in-None-clause-said
 returns-in-None-clause-said g c = λ t. (0, rw (← c.in-None.ensures.value) (known-said 2 (omega arith) c.unheld.ensures.status (c.unheld.ensures.said t)))
 
 pub returns-in-Some-clause-held : goal.returns-in-Some-clause-held
-returns-in-Some-clause-held g c = λ plan is e. held-by c.in-Some.plan plan c.run_plan.result.sessions.items c.run_plan.result.log.entries c.run_plan.result.taken (same-plan c.in-Some.ensures.value is) (c.run_plan.ensures.held e)
+returns-in-Some-clause-held g c = λ plan is e. held-by c.in-Some.plan plan c.run_plan.result.sessions.items c.run_plan.result.log.entries (same-plan c.in-Some.ensures.value is) (c.run_plan.ensures.held e)
 
 pub returns-in-Some-clause-drilled : goal.returns-in-Some-clause-drilled
-returns-in-Some-clause-drilled g c = λ plan is e taken unrefused. (held-by c.in-Some.plan plan c.run_plan.result.sessions.items c.run_plan.result.log.entries c.run_plan.result.taken (same-plan c.in-Some.ensures.value is) (c.run_plan.ensures.held e)).done taken unrefused
+returns-in-Some-clause-drilled g c = λ plan is e. (held-by c.in-Some.plan plan c.run_plan.result.sessions.items c.run_plan.result.log.entries (same-plan c.in-Some.ensures.value is) (c.run_plan.ensures.held e)).done

@@ -10,4 +10,4 @@ pub returns-in-Ok-clause-limits : goal.returns-in-Ok-clause-limits
 returns-in-Ok-clause-limits g c = λ e. rw (c.report.ensures.log e) c.in-Ok.ensures.limits
 
 pub returns-in-Ok-clause-held : goal.returns-in-Ok-clause-held
-returns-in-Ok-clause-held g c = λ e. rw (c.report.ensures.held e, c.report.ensures.log e, c.report.ensures.taken e) c.in-Ok.ensures.held
+returns-in-Ok-clause-held g c = λ e. rw (c.report.ensures.held e, c.report.ensures.log e) c.in-Ok.ensures.held

@@ -19,7 +19,7 @@ loop-number-preserved c =
       records = g.ensures.records;
       limits = g.ensures.limits ∙ i.limits;
       place = value-more c.args.plan.seed c.args.plan.calls c.loop-number.number _ _ _ c.calls_in.ensures i.place g.ensures.place;
-      held = (i.held.0, i.held.1, held-more c.args.plan.seed c.args.plan.calls c.loop-number.number _ _ i.held.0 _ _ _ _ _ _ c.calls_in.ensures i.place i.held.2 g.ensures.added);
+      held = (i.held.0, i.held.1, held-more c.args.plan.seed c.args.plan.calls c.loop-number.number _ _ _ i.held.0 _ _ _ _ c.calls_in.ensures i.place i.held.2 g.ensures.added);
     }
 
 pub returns-clause-limits : goal.returns-clause-limits
@@ -28,4 +28,4 @@ returns-clause-limits c = rw (c.into_log.ensures.width, c.into_log.ensures.limit
 pub returns-clause-held : goal.returns-clause-held
 returns-clause-held c =
     let i = c.loop-number.invariant in
-    all-held c.args.plan.seed c.args.plan.calls c.loop-number.number i.held.0 _ _ _ _ c.requires (omega (arith, c.loop-number-test.false)) i.held.1 i.held.2 c.into_log.ensures.entries
+    all-held c.args.plan.seed c.args.plan.calls c.loop-number.number i.held.0 _ _ _ c.requires (omega (arith, c.loop-number-test.false)) i.held.1 i.held.2 c.into_log.ensures.entries

@@ -1,7 +1,11 @@
+use Rattle.std.proofs.Common.{subst, List}
 use Rattle.std.proofs.Math.Logic.{∥∥₁_elim, ∥∥₁_map}
 use Rattle.std.proofs.Props.{props}
+use Rattle.std.specs.List.{AllByRecursion}
+use Rattle.gss_server.specs.declared.answer.Kept.{Kept}
+use Rattle.drill_command.specs.Paired.{HasOctets}
 use Rattle.drill_command.proofs.Limits.{looped}
-use Rattle.drill_command.proofs.Rested.{session-rests}
+use Rattle.drill_command.proofs.Rested.{at-moments, session-rests}
 use Rattle.drill_command.proofs.sessions.hold_session.Goals as goal
 
 pub returns-clause-limits : goal.returns-clause-limits
@@ -9,7 +13,16 @@ returns-clause-limits c =
     let h = c.in_ok-held.held in
     ∥∥₁_elim c.in_ok-held.ensures.held (search props) (λ p. looped c.args.book h.book 128 c.args.now _ _ h.kept.items p.looped.0 h.starved p.looped.1)
 
-pub returns-clause-rests : goal.returns-clause-rests
-returns-clause-rests c = λ taken fed none tokens kind count fits.
+pub returns-clause-moments : goal.returns-clause-moments
+returns-clause-moments c =
     let h = c.in_ok-held.held in
-    ∥∥₁_map c.in_ok-held.ensures.held (λ p. session-rests c.args.book h.book c.args.now c.args.start c.args.calls.now h.kept.items h.starved h.session.outcome h.session.results.items h.session.ended tokens count kind c.requires.first c.tell_link.ensures (c.in_ok-held.ensures.taken taken) (c.in_ok-held.ensures.kept taken) fed none fits p)
+    ∥∥₁_elim c.in_ok-held.ensures.held (search props) (λ p. at-moments c.args.now h.kept.items p.looped.1.timed)
+
+pub returns-clause-octets : goal.returns-clause-octets
+returns-clause-octets c = subst (λ (ks : List Kept). AllByRecursion HasOctets ks) c.as_slice.ensures.value c.tell_kept.ensures
+
+pub returns-clause-rests : goal.returns-clause-rests
+returns-clause-rests c = λ fed client tokens kind count fits.
+    let h = c.in_ok-held.held in
+    ∥∥₁_map c.in_ok-held.ensures.held (λ p. session-rests c.args.book h.book c.args.now c.args.start c.args.calls.now h.kept.items h.starved h.session tokens count kind c.requires.first c.prove_created.ensures c.tell_link.ensures
+    (subst (λ (ks : List Kept). AllByRecursion HasOctets ks) c.as_slice.ensures.value c.tell_kept.ensures) c.in_ok-held.ensures.fault fed client fits p)

@@ -1,4 +1,4 @@
-use Rattle.pair_laws.proofs.Resting.{rests-begin, rests-on, rests-give, rests-open, rests-again, marks-begin, marks-on, marks-give, marks-again}
+use Rattle.pair_laws.proofs.Resting.{rests-begin, rests-on, rests-give, rests-open, rests-again, marks-give}
 use Rattle.pair_laws.proofs.laws.prove_rests.Goals as goal
 
 pub returns : goal.returns
@@ -8,8 +8,5 @@ returns c = record {
   gives = rests-give;
   opens = rests-open;
   ends = rests-again;
-  marks_begin = marks-begin;
-  marks_stay = marks-on;
   marks_give = marks-give;
-  marks_end = marks-again;
 }

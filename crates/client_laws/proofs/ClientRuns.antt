@@ -1,0 +1,129 @@
+-- A run of the client that an honest server answers is complete.
+use Rattle.std.proofs.Common.{◌≡◌, ◌≢◌, ℕ, ◌+◌, ◌*◌, ◌≤◌, Bool, true, IsTrue, refl, ap, sym, subst, ◌∙◌, arith, List, ◌++◌, length, drop, replicate, Option, Some, Result, Ok, length-append}
+use Rattle.std.specs.List.{flat_map}
+use Rattle.std.proofs.lemmas.List.{length-drop, length-replicate}
+use Rattle.sec_base.specs.Link.{Wire}
+use Rattle.sec_base.specs.declared.shelf.NamedFile.{NamedFile}
+use Rattle.accept_book.specs.Honest.{IsOctets}
+use Rattle.accept_book.specs.Served.{are_args}
+use Rattle.aes_cts.proofs.Restored.{append-IsOctets, replicate-IsOctets}
+use Rattle.rpc_msgs.specs.Records.{last_fragment}
+use Rattle.spnego_core.specs.declared.setup.AcceptSetup.{AcceptSetup}
+use Rattle.spnego_core.specs.declared.setup.MechCred.{MechCred}
+use Rattle.spnego_core.specs.declared.outcome.Outcome.{Outcome}
+use Rattle.gss_client.specs.declared.procedure.Procedure.{Procedure}
+use Rattle.rpcsec_bodies.specs.declared.service.Service.TheVariants as services
+use Rattle.gss_client.specs.declared.start.Start.{Start}
+use Rattle.gss_client.specs.Conversation.{Conversed, converses, Talk, talk, by_session, by_creation}
+use Rattle.gss_client.specs.Procedure.{procedure_number}
+use Rattle.gss_client.specs.Session.{SessionState}
+use Rattle.gss_client.specs.Talking.{Said}
+use Rattle.client_command.specs.Credentials.{creds_from}
+use Rattle.client_command.specs.Endings.{end_of}
+use Rattle.client_command.specs.Runs.{start_of, planned, Spoke, HasHeld, HasSpoken}
+use Rattle.client_command.specs.Words.{words_of, IsRanged}
+use Rattle.client_command.specs.declared.ending.RunEnd.{RunEnd}
+use Rattle.client_command.specs.declared.ending.RunEnd.TheVariants.{LinkFault, NoMemory}
+use Rattle.client_command.specs.declared.words.ClientWords.{ClientWords}
+use Rattle.client_command.specs.declared.words.Plan.{Plan}
+use Rattle.cli_base.specs.declared.given.WordsRefusal.{WordsRefusal}
+use Rattle.client_command.proofs.Arguments.{words-own}
+use Rattle.pair_laws.specs.Booked.{id_in}
+use Rattle.pair_laws.specs.Honest.{HonestExchange}
+use Rattle.pair_laws.specs.HonestCalls.{session_on}
+use Rattle.pair_laws.specs.Laws.{Completes}
+use Rattle.pair_laws.specs.Live.{lease_on}
+use Rattle.pair_laws.specs.Running.{sent_in, IsPlan, HonestRun, calls_made}
+use Rattle.client_laws.specs.ClientRun.{HonestServer, Answers, Completed, OutcomeTold}
+use Rattle.pair_laws.proofs.Completing.{same-behind}
+use Rattle.pair_laws.proofs.SessionParts.{few-made}
+use Rattle.client_laws.proofs.WordsAsked.{own-args}
+
+-- the session of an exchange that completes
+abbrev session_of : (setup : AcceptSetup) (width : ℕ) (start : Start) (stream : List ℕ) (x : HonestExchange setup width start stream) → Completes setup width start stream x → SessionState
+session_of setup width start stream x c = session_on (lease_on (id_in x.books) c.outcome c.lasts) start.service start.first (1 + length x.answers)
+
+talk-is : (setup : AcceptSetup) (width : ℕ) (start : Start) (stream : List ℕ) (x : HonestExchange setup width start stream) (c : Completes setup width start stream x) (times : ℕ) (procedure : Procedure) (args draws : List ℕ)
+    → talk start times procedure args draws stream ≡ by_session (flat_map last_fragment x.converses.records) (Some c.outcome) (converses times procedure args (session_of setup width start stream x c) draws x.converses.rest)
+unfolding talk
+talk-is setup width start stream x c times procedure args draws = ap (λ (q : Said SessionState). by_creation times procedure args draws q.written q.rest q.answer) c.session
+
+planned-so : (plan : Plan) (confounders : List ℕ) (count : ℕ) → IsRanged plan → are_args (procedure_number plan.procedure) plan.args ≡ true → (plan.service ≡ services.None → procedure_number plan.procedure ≡ 0) → IsOctets confounders
+    → IsPlan plan.service plan.first plan.procedure plan.args (confounders ++ replicate count 0)
+planned-so plan confounders count ranged proper protected octets = record {
+  first_fits = omega (arith, ranged.first);
+  proper = proper;
+  protected = protected;
+  size = ranged.args;
+  args_octets = ranged.octets;
+  octets = append-IsOctets confounders (replicate count 0) octets (replicate-IsOctets count);
+}
+
+all-drawn : (confounders : List ℕ) (made times : ℕ) → made ≤ times → drop (16 * made) (confounders ++ replicate (16 * times) 0) ≡ replicate (16 * times) 0 → length confounders ≡ 16 * made
+all-drawn confounders made times few e =
+    omega (arith, few, ap (length {A = ℕ}) e, length-drop (16 * made) (confounders ++ replicate (16 * times) 0), length-append confounders (replicate (16 * times) 0), length-replicate {A = ℕ} (16 * times) 0)
+
+pub completed : {clock draw : Bool} {moments moments' given given' : List ℕ} {plan : Plan} {creds : List MechCred} {old new : Wire} {outcome : Option Outcome} {results : List (List ℕ)} {end : RunEnd} → ((o : Outcome) → outcome ≡ Some o → OutcomeTold o) → IsRanged plan → are_args (procedure_number plan.procedure) plan.args ≡ true
+    → Spoke clock moments moments' draw given given' plan creds old new outcome results end → (server : Answers clock moments moments' draw given given' plan creds old new) → end ≢ LinkFault → end ≢ NoMemory
+    → Completed clock moments moments' draw given given' plan creds old new server outcome results end
+completed {clock} {draw} {moments} {moments'} {given} {given'} {plan} {creds} {old} {new} {outcome} {results} {end} told ranged proper s server link memory =
+    let start : Start = start_of plan creds s.stamp s.draws in
+    let stream : List ℕ = s.took ++ new.coming in
+    let h : HonestServer start plan s.confounders s.wrote stream = server s.stamp s.draws s.confounders s.took s.wrote s.drew s.went in
+    let c = h.created in
+    let x = h.exchange in
+    let later : List ℕ = replicate (16 * plan.times) 0 in
+    let draws : List ℕ = s.confounders ++ later in
+    let t : Talk = planned plan creds s.stamp s.draws draws stream in
+    let w = s.whole link memory later in
+    let front : List ℕ = flat_map last_fragment x.converses.records in
+    let conv : Conversed = converses plan.times plan.procedure plan.args (session_of h.setup h.width start stream x c) draws x.converses.rest in
+    let is : t ≡ by_session front (Some c.outcome) conv = talk-is h.setup h.width start stream x c plan.times plan.procedure plan.args draws in
+    let wrote : front ++ conv.written ≡ front ++ flat_map sent_in h.turns = sym (ap (λ (k : Talk). k.written) is) ∙ (w.written ∙ h.written) in
+    let outcome_is : outcome ≡ Some c.outcome = sym w.outcome_is ∙ ap (λ (k : Talk). k.outcome) is in
+    let known = told c.outcome outcome_is in
+    let made : ℕ = calls_made plan.first plan.times in
+    let r : HonestRun h.setup h.width start stream x c plan.times plan.procedure plan.args draws = record {
+      turns = h.turns;
+      rest = h.rest;
+      written = same-behind front conv.written (flat_map sent_in h.turns) wrote;
+      heard = h.heard;
+      served = h.served;
+      unused = h.unused;
+      plan = planned-so plan s.confounders (16 * plan.times) ranged proper h.protected h.octets;
+      enough = omega (arith, length-append s.confounders later, length-replicate {A = ℕ} (16 * plan.times) 0);
+      name = known.name;
+    } in
+    let g = known.runs h.setup h.width start stream x c plan.times plan.procedure plan.args draws refl r in record {
+      stamp = s.stamp;
+      draws = s.draws;
+      confounders = s.confounders;
+      took = s.took;
+      wrote = s.wrote;
+      drew = s.drew;
+      went = s.went;
+      completed = record {
+        outcome_is = outcome_is;
+        results_are = sym w.results_are ∙ ap (λ (k : Talk). k.results) g.session;
+        ends = w.ends ∙ ap (λ (k : Talk). end_of k.parting) g.session;
+        drawn = all-drawn s.confounders made plan.times (few-made plan.first plan.times) (sym (ap (λ (k : Talk). k.undrawn) g.session) ∙ w.undrawn_is);
+        logged = g.logged;
+      };
+    }
+
+same-words : {read : Result ClientWords WordsRefusal} {one other : ClientWords} → read ≡ Ok one → read ≡ Ok other → one ≡ other
+same-words here there = cc
+
+same-creds : {due : Result (List MechCred) RunEnd} {one other : List MechCred} → due ≡ Ok one → due ≡ Ok other → one ≡ other
+same-creds here there = cc
+
+-- the same of what the run says that it did
+pub has-completed : {words : List (List ℕ)} {shelf : Bool} {files : List NamedFile} {clock draw : Bool} {moments moments' given given' : List ℕ} {old new : Wire} {outcome : Option Outcome} {results : List (List ℕ)} {end : RunEnd} (asked : ClientWords) (creds : List MechCred) → ((o : Outcome) → outcome ≡ Some o → OutcomeTold o)
+    → words_of words ≡ Ok asked → IsTrue shelf → creds_from files asked.sources ≡ Ok creds → HasSpoken words shelf files clock moments moments' draw given given' old new outcome results end
+    → (server : Answers clock moments moments' draw given given' asked.plan creds old new) → end ≢ LinkFault → end ≢ NoMemory → Completed clock moments moments' draw given given' asked.plan creds old new server outcome results end
+has-completed {words} {shelf} {files} {clock} {draw} {moments} {moments'} {given} {given'} {old} {new} {outcome} {results} {end} asked creds told is shelf_tells due h server link memory =
+    let same : h.asked ≡ asked = same-words h.read is in
+    let held : HasHeld asked shelf files clock moments moments' draw given given' old new outcome results end = subst (λ (a : ClientWords). HasHeld a shelf files clock moments moments' draw given given' old new outcome results end) same h.held in
+    let creds_same : held.creds ≡ creds = same-creds (held.found shelf_tells) due in
+    let spoke : Spoke clock moments moments' draw given given' asked.plan creds old new outcome results end = subst (λ (cs : List MechCred). Spoke clock moments moments' draw given given' asked.plan cs old new outcome results end) creds_same held.spoke in
+    completed told held.ranged (own-args asked.plan.procedure asked.plan.args (words-own words asked is)) spoke server link memory

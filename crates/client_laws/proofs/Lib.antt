@@ -1,0 +1,2 @@
+mod ClientRuns
+mod WordsAsked

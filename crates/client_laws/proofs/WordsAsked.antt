@@ -1,0 +1,21 @@
+-- What the words of the client ask for is a procedure with its own arguments.
+use Rattle.std.proofs.Common.{◌≡◌, ℕ, true, refl, ap, ◌∙◌, List, []}
+use Rattle.accept_book.specs.Served.{is_one_opaque, are_args}
+use Rattle.gss_client.specs.Procedure.{procedure_number}
+use Rattle.gss_client.specs.declared.procedure.Procedure.{Procedure}
+use Rattle.gss_client.specs.declared.procedure.Procedure.TheVariants.{Null, Echo, Whoami, Post, Count}
+use Rattle.client_command.specs.Words.{IsData, IsArgument}
+use Rattle.pair_laws.proofs.SpelledAlone.{one-fits}
+
+data-fits : (args : List ℕ) → IsData args → is_one_opaque args ≡ true
+data-fits args d = ap is_one_opaque d.spelled ∙ one-fits d.octets d.few
+
+nothing-is : (procedure : Procedure) (args : List ℕ) → args ≡ [] → are_args (procedure_number procedure) [] ≡ true → are_args (procedure_number procedure) args ≡ true
+nothing-is procedure args e h = ap (λ (zs : List ℕ). are_args (procedure_number procedure) zs) e ∙ h
+
+pub own-args : (procedure : Procedure) (args : List ℕ) → IsArgument procedure args → are_args (procedure_number procedure) args ≡ true
+own-args Null args h = nothing-is Null args h refl
+own-args Echo args h = data-fits args h
+own-args Whoami args h = nothing-is Whoami args h refl
+own-args Post args h = data-fits args h
+own-args Count args h = nothing-is Count args h refl

@@ -1,0 +1,68 @@
+//! A run of the client against an honest server.
+
+ghost use Rattle.std.specs.Prelude.{◌≡◌, ◌≢◌, ◌⊎◌, List, IsTrue, Option, Some, Ok, false};
+ghost use Rattle.sec_base.specs.Answers.{Rose};
+ghost use Rattle.cli_base.specs.Lines.{SaysLine, Says};
+ghost use Rattle.spnego_core.specs.declared.setup.MechCred.{MechCred};
+ghost use Rattle.spnego_core.specs.declared.outcome.Outcome.{Outcome as OutcomeIs};
+ghost use Rattle.client_command.specs.Credentials.{creds_from};
+ghost use Rattle.client_command.specs.Endings.{status_of, line_of};
+ghost use Rattle.client_command.specs.Lines.{lines};
+ghost use Rattle.client_command.specs.Runs.{names_of, procedure_of};
+ghost use Rattle.client_command.specs.Words.{words_of};
+ghost use Rattle.client_command.specs.declared.words.ClientWords.{ClientWords as ClientWordsIs};
+ghost use Rattle.client_laws.specs.ClientRun.{Answers, Completed, OutcomeTold};
+
+use client_command::{ClientEnd, RunEnd, run_client};
+use pair_laws::{prove_runs, tell_name};
+use sec_base::{Clock, Draw, Link, Shelf, Sink, Text};
+use spnego_core::Outcome;
+use std::alloc::Global;
+
+/// Does nothing that stays: what is told of an outcome, where there is one.
+fn tell_outcome(outcome: &Option<Outcome>)
+    ensures { (o : OutcomeIs) → outcome.now ≡ Some o → OutcomeTold o }
+{
+    if let Some(outcome) = outcome {
+        prove_runs(&outcome.key);
+        tell_name(&outcome.initiator);
+    }
+}
+
+/// Runs the client, as `run_client` does; its contract says besides that the run is complete where an honest server answers it: over a link
+/// and files that don't fail, want of memory aside, it ends with status 0, or 13 if the numbers are spent, and the context is destroyed.
+pub fn complete_run<F: Shelf, L: Link, C: Clock, D: Draw, O: Sink>(
+    alloc: Global,
+    words: &[Text],
+    shelf: &mut F,
+    link: &mut L,
+    clock: &mut C,
+    draw: &mut D,
+    out: &mut O,
+    err: &mut O,
+) -> ClientEnd
+    requires unclosed { L.closed link.old ≡ false }
+    ensures completes { (asked : ClientWordsIs) (creds : List MechCred)
+        → words_of words.now ≡ Ok asked → IsTrue (F.tells shelf.old)
+        → creds_from (F.files shelf.old) asked.sources ≡ Ok creds → IsTrue (L.tells link.old)
+        → (server : Answers (C.tells clock.new) (C.given clock.old) (C.given clock.new)
+        (D.tells draw.new) (D.given draw.old) (D.given draw.new) asked.plan creds (L.wire link.old)
+        (L.wire link.new)) → (Rose (F.faults shelf.old) (F.faults shelf.new) → ⊥)
+        → (Rose (L.faults link.old) (L.faults link.new) → ⊥) → result.end ≢ RunEnd.NoMemory
+        → Completed (C.tells clock.new) (C.given clock.old) (C.given clock.new)
+        (D.tells draw.new) (D.given draw.old) (D.given draw.new) asked.plan creds (L.wire link.old)
+        (L.wire link.new) server result.outcome result.results.items result.end }
+    // The status, and what is printed, are those of the end, the outcome and the results.
+    ensures status { result.status ≢ 6 → result.status ≢ 8 → result.status ≡ status_of result.end }
+    ensures sink_fault { result.status ≡ 6
+        → Rose (O.faults out.old) (O.faults out.new) ⊎ Rose (O.faults err.old) (O.faults err.new) }
+    ensures printed { IsTrue (O.tells out.old)
+        → SaysLine (O.written out.old) (O.written out.new) result.status
+        (lines (procedure_of (words_of words.now)) result.outcome result.results.items) }
+    ensures said { IsTrue (O.tells err.old) → Says (O.written err.old) (O.written err.new)
+        result.status (line_of (names_of (words_of words.now)) result.end) }
+{
+    let end = run_client(alloc, words, shelf, link, clock, draw, out, err);
+    tell_outcome(&end.outcome);
+    end
+}

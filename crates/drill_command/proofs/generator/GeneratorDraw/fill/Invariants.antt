@@ -1,9 +1,0 @@
-use Rattle.std.proofs.Common.{◌≡◌, take}
-use Rattle.drill_command.specs.Generator.{octets_from, after_steps}
-use Rattle.drill_command.proofs.generator.GeneratorDraw.fill.Given as goal
-
-abbrev pub invariant-loop-octet : goal.invariant-loop-octet
-invariant-loop-octet l = record {
-  octets : take l.octet-index l.out ≡ octets_from l.octet-index l.fn.self.value;
-  place : l.self.value ≡ after_steps l.octet-index l.fn.self.value;
-}

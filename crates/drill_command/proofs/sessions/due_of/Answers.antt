@@ -1,0 +1,8 @@
+use Rattle.std.proofs.Common.{ℕ, ap, ◌∙◌}
+use Rattle.drill_plan.specs.Generator.{octets_from}
+use Rattle.drill_plan.specs.Setting.{drill_start}
+use Rattle.drill_command.proofs.sessions.due_of.Goals as goal
+
+pub returns-in-Ok-clause-start : goal.returns-in-Ok-clause-start
+returns-in-Ok-clause-start c =
+    c.in-Ok.ensures.is ∙ ap (λ (m : ℕ). drill_start c.args.number m (octets_from 66 c.args.generators.now.client.value)) c.moment_of.ensures

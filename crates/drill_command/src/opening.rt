@@ -1,0 +1,27 @@
+//! The book that a drill begins with.
+
+ghost use Rattle.std.specs.Prelude.{◌≡◌, IfOk, []};
+ghost use Rattle.pair_laws.specs.Resting.{RestsAt};
+ghost use Rattle.drill_plan.specs.Limits.{book_limits, drill_limits};
+ghost use Rattle.drill_plan.specs.Sessions.{moment_of};
+ghost use Rattle.drill_plan.specs.Setting.{drill_acceptor};
+
+use accept_book::Book;
+use drill_plan::{LIMITS, acceptor, moment_of};
+use pair_laws::prove_rests;
+use sec_base::NoMemory;
+use std::alloc::Global;
+
+/// The book of a drill, at the moment of its first session.
+pub fn open_book(alloc: Global) -> Result<Book, NoMemory>
+    ensures limits { IfOk result (λ book. book_limits book ≡ drill_limits) }
+    ensures setup { IfOk result (λ book. book.setup ≡ drill_acceptor) }
+    // and it has no entry and is at rest
+    ensures history { IfOk result (λ book. book.core.history ≡ []) }
+    ensures rests { IfOk result (λ book. RestsAt 0 (moment_of 0) book.core) }
+{
+    prove_rests();
+    let setup = acceptor(alloc)?;
+    let book = Book::open(alloc, setup, LIMITS, moment_of(0))?;
+    Ok(book)
+}

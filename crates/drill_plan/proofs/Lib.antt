@@ -1,0 +1,4 @@
+pub mod Steps
+pub mod Saying
+pub mod Ticket
+pub mod Verifying

@@ -1,9 +1,0 @@
-use Rattle.std.proofs.Common.{◌≡◌, ℕ, ◌<◌, slice_get, Some}
-use Rattle.accept_book.specs.Honest.{IsOctets}
-use Rattle.gss_server.specs.Hearing.{kept_answers}
-use Rattle.gss_server.specs.declared.answer.Kept.{Kept}
-use Rattle.pair_laws.specs.Linked.{IsTakenBy}
-use Rattle.pair_laws.proofs.taken.are_taken.Given as goal
-
-abbrev pub invariant-loop-one : goal.invariant-loop-one
-invariant-loop-one l = (i : ℕ) (kept : Kept) → i < l.one-index → slice_get l.kept i ≡ Some kept → IsTakenBy l.moment (kept_answers kept) × IsOctets kept.draws
