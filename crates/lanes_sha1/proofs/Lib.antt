@@ -1,0 +1,5 @@
+pub mod Compressing
+pub mod Digests
+pub mod Joining
+pub mod LaneLemmas
+pub mod Padding

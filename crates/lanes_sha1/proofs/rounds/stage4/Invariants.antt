@@ -1,0 +1,8 @@
+use Rattle.std.proofs.Common.{◌≡◌, ℕ, ◌+◌, ◌*◌, List}
+use Rattle.lanes_sha1.specs.Lanes.{EachLane, lane, words_of}
+use Rattle.lanes_sha1.specs.Stages.{Scheduled, working_after}
+use Rattle.lanes_sha1.proofs.rounds.stage4.Given as goal
+
+abbrev pub invariant-fives : goal.invariant-fives
+invariant-fives l = EachLane (λ j. (block h : List ℕ) → Scheduled block (words_of j l.fn.words) (l.first + 20) → lane j l.fn.start ≡ working_after block h l.first
+    → Scheduled block (words_of j l.words) (l.first + 5 * l.five + 20) × (lane j l.working ≡ working_after block h (l.first + 5 * l.five)))
