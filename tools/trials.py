@@ -203,6 +203,9 @@ def over_outside_client(runs, is_realm):
     return over_outside("outside_client", [], is_realm, is_right)
 
 
+# A NULL call without authentication and its reply, each a record of one fragment (RFC 5531 sections 9 and 11).
+NULL_CALL = bytes.fromhex("80000028" "00000001" "00000000" "00000002" "20004753" "00000001" "00000000" "0000000000000000" "0000000000000000")
+NULL_REPLY = bytes.fromhex("80000018" "00000001" "00000001" "00000000" "0000000000000000" "00000000")
 USER, PASSWORD, SALT = "bob", "pencil", "101112131415161718191a1b1c1d1e1f"
 
 
@@ -217,6 +220,19 @@ def show_written(name, text):
     print(f"$ echo {text} >{name}", flush=True)
     with open(name, "w", encoding="ascii") as file:
         file.write(text + "\n")
+
+
+def streamed():
+    """Whether the server answers a NULL call over its standard streams, and says what it served."""
+    words = ["stdio", "--keytab", "server.keytab", "--verifiers", "server.verifiers", "--name", SERVER]
+    print("$ tools/gssrpcd", *words, "<null.call >null.reply", flush=True)
+    done = subprocess.run([tool("gssrpcd"), *words], input=NULL_CALL, capture_output=True)
+    said = done.stderr.decode()
+    print(f"{said}status {done.returncode}", flush=True)
+    right = (done.returncode, done.stdout, said) == (0, NULL_REPLY, "served 1 connections 1 records 0 entries\n")
+    if not right:
+        print(f"due were status 0 and the reply {NULL_REPLY.hex()}")
+    return right
 
 
 def called(words, due):
