@@ -1,6 +1,7 @@
 -- What a book comes to by a token.
 use Rattle.std.proofs.Common.{◌≡◌, ◌≢◌, ◌∙◌, ℕ, true, false, List, length, Option, None, Some, refl, sym, ap, subst}
-use Rattle.std.specs.Prelude.{◌+◌, ◌<◌, ◌≤◌, Bool, ◌&&◌, nat_le, max, is_none, Ok}
+use Rattle.std.specs.Prelude.{◌+◌, ◌<◌, ◌≤◌, Bool, ◌&&◌, nat_lt, nat_le, if◌then◌else◌, max, is_none, Result, Ok, Err}
+use Rattle.sec_base.specs.Answers.{Gives}
 use Rattle.std.proofs.lemmas.Bool.{le-ltb, lt-leb}
 use Rattle.gss_base.specs.declared.mark.Mark.{Mark}
 use Rattle.spnego_core.specs.declared.setup.AcceptSetup.{AcceptSetup}
@@ -10,12 +11,15 @@ use Rattle.spnego_core.specs.declared.accept_end.AcceptPause.{AcceptPause}
 use Rattle.spnego_core.specs.declared.accept_end.AcceptStep.{AcceptStep}
 use Rattle.spnego_core.specs.declared.accept_end.AcceptStep.TheVariants as steps
 use Rattle.spnego_core.specs.declared.outcome.Outcome.{Outcome}
-use Rattle.spnego_core.specs.Accepting.{accept_step, mark_asked, step_after}
-use Rattle.context_table.specs.Places.{slot_at, live_of, state_of, held_after, KeepsOthers, IsPast}
+use Rattle.spnego_core.specs.declared.refusal.NegRefusal.{NegRefusal}
+use Rattle.spnego_core.specs.declared.refusal.NegRefusal.TheVariants as short
+use Rattle.spnego_core.specs.Accepting.{Accepted, accept_step, step_of, mark_asked, step_after}
+use Rattle.context_table.specs.Places.{Places, slot_at, live_of, state_of, held_after, KeepsOthers, IsPast}
 use Rattle.accept_core.specs.declared.entry.Entry.{Entry}
 use Rattle.accept_core.specs.declared.answer.MarkRefusal.{MarkRefusal}
 use Rattle.accept_core.specs.declared.answer.Next.{Next}
 use Rattle.accept_book.specs.declared.book_answer.BookRefusal.{BookRefusal}
+use Rattle.accept_book.specs.declared.book_answer.BookRefusal.TheVariants as refusals
 use Rattle.accept_book.specs.declared.book_answer.NegAnswer.{NegAnswer}
 use Rattle.accept_book.specs.declared.book_answer.NegAnswer.TheVariants as answers
 use Rattle.accept_book.specs.declared.book_answer.Negotiated.{Negotiated}
@@ -24,8 +28,10 @@ use Rattle.accept_core.specs.Answers.{taken_by}
 use Rattle.accept_core.specs.Entering.{id_of, entered, mark_refused_in, after_mark, given, gained}
 use Rattle.accept_core.specs.Replays.{Accepting}
 use Rattle.accept_core.specs.Stepping.{has_place, context_of, context_after, until_of, kept_slot, SameWindows}
-use Rattle.accept_book.specs.Booking.{Becomes, Ends, Changed, change_refused, lapsed_by, after_refusal, Stands, stands_of, raised, Outcomes, spends, leaves, refusal_of_mark, answer_with, next_of, mark_of, settled_of, by_mark, taken, by_step, begun, opened_by, negotiated}
-use Rattle.accept_book.specs.BookAnswers.{IsOutcome, ComesTo}
+use Rattle.accept_book.specs.Booking.{Becomes, Ends, Changed, change_refused, lapsed_by, after_refusal, Stands, stands_of, raised, Outcomes, spends, leaves, refusal_of_mark, answer_with, next_of, mark_of, settled_of, by_mark, taken, by_step, by_stepped, begun, begun_by, opened_by, negotiated, with_setup}
+use Rattle.accept_book.specs.BookAnswers.{IsOutcome, ComesTo, BookStepped}
+use Rattle.accept_book.specs.FirstSteps.{IsFirstStep}
+use Rattle.accept_book.specs.Tokens.{TookToken}
 use Rattle.accept_book.proofs.Changes.{changed_same, changed_entered, changed_held, owns_step}
 use Rattle.accept_book.proofs.Contexts.{same_windows, windows_held}
 use Rattle.accept_book.proofs.Opening.{past_held, opened_step}
@@ -180,18 +186,89 @@ no_place : (b : Bool) → (b && false) ≡ false
 no_place true = refl
 no_place false = refl
 
-begun_step : (core : Accepting AcceptEnd Outcome) (setup : AcceptSetup) (token : List ℕ) (now : ℕ) (draws : List ℕ) (past : Option ℕ) → length core.history + 4 ≤ core.limit
+begun_step : (core : Accepting AcceptEnd Outcome) (stepped : Result AcceptStep NegRefusal) (past : Option ℕ) → length core.history + 4 ≤ core.limit
     → (IsPast core.table core.cache.greatest None → live_of core.table < core.table.limit) → IsPast core.table core.cache.greatest past
-    → by_step (stands_of core) None past (accept_step setup ends.New token now draws) ≡ begun setup (stands_of core) past token now draws
-begun_step core setup token now draws None room place is_past =
+    → by_stepped (stands_of core) None past stepped ≡ begun_by (stands_of core) past stepped
+begun_step core stepped None room place is_past =
     sym (rw (le-ltb core.limit (length core.history + 4) room, lt-leb core.table.limit (live_of core.table) (place is_past)) refl)
-begun_step core setup token now draws (Some gone) room place is_past =
+begun_step core stepped (Some gone) room place is_past =
     sym (rw (le-ltb core.limit (length core.history + 4) room, no_place (nat_le core.table.limit (live_of core.table))) refl)
 
-pub comes_begun : (core new : Accepting AcceptEnd Outcome) (setup : AcceptSetup) (token : List ℕ) (now : ℕ) (draws : List ℕ) (end : AcceptEnd) (result : Negotiated) → end ≡ ends.New
+pub comes_begun : (core new : Accepting AcceptEnd Outcome) (stepped : Result AcceptStep NegRefusal) (result : Negotiated)
     → length core.history + 4 ≤ core.limit → (IsPast core.table core.cache.greatest None → live_of core.table < core.table.limit)
-    → ComesTo (stands_of core) None (λ past. by_step (stands_of core) None past (accept_step setup end token now draws)) result new
-    → ComesTo (stands_of core) None (λ past. begun setup (stands_of core) past token now draws) result new
-comes_begun core new setup token now draws end result is room place =
-    comes_same (stands_of core) None (λ (past : Option ℕ). by_step (stands_of core) None past (accept_step setup end token now draws)) (λ (past : Option ℕ). begun setup (stands_of core) past token now draws) result new
-    (λ past is_past. ap (λ (e : AcceptEnd). by_step (stands_of core) None past (accept_step setup e token now draws)) is ∙ begun_step core setup token now draws past room place is_past)
+    → ComesTo (stands_of core) None (λ past. by_stepped (stands_of core) None past stepped) result new
+    → ComesTo (stands_of core) None (λ past. begun_by (stands_of core) past stepped) result new
+comes_begun core new stepped result room place =
+    comes_same (stands_of core) None (λ (past : Option ℕ). by_stepped (stands_of core) None past stepped) (λ (past : Option ℕ). begun_by (stands_of core) past stepped) result new
+    (λ past is_past. begun_step core stepped past room place is_past)
+
+-- for which there is no room
+pub comes_turned : (core : Accepting AcceptEnd Outcome) (comes : Option ℕ → Outcomes) (refusal : BookRefusal) (result : Negotiated)
+    → (result.answer ≢ answers.NoMemory → result.answer ≡ answers.Refused refusal) → ((h : List Entry) → given result.receipts ≡ gained (length h) h)
+    → ((past : Option ℕ) → IsPast core.table core.cache.greatest past → leaves core.history refusal ≡ comes past) → ComesTo (stands_of core) None comes result core
+comes_turned core comes refusal result is receipts same = record {
+  outcome = λ past is_past some. subst (λ (o : Outcomes). IsOutcome (stands_of core) o result core) (same past is_past)
+      (record { answer = is some; history = refl; contexts = changed_same core.table });
+  memory = λ none. record { answer = none; history = refl; contexts = changed_same core.table };
+  receipts = receipts core.history;
+  windows = same_windows core.table;
+}
+
+-- ---- by what the code returns of the step
+
+gives_same : (stepped answer : Result AcceptStep NegRefusal) → Gives short.NoMemory (λ (s : AcceptStep). s) stepped answer → (stepped ≡ Err short.NoMemory → ⊥) → answer ≡ stepped
+gives_same (Ok step) answer gives some = gives
+gives_same (Err refusal) answer gives some = gives (λ e. some (ap (λ (r : NegRefusal). Err r) e))
+
+by_made : (book : Stands) (id past : Option ℕ) (made : Result Accepted NegRefusal) → by_stepped book id past (step_of made) ≡ by_step book id past made
+by_made book id past (Ok accepted) = refl
+by_made book id past (Err refusal) = refl
+
+pub comes_stepped : (book : Stands) (id : Option ℕ) (stepped : Result AcceptStep NegRefusal) (made : Result Accepted NegRefusal) (result : Negotiated) (new : Accepting AcceptEnd Outcome)
+    → Gives short.NoMemory (λ (s : AcceptStep). s) stepped (step_of made) → (stepped ≡ Err short.NoMemory → result.answer ≡ answers.NoMemory)
+    → ComesTo book id (λ past. by_stepped book id past stepped) result new → ComesTo book id (λ past. by_step book id past made) result new
+comes_stepped book id stepped made result new gives wants comes = record {
+  outcome = λ past is_past some. subst (λ (o : Outcomes). IsOutcome book o result new)
+      (ap (λ (r : Result AcceptStep NegRefusal). by_stepped book id past r) (sym (gives_same stepped (step_of made) gives (λ e. some (wants e)))) ∙ by_made book id past made)
+      (comes.outcome past is_past some);
+  memory = comes.memory;
+  receipts = comes.receipts;
+  windows = comes.windows;
+}
+
+begun_made : (book : Stands) (setup : AcceptSetup) (token : List ℕ) (now : ℕ) (draws : List ℕ) (past : Option ℕ)
+    → begun_by book past (step_of (accept_step setup ends.New token now draws)) ≡ begun setup book past token now draws
+begun_made book setup token now draws past =
+    ap (λ (o : Outcomes). if nat_lt book.limit (length book.history + 4) then leaves book.history refusals.LogFull else if nat_le book.table.limit (live_of book.table) && is_none past then leaves book.history refusals.TableFull else o)
+    (by_made book None past (accept_step setup ends.New token now draws))
+
+comes_made : (book : Stands) (setup : AcceptSetup) (stepped : Result AcceptStep NegRefusal) (token : List ℕ) (now : ℕ) (draws : List ℕ) (result : Negotiated) (new : Accepting AcceptEnd Outcome)
+    → Gives short.NoMemory (λ (s : AcceptStep). s) stepped (step_of (accept_step setup ends.New token now draws)) → (stepped ≡ Err short.NoMemory → result.answer ≡ answers.NoMemory)
+    → ComesTo book None (λ past. begun_by book past stepped) result new → ComesTo book None (λ past. negotiated setup book None past token now draws) result new
+comes_made book setup stepped token now draws result new gives wants comes = record {
+  outcome = λ past is_past some. subst (λ (o : Outcomes). IsOutcome book o result new)
+      (ap (λ (r : Result AcceptStep NegRefusal). begun_by book past r) (sym (gives_same stepped (step_of (accept_step setup ends.New token now draws)) gives (λ e. some (wants e)))) ∙ begun_made book setup token now draws past)
+      (comes.outcome past is_past some);
+  memory = comes.memory;
+  receipts = comes.receipts;
+  windows = comes.windows;
+}
+
+-- a first token that was stepped beforehand: the moment is taken note of, and then what was stepped is taken
+pub comes_first : (old noted new : Accepting AcceptEnd Outcome) (setup : AcceptSetup) (stepped : Result AcceptStep NegRefusal) (token : List ℕ) (now : ℕ) (draws : List ℕ) (result : Negotiated)
+    → noted.history ≡ old.history → noted.limit ≡ old.limit → noted.width ≡ old.width → noted.table ≡ old.table → noted.cache.capacity ≡ old.cache.capacity
+    → noted.cache.greatest ≡ max old.cache.greatest now
+    → TookToken noted new None (λ past. begun_by (stands_of noted) past stepped) result → (stepped ≡ Err short.NoMemory → result.answer ≡ answers.NoMemory)
+    → IsFirstStep setup token now draws stepped → BookStepped (with_setup setup old) (with_setup setup new) None token now draws result
+comes_first old noted new setup stepped token now draws result history limit width table capacity greatest took wants made = record {
+  comes = comes_raised old noted new setup None token now draws result history limit table capacity greatest
+      (comes_made (stands_of noted) setup stepped token now draws result new made.exact wants took.comes);
+  notes = record {
+    setup = refl;
+    limit = took.keeps.limit ∙ limit;
+    width = took.keeps.width ∙ width;
+    contexts = took.keeps.contexts ∙ ap (λ (t : Places AcceptEnd Outcome). t.limit) table;
+    capacity = took.keeps.capacity ∙ capacity;
+    greatest = took.keeps.greatest ∙ greatest;
+  };
+}

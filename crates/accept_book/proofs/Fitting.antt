@@ -1,6 +1,7 @@
 -- A step of an acceptor's end that fits the marks leaves one that fits them.
 use Rattle.std.proofs.Common.{◌≡◌, ℕ, Bool, true, false, if◌then◌else◌, refl, sym, subst, List, map, length, Option, None, Some}
-use Rattle.std.specs.Prelude.{Result, Ok, Err, not}
+use Rattle.std.specs.Prelude.{Result, Ok, Err, IfOk, not}
+use Rattle.sec_base.specs.Answers.{Gives}
 use Rattle.gss_base.specs.declared.mech.MechKind.{MechKind}
 use Rattle.krb_tokens.specs.declared.end.Side.TheVariants.{Acceptor}
 use Rattle.ap_exchange.specs.declared.refusal.ApRefusal.{ApRefusal}
@@ -16,6 +17,7 @@ use Rattle.scram_mech.specs.Acceptor.{AcceptModel, AcceptStarted, AcceptFinished
 use Rattle.spnego_core.specs.declared.outcome.Outcome.{Outcome}
 use Rattle.spnego_core.specs.declared.refusal.NegRefusal.{NegRefusal}
 use Rattle.spnego_core.specs.declared.refusal.NegRefusal.TheVariants.{Defective, Rejected, NoCommonMech, MicMissing, MicBad}
+use Rattle.spnego_core.specs.declared.refusal.NegRefusal.TheVariants as short
 use Rattle.spnego_core.specs.declared.setup.AcceptSetup.{AcceptSetup}
 use Rattle.spnego_core.specs.declared.accept_mech.AcceptMech.{AcceptMech}
 use Rattle.spnego_core.specs.declared.accept_mech.AcceptMech.TheVariants as mechs
@@ -48,8 +50,7 @@ use Rattle.accept_core.specs.History.{has_auth}
 use Rattle.accept_core.specs.Entering.{id_of}
 use Rattle.accept_core.specs.Replays.{Accepting}
 use Rattle.accept_core.specs.Stepping.{Context, context_of, Stays}
-use Rattle.accept_book.specs.Booking.{Fits, FitsState, FitsSlot, AllFit, OthersFit, AnsweredFits, StepFits, Stands, mark_of, settled_of, by_step, refuses, same_key, state_key, has_key, taken as taken_with}
-use Rattle.accept_book.specs.declared.book_answer.BookRefusal.TheVariants as refusals
+use Rattle.accept_book.specs.Booking.{Fits, FitsState, FitsSlot, AllFit, OthersFit, AnsweredFits, StepFits, Stands, mark_of, settled_of, by_step, same_key, state_key, has_key, taken as taken_with}
 use Rattle.spnego_core.specs.declared.accept_end.AcceptStep.{AcceptStep}
 use Rattle.std.proofs.Common.{ap}
 
@@ -185,18 +186,15 @@ step_of_fits setup end token now draws step auth fits e = go (accept_step setup 
     go (Ok a) is e = subst (λ (x : AcceptStep). StepFits x auth) (ok_same e) (step_fits setup end token now draws a auth fits is)
     go (Err refusal) is e = absurd (refused AcceptStep refusal step e)
 
+pub stepped_fits : (setup : AcceptSetup) (end : AcceptEnd) (token : List ℕ) (now : ℕ) (draws : List ℕ) (stepped : Result AcceptStep NegRefusal) (auth : Bool) → Fits end auth
+    → Gives short.NoMemory (λ (s : AcceptStep). s) stepped (step_of (accept_step setup end token now draws)) → IfOk stepped (λ step. StepFits step auth)
+stepped_fits setup end token now draws (Ok step) auth fits gives = step_of_fits setup end token now draws step auth fits gives
+stepped_fits setup end token now draws (Err refusal) auth fits gives = tt
+
 pub by_ok : (book : Stands) (id past : Option ℕ) (r : Result Accepted NegRefusal) (step : AcceptStep) → step_of r ≡ Ok step
     → by_step book id past r ≡ taken_with book id past (mark_of step) (settled_of step)
 by_ok book id past (Ok a) step e = ap (λ (x : AcceptStep). taken_with book id past (mark_of x) (settled_of x)) (ok_same e)
 by_ok book id past (Err refusal) step e = absurd (refused AcceptStep refusal step e)
-
-pub by_err : (book : Stands) (id past : Option ℕ) (r : Result Accepted NegRefusal) (refusal : NegRefusal) → step_of r ≡ Err refusal
-    → by_step book id past r ≡ refuses id book.history (refusals.Neg refusal)
-by_err book id past (Ok a) refusal e = absurd (refused AcceptStep refusal a.step (sym e))
-by_err book id past (Err other) refusal e = ap (λ (x : NegRefusal). refuses id book.history (refusals.Neg x)) (err_same e)
-  where
-    err_same : {x y : NegRefusal} → ◌≡◌ {A = Result AcceptStep NegRefusal} (Err x) (Err y) → x ≡ y
-    err_same q = cc
 
 -- ---- admissions
 

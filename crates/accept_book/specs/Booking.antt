@@ -63,6 +63,10 @@ pub record BookOf : Type 0 where
   pub setup : AcceptSetup
   pub core : Accepting AcceptEnd Outcome
 
+-- a book in this state whose ends are begun with this setup
+abbrev pub with_setup : AcceptSetup → Accepting AcceptEnd Outcome → BookOf
+with_setup setup core = record { setup = setup; core = core }
+
 -- ---- an end fits the marks: one was taken of its id exactly if its mechanism is done and is
 -- Kerberos
 
@@ -273,6 +277,11 @@ by_step book id past (Err refusal) = refuses id book.history (refusals.Neg refus
 by_step book id past (Ok accepted) =
     taken book id past (mark_of accepted.step) (settled_of accepted.step)
 
+-- the same by what the code returns of the step
+abbrev pub by_stepped : Stands → Option ℕ → Option ℕ → Result AcceptStep NegRefusal → Outcomes
+by_stepped book id past (Err refusal) = refuses id book.history (refusals.Neg refusal)
+by_stepped book id past (Ok step) = taken book id past (mark_of step) (settled_of step)
+
 -- a later token's step, from the state of its context
 abbrev pub later_step : AcceptSetup → Option AcceptEnd → List ℕ → ℕ → List ℕ
     → Result Accepted NegRefusal
@@ -286,6 +295,14 @@ begun setup book past token now draws =
     else if nat_le book.table.limit (live_of book.table) && is_none past
     then leaves book.history refusals.TableFull
     else by_step book None past (accept_step setup ends.New token now draws)
+
+-- the same by what the code returns of its step
+abbrev pub begun_by : Stands → Option ℕ → Result AcceptStep NegRefusal → Outcomes
+begun_by book past stepped =
+    if nat_lt book.limit (length book.history + 4) then leaves book.history refusals.LogFull
+    else if nat_le book.table.limit (live_of book.table) && is_none past
+    then leaves book.history refusals.TableFull
+    else by_stepped book None past stepped
 
 -- a later token of a context that negotiates
 abbrev pub opened_by : AcceptSetup → Stands → ℕ → Option ℕ → List ℕ → ℕ → List ℕ → Outcomes

@@ -1,6 +1,7 @@
 pub mod Looking
 pub mod Booking
 pub mod BookAnswers
+pub mod FirstSteps
 pub mod Found
 pub mod BookLaws
 pub mod Statuses

@@ -1,6 +1,6 @@
 //! The contexts of a server, from their first token to their end, in one history.
-ghost use Rattle.std.specs.Prelude.{◌≡◌, false, List, [], ◌∷◌, ◌<◌, ◌≤◌, IfOk, IsSome, None, Some};
-ghost use Rattle.std.specs.Prelude.{length, reverse};
+ghost use Rattle.std.specs.Prelude.{◌≡◌, ◌≢◌, ◌↔◌, false, ℕ, List, [], ◌∷◌, ◌<◌, ◌≤◌, IfOk, IsSome};
+ghost use Rattle.std.specs.Prelude.{None, Some, Err, length, reverse};
 ghost use Rattle.gss_base.specs.Mech.{is_kerberos};
 ghost use Rattle.spnego_core.specs.Accepting.{IsSettled, accept_step};
 ghost use Rattle.spnego_core.specs.Sizes.{ShortAccept};
@@ -15,8 +15,10 @@ ghost use Rattle.accept_book.specs.BookAnswers.{ComesTo};
 ghost use Rattle.accept_book.specs.Tokens.{AwaitsStep, TookToken};
 ghost use Rattle.accept_book.specs.Booking.{names_of, by_outcome, Fits, AllFit};
 ghost use Rattle.accept_book.specs.Booking.{StepFits, token_size, mark_of, settled_of, stands_of};
-ghost use Rattle.accept_book.specs.Booking.{spends, by_step, begun, opened_by, taken, negotiated};
-ghost use Rattle.accept_book.specs.Booking.{refusal_of_mark, has_key};
+ghost use Rattle.accept_book.specs.Booking.{spends, by_step, by_stepped, begun_by, opened_by};
+ghost use Rattle.accept_book.specs.Booking.{taken, negotiated, refusal_of_mark, has_key};
+ghost use Rattle.accept_book.specs.Booking.{with_setup};
+ghost use Rattle.accept_book.specs.FirstSteps.{IsFirstStep, WasStepped};
 
 use crate::book_answer::{BookRefusal, Lease, NegAnswer, Negotiated};
 use accept_core::{
@@ -75,21 +77,24 @@ impl Named for Agreed {
     }
 }
 
-/// A book of contexts.
+/// A book of contexts. What its ends are begun with is lent to each call that steps one.
 ///
-/// Contracts see a `BookOf`: the setup, and the contexts, marks and log.
+/// Contracts see the contexts, marks and log.
 #[derive(Drop)]
 pub struct Book {
-    setup: AcceptSetup,
     core: Core<AcceptEnd, Agreed>,
 }
 
 impl Model for Book {
-    ghost use Rattle.accept_book.specs.Booking.{BookOf, AllFit};
+    ghost use Rattle.accept_core.specs.Replays.{Accepting};
+    ghost use Rattle.spnego_core.specs.declared.accept_end.AcceptEnd.{AcceptEnd as EndIs};
+    ghost use Rattle.spnego_core.specs.declared.outcome.Outcome.{Outcome as OutcomeIs};
 
-    ghost Value = { BookOf };
+    ghost Value = { Accepting EndIs OutcomeIs };
 
-    ghost view = { λ b. record { setup = b.setup; core = b.core } };
+    ghost use Rattle.accept_book.specs.Booking.{AllFit};
+
+    ghost view = { λ b. b.core };
 
     ghost invariant = { λ b. AllFit b.core };
 }
@@ -159,8 +164,9 @@ fn go_on(
     requires first { IsSome mark → auth_of id core.old.history ≡ false }
     requires fits { Fits end (auth_after id mark core.old.history) }
     requires short { length token ≤ 65536 }
-    ensures { TookToken core.old core.new id
+    ensures took { TookToken core.old core.new id
         (λ past. taken (stands_of core.old) id past mark (AcceptStep.More end token)) result }
+    ensures memory { result.answer ≢ NegAnswer.NoMemory }
 {
     match core.enter(id, mark, Next::Going(end)) {
         Ok(entered) => Negotiated {
@@ -186,9 +192,10 @@ fn settle(
     requires first { IsSome mark → auth_of id core.old.history ≡ false }
     requires fits { auth_after id mark core.old.history ≡ is_kerberos outcome.mech }
     requires short { length token ≤ 65536 }
-    ensures { TookToken core.old core.new id
+    ensures took { TookToken core.old core.new id
         (λ past. taken (stands_of core.old) id past mark (AcceptStep.Done outcome ends token))
         result }
+    ensures memory { result.answer ≢ NegAnswer.NoMemory }
 {
     let step = Next::Settled {
         mech: outcome.mech,
@@ -222,8 +229,9 @@ fn finish(
     requires first { IsSome mark → auth_of id core.old.history ≡ false }
     requires fits { StepFits step (auth_after id mark core.old.history) }
     requires short { ShortAccept step }
-    ensures { TookToken core.old core.new id
+    ensures took { TookToken core.old core.new id
         (λ past. taken (stands_of core.old) id past mark step) result }
+    ensures memory { result.answer ≢ NegAnswer.NoMemory }
 {
     match step {
         AcceptStep::More(end, token) => go_on(core, id, mark, end, token),
@@ -237,8 +245,9 @@ fn enter(core: &mut Core<AcceptEnd, Agreed>, id: Option<u64>, step: AcceptStep) 
     requires ready { AwaitsStep core.old id }
     requires fits { StepFits step (auth_of id core.old.history) }
     requires short { ShortAccept step }
-    ensures { TookToken core.old core.new id
+    ensures took { TookToken core.old core.new id
         (λ past. taken (stands_of core.old) id past (mark_of step) (settled_of step)) result }
+    ensures memory { result.answer ≢ NegAnswer.NoMemory }
 {
     match step {
         AcceptStep::WantsAuth(pause) => {
@@ -261,6 +270,26 @@ fn leave(answer: NegAnswer) -> Negotiated
     }
 }
 
+// Takes what an end made of a token.
+fn take_stepped(
+    core: &mut Core<AcceptEnd, Agreed>,
+    id: Option<u64>,
+    stepped: Result<AcceptStep, NegRefusal>,
+) -> Negotiated
+    requires ready { AwaitsStep core.old id }
+    requires fits { IfOk stepped (λ step. StepFits step (auth_of id core.old.history)) }
+    requires short { IfOk stepped ShortAccept }
+    ensures took { TookToken core.old core.new id
+        (λ past. by_stepped (stands_of core.old) id past stepped) result }
+    ensures memory { result.answer ≡ NegAnswer.NoMemory ↔ stepped ≡ Err NegRefusal.NoMemory }
+{
+    match stepped {
+        Ok(step) => enter(core, id, step),
+        Err(NegRefusal::NoMemory) => refuse(core, id, NegAnswer::NoMemory),
+        Err(refusal) => refuse(core, id, NegAnswer::Refused(BookRefusal::Neg(refusal))),
+    }
+}
+
 // Takes a token by an end, which is spent.
 fn take_step(
     alloc: Global,
@@ -278,39 +307,38 @@ fn take_step(
         (λ past. by_step (stands_of core.old) id past
         (accept_step setup.now end token.now now draws.now)) result }
 {
-    match end.step(alloc, setup, token, now, draws) {
-        Ok(step) => enter(core, id, step),
-        Err(NegRefusal::NoMemory) => refuse(core, id, NegAnswer::NoMemory),
-        Err(refusal) => refuse(core, id, NegAnswer::Refused(BookRefusal::Neg(refusal))),
+    let stepped = end.step(alloc, setup, token, now, draws);
+    take_stepped(core, id, stepped)
+}
+
+// A first token for which there is no room. Want of memory at its step is told before that.
+fn turn_away(stepped: Result<AcceptStep, NegRefusal>, refusal: BookRefusal) -> Negotiated
+    ensures size { token_size result.answer ≡ 0 }
+    ensures answer { result.answer ≢ NegAnswer.NoMemory
+        → result.answer ≡ NegAnswer.Refused refusal }
+    ensures memory { result.answer ≡ NegAnswer.NoMemory ↔ stepped ≡ Err NegRefusal.NoMemory }
+    ensures receipts { (h : List Entry) → given result.receipts ≡ gained (length h) h }
+{
+    match stepped {
+        Ok(_) => leave(NegAnswer::Refused(refusal)),
+        Err(NegRefusal::NoMemory) => leave(NegAnswer::NoMemory),
+        Err(_) => leave(NegAnswer::Refused(refusal)),
     }
 }
 
-// A first token.
-fn begin(
-    alloc: Global,
-    setup: &AcceptSetup,
-    core: &mut Core<AcceptEnd, Agreed>,
-    token: &[u8],
-    now: Moment,
-    draws: &[u8; 66],
-) -> Negotiated
-    requires { AllFit core.old }
-    ensures { TookToken core.old core.new None
-        (λ past. begun setup.now (stands_of core.old) past token.now now draws.now) result }
+// A first token, of which a new end made this.
+fn begin(core: &mut Core<AcceptEnd, Agreed>, stepped: Result<AcceptStep, NegRefusal>) -> Negotiated
+    requires fits { AllFit core.old }
+    requires step_fits { IfOk stepped (λ step. StepFits step false) }
+    requires short { IfOk stepped ShortAccept }
+    ensures took { TookToken core.old core.new None
+        (λ past. begun_by (stands_of core.old) past stepped) result }
+    ensures memory { result.answer ≡ NegAnswer.NoMemory ↔ stepped ≡ Err NegRefusal.NoMemory }
 {
     match core.room(true) {
-        Err(RoomRefusal::LogFull) => leave(NegAnswer::Refused(BookRefusal::LogFull)),
-        Err(RoomRefusal::TableFull) => leave(NegAnswer::Refused(BookRefusal::TableFull)),
-        Ok(()) => take_step(
-            alloc,
-            setup,
-            core,
-            None,
-            AcceptEnd::new(),
-            token,
-            now,
-            draws,
-        ),
+        Err(RoomRefusal::LogFull) => turn_away(stepped, BookRefusal::LogFull),
+        Err(RoomRefusal::TableFull) => turn_away(stepped, BookRefusal::TableFull),
+        Ok(()) => take_stepped(core, None, stepped),
     }
 }
 
@@ -363,6 +391,19 @@ fn continue_with(
     }
 }
 
+/// What a new end, begun with this setup, makes of a first token.
+pub fn step_first(
+    alloc: Global,
+    setup: &AcceptSetup,
+    token: &[u8],
+    now: Moment,
+    draws: &[u8; 66],
+) -> Result<AcceptStep, NegRefusal>
+    ensures { IsFirstStep setup.now token.now now draws.now result }
+{
+    AcceptEnd::new().step(alloc, setup, token, now, draws)
+}
+
 // Whether a context is complete with the lease's key.
 fn holds_key(core: &Core<AcceptEnd, Agreed>, lease: &Lease) -> bool
     ensures { result ≡ has_key (slot_at core.now.table lease.now.id) lease.now.outcome.key }
@@ -379,38 +420,40 @@ impl Book {
 
     /// A book without contexts, which has seen the moment `start`. It takes the memory of table,
     /// cache and log here.
-    pub fn open(
-        alloc: Global,
-        setup: AcceptSetup,
-        limits: Limits,
-        start: Moment,
-    ) -> Result<Book, NoMemory>
+    pub fn open(alloc: Global, limits: Limits, start: Moment) -> Result<Book, NoMemory>
         requires contexts { limits.contexts ≤ 65536 }
         requires some_mark { 0 < limits.marks }
         requires marks { limits.marks ≤ 1000000 }
         requires entries { limits.log ≤ 4000000 }
         requires some_width { 0 < limits.width }
         requires width { limits.width ≤ 1024 }
-        ensures setup { IfOk result (λ book. book.setup ≡ setup) }
-        ensures history { IfOk result (λ book. book.core.history ≡ []) }
-        ensures limit { IfOk result (λ book. book.core.limit ≡ limits.log) }
-        ensures width { IfOk result (λ book. book.core.width ≡ limits.width) }
-        ensures contexts { IfOk result (λ book. book.core.table.limit ≡ limits.contexts) }
-        ensures empty { IfOk result (λ book. book.core.table.slots ≡ []) }
-        ensures marks { IfOk result (λ book. book.core.cache.capacity ≡ limits.marks) }
-        ensures greatest { IfOk result (λ book. book.core.cache.greatest ≡ start) }
+        ensures history { IfOk result (λ book. book.history ≡ []) }
+        ensures limit { IfOk result (λ book. book.limit ≡ limits.log) }
+        ensures width { IfOk result (λ book. book.width ≡ limits.width) }
+        ensures contexts { IfOk result (λ book. book.table.limit ≡ limits.contexts) }
+        ensures empty { IfOk result (λ book. book.table.slots ≡ []) }
+        ensures marks { IfOk result (λ book. book.cache.capacity ≡ limits.marks) }
+        ensures greatest { IfOk result (λ book. book.cache.greatest ≡ start) }
     {
         match Core::new(alloc, limits, start) {
-            Ok(core) => Ok(Book { setup, core }),
+            Ok(core) => Ok(Book { core }),
             Err(error) => Err(error),
         }
     }
 
-    /// What its ends are begun with.
-    pub fn setup(&self) -> &AcceptSetup
-        ensures { result.now ≡ self.now.setup }
+    /// Takes what a new end made of a first token at this moment, whatever it was begun with. It
+    /// takes no memory, so it answers want of memory only where the step did.
+    pub fn first(&mut self, stepped: Result<AcceptStep, NegRefusal>, now: Moment) -> Negotiated
+        requires { WasStepped now stepped }
+        ensures size { token_size result.answer ≤ 65536 }
+        ensures stepped { (setup : AcceptSetup) (token draws : List ℕ)
+            → IsFirstStep setup token now draws stepped
+            → BookStepped (with_setup setup self.old) (with_setup setup self.new) None token now
+            draws result }
+        ensures memory { result.answer ≡ NegAnswer.NoMemory ↔ stepped ≡ Err NegRefusal.NoMemory }
     {
-        &self.setup
+        self.core.raise(now);
+        begin(&mut self.core, stepped)
     }
 
     /// Takes a token: the first of a context if no id is given, else a later one of that id's
@@ -419,24 +462,32 @@ impl Book {
     pub fn negotiate(
         &mut self,
         alloc: Global,
+        setup: &AcceptSetup,
         id: Option<u64>,
         token: &[u8],
         now: Moment,
         draws: &[u8; 66],
     ) -> Negotiated
         ensures size { token_size result.answer ≤ 65536 }
-        ensures stepped { BookStepped self.old self.new id token.now now draws.now result }
+        ensures stepped { BookStepped (with_setup setup.now self.old)
+            (with_setup setup.now self.new) id token.now now draws.now result }
     {
-        self.core.raise(now);
         match id {
-            None => begin(alloc, &self.setup, &mut self.core, token, now, draws),
-            Some(id) => continue_with(alloc, &self.setup, &mut self.core, id, token, now, draws),
+            None => {
+                let stepped = step_first(alloc, setup, token, now, draws);
+                self.first(stepped, now)
+            }
+            Some(id) => {
+                self.core.raise(now);
+                continue_with(alloc, setup, &mut self.core, id, token, now, draws)
+            }
         }
     }
 
     /// Takes note of a moment, and gives the lease of a complete context.
     pub fn look(&mut self, id: u64, now: Moment) -> Result<Lease, LookRefusal>
-        ensures looked { BookLooked self.old self.new id now result }
+        ensures looked { (setup : AcceptSetup)
+            → BookLooked (with_setup setup self.old) (with_setup setup self.new) id now result }
     {
         self.core.raise(now);
         match self.core.peek(id, now) {
@@ -458,7 +509,9 @@ impl Book {
         procedure: u32,
         args: [u8; 20],
     ) -> Result<Admitted, AdmitRefusal>
-        ensures admitted { BookAdmitted self.old self.new lease.now seq procedure args result }
+        ensures admitted { (setup : AcceptSetup)
+            → BookAdmitted (with_setup setup self.old) (with_setup setup self.new) lease.now seq
+            procedure args result }
     {
         if !holds_key(&self.core, lease) {
             return Err(AdmitRefusal::Gone);
@@ -468,7 +521,9 @@ impl Book {
 
     /// Ends a lease's context by a call with a number that is fresh.
     pub fn end(&mut self, lease: &Lease, seq: u32) -> Result<Receipt, AdmitRefusal>
-        ensures ended { BookEnded self.old self.new lease.now seq result }
+        ensures ended { (setup : AcceptSetup)
+            → BookEnded (with_setup setup self.old) (with_setup setup self.new) lease.now seq
+            result }
     {
         if !holds_key(&self.core, lease) {
             return Err(AdmitRefusal::Gone);
@@ -478,28 +533,28 @@ impl Book {
 
     /// The log. It is legal, and the table, the cache and the counts are what it says.
     pub fn log(&self) -> &Log
-        ensures entries { reverse result.now.entries ≡ self.now.core.history }
-        ensures width { result.now.width ≡ self.now.core.width }
-        ensures limit { result.now.limit ≡ self.now.core.limit }
-        ensures contexts { result.now.contexts ≡ self.now.core.table.limit }
-        ensures marks { result.now.marks ≡ self.now.core.cache.capacity }
-        ensures legal { Legal self.now.core.width self.now.core.history }
-        ensures replays { Replays by_outcome self.now.core.width (posts self.now.core.history)
-            self.now.core.history self.now.core.table self.now.core.cache }
+        ensures entries { reverse result.now.entries ≡ self.now.history }
+        ensures width { result.now.width ≡ self.now.width }
+        ensures limit { result.now.limit ≡ self.now.limit }
+        ensures contexts { result.now.contexts ≡ self.now.table.limit }
+        ensures marks { result.now.marks ≡ self.now.cache.capacity }
+        ensures legal { Legal self.now.width self.now.history }
+        ensures replays { Replays by_outcome self.now.width (posts self.now.history)
+            self.now.history self.now.table self.now.cache }
     {
         self.core.log()
     }
 
     /// The log, for good.
     pub fn into_log(self) -> Log
-        ensures entries { reverse result.entries ≡ self.core.history }
-        ensures width { result.width ≡ self.core.width }
-        ensures limit { result.limit ≡ self.core.limit }
-        ensures contexts { result.contexts ≡ self.core.table.limit }
-        ensures marks { result.marks ≡ self.core.cache.capacity }
-        ensures legal { Legal self.core.width self.core.history }
+        ensures entries { reverse result.entries ≡ self.history }
+        ensures width { result.width ≡ self.width }
+        ensures limit { result.limit ≡ self.limit }
+        ensures contexts { result.contexts ≡ self.table.limit }
+        ensures marks { result.marks ≡ self.cache.capacity }
+        ensures legal { Legal self.width self.history }
     {
-        let Book { setup: _, core } = self;
+        let Book { core } = self;
         core.into_log()
     }
 }

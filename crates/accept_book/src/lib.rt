@@ -4,11 +4,13 @@
 mod book;
 mod book_answer;
 pub mod laws;
+mod own_seat;
 mod rule;
 
 pub use accept_core::{
     AdmitRefusal, Admitted, EndCause, Entry, Limits, Log, LookRefusal, Receipt, Receipts,
 };
-pub use book::{Book, names_of};
+pub use book::{Book, names_of, step_first};
 pub use book_answer::{BookRefusal, Lease, NegAnswer, Negotiated};
+pub use own_seat::OwnSeat;
 pub use rule::Rule;

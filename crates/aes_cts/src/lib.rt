@@ -2,10 +2,12 @@
 #![tactic(auto)]
 
 mod columns;
+mod forward;
 mod key;
 pub mod laws;
 mod schedule;
 mod stealing;
 mod tables;
 
+pub use forward::ForwardKey;
 pub use key::AesKey;

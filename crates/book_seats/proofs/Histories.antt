@@ -1,9 +1,14 @@
 -- One question more of one book.
 use Rattle.std.proofs.Common.{◌≡◌, ℕ, List, [], ◌∷◌, ◌++◌, drop, refl, sym, ap, ◌∙◌, subst}
 use Rattle.std.proofs.lemmas.List.{map-append}
+use Rattle.spnego_core.specs.declared.accept_end.AcceptEnd.{AcceptEnd}
+use Rattle.spnego_core.specs.declared.outcome.Outcome.{Outcome}
+use Rattle.context_table.specs.Places.{Places}
+use Rattle.accept_core.specs.Replays.{Accepting}
 use Rattle.accept_book.specs.Booking.{BookOf}
-use Rattle.accept_book.specs.RecordShown.{Asked}
+use Rattle.accept_book.specs.RecordShown.{Asked, AskedStep, AskedLook, AskedAdmit, AskedEnd}
 use Rattle.gss_server.specs.Asking.{Asking, BookAnswers}
+use Rattle.gss_server.specs.Telling.{limits_of}
 use Rattle.book_seats.specs.Notes.{Note, questions_of, asked_by}
 use Rattle.book_seats.specs.Views.{WriterOf, ClerkOf}
 use Rattle.book_seats.specs.Histories.{Begun, AnsweredBy, NotesOne}
@@ -25,6 +30,20 @@ rest-empty {A} (x ∷ xs) ys e = rest-empty xs ys (ap (λ (l : List A). drop 1 l
 pub begun-noted : (begins : BookOf → Type 0) {old : WriterOf} {asking : ClerkOf} {one : Asked} {new : WriterOf} {asked : ClerkOf} → NotesOne old asking one new asked → (before after : BookOf) → Begun begins old.all before → BookAnswers before one after → Begun begins new.all after
 begun-noted begins {old} {asking} {one} notes before after began answer =
     subst (λ (l : List Note). Begun begins l after) (sym (ap (λ (w : WriterOf). w.all) notes.writer)) (begun-more begins old.all asking.desk one before after began answer)
+
+-- no question changes a book's limits
+limits_by : (old new : Accepting AcceptEnd Outcome) → new.table.limit ≡ old.table.limit → new.cache.capacity ≡ old.cache.capacity → new.limit ≡ old.limit → new.width ≡ old.width
+    → limits_of new ≡ limits_of old
+limits_by old new contexts marks log width = λ i. record { contexts = contexts i; marks = marks i; log = log i; width = width i }
+
+limits-same : (one : Asked) (before after : BookOf) → BookAnswers before one after → limits_of after.core ≡ limits_of before.core
+limits-same (AskedStep id token now draws answer) before after h = limits_by before.core after.core h.notes.contexts h.notes.capacity h.notes.limit h.notes.width
+limits-same (AskedLook id now answer) before after h = limits_by before.core after.core (ap (λ (t : Places AcceptEnd Outcome). t.limit) h.looked.table) h.looked.capacity h.looked.limit h.looked.width
+limits-same (AskedAdmit lease seq procedure args answer) before after h = limits_by before.core after.core h.keeps.contexts h.keeps.capacity h.keeps.limit h.keeps.width
+limits-same (AskedEnd lease seq answer) before after h = limits_by before.core after.core h.keeps.contexts h.keeps.capacity h.keeps.limit h.keeps.width
+
+pub limits-kept : {old : WriterOf} {asking : ClerkOf} {one : Asked} {new : WriterOf} {asked : ClerkOf} → NotesOne old asking one new asked → (before after : BookOf) → BookAnswers before one after → limits_of after.core ≡ limits_of before.core
+limits-kept {one = one} notes before after answer = limits-same one before after answer
 
 -- what the one book answered after all that it was asked
 pub answered : (begins : BookOf → Type 0) {old : WriterOf} {asking : ClerkOf} {one : Asked} {new : WriterOf} {asked : ClerkOf} → NotesOne old asking one new asked → (before after : BookOf) → Begun begins old.all before → BookAnswers before one after → AnsweredBy begins asking one asked

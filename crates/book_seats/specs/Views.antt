@@ -1,11 +1,13 @@
 -- What the seats of the table know of the history: the writer knows all of it, and each clerk what
 -- stood in it when its desk asked last. The history exists in the proofs alone.
 use Rattle.std.specs.Prelude.{◌≡◌, ℕ, ◌+◌, ◌<◌, ◌≤◌, Bool, true, false, List, [], ◌∷◌, ◌++◌, Err}
+use Rattle.std.specs.Prelude.{None}
 use mathlib.Core.Option.{some}
 use lib.ListN.{get_elem?}
 use Rattle.atomic_table.specs.Table.{State, Me, Step}
 use Rattle.atomic_table.specs.Seated.{TableId}
 use Rattle.atomic_table.specs.declared.shared.Seat.{Seat}
+use Rattle.spnego_core.specs.declared.setup.AcceptSetup.{AcceptSetup}
 use Rattle.accept_book.specs.RecordShown.{Asked, AskedLook}
 use Rattle.accept_core.specs.declared.answer.LookRefusal.TheVariants.{NoContext}
 use Rattle.book_seats.specs.Notes.{Note, StartsWith, asked_by}
@@ -20,6 +22,16 @@ no_table = record {
   block = 0;
   offset = 0;
   slot_names = [];
+}
+
+-- the setup of nobody, who offers no mechanism
+abbrev pub no_setup : AcceptSetup
+no_setup = record {
+  own = record { realm = []; parts = [] };
+  keytab = [];
+  verifiers = [];
+  bindings = None;
+  offer = [];
 }
 
 -- a question that stands for any other

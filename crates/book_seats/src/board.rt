@@ -5,14 +5,17 @@ use atomic_table::{Join, Play, Split, Table, TableRule};
 use std::alloc::Global;
 use std::marker::{Brand, Model, PhantomData};
 
-/// Names a table, and says of the book whose questions are noted on it how it begins, which limits it
-/// has, and how many desks ask it.
+/// Names a table, and says of the book whose questions are noted on it what its ends are begun with,
+/// how it begins, which limits it has, and how many desks ask it.
 pub trait Room {
     ghost use Rattle.atomic_table.specs.Seated.{TableId};
+    ghost use Rattle.spnego_core.specs.declared.setup.AcceptSetup.{AcceptSetup};
     ghost use Rattle.accept_book.specs.Booking.{BookOf};
     ghost use Rattle.accept_core.specs.declared.entry.Limits.{Limits};
 
     ghost table: { TableId };
+
+    ghost setup: { AcceptSetup };
 
     ghost begins: { BookOf → Type 0 };
 
@@ -22,9 +25,11 @@ pub trait Room {
 }
 
 impl Room for Brand {
-    ghost use Rattle.book_seats.specs.Views.{no_table};
+    ghost use Rattle.book_seats.specs.Views.{no_table, no_setup};
 
     ghost table = { no_table };
+
+    ghost setup = { no_setup };
 
     ghost begins = { λ _. Unit {0} };
 

@@ -1,6 +1,7 @@
 //! A book with the writer of its history, which lies behind the lock.
-ghost use Rattle.std.specs.Prelude.{◌≡◌, ◌≤◌, []};
-ghost use Rattle.accept_book.specs.Booking.{token_size};
+ghost use Rattle.std.specs.Prelude.{◌≡◌, ◌≤◌, [], None, Some};
+ghost use Rattle.accept_book.specs.Booking.{token_size, with_setup};
+ghost use Rattle.accept_book.specs.FirstSteps.{IsFirstStep};
 ghost use Rattle.accept_book.specs.RecordShown.{AskedStep, AskedLook, AskedAdmit, AskedEnd};
 ghost use Rattle.gss_server.specs.Telling.{limits_of};
 ghost use Rattle.book_seats.specs.Histories.{Begun, AnsweredBy, NotesOne};
@@ -8,8 +9,8 @@ ghost use Rattle.book_seats.specs.Histories.{Begun, AnsweredBy, NotesOne};
 use crate::board::{Entry, Room};
 use crate::hall::{Clerk, Hall, Writer};
 use accept_book::{AdmitRefusal, Admitted, Book, Lease, LookRefusal, Negotiated, Receipt};
-use gss_server::Gate;
 use sec_base::Moment;
+use spnego_core::{AcceptSetup, AcceptStep, NegRefusal};
 use std::alloc::Global;
 use std::marker::{Brand, Model};
 
@@ -23,15 +24,20 @@ pub struct Shared<J: Room> {
 
 impl<J: Room> Model for Shared<J> {
     ghost use Rattle.std.specs.Prelude.{◌≡◌};
+    ghost use Rattle.accept_book.specs.Booking.{with_setup};
     ghost use Rattle.gss_server.specs.Telling.{limits_of};
     ghost use Rattle.book_seats.specs.Histories.{SharedOf, Begun};
 
     ghost Value = { SharedOf };
 
-    ghost view = { λ s. record { book = s.book; made = s.writer.made; all = s.writer.all } };
+    ghost view = { λ s. record {
+      book = with_setup J.setup s.book;
+      made = s.writer.made;
+      all = s.writer.all;
+    } };
 
-    ghost invariant = { λ s. Begun J.begins s.writer.all s.book × (s.writer.made ≡ J.desks)
-        × (limits_of s.book.core ≡ J.limits) };
+    ghost invariant = { λ s. Begun J.begins s.writer.all (with_setup J.setup s.book)
+        × (s.writer.made ≡ J.desks) × (limits_of s.book ≡ J.limits) };
 }
 
 /// Notes a step and its answer.
@@ -104,8 +110,8 @@ fn note_end<J: Room, E: Entry>(
 impl<J: Room> Shared<J> {
     /// A book as the room says that it begins, and the writer, who has made the clerks of the desks and noted nothing.
     pub fn new(book: Book, writer: Writer<J>) -> Shared<J>
-        requires book { J.begins book }
-        requires limits { limits_of book.core ≡ J.limits }
+        requires book { J.begins (with_setup J.setup book) }
+        requires limits { limits_of book ≡ J.limits }
         requires writer { writer ≡ record { made = J.desks; all = [] } }
     {
         Shared { book, writer }
@@ -113,31 +119,55 @@ impl<J: Room> Shared<J> {
 
     /// The book and the writer.
     pub fn into_parts(self) -> (Book, Writer<J>)
-        ensures began { Begun J.begins result.1.all result.0 }
+        ensures began { Begun J.begins result.1.all (with_setup J.setup result.0) }
         ensures desks { result.1.made ≡ J.desks }
-        ensures limits { limits_of result.0.core ≡ J.limits }
+        ensures limits { limits_of result.0 ≡ J.limits }
     {
         let Shared { book, writer } = self;
         (book, writer)
     }
 
-    /// Has the book take a token, and notes it.
-    pub(crate) fn negotiate(
+    /// Has the book take what a new end made of a first token, and notes it.
+    pub(crate) fn first(
         &mut self,
         hall: &Hall<J>,
         clerk: &mut Clerk<J>,
-        alloc: Global,
-        id: Option<u64>,
+        stepped: Result<AcceptStep, NegRefusal>,
         token: &[u8],
         now: Moment,
         draws: &[u8; 66],
     ) -> Negotiated
+        requires { IsFirstStep J.setup token.now now draws.now stepped }
         ensures size { token_size result.answer ≤ 65536 }
         ensures answered { AnsweredBy J.begins clerk.old
-            (AskedStep id token.now now draws.now result) clerk.new }
+            (AskedStep None token.now now draws.now result) clerk.new }
     {
         let Shared { book, writer } = self;
-        let answer = Gate::negotiate(book, alloc, id, token, now, draws);
+        let answer = book.first(stepped, now);
+        note_step::<J, Brand>(writer, hall, clerk, None, token, now, draws, &answer);
+        answer
+    }
+
+    /// Has the book take a later token, and notes it.
+    pub(crate) fn later(
+        &mut self,
+        hall: &Hall<J>,
+        clerk: &mut Clerk<J>,
+        alloc: Global,
+        setup: &AcceptSetup,
+        id: u64,
+        token: &[u8],
+        now: Moment,
+        draws: &[u8; 66],
+    ) -> Negotiated
+        requires { setup.now ≡ J.setup }
+        ensures size { token_size result.answer ≤ 65536 }
+        ensures answered { AnsweredBy J.begins clerk.old
+            (AskedStep (Some id) token.now now draws.now result) clerk.new }
+    {
+        let Shared { book, writer } = self;
+        let id = Some(id);
+        let answer = book.negotiate(alloc, setup, id, token, now, draws);
         note_step::<J, Brand>(writer, hall, clerk, id, token, now, draws, &answer);
         answer
     }
@@ -153,7 +183,7 @@ impl<J: Room> Shared<J> {
         ensures { AnsweredBy J.begins clerk.old (AskedLook id now result) clerk.new }
     {
         let Shared { book, writer } = self;
-        let answer = Gate::look(book, id, now);
+        let answer = book.look(id, now);
         note_look::<J, Brand>(writer, hall, clerk, id, now, &answer);
         answer
     }
@@ -172,7 +202,7 @@ impl<J: Room> Shared<J> {
             clerk.new }
     {
         let Shared { book, writer } = self;
-        let answer = Gate::admit(book, lease, seq, procedure, args);
+        let answer = book.admit(lease, seq, procedure, args);
         note_admit::<J, Brand>(writer, hall, clerk, lease, seq, procedure, args, &answer);
         answer
     }
@@ -188,7 +218,7 @@ impl<J: Room> Shared<J> {
         ensures { AnsweredBy J.begins clerk.old (AskedEnd lease.now seq result) clerk.new }
     {
         let Shared { book, writer } = self;
-        let answer = Gate::end(book, lease, seq);
+        let answer = book.end(lease, seq);
         note_end::<J, Brand>(writer, hall, clerk, lease, seq, &answer);
         answer
     }

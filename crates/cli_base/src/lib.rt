@@ -8,7 +8,7 @@ mod numbers;
 mod words;
 
 pub use files::{FileStop, load, say_stop, stop_of};
-pub use given::{WordsRefusal, address_of, bindings_given, demand, number_given};
+pub use given::{WordsRefusal, address_of, demand};
 pub use lines::{OUT_OF_MEMORY, say, say_made};
 pub use numbers::number_in;
-pub use words::{are_words, count_plain, first_word, plain, value_of};
+pub use words::{are_words, count_plain, first_word, plain};

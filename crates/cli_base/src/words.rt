@@ -3,7 +3,7 @@
 ghost use Rattle.std.specs.Prelude.{◌≡◌, false, length, slice_get};
 ghost use Rattle.std.specs.Option.{option_map};
 ghost use Rattle.cli_base.specs.Words.{is_dashed, is_one_of, texts, has_value, is_option};
-ghost use Rattle.cli_base.specs.Words.{are_words, value_of, first_word, plain_of};
+ghost use Rattle.cli_base.specs.Words.{are_words, first_word, plain_of};
 
 use sec_base::Text;
 
@@ -69,20 +69,6 @@ pub fn are_words(words: &[Text], names: &[&str]) -> bool
         }
     }
     true
-}
-
-/// The value of the option `name`: the word behind the first that is that name.
-pub fn value_of<'a>(words: &'a [Text], name: &str) -> Option<&'a str>
-    ensures { option_map (λ value. value.now) result ≡ value_of name.now words.now }
-{
-    let mut due = false;
-    for word in words {
-        if due {
-            return Some(word.as_str());
-        }
-        due = word.as_str() == name;
-    }
-    None
 }
 
 /// The first word, where it is there and doesn't begin with `-`.

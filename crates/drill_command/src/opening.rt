@@ -6,14 +6,14 @@ ghost use Rattle.drill_plan.specs.Limits.{book_limits, drill_limits};
 ghost use Rattle.drill_plan.specs.Sessions.{moment_of};
 ghost use Rattle.drill_plan.specs.Setting.{drill_acceptor};
 
-use accept_book::Book;
+use accept_book::OwnSeat;
 use drill_plan::{LIMITS, acceptor, moment_of};
 use pair_laws::prove_rests;
 use sec_base::NoMemory;
 use std::alloc::Global;
 
 /// The book of a drill, at the moment of its first session.
-pub fn open_book(alloc: Global) -> Result<Book, NoMemory>
+pub fn open_book(alloc: Global) -> Result<OwnSeat, NoMemory>
     ensures limits { IfOk result (λ book. book_limits book ≡ drill_limits) }
     ensures setup { IfOk result (λ book. book.setup ≡ drill_acceptor) }
     // and it has no entry and is at rest
@@ -22,6 +22,6 @@ pub fn open_book(alloc: Global) -> Result<Book, NoMemory>
 {
     prove_rests();
     let setup = acceptor(alloc)?;
-    let book = Book::open(alloc, setup, LIMITS, moment_of(0))?;
+    let book = OwnSeat::open(alloc, setup, LIMITS, moment_of(0))?;
     Ok(book)
 }

@@ -24,7 +24,7 @@ use crate::calls::draw_calls;
 use crate::ends::early_end;
 use crate::meeting::prove_paired;
 use crate::opening::open_book;
-use accept_book::{Book, Log};
+use accept_book::{Log, OwnSeat};
 use drill_plan::{DrillSession, Generator, Plan, WIDTH, moment_of, start_of};
 use gate_models::{Beginning, LoopLink};
 use gss_client::{ClientRefusal, Start, Talk};
@@ -42,7 +42,7 @@ const MOST_CALLS: u32 = 1_000;
 #[derive(Drop)]
 pub struct Held {
     pub session: DrillSession,
-    pub book: Book,
+    pub book: OwnSeat,
     pub server: Generator,
     pub kept: Vec<Kept>,
     /// Whether an answer wanted memory.
@@ -60,9 +60,9 @@ fn tell_link(outcome: &Option<Outcome>)
 }
 
 /// Holds a session over a book that begins as `J` says.
-fn hold_from<J: Beginning<Book>>(
+fn hold_from<J: Beginning<OwnSeat>>(
     alloc: Global,
-    book: Book,
+    book: OwnSeat,
     now: Moment,
     server: Generator,
     client: &mut Generator,
@@ -81,7 +81,7 @@ fn hold_from<J: Beginning<Book>>(
     ensures fault { IfOk result
         (λ h. h.session.ended ≡ Some ClientRefusal.LinkFault → h.starved ≡ true) }
 {
-    let mut link: LoopLink<Book, Generator, J> = LoopLink::new(alloc, book, now, server, WIDTH)?;
+    let mut link: LoopLink<OwnSeat, Generator, J> = LoopLink::new(alloc, book, now, server, WIDTH)?;
     let talk = hold_calls(alloc, &mut link, client, start, calls);
     let starved = link.starved();
     let (book, server, kept) = link.into_parts();
@@ -107,7 +107,7 @@ fn hold_from<J: Beginning<Book>>(
 /// Holds a session over a book, at one moment. The book is asked what the session's records ask, in order.
 pub fn hold_session(
     alloc: Global,
-    book: Book,
+    book: OwnSeat,
     now: Moment,
     server: Generator,
     client: &mut Generator,
@@ -147,7 +147,7 @@ struct Generators {
 /// Where a drill is between two sessions.
 #[derive(Drop)]
 struct Course {
-    book: Book,
+    book: OwnSeat,
     generators: Generators,
     sessions: Vec<DrillSession>,
     /// How many records were answered.
@@ -290,7 +290,7 @@ fn due_of(
 /// Draws the calls of the next session and holds it.
 fn next_session(
     alloc: Global,
-    book: Book,
+    book: OwnSeat,
     generators: &mut Generators,
     number: u32,
     count: u32,

@@ -3,7 +3,7 @@
 ghost use Rattle.std.specs.Prelude.{◌≡◌, IfSome, false, true};
 ghost use Rattle.spnego_core.specs.InitMech.{is_own_list};
 
-use accept_book::{Book, Limits};
+use accept_book::{Limits, OwnSeat};
 use gate_models::{Beginning, LoopLink};
 use gss_base::{MechKind, Principal};
 use krb_files::read_keytab;
@@ -16,7 +16,7 @@ use std::alloc::Global;
 #[derive(Drop)]
 pub struct AtStart;
 
-impl Beginning<Book> for AtStart {
+impl Beginning<OwnSeat> for AtStart {
     ghost begins = { λ _. Unit {0} };
 
     ghost width = { 8 };
@@ -25,7 +25,7 @@ impl Beginning<Book> for AtStart {
 }
 
 /// A link to a server in the same thread, whose state is a book and whose random octets come from memory.
-pub type BookLink = LoopLink<Book, MemDraw, AtStart>;
+pub type BookLink = LoopLink<OwnSeat, MemDraw, AtStart>;
 
 /// The width of the windows of sequence numbers (RFC 2203 section 5.3.3.1).
 const WIDTH: u32 = 8;
@@ -109,7 +109,7 @@ fn acceptor(alloc: Global) -> Option<AcceptSetup> {
 pub fn link_of(alloc: Global) -> Option<BookLink>
     ensures { IfSome result (λ link. ⟦<BookLink as Link>⟧.closed link ≡ false) }
 {
-    let book = Book::open(alloc, acceptor(alloc)?, LIMITS, Moment::start()).ok()?;
+    let book = OwnSeat::open(alloc, acceptor(alloc)?, LIMITS, Moment::start()).ok()?;
     let draws = MemDraw::new(Vec::new(alloc));
     LoopLink::new(alloc, book, Moment::start(), draws, WIDTH).ok()
 }

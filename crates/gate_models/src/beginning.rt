@@ -2,7 +2,7 @@
 
 ghost use Rattle.std.specs.Prelude.{ℕ};
 
-use accept_book::Book;
+use accept_book::OwnSeat;
 use std::marker::Brand;
 
 /// What is known of the gate's state as a link in one thread takes it, the width of the windows, and
@@ -15,7 +15,7 @@ pub trait Beginning<G> {
     ghost moment: { ℕ };
 }
 
-impl Beginning<Book> for Brand {
+impl Beginning<OwnSeat> for Brand {
     ghost begins = { λ _. Unit {0} };
 
     ghost width = { 0 };

@@ -7,6 +7,7 @@ ghost use Rattle.gate_models.specs.Looping.{Looped, Loops, Since};
 use crate::beginning::Beginning;
 use crate::looping::Looping;
 use gss_server::{Gate, Kept};
+use krb_tokens::KeyCache;
 use sec_base::{Draw, Link, LinkFault, Moment, NoMemory};
 use std::alloc::Global;
 use std::marker::PhantomData;
@@ -65,6 +66,7 @@ impl<G: Gate, Q: Draw, J: Beginning<G>> LoopLink<G, Q, J> {
             cut: 0,
             said: Vec::new(alloc),
             kept: Vec::new(alloc),
+            keys: KeyCache::empty(),
         };
         Ok(LoopLink {
             alloc,

@@ -9,13 +9,14 @@ ghost use Rattle.gss_server.specs.Asking.{Asking};
 ghost use Rattle.gate_models.specs.Looping.{size_of, IsNext, IsSaid, IsAnsweredBy, Unjudged};
 ghost use Rattle.gate_models.specs.Looping.{LoopedTo, IsTurned, Looped, HeardMore};
 
-use gss_server::{Answered, Gate, Kept, Reply, answer_record};
+use gss_server::{Answered, Gate, Kept, Reply, answer_record_by};
+use krb_tokens::KeyCache;
 use rpc_msgs::{RecordRefusal, next_record, write_record};
 use sec_base::{Draw, MemLink, Moment, NoMemory, Octets};
 use std::alloc::Global;
 
 /// The gate, the moment of all answers, and the random octets; all octets that were heard, how many of them stand in records that were
-/// answered, all octets that were said, and what was kept of the answers.
+/// answered, all octets that were said, what was kept of the answers, and the keys of the context of the call before.
 #[derive(Drop)]
 pub(crate) struct Looping<G, Q> {
     pub gate: G,
@@ -26,6 +27,7 @@ pub(crate) struct Looping<G, Q> {
     pub cut: usize,
     pub said: Vec<u8>,
     pub kept: Vec<Kept>,
+    pub keys: KeyCache,
     ghost within: { cut ≤ vec_len heard },
 }
 
@@ -123,7 +125,15 @@ impl<G: Gate, Q: Draw> Looping<G, Q> {
         }
         let mut draws = [0; 82];
         self.draws.fill(&mut draws);
-        let answered = answer_record(alloc, &mut self.gate, octets, self.now, &draws, self.width);
+        let answered = answer_record_by(
+            alloc,
+            &mut self.gate,
+            octets,
+            self.now,
+            &draws,
+            self.width,
+            &mut self.keys,
+        );
         let Answered { kept, reply, .. } = answered;
         self.kept.push_reserved(kept);
         match say(alloc, &mut self.said, &reply) {

@@ -7,7 +7,7 @@ ghost use Rattle.gss_client.specs.Judging.{answer_value, answer_in, granted, pla
 ghost use Rattle.gss_client.specs.Judging.{is_verified, succeeded, verified_in};
 
 use crate::refusal::{ClientRefusal, Denial, ReplyWhy};
-use krb_tokens::{MicCache, Side};
+use krb_tokens::{KeyCache, Side};
 use rpc_msgs::numbers::{RPCSEC_GSS, SUCCESS};
 use rpc_msgs::{Reply, read_reply};
 use spnego_core::Outcome;
@@ -88,7 +88,7 @@ pub(crate) fn answer_in(xid: u32, bytes: &[u8]) -> Result<Answer<'_>, ClientRefu
 /// Whether the verifier is the acceptor's MIC over this number.
 #[tactic(auto, unfolding(rpc_msgs::specs::Words::word))]
 pub(crate) fn is_verified(
-    keys: &MicCache,
+    keys: &KeyCache,
     outcome: &Outcome,
     answer: &Answer<'_>,
     number: u32,
@@ -98,7 +98,7 @@ pub(crate) fn is_verified(
     let end = outcome.token_end(Side::Initiator);
     answer.flavour == RPCSEC_GSS
         && end
-            .check_mic_by(keys, answer.verf, &number.to_be_bytes())
+            .check_mic_by(&keys.lent(), answer.verf, &number.to_be_bytes())
             .is_ok()
 }
 
@@ -115,7 +115,7 @@ pub(crate) fn succeeded(answer: &Answer<'_>) -> Result<(), ClientRefusal>
 /// The accepted reply to the call of this number and transaction number, verified and with SUCCESS.
 #[tactic(auto, unfolding(crate::specs::Judging::verified_in))]
 pub(crate) fn verified_in<'a>(
-    keys: &MicCache,
+    keys: &KeyCache,
     outcome: &Outcome,
     number: u32,
     xid: u32,

@@ -127,7 +127,11 @@ fn signed_call(
         cred.as_slice(),
     )?;
     let end = session.outcome.token_end(Side::Initiator);
-    let mic = end.make_mic_by(&session.keys, 2 * session.number as u64, header.as_slice());
+    let mic = end.make_mic_by(
+        &session.keys.lent(),
+        2 * session.number as u64,
+        header.as_slice(),
+    );
     call(
         alloc,
         session.xid,
@@ -155,7 +159,7 @@ pub(crate) fn data_call(
     let body = protect(
         alloc,
         &session.outcome.token_end(Side::Initiator),
-        &session.keys,
+        &session.keys.lent(),
         session.service,
         session.number,
         confounder,

@@ -13,7 +13,7 @@ ghost use Rattle.spnego_core.specs.Sizes.{ShortInit};
 use crate::answer::{Answer, answer_in, is_verified, place_of, succeeded};
 use crate::refusal::{ClientRefusal, Denial, ReplyWhy, not_negotiated};
 use gss_base::status::{COMPLETE, CONTINUE_NEEDED};
-use krb_tokens::MicCache;
+use krb_tokens::KeyCache;
 use rpc_msgs::{XdrRefusal, XdrWhy};
 use rpcsec_msgs::{InitRes, read_init_res};
 use sec_base::Octets;
@@ -97,7 +97,7 @@ fn demand_done(
     if granted.window == 0 {
         return Err(ClientRefusal::BadReply(ReplyWhy::Width));
     }
-    if !is_verified(&MicCache::empty(), outcome, answer, granted.window) {
+    if !is_verified(&KeyCache::empty(), outcome, answer, granted.window) {
         return Err(ClientRefusal::BadReply(ReplyWhy::Verifier));
     }
     Ok(())

@@ -6,7 +6,7 @@ ghost use Rattle.gss_client.specs.Judging.{body_result, call_result, destroyed_i
 
 use crate::answer::{place_of, verified_in};
 use crate::refusal::{ClientRefusal, ReplyWhy};
-use krb_tokens::{MicCache, Side, TokenEnd};
+use krb_tokens::{KeyCache, Side, TokenEnd};
 use rpcsec_bodies::{BodyRefusal, Service, unprotect};
 use sec_base::Octets;
 use spnego_core::Outcome;
@@ -15,7 +15,7 @@ use std::alloc::Global;
 /// The result in the body of a reply, by the service of the call.
 fn body_result(
     alloc: Global,
-    keys: &MicCache,
+    keys: &KeyCache,
     end: &TokenEnd,
     number: u32,
     body: &[u8],
@@ -24,7 +24,7 @@ fn body_result(
     ensures { Gives ClientRefusal.NoMemory (λ o. o) result
         (body_result end.now number body.now service) }
 {
-    match unprotect(alloc, end, keys, service, number, body) {
+    match unprotect(alloc, end, &keys.lent(), service, number, body) {
         Ok(result) => Ok(result),
         Err(BodyRefusal::Protection) => Err(ClientRefusal::BadReply(ReplyWhy::Body)),
         Err(BodyRefusal::Number) => Err(ClientRefusal::BadReply(ReplyWhy::Number)),
@@ -36,7 +36,7 @@ fn body_result(
 #[tactic(auto, unfolding(crate::specs::Judging::call_result))]
 pub(crate) fn call_result(
     alloc: Global,
-    keys: &MicCache,
+    keys: &KeyCache,
     outcome: &Outcome,
     service: Service,
     number: u32,
@@ -54,7 +54,7 @@ pub(crate) fn call_result(
 /// Judges the reply to a destruction: nothing follows its stat.
 #[tactic(auto, unfolding(crate::specs::Judging::destroyed_in))]
 pub(crate) fn destroyed_in(
-    keys: &MicCache,
+    keys: &KeyCache,
     outcome: &Outcome,
     number: u32,
     xid: u32,

@@ -13,7 +13,7 @@ use crate::calling::{data_call, destroy_call};
 use crate::exchange::exchange;
 use crate::refusal::ClientRefusal;
 use crate::results::{call_result, destroyed_in};
-use krb_tokens::{MicCache, Side};
+use krb_tokens::{KeyCache, Side};
 use rpcsec_bodies::Service;
 use sec_base::{Link, NoMemory, Octets};
 use spnego_core::Outcome;
@@ -28,8 +28,8 @@ pub struct Session {
     pub(crate) handle: Octets,
     pub(crate) number: u32,
     pub(crate) xid: u32,
-    /// The keys of the context's MIC tokens.
-    pub(crate) keys: MicCache,
+    /// The keys of the context's tokens.
+    pub(crate) keys: KeyCache,
 }
 
 impl Model for Session {
@@ -57,10 +57,14 @@ pub fn xid_after(xid: u32) -> u32
     xid.wrapping_add(1)
 }
 
-/// The keys of the initiator's MIC tokens.
-fn keys_of(outcome: &Outcome) -> MicCache {
-    let mut keys = MicCache::empty();
-    keys.keep(&outcome.token_end(Side::Initiator));
+/// The initiator's keys: those of its MIC tokens, and for calls by privacy those of its sealed bodies.
+fn keys_of(outcome: &Outcome, service: Service) -> KeyCache {
+    let end = outcome.token_end(Side::Initiator);
+    let mut keys = KeyCache::empty();
+    match service {
+        Service::Privacy => keys.keep_sealing(&end),
+        _ => keys.keep(&end),
+    }
     keys
 }
 
@@ -78,7 +82,7 @@ impl Session {
         requires handle { IsHandle handle }
         ensures { result ≡ begun service first xid outcome handle }
     {
-        let keys = keys_of(&outcome);
+        let keys = keys_of(&outcome, service);
         Session {
             outcome,
             service,

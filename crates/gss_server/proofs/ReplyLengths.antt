@@ -1,5 +1,5 @@
 -- How long replies are.
-use Rattle.std.proofs.Common.{◌≡◌, ℕ, ◌+◌, ◌≤◌, Bool, true, false, cond, List, [], ◌++◌, length, arith, eqb}
+use Rattle.std.proofs.Common.{◌≡◌, ℕ, ◌+◌, ◌≤◌, Bool, true, false, cond, List, [], ◌++◌, length, ap, ◌∙◌, arith, eqb}
 use Rattle.std.proofs.lemmas.List.{length-append}
 use Rattle.rpc_msgs.specs.Words.{word}
 use Rattle.rpc_msgs.specs.Replies.{accepted_head, accepted_body, mismatch_octets, auth_error_octets}
@@ -13,10 +13,18 @@ body-fits true c low high result = omega arith
 body-fits false true low high result = omega (arith, two_words low high)
 body-fits false false low high result = omega arith
 
+head-fits : (xid flavour : ℕ) (verf : List ℕ) (stat : ℕ) → length verf ≤ 400 → length (accepted_head xid flavour verf stat) ≤ 427
+head-fits xid flavour verf stat few = simp (length-append, length-word, length-opaque) (omega arith)
+
+-- a result behind a head
+pub signed-fits : (xid flavour : ℕ) (verf out written whole : List ℕ) (stat : ℕ) → length verf ≤ 400 → out ≡ [] → written ≡ out ++ accepted_head xid flavour verf stat → length whole ≤ length written + 130000 → length whole ≤ 131072
+signed-fits xid flavour verf out written whole stat few none behind size =
+    let same : written ≡ accepted_head xid flavour verf stat = behind ∙ ap (λ (zs : List ℕ). zs ++ accepted_head xid flavour verf stat) none in
+    omega (arith, size, ap length same, head-fits xid flavour verf stat few)
+
 pub accepted-fits : (xid flavour : ℕ) (verf : List ℕ) (stat low high : ℕ) (result : List ℕ) → length verf ≤ 400 → length result ≤ 130000 → length (accepted_head xid flavour verf stat ++ accepted_body stat low high result) ≤ 131072
 accepted-fits xid flavour verf stat low high result few size =
-    let head : length (accepted_head xid flavour verf stat) ≤ 427 = simp (length-append, length-word, length-opaque) (omega arith) in
-    omega (arith, length-append (accepted_head xid flavour verf stat) (accepted_body stat low high result), body-fits (eqb stat 0) (eqb stat 2) low high result)
+    omega (arith, head-fits xid flavour verf stat few, length-append (accepted_head xid flavour verf stat) (accepted_body stat low high result), body-fits (eqb stat 0) (eqb stat 2) low high result)
 
 pub mismatch-fits : (xid low high : ℕ) → length (mismatch_octets xid low high) ≤ 131072
 mismatch-fits xid low high = simp (length-append, length-word) (omega arith)

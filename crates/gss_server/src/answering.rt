@@ -22,7 +22,7 @@ use crate::opening::id_in;
 use crate::plain::say_unauthenticated;
 use crate::saying::{Said, say_denied, say_no_context, say_nothing, say_reply};
 use accept_book::Rule;
-use krb_tokens::MicCache;
+use krb_tokens::KeyCache;
 use rpc_msgs::numbers::{
     AUTH_BADCRED, AUTH_NONE, AUTH_REJECTEDCRED, AUTH_TOOWEAK, NULL, RPC_VERSION, RPCSEC_GSS,
 };
@@ -41,6 +41,7 @@ fn say_by_id<G: Gate>(
     heard: &Heard<'_>,
     cred: &GssCred<'_>,
     id: Option<u64>,
+    keys: &mut KeyCache,
     asks: &mut Asks,
 ) -> Said
     requires unasked { asks.old ≡ unasked }
@@ -50,7 +51,7 @@ fn say_by_id<G: Gate>(
 {
     match id {
         None => say_no_context(alloc, heard),
-        Some(id) => ask_for_look(alloc, gate, heard, cred, id, asks),
+        Some(id) => ask_for_look(alloc, gate, heard, cred, id, keys, asks),
     }
 }
 
@@ -68,6 +69,7 @@ fn say_with<G: Gate>(
     gate: &mut G,
     heard: &Heard<'_>,
     cred: &GssCred<'_>,
+    keys: &mut KeyCache,
     asks: &mut Asks,
 ) -> Said
     requires unasked { asks.old ≡ unasked }
@@ -81,7 +83,7 @@ fn say_with<G: Gate>(
     if cred.proc == RPCSEC_GSS_INIT || cred.proc == RPCSEC_GSS_CONTINUE_INIT {
         return say_creating(alloc, gate, heard, cred, asks);
     }
-    say_by_id(alloc, gate, heard, cred, id_in(cred.context), asks)
+    say_by_id(alloc, gate, heard, cred, id_in(cred.context), keys, asks)
 }
 
 /// Whether a body's first word is there and isn't 1.
@@ -95,14 +97,20 @@ fn another_version(body: &[u8]) -> bool
 }
 
 /// Answers a call with a credential of flavour 6.
-fn say_secure<G: Gate>(alloc: Global, gate: &mut G, heard: &Heard<'_>, asks: &mut Asks) -> Said
+fn say_secure<G: Gate>(
+    alloc: Global,
+    gate: &mut G,
+    heard: &Heard<'_>,
+    keys: &mut KeyCache,
+    asks: &mut Asks,
+) -> Said
     requires unasked { asks.old ≡ unasked }
     ensures ruled { IsRuled G.Gate 2 gate.old gate.new asks.new result
         (cred_ruling (shown heard.entry.now) asks.new.negotiated asks.new.looked
         asks.new.admitted asks.new.ended (cred_at heard.entry.now.call.cred.body.now)) }
 {
     match read_cred(heard.call.cred.body) {
-        Ok(cred) => say_with(alloc, gate, heard, &cred, asks),
+        Ok(cred) => say_with(alloc, gate, heard, &cred, keys, asks),
         Err(_) => {
             let stat = if another_version(heard.call.cred.body) {
                 AUTH_REJECTEDCRED
@@ -116,7 +124,13 @@ fn say_secure<G: Gate>(alloc: Global, gate: &mut G, heard: &Heard<'_>, asks: &mu
 
 /// Answers a call.
 #[tactic(auto, unfolding(accept_book::specs::RecordRule::call_ruling))]
-fn say_call<G: Gate>(alloc: Global, gate: &mut G, heard: &Heard<'_>, asks: &mut Asks) -> Said
+fn say_call<G: Gate>(
+    alloc: Global,
+    gate: &mut G,
+    heard: &Heard<'_>,
+    keys: &mut KeyCache,
+    asks: &mut Asks,
+) -> Said
     requires unasked { asks.old ≡ unasked }
     ensures ruled { IsRuled G.Gate 2 gate.old gate.new asks.new result
         (call_ruling (shown heard.entry.now) asks.new.negotiated asks.new.looked
@@ -129,7 +143,7 @@ fn say_call<G: Gate>(alloc: Global, gate: &mut G, heard: &Heard<'_>, asks: &mut 
     if flavour == AUTH_NONE {
         return say_unauthenticated(alloc, heard);
     }
-    say_secure(alloc, gate, heard, asks)
+    say_secure(alloc, gate, heard, keys, asks)
 }
 
 /// Answers a record.
@@ -140,7 +154,7 @@ fn say_record<G: Gate>(
     now: Moment,
     draws: &[u8; 82],
     width: u32,
-    keys: &MicCache,
+    keys: &mut KeyCache,
     asks: &mut Asks,
 ) -> Said
     requires unasked { asks.old ≡ unasked }
@@ -156,9 +170,8 @@ fn say_record<G: Gate>(
                 now,
                 draws,
                 width,
-                keys,
             };
-            say_call(alloc, gate, &heard, asks)
+            say_call(alloc, gate, &heard, keys, asks)
         }
         Err(CallRefusal::Unreadable { at: _ }) => say_nothing(Rule::Unreadable),
         Err(CallRefusal::NotCall) => say_nothing(Rule::NotCall),
@@ -189,19 +202,20 @@ pub fn answer_record<G: Gate>(
 ) -> Answered
     ensures { AnswersRecord G.Gate gate.old gate.new bytes.now now draws.now width result }
 {
-    answer_record_by(alloc, gate, bytes, now, draws, width, &MicCache::empty())
+    let mut keys = KeyCache::empty();
+    answer_record_by(alloc, gate, bytes, now, draws, width, &mut keys)
 }
 
-/// The same, by the keys of this cache where they are those of the call's context.
+/// The same, by the keys of this cache where they are those of the call's context, whose keys it keeps from then on.
 #[tactic(auto, unfolding(accept_book::specs::RecordRule::record_ruling))]
-pub(crate) fn answer_record_by<G: Gate>(
+pub fn answer_record_by<G: Gate>(
     alloc: Global,
     gate: &mut G,
     bytes: &[u8],
     now: Moment,
     draws: &[u8; 82],
     width: u32,
-    keys: &MicCache,
+    keys: &mut KeyCache,
 ) -> Answered
     ensures { AnswersRecord G.Gate gate.old gate.new bytes.now now draws.now width result }
 {

@@ -1,12 +1,12 @@
 //! A book as a gate: the state of a server with one thread.
 
 use crate::gate::Gate;
-use accept_book::{AdmitRefusal, Admitted, Book, Lease, LookRefusal, Negotiated, Receipt};
+use accept_book::{AdmitRefusal, Admitted, Lease, LookRefusal, Negotiated, OwnSeat, Receipt};
 use sec_base::Moment;
 use std::alloc::Global;
 
 /// A book answers as its own contract says (`BookAnswers`), and tells nothing of what it was asked.
-impl Gate for Book {
+impl Gate for OwnSeat {
     ghost use Rattle.std.specs.Prelude.{false, []};
     ghost use Rattle.gss_server.specs.Asking.{BookAnswers};
     ghost use Rattle.gss_server.specs.Telling.{limits_of};
@@ -29,11 +29,11 @@ impl Gate for Book {
         now: Moment,
         draws: &[u8; 66],
     ) -> Negotiated {
-        Book::negotiate(self, alloc, id, token, now, draws)
+        OwnSeat::negotiate(self, alloc, id, token, now, draws)
     }
 
     fn look(&mut self, id: u64, now: Moment) -> Result<Lease, LookRefusal> {
-        Book::look(self, id, now)
+        OwnSeat::look(self, id, now)
     }
 
     fn admit(
@@ -43,10 +43,10 @@ impl Gate for Book {
         procedure: u32,
         args: [u8; 20],
     ) -> Result<Admitted, AdmitRefusal> {
-        Book::admit(self, lease, seq, procedure, args)
+        OwnSeat::admit(self, lease, seq, procedure, args)
     }
 
     fn end(&mut self, lease: &Lease, seq: u32) -> Result<Receipt, AdmitRefusal> {
-        Book::end(self, lease, seq)
+        OwnSeat::end(self, lease, seq)
     }
 }

@@ -11,12 +11,14 @@ ghost use Rattle.gss_server.specs.Hearing.{shown};
 ghost use Rattle.gss_server.specs.Ruled.{IsRuledInContext, IsScreened, unasked};
 
 use crate::asks::Asks;
+use crate::foresight::{foresee_long, lend_long};
 use crate::gate::Gate;
 use crate::heard::Heard;
 use crate::opening::{are_proper, open_body};
 use crate::results::say_result;
 use crate::saying::{Said, end_at, say_denied, say_mismatch, say_no_memory, say_nothing, say_stat};
 use accept_book::{AdmitRefusal, Admitted, Lease, Rule};
+use krb_tokens::LentKeys;
 use rpc_msgs::numbers::{
     AUTH_TOOWEAK, COUNT, GARBAGE_ARGS, NULL, PROC_UNAVAIL, PROG_UNAVAIL, PROGRAM, RPCSEC_GSS,
     RPCSEC_GSS_CREDPROBLEM, RPCSEC_GSS_CTXPROBLEM, SYSTEM_ERR, VERSION,
@@ -33,6 +35,7 @@ pub(crate) fn say_unadmitted(
     heard: &Heard<'_>,
     cred: &GssCred<'_>,
     lease: &Lease,
+    keys: &LentKeys<'_>,
     refusal: AdmitRefusal,
 ) -> Said
     ensures says { IsSaid result
@@ -43,13 +46,21 @@ pub(crate) fn say_unadmitted(
         AdmitRefusal::AboveMax => say_denied(alloc, heard, Rule::AboveMax, RPCSEC_GSS_CTXPROBLEM),
         AdmitRefusal::Below { last: _ } => say_nothing(Rule::Below),
         AdmitRefusal::Repeat => say_nothing(Rule::Repeat),
-        AdmitRefusal::LogFull => say_stat(alloc, heard, cred, lease, Rule::LogFull, SYSTEM_ERR),
+        AdmitRefusal::LogFull => say_stat(
+            alloc,
+            heard,
+            cred,
+            lease,
+            keys,
+            Rule::LogFull,
+            SYSTEM_ERR,
+        ),
     }
 }
 
 /// Whether the verifier is a MIC of the other side over the call's header.
 #[tactic(auto, unfolding(accept_book::specs::RecordShown::is_verified))]
-fn verified(heard: &Heard<'_>, lease: &Lease) -> bool
+fn verified(heard: &Heard<'_>, lease: &Lease, keys: &LentKeys<'_>) -> bool
     ensures { result ≡ is_verified (shown heard.entry.now) lease.now }
 {
     let call = &heard.call;
@@ -58,7 +69,7 @@ fn verified(heard: &Heard<'_>, lease: &Lease) -> bool
     }
     let header = &heard.bytes[..call.header];
     end_at(lease)
-        .check_mic_by(heard.keys, call.verf.body, header)
+        .check_mic_by(keys, call.verf.body, header)
         .is_ok()
 }
 
@@ -69,17 +80,18 @@ pub(crate) fn screened(
     heard: &Heard<'_>,
     cred: &GssCred<'_>,
     lease: &Lease,
+    keys: &LentKeys<'_>,
 ) -> Option<Said>
     ensures { IsScreened (shown heard.entry.now) (cred_value cred.now) lease.now result }
 {
-    if !verified(heard, lease) {
+    if !verified(heard, lease, keys) {
         return Some(say_denied(alloc, heard, Rule::Verifier, RPCSEC_GSS_CREDPROBLEM));
     }
     if heard.call.program != PROGRAM {
-        return Some(say_stat(alloc, heard, cred, lease, Rule::Program, PROG_UNAVAIL));
+        return Some(say_stat(alloc, heard, cred, lease, keys, Rule::Program, PROG_UNAVAIL));
     }
     if heard.call.version != VERSION {
-        return Some(say_mismatch(alloc, heard, cred, lease));
+        return Some(say_mismatch(alloc, heard, cred, lease, keys));
     }
     None
 }
@@ -90,6 +102,7 @@ fn say_admitted(
     heard: &Heard<'_>,
     cred: &GssCred<'_>,
     lease: &Lease,
+    keys: &LentKeys<'_>,
     args: &[u8],
     answer: &Result<Admitted, AdmitRefusal>,
 ) -> Said
@@ -98,8 +111,8 @@ fn say_admitted(
         lease.now args.now answer.now) }
 {
     match answer {
-        Ok(admitted) => say_result(alloc, heard, cred, lease, args, admitted.posts),
-        Err(refusal) => say_unadmitted(alloc, heard, cred, lease, *refusal),
+        Ok(admitted) => say_result(alloc, heard, cred, lease, keys, args, admitted.posts),
+        Err(refusal) => say_unadmitted(alloc, heard, cred, lease, keys, *refusal),
     }
 }
 
@@ -110,12 +123,15 @@ const EMPTY_DIGEST: [u8; 20] = [
 ];
 
 /// The SHA-1 of arguments, which most calls have none of.
-fn digest_of(args: &[u8]) -> [u8; 20]
+fn digest_of(keys: &LentKeys<'_>, args: &[u8]) -> [u8; 20]
     ensures { result ≡ sha1 args.now }
 {
     match args {
         [] => EMPTY_DIGEST,
-        _ => Sha1::digest(args),
+        _ => match keys.known_digest(args) {
+            Some(digest) => digest,
+            None => Sha1::digest(args),
+        },
     }
 }
 
@@ -126,6 +142,7 @@ fn ask_admission<G: Gate>(
     heard: &Heard<'_>,
     cred: &GssCred<'_>,
     lease: &Lease,
+    keys: &LentKeys<'_>,
     args: &[u8],
     asks: &mut Asks,
 ) -> Said
@@ -135,9 +152,9 @@ fn ask_admission<G: Gate>(
         (ask_admit (shown heard.entry.now) (cred_value cred.now) lease.now args.now
         asks.new.admitted) }
 {
-    let digest = digest_of(args);
+    let digest = digest_of(keys, args);
     let answer = gate.admit(lease, cred.seq, heard.call.procedure, digest);
-    let said = say_admitted(alloc, heard, cred, lease, args, &answer);
+    let said = say_admitted(alloc, heard, cred, lease, keys, args, &answer);
     asks.admitted = Some(answer);
     said
 }
@@ -149,6 +166,7 @@ fn say_args<G: Gate>(
     heard: &Heard<'_>,
     cred: &GssCred<'_>,
     lease: &Lease,
+    keys: &LentKeys<'_>,
     args: Option<Octets>,
     asks: &mut Asks,
 ) -> Said
@@ -158,21 +176,30 @@ fn say_args<G: Gate>(
         args) }
 {
     let Some(args) = args else {
-        return say_stat(alloc, heard, cred, lease, Rule::Body, GARBAGE_ARGS);
+        return say_stat(alloc, heard, cred, lease, keys, Rule::Body, GARBAGE_ARGS);
     };
     if !are_proper(heard.call.procedure, args.as_slice()) {
-        return say_stat(alloc, heard, cred, lease, Rule::Arguments, GARBAGE_ARGS);
+        return say_stat(
+            alloc,
+            heard,
+            cred,
+            lease,
+            keys,
+            Rule::Arguments,
+            GARBAGE_ARGS,
+        );
     }
-    ask_admission(alloc, gate, heard, cred, lease, args.as_slice(), asks)
+    ask_admission(alloc, gate, heard, cred, lease, keys, args.as_slice(), asks)
 }
 
 /// Answers a data call by the arguments that its body carries.
-fn say_body<G: Gate>(
+fn say_opened<G: Gate>(
     alloc: Global,
     gate: &mut G,
     heard: &Heard<'_>,
     cred: &GssCred<'_>,
     lease: &Lease,
+    keys: &LentKeys<'_>,
     asks: &mut Asks,
 ) -> Said
     requires unasked { asks.old ≡ unasked }
@@ -180,9 +207,34 @@ fn say_body<G: Gate>(
         (args_ruling (shown heard.entry.now) (cred_value cred.now) lease.now asks.new.admitted
         (body_args (end_of lease.now) (cred_value cred.now) heard.entry.now.call.args.now)) }
 {
-    match open_body(alloc, &end_at(lease), heard.keys, cred, heard.call.args) {
-        Ok(args) => say_args(alloc, gate, heard, cred, lease, args, asks),
+    match open_body(alloc, &end_at(lease), keys, cred, heard.call.args) {
+        Ok(args) => say_args(alloc, gate, heard, cred, lease, keys, args, asks),
         Err(_) => say_no_memory(),
+    }
+}
+
+/// The same, with the checksums of a long call computed beforehand.
+fn say_body<G: Gate>(
+    alloc: Global,
+    gate: &mut G,
+    heard: &Heard<'_>,
+    cred: &GssCred<'_>,
+    lease: &Lease,
+    keys: &LentKeys<'_>,
+    asks: &mut Asks,
+) -> Said
+    requires unasked { asks.old ≡ unasked }
+    ensures ruled { IsRuledInContext G.Gate gate.old gate.new asks.new result
+        (args_ruling (shown heard.entry.now) (cred_value cred.now) lease.now asks.new.admitted
+        (body_args (end_of lease.now) (cred_value cred.now) heard.entry.now.call.args.now)) }
+{
+    let long = foresee_long(heard, cred, lease, keys.cache);
+    match &long {
+        Some(known) => {
+            let lent = lend_long(keys.cache, known);
+            say_opened(alloc, gate, heard, cred, lease, &lent, asks)
+        }
+        None => say_opened(alloc, gate, heard, cred, lease, keys, asks),
     }
 }
 
@@ -194,22 +246,31 @@ pub(crate) fn say_data<G: Gate>(
     heard: &Heard<'_>,
     cred: &GssCred<'_>,
     lease: &Lease,
+    keys: &LentKeys<'_>,
     asks: &mut Asks,
 ) -> Said
     requires unasked { asks.old ≡ unasked }
     ensures ruled { IsRuledInContext G.Gate gate.old gate.new asks.new result
         (data_ruling (shown heard.entry.now) (cred_value cred.now) lease.now asks.new.admitted) }
 {
-    match screened(alloc, heard, cred, lease) {
+    match screened(alloc, heard, cred, lease, keys) {
         None => {}
         Some(said) => return said,
     }
     let call = &heard.call;
     if call.procedure > COUNT {
-        return say_stat(alloc, heard, cred, lease, Rule::Procedure, PROC_UNAVAIL);
+        return say_stat(
+            alloc,
+            heard,
+            cred,
+            lease,
+            keys,
+            Rule::Procedure,
+            PROC_UNAVAIL,
+        );
     }
     if cred.service == RPC_GSS_SVC_NONE && call.procedure != NULL {
         return say_denied(alloc, heard, Rule::Weak, AUTH_TOOWEAK);
     }
-    say_body(alloc, gate, heard, cred, lease, asks)
+    say_body(alloc, gate, heard, cred, lease, keys, asks)
 }

@@ -15,8 +15,7 @@ use crate::answer::{Kept, Reply};
 use crate::answering::answer_record_by;
 use crate::gate::Gate;
 use crate::keeper::Keeper;
-use crate::saying::end_at;
-use krb_tokens::MicCache;
+use krb_tokens::KeyCache;
 use rpc_msgs::{RecordRefusal, next_record, write_record};
 use sec_base::{Clock, Draw, Link, Octets};
 use std::alloc::Global;
@@ -57,7 +56,7 @@ pub struct Served<L> {
 /// may be found, and how many records were answered.
 #[derive(Drop)]
 struct Course {
-    keys: MicCache,
+    keys: KeyCache,
     records: u32,
 }
 
@@ -92,7 +91,7 @@ pub fn serve_link<L: Link, K: Keeper<Kept>, G: Gate, C: Clock, D: Draw>(
 {
     let mut link = link;
     let mut course = Course {
-        keys: MicCache::empty(),
+        keys: KeyCache::empty(),
         records: 0,
     };
     let end = serve(
@@ -240,7 +239,7 @@ pub fn answer_and_keep<K: Keeper<Kept>, G: Gate, C: Clock, D: Draw>(
     clock: &mut C,
     draw: &mut D,
     width: u32,
-    keys: &mut MicCache,
+    keys: &mut KeyCache,
 ) -> Reply
     requires ready { K.ready keeper.old }
     ensures answered { Makes K.Keeper C.Clock D.Draw keeper.old keeper.new clock.old clock.new
@@ -253,16 +252,8 @@ pub fn answer_and_keep<K: Keeper<Kept>, G: Gate, C: Clock, D: Draw>(
     let mut draws = [0; 82];
     draw.fill(&mut draws);
     let answered = answer_record_by(alloc, gate, octets, now, &draws, width, keys);
-    keep_keys(keys, &answered.kept);
     keeper.keep(answered.kept);
     answered.reply
-}
-
-/// Keeps the keys of the context of a call, which is likely to be that of the next.
-fn keep_keys(keys: &mut MicCache, kept: &Kept) {
-    if let Some(Ok(lease)) = &kept.looked {
-        keys.keep(&end_at(lease));
-    }
 }
 
 /// Writes a reply, where there is one.

@@ -2,7 +2,6 @@
 
 ghost use Rattle.std.specs.Prelude.{◌≤◌, length};
 
-use krb_tokens::MicCache;
 use rpc_msgs::Call;
 use sec_base::Moment;
 
@@ -14,7 +13,5 @@ pub(crate) struct Heard<'a> {
     pub now: Moment,
     pub draws: [u8; 82],
     pub width: u32,
-    /// The keys of the context of the call before, in which those of this one may be found.
-    pub keys: &'a MicCache,
     ghost within: { call.header ≤ length bytes.now },
 }

@@ -8,6 +8,7 @@ mod book_gate;
 mod calling;
 mod connection;
 mod creating;
+mod foresight;
 mod gate;
 mod heard;
 mod keeper;
@@ -20,7 +21,7 @@ mod statuses;
 mod told;
 
 pub use answer::{Answered, Kept, Reply};
-pub use answering::answer_record;
+pub use answering::{answer_record, answer_record_by};
 pub use connection::{ConnEnd, Served, answer_and_keep, serve_link};
 pub use gate::Gate;
 pub use keeper::{KeepAll, KeepNothing, KeepReceipts, Keeper};

@@ -10,13 +10,15 @@ ghost use Rattle.gss_server.specs.Ruled.{IsRuled, IsRuledInContext, unasked};
 
 use crate::asks::Asks;
 use crate::calling::{say_data, say_unadmitted, screened};
+use crate::foresight::{foresee_short, lend_short};
 use crate::gate::Gate;
 use crate::heard::Heard;
-use crate::saying::{Said, say_denied, say_no_context, say_stat};
+use crate::saying::{Said, end_at, say_denied, say_no_context, say_stat};
 use accept_book::{AdmitRefusal, Lease, LookRefusal, Receipt, Rule};
+use krb_tokens::{KeyCache, LentKeys};
 use rpc_msgs::numbers::{RPCSEC_GSS_CTXPROBLEM, SUCCESS};
 use rpcsec_msgs::GssCred;
-use rpcsec_msgs::numbers::RPCSEC_GSS_DATA;
+use rpcsec_msgs::numbers::{RPC_GSS_SVC_PRIVACY, RPCSEC_GSS_DATA};
 use std::alloc::Global;
 
 /// A context was ended, or why it wasn't.
@@ -25,14 +27,15 @@ fn say_ended(
     heard: &Heard<'_>,
     cred: &GssCred<'_>,
     lease: &Lease,
+    keys: &LentKeys<'_>,
     answer: &Result<Receipt, AdmitRefusal>,
 ) -> Said
     ensures says { IsSaid result
         (ended_ruling (shown heard.entry.now) (cred_value cred.now) lease.now answer.now) }
 {
     match answer {
-        Ok(_) => say_stat(alloc, heard, cred, lease, Rule::Ended, SUCCESS),
-        Err(refusal) => say_unadmitted(alloc, heard, cred, lease, *refusal),
+        Ok(_) => say_stat(alloc, heard, cred, lease, keys, Rule::Ended, SUCCESS),
+        Err(refusal) => say_unadmitted(alloc, heard, cred, lease, keys, *refusal),
     }
 }
 
@@ -43,6 +46,7 @@ fn ask_for_end<G: Gate>(
     heard: &Heard<'_>,
     cred: &GssCred<'_>,
     lease: &Lease,
+    keys: &LentKeys<'_>,
     asks: &mut Asks,
 ) -> Said
     requires unasked { asks.old ≡ unasked }
@@ -50,7 +54,7 @@ fn ask_for_end<G: Gate>(
         (ask_end (shown heard.entry.now) (cred_value cred.now) lease.now asks.new.ended) }
 {
     let answer = gate.end(lease, cred.seq);
-    let said = say_ended(alloc, heard, cred, lease, &answer);
+    let said = say_ended(alloc, heard, cred, lease, keys, &answer);
     asks.ended = Some(answer);
     said
 }
@@ -63,14 +67,15 @@ fn say_destroy<G: Gate>(
     heard: &Heard<'_>,
     cred: &GssCred<'_>,
     lease: &Lease,
+    keys: &LentKeys<'_>,
     asks: &mut Asks,
 ) -> Said
     requires unasked { asks.old ≡ unasked }
     ensures ruled { IsRuledInContext G.Gate gate.old gate.new asks.new result
         (destroy_ruling (shown heard.entry.now) (cred_value cred.now) lease.now asks.new.ended) }
 {
-    match screened(alloc, heard, cred, lease) {
-        None => ask_for_end(alloc, gate, heard, cred, lease, asks),
+    match screened(alloc, heard, cred, lease, keys) {
+        None => ask_for_end(alloc, gate, heard, cred, lease, keys, asks),
         Some(said) => said,
     }
 }
@@ -81,6 +86,7 @@ fn say_looked<G: Gate>(
     gate: &mut G,
     heard: &Heard<'_>,
     cred: &GssCred<'_>,
+    keys: &KeyCache,
     answer: &Result<Lease, LookRefusal>,
     asks: &mut Asks,
 ) -> Said
@@ -92,9 +98,11 @@ fn say_looked<G: Gate>(
     match answer {
         Ok(lease) => {
             if cred.proc == RPCSEC_GSS_DATA {
-                return say_data(alloc, gate, heard, cred, lease, asks);
+                let short = foresee_short(heard, cred, lease, keys);
+                let lent = lend_short(keys, &short);
+                return say_data(alloc, gate, heard, cred, lease, &lent, asks);
             }
-            say_destroy(alloc, gate, heard, cred, lease, asks)
+            say_destroy(alloc, gate, heard, cred, lease, &keys.lent(), asks)
         }
         Err(LookRefusal::NoContext) => say_no_context(alloc, heard),
         Err(LookRefusal::NotReady) => say_no_context(alloc, heard),
@@ -102,13 +110,25 @@ fn say_looked<G: Gate>(
     }
 }
 
-/// Asks for a context, and answers its call.
+/// Keeps the keys of a context that was shown: those of its MIC tokens, and for a call by privacy those of its sealed bodies.
+fn keep_keys(keys: &mut KeyCache, answer: &Result<Lease, LookRefusal>, service: u32) {
+    if let Ok(lease) = answer {
+        if service == RPC_GSS_SVC_PRIVACY {
+            keys.keep_sealing(&end_at(lease));
+        } else {
+            keys.keep(&end_at(lease));
+        }
+    }
+}
+
+/// Asks for a context, and answers its call. Its keys are kept for this call and the next.
 pub(crate) fn ask_for_look<G: Gate>(
     alloc: Global,
     gate: &mut G,
     heard: &Heard<'_>,
     cred: &GssCred<'_>,
     id: u64,
+    keys: &mut KeyCache,
     asks: &mut Asks,
 ) -> Said
     requires unasked { asks.old ≡ unasked }
@@ -117,7 +137,8 @@ pub(crate) fn ask_for_look<G: Gate>(
         asks.new.looked) }
 {
     let answer = gate.look(id, heard.now);
-    let said = say_looked(alloc, gate, heard, cred, &answer, asks);
+    keep_keys(keys, &answer, cred.service);
+    let said = say_looked(alloc, gate, heard, cred, keys, &answer, asks);
     asks.looked = Some(answer);
     said
 }

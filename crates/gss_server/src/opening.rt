@@ -6,7 +6,7 @@ ghost use Rattle.rpcsec_msgs.specs.Cred.{cred_value};
 ghost use Rattle.accept_book.specs.RecordShown.{body_args, handle_id};
 ghost use Rattle.accept_book.specs.Served.{are_args, is_one_opaque, one_opaque};
 
-use krb_tokens::{MicCache, TokenEnd};
+use krb_tokens::{LentKeys, TokenEnd};
 use rpc_msgs::numbers::{ECHO, POST};
 use rpc_msgs::{XdrReader, XdrRefusal};
 use rpcsec_bodies::{BodyRefusal, Service, unprotect};
@@ -22,7 +22,7 @@ const ARGUMENT: u32 = 65_536;
 pub(crate) fn open_body(
     alloc: Global,
     end: &TokenEnd,
-    keys: &MicCache,
+    keys: &LentKeys<'_>,
     cred: &GssCred<'_>,
     body: &[u8],
 ) -> Result<Option<Octets>, NoMemory>

@@ -1,22 +1,27 @@
 //! The results of calls of a context, RFC 2203 section 5.3.3.2.
 
-ghost use Rattle.std.specs.Prelude.{◌≡◌, ◌≤◌, ◌++◌, take, drop, OnOk, IfOk, length};
+ghost use Rattle.std.specs.Prelude.{◌≡◌, ◌≤◌, ◌++◌, take, drop, OnOk, IfOk, Some, length};
 ghost use Rattle.rpcsec_msgs.specs.Cred.{cred_value};
-ghost use Rattle.accept_book.specs.RecordShown.{by, end_of, result_body};
+ghost use Rattle.accept_book.specs.RecordShown.{by, signed, end_of, result_body};
 ghost use Rattle.accept_book.specs.RecordRule.{result_reply};
 ghost use Rattle.accept_book.specs.Served.{result_of};
 ghost use Rattle.gss_server.specs.Answers.{IsSaid};
 ghost use Rattle.gss_server.specs.Hearing.{shown};
 
+use crate::answer::Reply;
 use crate::heard::Heard;
-use crate::saying::{Said, end_at, say_no_memory, say_signed};
+use crate::saying::{Said, end_at, say_no_memory, verifier};
 use accept_book::{Lease, Rule};
-use rpc_msgs::XdrWriter;
-use rpc_msgs::numbers::{ECHO, NULL, SUCCESS, WHOAMI};
-use rpcsec_bodies::{Service, protect};
+use krb_tokens::LentKeys;
+use rpc_msgs::numbers::{ECHO, NULL, RPCSEC_GSS, SUCCESS, WHOAMI};
+use rpc_msgs::{XdrWriter, put_accepted};
+use rpcsec_bodies::{Service, protect_onto};
 use rpcsec_msgs::GssCred;
 use sec_base::{NoMemory, Octets};
 use std::alloc::Global;
+
+/// Room for a reply's head, and for what the service of its call puts round the result.
+const ROOM: usize = 256;
 
 /// The result of an admitted call.
 pub(crate) fn say_result(
@@ -24,6 +29,7 @@ pub(crate) fn say_result(
     heard: &Heard<'_>,
     cred: &GssCred<'_>,
     lease: &Lease,
+    keys: &LentKeys<'_>,
     args: &[u8],
     posts: u32,
 ) -> Said
@@ -31,48 +37,71 @@ pub(crate) fn say_result(
     ensures says { IsSaid result (by Rule.Done
         (result_reply (shown heard.entry.now) (cred_value cred.now) lease.now args.now posts)) }
 {
-    match make_body(alloc, heard, cred, lease, args, posts) {
-        Ok(body) => say_signed(
-            alloc,
-            heard,
-            cred,
-            lease,
-            Rule::Done,
-            SUCCESS,
-            0,
-            0,
-            body.as_slice(),
-        ),
+    match make_reply(alloc, heard, cred, lease, keys, args, posts) {
+        Ok(octets) => Said {
+            rule: Rule::Done.number(),
+            reply: Reply::Bytes(octets),
+        },
         Err(_) => say_no_memory(),
     }
 }
 
-/// The body of a reply with a result, by the service of the call.
-#[tactic(auto, unfolding(accept_book::specs::RecordShown::result_body))]
-fn make_body(
+/// The reply with the result of a procedure: NULL has none, and that of ECHO is its arguments, where
+/// they lie.
+fn make_reply(
     alloc: Global,
     heard: &Heard<'_>,
     cred: &GssCred<'_>,
     lease: &Lease,
+    keys: &LentKeys<'_>,
     args: &[u8],
     posts: u32,
 ) -> Result<Octets, NoMemory>
     requires { length args.now ≤ 65540 }
-    ensures value { IfOk result (λ body. body ≡ result_body
-        (end_of lease.now) (cred_value cred.now) (take 16 (drop 66 heard.entry.now.draws))
-        (result_of heard.entry.now.call.procedure args.now lease.now.outcome.initiator posts)) }
-    ensures size { IfOk result (λ body. length body ≤ 130000) }
+    ensures value { IfOk result (λ octets. Some octets
+        ≡ result_reply (shown heard.entry.now) (cred_value cred.now) lease.now args.now posts) }
+    ensures fits { IfOk result (λ octets. length octets ≤ 131072) }
 {
-    let result = result_octets(alloc, heard.call.procedure, args, lease, posts)?;
-    protect(
-        alloc,
+    match heard.call.procedure {
+        NULL => reply_with(alloc, heard, cred, lease, keys, &[]),
+        ECHO => reply_with(alloc, heard, cred, lease, keys, args),
+        procedure => {
+            let result = result_octets(alloc, procedure, args, lease, posts)?;
+            reply_with(alloc, heard, cred, lease, keys, result.as_slice())
+        }
+    }
+}
+
+/// The reply with this result, by the service of the call: its head, and the body written behind that.
+#[tactic(auto, unfolding(accept_book::specs::RecordShown::result_body))]
+fn reply_with(
+    alloc: Global,
+    heard: &Heard<'_>,
+    cred: &GssCred<'_>,
+    lease: &Lease,
+    keys: &LentKeys<'_>,
+    content: &[u8],
+) -> Result<Octets, NoMemory>
+    requires { length content.now ≤ 65540 }
+    ensures value { IfOk result (λ octets. Some octets
+        ≡ signed (shown heard.entry.now) (cred_value cred.now) lease.now SUCCESS 0 0
+        (result_body (end_of lease.now) (cred_value cred.now)
+        (take 16 (drop 66 heard.entry.now.draws)) content.now)) }
+    ensures fits { IfOk result (λ octets. length octets ≤ 131072) }
+{
+    let mic = verifier(cred.seq, keys, lease);
+    let mut head = XdrWriter::with_room(alloc, content.len() + ROOM)?;
+    put_accepted(&mut head, heard.call.xid, RPCSEC_GSS, &mic, SUCCESS)?;
+    let whole = protect_onto(
+        head,
         &end_at(lease),
-        heard.keys,
+        keys,
         Service::of(cred.service),
         cred.seq,
         &confounder_of(&heard.draws),
-        result.as_slice(),
-    )
+        content,
+    )?;
+    Ok(whole.finish())
 }
 
 /// The confounder of a sealed reply.

@@ -13,7 +13,7 @@ ghost use Rattle.gss_server.specs.Hearing.{shown};
 use crate::answer::Reply;
 use crate::heard::Heard;
 use accept_book::{Lease, Rule};
-use krb_tokens::{MicCache, Side, TokenEnd};
+use krb_tokens::{LentKeys, Side, TokenEnd};
 use rpc_msgs::numbers::{
     AUTH_NONE, PROG_MISMATCH, RPCSEC_GSS, RPCSEC_GSS_CREDPROBLEM, SUCCESS, VERSION,
 };
@@ -117,7 +117,7 @@ pub(crate) fn end_at(lease: &Lease) -> TokenEnd
 
 /// The verifier of a reply: a MIC over the number of the call.
 #[tactic(auto, unfolding(rpc_msgs::specs::Words::word))]
-fn verifier(seq: u32, keys: &MicCache, lease: &Lease) -> [u8; 28]
+pub(crate) fn verifier(seq: u32, keys: &LentKeys<'_>, lease: &Lease) -> [u8; 28]
     ensures { result ≡ mic_of (end_of lease.now) (2 * seq) (word seq) }
 {
     end_at(lease).make_mic_by(keys, 2 * seq as u64, &seq.to_be_bytes())
@@ -129,6 +129,7 @@ pub(crate) fn say_signed(
     heard: &Heard<'_>,
     cred: &GssCred<'_>,
     lease: &Lease,
+    keys: &LentKeys<'_>,
     rule: Rule,
     stat: u32,
     low: u32,
@@ -142,7 +143,7 @@ pub(crate) fn say_signed(
     ensures says { IsSaid result (by rule
         (signed (shown heard.entry.now) (cred_value cred.now) lease.now stat low high body.now)) }
 {
-    let mic = verifier(cred.seq, heard.keys, lease);
+    let mic = verifier(cred.seq, keys, lease);
     let reply = RpcReply::Accepted {
         xid: heard.call.xid,
         flavour: RPCSEC_GSS,
@@ -161,13 +162,14 @@ pub(crate) fn say_stat(
     heard: &Heard<'_>,
     cred: &GssCred<'_>,
     lease: &Lease,
+    keys: &LentKeys<'_>,
     rule: Rule,
     stat: u32,
 ) -> Said
     ensures says { IsSaid result
         (by rule (signed (shown heard.entry.now) (cred_value cred.now) lease.now stat 0 0 [])) }
 {
-    say_signed(alloc, heard, cred, lease, rule, stat, 0, 0, &[])
+    say_signed(alloc, heard, cred, lease, keys, rule, stat, 0, 0, &[])
 }
 
 /// The call is of another version of the program, so that which is served is told.
@@ -176,6 +178,7 @@ pub(crate) fn say_mismatch(
     heard: &Heard<'_>,
     cred: &GssCred<'_>,
     lease: &Lease,
+    keys: &LentKeys<'_>,
 ) -> Said
     ensures says { IsSaid result (by Rule.Version (signed (shown heard.entry.now)
         (cred_value cred.now) lease.now PROG_MISMATCH VERSION VERSION [])) }
@@ -186,6 +189,7 @@ pub(crate) fn say_mismatch(
         heard,
         cred,
         lease,
+        keys,
         rule,
         PROG_MISMATCH,
         VERSION,

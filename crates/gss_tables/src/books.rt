@@ -3,7 +3,7 @@
 use crate::connections::book_of;
 use crate::entries;
 use accept_book::{
-    AdmitRefusal, Admitted, Book, BookRefusal, Entry, Lease, NegAnswer, Negotiated, Receipt,
+    AdmitRefusal, Admitted, BookRefusal, Entry, Lease, NegAnswer, Negotiated, OwnSeat, Receipt,
     Receipts,
 };
 use gss_server::Gate;
@@ -191,7 +191,7 @@ pub fn say_log(alloc: Global, log: &[Entry], said: &mut Said) {
 }
 
 /// Says `step=answer` for each step of a line.
-fn step_all(book: &mut Book, files: &Files, cells: &mut Cells<'_>, said: &mut Said) {
+fn step_all(book: &mut OwnSeat, files: &Files, cells: &mut Cells<'_>, said: &mut Said) {
     let mut lease = None;
     for part in cells.rest().unwrap_or("").split(' ') {
         let (step, _answer) = part.split_once('=').unwrap_or((part, ""));

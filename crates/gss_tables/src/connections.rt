@@ -4,7 +4,7 @@ ghost use Rattle.std.specs.Prelude.{◌≡◌, ◌≤◌, ◌<◌, IfSome, false
 
 use crate::entries;
 use crate::records::{MOST, next};
-use accept_book::{Book, Limits};
+use accept_book::{Limits, OwnSeat};
 use gss_server::{KeepNothing, answer_record, serve_link};
 use sec_base::{Clock, Draw, Link, MemClock, MemDraw, MemLink, Moment};
 use std::alloc::Global;
@@ -46,16 +46,16 @@ pub fn book_of(
     letters: &str,
     limits: &str,
     start: Moment,
-) -> Option<Book> {
+) -> Option<OwnSeat> {
     let limits = limits_of(alloc, limits)?;
     let setup = setting.acceptor(alloc, letters)?;
-    Book::open(alloc, setup, limits, start).ok()
+    OwnSeat::open(alloc, setup, limits, start).ok()
 }
 
 /// What serves connections one after the other: a book, a clock and random octets that count.
 #[derive(Drop)]
 struct Desk {
-    gate: Book,
+    gate: OwnSeat,
     clock: MemClock,
     draw: MemDraw,
     width: u32,

@@ -5,7 +5,7 @@ ghost use Rattle.spnego_core.specs.InitMech.{is_own_list};
 
 use crate::connections::book_of;
 use crate::entries;
-use accept_book::{Book, Entry, NegAnswer};
+use accept_book::{Entry, NegAnswer, OwnSeat};
 use client_command::run_client;
 use gate_models::{Beginning, LoopLink};
 use gss_client::{Service, Session, Start};
@@ -26,7 +26,7 @@ const WIDTH: u32 = 4;
 #[derive(Drop)]
 struct AtPresent;
 
-impl Beginning<Book> for AtPresent {
+impl Beginning<OwnSeat> for AtPresent {
     ghost begins = { λ _. Unit {0} };
 
     ghost width = { 4 };
@@ -35,10 +35,10 @@ impl Beginning<Book> for AtPresent {
 }
 
 /// A link over a book, whose acceptor's random octets come from memory.
-type BookLink = LoopLink<Book, MemDraw, AtPresent>;
+type BookLink = LoopLink<OwnSeat, MemDraw, AtPresent>;
 
 /// A link over a book, whose clock stands at 1,000,000 seconds.
-fn link_of(alloc: Global, book: Book, draws: Vec<u8>) -> Option<BookLink>
+fn link_of(alloc: Global, book: OwnSeat, draws: Vec<u8>) -> Option<BookLink>
     ensures { IfSome result (λ link. ⟦<BookLink as Link>⟧.closed link ≡ false) }
 {
     match Moment::new(1_000_000, 0) {

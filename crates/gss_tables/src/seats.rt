@@ -1,6 +1,7 @@
 //! What is asked of a book by two desks in turn, each at a seat of its own, in one thread: the answers are those to one desk.
 
 ghost use Rattle.std.specs.Prelude.{◌≡◌, ◌<◌, []};
+ghost use Rattle.accept_book.specs.Booking.{with_setup};
 ghost use Rattle.gss_server.specs.Telling.{limits_of};
 ghost use Rattle.book_seats.specs.Views.{writer};
 
@@ -9,6 +10,7 @@ use crate::connections::book_of;
 use accept_book::{Book, Log};
 use book_seats::{Board, Room, Seat, Shared, Token, open_board, open_hall};
 use gss_server::Gate;
+use spnego_core::AcceptSetup;
 use std::marker::Brand;
 use std::sync::{Mutex, Wait};
 use table_rows::{Cells, Said};
@@ -42,13 +44,15 @@ fn step_seated<J: Room, R: Wait>(
     rt: &R,
     board: Board,
     token: Token,
+    setup: &AcceptSetup,
     book: Book,
     files: &Files,
     cells: &mut Cells<'_>,
     said: &mut Said,
 ) -> Log
-    requires book { J.begins book }
-    requires limits { limits_of book.core ≡ J.limits }
+    requires setup { setup.now ≡ J.setup }
+    requires book { J.begins (with_setup J.setup book) }
+    requires limits { limits_of book ≡ J.limits }
     requires board { board.shared.table_id ≡ J.table }
     requires words { 0 < board.shared.table_id.words }
     requires token { (token.table_id ≡ board.shared.table_id) × (token.me ≡ (writer 0 [], [])) }
@@ -58,8 +62,8 @@ fn step_seated<J: Room, R: Wait>(
     let one = writer.hire(&hall);
     let other = writer.hire(&hall);
     let lock = Mutex::new(Shared::new(book, writer));
-    let mut first = Seat::new(rt, &lock, &hall, one);
-    let mut second = Seat::new(rt, &lock, &hall, other);
+    let mut first = Seat::new(rt, &lock, &hall, setup, one);
+    let mut second = Seat::new(rt, &lock, &hall, setup, other);
     step_in_turn(&mut first, &mut second, files, cells, said);
     let _one = first.rise();
     let _other = second.rise();
@@ -77,12 +81,13 @@ pub fn answer<R: Wait>(
 ) {
     let alloc = cells.alloc();
     let (letters, limits, start) = (cells.word(), cells.word(), cells.moment());
-    let Some(book) = book_of(alloc, setting, letters, limits, start) else {
+    let Some(own) = book_of(alloc, setting, letters, limits, start) else {
         return cells.expect(false);
     };
+    let (setup, book) = own.into_parts();
     let Ok((board, token)) = open_board(alloc) else {
         return said.starve();
     };
-    let log = step_seated::<Brand, R>(rt, board, token, book, files, cells, said);
+    let log = step_seated::<Brand, R>(rt, board, token, &setup, book, files, cells, said);
     say_log(alloc, log.entries(), said);
 }

@@ -12,6 +12,7 @@ use sec_base::{Clock, Port, Text};
 use server_command::run_server;
 use server_desks::Desk;
 use server_options::address_of;
+use std::alloc::AllocError;
 use std::net::{Net, TcpListener, TcpStream};
 use std::process::ExitCode;
 use std::sync::Wait;
@@ -27,7 +28,19 @@ const NOT_STARTED: u8 = 1;
 /// The status at want of memory.
 const OUT_OF_MEMORY: u8 = 8;
 
+/// The octets of a block that the C library takes from the system by itself, and gives back by itself.
+const BLOCK: usize = 8 * 1024 * 1024;
+
+/// Has the process keep what its desks let go, for the next record. When a block is given back that was taken by itself, the C library
+/// takes later ones of at most its size from what it holds, and holds up to twice as much (mallopt(3), M_MMAP_THRESHOLD); without that a
+/// long record's memory is given back after each call, and comes anew, page by page. Where there is no such block, nothing changes.
+fn hold_memory(rt: HostRuntime) {
+    let block: Result<Vec<u8>, AllocError> = Vec::with_capacity(rt.alloc(), BLOCK);
+    drop(block);
+}
+
 fn main(rt: HostRuntime) -> ExitCode {
+    hold_memory(rt);
     let Some(held) = HeldStreams::hold(&rt) else {
         return ExitCode::from(NOT_STARTED);
     };

@@ -1,22 +1,20 @@
 -- Sealed octets open to what was sealed.
-use Rattle.std.proofs.Common.{◌≡◌, ℕ, ◌+◌, ◌-◌, ◌<◌, ◌≤◌, Bool, true, false, refl, sym, ap, ◌∙◌, arith, List, [], ◌++◌, length, take, drop}
+use Rattle.std.proofs.Common.{◌≡◌, ℕ, ◌+◌, ◌-◌, ◌<◌, ◌≤◌, true, refl, sym, ap, ◌∙◌, arith, List, ◌++◌, length, take, drop}
 use Rattle.std.specs.Prelude.{Ok, Err, nat_eq}
 use Rattle.std.proofs.lemmas.Bool.{le-ltb, lt-ltb}
-use Rattle.std.proofs.lemmas.List.{length-append, length-take-le, take_at, drop_at, take_rest, append-nil}
+use Rattle.std.proofs.lemmas.List.{length-append, length-take-le, take_at, drop_at}
 use lib.Pointwise.{pointwise}
 use Rattle.sha1.specs.Sha1.{sha1, digest_bytes}
 use Rattle.mac_sha1.specs.Mac.{hmac}
 use Rattle.aes_cts.specs.Cipher.{IsOctets}
 use Rattle.aes_cts.specs.Schedule.{key_schedule, rounds_of}
 use Rattle.aes_cts.specs.Stealing.{cts_encrypted, cts_decrypted}
-use Rattle.aes_cts.specs.AesKey.{cipher_key}
 use Rattle.aes_cts.proofs.Undoing.{AreKeys}
 use Rattle.aes_cts.proofs.Blocks.{cipher_key-AreKeys}
 use Rattle.aes_cts.proofs.Restored.{length-cts_encrypted, cts_decrypted-cts_encrypted}
-use Rattle.aes_cts.proofs.Resealed.{length-cts_decrypted}
 use Rattle.krb_derive.specs.declared.key.Key.{Key}
 use Rattle.krb_derive.specs.declared.derivation.Part.TheVariants.{Encrypt, Integrity}
-use Rattle.krb_derive.specs.declared.sealing.OpenRefusal.TheVariants.{Short, BadChecksum}
+use Rattle.krb_derive.specs.declared.sealing.OpenRefusal.TheVariants.{Short}
 use Rattle.krb_derive.specs.Key.{key_octets}
 use Rattle.krb_derive.specs.Derivation.{derived}
 use Rattle.krb_derive.specs.Sealing.{tag_of, seal_of, deciphered, opened}
@@ -45,11 +43,6 @@ pub opened-good : (key : Key) (usage : ℕ) (octets plain : List ℕ) → 28 ≤
     → pointwise nat_eq (tag_of (derived key usage Integrity) plain) (drop (length octets - 12) octets) ≡ true → opened key usage octets ≡ Ok (drop 16 plain)
 unfolding opened
 opened-good key usage octets plain h e good = rw (le-ltb (length octets) 28 h, ← e, good) refl
-
-pub opened-bad : (key : Key) (usage : ℕ) (octets plain : List ℕ) → 28 ≤ length octets → plain ≡ deciphered key usage octets
-    → pointwise nat_eq (tag_of (derived key usage Integrity) plain) (drop (length octets - 12) octets) ≡ false → opened key usage octets ≡ Err BadChecksum
-unfolding opened
-opened-bad key usage octets plain h e bad = rw (le-ltb (length octets) 28 h, ← e, bad) refl
 
 deciphered-is : (key : Key) (usage : ℕ) (octets : List ℕ) (n : ℕ) → length octets - 12 ≡ n
     → deciphered key usage octets ≡ cts_decrypted (key_octets (derived key usage Encrypt)) (take n octets)
@@ -85,22 +78,3 @@ kept_opens kept key usage confounder plain octets for long small e =
     let keys : AreKeys (key_schedule (key_octets (derived key usage Encrypt))) (rounds_of (key_octets (derived key usage Encrypt))) =
     rw for.cipher at (cipher_key-AreKeys kept.cipher) in
     ap (opened key usage) e ∙ opened-seal_of key usage confounder plain keys long small
-
-pub kept_deciphers : (kept : SealKeys) (key : Key) (usage : ℕ) (octets list plain : List ℕ) → ForSealing kept key usage
-    → list ≡ take (length octets - 12) octets → plain ≡ cts_decrypted (cipher_key kept.cipher) list → plain ≡ deciphered key usage octets
-unfolding deciphered
-kept_deciphers kept key usage octets list plain for el ep = ep ∙ rw (for.cipher, el) refl
-
-pub kept_compares : (key : Key) (usage : ℕ) (octets plain shown tag : List ℕ) (answer : Bool) → 12 ≤ length octets → shown ≡ plain
-    → tag ≡ take 12 (hmac (key_octets (derived key usage Integrity)) (shown ++ []))
-    → answer ≡ pointwise nat_eq tag (take (length octets - (length octets - 12)) (drop (length octets - 12) octets))
-    → pointwise nat_eq (tag_of (derived key usage Integrity) plain) (drop (length octets - 12) octets) ≡ answer
-unfolding tag_of
-kept_compares key usage octets plain shown tag answer long es et ea =
-    let made = rw (es, append-nil plain) at et in
-    sym (rw (made, take_rest octets (length octets - 12)) at ea)
-
-pub enough : (cipher list plain octets : List ℕ) → 28 ≤ length octets → list ≡ take (length octets - 12) octets → plain ≡ cts_decrypted cipher list → 16 ≤ length plain
-enough cipher list plain octets long el ep =
-    let n : length list ≡ length octets - 12 = ap length el ∙ length-take-le (length octets - 12) octets (omega arith) in
-    omega (arith, ap length ep, length-cts_decrypted cipher list (omega arith))

@@ -4,4 +4,5 @@ pub mod Derivation
 pub mod Sealing
 pub mod Making
 pub mod Kept
+pub mod SideBySide
 pub mod Laws

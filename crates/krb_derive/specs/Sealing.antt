@@ -1,7 +1,8 @@
 -- Sealed octets and checksums, RFC 3961 section 5.3 and RFC 3962 section 6.
-use Rattle.std.specs.Prelude.{ℕ, ◌-◌, nat_lt, nat_eq, List, ◌++◌, length, take, drop, Result, Ok}
-use Rattle.std.specs.Prelude.{Err, if◌then◌else◌}
+use Rattle.std.specs.Prelude.{◌≡◌, ℕ, ◌-◌, nat_lt, nat_eq, List, ◌++◌, length, take, drop, Result}
+use Rattle.std.specs.Prelude.{Ok, Err, if◌then◌else◌}
 use lib.Pointwise.{pointwise}
+use Rattle.aes_cts.specs.Cipher.{IsOctets}
 use Rattle.aes_cts.specs.Stealing.{cts_encrypted, cts_decrypted}
 use Rattle.mac_sha1.specs.Mac.{hmac}
 use Rattle.krb_derive.specs.declared.derivation.Part.TheVariants.{Encrypt, Integrity, Check}
@@ -33,6 +34,12 @@ opened key usage octets =
     else if pointwise nat_eq (tag_of (derived key usage Integrity) (deciphered key usage octets))
     (drop (length octets - 12) octets)
     then Ok (drop 16 (deciphered key usage octets)) else Err BadChecksum
+
+-- what is sealed under this key and usage opens to itself
+abbrev pub Opens : Key → ℕ → Type 0
+Opens key usage = (confounder plain : List ℕ) → length confounder ≡ 16
+    → IsOctets (confounder ++ plain)
+    → opened key usage (seal_of key usage confounder plain) ≡ Ok plain
 
 -- the checksum of octets under this key and usage
 unfoldable pub checksum_of : Key → ℕ → List ℕ → List ℕ

@@ -11,7 +11,7 @@ ghost use Rattle.krb_derive.specs.declared.key.Key.{Key};
 
 use crate::derivation::{Part, derive};
 use crate::key::Key;
-use mac_sha1::Hmac;
+use mac_sha1::{Hmac, MacKey};
 
 /// The front of a code.
 pub(crate) fn tag_of(code: [u8; 20]) -> [u8; 12]
@@ -23,7 +23,7 @@ pub(crate) fn tag_of(code: [u8; 20]) -> [u8; 12]
 }
 
 /// Whether a tag is the one that was computed. Every octet is looked at, whatever differs.
-pub(crate) fn is_tag(computed: &[u8; 12], tag: &[u8]) -> bool
+pub fn is_tag(computed: &[u8; 12], tag: &[u8]) -> bool
     ensures { result ≡ pointwise nat_eq computed.now tag.now }
 {
     if tag.len() != 12 {
@@ -47,18 +47,22 @@ pub(crate) fn tag_under(begun: &Hmac, first: &[u8], second: &[u8]) -> [u8; 12]
     tag_of(code.finish())
 }
 
-/// The checksum key of a key and a usage, derived once for many messages.
+/// The checksum key of a key and a usage, derived once for many messages. It is begun for one checksum, and made ready
+/// for those that are made side by side.
 #[derive(Drop)]
 pub struct CheckKey {
     code: Hmac,
+    pub(crate) ready: MacKey,
 }
 
 impl CheckKey {
     pub fn of(key: &Key, usage: u32) -> CheckKey
         ensures { ForChecks result key.now usage }
     {
+        let derived = derive(key, usage, Part::Check);
         CheckKey {
-            code: Hmac::new(derive(key, usage, Part::Check).bytes()),
+            code: Hmac::new(derived.bytes()),
+            ready: MacKey::new(derived.bytes()),
         }
     }
 
@@ -83,7 +87,8 @@ impl CheckKey {
 pub fn checksum(key: &Key, usage: u32, first: &[u8], second: &[u8]) -> [u8; 12]
     ensures { result ≡ checksum_of key.now usage (first.now ++ second.now) }
 {
-    CheckKey::of(key, usage).checksum(first, second)
+    let begun = Hmac::new(derive(key, usage, Part::Check).bytes());
+    tag_under(&begun, first, second)
 }
 
 /// Whether `tag` is the checksum of both in a row.
@@ -91,5 +96,5 @@ pub fn verify(key: &Key, usage: u32, first: &[u8], second: &[u8], tag: &[u8]) ->
     ensures { result
         ≡ pointwise nat_eq (checksum_of key.now usage (first.now ++ second.now)) tag.now }
 {
-    CheckKey::of(key, usage).verify(first, second, tag)
+    is_tag(&checksum(key, usage, first, second), tag)
 }

@@ -6,9 +6,10 @@ ghost use Rattle.krb_derive.specs.Fold.{n_fold};
 ghost use Rattle.krb_derive.specs.Key.{key_octets};
 ghost use Rattle.krb_derive.specs.Derivation.{octet_of_part, constant, derived};
 
+use crate::constants::folded_before;
 use crate::fold::n_fold;
 use crate::key::Key;
-use aes_cts::AesKey;
+use aes_cts::{AesKey, ForwardKey};
 
 /// What a derived key is for (RFC 3961 section 5.3).
 #[derive(Clone, Copy, Debug, PartialEq, Eq)]
@@ -43,14 +44,24 @@ pub(crate) fn cipher_of(key: &Key) -> AesKey
     }
 }
 
-// The constant of a usage and a part, folded to a block.
-fn folded(usage: u32, part: Part) -> [u8; 16]
+// Folds the constant of a usage and a part to a block.
+fn fold_constant(usage: u32, part: Part) -> [u8; 16]
     ensures { result ≡ n_fold 16 (constant usage part) }
 {
     let [a, b, c, d] = usage.to_be_bytes();
     let mut block = [0u8; 16];
     n_fold(&[a, b, c, d, part.octet()], &mut block);
     block
+}
+
+// The constant of a usage and a part, folded to a block: one that is known, or else computed.
+fn folded(usage: u32, part: Part) -> [u8; 16]
+    ensures { result ≡ n_fold 16 (constant usage part) }
+{
+    match folded_before(usage, part) {
+        Some(block) => block,
+        None => fold_constant(usage, part),
+    }
 }
 
 fn joined(first: &[u8; 16], second: &[u8; 16]) -> [u8; 32]
@@ -68,9 +79,9 @@ pub fn derive(key: &Key, usage: u32, part: Part) -> Key
 {
     let block = folded(usage, part);
     match key {
-        Key::Aes128(octets) => Key::Aes128(AesKey::new128(octets).block(&block)),
+        Key::Aes128(octets) => Key::Aes128(ForwardKey::new128(octets).block(&block)),
         Key::Aes256(octets) => {
-            let cipher = AesKey::new256(octets);
+            let cipher = ForwardKey::new256(octets);
             let first = cipher.block(&block);
             let second = cipher.block(&first);
             Key::Aes256(joined(&first, &second))

@@ -11,12 +11,10 @@ use Rattle.aes_cts.specs.Cipher.{IsOctets}
 use Rattle.aes_cts.specs.Stealing.{cts_encrypted}
 use Rattle.aes_cts.proofs.Restored.{length-cts_encrypted}
 use Rattle.krb_derive.specs.declared.derivation.Part.TheVariants.{Encrypt, Integrity}
-use Rattle.krb_derive.specs.declared.sealing.SealKeys.{SealKeys}
 use Rattle.krb_derive.specs.Key.{key_octets}
 use Rattle.krb_derive.specs.Derivation.{derived}
-use Rattle.krb_derive.specs.Sealing.{checksum_of, tag_of, seal_of, opened}
-use Rattle.krb_derive.specs.Kept.{ForSealing}
-use Rattle.krb_derive.proofs.Opened.{length-tag_of, kept_opens}
+use Rattle.krb_derive.specs.Sealing.{checksum_of, tag_of, seal_of, opened, Opens}
+use Rattle.krb_derive.proofs.Opened.{length-tag_of}
 use Rattle.krb_tokens.specs.declared.end.Side.{Side}
 use Rattle.krb_tokens.specs.declared.end.Side.TheVariants.{Initiator, Acceptor}
 use Rattle.krb_tokens.specs.declared.end.TokenEnd.{TokenEnd}
@@ -164,11 +162,11 @@ reads-sealed : (end : TokenEnd) (token : List ℕ) → is_other_kind 5 token ≡
 unfolding unwrapped
 reads-sealed end token kind long from subkey filler sealed = rw (kind, long, from, subkey, eq-eqb (slice_index token 3) 255 filler, sealed) refl
 
-pub sealed-taken : (kept : SealKeys) (end : TokenEnd) (number rotation : ℕ) (confounder octets : List ℕ) → rotation < 65536
-    → ForSealing kept end.key (seal_usage end.side) → length confounder ≡ 16 → IsOctets (confounder ++ (octets ++ wrap_header end true 0 0 number))
+pub sealed-taken : (end : TokenEnd) (number rotation : ℕ) (confounder octets : List ℕ) → rotation < 65536
+    → Opens end.key (seal_usage end.side) → length confounder ≡ 16 → IsOctets (confounder ++ (octets ++ wrap_header end true 0 0 number))
     → unwrapped (facing end) (rotated rotation (wrap_of end number true confounder octets)) ≡ Ok (record { sealed = true; content = octets })
 unfolding wrap_of sealed_body
-sealed-taken kept end number rotation confounder octets small for longc are =
+sealed-taken end number rotation confounder octets small sealed_opens longc are =
     let header : List ℕ = wrap_header end true 0 0 number in
     let plain : List ℕ = octets ++ header in
     let body : List ℕ = seal_of end.key (seal_usage end.side) confounder plain in
@@ -180,7 +178,7 @@ sealed-taken kept end number rotation confounder octets small for longc are =
     body-back token body rotation (rest-wrap end true 0 rotation number (turned_right rotation body))
     (word-wrap end true 0 rotation number (turned_right rotation body) small) (omega arith) in
     let opens : opened end.key (seal_usage (other_side (other_side end.side))) (body_of token) ≡ Ok plain =
-    rw (back, other-other end.side) (kept_opens kept end.key (seal_usage end.side) confounder plain body for longc are refl) in
+    rw (back, other-other end.side) (sealed_opens confounder plain longc are) in
     let extra : extra_count token ≡ 0 = extra-none end true rotation number (turned_right rotation body) in
     let count : length plain - 16 ≡ length octets = omega arith in
     let ending : drop (length plain - 16) plain ≡ unturned_header token =

@@ -1,5 +1,6 @@
 pub mod End
 pub mod Cache
+pub mod Known
 pub mod Mic
 pub mod Wrap
 pub mod Tokens

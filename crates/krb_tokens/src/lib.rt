@@ -4,13 +4,19 @@
 mod cache;
 mod done;
 mod end;
+mod foreseen;
+mod known;
 mod laws;
+mod lent;
 mod mic;
 mod mic_keys;
 mod wrap;
+mod wrap_keys;
 
-pub use cache::MicCache;
+pub use cache::KeyCache;
 pub use done::MechDone;
 pub use end::{Side, TokenEnd, TokenRefusal};
+pub use known::{KnownDigest, KnownMic, KnownMics, KnownPair, MicTask};
 pub use laws::{prove_acceptance, prove_laws};
+pub use lent::LentKeys;
 pub use wrap::Unwrapped;

@@ -12,8 +12,9 @@ ghost use Rattle.std.specs.Prelude.{◌≡◌, ◌++◌, Ok};
 ghost use Rattle.krb_tokens.specs.End.{facing};
 ghost use Rattle.krb_tokens.specs.Mic.{mic_header, mic_of, checked_mic};
 
-use crate::cache::MicCache;
+use crate::cache::KeyCache;
 use crate::end::{TokenEnd, TokenRefusal, all_filler, is_other_kind};
+use crate::lent::LentKeys;
 
 fn joined(header: &[u8; 16], tag: &[u8; 12]) -> [u8; 28]
     ensures { result ≡ header.now ++ tag.now }
@@ -25,7 +26,7 @@ fn joined(header: &[u8; 16], tag: &[u8; 12]) -> [u8; 28]
 }
 
 impl TokenEnd {
-    fn mic_header(&self, number: u64) -> [u8; 16]
+    pub(crate) fn mic_header(&self, number: u64) -> [u8; 16]
         ensures { result ≡ mic_header self.now number }
     {
         let [a, b, c, d, e, f, g, h] = number.to_be_bytes();
@@ -54,16 +55,17 @@ impl TokenEnd {
         ensures value { result ≡ mic_of self.now number bytes.now }
         ensures taken { checked_mic (facing self.now) result bytes.now ≡ Ok tt }
     {
-        self.make_mic_by(&MicCache::empty(), number, bytes)
+        let cache = KeyCache::empty();
+        self.make_mic_by(&cache.lent(), number, bytes)
     }
 
-    /// The same, by the keys of this cache where they are this end's.
-    pub fn make_mic_by(&self, cache: &MicCache, number: u64, bytes: &[u8]) -> [u8; 28]
+    /// The same, by what is lent where it is this end's.
+    pub fn make_mic_by(&self, keys: &LentKeys<'_>, number: u64, bytes: &[u8]) -> [u8; 28]
         ensures value { result ≡ mic_of self.now number bytes.now }
         ensures taken { checked_mic (facing self.now) result bytes.now ≡ Ok tt }
     {
         let header = self.mic_header(number);
-        joined(&header, &self.own_checksum(cache, bytes, &header))
+        joined(&header, &self.own_checksum(keys, bytes, &header))
     }
 
     /// Whether a token is the other side's over these octets, whatever its number. A token of two octets or more that begins as
@@ -71,13 +73,14 @@ impl TokenEnd {
     pub fn check_mic(&self, token: &[u8], bytes: &[u8]) -> Result<(), TokenRefusal>
         ensures { result ≡ checked_mic self.now token.now bytes.now }
     {
-        self.check_mic_by(&MicCache::empty(), token, bytes)
+        let cache = KeyCache::empty();
+        self.check_mic_by(&cache.lent(), token, bytes)
     }
 
-    /// The same, by the keys of this cache where they are this end's.
+    /// The same, by what is lent where it is this end's.
     pub fn check_mic_by(
         &self,
-        cache: &MicCache,
+        keys: &LentKeys<'_>,
         token: &[u8],
         bytes: &[u8],
     ) -> Result<(), TokenRefusal>
@@ -98,7 +101,7 @@ impl TokenEnd {
         if !all_filler(&token[3..8]) {
             return Err(TokenRefusal::Filler);
         }
-        if self.is_others_checksum(cache, bytes, &token[..16], &token[16..]) {
+        if self.is_others_checksum(keys, bytes, &token[..16], &token[16..]) {
             Ok(())
         } else {
             Err(TokenRefusal::BadChecksum)

@@ -6,7 +6,7 @@ ghost use Rattle.krb_derive.specs.Kept.{ForChecks};
 ghost use Rattle.krb_derive.specs.Sealing.{checksum_of};
 ghost use Rattle.krb_tokens.specs.End.{other_side, sign_usage};
 
-use crate::end::TokenEnd;
+use crate::end::{Side, TokenEnd};
 use krb_derive::CheckKey;
 
 /// The checksum keys of an end: that of the tokens that it makes, and that of the other side's.
@@ -27,6 +27,17 @@ impl MicKeys {
             end: *end,
             own: CheckKey::of(&end.key, end.side.sign_usage()),
             other: CheckKey::of(&end.key, end.side.other().sign_usage()),
+        }
+    }
+
+    /// The checksum key of the tokens that this side makes.
+    pub(crate) fn key_of(&self, side: Side) -> &CheckKey
+        ensures { ∥ ForChecks result.now self.now.end.key (sign_usage side) ∥₁ }
+    {
+        if side == self.end.side {
+            &self.own
+        } else {
+            &self.other
         }
     }
 

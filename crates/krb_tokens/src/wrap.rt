@@ -11,7 +11,8 @@
 //! | from 16 | the body: sealed, or with a checksum of 12 octets at its end |
 
 ghost use Rattle.std.specs.Prelude.{◌≡◌, ℕ, ◌+◌, ◌<◌, ◌≤◌, true, false, nat_lt, nat_eq, length};
-ghost use Rattle.std.specs.Prelude.{take, drop, ◌++◌, slice_index, List, IfOk, Ok, if◌then◌else◌};
+ghost use Rattle.std.specs.Prelude.{take, drop, ◌++◌, slice_index, List, IfOk, OnOk, Ok};
+ghost use Rattle.std.specs.Prelude.{if◌then◌else◌};
 ghost use lib.Pointwise.{pointwise};
 ghost use Rattle.sec_base.specs.Answers.{Gives};
 ghost use Rattle.krb_tokens.specs.End.{is_sealed, facing};
@@ -19,8 +20,9 @@ ghost use Rattle.krb_tokens.specs.Wrap.{wrap_header, wrap_of, word_of, body_of, 
 ghost use Rattle.krb_tokens.specs.Wrap.{bare_header, unwrapped_signed, unwrapped_plain};
 ghost use Rattle.krb_tokens.specs.Wrap.{unwrapped_sealed, unwrapped, rotated};
 
+use crate::cache::KeyCache;
 use crate::end::{TokenEnd, TokenRefusal, is_other_kind, is_sealed};
-use krb_derive::{OpenRefusal, SealKeys, checksum, open, verify};
+use krb_derive::{Piece, checksum, verify};
 use sec_base::{NoMemory, Octets};
 use std::alloc::Global;
 
@@ -28,7 +30,7 @@ use std::alloc::Global;
 #[derive(Drop)]
 pub struct Unwrapped {
     pub sealed: bool,
-    pub content: Octets,
+    pub content: Piece,
 }
 
 fn word_of(token: &[u8], at: usize) -> usize
@@ -107,25 +109,43 @@ fn is_same(octets: &[u8], header: &[u8; 16]) -> bool
 }
 
 // What opened octets hold, behind which the header stands again.
-fn plain_content(token: &[u8], mut plain: Vec<u8>) -> Result<Unwrapped, TokenRefusal>
+fn plain_content(token: &[u8], mut plain: Piece) -> Result<Unwrapped, TokenRefusal>
     requires { 16 ≤ length token.now }
-    ensures { result ≡ unwrapped_plain token.now plain.items }
+    ensures { result ≡ unwrapped_plain token.now plain }
 {
     let extra = word_of(token, 4);
-    let list = plain.as_slice();
-    if list.len() < extra + 16 {
+    let octets = plain.as_slice();
+    if octets.len() < extra + 16 {
         return Err(TokenRefusal::ExtraCount);
     }
-    let end = list.len() - 16;
+    let end = octets.len() - 16;
     let header = unturned_header(token);
-    if !is_same(&list[end..], &header) {
+    if !is_same(&octets[end..], &header) {
         return Err(TokenRefusal::InnerHeader);
     }
-    plain.truncate(end - extra);
+    plain.keep_first(end - extra);
     Ok(Unwrapped {
         sealed: true,
-        content: Octets::from_vec(plain),
+        content: plain,
     })
+}
+
+// Appends what is sealed: a confounder, octets in two pieces, and the header.
+fn put_plain(
+    list: &mut Vec<u8>,
+    confounder: &[u8; 16],
+    first: &[u8],
+    second: &[u8],
+    header: &[u8; 16],
+) -> Result<(), NoMemory>
+    ensures { OnOk result (list.new.items ≡ list.old.items
+        ++ (confounder.now ++ ((first.now ++ second.now) ++ header.now))) }
+{
+    list.extend_from_slice(confounder)?;
+    list.extend_from_slice(first)?;
+    list.extend_from_slice(second)?;
+    list.extend_from_slice(header)?;
+    Ok(())
 }
 
 impl TokenEnd {
@@ -171,9 +191,37 @@ impl TokenEnd {
         Ok(Octets::from_vec(list))
     }
 
+    /// Appends to octets the sealed token of these in two pieces, with that number, RRC 0 and EC 0. It is made where it stands, by the keys
+    /// of this cache where they are this end's.
+    pub fn wrap_onto(
+        &self,
+        list: Vec<u8>,
+        cache: &KeyCache,
+        number: u64,
+        confounder: &[u8; 16],
+        first: &[u8],
+        second: &[u8],
+    ) -> Result<Vec<u8>, NoMemory>
+        ensures value { IfOk result (λ v. v.items ≡ list.items
+            ++ wrap_of self.now number true confounder.now (first.now ++ second.now)) }
+        ensures unwraps { IfOk result (λ _. (rotation : ℕ) → rotation < 65536
+            → unwrapped (facing self.now) (rotated rotation
+            (wrap_of self.now number true confounder.now (first.now ++ second.now)))
+            ≡ Ok (record { sealed = true; content = first.now ++ second.now })) }
+    {
+        let header = self.wrap_header(true, 0, number);
+        let mut list = list;
+        list.extend_from_slice(&header)?;
+        let start = list.len();
+        put_plain(&mut list, confounder, first, second, &header)?;
+        self.seal_behind(cache, &mut list, start)?;
+        Ok(list)
+    }
+
     fn wrap_sealed(
         &self,
         alloc: Global,
+        cache: &KeyCache,
         number: u64,
         confounder: &[u8; 16],
         bytes: &[u8],
@@ -183,16 +231,9 @@ impl TokenEnd {
         ensures unwraps { IfOk result (λ o. (rotation : ℕ) → rotation < 65536 → unwrapped (facing
             self.now) (rotated rotation o) ≡ Ok (record { sealed = true; content = bytes.now })) }
     {
-        let header = self.wrap_header(true, 0, number);
-        let mut plain = Vec::with_capacity(alloc, bytes.len().saturating_add(16))?;
-        plain.extend_from_slice(bytes)?;
-        plain.extend_from_slice(&header)?;
-        let keys = SealKeys::of(&self.key, self.side.seal_usage());
-        let body = keys.seal(alloc, confounder, plain.as_slice())?;
-        let mut list = Vec::with_capacity(alloc, bytes.len().saturating_add(60))?;
-        list.extend_from_slice(&header)?;
-        list.extend_from_slice(body.as_slice())?;
-        Ok(Octets::from_vec(list))
+        let list = Vec::with_capacity(alloc, bytes.len().saturating_add(60))?;
+        let token = self.wrap_onto(list, cache, number, confounder, bytes, &[])?;
+        Ok(Octets::from_vec(token))
     }
 
     /// The token of these octets with that number, RRC 0 and, where it is sealed, EC 0.
@@ -209,8 +250,26 @@ impl TokenEnd {
         ensures unwraps { IfOk result (λ o. (rotation : ℕ) → rotation < 65536 → unwrapped (facing
             self.now) (rotated rotation o) ≡ Ok (record { sealed = sealed; content = bytes.now })) }
     {
+        self.wrap_by(alloc, &KeyCache::empty(), number, sealed, confounder, bytes)
+    }
+
+    /// The same, by the keys of this cache where they are this end's.
+    pub fn wrap_by(
+        &self,
+        alloc: Global,
+        cache: &KeyCache,
+        number: u64,
+        sealed: bool,
+        confounder: &[u8; 16],
+        bytes: &[u8],
+    ) -> Result<Octets, NoMemory>
+        ensures value { IfOk result
+            (λ o. o ≡ wrap_of self.now number sealed confounder.now bytes.now) }
+        ensures unwraps { IfOk result (λ o. (rotation : ℕ) → rotation < 65536 → unwrapped (facing
+            self.now) (rotated rotation o) ≡ Ok (record { sealed = sealed; content = bytes.now })) }
+    {
         if sealed {
-            self.wrap_sealed(alloc, number, confounder, bytes)
+            self.wrap_sealed(alloc, cache, number, confounder, bytes)
         } else {
             self.wrap_signed(alloc, number, bytes)
         }
@@ -224,7 +283,7 @@ impl TokenEnd {
         if word_of(token, 4) != 12 {
             return Err(TokenRefusal::ExtraCount);
         }
-        let mut body = match body_of(alloc, token) {
+        let body = match body_of(alloc, token) {
             Ok(body) => body,
             Err(_) => return Err(TokenRefusal::NoMemory),
         };
@@ -235,14 +294,18 @@ impl TokenEnd {
         if !verify(&self.key, usage, &list[..count], &bare, &list[count..]) {
             return Err(TokenRefusal::BadChecksum);
         }
-        body.truncate(count);
         Ok(Unwrapped {
             sealed: false,
-            content: Octets::from_vec(body),
+            content: Piece::between(body, 0, count),
         })
     }
 
-    fn unwrap_sealed(&self, alloc: Global, token: &[u8]) -> Result<Unwrapped, TokenRefusal>
+    fn unwrap_sealed(
+        &self,
+        alloc: Global,
+        cache: &KeyCache,
+        token: &[u8],
+    ) -> Result<Unwrapped, TokenRefusal>
         requires { 28 ≤ length token.now }
         ensures { Gives TokenRefusal.NoMemory (λ u. u) result
             (unwrapped_sealed self.now token.now) }
@@ -251,18 +314,27 @@ impl TokenEnd {
             Ok(body) => body,
             Err(_) => return Err(TokenRefusal::NoMemory),
         };
-        let usage = self.side.other().seal_usage();
-        match open(alloc, &self.key, usage, body.as_slice()) {
-            Ok(plain) => plain_content(token, plain.into_vec()),
-            Err(OpenRefusal::NoMemory) => Err(TokenRefusal::NoMemory),
-            Err(OpenRefusal::Short) => Err(TokenRefusal::BadChecksum),
-            Err(OpenRefusal::BadChecksum) => Err(TokenRefusal::BadChecksum),
+        match self.open_in(cache, body) {
+            Ok(plain) => plain_content(token, plain),
+            Err(_) => Err(TokenRefusal::BadChecksum),
         }
     }
 
     /// What a token of the other side holds, whatever its number and its RRC. A token of two octets or more that begins as another
     /// kind is refused by Kind before its length is judged, and one that isn't sealed by ExtraCount before its checksum is.
     pub fn unwrap(&self, alloc: Global, token: &[u8]) -> Result<Unwrapped, TokenRefusal>
+        ensures { Gives TokenRefusal.NoMemory (λ u. u) result (unwrapped self.now token.now) }
+    {
+        self.unwrap_by(alloc, &KeyCache::empty(), token)
+    }
+
+    /// The same, by the keys of this cache where they are this end's.
+    pub fn unwrap_by(
+        &self,
+        alloc: Global,
+        cache: &KeyCache,
+        token: &[u8],
+    ) -> Result<Unwrapped, TokenRefusal>
         ensures { Gives TokenRefusal.NoMemory (λ u. u) result (unwrapped self.now token.now) }
     {
         if is_other_kind(5, token) {
@@ -281,7 +353,7 @@ impl TokenEnd {
             return Err(TokenRefusal::Filler);
         }
         if is_sealed(token[2]) {
-            self.unwrap_sealed(alloc, token)
+            self.unwrap_sealed(alloc, cache, token)
         } else {
             self.unwrap_signed(alloc, token)
         }

@@ -1,2 +1,4 @@
 pub mod Mac
 pub mod Hi
+pub mod Ready
+pub mod Four

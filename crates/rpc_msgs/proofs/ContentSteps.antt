@@ -1,7 +1,9 @@
 -- Piece after piece of what a header announces.
-use Rattle.std.proofs.Common.{◌≡◌, ℕ, ◌+◌, ◌-◌, ◌<◌, ◌≤◌, true, false, List, ◌++◌, length, ap, ◌∙◌, arith, append_assoc, Ok, Err}
-use Rattle.std.proofs.lemmas.List.{length-append}
+use Rattle.std.proofs.Common.{◌≡◌, ℕ, ◌+◌, ◌-◌, ◌<◌, ◌≤◌, false, List, [], ◌++◌, length, take, replicate, ap, sym, subst, ◌∙◌, arith, append_assoc, Result, Ok, Err}
+use Rattle.std.proofs.Math.Seq.{take-append-add}
+use Rattle.std.proofs.lemmas.List.{length-append, length-take-le, take_all, take_at, take-take, take-append-le}
 use Rattle.sec_base.specs.Link.{Wire}
+use Rattle.sec_base.specs.Streams.{Took}
 use Rattle.rpc_msgs.specs.Fragments.{Grows, TakesPiece, TakesContent}
 use Rattle.rpc_msgs.specs.declared.record.RecordRefusal.{RecordRefusal}
 use Rattle.rpc_msgs.specs.declared.record.RecordRefusal.TheVariants.{LinkFault, TooLong, TooManyFragments, Torn, NoMemory}
@@ -30,3 +32,30 @@ piece-refused c zs part left whole size sum fits g TooLong t = elim t [ ]
 piece-refused c zs part left whole size sum fits g TooManyFragments t = elim t [ ]
 piece-refused c zs part left whole size sum fits g Torn t = elim t [ ]
 piece-refused c zs part left whole size sum fits g NoMemory t = (part ++ t.0, omega (arith, length-append part t.0, t.1), took-again g.took t.2)
+
+-- zeros behind octets, for those that are to be read
+pub behind-zeros : (before padded : List ℕ) (at more count : ℕ) → length before ≡ at → padded ≡ take (at + more) before ++ replicate count 0 → take at padded ≡ before
+behind-zeros before padded at more count size e =
+    let all : take (at + more) before ≡ before = take_all (at + more) before (omega (arith, size)) in
+    ap (take at) e ∙ (ap (λ (zs : List ℕ). take at (zs ++ replicate count 0)) all ∙ take_at before (replicate count 0) at size)
+
+-- a piece in place of these was read behind what stood before them
+pub piece-behind : (a b : Wire) (before front after : List ℕ) (size most : ℕ) (r : Result ℕ RecordRefusal) → front ≡ before → size ≡ most → TakesPiece a b front after size r → TakesPiece a b before after most r
+piece-behind a b before front after size most r e f t =
+    subst (λ (n : ℕ). TakesPiece a b before after n r) f (subst (λ (zs : List ℕ). TakesPiece a b zs after size r) e t)
+
+-- a buffer was filled, or its front, and that stands behind what was there
+pub piece-filled : (a b : Wire) (before after buffer : List ℕ) (count most : ℕ) → length buffer ≡ most → count ≤ length buffer → after ≡ before ++ take count buffer → Took a b (take count buffer) × (count < length buffer → b.coming ≡ []) → TakesPiece a b before after most (Ok count)
+piece-filled a b before after buffer count most size fits grown p =
+    (take count buffer, length-take-le count buffer fits, λ less. p.1 (omega (arith, less, size)), record { grown = grown; took = p.0 })
+
+-- the front of what a buffer is part of, up to what was read
+pub read-behind : (old buffer post rest : List ℕ) (at count size : ℕ) → at ≤ length old → count ≤ length buffer → at + length buffer ≤ size → take (at + count) (take size ((take at old ++ (buffer ++ post)) ++ rest)) ≡ take at old ++ take count buffer
+read-behind old buffer post rest at count size within fits room =
+    let front : length (take at old) ≡ at = length-take-le at old within in
+    let less : at + count ≤ size = omega arith in
+    let inner : at + count ≤ length (take at old ++ (buffer ++ post)) = omega (arith, length-append (take at old) (buffer ++ post), length-append buffer post, front) in
+    take-take (at + count) size ((take at old ++ (buffer ++ post)) ++ rest) less
+    ∙ (take-append-le (at + count) (take at old ++ (buffer ++ post)) rest inner
+    ∙ (ap (λ (n : ℕ). take (n + count) (take at old ++ (buffer ++ post))) (sym front)
+    ∙ (take-append-add (take at old) (buffer ++ post) count ∙ ap (λ (zs : List ℕ). take at old ++ zs) (take-append-le count buffer post fits))))

@@ -8,7 +8,7 @@ use Rattle.std.proofs.lemmas.Bool.Decides.{nat_tests}
 use Rattle.sec_base.specs.Link.{Wire}
 use Rattle.rpc_msgs.specs.Words.{word}
 use Rattle.rpc_msgs.specs.Records.{more_fragment, last_fragment, frames, joined, Fragments, octets_in, frame, IsRecord, IsTooLong, IsTooMany, IsPartial, IsTorn, TakesRecord}
-use Rattle.rpc_msgs.specs.Reading.{First, nothing, short, long, many, whole, header_at, announced_at, fragment_at, behind_fragment, record_from, first_record, Finds}
+use Rattle.rpc_msgs.specs.Reading.{nothing, short, long, many, whole, header_at, announced_at, record_from, first_record, Finds}
 use Rattle.rpc_msgs.specs.declared.record.RecordRefusal.{RecordRefusal}
 use Rattle.rpc_msgs.specs.declared.record.RecordRefusal.TheVariants.{LinkFault, TooLong, TooManyFragments, Torn, NoMemory}
 use Rattle.rpc_msgs.proofs.WordLengths.{length-word}

@@ -13,7 +13,7 @@ mod xdr_writer;
 pub use auth::Auth;
 pub use call::{Call, CallRefusal, read_call, write_call, write_header};
 pub use record::{RecordRefusal, next_record, write_record};
-pub use reply::{Reply, write_reply};
+pub use reply::{Reply, put_accepted, write_reply};
 pub use reply_reading::{ReplyRefusal, read_reply};
 pub use xdr_reader::{XdrReader, XdrRefusal, XdrWhy};
 pub use xdr_writer::XdrWriter;

@@ -1,7 +1,7 @@
 //! Records of a stream, RFC 5531 section 11.
 
-ghost use Rattle.std.specs.Prelude.{◌≡◌, ◌+◌, ◌^◌, ◌<◌, ◌≤◌, true, false, length, take, vec_len};
-ghost use Rattle.std.specs.Prelude.{IsTrue, Ok, OnOk, IfOk, OnErr, IsErrOf};
+ghost use Rattle.std.specs.Prelude.{◌≡◌, ◌+◌, ◌-◌, ◌^◌, ◌<◌, ◌≤◌, true, false, length, take};
+ghost use Rattle.std.specs.Prelude.{vec_len, IsTrue, Ok, OnOk, IfOk, OnErr, IsErrOf};
 ghost use Rattle.sec_base.specs.Answers.{Rose};
 ghost use Rattle.rpc_msgs.specs.Fragments.{TakesFragment, TakesHeader, TakesAnnounced};
 ghost use Rattle.rpc_msgs.specs.Fragments.{TakesContent, TakesPiece};
@@ -24,17 +24,20 @@ const FRAGMENTS: u32 = 64;
 /// The top bit of a fragment's header, which marks the last one.
 const LAST: u32 = 0x8000_0000;
 
-/// The octets that are read at a time.
+/// The octets of the first piece that is read of a fragment. A later piece has as many as were read of the record, where these are more.
 const PIECE: usize = 8192;
 
-/// Few octets are read through a smaller buffer, which is filled with zeros first.
-const SMALL_PIECE: usize = 256;
+/// The buffer in which a short record is framed, which is filled with zeros first.
+const SMALL_FRAME: usize = 256;
 
-/// A record of so few octets is framed in a smaller buffer.
-const SMALL_RECORD: usize = SMALL_PIECE - 4;
+/// The buffer in which one that is a little longer is framed.
+const FRAME: usize = 8192;
+
+/// A record of so few octets is framed in the smaller buffer.
+const SMALL_RECORD: usize = SMALL_FRAME - 4;
 
 /// A record of at most so many octets is written at once, with its header.
-const PIECE_RECORD: usize = PIECE - 4;
+const FRAMED_RECORD: usize = FRAME - 4;
 
 /// Why no record was read.
 #[derive(Clone, Copy, Debug, PartialEq, Eq)]
@@ -61,8 +64,8 @@ enum Fragment {
     End,
 }
 
-/// The next record of the stream; None where the stream ended before its first octet. Memory is taken for octets that were read, and
-/// not for those that a header announces.
+/// The next record of the stream; None where the stream ended before its first octet. Memory is taken for octets that were read and for
+/// the next piece, and not for all that a header announces.
 pub fn next_record<L: Link>(alloc: Global, link: &mut L) -> Result<Option<Octets>, RecordRefusal>
     requires { L.closed link.old ≡ false }
     ensures told { IsTrue (L.tells link.old)
@@ -190,7 +193,8 @@ fn read_content<L: Link>(
     octets: &mut Vec<u8>,
     length: usize,
 ) -> Result<bool, RecordRefusal>
-    requires { L.closed link.old ≡ false }
+    requires unclosed { L.closed link.old ≡ false }
+    requires room { vec_len octets.old + length ≤ 131072 }
     ensures told { IsTrue (L.tells link.old) → TakesContent (L.wire link.old) (L.wire link.new)
         octets.old.items octets.new.items length result }
     ensures size { result ≡ Ok true → vec_len octets.new ≡ vec_len octets.old + length }
@@ -202,8 +206,8 @@ fn read_content<L: Link>(
 {
     let mut left = length;
     while left > 0 {
-        let part = left.min(PIECE);
-        match read_part(link, octets, part) {
+        let part = left.min(octets.len().max(PIECE));
+        match read_piece(link, octets, part) {
             Ok(count) if count < part => return Ok(false),
             Ok(_) => left -= part,
             Err(refusal) => return Err(refusal),
@@ -212,14 +216,14 @@ fn read_content<L: Link>(
     Ok(true)
 }
 
-/// Reads at most so many octets behind those that are there, fewer only where the input ends.
-fn read_part<L: Link>(
+/// Reads at most so many octets behind those that are there, to where they stay, fewer only where the input ends.
+fn read_piece<L: Link>(
     link: &mut L,
     octets: &mut Vec<u8>,
     length: usize,
 ) -> Result<usize, RecordRefusal>
     requires unclosed { L.closed link.old ≡ false }
-    requires most { length ≤ 8192 }
+    requires room { vec_len octets.old + length ≤ 131072 }
     ensures told { IsTrue (L.tells link.old) → TakesPiece (L.wire link.old) (L.wire link.new)
         octets.old.items octets.new.items length result }
     ensures size { IfOk result
@@ -230,38 +234,33 @@ fn read_part<L: Link>(
         → Rose (L.faults link.old) (L.faults link.new) }
     ensures faults { L.faults link.old ≤ L.faults link.new }
 {
-    if length <= SMALL_PIECE {
-        read_piece::<L, SMALL_PIECE>(link, octets, length)
-    } else {
-        read_piece::<L, PIECE>(link, octets, length)
+    let at = octets.len();
+    match octets.resize(at + length, 0) {
+        Ok(()) => fill_from(link, octets, at),
+        Err(_) => Err(RecordRefusal::NoMemory),
     }
 }
 
-/// The same, of octets that fit into a piece of this size.
-fn read_piece<L: Link, const SIZE: usize>(
-    link: &mut L,
-    octets: &mut Vec<u8>,
-    length: usize,
-) -> Result<usize, RecordRefusal>
+/// Reads octets in place of those from `at` on, of which those go for which the input has none.
+fn fill_from<L: Link>(link: &mut L, octets: &mut Vec<u8>, at: usize) -> Result<usize, RecordRefusal>
     requires unclosed { L.closed link.old ≡ false }
-    requires most { length ≤ SIZE }
-    requires small { SIZE ≤ 8192 }
+    requires within { at ≤ vec_len octets.old }
+    requires room { vec_len octets.old ≤ 131072 }
     ensures told { IsTrue (L.tells link.old) → TakesPiece (L.wire link.old) (L.wire link.new)
-        octets.old.items octets.new.items length result }
+        (take at octets.old.items) octets.new.items (vec_len octets.old - at) result }
     ensures size { IfOk result
-        (λ count. (count ≤ length) × (vec_len octets.new ≡ vec_len octets.old + count)) }
+        (λ count. (at + count ≤ vec_len octets.old) × (vec_len octets.new ≡ at + count)) }
     ensures tells { L.tells link.new ≡ L.tells link.old }
     ensures unclosed { L.closed link.new ≡ false }
     ensures fault { IsErrOf result RecordRefusal.LinkFault
         → Rose (L.faults link.old) (L.faults link.new) }
     ensures faults { L.faults link.old ≤ L.faults link.new }
 {
-    let mut cells = [0; SIZE];
-    match fill(link, &mut cells[..length]) {
-        Ok(count) => match octets.extend_from_slice(&cells[..count]) {
-            Ok(()) => Ok(count),
-            Err(_) => Err(RecordRefusal::NoMemory),
-        },
+    match fill(link, &mut octets[at..]) {
+        Ok(count) => {
+            octets.truncate(at + count);
+            Ok(count)
+        }
         Err(LinkFault) => Err(RecordRefusal::LinkFault),
     }
 }
@@ -278,10 +277,10 @@ pub fn write_record<L: Link>(link: &mut L, bytes: &[u8]) -> Result<(), LinkFault
     ensures faults { L.faults link.old ≤ L.faults link.new }
 {
     if bytes.len() <= SMALL_RECORD {
-        return write_at_once::<L, SMALL_PIECE>(link, bytes);
+        return write_at_once::<L, SMALL_FRAME>(link, bytes);
     }
-    if bytes.len() <= PIECE_RECORD {
-        return write_at_once::<L, PIECE>(link, bytes);
+    if bytes.len() <= FRAMED_RECORD {
+        return write_at_once::<L, FRAME>(link, bytes);
     }
     match send(link, &header_of(bytes.len())) {
         Ok(()) => send(link, bytes),

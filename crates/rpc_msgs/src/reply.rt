@@ -14,6 +14,9 @@ use crate::xdr_writer::XdrWriter;
 use sec_base::{NoMemory, Octets};
 use std::alloc::Global;
 
+/// Room for the head of most replies: a verifier of 28 octets and six words, or a range of versions behind.
+const HEAD_ROOM: usize = 64;
+
 /// A reply.
 #[derive(Clone, Copy, Debug)]
 pub enum Reply<'a> {
@@ -79,14 +82,15 @@ fn write_accepted(
     ensures again { IfOk result
         (λ octets. reply_at octets ≡ Ok (accepted xid flavour verf.now stat low high body.now)) }
 {
-    let mut out = XdrWriter::new(alloc);
+    let room = body.len().saturating_add(HEAD_ROOM);
+    let mut out = XdrWriter::with_room(alloc, room)?;
     put_accepted(&mut out, xid, flavour, verf, stat)?;
     put_body(&mut out, stat, low, high, body)?;
     Ok(out.finish())
 }
 
-/// Appends an accepted reply up to its stat.
-fn put_accepted(
+/// Appends an accepted reply up to its stat. Behind SUCCESS stands the result.
+pub fn put_accepted(
     out: &mut XdrWriter,
     xid: u32,
     flavour: u32,
@@ -134,7 +138,7 @@ fn write_mismatch(alloc: Global, xid: u32, low: u32, high: u32) -> Result<Octets
     ensures octets { IfOk result (λ octets. octets ≡ mismatch_octets xid low high) }
     ensures again { IfOk result (λ octets. reply_at octets ≡ Ok (mismatch xid low high)) }
 {
-    let mut out = XdrWriter::new(alloc);
+    let mut out = XdrWriter::with_room(alloc, HEAD_ROOM)?;
     out.word(xid)?;
     out.word(REPLY)?;
     out.word(MSG_DENIED)?;
@@ -149,7 +153,7 @@ fn write_auth_error(alloc: Global, xid: u32, stat: u32) -> Result<Octets, NoMemo
     ensures octets { IfOk result (λ octets. octets ≡ auth_error_octets xid stat) }
     ensures again { IfOk result (λ octets. reply_at octets ≡ Ok (auth_error xid stat)) }
 {
-    let mut out = XdrWriter::new(alloc);
+    let mut out = XdrWriter::with_room(alloc, HEAD_ROOM)?;
     out.word(xid)?;
     out.word(REPLY)?;
     out.word(MSG_DENIED)?;

@@ -1,7 +1,7 @@
 //! Writing XDR, RFC 4506.
 
-ghost use Rattle.std.specs.Prelude.{◌≡◌, ◌<◌, ◌^◌, ◌++◌, [], length, OnOk, OnErr};
-ghost use Rattle.rpc_msgs.specs.Words.{word, opaque};
+ghost use Rattle.std.specs.Prelude.{◌≡◌, ◌<◌, ◌^◌, ◌++◌, [], length, replicate, IfOk, OnOk, OnErr};
+ghost use Rattle.rpc_msgs.specs.Words.{word, opaque, padding_length};
 
 use sec_base::{NoMemory, Octets};
 use std::alloc::Global;
@@ -34,6 +34,22 @@ impl XdrWriter {
         }
     }
 
+    /// A writer without octets, with room for so many.
+    pub fn with_room(alloc: Global, octets: usize) -> Result<XdrWriter, NoMemory>
+        ensures { IfOk result (λ w. w ≡ []) }
+    {
+        Ok(XdrWriter {
+            bytes: Vec::with_capacity(alloc, octets)?,
+        })
+    }
+
+    /// A writer that goes on behind these octets.
+    pub fn over(bytes: Vec<u8>) -> XdrWriter
+        ensures { result ≡ bytes.items }
+    {
+        XdrWriter { bytes }
+    }
+
     #[tactic(auto, unfolding(crate::specs::Words::word))]
     /// Appends an unsigned number of 32 bits (RFC 4506 section 4.2).
     pub fn word(&mut self, v: u32) -> Result<(), NoMemory>
@@ -50,7 +66,14 @@ impl XdrWriter {
     {
         self.word(v.len() as u32)?;
         self.octets(v)?;
-        self.octets(&ZEROS[..(4 - v.len() % 4) % 4])
+        self.padding(v.len())
+    }
+
+    /// Appends the zeros that stand behind so many octets of variable length.
+    pub fn padding(&mut self, count: usize) -> Result<(), NoMemory>
+        ensures { OnOk result (self.new ≡ self.old ++ replicate (padding_length count) 0) }
+    {
+        self.octets(&ZEROS[..(4 - count % 4) % 4])
     }
 
     /// Appends octets as they are.
@@ -59,6 +82,20 @@ impl XdrWriter {
     {
         self.bytes.extend_from_slice(v)?;
         Ok(())
+    }
+
+    /// The octets so far.
+    pub fn as_slice(&self) -> &[u8]
+        ensures { result.now ≡ self.now }
+    {
+        self.bytes.as_slice()
+    }
+
+    /// The octets, as the vector that holds them.
+    pub fn into_vec(self) -> Vec<u8>
+        ensures { result.items ≡ self }
+    {
+        self.bytes
     }
 
     /// The octets.

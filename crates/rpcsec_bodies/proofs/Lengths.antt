@@ -31,9 +31,10 @@ sealed-fits end number confounder octets size few = omega (arith, length-opaque 
 pub checked-fits : (octets tag : List ℕ) → length tag ≡ 28 → length octets ≤ 65544 → length (checked_octets octets tag) ≤ 130000
 checked-fits octets tag size few = omega (arith, length-append (opaque octets) (opaque tag), length-opaque octets, length-opaque tag)
 
-pub sized : {E : Type 0} (r : Result (List ℕ) E) (xs : List ℕ) (n : ℕ) → IfOk r (λ o. o ≡ xs) → length xs ≤ n → IfOk r (λ o. length o ≤ n)
-sized (Ok o) xs n e h = omega (arith, ap length e)
-sized (Err d) xs n e h = tt
+-- octets behind others, if they were made
+pub sized : {E : Type 0} (r : Result (List ℕ) E) (out xs : List ℕ) (n : ℕ) → IfOk r (λ o. o ≡ out ++ xs) → length xs ≤ n → IfOk r (λ o. length o ≤ length out + n)
+sized (Ok o) out xs n e h = omega (arith, ap length e, length-append out xs)
+sized (Err d) out xs n e h = tt
 
 pub mic-size : (end : TokenEnd) (number : ℕ) (octets : List ℕ) → length (mic_of end number octets) ≡ 28
 unfolding mic_of mic_header
@@ -48,3 +49,11 @@ protected-fits end services.None seq confounder content few block = omega (arith
 protected-fits end services.Integrity seq confounder content few block =
     checked-fits (word seq ++ content) (mic_of end (2 * seq + 1) (word seq ++ content)) (mic-size end (2 * seq + 1) (word seq ++ content)) (long-databody seq content few)
 protected-fits end services.Privacy seq confounder content few block = sealed-fits end (2 * seq + 1) confounder (word seq ++ content) block (long-databody seq content few)
+
+pub databody-size : (seq : ℕ) (content : List ℕ) → length content + 4 ≡ length (word seq ++ content)
+databody-size seq content = omega (arith, length-append (word seq) content, length-word seq)
+
+pub sealed-size : (end : TokenEnd) (seq : ℕ) (confounder content : List ℕ) → length confounder ≡ 16
+    → length content + 4 + 60 ≡ length (wrap_of end (2 * seq + 1) true confounder (word seq ++ content))
+sealed-size end seq confounder content block =
+    omega (arith, length-wrap_of end (2 * seq + 1) confounder (word seq ++ content) block, databody-size seq content)

@@ -1,3 +1,4 @@
 pub mod Lengths
 pub mod Taken
 pub mod Made
+pub mod Behind

@@ -7,6 +7,6 @@ mod refusal;
 mod service;
 
 pub use opening::unprotect;
-pub use protection::protect;
+pub use protection::{protect, protect_onto};
 pub use refusal::BodyRefusal;
 pub use service::Service;

@@ -8,7 +8,7 @@ ghost use Rattle.rpcsec_bodies.specs.Carried.{IsBody};
 
 use crate::refusal::BodyRefusal;
 use crate::service::Service;
-use krb_tokens::{MicCache, TokenEnd, TokenRefusal};
+use krb_tokens::{LentKeys, TokenEnd, TokenRefusal};
 use rpc_msgs::XdrReader;
 use rpcsec_msgs::{split_checked, split_sealed};
 use sec_base::Octets;
@@ -18,7 +18,7 @@ use std::alloc::Global;
 pub fn unprotect(
     alloc: Global,
     end: &TokenEnd,
-    keys: &MicCache,
+    keys: &LentKeys<'_>,
     service: Service,
     seq: u32,
     body: &[u8],
@@ -35,7 +35,7 @@ pub fn unprotect(
 fn unprotected(
     alloc: Global,
     end: &TokenEnd,
-    keys: &MicCache,
+    keys: &LentKeys<'_>,
     service: Service,
     seq: u32,
     body: &[u8],
@@ -49,7 +49,7 @@ fn unprotected(
             Ok(content)
         }
         Service::Integrity => checked_content(alloc, end, keys, seq, body),
-        Service::Privacy => sealed_content(alloc, end, seq, body),
+        Service::Privacy => sealed_content(alloc, end, keys, seq, body),
     }
 }
 
@@ -58,7 +58,7 @@ fn unprotected(
 fn checked_content(
     alloc: Global,
     end: &TokenEnd,
-    keys: &MicCache,
+    keys: &LentKeys<'_>,
     seq: u32,
     body: &[u8],
 ) -> Result<Octets, BodyRefusal>
@@ -78,6 +78,7 @@ fn checked_content(
 fn sealed_content(
     alloc: Global,
     end: &TokenEnd,
+    keys: &LentKeys<'_>,
     seq: u32,
     body: &[u8],
 ) -> Result<Octets, BodyRefusal>
@@ -86,7 +87,7 @@ fn sealed_content(
     let Ok(token) = split_sealed(body) else {
         return Err(BodyRefusal::Protection);
     };
-    let unwrapped = match end.unwrap(alloc, token) {
+    let unwrapped = match end.unwrap_by(alloc, keys.cache, token) {
         Ok(unwrapped) => unwrapped,
         Err(TokenRefusal::NoMemory) => return Err(BodyRefusal::NoMemory),
         Err(_) => return Err(BodyRefusal::Protection),

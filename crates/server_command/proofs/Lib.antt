@@ -1,3 +1,5 @@
 pub mod Completions
 pub mod Noting
 pub mod Sides
+pub mod Telling
+pub mod Lending

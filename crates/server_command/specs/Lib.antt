@@ -1,3 +1,4 @@
 pub mod Runs
 pub mod SideBySide
 pub mod Through
+pub mod Told

@@ -4,6 +4,7 @@ ghost use Rattle.std.specs.Prelude.{◌≡◌, ◌≢◌, ◌⊎◌, ◌<◌, �
 ghost use Rattle.std.specs.Prelude.{reverse};
 ghost use Rattle.std.specs.List.{AllByRecursion};
 ghost use Rattle.accept_core.specs.Legal.{Legal};
+ghost use Rattle.accept_book.specs.Booking.{with_setup};
 ghost use Rattle.gss_server.specs.Telling.{limits_of};
 ghost use Rattle.book_seats.specs.Views.{writer};
 ghost use Rattle.server_desks.specs.Desks.{IsFresh, IsSmall, NamesADesk};
@@ -13,12 +14,13 @@ ghost use Rattle.server_command.specs.Through.{NoBook};
 ghost use Rattle.server_command.specs.SideBySide.{SideBySide, IsUnder};
 
 use crate::staffing::{compare_all, hire_all, rise_all, rooms, seat_all};
-use accept_book::{Book, Log};
+use accept_book::{Book, Log, OwnSeat};
 use book_seats::{Board, Hall, Room, Shared, Token, Writer, open_board, open_hall};
 use gss_server::{Keeper, Kept, Served};
 use sec_base::{Clock, Draw, NoMemory, Port};
 use server_desks::{Desk, end_of, run_desks};
 use server_options::RunEnd;
+use spnego_core::AcceptSetup;
 use std::alloc::Global;
 use std::marker::Brand;
 use std::mem;
@@ -45,6 +47,7 @@ fn run_seated<
     rt: &R,
     alloc: Global,
     hall: &Hall<J>,
+    setup: &AcceptSetup,
     book: Book,
     writer: Writer<J>,
     desks: &mut Vec<Desk<P, C, D, K, S>>,
@@ -54,8 +57,9 @@ fn run_seated<
 where
     P::Link: Drop + Send,
     requires fresh { AllByRecursion IsFresh desks.old.items }
-    requires book { J.begins book }
-    requires limits { limits_of book.core ≡ J.limits }
+    requires setup { setup.now ≡ J.setup }
+    requires book { J.begins (with_setup J.setup book) }
+    requires limits { limits_of book ≡ J.limits }
     requires writer { writer ≡ record { made = 0; all = [] } }
     requires desks { J.desks ≡ vec_len desks.old }
     ensures served { IfOk result (λ course. SideBySide J.begins width connections P.Port
@@ -79,6 +83,7 @@ where
         rt,
         &lock,
         hall,
+        setup,
         alloc,
         connections,
         width,
@@ -112,6 +117,7 @@ fn run_noted<
     alloc: Global,
     board: Board,
     token: Token,
+    setup: &AcceptSetup,
     book: Book,
     desks: &mut Vec<Desk<P, C, D, K, S>>,
     connections: u32,
@@ -120,8 +126,9 @@ fn run_noted<
 where
     P::Link: Drop + Send,
     requires fresh { AllByRecursion IsFresh desks.old.items }
-    requires book { J.begins book }
-    requires limits { limits_of book.core ≡ J.limits }
+    requires setup { setup.now ≡ J.setup }
+    requires book { J.begins (with_setup J.setup book) }
+    requires limits { limits_of book ≡ J.limits }
     requires board { board.shared.table_id ≡ J.table }
     requires words { 0 < board.shared.table_id.words }
     requires token { (token.table_id ≡ board.shared.table_id) × (token.me ≡ (writer 0 [], [])) }
@@ -134,7 +141,17 @@ where
     ensures none { OnErr result (desks.new ≡ desks.old) }
 {
     let (hall, writer) = open_hall::<J>(board, token);
-    run_seated(rt, alloc, &hall, book, writer, desks, connections, width)
+    run_seated(
+        rt,
+        alloc,
+        &hall,
+        setup,
+        book,
+        writer,
+        desks,
+        connections,
+        width,
+    )
 }
 
 /// The same with a table that is made.
@@ -148,7 +165,7 @@ fn run_at_seats<
 >(
     rt: &R,
     alloc: Global,
-    book: Book,
+    book: OwnSeat,
     desks: &mut Vec<Desk<P, C, D, K, S>>,
     connections: u32,
     width: u32,
@@ -164,7 +181,18 @@ where
     ensures none { OnErr result (desks.new ≡ desks.old) }
 {
     let (board, token) = open_board(alloc)?;
-    run_noted::<Brand, R, P, C, D, K, S>(rt, alloc, board, token, book, desks, connections, width)
+    let (setup, bare) = book.into_parts();
+    run_noted::<Brand, R, P, C, D, K, S>(
+        rt,
+        alloc,
+        board,
+        token,
+        &setup,
+        bare,
+        desks,
+        connections,
+        width,
+    )
 }
 
 /// The course of a run that has no memory to serve its desks.
@@ -189,7 +217,7 @@ pub(crate) fn run_book<
 >(
     rt: &R,
     alloc: Global,
-    book: Book,
+    book: OwnSeat,
     desks: &mut Vec<Desk<P, C, D, K, S>>,
     connections: u32,
     width: u32,

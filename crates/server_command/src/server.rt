@@ -15,12 +15,13 @@ ghost use Rattle.server_options.specs.Lines.{Named, is_begun, status_of, line_of
 ghost use Rattle.server_options.specs.Options.{options_of, IsRanged};
 ghost use Rattle.server_command.specs.SideBySide.{OneHistory};
 ghost use Rattle.server_command.specs.Through.{IsOpened, NoBook};
+ghost use Rattle.server_command.specs.Told.{ToldByLog};
 ghost use Rattle.server_command.specs.Runs.{files_of, names_in, names_of, counts_of, RunBegins};
 ghost use Rattle.server_command.specs.Runs.{HasLimits, HasValid, AsksAtMost};
 ghost use Rattle.server_options.specs.Keys.{KeysFrom};
 
 use crate::seating::{Course, run_book, starved};
-use accept_book::{Book, Limits, Log};
+use accept_book::{Limits, Log, OwnSeat};
 use gss_base::{Label, MechKind, Principal};
 use gss_server::{Keeper, Kept, Served};
 use sec_base::{Clock, Draw, Items, Moment, NoMemory, Port, Shelf, Sink, Text};
@@ -81,7 +82,12 @@ fn offered(alloc: Global) -> Result<Items<MechKind>, NoMemory>
 }
 
 /// The book of a run.
-fn open_book(alloc: Global, options: Options, keys: Keys, start: Moment) -> Result<Book, NoMemory>
+fn open_book(
+    alloc: Global,
+    options: Options,
+    keys: Keys,
+    start: Moment,
+) -> Result<OwnSeat, NoMemory>
     requires { IsRanged options }
     ensures opened { IfOk result (λ book. IsOpened options keys start book) }
 {
@@ -99,7 +105,7 @@ fn open_book(alloc: Global, options: Options, keys: Keys, start: Moment) -> Resu
         bindings: options.bindings,
         offer,
     };
-    Book::open(alloc, setup, limits, start)
+    OwnSeat::open(alloc, setup, limits, start)
 }
 
 /// Opens the book and serves the desks.
@@ -259,6 +265,11 @@ where
         ⊎ ((keys : Keys) × KeysFrom F.Shelf shelf.old shelf.new options.files options.name (Ok keys)
         × OneHistory options keys start P.Port P.Link.Link C.Clock D.Draw K.Keeper S.Keeper
         desks.old.items result.end desks.new.items result.log) }
+    ensures seen { ((is_begun result.end ≡ false)
+        × NoBook desks.old.items desks.new.items result.log)
+        ⊎ ((keys : Keys) × KeysFrom F.Shelf shelf.old shelf.new options.files options.name (Ok keys)
+        × ToldByLog options keys start P.Port P.Link.Link C.Clock D.Draw K.Keeper S.Keeper
+        desks.old.items result.end desks.new.items result.log) }
 {
     match keys_from(alloc, shelf, &options.files, &options.name) {
         Ok(keys) => {
@@ -337,6 +348,14 @@ where
         ⊎ ((keys : Keys)
         × KeysFrom F.Shelf shelf.old shelf.new options.files options.name (Ok keys)
         × OneHistory options keys start P.Port P.Link.Link C.Clock D.Draw K.Keeper S.Keeper
+        desks.old.items result.end desks.new.items result.log) }
+    // All of it is told by that log: it is legal, the receipts of all answers, in the history's order, are its entries, and each answer to a desk is
+    // what the log before it says.
+    ensures seen { (options : Options) → options_of words.now ≡ Ok options
+        → ((is_begun result.end ≡ false) × NoBook desks.old.items desks.new.items result.log)
+        ⊎ ((keys : Keys)
+        × KeysFrom F.Shelf shelf.old shelf.new options.files options.name (Ok keys)
+        × ToldByLog options keys start P.Port P.Link.Link C.Clock D.Draw K.Keeper S.Keeper
         desks.old.items result.end desks.new.items result.log) }
 {
     match read_options(alloc, words) {

@@ -7,6 +7,7 @@ ghost use Rattle.server_desks.specs.Desks.{InStep};
 use book_seats::{Clerk, Hall, Room, Seat, Shared, Writer};
 use sec_base::NoMemory;
 use server_desks::Job;
+use spnego_core::AcceptSetup;
 use std::alloc::Global;
 use std::sync::Mutex;
 
@@ -69,17 +70,19 @@ pub(crate) fn hire_all<T: Drop, J: Room>(
     }
 }
 
-/// Gives each desk its seat.
+/// Gives each desk its seat, to which the setup of the book's ends is lent.
 pub(crate) fn seat_all<'a, T: Drop, R, J: Room>(
     rt: &'a R,
     lock: &'a Mutex<Shared<J>>,
     hall: &'a Hall<J>,
+    setup: &'a AcceptSetup,
     alloc: Global,
     connections: u32,
     width: u32,
     staffed: Vec<Staffed<T, J>>,
     jobs: &mut Vec<Job<T, Seat<'a, R, J>>>,
 )
+    requires setup { setup.now ≡ J.setup }
     requires none { jobs.old.items ≡ [] }
     requires room { vec_len staffed ≤ vec_capacity jobs.old }
     ensures count { vec_len jobs.new ≡ vec_len staffed }
@@ -88,7 +91,7 @@ pub(crate) fn seat_all<'a, T: Drop, R, J: Room>(
 {
     for one in staffed {
         let Staffed { desk, clerk } = one;
-        let seat = Seat::new(rt, lock, hall, clerk);
+        let seat = Seat::new(rt, lock, hall, setup, clerk);
         jobs.push_reserved(Job::new(alloc, desk, seat, connections, width));
     }
 }

@@ -33,8 +33,8 @@ use Rattle.accept_book.specs.RecordShown.{Asked, AskedStep, AskedLook, AskedAdmi
 use Rattle.accept_core.proofs.Appended.{Silent, silent}
 use Rattle.gss_server.specs.Asking.{BookAnswers}
 use Rattle.world_laws.specs.Events.{IsBook}
-use Rattle.world_laws.proofs.Answering.{memory-cases}
-use Rattle.world_laws.proofs.Past.{past-of}
+use Rattle.history_laws.proofs.Answering.{memory-cases}
+use Rattle.history_laws.proofs.Past.{past-of}
 use Rattle.server_laws.proofs.Windows.{window_of, shown, more-shown}
 use Rattle.server_laws.proofs.Comes.{SameContext, Ready, Fine, fine-spends, fine-negotiated, Alike, negotiated-same}
 
@@ -426,9 +426,3 @@ answers-agree old new (AskedStep id token now draws answer) legal a b =
 answers-agree old new (AskedLook id now answer) legal a b = looked-agrees old new id now answer a b
 answers-agree old new (AskedAdmit lease seq procedure args answer) legal a b = admitted-agrees old new lease seq procedure args answer a b
 answers-agree old new (AskedEnd lease seq answer) legal a b = ended-agrees old new lease seq answer a b
-
-pub answers-width : (old new : BookOf) (asked : Asked) → BookAnswers old asked new → new.core.width ≡ old.core.width
-answers-width old new (AskedStep id token now draws answer) b = b.notes.width
-answers-width old new (AskedLook id now answer) b = b.looked.width
-answers-width old new (AskedAdmit lease seq procedure args answer) b = b.keeps.width
-answers-width old new (AskedEnd lease seq answer) b = b.keeps.width

@@ -1,38 +1,15 @@
 -- A chain of a book's answers is one of legal books, each as its log has it.
-use Rattle.std.proofs.Common.{ℕ, max, ap, sym, subst, List, [], ◌∷◌, ◌++◌, Option, None}
-use Rattle.accept_core.specs.declared.entry.Entry.{Entry}
+use Rattle.std.proofs.Common.{ℕ, ap, sym, subst, List, [], ◌∷◌}
 use Rattle.accept_book.specs.Booking.{BookOf}
 use Rattle.accept_core.specs.Legal.{Legal}
-use Rattle.accept_book.specs.RecordShown.{Asked, AskedStep, AskedLook, AskedAdmit, AskedEnd}
+use Rattle.accept_book.specs.RecordShown.{Asked}
 use Rattle.gss_server.specs.Asking.{Asking, BookAnswers}
 use Rattle.world_laws.specs.State.{InHand}
-use Rattle.world_laws.proofs.Answering.{IsPastFor, answers-front}
-use Rattle.world_laws.proofs.Past.{past-of}
+use Rattle.history_laws.proofs.Growth.{legal-before, legal-asking}
 use Rattle.server_laws.specs.Served.{LegalAnswers, Answered, AllAnswered, ruling_at}
-use Rattle.server_laws.proofs.Canon.{book_as, Agrees, is-book, answers-as, answers-agree, answers-width}
+use Rattle.server_laws.proofs.Canon.{book_as, Agrees, is-book, answers-as, answers-agree}
 
--- ---- the log only grows, so what is legal at the end was legal before
-
-past-for : (old : BookOf) (asked : Asked) → (past : Option ℕ) × IsPastFor old past asked
-past-for old (AskedStep id token now draws answer) = past-of old.core.table (max old.core.cache.greatest now)
-past-for old (AskedLook id now answer) = (None, tt)
-past-for old (AskedAdmit lease seq procedure args answer) = (None, tt)
-past-for old (AskedEnd lease seq answer) = (None, tt)
-
-legal-front : (width : ℕ) (more h : List Entry) → Legal width (more ++ h) → Legal width h
-legal-front width [] h legal = legal
-legal-front width (entry ∷ more) h legal = legal-front width more h legal.1
-
-pub legal-before : (old new : BookOf) (asked : Asked) → BookAnswers old asked new → Legal new.core.width new.core.history → Legal old.core.width old.core.history
-legal-before old new asked answers legal =
-    let p = past-for old asked in
-    let f = answers-front old new p.0 asked p.1 answers in
-    legal-front old.core.width f.more old.core.history
-    (subst (λ (h : List Entry). Legal old.core.width h) f.is (subst (λ (w : ℕ). Legal w new.core.history) (answers-width old new asked answers) legal))
-
-pub legal-asking : (old new : BookOf) (asked : List Asked) → Asking BookAnswers old asked new → Legal new.core.width new.core.history → Legal old.core.width old.core.history
-legal-asking old new [] same legal = subst (λ (b : BookOf). Legal b.core.width b.core.history) same legal
-legal-asking old new (one ∷ more) a legal = legal-before old a.0 one a.1 (legal-asking a.0 new more a.2 legal)
+-- ---- what is legal at the end was legal before
 
 pub legal-all : (width : ℕ) (hands : List InHand) (old new : BookOf) → AllAnswered BookAnswers width hands old new → Legal new.core.width new.core.history → Legal old.core.width old.core.history
 legal-all width [] old new same legal = subst (λ (b : BookOf). Legal b.core.width b.core.history) same legal

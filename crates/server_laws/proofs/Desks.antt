@@ -23,6 +23,7 @@ use Rattle.gss_server.proofs.Turning.{all-push}
 use Rattle.book_seats.specs.Notes.{Note, asked_by, questions_of}
 use Rattle.server_desks.specs.Desks.{ServedOf, ServedLink, LinksServed, DeskServed}
 use Rattle.server_command.specs.SideBySide.{Noted}
+use Rattle.server_command.proofs.Lending.{noted, get-past}
 use Rattle.server_command.specs.Through.{IsOpened, IsLogOf}
 use Rattle.server_desks.specs.declared.desk.Desk.{Desk}
 use Rattle.server_desks.specs.declared.desk.DeskEnd.{DeskEnd}
@@ -83,11 +84,6 @@ scripts-join [] later first second none s = subst (λ (xs : List Asked). Scripts
 scripts-join (hand ∷ front) later first second f s =
     (f.0, f.1 ++ second, ap (λ xs. xs ++ second) f.2 ∙ append_assoc f.0 f.1 second, f.3, f.4, scripts-join front later f.1 second f.5 s)
 
-noted : (before after : ℕ × List Asked) (asked : List Asked) → Asking Noted before asked after → after ≡ (before.0, before.1 ++ asked)
-noted before after [] same = same ∙ ap (λ xs. (before.0, xs)) (sym (append-nil before.1))
-noted before after (one ∷ asked) a =
-    noted a.0 after asked a.2 ∙ (ap (λ (x : ℕ × List Asked). (x.0, x.1 ++ asked)) a.1 ∙ ap (λ xs. (before.0, xs)) (append_assoc before.1 (one ∷ []) asked))
-
 -- the questions of records, behind those that a desk asked before
 record Asks (before : ℕ × List Asked) (hands : List InHand) (after : ℕ × List Asked) : Type 0 where
   asked : List Asked
@@ -124,11 +120,6 @@ get-below : {A : Type 0} (xs : List A) (i : ℕ) (x : A) → slice_get xs i ≡ 
 get-below [] i x e = absurd (none-some x e)
 get-below (y ∷ ys) zero x e = omega arith
 get-below (y ∷ ys) (suc i) x e = omega (arith, get-below ys i x e)
-
-get-past : {A : Type 0} (xs : List A) (i : ℕ) → slice_get xs i ≡ None → length xs ≤ i
-get-past [] i e = omega arith
-get-past (y ∷ ys) zero e = absurd (none-some y (sym e))
-get-past (y ∷ ys) (suc i) e = omega (arith, get-past ys i e)
 
 -- a desk's records, by the questions that it asked
 record Own {D : Type 0} (Had : D → DeskEnd → D → List InHand → Type 0) (olds : List D) (ends : List DeskEnd) (news : List D) (i : ℕ) (asked : List Asked) : Type 0 where

@@ -8,4 +8,4 @@ pub mod Chains
 pub mod Openings
 pub mod Beside
 pub mod Desks
-pub mod InPlace
+pub mod AllDesks

@@ -13,7 +13,8 @@ use Rattle.world_laws.specs.State.{World}
 use Rattle.server_laws.specs.Served.{AllAnswered, LegalAnswers}
 use Rattle.server_laws.specs.ServerRun.{opened_book, OpenedLaw, BookRunLaw}
 use Rattle.server_laws.proofs.Canon.{book_as, Agrees, is-book}
-use Rattle.server_laws.proofs.Chains.{legal-asking, legal-all, goes-asking, all-goes}
+use Rattle.history_laws.proofs.Growth.{legal-asking}
+use Rattle.server_laws.proofs.Chains.{legal-all, goes-asking, all-goes}
 use Rattle.server_laws.proofs.Runs.{all-served}
 
 -- ---- the opened book

@@ -21,7 +21,7 @@ use Rattle.world_laws.specs.Lanes.{told_width, in_hand, question_of, ruling_of, 
 use Rattle.world_laws.specs.State.{InHand, World}
 use Rattle.world_laws.specs.Turning.{AtOnce, ByBook, Turned}
 use Rattle.world_laws.proofs.LaneTurns.{hand_with, lane-moved}
-use Rattle.world_laws.proofs.Past.{past-of}
+use Rattle.history_laws.proofs.Past.{past-of}
 use Rattle.world_laws.proofs.RulingPlan.{Late, Rules, Admits, Ends, Plan, Decides, Steps, Looks, Ruled, ruled, plan_by, late_by, rulings, record-planned}
 use Rattle.world_laws.proofs.RulingTurns.{ruling_after}
 use Rattle.world_laws.proofs.Slices.{set-same}

@@ -1,5 +1,5 @@
 -- What a link that reads ahead and writes behind shows of itself.
-use Rattle.std.specs.Prelude.{◌≡◌, ℕ, List, ◌++◌}
+use Rattle.std.specs.Prelude.{ℕ, List}
 use Rattle.sec_base.specs.declared.link.Link as links
 use Rattle.system_devices.specs.Ahead.{waiting_in}
 use Rattle.system_devices.specs.Behind.{held}

@@ -1,6 +1,6 @@
 //! Octets for a link that wait to be written.
 
-ghost use Rattle.std.specs.Prelude.{◌≡◌, ◌+◌, ◌++◌, ◌==◌, ◌≤◌, false, [], length, nat_le};
+ghost use Rattle.std.specs.Prelude.{◌≡◌, ◌+◌, ◌++◌, ◌==◌, ◌≤◌, false, [], length, take, nat_le};
 ghost use Rattle.std.specs.Prelude.{vec_len, IsTrue, OnErr};
 ghost use Rattle.sec_base.specs.Answers.{Rose};
 ghost use Rattle.sec_base.specs.Streams.{Sends};
@@ -48,6 +48,21 @@ impl Behind {
         let end = self.count + buf.len();
         self.octets[self.count..end].copy_from_slice(buf);
         self.count = end;
+    }
+
+    /// Has the first of these octets wait behind the others, as many as there is room for; none where no others wait. Answers how many
+    /// that are.
+    pub(crate) fn keep_front(&mut self, buf: &[u8]) -> usize
+        requires { vec_len self.old.octets ≤ self.old.count + length buf.now }
+        ensures count { result ≤ length buf.now }
+        ensures octets { unwritten self.new ≡ unwritten self.old ++ take result buf.now }
+    {
+        if self.count == 0 {
+            return 0;
+        }
+        let front = self.octets.len() - self.count;
+        self.keep(&buf[..front]);
+        front
     }
 
     /// Writes the octets that wait, after which none do.

@@ -14,8 +14,8 @@ use sec_base::{Link, LinkFault, Port, PortFault};
 use std::alloc::Global;
 
 /// A link that reads ahead, as many octets as are there and fit into 4,096, where fewer are wanted; where as many are wanted and none
-/// wait, they are read to where they are wanted. It writes behind: up to 8,192 octets wait until the link below is read, or closed, so
-/// that the replies to calls that came together go out together. Where there was no memory for either, and once it is closed, it keeps
+/// wait, they are read to where they are wanted. It writes behind: up to 8,192 octets wait until the link below is read, or closed, or
+/// until more come, so that the replies to calls that came together go out together. Where there was no memory for either, and once it is closed, it keeps
 /// none. A write that fails late is answered by the call that it was late for. It tells nothing of its octets.
 #[derive(Drop)]
 pub struct Buffered<L: Link> {
@@ -45,8 +45,9 @@ fn read_by<L: Link>(ahead: &mut Ahead, link: &mut L, buf: &mut [u8]) -> Result<u
     Ok(ahead.move_to(buf))
 }
 
-/// Takes octets that are to be written. They wait, behind those that wait already. If there is no room for both, those that wait are written
-/// first; octets for which there is no room alone are written at once.
+/// Takes octets that are to be written. They wait, behind those that wait already. If there is no room for both, the first of them fill
+/// the room, and all that wait is written, so that no octets go out alone; octets behind which none wait, and for which there is no room,
+/// are written at once.
 fn write_by<L: Link>(behind: &mut Behind, link: &mut L, buf: &[u8]) -> Result<usize, LinkFault>
     requires { L.closed link.old ≡ false }
     ensures count { IfOk result (λ count. count ≤ length buf.now) }
@@ -62,10 +63,10 @@ fn write_by<L: Link>(behind: &mut Behind, link: &mut L, buf: &[u8]) -> Result<us
         behind.keep(buf);
         return Ok(buf.len());
     }
+    let front = behind.keep_front(buf);
     behind.flush(link)?;
-    if behind.has_room(buf) {
-        behind.keep(buf);
-        return Ok(buf.len());
+    if front > 0 {
+        return Ok(front);
     }
     link.write(buf)
 }

@@ -1,7 +1,7 @@
 //! MIC and Wrap tokens.
 
 use crate::keys::key;
-use krb_tokens::{MicCache, Side, TokenEnd, TokenRefusal};
+use krb_tokens::{KeyCache, Side, TokenEnd, TokenRefusal};
 use table_rows::{Cells, Said};
 
 /// The next cell's side.
@@ -31,8 +31,8 @@ fn facing(end: &TokenEnd) -> TokenEnd {
 }
 
 /// The kept keys of an end.
-fn kept(end: &TokenEnd) -> MicCache {
-    let mut cache = MicCache::empty();
+fn kept(end: &TokenEnd) -> KeyCache {
+    let mut cache = KeyCache::empty();
     cache.keep(end);
     cache
 }
@@ -41,8 +41,8 @@ fn kept(end: &TokenEnd) -> MicCache {
 fn is_made_by_kept(end: &TokenEnd, number: u64, bytes: &[u8], token: &[u8; 28]) -> bool {
     let own = kept(end);
     let other = kept(&facing(end));
-    end.make_mic_by(&own, number, bytes) == *token
-        && end.make_mic_by(&other, number, bytes) == *token
+    end.make_mic_by(&own.lent(), number, bytes) == *token
+        && end.make_mic_by(&other.lent(), number, bytes) == *token
 }
 
 /// The cells of an end, a number and octets: the MIC token, which is the same by kept keys.
@@ -68,8 +68,8 @@ pub fn mic_check(cells: &mut Cells<'_>, said: &mut Said) {
     let (end, bytes, token) = (end(cells), cells.octets(), cells.octets());
     let (bytes, token) = (bytes.as_slice(), token.as_slice());
     let verdict = end.check_mic(token, bytes);
-    let own = end.check_mic_by(&kept(&end), token, bytes);
-    let other = end.check_mic_by(&kept(&facing(&end)), token, bytes);
+    let own = end.check_mic_by(&kept(&end).lent(), token, bytes);
+    let other = end.check_mic_by(&kept(&facing(&end)).lent(), token, bytes);
     if own != verdict || other != verdict {
         said.word("kept keys say otherwise");
     }

@@ -4,7 +4,6 @@ use crate::devices::{shelf, shelf_said};
 use crate::links::numbers;
 use cli_base::{
     FileStop, are_words, count_plain, first_word, load, number_in, plain, say_stop, stop_of,
-    value_of,
 };
 use krb_files::{FileRefusal, FileWhy};
 use sec_base::{MemSink, Text};
@@ -46,7 +45,7 @@ fn plains(said: &mut Said, words: &[Text]) {
     }
 }
 
-/// Whether words are well formed, then the first one, the plain ones and their count, and the values of `--log`, `--bind`, `--width`.
+/// Whether words are well formed, then the first one, and the plain ones and their count.
 pub fn sorted(cells: &mut Cells<'_>, said: &mut Said) {
     let words = words(cells);
     let words = words.as_slice();
@@ -54,9 +53,6 @@ pub fn sorted(cells: &mut Cells<'_>, said: &mut Said) {
     said.word(first_word(words).unwrap_or("-"));
     plains(said, words);
     said.number(count_plain(words) as u64);
-    for name in ["--log", "--bind", "--width"] {
-        said.word(value_of(words, name).unwrap_or("-"));
-    }
 }
 
 /// The number of a text, by the cells text, least and greatest.

@@ -25,8 +25,8 @@ use Rattle.world_laws.specs.Premises.{Marking, Listed, BuiltKey, WasSettled, IsW
 use Rattle.world_laws.proofs.Slices.{set-same, set-other, get-front}
 use Rattle.world_laws.proofs.Due.{due-says}
 use Rattle.world_laws.proofs.Happening.{Move, Starting, Taking, Calling, Came, Idling, Moving, Laning, came}
-use Rattle.world_laws.proofs.Histories.{Fronts, no-front, entry-stays}
-use Rattle.world_laws.proofs.Answering.{IsPastFor, answers-front, answers-setup}
+use Rattle.history_laws.proofs.Histories.{Fronts, no-front, entry-stays}
+use Rattle.history_laws.proofs.Answering.{IsPastFor, answers-front, answers-setup}
 
 -- a session that stands or was left at this place, with this outcome
 pub record StandsAt (places : List Stage) (i : ℕ) (outcome : Outcome) : Type 0 where

@@ -15,7 +15,7 @@ use Rattle.world_laws.specs.Deeds.{Deed, quiet}
 use Rattle.world_laws.specs.State.{InHand, World}
 use Rattle.world_laws.specs.Lanes.{told_width, ruling_of, hand_after, IsAnswer, if_answered, makes_by, found_by, opened_by, fixes_by, with_lane, LaneMoves}
 use Rattle.world_laws.specs.Turning.{TurnAnswers, said_by, Turned}
-use Rattle.world_laws.proofs.Past.{past-of}
+use Rattle.history_laws.proofs.Past.{past-of}
 use Rattle.world_laws.proofs.RulingPlan.{rulings, record-planned}
 use Rattle.world_laws.proofs.RulingTurns.{begins, ruling_after, Came, came}
 

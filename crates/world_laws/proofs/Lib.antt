@@ -22,9 +22,6 @@ pub mod Found
 pub mod Slices
 pub mod Happening
 pub mod Due
-pub mod Histories
-pub mod LogWalk
-pub mod Answering
 pub mod Growing
 pub mod Moving
 pub mod Known
@@ -39,7 +36,6 @@ pub mod OnceKept
 pub mod Once
 pub mod Wanting
 pub mod LaneTurns
-pub mod Past
 pub mod RulingPlan
 pub mod RulingTurns
 pub mod Turns

@@ -10,8 +10,8 @@ use Rattle.accept_core.specs.History.{entry_at}
 use Rattle.accept_core.specs.Answers.{after, or_refused}
 use Rattle.accept_book.specs.Booking.{BookOf, raised}
 use Rattle.accept_book.specs.BookAnswers.{BookStepped}
-use Rattle.world_laws.proofs.Answering.{memory-cases}
-use Rattle.world_laws.proofs.LogWalk.{IsSaid, Walk, refusal-walk, negotiated-walk}
+use Rattle.history_laws.proofs.Answering.{memory-cases}
+use Rattle.history_laws.proofs.LogWalk.{IsSaid, Walk, refusal-walk, negotiated-walk}
 
 -- each call of the new log stood in the old one
 abbrev pub Silent : List Entry → List Entry → Type 0

@@ -5,7 +5,7 @@ ghost use Rattle.world_laws.specs.Turning.{Turned, happened_of, said_by};
 
 use crate::event::Happened;
 use crate::turn::Turn;
-use accept_book::{Book, Lease, LookRefusal};
+use accept_book::{Lease, LookRefusal, OwnSeat};
 use gss_server::{Answered, Reply, answer_record};
 use sec_base::{Moment, NoMemory, Octets};
 use std::alloc::Global;
@@ -48,7 +48,7 @@ impl Model for InHand {
 /// What an event of a lane leaves, and what came of it.
 #[derive(Drop)]
 pub(crate) struct LaneMoves {
-    pub book: Book,
+    pub book: OwnSeat,
     pub lane: Option<InHand>,
     pub happened: Result<Happened, NoMemory>,
 }
@@ -65,7 +65,7 @@ fn said(rule: u8, reply: Reply) -> Result<Happened, NoMemory>
 }
 
 /// Goes on with the record in hand: it is answered, or one question of it is asked.
-pub(crate) fn step(alloc: Global, book: Book, hand: InHand) -> LaneMoves
+pub(crate) fn step(alloc: Global, book: OwnSeat, hand: InHand) -> LaneMoves
     ensures { Turned book hand result.book result.lane (happened_of result.happened) }
 {
     let InHand {

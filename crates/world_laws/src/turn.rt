@@ -6,7 +6,7 @@ ghost use Rattle.gss_server.specs.Telling.{limits_of};
 ghost use Rattle.world_laws.specs.Turning.{AsksBy};
 
 use accept_book::{
-    AdmitRefusal, Admitted, Book, EndCause, Entry, Lease, LookRefusal, NegAnswer, Negotiated,
+    AdmitRefusal, Admitted, EndCause, Entry, Lease, LookRefusal, NegAnswer, Negotiated, OwnSeat,
     Receipt, Receipts,
 };
 use gss_server::Gate;
@@ -16,7 +16,7 @@ use std::alloc::Global;
 /// A book that answers one question of a record: a look that was answered before is answered so again, and a further question is only noted.
 #[derive(Drop)]
 pub(crate) struct Turn {
-    pub book: Book,
+    pub book: OwnSeat,
     /// What a look was answered before, as long as it wasn't asked again.
     pub looked: Option<Result<Lease, LookRefusal>>,
     /// Whether the book was asked.

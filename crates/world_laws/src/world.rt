@@ -20,7 +20,7 @@ use crate::lanes::{self, InHand};
 use crate::laws::{prove_agreement, prove_origin, tell_below};
 use crate::setups::tell_setups;
 use crate::stage::Stage;
-use accept_book::Book;
+use accept_book::OwnSeat;
 use gss_client::Session;
 use krb_derive::SealKeys;
 use sec_base::{Moment, NoMemory, Octets};
@@ -33,7 +33,7 @@ use std::mem;
 #[derive(Drop)]
 pub struct WorldSetup {
     /// A book without entries.
-    pub book: Book,
+    pub book: OwnSeat,
     pub initiators: Vec<InitSetup>,
     /// The same as the initiators' setups, in their order.
     pub facts: Vec<InitFacts>,
@@ -56,7 +56,7 @@ pub struct World {
 struct Parts {
     stages: Vec<Stage>,
     /// It is there between two events.
-    book: Option<Book>,
+    book: Option<OwnSeat>,
     lanes: Vec<Option<InHand>>,
 }
 
@@ -217,7 +217,7 @@ fn hand_or(before: Option<InHand>, taken: InHand) -> InHand
 /// A lane goes on with the record that it has in hand, or with this one.
 fn go_on(
     alloc: Global,
-    book: &mut Option<Book>,
+    book: &mut Option<OwnSeat>,
     lanes: &mut Vec<Option<InHand>>,
     lane: usize,
     taken: InHand,
@@ -257,7 +257,7 @@ fn tell_ruled(stage: &Stage)
 }
 
 /// Does nothing: its contract says what a book keeps.
-fn tell_book(book: &Option<Book>)
+fn tell_book(book: &Option<OwnSeat>)
     ensures { (b : BookOf) → book.now ≡ Some b → IsBook b }
 {
     if let Some(book) = book {

@@ -5,7 +5,7 @@ ghost use Rattle.std.specs.Prelude.{◌≡◌, ◌∷◌, [], true, IfOk, IfSome
 ghost use Rattle.spnego_core.specs.InitMech.{is_own_list};
 ghost use Rattle.world_laws.specs.Showing.{setup_of};
 
-use accept_book::{Book, Limits};
+use accept_book::{Limits, OwnSeat};
 use sec_base::{Items, Moment, NoMemory, Text};
 use spnego_core::{AcceptSetup, InitSetup, MechCred};
 use std::alloc::Global;
@@ -96,7 +96,7 @@ pub fn begin(
 }
 
 /// A book without contexts, of this acceptor.
-pub fn book(alloc: Global, setup: AcceptSetup, start: Moment) -> Result<Book, NoMemory>
+pub fn book(alloc: Global, setup: AcceptSetup, start: Moment) -> Result<OwnSeat, NoMemory>
     ensures { IfOk result (λ book. book.core.history ≡ []) }
 {
     let limits = Limits {
@@ -105,7 +105,7 @@ pub fn book(alloc: Global, setup: AcceptSetup, start: Moment) -> Result<Book, No
         log: 16,
         width: 4,
     };
-    Book::open(alloc, setup, limits, start)
+    OwnSeat::open(alloc, setup, limits, start)
 }
 
 /// What two initiators are begun with, and the same as the world remembers it.
@@ -144,7 +144,7 @@ fn both(alloc: Global, first: Begun, second: Begun) -> Result<Pair, NoMemory>
 }
 
 /// A world of this book, these initiators and two lanes.
-fn world_of(alloc: Global, book: Book, first: Begun, second: Begun) -> Result<World, NoMemory>
+fn world_of(alloc: Global, book: OwnSeat, first: Begun, second: Begun) -> Result<World, NoMemory>
     requires empty { book.core.history ≡ [] }
     requires first_same { setup_of first.facts ≡ first.own }
     requires first_own { is_own_list first.own.list ≡ true }

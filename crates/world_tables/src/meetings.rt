@@ -5,7 +5,7 @@ ghost use Rattle.spnego_core.specs.InitMech.{is_own_list};
 ghost use Rattle.world_laws.specs.Showing.{setup_of};
 
 use crate::begun::{Begun, begin, book, list_of};
-use accept_book::Book;
+use accept_book::OwnSeat;
 use sec_base::{Items, Moment, NoMemory, Octets};
 use spnego_core::{AcceptSetup, MechCred};
 use std::alloc::Global;
@@ -61,7 +61,7 @@ fn carry_over(
 /// The same of this initiator and this book.
 fn carry(
     alloc: Global,
-    book: Book,
+    book: OwnSeat,
     begun: Begun,
     count: u64,
     now: Moment,

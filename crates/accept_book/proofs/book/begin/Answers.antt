@@ -1,29 +1,30 @@
-use Rattle.std.proofs.Common.{rules, None, refl}
-use Rattle.accept_book.proofs.Comings.{comes_left, comes_begun}
+use Rattle.std.proofs.Common.{rules, refl, arith}
+use Rattle.accept_book.proofs.Comings.{comes_turned, comes_begun}
 use Rattle.accept_book.proofs.book.begin.Goals as goal
 
-pub returns-in-Err-LogFull : goal.returns-in-Err-LogFull
-returns-in-Err-LogFull c = record {
-  size = search rules;
-  comes = comes_left c.args.core.now None _ _ c.leave.result c.leave.ensures.answer c.leave.ensures.receipts (λ past is_past. search rules);
-  keeps = search rules;
-  fits = search rules;
-}
-
-pub returns-in-Err-TableFull : goal.returns-in-Err-TableFull
-returns-in-Err-TableFull c =
-    let leave = c.leave-in-Err-TableFull in record {
-      size = search rules;
-      comes = comes_left c.args.core.now None _ _ leave.result leave.ensures.answer leave.ensures.receipts (λ past is_past. search rules);
+pub returns-in-Err-LogFull-clause-took : goal.returns-in-Err-LogFull-clause-took
+returns-in-Err-LogFull-clause-took c =
+    let turned = c.turn_away.ensures in record {
+      size = omega (arith, turned.size);
+      comes = comes_turned c.args.core.now _ _ c.turn_away.result turned.answer turned.receipts (λ past is_past. search rules);
       keeps = search rules;
       fits = search rules;
     }
 
-pub returns-in-Ok : goal.returns-in-Ok
-returns-in-Ok c = record {
-  size = search rules;
-  comes = comes_begun c.args.core.now c.take_step.new.core c.args.setup.now c.args.token.now c.args.now c.args.draws.now c.new.result c.take_step.result c.new.ensures
-      (c.in-Ok.ensures.places refl) (c.in-Ok.ensures.place refl refl) c.take_step.ensures.comes;
-  keeps = search rules;
-  fits = search rules;
-}
+pub returns-in-Err-TableFull-clause-took : goal.returns-in-Err-TableFull-clause-took
+returns-in-Err-TableFull-clause-took c =
+    let turned = c.turn_away-in-Err-TableFull.ensures in record {
+      size = omega (arith, turned.size);
+      comes = comes_turned c.args.core.now _ _ c.turn_away-in-Err-TableFull.result turned.answer turned.receipts (λ past is_past. search rules);
+      keeps = search rules;
+      fits = search rules;
+    }
+
+pub returns-in-Ok-clause-took : goal.returns-in-Ok-clause-took
+returns-in-Ok-clause-took c =
+    let took = c.take_stepped.ensures.took in record {
+      size = took.size;
+      comes = comes_begun c.args.core.now c.take_stepped.new.core c.args.stepped c.take_stepped.result (c.in-Ok.ensures.places refl) (c.in-Ok.ensures.place refl refl) took.comes;
+      keeps = took.keeps;
+      fits = took.fits;
+    }

@@ -16,17 +16,17 @@ go_on-requires-in-More-clause-fits c = rw c.in-More.is at c.requires.fits
 pub settle-requires-clause-fits : goal.settle-requires-clause-fits
 settle-requires-clause-fits c = rw c.in-Done.is at c.requires.fits
 
-pub returns-in-WantsAuth : goal.returns-in-WantsAuth
-returns-in-WantsAuth c = record {
+pub returns-in-WantsAuth-clause-took : goal.returns-in-WantsAuth-clause-took
+returns-in-WantsAuth-clause-took c = record {
   size = search rules;
   comes = comes_marked (stands_of c.args.core.now) c.args.id c.in-WantsAuth.pause c.args.step c.go_on.result c.mark-mark.result c.finish.result c.finish.new.core
-      c.in-WantsAuth.is c.mark-mark.ensures c.go_on.ensures.value c.finish.ensures.comes;
+      c.in-WantsAuth.is c.mark-mark.ensures c.go_on.ensures.value c.finish.ensures.took.comes;
   keeps = search rules;
   fits = search rules;
 }
 
-pub returns-in-More : goal.returns-in-More
-returns-in-More c = rw c.in-More.is c.go_on-in-More.ensures
+pub returns-in-More-clause-took : goal.returns-in-More-clause-took
+returns-in-More-clause-took c = rw c.in-More.is c.go_on-in-More.ensures.took
 
-pub returns-in-Done : goal.returns-in-Done
-returns-in-Done c = rw c.in-Done.is c.settle.ensures
+pub returns-in-Done-clause-took : goal.returns-in-Done-clause-took
+returns-in-Done-clause-took c = rw c.in-Done.is c.settle.ensures.took

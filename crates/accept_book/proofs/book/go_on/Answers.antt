@@ -7,8 +7,8 @@ use Rattle.accept_book.proofs.Fitting.{slot_fits, all_fit}
 use Rattle.accept_book.proofs.Comings.{comes_taken, comes_refused}
 use Rattle.accept_book.proofs.book.go_on.Goals as goal
 
-pub returns-in-Ok : goal.returns-in-Ok
-returns-in-Ok c =
+pub returns-in-Ok-clause-took : goal.returns-in-Ok-clause-took
+returns-in-Ok-clause-took c =
     let own = c.in-Ok.entered.id in record {
       size = search rules;
       comes = comes_taken c.args.core.now c.enter.new.self c.args.id c.args.mark (steps.More c.args.end c.args.token) (nexts.Going c.args.end) own
@@ -21,8 +21,8 @@ returns-in-Ok c =
           (rw c.in-Ok.ensures.auth (slot_fits _ c.args.end _ _ c.in-Ok.ensures.context c.requires.fits)) c.in-Ok.ensures.stays c.in-Ok.ensures.auths;
     }
 
-pub returns-in-Err : goal.returns-in-Err
-returns-in-Err c = record {
+pub returns-in-Err-clause-took : goal.returns-in-Err-clause-took
+returns-in-Err-clause-took c = record {
   size = search rules;
   comes = comes_refused c.args.core.now c.enter.new.self c.refuse.new.core c.args.id c.args.mark (steps.More c.args.end c.args.token) c.in-Err.refusal c.refusal_of_mark.result c.refuse.result
       c.in-Err.ensures.unchanged c.refusal_of_mark.ensures c.in-Err.ensures.refusal c.refuse.ensures.comes;

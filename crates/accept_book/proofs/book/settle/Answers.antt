@@ -6,8 +6,8 @@ use Rattle.accept_book.proofs.Contexts.{windows_entered}
 use Rattle.accept_book.proofs.Comings.{comes_taken, comes_refused}
 use Rattle.accept_book.proofs.book.settle.Goals as goal
 
-pub returns-in-Ok : goal.returns-in-Ok
-returns-in-Ok c =
+pub returns-in-Ok-clause-took : goal.returns-in-Ok-clause-took
+returns-in-Ok-clause-took c =
     let own = c.in-Ok.entered.id in record {
       size = search rules;
       comes = comes_taken c.args.core.now c.enter.new.self c.args.id c.args.mark (steps.Done c.args.outcome c.args.ends c.args.token)
@@ -19,8 +19,8 @@ returns-in-Ok c =
       fits = search rules;
     }
 
-pub returns-in-Err : goal.returns-in-Err
-returns-in-Err c = record {
+pub returns-in-Err-clause-took : goal.returns-in-Err-clause-took
+returns-in-Err-clause-took c = record {
   size = search rules;
   comes = comes_refused c.args.core.now c.enter.new.self c.refuse.new.core c.args.id c.args.mark (steps.Done c.args.outcome c.args.ends c.args.token) c.in-Err.refusal c.refusal_of_mark.result c.refuse.result
       c.in-Err.ensures.unchanged c.refusal_of_mark.ensures c.in-Err.ensures.refusal c.refuse.ensures.comes;

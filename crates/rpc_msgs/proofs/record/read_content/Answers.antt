@@ -8,7 +8,7 @@ returns-in-Ok-clause-told g c = λ t.
     let read = c.loop-left.invariant.told t in
     let fits : c.min-part.result ≤ c.loop-left.left = omega arith in
     let less : c.in-Ok.count < c.min-part.result = omega arith in
-    piece-cut (g.L.Link.wire c.read_part.new.link) c.read_part.new.octets.items read.0 c.loop-left.left c.args.length c.min-part.result c.in-Ok.count read.1 fits less read.2 (c.in-Ok.ensures.told tells)
+    piece-cut (g.L.Link.wire c.read_piece.new.link) c.read_piece.new.octets.items read.0 c.loop-left.left c.args.length c.min-part.result c.in-Ok.count read.1 fits less read.2 (c.in-Ok.ensures.told tells)
 
 pub loop-left-preserved : goal.loop-left-preserved
 loop-left-preserved g c = record {
@@ -18,7 +18,7 @@ loop-left-preserved g c = record {
       let read = c.loop-left.invariant.told t in
       let fits : c.min-part.result ≤ c.loop-left.left = omega arith in
       let full : c.min-part.result ≡ c.in-Ok.count = omega (arith, c.in-Ok.ensures.size.0) in
-      piece-whole (g.L.Link.wire c.read_part.new.link) c.read_part.new.octets.items read.0 c.loop-left.left c.args.length c.min-part.result c.in-Ok.count read.1 fits full read.2 (c.in-Ok.ensures.told tells);
+      piece-whole (g.L.Link.wire c.read_piece.new.link) c.read_piece.new.octets.items read.0 c.loop-left.left c.args.length c.min-part.result c.in-Ok.count read.1 fits full read.2 (c.in-Ok.ensures.told tells);
   tells = c.in-Ok.ensures.tells ∙ c.loop-left.invariant.tells;
   unclosed = c.in-Ok.ensures.unclosed;
   faults = omega (arith, c.in-Ok.ensures.faults);
@@ -29,7 +29,7 @@ returns-in-Err-clause-told g c = λ t.
     let tells : IsTrue (g.L.Link.tells c.loop-left.link) = rw c.loop-left.invariant.tells t in
     let read = c.loop-left.invariant.told t in
     let fits : c.min-part.result ≤ c.loop-left.left = omega arith in
-    piece-refused (g.L.Link.wire c.read_part.new.link) c.read_part.new.octets.items read.0 c.loop-left.left c.args.length c.min-part.result read.1 fits read.2 c.in-Err.refusal (c.in-Err.ensures.told tells)
+    piece-refused (g.L.Link.wire c.read_piece.new.link) c.read_piece.new.octets.items read.0 c.loop-left.left c.args.length c.min-part.result read.1 fits read.2 c.in-Err.refusal (c.in-Err.ensures.told tells)
 
 pub returns-clause-told : goal.returns-clause-told
 returns-clause-told g c = λ t.

@@ -1,4 +1,4 @@
-use Rattle.std.proofs.Common.{IsTrue, ◌∙◌}
+use Rattle.std.proofs.Common.{IsTrue}
 use Rattle.rpc_msgs.specs.Fragments.{Heads}
 use Rattle.rpc_msgs.proofs.FragmentSteps.{after-header}
 use Rattle.rpc_msgs.proofs.record.read_fragment.Goals as goal

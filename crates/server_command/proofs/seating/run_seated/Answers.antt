@@ -1,4 +1,5 @@
 use Rattle.std.proofs.Common.{rules, ◌≡◌, ◌≤◌, ℕ, List, [], map, Some, length, slice_get, All, vec_len, refl, sym, ap, ◌∙◌, subst, arith}
+use Rattle.accept_book.specs.Booking.{with_setup}
 use Rattle.book_seats.specs.Notes.{asked_by}
 use Rattle.std.proofs.lemmas.List.{length-map}
 use Rattle.server_desks.specs.Desks.{IsFresh, end_behind}
@@ -35,7 +36,7 @@ returns-clause-served g c =
       all = all;
       ends = map (λ job. job.end) c.run_desks.new.jobs.items;
       first = c.into_parts-book.ensures.began.0;
-      last = c.into_parts-book.result.0;
+      last = with_setup g.J.Room.setup c.into_parts-book.result.0;
       opened = c.into_parts-book.ensures.began.1;
       chain = c.into_parts-book.ensures.began.2;
       closed = record {

@@ -31,3 +31,6 @@ returns-in-Ok-clause-complete g c = λ options is valid steady ports other.
     completed _ _ _ _ _ _ c.in-Ok.options c.run_with.result.end c.run_with.ensures.begins
     (subst (λ (o : Options). AreValid (g.F.Shelf.tells c.args.shelf.now) (g.F.Shelf.files c.args.shelf.now) o.files o.name) (same-options c.in-Ok.ensures.value is) valid) steady
     (begun-served c.run_with.ensures.booked (λ one. side-served one.2 ports other)) other
+
+pub returns-in-Ok-clause-seen : goal.returns-in-Ok-clause-seen
+returns-in-Ok-clause-seen g c = λ options is. rw (same-options c.in-Ok.ensures.value is) c.run_with.ensures.seen

@@ -1,6 +1,7 @@
 use Rattle.std.proofs.Common.{inl, inr, ⊎_elim, ap, sym}
 use Rattle.server_options.specs.Lines.{is_begun}
 use Rattle.server_options.proofs.KeyNames.{key-names}
+use Rattle.server_command.proofs.Telling.{told}
 use Rattle.server_command.proofs.server.run_with.Goals as goal
 
 pub returns-in-Ok-clause-said : goal.returns-in-Ok-clause-said
@@ -21,3 +22,8 @@ returns-in-Ok-clause-limits g c = rw c.finish.ensures.end (rw c.finish.ensures.l
 
 pub returns-in-Ok-clause-named : goal.returns-in-Ok-clause-named
 returns-in-Ok-clause-named g c = rw c.finish.ensures.end c.open_and_serve-course.ensures.named
+
+pub returns-in-Ok-clause-seen : goal.returns-in-Ok-clause-seen
+returns-in-Ok-clause-seen g c =
+    rw c.finish.ensures.end (rw c.finish.ensures.log (⊎_elim (λ none. inl (ap is_begun none.0, none.1))
+    (λ one. inr (c.in-Ok.keys, rw (sym c.in-Ok.is) c.keys_from.ensures.value, told _ _ _ _ _ _ _ _ _ _ _ _ _ one c.open_and_serve-course.ensures.legal)) c.open_and_serve-course.ensures.booked))

@@ -6,9 +6,9 @@ use Rattle.gate_models.proofs.looping.Looping.answer.Goals as goal
 
 pub returns-in-Answered-clause-answered : goal.returns-in-Answered-clause-answered
 returns-in-Answered-clause-answered g c =
-    let one = c.answer_record-answered.result.kept in
-    let r = c.answer_record-answered.ensures in
-    let d = c.in-Answered.ensures (ruling_for c.args.self.now.width c.args.octets.now one) (reply-said _ _ c.answer_record-answered.result.reply r.ruled.says) in record {
+    let one = c.answer_record_by-answered.result.kept in
+    let r = c.answer_record_by-answered.ensures in
+    let d = c.in-Answered.ensures (ruling_for c.args.self.now.width c.args.octets.now one) (reply-said _ _ c.answer_record_by-answered.result.reply r.ruled.says) in record {
       one = one;
       keeps = c.push_reserved.ensures.items ∙ ap (λ (ks : List Kept). ks ++ one ∷ []) c.reserve.ensures.items;
       exact = (r.ruled.exact, r.drawn);
@@ -21,9 +21,9 @@ returns-in-Answered-clause-answered g c =
 
 pub returns-clause-answered : goal.returns-clause-answered
 returns-clause-answered g c =
-    let one = c.answer_record-answered.result.kept in
-    let r = c.answer_record-answered.ensures in
-    let d = c.in-Starved.ensures (ruling_for c.args.self.now.width c.args.octets.now one) (reply-said _ _ c.answer_record-answered.result.reply r.ruled.says) in (
+    let one = c.answer_record_by-answered.result.kept in
+    let r = c.answer_record_by-answered.ensures in
+    let d = c.in-Starved.ensures (ruling_for c.args.self.now.width c.args.octets.now one) (reply-said _ _ c.answer_record_by-answered.result.reply r.ruled.says) in (
       d.0,
       refl,
       inr (record {
@@ -38,4 +38,4 @@ returns-clause-answered g c =
 
 pub returns-in-Rests-clause-answered : goal.returns-in-Rests-clause-answered
 returns-in-Rests-clause-answered g c =
-    absurd (c.in-Rests.ensures (ruling_for c.args.self.now.width c.args.octets.now c.answer_record-answered.result.kept) (reply-said _ _ c.answer_record-answered.result.reply c.answer_record-answered.ensures.ruled.says))
+    absurd (c.in-Rests.ensures (ruling_for c.args.self.now.width c.args.octets.now c.answer_record_by-answered.result.kept) (reply-said _ _ c.answer_record_by-answered.result.reply c.answer_record_by-answered.ensures.ruled.says))

@@ -1,0 +1,33 @@
+use Rattle.std.proofs.Common.{rules}
+use Rattle.accept_book.specs.Booking.{stands_of}
+use Rattle.accept_book.proofs.Comings.{comes_short}
+use Rattle.accept_book.proofs.book.take_stepped.Goals as goal
+
+pub enter-requires-clause-fits : goal.enter-requires-clause-fits
+enter-requires-clause-fits c = rw c.in-Ok.is at c.requires.fits
+
+pub enter-requires-clause-short : goal.enter-requires-clause-short
+enter-requires-clause-short c = rw c.in-Ok.is at c.requires.short
+
+pub returns-in-Ok-clause-took : goal.returns-in-Ok-clause-took
+returns-in-Ok-clause-took c = rw c.in-Ok.is c.enter.ensures.took
+
+pub returns-in-Ok-clause-memory : goal.returns-in-Ok-clause-memory
+returns-in-Ok-clause-memory c =
+    ((λ e. absurd (c.enter.ensures.memory e)), (λ e. let is = c.in-Ok.is in absurd cc))
+
+pub returns-in-Err-NoMemory-clause-took : goal.returns-in-Err-NoMemory-clause-took
+returns-in-Err-NoMemory-clause-took c = record {
+  size = search rules;
+  comes = comes_short (stands_of c.args.core.now) c.args.id _ c.refuse.result c.refuse.new.core c.refuse.ensures.comes;
+  keeps = search rules;
+  fits = search rules;
+}
+
+pub returns-in-Err-clause-took : goal.returns-in-Err-clause-took
+returns-in-Err-clause-took c = rw c.in-Err.is (record {
+  size = search rules;
+  comes = c.refuse-in-Err.ensures.comes;
+  keeps = search rules;
+  fits = search rules;
+})

@@ -1,0 +1,17 @@
+pub mod LogWalk
+pub mod Histories
+pub mod Past
+pub mod Answering
+pub mod Growth
+pub mod InPlace
+pub mod Steps
+pub mod Views
+pub mod Contexts
+pub mod Marks
+pub mod Near
+pub mod Tokens
+pub mod Leases
+pub mod Turns
+pub mod Chain
+pub mod Says
+pub mod Lent

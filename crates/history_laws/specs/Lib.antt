@@ -1,0 +1,6 @@
+pub mod Receipts
+pub mod Before
+pub mod Seen
+pub mod Says
+pub mod Lent
+pub mod Examples

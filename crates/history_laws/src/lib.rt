@@ -1,0 +1,6 @@
+//! That each answer of a book is what the log before it says.
+#![tactic(auto)]
+
+mod history;
+
+pub use history::{histories_by_hand, prove_history, prove_receipts, prove_says};

@@ -1,0 +1,131 @@
+//! The constants of key derivation (RFC 3961 section 5.1) that are used for each context, folded to a block beforehand.
+
+ghost use Rattle.std.specs.Prelude.{◌≡◌, IfSome};
+ghost use Rattle.krb_derive.specs.Fold.{n_fold};
+ghost use Rattle.krb_derive.specs.Derivation.{constant};
+
+use crate::derivation::Part;
+
+/// The usages of RFC 4120 section 7.5.1: what is sealed in a ticket, in a request and in a reply.
+const TICKET: u32 = 2;
+
+const AUTHENTICATOR: u32 = 11;
+
+const REPLY: u32 = 12;
+
+/// The usages of RFC 4121 section 2: Wrap and MIC tokens, by the side that makes them.
+const ACCEPTOR_SEAL: u32 = 22;
+
+const ACCEPTOR_SIGN: u32 = 23;
+
+const INITIATOR_SEAL: u32 = 24;
+
+const INITIATOR_SIGN: u32 = 25;
+
+const TICKET_ENCRYPT: [u8; 16] = [
+    0xb5, 0xb0, 0x58, 0x2c, 0x14, 0xb6, 0x50, 0x0a, 0xad, 0x56, 0xab, 0x55, 0xaa, 0x80, 0x55, 0x6a,
+];
+
+const AUTHENTICATOR_ENCRYPT: [u8; 16] = [
+    0xfe, 0x54, 0xaa, 0x55, 0xa5, 0x02, 0x52, 0x2f, 0xbf, 0x5f, 0xaf, 0xd7, 0xea, 0x81, 0x75, 0xfa,
+];
+
+const REPLY_ENCRYPT: [u8; 16] = [
+    0x05, 0xd7, 0xec, 0x76, 0xb5, 0x0b, 0x53, 0x33, 0xc1, 0x60, 0xb0, 0x58, 0x2a, 0x81, 0x96, 0x0b,
+];
+
+const ACCEPTOR_SEAL_ENCRYPT: [u8; 16] = [
+    0x56, 0x00, 0x80, 0xc0, 0x55, 0x60, 0x55, 0x5c, 0xd6, 0x6a, 0xb5, 0x5a, 0xaa, 0x82, 0xd6, 0xab,
+];
+
+const INITIATOR_SEAL_ENCRYPT: [u8; 16] = [
+    0x66, 0x08, 0x04, 0x02, 0x75, 0x71, 0x56, 0x65, 0xda, 0x6c, 0xb6, 0x5b, 0x2a, 0x83, 0x16, 0xcb,
+];
+
+const TICKET_INTEGRITY: [u8; 16] = [
+    0x62, 0xdc, 0x6e, 0x37, 0x1a, 0x63, 0xa8, 0x09, 0x58, 0xac, 0x56, 0x2b, 0x15, 0x40, 0x4a, 0xc5,
+];
+
+const AUTHENTICATOR_INTEGRITY: [u8; 16] = [
+    0xab, 0x80, 0xc0, 0x60, 0xaa, 0xaf, 0xaa, 0x2e, 0x6a, 0xb5, 0x5a, 0xad, 0x55, 0x41, 0x6b, 0x55,
+];
+
+const REPLY_INTEGRITY: [u8; 16] = [
+    0xb3, 0x04, 0x02, 0x81, 0xba, 0xb8, 0xab, 0x32, 0x6c, 0xb6, 0x5b, 0x2d, 0x95, 0x41, 0x8b, 0x65,
+];
+
+const ACCEPTOR_SEAL_INTEGRITY: [u8; 16] = [
+    0x03, 0x2c, 0x96, 0xcb, 0x5b, 0x0d, 0xad, 0x5b, 0x81, 0xc0, 0x60, 0x30, 0x15, 0x42, 0xcc, 0x06,
+];
+
+const INITIATOR_SEAL_INTEGRITY: [u8; 16] = [
+    0x13, 0x34, 0x1a, 0x0d, 0x7b, 0x1e, 0xae, 0x64, 0x85, 0xc2, 0x61, 0x30, 0x95, 0x43, 0x0c, 0x26,
+];
+
+const ACCEPTOR_SEAL_CHECK: [u8; 16] = [
+    0x45, 0x6f, 0xb8, 0x5c, 0x23, 0x4f, 0xcd, 0x5c, 0x92, 0x48, 0xa4, 0x52, 0x26, 0x42, 0xd4, 0x8a,
+];
+
+const ACCEPTOR_SIGN_CHECK: [u8; 16] = [
+    0x4d, 0xf3, 0xfa, 0x7d, 0x33, 0x57, 0xcd, 0x60, 0x94, 0x49, 0xa4, 0xd2, 0x66, 0x42, 0xf4, 0x9a,
+];
+
+const INITIATOR_SEAL_CHECK: [u8; 16] = [
+    0x55, 0x77, 0x3b, 0x9e, 0x43, 0x60, 0xce, 0x65, 0x96, 0x4a, 0xa5, 0x52, 0xa6, 0x43, 0x14, 0xaa,
+];
+
+const INITIATOR_SIGN_CHECK: [u8; 16] = [
+    0x5d, 0xfb, 0x7d, 0xbf, 0x53, 0x68, 0xce, 0x69, 0x98, 0x4b, 0xa5, 0xd2, 0xe6, 0x43, 0x34, 0xba,
+];
+
+/// The constant of Ke.
+fn of_encrypt(usage: u32) -> Option<[u8; 16]>
+    ensures { IfSome result (λ block. block ≡ n_fold 16 (constant usage Part.Encrypt)) }
+{
+    match usage {
+        TICKET => Some(TICKET_ENCRYPT),
+        AUTHENTICATOR => Some(AUTHENTICATOR_ENCRYPT),
+        REPLY => Some(REPLY_ENCRYPT),
+        ACCEPTOR_SEAL => Some(ACCEPTOR_SEAL_ENCRYPT),
+        INITIATOR_SEAL => Some(INITIATOR_SEAL_ENCRYPT),
+        _ => None,
+    }
+}
+
+/// The constant of Ki.
+fn of_integrity(usage: u32) -> Option<[u8; 16]>
+    ensures { IfSome result (λ block. block ≡ n_fold 16 (constant usage Part.Integrity)) }
+{
+    match usage {
+        TICKET => Some(TICKET_INTEGRITY),
+        AUTHENTICATOR => Some(AUTHENTICATOR_INTEGRITY),
+        REPLY => Some(REPLY_INTEGRITY),
+        ACCEPTOR_SEAL => Some(ACCEPTOR_SEAL_INTEGRITY),
+        INITIATOR_SEAL => Some(INITIATOR_SEAL_INTEGRITY),
+        _ => None,
+    }
+}
+
+/// The constant of Kc.
+fn of_check(usage: u32) -> Option<[u8; 16]>
+    ensures { IfSome result (λ block. block ≡ n_fold 16 (constant usage Part.Check)) }
+{
+    match usage {
+        ACCEPTOR_SEAL => Some(ACCEPTOR_SEAL_CHECK),
+        ACCEPTOR_SIGN => Some(ACCEPTOR_SIGN_CHECK),
+        INITIATOR_SEAL => Some(INITIATOR_SEAL_CHECK),
+        INITIATOR_SIGN => Some(INITIATOR_SIGN_CHECK),
+        _ => None,
+    }
+}
+
+/// The folded constant of a usage and a part, where it is one of those above.
+pub(crate) fn folded_before(usage: u32, part: Part) -> Option<[u8; 16]>
+    ensures { IfSome result (λ block. block ≡ n_fold 16 (constant usage part)) }
+{
+    match part {
+        Part::Encrypt => of_encrypt(usage),
+        Part::Integrity => of_integrity(usage),
+        Part::Check => of_check(usage),
+    }
+}

@@ -1,0 +1,17 @@
+use Rattle.std.proofs.Common.{◌+◌, ◌-◌, ◌++◌, ◌≤◌, ◌≡◌, ◌∙◌, ap, ℕ, List, length, take, vec_len, arith}
+use Rattle.std.proofs.lemmas.Grind.{common_steps}
+use Rattle.rpc_msgs.proofs.ContentSteps.{piece-filled, read-behind}
+use Rattle.rpc_msgs.proofs.record.fill_from.Goals as goal
+
+pub returns-in-Ok-clause-told : goal.returns-in-Ok-clause-told
+returns-in-Ok-clause-told g c = λ t.
+    let octets = c.args.octets.now in
+    let was = c.deref_mut.result.now in
+    let buffer = c.fill.new.buf in
+    let size : length buffer ≡ vec_len octets - c.args.at = grind (arith, common_steps) in
+    let fits : c.in-Ok.count ≤ length buffer = grind (arith, common_steps, c.in-Ok.ensures.count, c.fill.auto.buf) in
+    let within : c.args.at ≤ length was = omega (arith, c.requires.within, c.deref_mut.ensures.len) in
+    let room : c.args.at + length buffer ≤ vec_len octets = omega (arith, size, c.requires.within) in
+    piece-filled (g.L.Link.wire c.args.link.now) (g.L.Link.wire c.fill.new.link) (take c.args.at octets.items) c.truncate.new.self.items buffer c.in-Ok.count (vec_len octets - c.args.at) size fits
+    (c.truncate.ensures.items ∙ (read-behind was buffer _ _ c.args.at c.in-Ok.count (vec_len octets) within fits room ∙ ap (λ (zs : List ℕ). take c.args.at zs ++ take c.in-Ok.count buffer) c.deref_mut.ensures.value))
+    (c.in-Ok.ensures.told t)

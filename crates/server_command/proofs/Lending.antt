@@ -1,0 +1,147 @@
+-- The desks of a run take numbers only of leases that were given before.
+use Rattle.std.proofs.Common.{◌≡◌, ◌≢◌, ◌⊎◌, ◌∙◌, ℕ, zero, suc, ◌<◌, ◌≤◌, ◌==◌, eq-eqb, ne_eqb, if◌then◌else◌, Bool, true, false, List, [], ◌∷◌, ◌++◌, length, slice_get, Option, Some, None, append_assoc, append-nil, refl, sym, ap, subst, inl, inr, arith}
+use Rattle.std.proofs.lemmas.Bool.{cases_eq, cases_lt}
+use Rattle.std.proofs.lemmas.List.{map-append}
+use Rattle.std.proofs.lemmas.Option.{none-some}
+use Rattle.sec_base.specs.declared.port.Port as ports
+use Rattle.sec_base.specs.declared.link.Link as links
+use Rattle.sec_base.specs.declared.clock.Clock as clocks
+use Rattle.sec_base.specs.declared.draw.Draw as draws
+use Rattle.rpc_msgs.specs.Records.{Fragments, octets_in}
+use Rattle.accept_core.specs.Logs.{LogOf}
+use Rattle.accept_book.specs.RecordShown.{Asked}
+use Rattle.accept_book.specs.declared.book_answer.Lease.{Lease}
+use Rattle.gss_server.specs.Asking.{Asking}
+use Rattle.gss_server.specs.Connections.{asked_for, asked_in}
+use Rattle.gss_server.specs.Hearing.{kept_answers}
+use Rattle.gss_server.specs.declared.answer.Kept.{Kept}
+use Rattle.gss_server.specs.declared.connection.Served.{Served}
+use Rattle.gss_server.specs.declared.keeper.Keeper as keepers
+use Rattle.book_seats.specs.Notes.{Note, asked_by, questions_of}
+use Rattle.book_seats.proofs.Moves.{of-append, of-own, of-else}
+use Rattle.history_laws.specs.Before.{Gives, IsGiven}
+use Rattle.history_laws.specs.Lent.{AllLent}
+use Rattle.history_laws.proofs.Lent.{LentFrom, lent-join, lends-record, at-place}
+use Rattle.server_desks.specs.Desks.{ServedOf, ServedLink, LinksServed, DeskServed}
+use Rattle.server_desks.specs.declared.desk.Desk.{Desk}
+use Rattle.server_desks.specs.declared.desk.DeskEnd.{DeskEnd}
+use Rattle.server_options.specs.declared.ending.RunEnd.{RunEnd}
+use Rattle.server_options.specs.declared.keys.Keys.{Keys}
+use Rattle.server_options.specs.declared.options.Options.{Options}
+use Rattle.server_command.specs.SideBySide.{Noted, OneHistory}
+
+-- ---- what one desk asked
+
+lent-in : (width : ℕ) (records : List Fragments) (kept : List Kept) → LentFrom [] (asked_in width records kept)
+lent-in width [] kept = tt
+lent-in width (cut ∷ records) [] = tt
+lent-in width (cut ∷ records) (one ∷ kept) = lent-join [] (asked_for width (octets_in cut) one) (asked_in width records kept) (lends-record (octets_in cut) (kept_answers one) width) (lent-in width records kept)
+
+-- what was noted of a desk
+pub noted : (before after : ℕ × List Asked) (asked : List Asked) → Asking Noted before asked after → after ≡ (before.0, before.1 ++ asked)
+noted before after [] same = same ∙ ap (λ xs. (before.0, xs)) (sym (append-nil before.1))
+noted before after (one ∷ asked) a =
+    noted a.0 after asked a.2 ∙ (ap (λ (x : ℕ × List Asked). (x.0, x.1 ++ asked)) a.1 ∙ ap (λ xs. (before.0, xs)) (append_assoc before.1 (one ∷ []) asked))
+
+-- the questions behind those that a desk asked before
+record Adds (before after : ℕ × List Asked) : Type 0 where
+  asked : List Asked
+  after_is : after ≡ (before.0, before.1 ++ asked)
+  lent : LentFrom [] asked
+
+adds-join : (before middle after : ℕ × List Asked) → Adds before middle → Adds middle after → Adds before after
+adds-join before middle after f s = record {
+  asked = f.asked ++ s.asked;
+  after_is = s.after_is ∙ (ap (λ (x : ℕ × List Asked). (x.0, x.1 ++ s.asked)) f.after_is ∙ ap (λ xs. (before.0, xs)) (append_assoc before.1 f.asked s.asked));
+  lent = lent-join [] f.asked s.asked f.lent s.lent;
+}
+
+link-adds : {L : Type 0} (width : ℕ) (link : links.Ghosts L) (before : ℕ × List Asked) (old : L) (one : ServedOf L) (after : ℕ × List Asked) → ServedLink Noted width link before old one after → Adds before after
+link-adds width link before old one after s = record {
+  asked = asked_in width s.served.records one.answers;
+  after_is = noted before after (asked_in width s.served.records one.answers) s.served.asked;
+  lent = lent-in width s.served.records one.answers;
+}
+
+links-add : {L : Type 0} (width : ℕ) (link : links.Ghosts L) (before : ℕ × List Asked) (olds : List L) (served : List (ServedOf L)) (after : ℕ × List Asked) → LinksServed Noted width link before olds served after → Adds before after
+links-add width link before [] [] after s = record { asked = []; after_is = s ∙ ap (λ xs. (before.0, xs)) (sym (append-nil before.1)); lent = tt }
+links-add width link before [] (one ∷ more) after s = absurd s
+links-add width link before (old ∷ olds) [] after s = absurd s
+links-add width link before (old ∷ olds) (one ∷ more) after s = adds-join before s.0 after (link-adds width link before old one s.0 s.1) (links-add width link s.0 olds more after s.2)
+
+desk-lent : {P C D K M L Q R : Type 0} (width most : ℕ) (port : ports.Ghosts P L) (link : links.Ghosts L) (clock : clocks.Ghosts C) (draw : draws.Ghosts D) (keeper : keepers.Ghosts K Kept Q)
+    (kept : keepers.Ghosts M (Served L) R) (i : ℕ) (old : Desk P C D K M) (ending : DeskEnd) (new : Desk P C D K M) (asked : List Asked)
+    → DeskServed Noted width most port link clock draw keeper kept (i, []) old ending new (i, asked) → LentFrom [] asked
+desk-lent width most port link clock draw keeper kept i old ending new asked s =
+    let a = links-add width link (i, []) s.went.links s.went.served (i, asked) s.went.each in
+    subst (λ (xs : List Asked). LentFrom [] xs) (sym (ap (λ (x : ℕ × List Asked). x.1) a.after_is)) a.lent
+
+-- ---- each desk
+
+pub get-past : {A : Type 0} (xs : List A) (i : ℕ) → slice_get xs i ≡ None → length xs ≤ i
+get-past [] i e = omega arith
+get-past (y ∷ ys) zero e = absurd (none-some y (sym e))
+get-past (y ∷ ys) (suc i) e = omega (arith, get-past ys i e)
+
+each-lent : {D : Type 0} (olds : List D) (ends : List DeskEnd) (news : List D) (i : ℕ) (asked : List Asked) (old : Option D) (ending : Option DeskEnd) (new : Option D) → length news ≡ length olds → length ends ≡ length olds
+    → slice_get olds i ≡ old → slice_get ends i ≡ ending → slice_get news i ≡ new → i < length olds
+    → ((old new : D) (ending : DeskEnd) → slice_get olds i ≡ Some old → slice_get ends i ≡ Some ending → slice_get news i ≡ Some new → LentFrom [] asked) → LentFrom [] asked
+each-lent olds ends news i asked None ending new count ends_count a b c below lent = let le = get-past olds i a in absurd (omega (arith, le, below))
+each-lent olds ends news i asked (Some old) None new count ends_count a b c below lent = let le = get-past ends i b in absurd (omega (arith, le, below, ends_count))
+each-lent olds ends news i asked (Some old) (Some ending) None count ends_count a b c below lent = let le = get-past news i c in absurd (omega (arith, le, below, count))
+each-lent olds ends news i asked (Some old) (Some ending) (Some new) count ends_count a b c below lent = lent old new ending a b c
+
+-- ---- the history of all desks
+
+given-by : (desk : ℕ) (note : Note) (notes : List Note) (lease : Lease) → (IsGiven lease (asked_by desk notes) → IsGiven lease (questions_of notes)) → (b : Bool)
+    → IsGiven lease (if b then note.1 ∷ asked_by desk notes else asked_by desk notes) → Gives lease note.1 ⊎ IsGiven lease (questions_of notes)
+given-by desk note notes lease later true (inl gives) = inl gives
+given-by desk note notes lease later true (inr given) = inr (later given)
+given-by desk note notes lease later false given = inr (later given)
+
+given-of : (desk : ℕ) (notes : List Note) (lease : Lease) → IsGiven lease (asked_by desk notes) → IsGiven lease (questions_of notes)
+given-of desk [] lease none = none
+given-of desk (note ∷ notes) lease given = given-by desk note notes lease (given-of desk notes lease) (note.0 == desk) given
+
+own-first : (desk : ℕ) (one : Asked) (rest : List Note) → asked_by desk ((desk, one) ∷ rest) ≡ one ∷ asked_by desk rest
+own-first desk one rest = rw (eq-eqb desk desk refl) refl
+
+other-first : (desk i : ℕ) (one : Asked) (rest : List Note) → desk ≢ i → asked_by i ((desk, one) ∷ rest) ≡ asked_by i rest
+other-first desk i one rest ne = rw (ne_eqb desk i ne) refl
+
+own-last : (desk : ℕ) (one : Asked) (before : List Note) → asked_by desk (before ++ (desk, one) ∷ []) ≡ asked_by desk before ++ one ∷ []
+own-last desk one before = of-append desk before ((desk, one) ∷ []) ∙ ap (λ (l : List Asked). asked_by desk before ++ l) (of-own desk one)
+
+other-last : (desk i : ℕ) (one : Asked) (before : List Note) → desk ≢ i → asked_by i (before ++ (desk, one) ∷ []) ≡ asked_by i before
+other-last desk i one before ne =
+    of-append i before ((desk, one) ∷ []) ∙ (ap (λ (l : List Asked). asked_by i before ++ l) (of-else i desk one ne) ∙ append-nil (asked_by i before))
+
+-- what the desks ask after these notes
+rest-lent : (desk : ℕ) (one : Asked) (before rest : List Note) → ((i : ℕ) → LentFrom (asked_by i before) (asked_by i ((desk, one) ∷ rest)))
+    → (i : ℕ) → LentFrom (asked_by i (before ++ (desk, one) ∷ [])) (asked_by i rest)
+rest-lent desk one before rest each i = elim (cases_eq desk i) [
+  | inl e ↦ subst (λ (k : ℕ). LentFrom (asked_by k (before ++ (desk, one) ∷ [])) (asked_by k rest)) e
+      (subst (λ (l : List Asked). LentFrom l (asked_by desk rest)) (sym (own-last desk one before)) (first-lent desk one before rest (each desk)).1)
+  | inr ne ↦ subst (λ (l : List Asked). LentFrom l (asked_by i rest)) (sym (other-last desk i one before ne))
+      (subst (λ (l : List Asked). LentFrom (asked_by i before) l) (other-first desk i one rest ne) (each i))
+]
+  where
+    first-lent : (desk : ℕ) (one : Asked) (before rest : List Note) → LentFrom (asked_by desk before) (asked_by desk ((desk, one) ∷ rest)) → LentFrom (asked_by desk before) (one ∷ asked_by desk rest)
+    first-lent desk one before rest l = subst (λ (xs : List Asked). LentFrom (asked_by desk before) xs) (own-first desk one rest) l
+
+all-lent : (before more : List Note) → ((i : ℕ) → LentFrom (asked_by i before) (asked_by i more)) → LentFrom (questions_of before) (questions_of more)
+all-lent before [] each = tt
+all-lent before ((desk, one) ∷ rest) each = (
+  λ lease takes. given-of desk before lease ((subst (λ (xs : List Asked). LentFrom (asked_by desk before) xs) (own-first desk one rest) (each desk)).0 lease takes),
+  subst (λ (xs : List Asked). LentFrom xs (questions_of rest)) (map-append (λ (note : Note). note.1) before ((desk, one) ∷ []))
+      (all-lent (before ++ (desk, one) ∷ []) rest (rest-lent desk one before rest each)),
+)
+
+pub lent : {P C D K M L Q R : Type 0} (options : Options) (keys : Keys) (start : ℕ) (port : ports.Ghosts P L) (link : links.Ghosts L) (clock : clocks.Ghosts C) (draw : draws.Ghosts D)
+    (keeper : keepers.Ghosts K Kept Q) (kept : keepers.Ghosts M (Served L) R) (olds : List (Desk P C D K M)) (end : RunEnd) (news : List (Desk P C D K M)) (log : LogOf)
+    → (one : OneHistory options keys start port link clock draw keeper kept olds end news log) → AllLent (questions_of one.all)
+lent options keys start port link clock draw keeper kept olds end news log one = at-place (questions_of one.all) (all-lent [] one.all (λ i. elim (cases_lt i (length olds)) [
+  | inl below ↦ each-lent olds one.ends news i (asked_by i one.all) (slice_get olds i) (slice_get one.ends i) (slice_get news i) one.count one.ends_count refl refl refl below
+      (λ old new ending a b c. desk-lent options.window options.connections port link clock draw keeper kept i old ending new (asked_by i one.all) (one.each i old new ending a b c))
+  | inr past ↦ subst (λ (xs : List Asked). LentFrom [] xs) (sym (one.others i past)) tt
+]))

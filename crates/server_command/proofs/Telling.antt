@@ -1,0 +1,43 @@
+-- The one history is told by the log.
+use Rattle.std.proofs.Common.{◌∙◌, ℕ, List, length, reverse, sym, subst}
+use Rattle.sec_base.specs.declared.port.Port as ports
+use Rattle.sec_base.specs.declared.link.Link as links
+use Rattle.sec_base.specs.declared.clock.Clock as clocks
+use Rattle.sec_base.specs.declared.draw.Draw as draws
+use Rattle.accept_core.specs.Entering.{gained}
+use Rattle.accept_core.specs.Legal.{Legal}
+use Rattle.accept_core.specs.Logs.{LogOf}
+use Rattle.accept_core.specs.declared.entry.Entry.{Entry}
+use Rattle.gss_server.specs.Telling.{limits_of}
+use Rattle.gss_server.specs.declared.answer.Kept.{Kept}
+use Rattle.gss_server.specs.declared.connection.Served.{Served}
+use Rattle.gss_server.specs.declared.keeper.Keeper as keepers
+use Rattle.book_seats.specs.Notes.{questions_of}
+use Rattle.history_laws.specs.Seen.{AllSeen, IsEmpty}
+use Rattle.history_laws.proofs.Chain.{seen-law}
+use Rattle.history_laws.proofs.InPlace.{in-place}
+use Rattle.server_command.specs.SideBySide.{OneHistory}
+use Rattle.server_command.specs.Told.{ToldByLog}
+use Rattle.server_command.proofs.Lending.{lent}
+use Rattle.server_desks.specs.declared.desk.Desk.{Desk}
+use Rattle.server_options.specs.declared.ending.RunEnd.{RunEnd}
+use Rattle.server_options.specs.declared.keys.Keys.{Keys}
+use Rattle.server_options.specs.declared.options.Options.{Options}
+
+pub told : {P C D K M L Q R : Type 0} (options : Options) (keys : Keys) (start : ℕ) (port : ports.Ghosts P L) (link : links.Ghosts L) (clock : clocks.Ghosts C) (draw : draws.Ghosts D)
+    (keeper : keepers.Ghosts K Kept Q) (kept : keepers.Ghosts M (Served L) R) (olds : List (Desk P C D K M)) (end : RunEnd) (news : List (Desk P C D K M)) (log : LogOf)
+    → OneHistory options keys start port link clock draw keeper kept olds end news log → Legal log.width (reverse log.entries)
+    → ToldByLog options keys start port link clock draw keeper kept olds end news log
+told options keys start port link clock draw keeper kept olds end news log one legal =
+    let asked = questions_of one.all in
+    let empty : IsEmpty one.first = record { history = one.opened.history; slots = one.opened.empty } in
+    let last : Legal one.last.core.width one.last.core.history =
+    subst (λ (w : ℕ). Legal w one.last.core.history) one.closed.width (subst (λ (h : List Entry). Legal log.width h) one.closed.entries legal) in
+    record {
+      history = one;
+      legal = legal;
+      in_place = in-place asked one.first one.last one.chain ∙ (λ i. gained (length (one.opened.history i)) (sym one.closed.entries i));
+      seen = subst (λ (n : ℕ). AllSeen one.first.setup (limits_of one.first.core) n asked) one.opened.greatest
+          (seen-law one.first one.last asked empty one.chain last);
+      lent = lent options keys start port link clock draw keeper kept olds end news log one;
+    }
