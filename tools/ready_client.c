@@ -5,6 +5,7 @@
  * SERVER is a principal, as rpc/localhost@REALM.TEST; SERVICE is none, which is without authentication, integrity or privacy. A context is made by
  * libtirpc and by the SPNEGO of MIT Kerberos, then CALLS calls of NULL, or of ECHO with SIZE octets where SIZE isn't 0. They go over the
  * context's connection, since a server of libtirpc keeps a context with that, FLIGHT of them in one write, after the replies to those before.
+ * Where SERVICE is contexts, each call creates a context by a token of its own (RFC 2203 section 5.2.2), and the reply has to complete it.
  * A line "CALLS SECONDS" is printed. With TOGETHER in the environment a line "ready" is printed before, and the calls begin at a line of
  * standard input. The status is 0 where as many calls were accepted. */
 #include <gssapi/gssapi.h>
@@ -20,7 +21,7 @@
 #include <time.h>
 #include <unistd.h>
 
-enum { PROGRAM = 0x20004753, VERSION = 1, NOTHING = 0, ECHO = 1, RPC_VERSION = 2, GSS_VERSION = 1, DATA = 0 };
+enum { PROGRAM = 0x20004753, VERSION = 1, NOTHING = 0, ECHO = 1, RPC_VERSION = 2, GSS_VERSION = 1, DATA = 0, CREATION = 1 };
 enum { LAST_FRAGMENT = (int)0x80000000, BUFFER = 200000 };
 
 static gss_OID_desc spnego = { 6, "\x2b\x06\x01\x05\x05\x02" };
@@ -88,20 +89,27 @@ static int connected(int port)
     return link;
 }
 
+static gss_name_t name_of(char *text)
+{
+    gss_buffer_desc octets = { strlen(text), text };
+    gss_name_t name;
+    OM_uint32 minor;
+    if (gss_import_name(&minor, &octets, (gss_OID)GSS_KRB5_NT_PRINCIPAL_NAME, &name) != GSS_S_COMPLETE)
+        exit(1);
+    return name;
+}
+
 /* A context of a service, by its handle, over a connection, which stays open. */
 static struct authgss_private_data created(int link, int port, char *server, int service)
 {
     struct rpc_gss_sec wanted = { &spnego, GSS_C_QOP_DEFAULT, service, GSS_C_NO_CREDENTIAL, GSS_C_MUTUAL_FLAG };
     struct sockaddr_in address = { .sin_family = AF_INET, .sin_port = htons(port) };
     struct authgss_private_data made;
-    gss_buffer_desc text = { strlen(server), server };
-    gss_name_t name;
-    OM_uint32 minor;
     inet_pton(AF_INET, "127.0.0.1", &address.sin_addr);
     CLIENT *client = clnttcp_create(&address, PROGRAM, VERSION, &link, BUFFER, BUFFER);
-    if (client == NULL || gss_import_name(&minor, &text, (gss_OID)GSS_KRB5_NT_PRINCIPAL_NAME, &name) != GSS_S_COMPLETE)
+    if (client == NULL)
         exit(1);
-    client->cl_auth = authgss_create(client, name, &wanted);
+    client->cl_auth = authgss_create(client, name_of(server), &wanted);
     if (client->cl_auth == NULL || !authgss_get_private_data(client->cl_auth, &made))
         exit(1);
     clnt_destroy(client);
@@ -154,6 +162,28 @@ static void put_call(struct octets *to, const struct authgss_private_data *by, i
     free(plain.at);
 }
 
+/* One record: a call that creates a context, by a first token. */
+static void put_creation(struct octets *to, gss_name_t server, uint32_t number)
+{
+    struct octets call = { 0, 0, NULL };
+    gss_ctx_id_t context = GSS_C_NO_CONTEXT;
+    gss_buffer_desc token = GSS_C_EMPTY_BUFFER;
+    OM_uint32 minor;
+    if (gss_init_sec_context(&minor, GSS_C_NO_CREDENTIAL, &context, server, &spnego, GSS_C_MUTUAL_FLAG, 0, GSS_C_NO_CHANNEL_BINDINGS,
+            GSS_C_NO_BUFFER, NULL, &token, NULL, NULL) != GSS_S_CONTINUE_NEEDED)
+        exit(1);
+    const uint32_t head[] = { number, 0, RPC_VERSION, PROGRAM, VERSION, NOTHING, RPCSEC_GSS, 20,
+        GSS_VERSION, CREATION, 0, RPCSEC_GSS_SVC_INTEGRITY, 0, 0, 0 };
+    for (int i = 0; i < 15; i++)
+        put_word(&call, head[i]);
+    put_opaque(&call, token.value, token.length);
+    put_word(to, LAST_FRAGMENT | call.count);
+    put(to, call.at, call.count);
+    free(call.at);
+    gss_release_buffer(&minor, &token);
+    gss_delete_sec_context(&minor, &context, GSS_C_NO_BUFFER);
+}
+
 static double seconds(void)
 {
     struct timespec now;
@@ -202,21 +232,37 @@ static int is_whole(const struct read *got)
     return count >= 4 && count >= 4 + (size_t)(word_at(got->at + got->from) & 0x7fffffff);
 }
 
-/* Takes a reply, and ends the program where it isn't accepted. */
-static void take_reply(struct read *got)
+/* The octets of a word and of the padded octets that it counts. */
+static size_t counted(const unsigned char *at)
+{
+    return 4 + ((size_t)word_at(at) + 3) / 4 * 4;
+}
+
+/* Whether an accepted reply to a creation completes it: its verifier, success, a handle, and the major status 0. */
+static int completes(const unsigned char *reply, size_t length)
+{
+    size_t at = 20 + counted(reply + 20);
+    if (at + 8 > length || word_at(reply + at) != 0)
+        return 0;
+    at += 4 + counted(reply + at + 4);
+    return at + 4 <= length && word_at(reply + at) == GSS_S_COMPLETE;
+}
+
+/* Takes a reply, and ends the program where it isn't accepted, or doesn't complete what it is to create. */
+static void take_reply(struct read *got, int creates)
 {
     const unsigned char *reply = got->at + got->from;
     size_t length = 4 + (word_at(reply) & 0x7fffffff);
-    if (length < 28 || word_at(reply + 8) != 1 || word_at(reply + 12) != 0)
+    if (length < 28 || word_at(reply + 8) != 1 || word_at(reply + 12) != 0 || (creates && !completes(reply, length)))
         exit(1);
     got->from += length;
 }
 
-static void read_replies(int link, struct read *got, int wanted)
+static void read_replies(int link, struct read *got, int wanted, int creates)
 {
     while (wanted > 0) {
         if (is_whole(got)) {
-            take_reply(got);
+            take_reply(got, creates);
             wanted--;
             continue;
         }
@@ -236,7 +282,9 @@ int main(int argc, char **argv)
         return 2;
     int port = atoi(argv[1]), size = atoi(argv[4]), calls = atoi(argv[5]), flight = atoi(argv[6]);
     int service = strcmp(argv[3], "privacy") == 0 ? RPCSEC_GSS_SVC_PRIVACY : strcmp(argv[3], "integrity") == 0 ? RPCSEC_GSS_SVC_INTEGRITY : 0;
+    int creates = strcmp(argv[3], "contexts") == 0;
     struct authgss_private_data by = { 0 };
+    gss_name_t server = name_of(argv[2]);
     int link = connected(port);
     if (service != 0)
         by = created(link, port, argv[2], service);
@@ -246,7 +294,10 @@ int main(int argc, char **argv)
     size_t *ends = malloc((calls + 1) * sizeof *ends);
     ends[0] = 0;
     for (int i = 0; i < calls; i++) {
-        put_call(&records, &by, service, i + 1, octets, size);
+        if (creates)
+            put_creation(&records, server, i + 1);
+        else
+            put_call(&records, &by, service, i + 1, octets, size);
         ends[i + 1] = records.count;
     }
     wait_for_others();
@@ -254,7 +305,7 @@ int main(int argc, char **argv)
     for (int at = 0; at < calls; at += flight) {
         int next = at + flight < calls ? at + flight : calls;
         send_all(link, records.at + ends[at], ends[next] - ends[at]);
-        read_replies(link, &got, next - at);
+        read_replies(link, &got, next - at, creates);
     }
     printf("%d %.6f\n", calls, seconds() - start);
     close(link);
