@@ -23,7 +23,7 @@ use Rattle.accept_book.specs.declared.book_answer.BookRefusal.TheVariants as ref
 use Rattle.accept_book.specs.declared.book_answer.NegAnswer.{NegAnswer}
 use Rattle.accept_book.specs.declared.book_answer.NegAnswer.TheVariants as answers
 use Rattle.accept_book.specs.declared.book_answer.Negotiated.{Negotiated}
-use Rattle.accept_core.specs.History.{Standing}
+use Rattle.accept_core.specs.History.{Standing, living}
 use Rattle.accept_core.specs.Answers.{taken_by}
 use Rattle.accept_core.specs.Entering.{id_of, entered, mark_refused_in, after_mark, given, gained}
 use Rattle.accept_core.specs.Replays.{Accepting}
@@ -259,8 +259,8 @@ pub comes_first : (old noted new : Accepting AcceptEnd Outcome) (setup : AcceptS
     → noted.history ≡ old.history → noted.limit ≡ old.limit → noted.width ≡ old.width → noted.table ≡ old.table → noted.cache.capacity ≡ old.cache.capacity
     → noted.cache.greatest ≡ max old.cache.greatest now
     → TookToken noted new None (λ past. begun_by (stands_of noted) past stepped) result → (stepped ≡ Err short.NoMemory → result.answer ≡ answers.NoMemory)
-    → IsFirstStep setup token now draws stepped → BookStepped (with_setup setup old) (with_setup setup new) None token now draws result
-comes_first old noted new setup stepped token now draws result history limit width table capacity greatest took wants made = record {
+    → live_of new.table ≡ living new.history → IsFirstStep setup token now draws stepped → BookStepped (with_setup setup old) (with_setup setup new) None token now draws result
+comes_first old noted new setup stepped token now draws result history limit width table capacity greatest took wants lives made = record {
   comes = comes_raised old noted new setup None token now draws result history limit table capacity greatest
       (comes_made (stands_of noted) setup stepped token now draws result new made.exact wants took.comes);
   notes = record {
@@ -271,4 +271,5 @@ comes_first old noted new setup stepped token now draws result history limit wid
     capacity = took.keeps.capacity ∙ capacity;
     greatest = took.keeps.greatest ∙ greatest;
   };
+  lives = lives;
 }

@@ -1,8 +1,8 @@
 -- What a book's calls answer, and what each leaves of the book.
 use Rattle.std.specs.Prelude.{◌≡◌, ◌≢◌, ◌↔◌, ℕ, List, length, Option, None, Result, OnErr, IfOk}
 use Rattle.std.specs.Prelude.{IsOk}
-use Rattle.context_table.specs.Places.{IsPast, slot_at, HasValue, Marks, KeepsOthers}
-use Rattle.accept_core.specs.History.{standing}
+use Rattle.context_table.specs.Places.{IsPast, slot_at, live_of, HasValue, Marks, KeepsOthers}
+use Rattle.accept_core.specs.History.{standing, living}
 use Rattle.accept_core.specs.Answers.{or_refused, after, admitted, receipt_of}
 use Rattle.accept_core.specs.Entering.{given, gained}
 use Rattle.accept_core.specs.Replays.{Accepting, Keeps}
@@ -53,6 +53,8 @@ pub record BookStepped
   pub comes : ComesTo (raised old.core now) id
       (λ past. negotiated old.setup (raised old.core now) id past token now draws) result new.core
   pub notes : NotesMoment old new now
+  -- as many contexts live as the log says
+  pub lives : live_of new.core.table ≡ living new.core.history
 
 -- ---- a look, and what takes a number
 
@@ -78,6 +80,8 @@ pub record BookAdmitted
   pub slot : IsOk result
       → Marks (slot_at old.core.table lease.id) (slot_at new.core.table lease.id) seq
   pub others : KeepsOthers old.core.table new.core.table lease.id
+  -- as many contexts live as the log says
+  pub lives : live_of new.core.table ≡ living new.core.history
   pub unchanged : OnErr result (new ≡ old)
   pub keeps : Keeps old.core new.core
   pub setup : new.setup ≡ old.setup
@@ -94,6 +98,8 @@ pub record BookEnded
   pub exactly : IsOk result ↔ FreeFor old.core lease seq
   pub gone : IsOk result → slot_at new.core.table lease.id ≡ None
   pub others : KeepsOthers old.core.table new.core.table lease.id
+  -- as many contexts live as the log says
+  pub lives : live_of new.core.table ≡ living new.core.history
   pub unchanged : OnErr result (new ≡ old)
   pub keeps : Keeps old.core new.core
   pub setup : new.setup ≡ old.setup

@@ -453,7 +453,10 @@ impl Book {
         ensures memory { result.answer ≡ NegAnswer.NoMemory ↔ stepped ≡ Err NegRefusal.NoMemory }
     {
         self.core.raise(now);
-        begin(&mut self.core, stepped)
+        let answer = begin(&mut self.core, stepped);
+        // The log says how many contexts live: it is looked at for that.
+        let _ = self.core.log();
+        answer
     }
 
     /// Takes a token: the first of a context if no id is given, else a later one of that id's
@@ -479,7 +482,9 @@ impl Book {
             }
             Some(id) => {
                 self.core.raise(now);
-                continue_with(alloc, setup, &mut self.core, id, token, now, draws)
+                let answer = continue_with(alloc, setup, &mut self.core, id, token, now, draws);
+                let _ = self.core.log();
+                answer
             }
         }
     }
@@ -513,10 +518,13 @@ impl Book {
             → BookAdmitted (with_setup setup self.old) (with_setup setup self.new) lease.now seq
             procedure args result }
     {
-        if !holds_key(&self.core, lease) {
-            return Err(AdmitRefusal::Gone);
-        }
-        self.core.admit(lease.id, seq, procedure, args)
+        let answer = if holds_key(&self.core, lease) {
+            self.core.admit(lease.id, seq, procedure, args)
+        } else {
+            Err(AdmitRefusal::Gone)
+        };
+        let _ = self.core.log();
+        answer
     }
 
     /// Ends a lease's context by a call with a number that is fresh.
@@ -525,10 +533,13 @@ impl Book {
             → BookEnded (with_setup setup self.old) (with_setup setup self.new) lease.now seq
             result }
     {
-        if !holds_key(&self.core, lease) {
-            return Err(AdmitRefusal::Gone);
-        }
-        self.core.end(lease.id, seq)
+        let answer = if holds_key(&self.core, lease) {
+            self.core.end(lease.id, seq)
+        } else {
+            Err(AdmitRefusal::Gone)
+        };
+        let _ = self.core.log();
+        answer
     }
 
     /// The log. It is legal, and the table, the cache and the counts are what it says.

@@ -144,6 +144,7 @@ core-new naming log table cache entries slots wide holds small contexts marks = 
   replays = subst (λ (l : List Entry). Replays naming log.width 0 (reverse l) table cache) (sym entries) (record {
     legal = tt;
     slots = λ id. rw (slot-none table.slots id slots) tt;
+    live = ap (λ (l : List (Slot _ _)). length l) slots;
     count = refl;
     width = wide;
     past = omega arith;

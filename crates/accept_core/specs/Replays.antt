@@ -7,10 +7,10 @@ use Rattle.replay_cache.specs.Taking.{Cached, Holds, skew}
 use Rattle.context_table.specs.declared.slot.Slot.{Slot}
 use Rattle.context_table.specs.declared.slot.SlotState.{SlotState}
 use Rattle.context_table.specs.declared.slot.SlotState.TheVariants.{Negotiating, Held, Complete}
-use Rattle.context_table.specs.Places.{Places, slot_at}
+use Rattle.context_table.specs.Places.{Places, slot_at, live_of}
 use Rattle.accept_core.specs.declared.entry.Entry.{Entry}
 use Rattle.accept_core.specs.History.{Standing, Unknown, Open, Whole, Over, standing, numbers}
-use Rattle.accept_core.specs.History.{opened, posts, latest, taken_of, IsGone}
+use Rattle.accept_core.specs.History.{opened, living, posts, latest, taken_of, IsGone}
 use Rattle.accept_core.specs.Legal.{Legal}
 use Rattle.accept_core.specs.Logs.{LogOf}
 
@@ -48,11 +48,12 @@ abbrev pub SameSlot : {N S : Type 0} → Naming S → ℕ → Option (Slot N S) 
 SameSlot naming wide None stands ns = IsGone stands
 SameSlot naming wide (Some slot) stands ns = SlotOf naming wide stands ns slot
 
--- the history is legal, and contexts, marks and the number of posts are what it says
+-- the history is legal, and contexts, how many live, marks and the number of posts are what it says
 pub record Replays {N S : Type 0} (naming : Naming S) (wide posted : ℕ) (h : List Entry)
     (table : Places N S) (cache : Cached) : Type 0 where
   pub legal : Legal wide h
   pub slots : (id : ℕ) → SameSlot naming wide (slot_at table id) (standing id h) (numbers id h)
+  pub live : live_of table ≡ living h
   pub count : posted ≡ posts h
   pub width : table.width ≡ wide
   pub past : latest h ≤ cache.greatest

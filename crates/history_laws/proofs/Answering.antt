@@ -1,11 +1,14 @@
 -- A book's log only grows, whatever the book answers.
-use Rattle.std.proofs.Common.{◌≡◌, ◌≢◌, ◌⊎◌, inl, inr, ℕ, refl, sym, subst, List, max, Option, Some, None}
-use Rattle.context_table.specs.Places.{IsPast}
+use Rattle.std.proofs.Common.{◌≡◌, ◌≢◌, ◌⊎◌, ◌∙◌, inl, inr, ℕ, refl, sym, ap, subst, List, max, Option, Some, None}
+use Rattle.spnego_core.specs.declared.accept_end.AcceptEnd.{AcceptEnd}
+use Rattle.spnego_core.specs.declared.outcome.Outcome.{Outcome}
+use Rattle.context_table.specs.Places.{Places, IsPast, live_of}
 use Rattle.accept_book.specs.declared.book_answer.NegAnswer.{NegAnswer}
 use Rattle.accept_book.specs.declared.book_answer.NegAnswer.TheVariants as answers
 use Rattle.accept_book.specs.declared.book_answer.Negotiated.{Negotiated}
 use Rattle.accept_core.specs.declared.entry.Entry.{Entry}
 use Rattle.accept_core.specs.Answers.{after}
+use Rattle.accept_core.specs.History.{living}
 use Rattle.accept_book.specs.Booking.{BookOf, raised}
 use Rattle.accept_book.specs.RecordShown.{Asked, AskedStep, AskedLook, AskedAdmit, AskedEnd}
 use Rattle.accept_book.specs.BookAnswers.{BookStepped}
@@ -48,3 +51,11 @@ answers-setup old new (AskedStep id token now draws answer) b = b.notes.setup
 answers-setup old new (AskedLook id now answer) b = b.setup
 answers-setup old new (AskedAdmit lease seq procedure args answer) b = b.setup
 answers-setup old new (AskedEnd lease seq answer) b = b.setup
+
+-- as many contexts live as the log says, if as many did before
+pub answers-live : (old new : BookOf) (asked : Asked) → live_of old.core.table ≡ living old.core.history → BookAnswers old asked new → live_of new.core.table ≡ living new.core.history
+answers-live old new (AskedStep id token now draws answer) live b = b.lives
+answers-live old new (AskedLook id now answer) live b =
+    ap (λ (t : Places AcceptEnd Outcome). live_of t) b.looked.table ∙ (live ∙ ap living (sym b.looked.history))
+answers-live old new (AskedAdmit lease seq procedure args answer) live b = b.lives
+answers-live old new (AskedEnd lease seq answer) live b = b.lives

@@ -41,6 +41,7 @@ kept-all (one ∷ more) asked old new a legal k =
 kept-first : (first : BookOf) → IsEmpty first → Kept first []
 kept-first first empty = record {
   each = λ id. rw (empty.history, empty.slots) tt;
+  lives = rw (empty.history, empty.slots) refl;
   unstepped = λ id e. unstepped id;
   leases = λ lease none. absurd none;
 }

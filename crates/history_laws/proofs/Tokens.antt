@@ -1,7 +1,8 @@
 -- What a token comes to is what stands before it.
 use Rattle.std.proofs.Common.{◌≡◌, ◌∙◌, ℕ, ◌+◌, ◌<◌, ◌≤◌, max, Bool, true, false, refl, ap, sym, subst, arith, List, [], length, Option, Some, None, Result, Ok, Err}
 use Rattle.std.specs.Prelude.{◌&&◌, if◌then◌else◌, nat_lt, nat_le, is_none, IfSome, IsSomeAnd}
-use Rattle.std.proofs.lemmas.Bool.{ltb-true, ltb-false, and_parts, eq-eqb, true≢false}
+use Rattle.std.proofs.lemmas.Bool.{ltb-true, ltb-false, leb-true, leb-false, and_parts, eq-eqb, true≢false}
+use Rattle.std.proofs.lemmas.Option.{none-some}
 use Rattle.gss_base.specs.declared.mark.Mark.{Mark}
 use Rattle.replay_cache.specs.Taking.{skew}
 use Rattle.spnego_core.specs.declared.accept_end.AcceptEnd.{AcceptEnd}
@@ -17,13 +18,13 @@ use Rattle.accept_core.specs.declared.answer.MarkRefusal.{MarkRefusal}
 use Rattle.accept_core.specs.declared.answer.MarkRefusal.TheVariants as marks
 use Rattle.accept_core.specs.declared.entry.Entry.{Entry}
 use Rattle.accept_core.specs.declared.entry.Receipt.{Receipt}
-use Rattle.accept_core.specs.History.{Standing, Unknown, Open, Whole, Over, standing, taken_of, IsGone, IsOpen, is_whole}
-use Rattle.accept_core.specs.Entering.{gained, id_of, mark_refused}
-use Rattle.accept_core.specs.Stepping.{has_place, context_of}
+use Rattle.accept_core.specs.History.{Standing, Unknown, Open, Whole, Over, standing, living, taken_of, IsGone, IsOpen, is_whole}
+use Rattle.accept_core.specs.Entering.{gained, id_of, entered, mark_refused}
+use Rattle.accept_core.specs.Stepping.{context_of}
 use Rattle.accept_core.proofs.Steps.{gained-none}
 use Rattle.accept_book.specs.declared.book_answer.NegAnswer.{NegAnswer}
 use Rattle.accept_book.specs.declared.book_answer.NegAnswer.TheVariants as answers
-use Rattle.accept_book.specs.Booking.{BookOf, Stands, Outcomes, raised, mark_of, settled_of, answer_with, refusal_of_mark, by_mark, by_step, later_step, begun, opened_by, gone_on_by, negotiated}
+use Rattle.accept_book.specs.Booking.{BookOf, Stands, Outcomes, raised, mark_of, next_of, settled_of, answer_with, refusal_of_mark, by_mark, by_step, later_step, begun, opened_by, gone_on_by, negotiated}
 use Rattle.accept_book.specs.RecordShown.{Asked}
 use Rattle.history_laws.specs.Before.{Before, Made, is_for, made_in, ends_by, IsOver, Lasts, PastBy}
 use Rattle.history_laws.specs.Seen.{IsDue, StepsTo, MarkRefused, StandsAt, IsFull, StepTaken, StepSeen}
@@ -63,10 +64,11 @@ past-by book mades (Some id) r h = (
 
 -- ---- what is seen of an outcome
 
--- what stands before a token: its book, the questions so far, and the contexts as they are seen
+-- what stands before a token: its book, the questions so far, and the contexts as they are seen, which are as many as the log says
 pub record Stood (book : BookOf) (asked : List Asked) (now : ℕ) (past : Option ℕ) : Type 0 where
   pub ready : Ready (raised book.core now) (λ id. made_in book.setup id asked)
   pub is_past : IsPast book.core.table (max book.core.cache.greatest now) past
+  pub lives : live_of book.core.table ≡ living book.core.history
 
 abbrev pub SeenOf : BookOf → List Asked → Option ℕ → List ℕ → ℕ → List ℕ → Outcomes → Type 0
 SeenOf book asked id token now draws o = StepSeen (before_in book asked) id token now draws o.answer (gained (length book.core.history) o.history)
@@ -129,10 +131,9 @@ seen-mark book asked id past token now draws accepted None stood step e =
       step = step;
       unmarked = e;
       says = refl;
-      placed = has_place book.core.table;
       past = past;
       is_past = past-by (raised book.core now) (λ k. made_in book.setup k asked) past stood.ready stood.is_past;
-      gains = refl;
+      gains = ap (λ (n : ℕ). gained (length book.core.history) (entered id (nat_lt n book.core.table.limit) past (mark_of accepted.step) (next_of (settled_of accepted.step)) (max book.core.cache.greatest now) book.core.history)) stood.lives;
     })
 
 seen-step : (book : BookOf) (asked : List Asked) (id past : Option ℕ) (token : List ℕ) (now : ℕ) (draws : List ℕ) (answer : Result Accepted NegRefusal) → Stood book asked now past
@@ -147,6 +148,27 @@ full-past : (book : BookOf) (asked : List Asked) (now : ℕ) (past : Option ℕ)
 full-past book asked now None e stood = past-by (raised book.core now) (λ k. made_in book.setup k asked) None stood.ready stood.is_past
 full-past book asked now (Some id) e stood = absurd (off e)
 
+-- as many contexts live by the log as may, or fewer
+full-lives : (book : BookOf) (asked : List Asked) (now : ℕ) (past : Option ℕ) → nat_le book.core.table.limit (live_of book.core.table) ≡ true → Stood book asked now past → book.core.table.limit ≤ living book.core.history
+full-lives book asked now past e stood = subst (λ (n : ℕ). book.core.table.limit ≤ n) stood.lives (leb-true book.core.table.limit (live_of book.core.table) e)
+
+left-false : (a b : Bool) → b ≡ true → (a && b) ≡ false → a ≡ false
+left-false true b t f = absurd (true≢false (sym t ∙ f))
+left-false false b t f = refl
+
+not-over : (lasts : Option ℕ) (now : ℕ) → Lasts lasts now → IsOver lasts now → ⊥
+not-over None now last over = over
+not-over (Some ends) now last over = omega (arith, last, over)
+
+place-lives : (book : BookOf) (asked : List Asked) (now : ℕ) (past : Option ℕ) → (nat_le book.core.table.limit (live_of book.core.table) && is_none past) ≡ false → Stood book asked now past
+    → PastBy book.core.history (max book.core.cache.greatest now) None → living book.core.history < book.core.table.limit
+place-lives book asked now None e stood none =
+    subst (λ (n : ℕ). n < book.core.table.limit) stood.lives
+    (leb-false book.core.table.limit (live_of book.core.table) (left-false (nat_le book.core.table.limit (live_of book.core.table)) true refl e))
+place-lives book asked now (Some id) e stood none =
+    absurd (not-over (ends_by (standing id book.core.history)) (max book.core.cache.greatest now) (none id)
+    (past-by (raised book.core now) (λ k. made_in book.setup k asked) (Some id) stood.ready stood.is_past).0)
+
 seen-begun : (book : BookOf) (asked : List Asked) (past : Option ℕ) (token : List ℕ) (now : ℕ) (draws : List ℕ) → Stood book asked now past
     → SeenOf book asked None token now draws (begun book.setup (raised book.core now) past token now draws)
 seen-begun book asked past token now draws stood =
@@ -155,9 +177,11 @@ seen-begun book asked past token now draws stood =
     (λ enough.
     let due : IsDue (before_in book asked) None = record { negotiates = tt; room = ltb-false book.core.limit (length book.core.history + 4) enough } in
     either (SeenOf book asked None token now draws) (nat_le book.core.table.limit (live_of book.core.table) && is_none past) _ _
-    (λ full. (refl, due, full-past book asked now past (and_parts (nat_le book.core.table.limit (live_of book.core.table)) (is_none past) full).1 stood, nothing-gained book.core.history))
+    (λ full.
+    let parts = and_parts (nat_le book.core.table.limit (live_of book.core.table)) (is_none past) full in
+    (refl, due, full-lives book asked now past parts.0 stood, full-past book asked now past parts.1 stood, nothing-gained book.core.history))
     (λ place. seen-step book asked None past token now draws (accept_step book.setup ends.New token now draws) stood
-    (record { due = due; end = ends.New; left = refl; is = refl })))
+    (record { due = due; placed = λ first none. place-lives book asked now past place stood none; end = ends.New; left = refl; is = refl })))
 
 -- ---- a later token
 
@@ -171,6 +195,7 @@ seen-opened book asked id past token now draws at is stood =
     (λ enough. seen-step book asked (Some id) past token now draws (later_step book.setup (state_of (slot_at book.core.table id)) token now draws) stood
     (record {
       due = record { negotiates = negotiates; room = ltb-false book.core.limit (length book.core.history + 4) enough };
+      placed = λ first none. absurd (none-some id (sym first));
       end = o.end;
       left = o.was;
       is = later-is book.setup (state_of (slot_at book.core.table id)) o.end token now draws o.state;

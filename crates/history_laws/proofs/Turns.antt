@@ -7,7 +7,7 @@ use Rattle.spnego_core.specs.declared.accept_end.AcceptEnd.TheVariants as ends
 use Rattle.spnego_core.specs.declared.outcome.Outcome.{Outcome}
 use Rattle.spnego_core.specs.declared.setup.AcceptSetup.{AcceptSetup}
 use Rattle.context_table.specs.declared.slot.Slot.{Slot}
-use Rattle.context_table.specs.Places.{Places, slot_at, Marks}
+use Rattle.context_table.specs.Places.{Places, slot_at, live_of, Marks}
 use Rattle.accept_core.specs.declared.answer.AdmitRefusal.{AdmitRefusal}
 use Rattle.accept_core.specs.declared.answer.LookRefusal.{LookRefusal}
 use Rattle.accept_core.specs.declared.answer.LookRefusal.TheVariants as looks
@@ -19,7 +19,7 @@ use Rattle.accept_core.specs.declared.entry.Receipt.{Receipt}
 use Rattle.accept_core.proofs.Appended.{silent}
 use Rattle.accept_core.specs.Answers.{or_refused, after, admitted, receipt_of}
 use Rattle.accept_core.specs.Entering.{given, gained}
-use Rattle.accept_core.specs.History.{Standing, Unknown, Open, Whole, Over, standing, opened}
+use Rattle.accept_core.specs.History.{Standing, Unknown, Open, Whole, Over, standing, living, opened}
 use Rattle.accept_core.specs.Legal.{Legal}
 use Rattle.accept_core.specs.Stepping.{Context, context_of}
 use Rattle.accept_book.specs.declared.book_answer.Lease.{Lease}
@@ -32,7 +32,7 @@ use Rattle.accept_book.specs.RecordShown.{Asked, AskedStep, AskedLook, AskedAdmi
 use Rattle.gss_server.specs.Asking.{BookAnswers}
 use Rattle.history_laws.specs.Before.{Step, is_for, steps_of, Made, Negotiates, Settles, made_in, Gives, IsGiven}
 use Rattle.history_laws.specs.Seen.{StepSeen, Seen}
-use Rattle.history_laws.proofs.Answering.{memory-cases, answers-setup}
+use Rattle.history_laws.proofs.Answering.{memory-cases, answers-setup, answers-live}
 use Rattle.history_laws.proofs.Contexts.{Matches, Fits, Ready, fits-memory, fits-negotiated}
 use Rattle.history_laws.proofs.Growth.{fronts-one}
 use Rattle.history_laws.proofs.Histories.{Fronts}
@@ -47,9 +47,10 @@ Known = Context AcceptEnd Outcome
 
 -- ---- what is kept along a history
 
--- the contexts match; an id that isn't opened has no steps; and what a look gave is what the machine settled
+-- the contexts match, and as many live as the log says; an id that isn't opened has no steps; and what a look gave is what the machine settled
 pub record Kept (book : BookOf) (asked : List Asked) : Type 0 where
   pub each : (id : ℕ) → Matches (made_in book.setup id asked) (standing id book.core.history) (context_of (slot_at book.core.table id))
+  pub lives : live_of book.core.table ≡ living book.core.history
   pub unstepped : (id : ℕ) → standing id book.core.history ≡ Unknown → steps_of id asked ≡ []
   pub leases : (lease : Lease) → IsGiven lease asked → made_in book.setup lease.id asked ≡ Some (Settles lease.outcome lease.ends)
 
@@ -92,6 +93,7 @@ both-empty xs ys e f = λ i. e i ++ f i
 pub kept-more : (old new : BookOf) (asked : List Asked) (one : Asked) → BookAnswers old one new → Kept old asked → Turned old new asked one → Kept new (asked ++ one ∷ [])
 kept-more old new asked one b k t = record {
   each = λ id. subst (λ (m : Option Made). Matches m (standing id new.core.history) (context_of (slot_at new.core.table id))) (sym (made-new old new asked one id b)) (t.each id);
+  lives = answers-live old new one k.lives b;
   unstepped = λ id e. steps-more id asked one ∙ both-empty (steps_of id asked) (added id one) (k.unstepped id (unknown-before old.core.history new.core.history id (fronts-one old new one b) e)) (t.known id e);
   leases = λ lease given. made-new old new asked one lease.id b ∙ t.settled lease.id lease.outcome lease.ends (by lease (given-more lease asked one given));
 }
@@ -129,7 +131,7 @@ came old new asked id token now draws result legal k b =
       | inr enough ↦ record {
         outcome = negotiated old.setup (raised old.core now) id past.0 token now draws;
         fits = fits-negotiated old.setup (raised old.core now) (λ k. made_in old.setup k asked) id past.0 token now draws ready;
-        seen = seen-negotiated old asked id past.0 token now draws (record { ready = ready; is_past = past.1 });
+        seen = seen-negotiated old asked id past.0 token now draws (record { ready = ready; is_past = past.1; lives = k.lives });
         is = b.comes.outcome past.0 past.1 enough;
       }
     ]

@@ -1,7 +1,7 @@
 -- What a reader knows who has the setup and the limits of a book, and all that it was asked and
 -- answered so far.
-use Rattle.std.specs.Prelude.{◌≡◌, ◌⊎◌, ℕ, ◌<◌, ◌≤◌, ◌==◌, max, Bool, false, if◌then◌else◌, List}
-use Rattle.std.specs.Prelude.{[], ◌∷◌, Option, None, Some, Result, Ok, Err}
+use Rattle.std.specs.Prelude.{◌≡◌, ◌⊎◌, ℕ, ◌<◌, ◌≤◌, ◌==◌, max, nat_lt, Bool, false, List, [], ◌∷◌}
+use Rattle.std.specs.Prelude.{if◌then◌else◌, Option, None, Some, Result, Ok, Err}
 use Rattle.spnego_core.specs.declared.outcome.Outcome.{Outcome}
 use Rattle.spnego_core.specs.declared.refusal.NegRefusal.{NegRefusal}
 use Rattle.spnego_core.specs.declared.setup.AcceptSetup.{AcceptSetup}
@@ -12,7 +12,7 @@ use Rattle.accept_core.specs.declared.answer.Next.{Next}
 use Rattle.accept_core.specs.declared.answer.Next.TheVariants as nexts
 use Rattle.accept_core.specs.declared.entry.Entry.{Entry}
 use Rattle.accept_core.specs.declared.entry.Limits.{Limits}
-use Rattle.accept_core.specs.History.{Standing, Unknown, Open, Whole, Over, standing}
+use Rattle.accept_core.specs.History.{Standing, Unknown, Open, Whole, Over, standing, living}
 use Rattle.accept_core.specs.Replays.{end_of_opened}
 use Rattle.accept_book.specs.Booking.{next_of, settled_of}
 use Rattle.accept_book.specs.RecordShown.{Asked, AskedStep, AskedLook, AskedAdmit, AskedEnd}
@@ -115,6 +115,10 @@ before_of setup limits start asked = record {
 -- the greatest moment once this one was seen
 abbrev pub moment_of : Before → ℕ → ℕ
 moment_of before now = max before.greatest now
+
+-- by the log fewer contexts live than may
+abbrev pub has_room : Before → Bool
+has_room before = nat_lt (living before.log) before.limits.contexts
 
 -- what the machine has made of a token's context: of a first token's it is a new end
 abbrev pub made_before : Before → Option ℕ → Option Made

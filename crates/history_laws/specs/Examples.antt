@@ -3,10 +3,11 @@ use Rattle.std.specs.Prelude.{◌≡◌, ℕ, List, [], ◌∷◌, Some, None, O
 use Rattle.gss_base.specs.declared.mech.MechKind.TheVariants.{Scram}
 use Rattle.spnego_core.specs.declared.setup.AcceptSetup.{AcceptSetup}
 use Rattle.accept_core.specs.declared.answer.LookRefusal.TheVariants.{NoContext, NotReady, Expired}
-use Rattle.accept_core.specs.declared.entry.EndCause.TheVariants.{Refused, Destroyed}
+use Rattle.accept_core.specs.declared.entry.EndCause.TheVariants.{Refused, Destroyed, Lapsed}
 use Rattle.accept_core.specs.declared.entry.Entry.{Entry}
 use Rattle.accept_core.specs.declared.entry.Entry.TheVariants.{Opened, Settled, Ended}
-use Rattle.accept_core.specs.declared.entry.Limits.{Limits}
+use Rattle.accept_core.specs.declared.entry.Receipt.{Receipt}
+use Rattle.accept_core.specs.History.{living}
 use Rattle.accept_book.specs.RecordShown.{AskedLook, AskedEnd}
 use Rattle.accept_book.specs.declared.book_answer.BookRefusal.TheVariants as refusals
 use Rattle.accept_book.specs.declared.book_answer.Lease.{Lease}
@@ -15,7 +16,7 @@ use Rattle.history_laws.specs.Before.{Before, greatest_of}
 use Rattle.history_laws.specs.Receipts.{logged}
 use Rattle.history_laws.specs.Seen.{LookSeen, StepSeen}
 
--- a log of at most eight entries
+-- a log of at most eight entries, of which two contexts may live
 abbrev pub with_log : AcceptSetup → List Entry → Before
 with_log setup log = record {
   setup = setup;
@@ -31,6 +32,10 @@ begun = Opened 1 1000 ∷ []
 
 abbrev pub complete : List Entry
 complete = Settled 1 Scram [] 1500 1000 ∷ begun
+
+-- as many contexts live as may: the second one was opened too
+abbrev pub crowded : List Entry
+crowded = Opened 2 1000 ∷ complete
 
 -- looks, tokens, and what answers tell
 pub record Examples : Type 0 where
@@ -59,3 +64,26 @@ pub record Examples : Type 0 where
   pub placed : (setup : AcceptSetup) (token draws : List ℕ)
       → StepSeen (with_log setup begun) (Some 1) token 1000 draws
       (answers.Refused refusals.TableFull) [] → ⊥
+  -- how many contexts live: an end makes them fewer
+  pub one_lives : living complete ≡ 1
+  pub two_live : living crowded ≡ 2
+  pub one_ended : living (Ended 1 (Destroyed 9) ∷ crowded) ≡ 1
+  -- a first token is turned away where two live, and neither is past its end; no step is taken
+  -- there. It isn't turned away where one lives, nor once one is past its end
+  pub full : (setup : AcceptSetup) (token draws : List ℕ)
+      → StepSeen (with_log setup crowded) None token 1500 draws
+      (answers.Refused refusals.TableFull) []
+  pub not_full : (setup : AcceptSetup) (token draws reply : List ℕ) (receipts : List Receipt)
+      → StepSeen (with_log setup crowded) None token 1500 draws (answers.Going 3 reply) receipts
+      → ⊥
+  pub roomy : (setup : AcceptSetup) (token draws : List ℕ)
+      → StepSeen (with_log setup complete) None token 1500 draws
+      (answers.Refused refusals.TableFull) [] → ⊥
+  pub one_past : (setup : AcceptSetup) (token draws : List ℕ)
+      → StepSeen (with_log setup crowded) None token 1501 draws
+      (answers.Refused refusals.TableFull) [] → ⊥
+  -- no context lapses for a new one's place while fewer live than may, though it is past its end
+  pub kept : (setup : AcceptSetup) (token draws reply : List ℕ)
+      → StepSeen (with_log setup complete) None token 1501 draws (answers.Going 2 reply)
+      ((record { place = 2; entry = Ended 1 Lapsed })
+      ∷ (record { place = 3; entry = Opened 2 1501 }) ∷ []) → ⊥

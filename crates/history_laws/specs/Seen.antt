@@ -19,7 +19,8 @@ use Rattle.accept_core.specs.declared.entry.Limits.{Limits}
 use Rattle.accept_core.specs.declared.entry.Receipt.{Receipt}
 use Rattle.accept_core.specs.Answers.{refused, or_refused, admitted, receipt_of}
 use Rattle.accept_core.specs.Entering.{given, gained, id_of, entered, mark_refused}
-use Rattle.accept_core.specs.History.{standing, entry_at, taken_of, is_whole, IsGone, IsOpen, Over}
+use Rattle.accept_core.specs.History.{standing, living, entry_at, taken_of, is_whole, IsGone}
+use Rattle.accept_core.specs.History.{IsOpen, Over}
 use Rattle.accept_core.specs.Legal.{Legal}
 use Rattle.accept_book.specs.declared.book_answer.BookRefusal.TheVariants as refusals
 use Rattle.accept_book.specs.declared.book_answer.Lease.{Lease}
@@ -31,7 +32,7 @@ use Rattle.accept_book.specs.RecordShown.{Asked, AskedStep, AskedLook, AskedAdmi
 use Rattle.gss_server.specs.Asking.{Asking, BookAnswers}
 use Rattle.gss_server.specs.Telling.{limits_of}
 use Rattle.history_laws.specs.Before.{Before, Made, Negotiates, Settles, made_in, made_before}
-use Rattle.history_laws.specs.Before.{moment_of, before_of, PastBy, IsGiven}
+use Rattle.history_laws.specs.Before.{moment_of, before_of, has_room, PastBy, IsGiven}
 
 -- ---- a look
 
@@ -104,10 +105,13 @@ pub record IsDue (before : Before) (id : Option ℕ) : Type 0 where
   pub room : length before.log + 4 ≤ before.limits.log
 
 -- the machine's answer to the token, from the end that the earlier steps of its id left; a first
--- token has none, and is answered from a new end
+-- token has none, and is answered from a new end. It has a place: if no context is past its end,
+-- fewer live than may
 pub record StepsTo (before : Before) (id : Option ℕ) (token : List ℕ) (now : ℕ) (draws : List ℕ)
     (answer : Result Accepted NegRefusal) : Type 0 where
   pub due : IsDue before id
+  pub placed : id ≡ None → PastBy before.log (moment_of before now) None
+      → living before.log < before.limits.contexts
   pub end : AcceptEnd
   pub left : made_before before id ≡ Some (Negotiates end)
   pub is : accept_step before.setup end token now draws ≡ answer
@@ -148,8 +152,8 @@ pub record IsFull (before : Before) (now : ℕ) (mark : Mark) : Type 0 where
 -- the step was taken: its mark, where it asks for one, isn't refused. The answer is the machine's,
 -- with the token's id or the next one; and the log gained the step's entries, oldest first: the end
 -- of the context that lapsed for a new one's place, if one did; that the new one was opened; the
--- mark, where there is one; and that the context goes on, if it isn't new, or is settled. Where one
--- lapsed, it is the least id whose context is past its end
+-- mark, where there is one; and that the context goes on, if it isn't new, or is settled. A context
+-- lapses only where as many live as may, and it is the least id that is past its end
 pub record StepTaken (before : Before) (id : Option ℕ) (token : List ℕ) (now : ℕ) (draws : List ℕ)
     (answer : NegAnswer) (receipts : List Receipt) : Type 0 where
   pub accepted : Accepted
@@ -157,10 +161,9 @@ pub record StepTaken (before : Before) (id : Option ℕ) (token : List ℕ) (now
   pub unmarked : mark_refused before.limits.marks (moment_of before now) (taken_of before.log)
       (mark_of accepted.step) ≡ None
   pub says : answer ≡ answer_with (id_of id before.log) (settled_of accepted.step)
-  pub placed : Bool
   pub past : Option ℕ
   pub is_past : PastBy before.log (moment_of before now) past
-  pub gains : receipts ≡ gained (length before.log) (entered id placed past
+  pub gains : receipts ≡ gained (length before.log) (entered id (has_room before) past
       (mark_of accepted.step) (next_of (settled_of accepted.step)) (moment_of before now)
       before.log)
 
@@ -176,10 +179,10 @@ StepSeen before id token now draws (answers.Refused refusals.AlreadyComplete) re
 StepSeen before id token now draws (answers.Refused refusals.LogFull) receipts =
     IfSome id (λ number. IsOpen (standing number before.log))
     × (before.limits.log < length before.log + 4) × (receipts ≡ [])
--- a first token, and no context is past its end
+-- a first token, as many contexts live as may, and none is past its end
 StepSeen before id token now draws (answers.Refused refusals.TableFull) receipts =
-    (id ≡ None) × IsDue before id × PastBy before.log (moment_of before now) None
-    × (receipts ≡ [])
+    (id ≡ None) × IsDue before id × (before.limits.contexts ≤ living before.log)
+    × PastBy before.log (moment_of before now) None × (receipts ≡ [])
 StepSeen before id token now draws (answers.Refused (refusals.Neg refusal)) receipts =
     TokenRefused before id token now draws refusal receipts
 StepSeen before id token now draws (answers.Refused (refusals.Stale greatest)) receipts =

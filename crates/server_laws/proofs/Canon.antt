@@ -9,7 +9,7 @@ use Rattle.replay_cache.specs.Taking.{kept_of}
 use Rattle.spnego_core.specs.declared.accept_end.AcceptEnd.{AcceptEnd}
 use Rattle.spnego_core.specs.declared.outcome.Outcome.{Outcome}
 use Rattle.context_table.specs.declared.slot.Slot.{Slot}
-use Rattle.context_table.specs.Places.{Places, slot_in, slot_at, IsPast, HasValue, Marks, KeepsOthers}
+use Rattle.context_table.specs.Places.{Places, slot_in, slot_at, live_of, IsPast, HasValue, Marks, KeepsOthers}
 use Rattle.accept_core.specs.declared.answer.AdmitRefusal.{AdmitRefusal}
 use Rattle.accept_core.specs.declared.answer.AdmitRefusal.TheVariants as admits
 use Rattle.accept_core.specs.declared.answer.LookRefusal.{LookRefusal}
@@ -23,7 +23,7 @@ use Rattle.accept_core.specs.declared.entry.Entry.{Entry}
 use Rattle.accept_core.specs.declared.entry.Entry.TheVariants.{Call, Ended}
 use Rattle.accept_core.specs.declared.entry.Receipt.{Receipt}
 use Rattle.accept_core.specs.Answers.{or_refused, after, refused, admitted, receipt_of}
-use Rattle.accept_core.specs.History.{Standing, Over, standing, numbers, opened, latest, taken_of}
+use Rattle.accept_core.specs.History.{Standing, Over, standing, numbers, opened, living, latest, taken_of}
 use Rattle.accept_core.specs.Legal.{Legal}
 use Rattle.accept_core.specs.Replays.{Accepting, SameSlot}
 use Rattle.accept_core.specs.Stepping.{Context, context_of, SameWindow, SameWindows}
@@ -94,10 +94,14 @@ context-as width h table id = ap context_of (slot-as width h table id) ∙ conte
 alike-as : (width : ℕ) (h : List Entry) (table : Table) → Alike (table_as width h table) table
 alike-as width h table = record { limit = refl; live = length-map table.slots (λ (slot : Known). slot_as width (numbers slot.id h) slot); each = λ id. context-as width h table id }
 
+live-as : (core : Core) → live_of core.table ≡ living core.history → live_of (core_as core).table ≡ living core.history
+live-as core lives = (alike-as core.width core.history core.table).live ∙ lives
+
 -- ---- its contexts are what its log says
 
 pub record Agrees (core : Core) : Type 0 where
   pub each : (id : ℕ) → SameContext (context_of (slot_at core.table id)) (standing id core.history)
+  pub lives : live_of core.table ≡ living core.history
   pub past : latest core.history ≤ core.cache.greatest
 
 slot-same : (width : ℕ) (ns : List ℕ) (slot : Option Known) (stands : Standing) → SameContext (context_of slot) stands → SameSlot by_outcome width (option_map (slot_as width ns) slot) stands ns
@@ -111,6 +115,7 @@ is-book book legal a = record {
   slots = λ id. subst (λ (slot : Option Known). SameSlot by_outcome book.core.width slot (standing id book.core.history) (numbers id book.core.history))
       (sym (slot-as book.core.width book.core.history book.core.table id))
       (slot-same book.core.width (numbers id book.core.history) (slot_at book.core.table id) (standing id book.core.history) (a.each id));
+  live = live-as book.core a.lives;
   count = refl;
   width = refl;
   past = a.past;
@@ -142,10 +147,11 @@ came old new id token now draws result r b =
       }
     ]
 
-came-agrees : (old : Core) (now : ℕ) (result : Negotiated) (new : Core) → Came old now result new → new.cache.greatest ≡ max old.cache.greatest now → Agrees new
-came-agrees old now result new c greatest = record {
+came-agrees : (old : Core) (now : ℕ) (result : Negotiated) (new : Core) → Came old now result new → new.cache.greatest ≡ max old.cache.greatest now → live_of new.table ≡ living new.history → Agrees new
+came-agrees old now result new c greatest lives = record {
   each = λ id. subst (λ (x : Option (Context AcceptEnd Outcome)). SameContext x (standing id new.history)) (sym (c.is.contexts id))
       (subst (λ (h : List Entry). SameContext (changed c.outcome.change id (context_of (slot_at old.table id))) (standing id h)) (sym c.is.history) (c.fine.each id));
+  lives = lives;
   past = subst (λ (h : List Entry). latest h ≤ new.cache.greatest) (sym c.is.history) (subst (λ (g : ℕ). latest c.outcome.history ≤ g) (sym greatest) c.fine.past);
 }
 
@@ -219,6 +225,7 @@ stepped-as old new id token now draws result r b = record {
     capacity = b.notes.capacity;
     greatest = b.notes.greatest;
   };
+  lives = live-as new.core b.lives;
 }
 
 -- ---- a look
@@ -252,6 +259,7 @@ looked-agrees : (old new : BookOf) (id now : ℕ) (result : Result Lease LookRef
 looked-agrees old new id now result a b = record {
   each = λ other. subst (λ (t : Table). SameContext (context_of (slot_at t other)) (standing other new.core.history)) (sym b.looked.table)
       (subst (λ (h : List Entry). SameContext (context_of (slot_at old.core.table other)) (standing other h)) (sym b.looked.history) (a.each other));
+  lives = ap (λ (t : Table). live_of t) b.looked.table ∙ (a.lives ∙ ap living (sym b.looked.history));
   past = subst (λ (h : List Entry). latest h ≤ new.core.cache.greatest) (sym b.looked.history) (omega (arith, a.past, b.looked.greatest));
 }
 
@@ -343,6 +351,7 @@ admitted-as old new lease seq procedure args result b =
           (ap (numbers lease.id) (admitted-log old new lease seq procedure args result b ok) ∙ called-own lease.id seq procedure args old.core.history) (b.slot ok)));
       others = others-as old.core new.core lease.id b.others b.keeps.width
           (λ other ne. ap (numbers other) b.history ∙ numbers-after (lease_refused old.core lease seq) entry old.core.history other (called-other lease.id other seq procedure args old.core.history ne));
+      lives = live-as new.core b.lives;
       unchanged = unchanged-as result old new b.unchanged;
       keeps = record { limit = b.keeps.limit; width = b.keeps.width; contexts = b.keeps.contexts; capacity = b.keeps.capacity; greatest = b.keeps.greatest };
       setup = b.setup;
@@ -355,10 +364,11 @@ marked-context None after seq m = absurd m
 
 -- contexts are as they were, and so is what the log says of them
 kept-agrees : (old new : Core) → Agrees old → ((id : ℕ) → context_of (slot_at new.table id) ≡ context_of (slot_at old.table id)) → ((id : ℕ) → standing id new.history ≡ standing id old.history)
-    → latest new.history ≡ latest old.history → new.cache.greatest ≡ old.cache.greatest → Agrees new
-kept-agrees old new a contexts stands moments greatest = record {
+    → latest new.history ≡ latest old.history → new.cache.greatest ≡ old.cache.greatest → live_of new.table ≡ living new.history → Agrees new
+kept-agrees old new a contexts stands moments greatest lives = record {
   each = λ id. subst (λ (x : Option (Context AcceptEnd Outcome)). SameContext x (standing id new.history)) (sym (contexts id))
       (subst (λ (s : Standing). SameContext (context_of (slot_at old.table id)) s) (sym (stands id)) (a.each id));
+  lives = lives;
   past = omega (arith, a.past, moments, greatest);
 }
 
@@ -370,7 +380,7 @@ admitted-agrees old new lease seq procedure args (Ok x) a b =
       | inl e ↦ subst (λ (k : ℕ). context_of (slot_at new.core.table k) ≡ context_of (slot_at old.core.table k)) e (marked-context (slot_at old.core.table lease.id) (slot_at new.core.table lease.id) seq (b.slot refl))
       | inr ne ↦ ap context_of (b.others.others id ne)
     ])
-    (λ id. ap (standing id) log) (ap latest log) b.keeps.greatest
+    (λ id. ap (standing id) log) (ap latest log) b.keeps.greatest b.lives
 admitted-agrees old new lease seq procedure args (Err refusal) a b = subst (λ (x : BookOf). Agrees x.core) (sym b.unchanged) a
 
 -- ---- an end
@@ -389,6 +399,7 @@ ended-as old new lease seq result b =
       gone = λ ok. slot-as new.core.width new.core.history new.core.table lease.id ∙ ap (option_map (slot_as new.core.width (numbers lease.id new.core.history))) (b.gone ok);
       others = others-as old.core new.core lease.id b.others b.keeps.width
           (λ other ne. ap (numbers other) b.history ∙ numbers-after (lease_refused old.core lease seq) entry old.core.history other refl);
+      lives = live-as new.core b.lives;
       unchanged = unchanged-as result old new b.unchanged;
       keeps = record { limit = b.keeps.limit; width = b.keeps.width; contexts = b.keeps.contexts; capacity = b.keeps.capacity; greatest = b.keeps.greatest };
       setup = b.setup;
@@ -396,20 +407,21 @@ ended-as old new lease seq result b =
 
 -- one context is gone, and the log says so
 gone-agrees : (old new : Core) (id : ℕ) (cause : EndCause) → Agrees old → new.history ≡ Ended id cause ∷ old.history → slot_at new.table id ≡ None → KeepsOthers old.table new.table id
-    → new.cache.greatest ≡ old.cache.greatest → Agrees new
-gone-agrees old new id cause a log gone k greatest = record {
+    → new.cache.greatest ≡ old.cache.greatest → live_of new.table ≡ living new.history → Agrees new
+gone-agrees old new id cause a log gone k greatest lives = record {
   each = λ other. subst (λ (h : List Entry). SameContext (context_of (slot_at new.table other)) (standing other h)) (sym log)
       (elim (cases_eq id other) [
         | inl e ↦
             subst (λ (j : ℕ). SameContext (context_of (slot_at new.table j)) (if id == j then Over else standing j old.history)) e (rw (eq-eqb id id refl, gone) tt)
         | inr ne ↦ rw (ne_eqb id other ne, k.others other ne) (a.each other)
       ]);
+  lives = lives;
   past = subst (λ (h : List Entry). latest h ≤ new.cache.greatest) (sym log) (subst (λ (g : ℕ). latest old.history ≤ g) (sym greatest) a.past);
 }
 
 ended-agrees : (old new : BookOf) (lease : Lease) (seq : ℕ) (result : Result Receipt AdmitRefusal) → Agrees old.core → BookEnded old new lease seq result → Agrees new.core
 ended-agrees old new lease seq (Ok x) a b =
-    gone-agrees old.core new.core lease.id (Destroyed seq) a (ended-log old new lease seq (Ok x) b refl) (b.gone refl) b.others b.keeps.greatest
+    gone-agrees old.core new.core lease.id (Destroyed seq) a (ended-log old new lease seq (Ok x) b refl) (b.gone refl) b.others b.keeps.greatest b.lives
 ended-agrees old new lease seq (Err refusal) a b = subst (λ (x : BookOf). Agrees x.core) (sym b.unchanged) a
 
 -- ---- any question
@@ -422,7 +434,7 @@ answers-as old new (AskedEnd lease seq answer) legal a b = ended-as old new leas
 
 pub answers-agree : (old new : BookOf) (asked : Asked) → Legal old.core.width old.core.history → Agrees old.core → BookAnswers old asked new → Agrees new.core
 answers-agree old new (AskedStep id token now draws answer) legal a b =
-    came-agrees old.core now answer new.core (came old new id token now draws answer (ready old.core now legal a) b) b.notes.greatest
+    came-agrees old.core now answer new.core (came old new id token now draws answer (ready old.core now legal a) b) b.notes.greatest b.lives
 answers-agree old new (AskedLook id now answer) legal a b = looked-agrees old new id now answer a b
 answers-agree old new (AskedAdmit lease seq procedure args answer) legal a b = admitted-agrees old new lease seq procedure args answer a b
 answers-agree old new (AskedEnd lease seq answer) legal a b = ended-agrees old new lease seq answer a b

@@ -23,6 +23,7 @@ pub opened : OpenedLaw
 opened options keys start = record {
   legal = tt;
   slots = λ id. tt;
+  live = refl;
   count = refl;
   width = refl;
   past = omega arith;
@@ -32,6 +33,7 @@ opened options keys start = record {
 opened-agrees : (options : Options) (keys : Keys) (start : ℕ) (book : BookOf) → IsOpened options keys start book → Agrees book.core
 opened-agrees options keys start book o = record {
   each = λ id. rw (o.history, o.empty) tt;
+  lives = rw (o.history, o.empty) refl;
   past = rw o.history (omega arith);
 }
 
