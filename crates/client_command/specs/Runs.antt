@@ -13,7 +13,7 @@ use Rattle.gss_client.specs.Exchanging.{Went}
 use Rattle.gss_client.specs.declared.conversation.Parting.{Parting}
 use Rattle.gss_client.specs.declared.procedure.Procedure.{Procedure}
 use Rattle.gss_client.specs.declared.procedure.Procedure.TheVariants.{Null}
-use Rattle.gss_client.specs.declared.start.Start.{Start}
+use Rattle.gss_client.specs.Start.{StartSays}
 use Rattle.client_command.specs.Credentials.{creds_from}
 use Rattle.client_command.specs.Endings.{Named, end_of, is_parted}
 use Rattle.client_command.specs.Words.{words_of, IsRanged}
@@ -59,7 +59,7 @@ procedure_of (Err refusal) = Null
 
 -- what a session is begun with: the plan of the words, the credentials of their mechanisms, a
 -- moment as stamp, and 66 random octets
-abbrev pub start_of : Plan → List MechCred → ℕ → List ℕ → Start
+abbrev pub start_of : Plan → List MechCred → ℕ → List ℕ → StartSays
 start_of plan creds stamp draws = record {
   setup = record { list = creds; bindings = plan.bindings; stamp = stamp; draws = draws };
   service = plan.service;

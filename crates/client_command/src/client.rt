@@ -5,6 +5,7 @@ ghost use Rattle.std.specs.Prelude.{Ok, Err};
 ghost use Rattle.sec_base.specs.Answers.{Rose};
 ghost use Rattle.spnego_core.specs.InitMech.{is_own_list};
 ghost use Rattle.spnego_core.specs.declared.setup.MechCred.{MechCred};
+ghost use Rattle.gss_client.specs.Start.{start_says};
 ghost use Rattle.cli_base.specs.Lines.{SaysLine, Says};
 ghost use Rattle.client_command.specs.Credentials.{creds_from, is_unloaded, Asks};
 ghost use Rattle.client_command.specs.Endings.{end_of, is_begun, status_of, line_of};
@@ -49,7 +50,7 @@ fn start_of(
     stamp: Moment,
     draws: [u8; 66],
 ) -> Start
-    ensures { result ≡ record {
+    ensures is { start_says result ≡ record {
       setup = record {
         list = creds;
         bindings = bindings;
@@ -60,6 +61,8 @@ fn start_of(
       service = service;
       first = first;
     } }
+    ensures list { result.setup.list ≡ creds }
+    ensures first { result.first ≡ first }
 {
     let setup = InitSetup {
         list: creds,

@@ -12,8 +12,8 @@ use Rattle.spnego_core.specs.declared.setup.AcceptSetup.{AcceptSetup}
 use Rattle.spnego_core.specs.declared.setup.MechCred.{MechCred}
 use Rattle.spnego_core.specs.declared.outcome.Outcome.{Outcome}
 use Rattle.gss_client.specs.declared.procedure.Procedure.{Procedure}
+use Rattle.gss_client.specs.Start.{StartSays}
 use Rattle.rpcsec_bodies.specs.declared.service.Service.TheVariants as services
-use Rattle.gss_client.specs.declared.start.Start.{Start}
 use Rattle.gss_client.specs.Conversation.{Conversed, converses, Talk, talk, by_session, by_creation}
 use Rattle.gss_client.specs.Procedure.{procedure_number}
 use Rattle.gss_client.specs.Session.{SessionState}
@@ -40,10 +40,10 @@ use Rattle.pair_laws.proofs.SessionParts.{few-made}
 use Rattle.client_laws.proofs.WordsAsked.{own-args}
 
 -- the session of an exchange that completes
-abbrev session_of : (setup : AcceptSetup) (width : ℕ) (start : Start) (stream : List ℕ) (x : HonestExchange setup width start stream) → Completes setup width start stream x → SessionState
+abbrev session_of : (setup : AcceptSetup) (width : ℕ) (start : StartSays) (stream : List ℕ) (x : HonestExchange setup width start stream) → Completes setup width start stream x → SessionState
 session_of setup width start stream x c = session_on (lease_on (id_in x.books) c.outcome c.lasts) start.service start.first (1 + length x.answers)
 
-talk-is : (setup : AcceptSetup) (width : ℕ) (start : Start) (stream : List ℕ) (x : HonestExchange setup width start stream) (c : Completes setup width start stream x) (times : ℕ) (procedure : Procedure) (args draws : List ℕ)
+talk-is : (setup : AcceptSetup) (width : ℕ) (start : StartSays) (stream : List ℕ) (x : HonestExchange setup width start stream) (c : Completes setup width start stream x) (times : ℕ) (procedure : Procedure) (args draws : List ℕ)
     → talk start times procedure args draws stream ≡ by_session (flat_map last_fragment x.converses.records) (Some c.outcome) (converses times procedure args (session_of setup width start stream x c) draws x.converses.rest)
 unfolding talk
 talk-is setup width start stream x c times procedure args draws = ap (λ (q : Said SessionState). by_creation times procedure args draws q.written q.rest q.answer) c.session
@@ -67,7 +67,7 @@ pub completed : {clock draw : Bool} {moments moments' given given' : List ℕ} {
     → Spoke clock moments moments' draw given given' plan creds old new outcome results end → (server : Answers clock moments moments' draw given given' plan creds old new) → end ≢ LinkFault → end ≢ NoMemory
     → Completed clock moments moments' draw given given' plan creds old new server outcome results end
 completed {clock} {draw} {moments} {moments'} {given} {given'} {plan} {creds} {old} {new} {outcome} {results} {end} told ranged proper s server link memory =
-    let start : Start = start_of plan creds s.stamp s.draws in
+    let start : StartSays = start_of plan creds s.stamp s.draws in
     let stream : List ℕ = s.took ++ new.coming in
     let h : HonestServer start plan s.confounders s.wrote stream = server s.stamp s.draws s.confounders s.took s.wrote s.drew s.went in
     let c = h.created in

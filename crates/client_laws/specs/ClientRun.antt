@@ -10,7 +10,7 @@ use Rattle.spnego_core.specs.declared.outcome.Outcome.{Outcome}
 use Rattle.accept_core.specs.History.{numbers}
 use Rattle.accept_book.specs.Honest.{IsOctets}
 use Rattle.rpcsec_bodies.specs.declared.service.Service.TheVariants as services
-use Rattle.gss_client.specs.declared.start.Start.{Start}
+use Rattle.gss_client.specs.Start.{StartSays}
 use Rattle.gss_client.specs.Exchanging.{Went}
 use Rattle.gss_client.specs.Procedure.{procedure_number}
 use Rattle.client_command.specs.Endings.{end_of}
@@ -28,22 +28,22 @@ use Rattle.pair_laws.specs.Running.{parting_of, results_of, Logged, RunLaw}
 -- creates the context, of which `PairLaw` says how it completes, and then answers each record, as
 -- `HonestRun` says; the service protects the procedure unless that is 0, and the confounders are
 -- octets
-pub record HonestServer (start : Start) (plan : Plan) (confounders wrote stream : List ℕ) : Type 0
-  where
-    pub setup : AcceptSetup
-    pub width : ℕ
-    pub exchange : HonestExchange setup width start stream
-    pub created : Completes setup width start stream exchange
-    pub turns : List Turn
-    pub rest : List ℕ
-    pub written : wrote
-        ≡ flat_map last_fragment exchange.converses.records ++ flat_map sent_in turns
-    pub heard : exchange.converses.rest ≡ flat_map (heard_in width) turns ++ rest
-    pub served : Serves width
-        (lease_on (id_in exchange.books) created.outcome created.lasts) created.core turns
-    pub unused : greatest (numbers (id_in exchange.books) created.core.history) < plan.first
-    pub protected : plan.service ≡ services.None → procedure_number plan.procedure ≡ 0
-    pub octets : IsOctets confounders
+pub record HonestServer (start : StartSays) (plan : Plan)
+    (confounders wrote stream : List ℕ) : Type 0 where
+  pub setup : AcceptSetup
+  pub width : ℕ
+  pub exchange : HonestExchange setup width start stream
+  pub created : Completes setup width start stream exchange
+  pub turns : List Turn
+  pub rest : List ℕ
+  pub written : wrote
+      ≡ flat_map last_fragment exchange.converses.records ++ flat_map sent_in turns
+  pub heard : exchange.converses.rest ≡ flat_map (heard_in width) turns ++ rest
+  pub served : Serves width
+      (lease_on (id_in exchange.books) created.outcome created.lasts) created.core turns
+  pub unused : greatest (numbers (id_in exchange.books) created.core.history) < plan.first
+  pub protected : plan.service ≡ services.None → procedure_number plan.procedure ≡ 0
+  pub octets : IsOctets confounders
 
 -- so it does, whatever the clock, the source of random octets and the link gave
 abbrev pub Answers : Bool → List ℕ → List ℕ → Bool → List ℕ → List ℕ → Plan → List MechCred
@@ -57,7 +57,7 @@ Answers clock moments moments' draw given given' plan creds old new =
 -- the run agreed on the server's outcome, was answered the service's results, and ends with all its
 -- calls made or its numbers spent; 16 octets were drawn for each call; the server has each call in
 -- its log, and has destroyed the context
-pub record IsCompleted (start : Start) (plan : Plan) (confounders wrote stream : List ℕ)
+pub record IsCompleted (start : StartSays) (plan : Plan) (confounders wrote stream : List ℕ)
     (h : HonestServer start plan confounders wrote stream) (outcome : Option Outcome)
     (results : List (List ℕ)) (end : RunEnd) : Type 0 where
   pub outcome_is : outcome ≡ Some h.created.outcome

@@ -5,7 +5,7 @@ use Rattle.gss_base.specs.declared.mech.MechKind.{MechKind}
 use Rattle.gss_base.specs.declared.mech.MechKind.TheVariants as kinds
 use Rattle.accept_book.specs.Booking.{BookOf}
 use Rattle.accept_core.specs.declared.entry.Entry.{Entry}
-use Rattle.gss_client.specs.declared.start.Start.{Start}
+use Rattle.gss_client.specs.Start.{StartSays}
 use Rattle.gss_server.specs.declared.answer.Kept.{Kept}
 use Rattle.pair_laws.specs.Conferring.{DueCall}
 use Rattle.pair_laws.specs.Resting.{RestsAt}
@@ -90,7 +90,7 @@ fits-stands seed calls number book small s = record {
   numbers = omega (arith, wanted-few seed calls number);
 }
 
-stands-next : (seed calls number : ℕ) (start : Start) (old new : BookOf) (one : DrillSession) → Stands number old → RestsAgain (tokens_for (kind_of number)) (kind_of number) number (moment_of number) start (calls_of seed calls number) old new one → Stands (suc number) new
+stands-next : (seed calls number : ℕ) (start : StartSays) (old new : BookOf) (one : DrillSession) → Stands number old → RestsAgain (tokens_for (kind_of number)) (kind_of number) number (moment_of number) start (calls_of seed calls number) old new one → Stands (suc number) new
 stands-next seed calls number start old new one s r =
     let next : number + 1 ≡ suc number = omega arith in
     record {

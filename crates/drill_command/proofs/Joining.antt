@@ -2,7 +2,7 @@
 use Rattle.std.proofs.Common.{◌≡◌, ◌∙◌, ◌<◌, ◌+◌, ℕ, zero, suc, refl, ap, sym, subst, arith, List, [], ◌∷◌, ◌++◌, length, map, take, replicate, slice_get}
 use Rattle.std.specs.List.{AllByRecursion}
 use Rattle.base64.specs.GeneralPurpose.{IsBytes}
-use Rattle.spnego_core.specs.declared.setup.InitSetup.{InitSetup}
+use Rattle.spnego_core.specs.Ends.{PlainSetup}
 use Rattle.spnego_core.specs.Exchange.{Occasion, HonestPair}
 use Rattle.gss_server.specs.declared.answer.Kept.{Kept}
 use Rattle.pair_laws.specs.Creation.{IsAt, padded}
@@ -59,7 +59,7 @@ all-given number (suc n) (one ∷ kept) moments octets drawn = (
   all-given number n kept moments.1 octets.1 drawn.1,
 )
 
-pub joined : (number n : ℕ) (own : InitSetup) (kept : List Kept) (draws : List (List ℕ)) → number < 86400 → n ≡ tokens_for (kind_of number) → draws ≡ draws_to (moment_of number) n kept → AllByRecursion IsDrawn draws → FitLaw number own → MeetLaw own draws → AreOnTime number kept → IsPaired number own kept
+pub joined : (number n : ℕ) (own : PlainSetup) (kept : List Kept) (draws : List (List ℕ)) → number < 86400 → n ≡ tokens_for (kind_of number) → draws ≡ draws_to (moment_of number) n kept → AllByRecursion IsDrawn draws → FitLaw number own → MeetLaw own draws → AreOnTime number kept → IsPaired number own kept
 joined number n own kept draws day counted is drawn fits meets on =
     let occasions : List Occasion = occasions_of (moment_of number) n kept in
     let given : AllByRecursion (IsGiven number) occasions = all-given number n kept on.moments on.octets (subst (λ (ds : List (List ℕ)). AllByRecursion IsDrawn ds) is drawn) in

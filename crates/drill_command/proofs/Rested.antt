@@ -19,7 +19,7 @@ use Rattle.gss_client.specs.declared.conversation.Parting.{Parting}
 use Rattle.gss_client.specs.declared.conversation.Parting.TheVariants.{Finished, Spent}
 use Rattle.gss_client.specs.declared.refusal.ClientRefusal.{ClientRefusal}
 use Rattle.gss_client.specs.declared.refusal.ClientRefusal.TheVariants.{LinkFault, NoMemory}
-use Rattle.gss_client.specs.declared.start.Start.{Start}
+use Rattle.gss_client.specs.Start.{StartSays}
 use Rattle.gss_client.specs.Conversing.{IsTalk}
 use Rattle.gss_server.specs.Asking.{Asking, BookAnswers}
 use Rattle.gss_server.specs.Connections.{asked_in}
@@ -85,7 +85,7 @@ all-by moment (one ∷ kept) h octets = (record { lasting = omega (arith, h.0); 
 -- ---- the session
 
 -- what such a session's link shows
-served-of : (gained : List Asked → Type 0) (book new : BookOf) (now : ℕ) (start : Start) (wanted : List DueCall) (kept : List Kept) (outcome : Option Outcome) (results : List (List ℕ)) (ended : Option ClientRefusal) (tokens count : ℕ) (kind : MechKind) (draws : List ℕ)
+served-of : (gained : List Asked → Type 0) (book new : BookOf) (now : ℕ) (start : StartSays) (wanted : List DueCall) (kept : List Kept) (outcome : Option Outcome) (results : List (List ℕ)) (ended : Option ClientRefusal) (tokens count : ℕ) (kind : MechKind) (draws : List ℕ)
     → ((asked : List Asked) → gained asked → Asking BookAnswers book asked new) → start.first ≡ 1 → AllByRecursion HasOctets kept → FitsRest tokens kind count now start wanted book kept
     → (h : Holds gained 128 now start wanted kept false outcome results ended) → ArePlanned start.service start.first wanted draws → (talk_of start wanted draws (h.talked.took ++ h.wire.coming)).written ≡ h.talked.wrote
     → IsServed 128 now tokens start kind count now wanted draws (h.talked.took ++ h.wire.coming) book new h.looped.1.records h.looped.1.answers h.looped.1.rest
@@ -121,7 +121,7 @@ served-of gained book new now start wanted kept outcome results ended tokens cou
     }
 
 -- so it is done
-done-of : (book new : BookOf) (now : ℕ) (start : Start) (wanted : List DueCall) (one : DrillSession) (tokens count : ℕ) (kind : MechKind) (draws stream wrote undrawn : List ℕ) (records : List Fragments) (answers : List Kept) (rest : List ℕ) (parting : Parting)
+done-of : (book new : BookOf) (now : ℕ) (start : StartSays) (wanted : List DueCall) (one : DrillSession) (tokens count : ℕ) (kind : MechKind) (draws stream wrote undrawn : List ℕ) (records : List Fragments) (answers : List Kept) (rest : List ℕ) (parting : Parting)
     → start.first ≡ 1 → length wanted < 0x80000000 → CreatedLaw → IsLinkTold one.outcome → IsServed 128 now tokens start kind count now wanted draws stream book new records answers rest
     → IsTalk wrote one.outcome one.results.items parting undrawn (talk_of start wanted draws stream) → one.ended ≡ early_end parting
     → RestsAgain tokens kind count now start wanted book new one
@@ -154,7 +154,7 @@ done-of book new now start wanted one tokens count kind draws stream wrote undra
 asks-of : (book new : BookOf) (asked : List Asked) → Since (λ b. b ≡ book) BookAnswers new asked → Asking BookAnswers book asked new
 asks-of book new asked s = subst (λ (b : BookOf). Asking BookAnswers b asked new) s.1 s.2
 
-fed-session : (book new : BookOf) (now : ℕ) (start : Start) (wanted : List DueCall) (kept : List Kept) (one : DrillSession) (tokens count : ℕ) (kind : MechKind)
+fed-session : (book new : BookOf) (now : ℕ) (start : StartSays) (wanted : List DueCall) (kept : List Kept) (one : DrillSession) (tokens count : ℕ) (kind : MechKind)
     → start.first ≡ 1 → CreatedLaw → IsLinkTold one.outcome → AllByRecursion HasOctets kept
     → one.ended ≢ Some LinkFault → one.ended ≢ Some NoMemory → FitsRest tokens kind count now start wanted book kept
     → Holds (λ asked. Since (λ b. b ≡ book) BookAnswers new asked) 128 now start wanted kept false one.outcome one.results.items one.ended
@@ -167,7 +167,7 @@ fed-session book new now start wanted kept one tokens count kind first created t
     done-of book new now start wanted one tokens count kind (t.drawn ++ more) (t.took ++ h.wire.coming) t.wrote more h.looped.1.records h.looped.1.answers h.looped.1.rest h.parting first f.numbers created told
     (served-of _ book new now start wanted kept one.outcome one.results.items one.ended tokens count kind (t.drawn ++ more) (asks-of book new) first octets f h planned w.written) w h.ends
 
-pub session-rests : (book new : BookOf) (now : ℕ) (start : Start) (wanted : List DueCall) (kept : List Kept) (starved : Bool) (one : DrillSession) (tokens count : ℕ) (kind : MechKind)
+pub session-rests : (book new : BookOf) (now : ℕ) (start : StartSays) (wanted : List DueCall) (kept : List Kept) (starved : Bool) (one : DrillSession) (tokens count : ℕ) (kind : MechKind)
     → start.first ≡ 1 → CreatedLaw → IsLinkTold one.outcome → AllByRecursion HasOctets kept
     → (one.ended ≡ Some LinkFault → starved ≡ true) → starved ≡ false → one.ended ≢ Some NoMemory → FitsRest tokens kind count now start wanted book kept
     → Holds (λ asked. Since (λ b. b ≡ book) BookAnswers new asked) 128 now start wanted kept starved one.outcome one.results.items one.ended
@@ -194,7 +194,7 @@ table-of book e = let is : book.core.table.limit ≡ 1024 = ap (λ (ns : List �
 cache-of : (number : ℕ) (book : BookOf) → number ≤ 100 → book_limits book ≡ drill_limits → number < book.core.cache.capacity
 cache-of number book few e = let is : book.core.cache.capacity ≡ 65536 = ap (λ (ns : List ℕ). get_or ns 3 0) e in omega (arith, few, is)
 
-fits-next : (number moment count value : ℕ) (start : Start) (book : BookOf) (kept : List Kept) → number ≤ 100 → book_limits book ≡ drill_limits → moment ≡ moment_of number → start.setup.stamp ≡ moment → start.service ≡ service_of number → IsPaired number start.setup kept → FitsNext number (calls_from count value) book
+fits-next : (number moment count value : ℕ) (start : StartSays) (book : BookOf) (kept : List Kept) → number ≤ 100 → book_limits book ≡ drill_limits → moment ≡ moment_of number → start.setup.stamp ≡ moment → start.service ≡ service_of number → IsPaired number start.setup kept → FitsNext number (calls_from count value) book
     → FitsRest (tokens_for (kind_of number)) (kind_of number) number moment start (calls_from count value) book kept
 fits-next number moment count value start book kept few limits now stamp service p f = record {
   pair = subst (λ (m : ℕ). HonestPair book.setup start.setup (kind_of number) (padded m (tokens_for (kind_of number)) (map occasion_of (kept_of kept)))) (sym now)
@@ -211,7 +211,7 @@ fits-next number moment count value start book kept few limits now stamp service
   each = subst (λ (s : Service). AllByRecursion (IsProper s) (calls_from count value)) (sym service) (all-proper (service_of number) (protected number) count value);
 }
 
-pub next-of : (number count value moment client : ℕ) (start : Start) (wanted : List DueCall) (old new : BookOf) (kept : List Kept) (one : DrillSession) → number ≤ 100 → book_limits old ≡ drill_limits → moment ≡ moment_of number → start.setup.stamp ≡ moment → start.service ≡ service_of number → start ≡ drill_start number moment (octets_from 66 client) → wanted ≡ calls_from count value
+pub next-of : (number count value moment client : ℕ) (start : StartSays) (wanted : List DueCall) (old new : BookOf) (kept : List Kept) (one : DrillSession) → number ≤ 100 → book_limits old ≡ drill_limits → moment ≡ moment_of number → start.setup.stamp ≡ moment → start.service ≡ service_of number → start ≡ drill_start number moment (octets_from 66 client) → wanted ≡ calls_from count value
     → IsPaired number start.setup kept
     → ((tokens : ℕ) (kind : MechKind) (before : ℕ) → FitsRest tokens kind before moment start wanted old kept → ∥ RestsAgain tokens kind before moment start wanted old new one ∥₁)
     → IsNext number client (calls_from count value) old new kept one
@@ -228,7 +228,7 @@ next-of number count value moment client start wanted old new kept one few limit
 }
 
 -- the pair that was told of, where the session's start is that of its generator
-pub pairs-of : (number moment : ℕ) (draws : List ℕ) (start : Start) (given kept : List Kept) → moment ≡ moment_of number → start ≡ drill_start number moment draws
+pub pairs-of : (number moment : ℕ) (draws : List ℕ) (start : StartSays) (given kept : List Kept) → moment ≡ moment_of number → start ≡ drill_start number moment draws
     → AllByRecursion (IsAt moment) (kept_of kept) → AllByRecursion HasOctets kept
     → given ≡ kept → (AreOnTime number given → IsPaired number (drill_start number (moment_of number) draws).setup given)
     → IsPaired number start.setup kept
@@ -240,7 +240,7 @@ pairs-of number moment draws start given kept now is moments octets same told =
     } in
     let onto : AreOnTime number given = subst (λ (ks : List Kept). AreOnTime number ks) (sym same) on in
     let pair : IsPaired number (drill_start number (moment_of number) draws).setup kept = subst (λ (ks : List Kept). IsPaired number (drill_start number (moment_of number) draws).setup ks) same (told onto) in
-    subst (λ (s : Start). IsPaired number s.setup kept) (sym starts) pair
+    subst (λ (s : StartSays). IsPaired number s.setup kept) (sym starts) pair
 
 -- ---- the names of its outcome
 
@@ -248,6 +248,6 @@ cred-is : (kind : MechKind) → cred_for (drill_credential kind ∷ []) kind ≡
 cred-is kinds.Kerberos = refl
 cred-is kinds.Scram = refl
 
-pub names-of : (number moment : ℕ) (draws : List ℕ) (start : Start) (agreed : Outcome) → start ≡ drill_start number moment draws → IsNamed start.setup (kind_of number) agreed → HasNames (drill_credential (kind_of number)) agreed
+pub names-of : (number moment : ℕ) (draws : List ℕ) (start : StartSays) (agreed : Outcome) → start ≡ drill_start number moment draws → IsNamed start.setup (kind_of number) agreed → HasNames (drill_credential (kind_of number)) agreed
 names-of number moment draws start agreed begun named =
-    named (drill_credential (kind_of number)) (ap (λ (s : Start). cred_for s.setup.list (kind_of number)) begun ∙ cred-is (kind_of number))
+    named (drill_credential (kind_of number)) (ap (λ (s : StartSays). cred_for s.setup.list (kind_of number)) begun ∙ cred-is (kind_of number))

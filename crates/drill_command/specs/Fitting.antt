@@ -4,7 +4,7 @@ use Rattle.std.specs.List.{AllByRecursion}
 use Rattle.base64.specs.GeneralPurpose.{IsBytes}
 use Rattle.gss_base.specs.declared.mech.MechKind.{MechKind}
 use Rattle.gss_base.specs.declared.mech.MechKind.TheVariants as kinds
-use Rattle.spnego_core.specs.declared.setup.InitSetup.{InitSetup}
+use Rattle.spnego_core.specs.Ends.{PlainSetup}
 use Rattle.spnego_core.specs.Exchange.{Occasion}
 use Rattle.pair_laws.specs.Meeting.{Meets}
 use Rattle.drill_plan.specs.Sessions.{moment_of, kind_of}
@@ -25,7 +25,7 @@ tokens_for kinds.Scram = 3
 -- in each session of the ticket's day, with an occasion for each token, what the client is begun
 -- with meets the server: the ticket opens to its part, under the name and in its time, or the
 -- password is that of the user's line
-abbrev pub FitLaw : ℕ → InitSetup → Type 0
+abbrev pub FitLaw : ℕ → PlainSetup → Type 0
 FitLaw number own = (occasions : List Occasion) → number < 86400
     → length occasions ≡ tokens_for (kind_of number) → AllByRecursion (IsGiven number) occasions
     → Meets drill_acceptor own (kind_of number) occasions

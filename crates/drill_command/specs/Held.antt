@@ -9,7 +9,7 @@ use Rattle.gss_client.specs.declared.conversation.Parting.TheVariants.{Refused}
 use Rattle.gss_client.specs.declared.refusal.ClientRefusal.{ClientRefusal}
 use Rattle.gss_client.specs.declared.refusal.ClientRefusal.TheVariants.{BadReply}
 use Rattle.gss_client.specs.declared.refusal.ReplyWhy.TheVariants.{Number, Body}
-use Rattle.gss_client.specs.declared.start.Start.{Start}
+use Rattle.gss_client.specs.Start.{StartSays}
 use Rattle.gss_server.specs.declared.answer.Kept.{Kept}
 use Rattle.gate_models.specs.Looping.{Loops}
 use Rattle.pair_laws.specs.Conferring.{DueCall}
@@ -25,7 +25,7 @@ early_end (Refused refusal) = Some refusal
 -- the client's talk over some octets, which are those of the link: what it heard are the replies to
 -- what it wrote, each by its kept answer, by windows of this width and at this moment; `gained`
 -- says what was asked for them, and `starved` whether memory was wanted
-pub record Holds (gained : List Asked → Type 0) (width moment : ℕ) (start : Start)
+pub record Holds (gained : List Asked → Type 0) (width moment : ℕ) (start : StartSays)
     (wanted : List DueCall) (kept : List Kept) (starved : Bool) (outcome : Option Outcome)
     (results : List (List ℕ)) (ended : Option ClientRefusal) : Type 0 where
   pub wire : Wire

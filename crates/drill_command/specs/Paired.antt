@@ -1,7 +1,7 @@
 -- The two ends of a drill are an honest pair.
 use Rattle.std.specs.Prelude.{ℕ, List, map, take, replicate, Option, Some, None}
 use Rattle.std.specs.List.{AllByRecursion}
-use Rattle.spnego_core.specs.declared.setup.InitSetup.{InitSetup}
+use Rattle.spnego_core.specs.Ends.{PlainSetup}
 use Rattle.spnego_core.specs.Exchange.{HonestPair}
 use Rattle.accept_book.specs.Honest.{IsOctets}
 use Rattle.gss_server.specs.declared.answer.Kept.{Kept}
@@ -19,7 +19,7 @@ drawn_from (Some kept) = take 66 kept.draws
 
 -- with what was drawn for the first answers of the session, one for each token, the server and a
 -- client that is begun so are an honest pair; for a token without an answer zeros count as drawn
-abbrev pub IsPaired : ℕ → InitSetup → List Kept → Type 0
+abbrev pub IsPaired : ℕ → PlainSetup → List Kept → Type 0
 IsPaired number own kept = HonestPair drill_acceptor own (kind_of number)
     (padded (moment_of number) (tokens_for (kind_of number)) (map occasion_of (kept_of kept)))
 

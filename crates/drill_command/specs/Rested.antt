@@ -9,7 +9,7 @@ use Rattle.spnego_core.specs.declared.outcome.Outcome.{Outcome}
 use Rattle.accept_book.specs.Booking.{BookOf, names_of}
 use Rattle.accept_core.specs.History.{posts}
 use Rattle.accept_core.specs.declared.entry.Entry.{Entry}
-use Rattle.gss_client.specs.declared.start.Start.{Start}
+use Rattle.gss_client.specs.Start.{StartSays}
 use Rattle.gss_server.specs.declared.answer.Kept.{Kept}
 use Rattle.pair_laws.specs.Conferring.{DueCall}
 use Rattle.pair_laws.specs.Creation.{SameLimits, Enters, padded}
@@ -41,7 +41,7 @@ IsLinkTold outcome = (told : Outcome) → outcome ≡ Some told → LinkedTold t
 -- the session begins at this moment, its client's stamp, with a book at rest, which has places for
 -- these tokens and calls; with what was drawn for the first answers, so many, both ends are an
 -- honest pair; there are numbers enough, and each call is one that the service takes
-pub record FitsRest (tokens : ℕ) (kind : MechKind) (count moment : ℕ) (start : Start)
+pub record FitsRest (tokens : ℕ) (kind : MechKind) (count moment : ℕ) (start : StartSays)
     (wanted : List DueCall) (book : BookOf) (kept : List Kept) : Type 0 where
   pub pair : HonestPair book.setup start.setup kind
       (padded moment tokens (map occasion_of (kept_of kept)))
@@ -60,7 +60,7 @@ pub record FitsRest (tokens : ℕ) (kind : MechKind) (count moment : ℕ) (start
 -- and was answered the service's results of all its calls by the posts of the book; the book has
 -- the entries of its creation, its calls and its end in the log and nothing else, and rests again
 -- at every later moment
-pub record RestsAgain (tokens : ℕ) (kind : MechKind) (count moment : ℕ) (start : Start)
+pub record RestsAgain (tokens : ℕ) (kind : MechKind) (count moment : ℕ) (start : StartSays)
     (wanted : List DueCall) (old new : BookOf) (one : DrillSession) : Type 0 where
   pub ended : one.ended ≡ None
   pub agreed : Outcome
@@ -91,7 +91,7 @@ pub record FitsNext (number : ℕ) (wanted : List DueCall) (book : BookOf) : Typ
 -- are an honest pair; it is done if it fits
 pub record IsNext (number client : ℕ) (wanted : List DueCall) (old new : BookOf)
     (kept : List Kept) (one : DrillSession) : Type 0 where
-  pub start : Start
+  pub start : StartSays
   pub begun : start ≡ drill_start number (moment_of number) (octets_from 66 client)
   pub paired : IsPaired number start.setup kept
   pub rests : FitsNext number wanted old

@@ -10,6 +10,7 @@ ghost use Rattle.drill_command.specs.Paired.{HasOctets};
 ghost use Rattle.drill_command.specs.Rested.{IsLinkTold, FitsRest, RestsAgain, IsNext};
 ghost use Rattle.accept_core.specs.Legal.{Legal};
 ghost use Rattle.spnego_core.specs.InitMech.{is_own_list};
+ghost use Rattle.gss_client.specs.Start.{start_says};
 ghost use Rattle.gss_server.specs.Asking.{BookAnswers};
 ghost use Rattle.gate_models.specs.Looping.{Since};
 ghost use Rattle.drill_plan.specs.Generator.{octets_from};
@@ -75,7 +76,7 @@ fn hold_from<J: Beginning<OwnSeat>>(
     requires list { is_own_list start.setup.list ≡ true }
     requires first { start.first ≡ 1 }
     ensures held { IfOk result (λ h. ∥ Holds (λ asked. Since J.begins BookAnswers h.book asked)
-        128 now start calls.now h.kept.items h.starved h.session.outcome
+        128 now (start_says start) calls.now h.kept.items h.starved h.session.outcome
         h.session.results.items h.session.ended ∥₁) }
     // and a fault of the link is want of memory
     ensures fault { IfOk result
@@ -117,8 +118,9 @@ pub fn hold_session(
     requires list { is_own_list start.setup.list ≡ true }
     requires first { start.first ≡ 1 }
     ensures held { IfOk result (λ h. ∥ Holds
-        (λ asked. Since (λ b. b ≡ book) BookAnswers h.book asked) 128 now start calls.now
-        h.kept.items h.starved h.session.outcome h.session.results.items h.session.ended ∥₁) }
+        (λ asked. Since (λ b. b ≡ book) BookAnswers h.book asked) 128 now (start_says start)
+        calls.now h.kept.items h.starved h.session.outcome h.session.results.items
+        h.session.ended ∥₁) }
     ensures limits { IfOk result (λ h. book_limits h.book ≡ book_limits book) }
     ensures moments { IfOk result (λ h. AllByRecursion (IsAt now) (kept_of h.kept.items)) }
     ensures octets { IfOk result (λ h. AllByRecursion HasOctets h.kept.items) }
@@ -126,8 +128,9 @@ pub fn hold_session(
     ensures rests { IfOk result (λ h. h.starved ≡ false
         → h.session.ended ≢ Some ClientRefusal.NoMemory
         → (tokens : ℕ) (kind : MechKind) (count : ℕ)
-        → FitsRest tokens kind count now start calls.now book h.kept.items
-        → ∥ RestsAgain tokens kind count now start calls.now book h.book h.session ∥₁) }
+        → FitsRest tokens kind count now (start_says start) calls.now book h.kept.items
+        → ∥ RestsAgain tokens kind count now (start_says start) calls.now book h.book
+        h.session ∥₁) }
 {
     prove_created();
     let held = hold_from::<Brand>(alloc, book, now, server, client, start, calls)?;
@@ -270,8 +273,9 @@ fn due_of(
 ) -> Result<(Vec<DueCall>, Start), NoMemory>
     ensures calls { IfOk result (λ due. due.0.items
         ≡ calls_from count generators.old.calls.value) }
-    ensures start { IfOk result (λ due. due.1 ≡ drill_start number (moment_of number)
+    ensures start { IfOk result (λ due. start_says due.1 ≡ drill_start number (moment_of number)
         (octets_from 66 generators.old.client.value)) }
+    ensures first { IfOk result (λ due. due.1.first ≡ 1) }
     ensures list { IfOk result (λ due. is_own_list due.1.setup.list ≡ true) }
     ensures place { OnOk result (generators.new.calls.value
         ≡ after_calls count generators.old.calls.value) }

@@ -15,10 +15,10 @@ use Rattle.files_command.specs.declared.keytab_file.ServiceKey.{ServiceKey}
 use Rattle.files_command.specs.KeytabFile.{entry_of}
 use Rattle.files_command.specs.Making.{granted_with}
 use Rattle.spnego_core.specs.declared.setup.AcceptSetup.{AcceptSetup}
-use Rattle.spnego_core.specs.declared.setup.InitSetup.{InitSetup}
 use Rattle.spnego_core.specs.declared.setup.MechCred.{MechCred}
 use Rattle.spnego_core.specs.declared.setup.MechCred.TheVariants as creds
-use Rattle.gss_client.specs.declared.start.Start.{Start}
+use Rattle.spnego_core.specs.Ends.{PlainSetup}
+use Rattle.gss_client.specs.Start.{StartSays}
 use Rattle.drill_plan.specs.Sessions.{kind_of, service_of}
 use Rattle.files_command.specs.Making.{TicketOpens}
 
@@ -83,7 +83,7 @@ drill_credential kinds.Kerberos = creds.Kerberos drill_ticket
 drill_credential kinds.Scram = creds.Scram user_name user_name
 
 -- what the client is begun with by a mechanism, at a moment, with 66 drawn octets
-abbrev pub drill_setup : MechKind → ℕ → List ℕ → InitSetup
+abbrev pub drill_setup : MechKind → ℕ → List ℕ → PlainSetup
 drill_setup kind stamp draws = record {
   list = drill_credential kind ∷ [];
   bindings = None;
@@ -92,7 +92,7 @@ drill_setup kind stamp draws = record {
 }
 
 -- what the client begins a session with; its first call has the number 1
-abbrev pub drill_start : ℕ → ℕ → List ℕ → Start
+abbrev pub drill_start : ℕ → ℕ → List ℕ → StartSays
 drill_start number stamp draws = record {
   setup = drill_setup (kind_of number) stamp draws;
   service = service_of number;

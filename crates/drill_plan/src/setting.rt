@@ -4,6 +4,7 @@ ghost use Rattle.std.specs.Prelude.{◌≡◌, IfOk, true, [], ◌∷◌};
 ghost use Rattle.gss_base.specs.declared.mech.MechKind.TheVariants as kinds;
 ghost use Rattle.scram_mech.specs.Verifiers.{line_text, line_with};
 ghost use Rattle.spnego_core.specs.InitMech.{is_own_list};
+ghost use Rattle.gss_client.specs.Start.{start_says};
 ghost use Rattle.drill_plan.specs.Generator.{octets_from, after_steps};
 ghost use Rattle.drill_plan.specs.Sessions.{moment_of, kind_of, service_of};
 ghost use Rattle.drill_plan.specs.Setting.{server_name, client_name, server_key, drill_keytab};
@@ -253,7 +254,7 @@ pub fn start_of(
     draw: &mut Generator,
 ) -> Result<Start, NoMemory>
     ensures is { IfOk result
-        (λ start. start ≡ drill_start number stamp (octets_from 66 draw.old.value)) }
+        (λ start. start_says start ≡ drill_start number stamp (octets_from 66 draw.old.value)) }
     ensures place { IfOk result (λ _. draw.new.value ≡ after_steps 66 draw.old.value) }
     ensures opens { IfOk result (λ _. CredOpens (kind_of number)) }
     ensures list { IfOk result (λ start. is_own_list start.setup.list ≡ true) }

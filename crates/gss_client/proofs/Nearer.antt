@@ -9,13 +9,6 @@ use Rattle.scram_mech.specs.declared.refusal.ScramRefusal.{ScramRefusal}
 use Rattle.krb_tokens.specs.declared.done.MechDone.{MechDone}
 use Rattle.spnego_msgs.specs.declared.neg_state.NegState.{NegState}
 use Rattle.spnego_msgs.specs.declared.neg_resp.NegResp.{NegResp}
-use Rattle.spnego_core.specs.declared.init_end.InitEnd.{InitEnd}
-use Rattle.spnego_core.specs.declared.init_end.InitEnd.TheVariants as ends
-use Rattle.spnego_core.specs.declared.init_end.InitStep.{InitStep}
-use Rattle.spnego_core.specs.declared.init_end.Opening.{Opening}
-use Rattle.spnego_core.specs.declared.init_end.Talk.{Talk}
-use Rattle.spnego_core.specs.declared.init_end.Talking.{Talking}
-use Rattle.spnego_core.specs.declared.init_end.Signed.{Signed}
 use Rattle.spnego_core.specs.declared.init_mech.InitMech.{InitMech}
 use Rattle.spnego_core.specs.declared.init_mech.InitMech.TheVariants as mechs
 use Rattle.spnego_core.specs.declared.init_mech.InitAnswer.TheVariants as answers
@@ -25,6 +18,9 @@ use Rattle.spnego_core.specs.declared.refusal.NegRefusal.{NegRefusal}
 use Rattle.spnego_core.specs.declared.refusal.NegRefusal.TheVariants.{Defective, Rejected, MechNotMine, MicMissing, MicBad}
 use Rattle.krb_tokens.specs.declared.end.Side.TheVariants.{Initiator}
 use Rattle.spnego_core.specs.declared.setup.MechCred.{MechCred}
+use Rattle.spnego_core.specs.Ends.{OpeningSays, TalkSays, TalkingSays, SignedSays, EndSays}
+use Rattle.spnego_core.specs.Ends as ends
+use Rattle.spnego_core.specs.EndSteps.{StepSays}
 use Rattle.spnego_core.specs.InitMech.{MechBegun, MechReplied, reply_answered, text_answered, final_answered, init_taken, init_begun, cred_for, kinds_of}
 use Rattle.ap_exchange.specs.Reply.{reply_taken, reply_found}
 use Rattle.spnego_core.specs.Choice.{is_first}
@@ -55,32 +51,32 @@ unfolding Nears
 nears-behind count makes found (Ok taken) p = p
 nears-behind count makes found (Err refusal) p = tt
 
-nears-ended : (count : ℕ) (talk : Talk) (outcome : Outcome) (listed completes : Bool) → 1 < count → Nears count (Ok (ended talk outcome listed completes))
+nears-ended : (count : ℕ) (talk : TalkSays) (outcome : Outcome) (listed completes : Bool) → 1 < count → Nears count (Ok (ended talk outcome listed completes))
 unfolding Nears
 nears-ended count talk outcome listed true h = tt
 nears-ended count talk outcome listed false h = h
 
-nears-looks : (count : ℕ) (talk : Talk) (outcome : Outcome) (state : Option NegState) (mic : Option (List ℕ)) → 1 < count → Nears count (looks talk outcome state mic)
+nears-looks : (count : ℕ) (talk : TalkSays) (outcome : Outcome) (state : Option NegState) (mic : Option (List ℕ)) → 1 < count → Nears count (looks talk outcome state mic)
 nears-looks count talk outcome state None h = either count (is_mic_owed talk) _ _ (refused count MicMissing) (nears-ended count talk outcome false (completes_now state false) h)
 nears-looks count talk outcome state (Some mic) h = either count (is_list_mic outcome Initiator (own_list talk.own) mic) _ _ (nears-behind count [] (mic_found outcome Initiator (own_list talk.own) mic ∷ []) _ (nears-ended count talk outcome true (completes_now state true) h)) (refused count MicBad)
 
-nears-answered : (count : ℕ) (talk : Talk) (state : Option NegState) (mic : Option (List ℕ)) (found : List MechMaking) (r : Result MechDone ApRefusal) → 1 < count → Nears count (ran talk state mic (reply_answered found r))
+nears-answered : (count : ℕ) (talk : TalkSays) (state : Option NegState) (mic : Option (List ℕ)) (found : List MechMaking) (r : Result MechDone ApRefusal) → 1 < count → Nears count (ran talk state mic (reply_answered found r))
 nears-answered count talk state mic found (Ok made) h = nears-behind count [] found _ (nears-looks count talk _ state mic h)
 nears-answered count talk state mic found (Err refusal) h = refused count _
 
-nears-more : (count : ℕ) (talk : Talk) (mech : InitMech) (token : List ℕ) (state : Option NegState) (mic : Option (List ℕ)) → taken_by mech + 1 < count → Nears count (told talk state mic (answers.More mech token))
+nears-more : (count : ℕ) (talk : TalkSays) (mech : InitMech) (token : List ℕ) (state : Option NegState) (mic : Option (List ℕ)) → taken_by mech + 1 < count → Nears count (told talk state mic (answers.More mech token))
 unfolding Nears
 nears-more count talk mech token state mic h = either count (says_completed state) _ _ (refused count (Defective 0)) h
 
-nears-text : (count : ℕ) (talk : Talk) (state : Option NegState) (mic : Option (List ℕ)) (r : Result InitAnswered ScramRefusal) → 2 < count → Nears count (ran talk state mic (text_answered r))
+nears-text : (count : ℕ) (talk : TalkSays) (state : Option NegState) (mic : Option (List ℕ)) (r : Result InitAnswered ScramRefusal) → 2 < count → Nears count (ran talk state mic (text_answered r))
 nears-text count talk state mic (Ok answered) h = nears-behind count answered.makes [] _ (nears-more count talk (mechs.Proof answered.end) answered.token state mic h)
 nears-text count talk state mic (Err refusal) h = refused count _
 
-nears-final : (count : ℕ) (talk : Talk) (state : Option NegState) (mic : Option (List ℕ)) (r : Result InitFinished ScramRefusal) → 1 < count → Nears count (ran talk state mic (final_answered r))
+nears-final : (count : ℕ) (talk : TalkSays) (state : Option NegState) (mic : Option (List ℕ)) (r : Result InitFinished ScramRefusal) → 1 < count → Nears count (ran talk state mic (final_answered r))
 nears-final count talk state mic (Ok finished) h = nears-behind count [] finished.found _ (nears-looks count talk _ state mic h)
 nears-final count talk state mic (Err refusal) h = refused count _
 
-nears-run : (count size : ℕ) (talk : Talk) (mech : InitMech) (state : Option NegState) (token mic : Option (List ℕ)) → taken_by mech < count → Nears count (run size talk mech state token mic)
+nears-run : (count size : ℕ) (talk : TalkSays) (mech : InitMech) (state : Option NegState) (token mic : Option (List ℕ)) → taken_by mech < count → Nears count (run size talk mech state token mic)
 unfolding run init_taken
 nears-run count size talk mech state None mic h = refused count _
 nears-run count size talk (mechs.Kerberos end) state (Some token) mic h = nears-answered count talk state mic (map typed (reply_found end token)) (reply_taken end token) h
@@ -93,56 +89,56 @@ few-taken (mechs.Kerberos end) = omega arith
 few-taken (mechs.Scram end) = omega arith
 few-taken (mechs.Proof end) = omega arith
 
-nears-switched : (count : ℕ) (talk : Talk) (begun : Result MechBegun MechRefusal) → 3 < count → Nears count (switched talk begun)
+nears-switched : (count : ℕ) (talk : TalkSays) (begun : Result MechBegun MechRefusal) → 3 < count → Nears count (switched talk begun)
 unfolding Nears
 nears-switched count talk (Ok begun) h = omega (arith, few-taken begun.mech, h)
 nears-switched count talk (Err refusal) h = tt
 
-nears-other : (count : ℕ) (talk : Talk) (cred : Option MechCred) → 3 < count → Nears count (begins_other talk cred)
+nears-other : (count : ℕ) (talk : TalkSays) (cred : Option MechCred) → 3 < count → Nears count (begins_other talk cred)
 nears-other count talk None h = refused count _
 nears-other count talk (Some cred) h = nears-switched count talk (init_begun talk.own cred) h
 
-nears-switches : (count : ℕ) (talk : Talk) (state : Option NegState) (token : Option (List ℕ)) → 3 < count → Nears count (switches talk state token)
+nears-switches : (count : ℕ) (talk : TalkSays) (state : Option NegState) (token : Option (List ℕ)) → 3 < count → Nears count (switches talk state token)
 nears-switches count talk state (Some token) h = refused count _
 nears-switches count talk state None h = either count (says_completed state) _ _ (refused count (Defective 0)) (nears-other count talk (cred_for talk.own.list talk.chosen) h)
 
-nears-picks : (size : ℕ) (opening : Opening) (kind : MechKind) (state : Option NegState) (token mic : Option (List ℕ)) → Nears 4 (picks size opening kind state token mic)
+nears-picks : (size : ℕ) (opening : OpeningSays) (kind : MechKind) (state : Option NegState) (token mic : Option (List ℕ)) → Nears 4 (picks size opening kind state token mic)
 unfolding picks
 nears-picks size opening kind state token mic =
     either 4 (is_first (kinds_of opening.own.list) kind) _ _ (nears-run 4 size (talk_with opening.own kind state) opening.mech state token mic (omega (arith, few-taken opening.mech))) (nears-switches 4 (talk_with opening.own kind state) state token (omega arith))
 
-nears-opened : (size : ℕ) (opening : Opening) (resp : NegResp) → Nears 4 (opened size opening resp)
+nears-opened : (size : ℕ) (opening : OpeningSays) (resp : NegResp) → Nears 4 (opened size opening resp)
 unfolding opened
 nears-opened size opening resp =
     after 4 (due Rejected (not (rejects resp.state))) _ (λ goes. after 4 (or_refuse (Defective size) resp.state) _ (λ state. after 4 (or_refuse (Defective size) resp.mech) _ (λ oid. after 4 (or_refuse MechNotMine (own_kind opening.own.list (mech_of oid))) _ (λ kind. nears-picks size opening kind (Some state) resp.token resp.mic))))
 
-nears-talked : (size : ℕ) (talking : Talking) (resp : NegResp) → Nears (taken_by talking.mech + 1) (talked size talking resp)
+nears-talked : (size : ℕ) (talking : TalkingSays) (resp : NegResp) → Nears (taken_by talking.mech + 1) (talked size talking resp)
 unfolding talked
 nears-talked size talking resp =
     after (taken_by talking.mech + 1) (due Rejected (not (rejects resp.state))) _ (λ goes. after (taken_by talking.mech + 1) (due MechNotMine (is_chosen talking.talk.chosen resp.mech)) _ (λ same. nears-run (taken_by talking.mech + 1) size (talk_after talking.talk resp.state) talking.mech resp.state resp.token resp.mic (omega arith)))
 
-nears-settles : (signed : Signed) (listed completes : Bool) → Nears 1 (settles signed listed completes)
+nears-settles : (signed : SignedSays) (listed completes : Bool) → Nears 1 (settles signed listed completes)
 unfolding Nears
 nears-settles signed listed true = tt
 nears-settles signed listed false = tt
 
-nears-again : (signed : Signed) (state : Option NegState) (mic : Option (List ℕ)) → Nears 1 (looks_again signed state mic)
+nears-again : (signed : SignedSays) (state : Option NegState) (mic : Option (List ℕ)) → Nears 1 (looks_again signed state mic)
 nears-again signed state None = nears-settles signed signed.listed (completes_later state)
 nears-again signed state (Some mic) = either 1 (is_list_mic signed.outcome Initiator (own_list signed.talk.own) mic) _ _ (nears-behind 1 [] (mic_found signed.outcome Initiator (own_list signed.talk.own) mic ∷ []) _ (nears-settles signed true (completes_later state))) (refused 1 MicBad)
 
-nears-closed : (signed : Signed) (resp : NegResp) → Nears 1 (closed signed resp)
+nears-closed : (signed : SignedSays) (resp : NegResp) → Nears 1 (closed signed resp)
 unfolding closed
 nears-closed signed resp = after 1 (due Rejected (not (rejects resp.state))) _ (λ goes. after 1 (due MechNotMine (is_chosen signed.talk.chosen resp.mech)) _ (λ same. nears-again signed resp.state resp.mic))
 
-nears : (end : InitEnd) (token : List ℕ) → Nears (replies_left end) (init_step end token)
+nears : (end : EndSays) (token : List ℕ) → Nears (replies_left end) (init_step end token)
 nears (ends.Opens opening) token = after 4 (resp_read token) _ (λ resp. nears-opened _ opening resp)
 nears (ends.Talks talking) token = after (taken_by talking.mech + 1) (resp_read token) _ (λ resp. nears-talked _ talking resp)
 nears (ends.Signed signed) token = after 1 (last_read token) _ (λ resp. nears-closed signed resp)
 
-stepped : (count : ℕ) (r : Result Initiated NegRefusal) (step : InitStep) → Nears count r → step_of r ≡ Ok step → IsNearer count step
+stepped : (count : ℕ) (r : Result Initiated NegRefusal) (step : StepSays) → Nears count r → step_of r ≡ Ok step → IsNearer count step
 unfolding Nears
-stepped count (Ok taken) step p e = let is : taken.step ≡ step = cc in subst (λ (s : InitStep). IsNearer count s) is p
+stepped count (Ok taken) step p e = let is : taken.step ≡ step = cc in subst (λ (s : StepSays). IsNearer count s) is p
 stepped count (Err refusal) step p e = cc
 
-pub nearer : (end : InitEnd) (token : List ℕ) (step : InitStep) → step_of (init_step end token) ≡ Ok step → IsNearer (replies_left end) step
+pub nearer : (end : EndSays) (token : List ℕ) (step : StepSays) → step_of (init_step end token) ≡ Ok step → IsNearer (replies_left end) step
 nearer end token step e = stepped (replies_left end) (init_step end token) step (nears end token) e

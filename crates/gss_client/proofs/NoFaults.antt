@@ -1,6 +1,6 @@
 -- No judgement of a reply is a fault of the link.
 use Rattle.std.specs.Prelude.{◌==◌, nat_le, not}
-use Rattle.std.proofs.Common.{◌≡◌, length, ◌≢◌, ℕ, Bool, true, false, List, sym, ◌∙◌, Result, Ok, Err, IsErrOf}
+use Rattle.std.proofs.Common.{◌≡◌, length, ◌≢◌, ℕ, Bool, true, false, List, sym, ◌∙◌, Result, Ok, Err, IsErrOf, ap}
 use Rattle.sec_base.specs.Answers.{Gives}
 use Rattle.rpc_msgs.specs.Replies.{ReplyValue, accepted, mismatch, auth_error}
 use Rattle.rpc_msgs.specs.ReplyReading.{reply_at}
@@ -13,14 +13,12 @@ use Rattle.rpcsec_bodies.specs.Opening.{unprotected}
 use Rattle.rpcsec_msgs.specs.InitRes.{init_res_at}
 use Rattle.spnego_core.specs.Initiating.{init_step, step_of}
 use Rattle.spnego_core.specs.Outcome.{token_end}
-use Rattle.gss_client.specs.declared.creation.Created.TheVariants as created
 use Rattle.rpcsec_msgs.specs.declared.init_res.InitRes.{InitRes}
-use Rattle.spnego_core.specs.declared.init_end.InitEnd.{InitEnd}
-use Rattle.spnego_core.specs.declared.init_end.InitStep.{InitStep}
-use Rattle.spnego_core.specs.declared.init_end.InitStep.TheVariants as steps
 use Rattle.spnego_core.specs.declared.outcome.Outcome.{Outcome}
 use Rattle.spnego_core.specs.declared.refusal.NegRefusal.{NegRefusal}
-use Rattle.gss_client.specs.declared.creation.Created.{Created}
+use Rattle.spnego_core.specs.Ends.{EndSays}
+use Rattle.spnego_core.specs.EndSteps.{StepSays}
+use Rattle.spnego_core.specs.EndSteps as steps
 use Rattle.gss_client.specs.declared.refusal.ClientRefusal.{ClientRefusal}
 use Rattle.gss_client.specs.declared.refusal.ClientRefusal.TheVariants.{LinkFault, NoMemory}
 use Rattle.rpcsec_bodies.specs.declared.service.Service.{Service}
@@ -29,6 +27,8 @@ use Rattle.gss_client.specs.declared.refusal.Denial.TheVariants.{Rpc, Auth, Acce
 use Rattle.gss_client.specs.declared.refusal.Denial.{Denial}
 use Rattle.gss_client.specs.declared.refusal.ReplyWhy.{ReplyWhy}
 use Rattle.gss_client.specs.declared.refusal.ReplyWhy.TheVariants.{Form, Xid, Verifier, Steps, Width, Body, Number}
+use Rattle.gss_client.specs.Creation.{CreatedSays}
+use Rattle.gss_client.specs.Creation as created
 use Rattle.gss_client.specs.Judging.{AnswerValue, GrantedValue, ◌>>=◌, due, xid_of, place_of, formed, granted, answer_in, is_verified, placed, granted_in, negotiated, by_step, creation_step, verified_in, or_refused, call_result, destroyed_in}
 
 NoFault : {A : Type 0} → Result A ClientRefusal → Type 0
@@ -84,12 +84,12 @@ unfolding granted_in
 granted_in-clear xid octets =
     follow _ _ (answer-clear xid octets) (λ (answer : AnswerValue). follow _ _ (due-clear (Refused (Accept answer.stat)) (answer.stat == 0) (denied (Accept answer.stat))) (λ success. follow _ _ (placed-clear answer (init_res_at answer.result)) (λ (result : InitRes). follow _ _ (due-clear (Refused (Gss result.major result.minor)) (nat_le result.major 1) (denied (Gss result.major result.minor))) (λ status. fine (record { answer = answer; result = result })))))
 
-negotiated-clear : (r : Result InitStep NegRefusal) → NoFault (negotiated r)
+negotiated-clear : (r : Result StepSays NegRefusal) → NoFault (negotiated r)
 unfolding NoFault
 negotiated-clear (Ok step) = tt
 negotiated-clear (Err refusal) = unheard refusal
 
-by_step-clear : (g : GrantedValue) (step : InitStep) → NoFault (by_step g step)
+by_step-clear : (g : GrantedValue) (step : StepSays) → NoFault (by_step g step)
 unfolding by_step
 by_step-clear g (steps.More end token) =
     follow _ _ (due-clear (BadReply Steps) (g.result.major == 1) (bad Steps)) (λ u. fine (created.Going (record { end = end; handle = g.result.context; token = token })))
@@ -98,7 +98,7 @@ by_step-clear g (steps.Done outcome) =
     follow _ _ (due-clear (BadReply Width) (not (g.result.window == 0)) (bad Width)) (λ v.
     follow _ _ (due-clear (BadReply Verifier) (is_verified outcome g.answer g.result.window) (bad Verifier)) (λ w. fine (created.Stands outcome g.result.context))))
 
-creation-clear : (end : InitEnd) (xid : ℕ) (octets : List ℕ) → NoFault (creation_step end xid octets)
+creation-clear : (end : EndSays) (xid : ℕ) (octets : List ℕ) → NoFault (creation_step end xid octets)
 unfolding creation_step
 creation-clear end xid octets = follow _ _ (granted_in-clear xid octets) (λ (g : GrantedValue). follow _ _ (negotiated-clear (step_of (init_step end g.result.token))) (λ step. by_step-clear g step))
 
@@ -123,27 +123,28 @@ unfolding destroyed_in
 destroyed-clear outcome number xid octets = follow _ _ (verified-clear outcome number xid octets) (λ (answer : AnswerValue). due-clear (BadReply (Form (place_of answer 0))) (length answer.result == 0) (bad (Form (place_of answer 0))))
 
 -- an answer of the code
-none : {A : Type 0} (r answer : Result A ClientRefusal) → NoFault answer → Gives NoMemory (λ x. x) r answer → IsErrOf r LinkFault → ⊥
+none : {A B : Type 0} (view : A → B) (r : Result A ClientRefusal) (answer : Result B ClientRefusal) → NoFault answer → Gives NoMemory view r answer → IsErrOf r LinkFault → ⊥
 unfolding NoFault
-none (Ok x) answer h g e = cc
-none (Err refusal) answer h g e =
+none view (Ok x) answer h g e = cc
+none view (Err refusal) answer h g e =
     let clear : LinkFault ≢ NoMemory = λ f. cc in
     let is : refusal ≡ LinkFault = cc in
-    never answer h (g (λ f. clear (sym is ∙ f)) ∙ e)
+    let there : answer ≡ Err LinkFault = g (λ f. clear (sym is ∙ f)) ∙ ap (λ (d : ClientRefusal). Err d) is in
+    never answer h there
   where
-    never : {B : Type 0} (a : Result B ClientRefusal) → NoFault a → a ≡ Err LinkFault → ⊥
+    never : {C : Type 0} (a : Result C ClientRefusal) → NoFault a → a ≡ Err LinkFault → ⊥
     never (Ok x) h f = cc
     never (Err d) h f = h cc
 
 pub no-call-fault : (outcome : Outcome) (service : Service) (number xid : ℕ) (octets : List ℕ) (r : Result (List ℕ) ClientRefusal) → Gives NoMemory (λ x. x) r (call_result outcome service number xid octets) → IsErrOf r LinkFault → ⊥
-no-call-fault outcome service number xid octets r g e = none r (call_result outcome service number xid octets) (call-clear outcome service number xid octets) g e
+no-call-fault outcome service number xid octets r g e = none (λ x. x) r (call_result outcome service number xid octets) (call-clear outcome service number xid octets) g e
 
 pub no-destroy-fault : (outcome : Outcome) (number xid : ℕ) (octets : List ℕ) (r : Result (Unit {0}) ClientRefusal) → r ≡ destroyed_in outcome number xid octets → IsErrOf r LinkFault → ⊥
-no-destroy-fault outcome number xid octets r g e = none r (destroyed_in outcome number xid octets) (destroyed-clear outcome number xid octets) (same-gives r _ g) e
+no-destroy-fault outcome number xid octets r g e = none (λ x. x) r (destroyed_in outcome number xid octets) (destroyed-clear outcome number xid octets) (same-gives r _ g) e
   where
     same-gives : {A : Type 0} (r a : Result A ClientRefusal) → r ≡ a → Gives NoMemory (λ x. x) r a
     same-gives (Ok x) a g = sym g
     same-gives (Err d) a g = λ h. sym g
 
-pub no-creation-fault : (end : InitEnd) (xid : ℕ) (octets : List ℕ) (r : Result Created ClientRefusal) → Gives NoMemory (λ x. x) r (creation_step end xid octets) → IsErrOf r LinkFault → ⊥
-no-creation-fault end xid octets r g e = none r (creation_step end xid octets) (creation-clear end xid octets) g e
+pub no-creation-fault : {A : Type 0} (view : A → CreatedSays) (end : EndSays) (xid : ℕ) (octets : List ℕ) (r : Result A ClientRefusal) → Gives NoMemory view r (creation_step end xid octets) → IsErrOf r LinkFault → ⊥
+no-creation-fault view end xid octets r g e = none view r (creation_step end xid octets) (creation-clear end xid octets) g e

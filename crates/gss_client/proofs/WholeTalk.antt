@@ -8,7 +8,7 @@ use Rattle.gss_client.specs.declared.conversation.Parting.TheVariants.{Refused}
 use Rattle.gss_client.specs.declared.procedure.Procedure.{Procedure}
 use Rattle.gss_client.specs.declared.refusal.ClientRefusal.{ClientRefusal}
 use Rattle.gss_client.specs.declared.refusal.ClientRefusal.TheVariants.{LinkFault, NoMemory}
-use Rattle.gss_client.specs.declared.start.Start.{Start}
+use Rattle.gss_client.specs.Start.{StartSays}
 use Rattle.gss_client.specs.Conversation.{converses, Talk, by_session, by_creation, talk}
 use Rattle.gss_client.specs.Conversing.{IsFront, Conferred, Talked}
 use Rattle.gss_client.specs.Exchanging.{Done, Stopped}
@@ -21,17 +21,17 @@ use Rattle.gss_client.proofs.Parts.{went-again}
 abbrev by_said : ℕ → Procedure → List ℕ → List ℕ → Said SessionState → Talk
 by_said times procedure args draws one = by_creation times procedure args draws one.written one.rest one.answer
 
-talk-is : (start : Start) (times : ℕ) (procedure : Procedure) (args draws stream : List ℕ) → talk start times procedure args draws stream ≡ by_said times procedure args draws (created_from start stream)
+talk-is : (start : StartSays) (times : ℕ) (procedure : Procedure) (args draws stream : List ℕ) → talk start times procedure args draws stream ≡ by_said times procedure args draws (created_from start stream)
 unfolding talk
 talk-is start times procedure args draws stream = refl
 
-conversed-then : (tells : Bool) (given given' : List ℕ) (start : Start) (times : ℕ) (procedure : Procedure) (args : List ℕ) (a b c : Wire) (s : SessionState) (results : List (List ℕ)) (parting : Parting) (later : List ℕ) (d : Done (created_from start) a b s) (f : Conferred tells given given' times procedure args s b c results parting)
+conversed-then : (tells : Bool) (given given' : List ℕ) (start : StartSays) (times : ℕ) (procedure : Procedure) (args : List ℕ) (a b c : Wire) (s : SessionState) (results : List (List ℕ)) (parting : Parting) (later : List ℕ) (d : Done (created_from start) a b s) (f : Conferred tells given given' times procedure args s b c results parting)
     → talk start times procedure args (f.drawn ++ later) ((d.took ++ f.took) ++ c.coming) ≡ by_session d.wrote (Some s.outcome) (converses times procedure args s (f.drawn ++ later) (f.took ++ c.coming))
 conversed-then tells given given' start times procedure args a b c s results parting later d f =
     talk-is start times procedure args (f.drawn ++ later) ((d.took ++ f.took) ++ c.coming)
     ∙ ap (by_said times procedure args (f.drawn ++ later)) (ap (created_from start) (append_assoc d.took f.took c.coming) ∙ d.whole (f.took ++ c.coming))
 
-held : (tells : Bool) (given given' : List ℕ) (start : Start) (times : ℕ) (procedure : Procedure) (args : List ℕ) (a b c : Wire) (s : SessionState) (results : List (List ℕ)) (parting : Parting) → Done (created_from start) a b s → Conferred tells given given' times procedure args s b c results parting → Talked tells given given' start times procedure args a c (Some s.outcome) results parting
+held : (tells : Bool) (given given' : List ℕ) (start : StartSays) (times : ℕ) (procedure : Procedure) (args : List ℕ) (a b c : Wire) (s : SessionState) (results : List (List ℕ)) (parting : Parting) → Done (created_from start) a b s → Conferred tells given given' times procedure args s b c results parting → Talked tells given given' start times procedure args a c (Some s.outcome) results parting
 held tells given given' start times procedure args a b c s results parting d f =
     let all : (later : List ℕ) → talk start times procedure args (f.drawn ++ later) ((d.took ++ f.took) ++ c.coming) ≡ by_session d.wrote (Some s.outcome) (converses times procedure args s (f.drawn ++ later) (f.took ++ c.coming)) =
     λ later. conversed-then tells given given' start times procedure args a b c s results parting later d f in
@@ -56,7 +56,7 @@ held tells given given' start times procedure args a b c s results parting d f =
       heard = λ unrefused later. ap (λ (t : Talk). t.rest) (all later) ∙ f.heard unrefused later;
     }
 
-pub talked : (tells : Bool) (given given' : List ℕ) (start : Start) (times : ℕ) (procedure : Procedure) (args : List ℕ) (a b c : Wire) (s : SessionState) (outcome : Outcome) → outcome ≡ s.outcome → (results : List (List ℕ)) (parting : Parting) → Done (created_from start) a b s → Conferred tells given given' times procedure args s b c results parting → Talked tells given given' start times procedure args a c (Some outcome) results parting
+pub talked : (tells : Bool) (given given' : List ℕ) (start : StartSays) (times : ℕ) (procedure : Procedure) (args : List ℕ) (a b c : Wire) (s : SessionState) (outcome : Outcome) → outcome ≡ s.outcome → (results : List (List ℕ)) (parting : Parting) → Done (created_from start) a b s → Conferred tells given given' times procedure args s b c results parting → Talked tells given given' start times procedure args a c (Some outcome) results parting
 talked tells given given' start times procedure args a b c s outcome is results parting d f =
     subst (λ (o : Outcome). Talked tells given given' start times procedure args a c (Some o) results parting) (sym is) (held tells given given' start times procedure args a b c s results parting d f)
 
@@ -65,7 +65,7 @@ further : (times : ℕ) (procedure : Procedure) (args draws written rest : List 
 further times procedure args draws written rest (Ok s) = ((converses times procedure args s draws rest).written, refl)
 further times procedure args draws written rest (Err refusal) = ([], sym (append-nil written))
 
-unheld : (tells : Bool) (given : List ℕ) (start : Start) (times : ℕ) (procedure : Procedure) (args : List ℕ) (a c : Wire) (refusal : ClientRefusal) → Stopped (created_from start) a c refusal → Talked tells given given start times procedure args a c None [] (Refused refusal)
+unheld : (tells : Bool) (given : List ℕ) (start : StartSays) (times : ℕ) (procedure : Procedure) (args : List ℕ) (a c : Wire) (refusal : ClientRefusal) → Stopped (created_from start) a c refusal → Talked tells given given start times procedure args a c None [] (Refused refusal)
 unheld tells given start times procedure args a c refusal d =
     let one : Said SessionState = created_from start (d.took ++ c.coming) in
     let all : (later : List ℕ) → talk start times procedure args later (d.took ++ c.coming) ≡ by_said times procedure args later one =
@@ -98,5 +98,5 @@ unheld tells given start times procedure args a c refusal d =
       heard = λ unrefused. absurd (unrefused refusal refl);
     }
 
-pub untalked : (tells : Bool) (given : List ℕ) (start : Start) (times : ℕ) (procedure : Procedure) (args : List ℕ) (a c : Wire) (refusal : ClientRefusal) (results : List (List ℕ)) → results ≡ [] → Stopped (created_from start) a c refusal → Talked tells given given start times procedure args a c None results (Refused refusal)
+pub untalked : (tells : Bool) (given : List ℕ) (start : StartSays) (times : ℕ) (procedure : Procedure) (args : List ℕ) (a c : Wire) (refusal : ClientRefusal) (results : List (List ℕ)) → results ≡ [] → Stopped (created_from start) a c refusal → Talked tells given given start times procedure args a c None results (Refused refusal)
 untalked tells given start times procedure args a c refusal results none d = subst (λ (rs : List (List ℕ)). Talked tells given given start times procedure args a c None rs (Refused refusal)) (sym none) (unheld tells given start times procedure args a c refusal d)

@@ -9,7 +9,7 @@ use Rattle.gss_client.specs.declared.conversation.Parting.TheVariants.{Finished,
 use Rattle.gss_client.specs.declared.conversation.Parting.TheVariants.{Refused}
 use Rattle.gss_client.specs.declared.procedure.Procedure.{Procedure}
 use Rattle.gss_client.specs.declared.refusal.ClientRefusal.{ClientRefusal}
-use Rattle.gss_client.specs.declared.start.Start.{Start}
+use Rattle.gss_client.specs.Start.{StartSays}
 use Rattle.gss_client.specs.Procedure.{procedure_number, is_result}
 use Rattle.gss_client.specs.Session.{SessionState}
 use Rattle.gss_client.specs.Talk.{created_from, calls, destroys}
@@ -115,7 +115,7 @@ by_creation times procedure args draws written rest (Err refusal) =
     }
 
 -- the creation of a context from this start, so many calls, and the destruction
-unfoldable pub talk : Start → ℕ → Procedure → List ℕ → List ℕ → List ℕ → Talk
+unfoldable pub talk : StartSays → ℕ → Procedure → List ℕ → List ℕ → List ℕ → Talk
 talk start times procedure args draws stream =
     let said : Said SessionState = created_from start stream in
     by_creation times procedure args draws said.written said.rest said.answer

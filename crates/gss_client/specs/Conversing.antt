@@ -7,7 +7,7 @@ use Rattle.gss_client.specs.declared.conversation.Parting.TheVariants.{Refused}
 use Rattle.gss_client.specs.declared.procedure.Procedure.{Procedure}
 use Rattle.gss_client.specs.declared.refusal.ClientRefusal.{ClientRefusal}
 use Rattle.gss_client.specs.declared.refusal.ClientRefusal.TheVariants.{LinkFault, NoMemory}
-use Rattle.gss_client.specs.declared.start.Start.{Start}
+use Rattle.gss_client.specs.Start.{StartSays}
 use Rattle.gss_client.specs.Conversation.{Conversed, converses, Talk, talk}
 use Rattle.gss_client.specs.Exchanging.{Went, Done, Stopped}
 use Rattle.gss_client.specs.Session.{SessionState}
@@ -72,7 +72,7 @@ pub record IsTalkFront (wrote : List ℕ) (outcome : Option Outcome) (results : 
   pub results_are : IsFront results t.results
 
 -- the same for the whole talk
-pub record Talked (tells : Bool) (given given' : List ℕ) (start : Start)
+pub record Talked (tells : Bool) (given given' : List ℕ) (start : StartSays)
     (times : ℕ) (procedure : Procedure) (args : List ℕ) (old new : Wire) (outcome : Option Outcome)
     (results : List (List ℕ)) (parting : Parting) : Type 0 where
   pub took : List ℕ

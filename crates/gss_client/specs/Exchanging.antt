@@ -1,11 +1,10 @@
 -- What a part of a talk did over a link that tells its octets.
 use Rattle.std.specs.Prelude.{◌≡◌, ◌≢◌, ◌≤◌, ℕ, List, ◌++◌, length, Result, Ok, Err}
 use Rattle.sec_base.specs.Link.{Wire}
-use Rattle.gss_client.specs.declared.creation.Created.{Created}
-use Rattle.gss_client.specs.declared.creation.Created.TheVariants as created
-use Rattle.gss_client.specs.declared.creation.Offer.{Offer}
 use Rattle.gss_client.specs.declared.refusal.ClientRefusal.{ClientRefusal}
 use Rattle.gss_client.specs.declared.refusal.ClientRefusal.TheVariants.{LinkFault, NoMemory}
+use Rattle.gss_client.specs.Creation.{OfferSays, CreatedSays}
+use Rattle.gss_client.specs.Creation as created
 use Rattle.gss_client.specs.Talking.{Talking, said}
 
 -- `took` was taken, of what was there or came meanwhile, and `wrote` was written
@@ -46,11 +45,11 @@ abbrev pub IsHandle : List ℕ → Type 0
 IsHandle handle = length handle ≤ 64
 
 -- a handle and a token for which a creation call has room
-pub record FitsOffer (offer : Offer) : Type 0 where
+pub record FitsOffer (offer : OfferSays) : Type 0 where
   pub handle : IsHandle offer.handle
   pub token : length offer.token ≤ 65536
 
 -- the same of what a reply leads to: a further offer, or the handle of a context that stands
-abbrev pub FitsCreated : Created → Type 0
+abbrev pub FitsCreated : CreatedSays → Type 0
 FitsCreated (created.Going offer) = FitsOffer offer
 FitsCreated (created.Stands outcome handle) = IsHandle handle

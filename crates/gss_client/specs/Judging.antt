@@ -17,23 +17,23 @@ use Rattle.rpcsec_bodies.specs.declared.service.Service.{Service}
 use Rattle.rpcsec_bodies.specs.Opening.{unprotected}
 use Rattle.rpcsec_msgs.specs.InitRes.{init_res_at}
 use Rattle.rpcsec_msgs.specs.declared.init_res.InitRes.{InitRes}
-use Rattle.spnego_core.specs.declared.init_end.InitEnd.{InitEnd}
-use Rattle.spnego_core.specs.declared.init_end.InitStep.{InitStep}
-use Rattle.spnego_core.specs.declared.init_end.InitStep.TheVariants as steps
 use Rattle.spnego_core.specs.declared.outcome.Outcome.{Outcome}
 use Rattle.spnego_core.specs.declared.refusal.NegRefusal.{NegRefusal}
+use Rattle.spnego_core.specs.Ends.{EndSays}
+use Rattle.spnego_core.specs.EndSteps.{StepSays}
+use Rattle.spnego_core.specs.EndSteps as steps
 use Rattle.spnego_core.specs.Initiating.{init_step, step_of}
 use Rattle.spnego_core.specs.Outcome.{token_end}
 use Rattle.gss_client.specs.declared.answer.Answer.{Answer}
 use Rattle.gss_client.specs.declared.creation.Granted.{Granted}
-use Rattle.gss_client.specs.declared.creation.Created.{Created}
-use Rattle.gss_client.specs.declared.creation.Created.TheVariants as created
 use Rattle.gss_client.specs.declared.refusal.ClientRefusal.{ClientRefusal}
 use Rattle.gss_client.specs.declared.refusal.ClientRefusal.TheVariants.{Refused, Negotiation}
 use Rattle.gss_client.specs.declared.refusal.ClientRefusal.TheVariants.{BadReply, NoMemory}
 use Rattle.gss_client.specs.declared.refusal.Denial.TheVariants.{Rpc, Auth, Accept, Gss}
 use Rattle.gss_client.specs.declared.refusal.ReplyWhy.TheVariants.{Form, Xid, Verifier, Steps}
 use Rattle.gss_client.specs.declared.refusal.ReplyWhy.TheVariants.{Width, Body, Number}
+use Rattle.gss_client.specs.Creation.{CreatedSays}
+use Rattle.gss_client.specs.Creation as created
 use Rattle.gss_client.specs.Session.{SessionState, session_after}
 
 -- the rules that follow, unless one before applied
@@ -136,7 +136,7 @@ granted_in xid octets = do
   Ok (record { answer = answer; result = result })
 
 -- C8
-abbrev pub negotiated : Result InitStep NegRefusal → Result InitStep ClientRefusal
+abbrev pub negotiated : Result StepSays NegRefusal → Result StepSays ClientRefusal
 negotiated (Ok step) = Ok step
 negotiated (Err refusal) = Err (Negotiation refusal)
 
@@ -148,7 +148,7 @@ done_by g outcome = do
   due (BadReply Verifier) (is_verified outcome g.answer g.result.window)
 
 -- what the end's step leads to
-unfoldable pub by_step : GrantedValue → InitStep → Result Created ClientRefusal
+unfoldable pub by_step : GrantedValue → StepSays → Result CreatedSays ClientRefusal
 by_step g (steps.More end token) = do
   -- C9
   unfinished ← due (BadReply Steps) (g.result.major == CONTINUE_NEEDED)
@@ -162,7 +162,7 @@ by_step g (steps.Done outcome) = do
 
 -- C2 to C11: what a record leads to as the reply to a creation call, whose token the end takes
 -- (RFC 2203 section 5.2.3)
-unfoldable pub creation_step : InitEnd → ℕ → List ℕ → Result Created ClientRefusal
+unfoldable pub creation_step : EndSays → ℕ → List ℕ → Result CreatedSays ClientRefusal
 creation_step end xid octets = do
   g ← granted_in xid octets
   step ← negotiated (step_of (init_step end g.result.token))

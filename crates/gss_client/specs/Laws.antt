@@ -9,7 +9,7 @@ use Rattle.rpc_msgs.specs.Words.{word}
 use Rattle.rpcsec_bodies.specs.Carried.{IsBody}
 use Rattle.rpcsec_bodies.specs.declared.service.Service.{Service}
 use Rattle.spnego_core.specs.Outcome.{token_end}
-use Rattle.gss_client.specs.declared.creation.Offer.{Offer}
+use Rattle.gss_client.specs.Creation.{OfferSays}
 use Rattle.gss_client.specs.Judging.{result_taken}
 use Rattle.gss_client.specs.Rank.{replies_left}
 use Rattle.gss_client.specs.Session.{SessionState}
@@ -34,6 +34,7 @@ ResultLaw = (s next : SessionState) (octets result : List ℕ)
 -- a creation that is begun with as many turns as its end takes replies is the same by every greater
 -- count: it never ends for want of turns
 abbrev pub CountLaw : Type 0
-CountLaw = (left : ℕ) (service : Service) (first xid proc : ℕ) (offer : Offer) (stream : List ℕ)
-    → replies_left offer.end ≤ left → creates left service first xid proc offer stream
+CountLaw = (left : ℕ) (service : Service) (first xid proc : ℕ) (offer : OfferSays)
+    (stream : List ℕ) → replies_left offer.end ≤ left
+    → creates left service first xid proc offer stream
     ≡ creates (replies_left offer.end) service first xid proc offer stream

@@ -1,4 +1,5 @@
 pub mod Calling
+pub mod Creation
 pub mod Conversation
 pub mod Conversing
 pub mod Exchanging
@@ -8,5 +9,6 @@ pub mod Laws
 pub mod Procedure
 pub mod Rank
 pub mod Session
+pub mod Start
 pub mod Talk
 pub mod Talking

@@ -1,13 +1,13 @@
 -- How many replies a negotiating end may still take.
 use Rattle.std.specs.Prelude.{ℕ, ◌<◌, ◌+◌}
-use Rattle.spnego_core.specs.declared.init_end.InitEnd.{InitEnd}
-use Rattle.spnego_core.specs.declared.init_end.InitEnd.TheVariants as ends
 use Rattle.spnego_core.specs.declared.init_mech.InitMech.{InitMech}
 use Rattle.spnego_core.specs.declared.init_mech.InitMech.TheVariants as mechs
-use Rattle.spnego_core.specs.declared.init_end.InitStep.{InitStep}
-use Rattle.spnego_core.specs.declared.init_end.InitStep.TheVariants as steps
-use Rattle.gss_client.specs.declared.creation.Created.{Created}
-use Rattle.gss_client.specs.declared.creation.Created.TheVariants as created
+use Rattle.spnego_core.specs.Ends.{EndSays}
+use Rattle.spnego_core.specs.Ends as ends
+use Rattle.spnego_core.specs.EndSteps.{StepSays}
+use Rattle.spnego_core.specs.EndSteps as steps
+use Rattle.gss_client.specs.Creation.{CreatedSays}
+use Rattle.gss_client.specs.Creation as created
 
 -- how many a mechanism still takes: Kerberos one, SCRAM the acceptor's first text and its signature
 abbrev pub taken_by : InitMech → ℕ
@@ -17,17 +17,17 @@ taken_by (mechs.Proof end) = 1
 
 -- one to the own MIC; before it those that the mechanism takes; before the first, at most those of
 -- any mechanism and the one that chooses it
-abbrev pub replies_left : InitEnd → ℕ
+abbrev pub replies_left : EndSays → ℕ
 replies_left (ends.Opens opening) = 4
 replies_left (ends.Talks talking) = taken_by talking.mech + 1
 replies_left (ends.Signed signed) = 1
 
 -- a step leads to an end that takes fewer
-abbrev pub IsNearer : ℕ → InitStep → Type 0
+abbrev pub IsNearer : ℕ → StepSays → Type 0
 IsNearer count (steps.More end token) = replies_left end < count
 IsNearer count (steps.Done outcome) = Unit {0}
 
 -- the same of what a reply leads to
-abbrev pub IsCloser : ℕ → Created → Type 0
+abbrev pub IsCloser : ℕ → CreatedSays → Type 0
 IsCloser count (created.Going offer) = replies_left offer.end < count
 IsCloser count (created.Stands outcome handle) = Unit {0}

@@ -6,13 +6,12 @@ use Rattle.rpcsec_msgs.specs.declared.numbers.TheConstants.{RPCSEC_GSS_CONTINUE_
 use Rattle.spnego_core.specs.declared.outcome.Outcome.{Outcome}
 use Rattle.spnego_core.specs.declared.refusal.NegRefusal.{NegRefusal}
 use Rattle.spnego_core.specs.Initiating.{Started, init_start}
-use Rattle.gss_client.specs.declared.creation.Created.{Created}
-use Rattle.gss_client.specs.declared.creation.Created.TheVariants as created
-use Rattle.gss_client.specs.declared.creation.Offer.{Offer}
 use Rattle.gss_client.specs.declared.refusal.ClientRefusal.TheVariants.{Negotiation, BadReply}
 use Rattle.gss_client.specs.declared.refusal.ReplyWhy.TheVariants.{Steps}
+use Rattle.gss_client.specs.Start.{StartSays}
+use Rattle.gss_client.specs.Creation.{OfferSays, CreatedSays}
+use Rattle.gss_client.specs.Creation as created
 use Rattle.rpcsec_bodies.specs.declared.service.Service.{Service}
-use Rattle.gss_client.specs.declared.start.Start.{Start}
 use Rattle.gss_client.specs.Calling.{creation_call, data_call, destroy_call}
 use Rattle.gss_client.specs.Judging.{creation_step, result_taken, destroyed_in}
 use Rattle.gss_client.specs.Rank.{replies_left}
@@ -22,7 +21,7 @@ use Rattle.gss_client.specs.Talking.{Talking, ◌>>=◌, judges, exchanges}
 -- ---- creation
 
 -- one turn: a creation call with the offer's token and handle, and what its reply leads to
-unfoldable pub turns : Service → ℕ → ℕ → Offer → Talking Created
+unfoldable pub turns : Service → ℕ → ℕ → OfferSays → Talking CreatedSays
 turns service xid proc offer = do
   reply ← exchanges (creation_call service xid proc offer.handle offer.token)
   judges (creation_step offer.end xid reply)
@@ -33,7 +32,7 @@ begun service first xid outcome handle =
     record { outcome = outcome; service = service; handle = handle; number = first; xid = xid }
 
 -- what follows a turn: `next` with a further offer, or the session if the context stands
-abbrev pub by_turn : Service → ℕ → ℕ → (Offer → Talking SessionState) → Created
+abbrev pub by_turn : Service → ℕ → ℕ → (OfferSays → Talking SessionState) → CreatedSays
     → Talking SessionState
 by_turn service first xid next (created.Going offer) = next offer
 by_turn service first xid next (created.Stands outcome handle) =
@@ -41,7 +40,7 @@ by_turn service first xid next (created.Stands outcome handle) =
 
 -- turn after turn, of which so many may still come. It is begun with as many as the end takes
 -- replies, and is the same for any greater count, so that there is always one left.
-unfoldable pub creates : ℕ → Service → ℕ → ℕ → ℕ → Offer → Talking SessionState
+unfoldable pub creates : ℕ → Service → ℕ → ℕ → ℕ → OfferSays → Talking SessionState
 creates zero service first xid proc offer = judges (Err (BadReply Steps))
 creates (suc left) service first xid proc offer = do
   what ← turns service xid proc offer
@@ -55,7 +54,7 @@ begins service first (Ok started) = creates (replies_left started.end) service f
     RPCSEC_GSS_INIT (record { end = started.end; handle = []; token = started.token })
 
 -- the creation of a session from this start, whose first call then has the start's number
-unfoldable pub created_from : Start → Talking SessionState
+unfoldable pub created_from : StartSays → Talking SessionState
 created_from start = begins start.service start.first (init_start start.setup)
 
 -- ---- calls

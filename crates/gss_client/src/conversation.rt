@@ -5,6 +5,7 @@ ghost use Rattle.std.specs.Vec.{vec_len, vec_capacity};
 ghost use Rattle.sec_base.specs.Answers.{Rose};
 ghost use Rattle.spnego_core.specs.InitMech.{is_own_list};
 ghost use Rattle.gss_client.specs.Conversing.{Conferred, Leaves, Talked};
+ghost use Rattle.gss_client.specs.Start.{start_says};
 
 use crate::procedure::Procedure;
 use crate::refusal::ClientRefusal;
@@ -128,8 +129,8 @@ impl Session {
         requires last { start.first ≤ 0x7fffffff }
         requires args { length args.now ≤ 65540 }
         ensures told { IsTrue (L.tells link.old) → Talked (D.tells draw.new) (D.given draw.old)
-            (D.given draw.new) start times procedure args.now (L.wire link.old) (L.wire link.new)
-            result.outcome result.results.items result.parting }
+            (D.given draw.new) (start_says start) times procedure args.now (L.wire link.old)
+            (L.wire link.new) result.outcome result.results.items result.parting }
         ensures fault { result.parting ≡ Parting.Refused ClientRefusal.LinkFault
             → Rose (L.faults link.old) (L.faults link.new) }
         ensures tells { L.tells link.new ≡ L.tells link.old }

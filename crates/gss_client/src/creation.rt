@@ -1,14 +1,18 @@
 //! The replies to creation calls, RFC 2203 section 5.2.3.
 
-ghost use Rattle.std.specs.Prelude.{◌≡◌, ◌≢◌, ◌==◌, ℕ, IfOk, Ok, Err, if◌then◌else◌};
+ghost use Rattle.std.specs.Prelude.{◌≡◌, ◌≢◌, ◌==◌, ◌<◌, ◌≤◌, ℕ, IfOk, Ok, Err, if◌then◌else◌};
+ghost use Rattle.std.specs.Prelude.{length};
 ghost use Rattle.rpc_msgs.specs.declared.xdr_reader.XdrWhy.TheVariants as whys;
 ghost use Rattle.sec_base.specs.Answers.{Gives};
 ghost use Rattle.gss_client.specs.Exchanging.{FitsCreated, IsHandle};
 ghost use Rattle.gss_client.specs.Rank.{replies_left, IsNearer, IsCloser};
 ghost use Rattle.gss_client.specs.Judging.{answer_value, place_of, granted_value, granted_in};
 ghost use Rattle.gss_client.specs.Judging.{done_by, by_step, creation_step};
-ghost use Rattle.gss_client.specs.declared.creation.Created.TheVariants as created;
+ghost use Rattle.gss_client.specs.Creation as created;
+ghost use Rattle.gss_client.specs.Creation.{created_says, reply_says};
 ghost use Rattle.spnego_core.specs.Sizes.{ShortInit};
+ghost use Rattle.spnego_core.specs.Ends.{end_says};
+ghost use Rattle.spnego_core.specs.EndSteps.{step_says};
 
 use crate::answer::{Answer, answer_in, is_verified, place_of, succeeded};
 use crate::refusal::{ClientRefusal, Denial, ReplyWhy, not_negotiated};
@@ -112,9 +116,13 @@ pub(crate) fn spend(_end: InitEnd, refusal: ClientRefusal) -> Result<Created, Cl
 
 /// What a step leads to behind which a further token is due.
 fn going(major: u32, end: InitEnd, handle: Octets, token: Octets) -> Result<Created, ClientRefusal>
-    ensures value { result ≡ (if major == CONTINUE_NEEDED
-        then Ok (created.Going (record { end = end; handle = handle; token = token }))
+    ensures value { reply_says result ≡ (if major == CONTINUE_NEEDED
+        then Ok (created.Going (record { end = end_says end; handle = handle; token = token }))
         else Err (ClientRefusal.BadReply ReplyWhy.Steps)) }
+    ensures closer { (count : ℕ) → replies_left (end_says end) < count
+        → IfOk result (λ c. IsCloser count (created_says c)) }
+    ensures fits { IsHandle handle → length token ≤ 65536
+        → IfOk result (λ c. FitsCreated (created_says c)) }
 {
     if major == CONTINUE_NEEDED {
         Ok(Created::Going(Offer { end, handle, token }))
@@ -127,11 +135,12 @@ fn going(major: u32, end: InitEnd, handle: Octets, token: Octets) -> Result<Crea
 #[tactic(auto, unfolding(crate::specs::Judging::by_step))]
 fn by_step(answer: &Answer<'_>, granted: InitRes, step: InitStep) -> Result<Created, ClientRefusal>
     requires handle { IsHandle granted.context }
-    requires token { ShortInit step }
-    ensures exact { result
-        ≡ by_step (record { answer = answer_value answer.now; result = granted }) step }
-    ensures closer { (count : ℕ) → IsNearer count step → IfOk result (IsCloser count) }
-    ensures fits { IfOk result FitsCreated }
+    requires token { ShortInit (step_says step) }
+    ensures exact { reply_says result ≡ by_step
+        (record { answer = answer_value answer.now; result = granted }) (step_says step) }
+    ensures closer { (count : ℕ) → IsNearer count (step_says step)
+        → IfOk result (λ c. IsCloser count (created_says c)) }
+    ensures fits { IfOk result (λ c. FitsCreated (created_says c)) }
 {
     match step {
         InitStep::More(end, token) => going(granted.major, end, granted.context, token),
@@ -151,9 +160,11 @@ pub fn creation_step(
     xid: u32,
     bytes: &[u8],
 ) -> Result<Created, ClientRefusal>
-    ensures exact { Gives ClientRefusal.NoMemory (λ c. c) result (creation_step end xid bytes.now) }
-    ensures closer { IfOk result (IsCloser (replies_left end)) }
-    ensures fits { IfOk result FitsCreated }
+    ensures exact { Gives ClientRefusal.NoMemory created_says result
+        (creation_step (end_says end) xid bytes.now) }
+    ensures closer { IfOk result
+        (λ c. IsCloser (replies_left (end_says end)) (created_says c)) }
+    ensures fits { IfOk result (λ c. FitsCreated (created_says c)) }
 {
     let Granted { answer, result } = match granted_in(alloc, xid, bytes) {
         Ok(granted) => granted,

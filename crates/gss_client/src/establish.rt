@@ -4,9 +4,12 @@ ghost use Rattle.std.specs.Prelude.{◌≡◌, ◌≤◌, false, true, IsTrue, I
 ghost use Rattle.sec_base.specs.Answers.{Rose};
 ghost use Rattle.gss_client.specs.Calling.{creation_call};
 ghost use Rattle.gss_client.specs.Exchanging.{Talks, IsHandle, FitsOffer, FitsCreated};
+ghost use Rattle.gss_client.specs.Creation.{offer_says, created_says, reply_says};
 ghost use Rattle.gss_client.specs.Rank.{replies_left, IsCloser};
+ghost use Rattle.gss_client.specs.Start.{start_says};
 ghost use Rattle.gss_client.specs.Talk.{turns, creates, created_from};
 ghost use Rattle.gss_client.specs.Talking.{exchanges};
+ghost use Rattle.spnego_core.specs.Ends.{end_says};
 ghost use Rattle.spnego_core.specs.InitMech.{is_own_list};
 
 use crate::calling::creation_call;
@@ -69,11 +72,13 @@ fn turn<L: Link>(
     offer: Offer,
 ) -> Result<Created, ClientRefusal>
     requires unclosed { L.closed link.old ≡ false }
-    requires fits { FitsOffer offer }
+    requires fits { FitsOffer (offer_says offer) }
     ensures told { IsTrue (L.tells link.old)
-        → Talks (turns service xid proc offer) (L.wire link.old) (L.wire link.new) result }
-    ensures closer { IfOk result (IsCloser (replies_left offer.end)) }
-    ensures fits { IfOk result FitsCreated }
+        → Talks (turns service xid proc (offer_says offer)) (L.wire link.old) (L.wire link.new)
+        (reply_says result) }
+    ensures closer { IfOk result
+        (λ c. IsCloser (replies_left (end_says offer.end)) (created_says c)) }
+    ensures fits { IfOk result (λ c. FitsCreated (created_says c)) }
     ensures fault { IsErrOf result ClientRefusal.LinkFault
         → Rose (L.faults link.old) (L.faults link.new) }
     ensures tells { L.tells link.new ≡ L.tells link.old }
@@ -99,11 +104,12 @@ fn establish<L: Link>(
     left: u32,
 ) -> Result<Session, ClientRefusal>
     requires unclosed { L.closed link.old ≡ false }
-    requires fits { FitsOffer offer }
-    requires enough { replies_left offer.end ≤ left }
+    requires fits { FitsOffer (offer_says offer) }
+    requires enough { replies_left (end_says offer.end) ≤ left }
     requires last { first ≤ 0x7fffffff }
-    ensures told { IsTrue (L.tells link.old) → Talks (creates left service first xid proc offer)
-        (L.wire link.old) (L.wire link.new) result }
+    ensures told { IsTrue (L.tells link.old)
+        → Talks (creates left service first xid proc (offer_says offer)) (L.wire link.old)
+        (L.wire link.new) result }
     ensures fault { IsErrOf result ClientRefusal.LinkFault
         → Rose (L.faults link.old) (L.faults link.new) }
     ensures tells { L.tells link.new ≡ L.tells link.old }
@@ -147,7 +153,7 @@ impl Session {
         requires first { 1 ≤ start.first }
         requires last { start.first ≤ 0x7fffffff }
         ensures told { IsTrue (L.tells link.old)
-            → Talks (created_from start) (L.wire link.old) (L.wire link.new) result }
+            → Talks (created_from (start_says start)) (L.wire link.old) (L.wire link.new) result }
         ensures fault { IsErrOf result ClientRefusal.LinkFault
             → Rose (L.faults link.old) (L.faults link.new) }
         ensures tells { L.tells link.new ≡ L.tells link.old }

@@ -17,10 +17,9 @@ use Rattle.spnego_core.specs.declared.accept_end.AcceptEnd.TheVariants as ends
 use Rattle.spnego_core.specs.declared.accept_end.AcceptPause.{AcceptPause}
 use Rattle.spnego_core.specs.declared.accept_end.AcceptStep.{AcceptStep}
 use Rattle.spnego_core.specs.declared.accept_end.AcceptStep.TheVariants as steps
-use Rattle.spnego_core.specs.declared.init_end.InitEnd.{InitEnd}
 use Rattle.spnego_core.specs.declared.outcome.Outcome.{Outcome}
+use Rattle.spnego_core.specs.Ends.{PlainSetup, EndSays}
 use Rattle.spnego_core.specs.Accepting.{step_of, mark_asked}
-use Rattle.spnego_core.specs.declared.setup.InitSetup.{InitSetup}
 use Rattle.spnego_core.specs.Choice.{is_first, is_mic_due}
 use Rattle.spnego_core.specs.InitMech.{kinds_of}
 use Rattle.spnego_core.specs.Initiating.{Started, own_list, init_start}
@@ -39,11 +38,11 @@ use Rattle.accept_core.specs.Replays.{Accepting}
 use Rattle.accept_book.specs.declared.book_answer.Lease.{Lease}
 use Rattle.accept_book.specs.declared.book_answer.NegAnswer.{NegAnswer}
 use Rattle.accept_book.specs.declared.book_answer.Negotiated.{Negotiated}
-use Rattle.gss_client.specs.declared.creation.Offer.{Offer}
 use Rattle.rpcsec_bodies.specs.declared.service.Service.{Service}
-use Rattle.gss_client.specs.declared.start.Start.{Start}
 use Rattle.gss_client.specs.declared.refusal.ClientRefusal.{ClientRefusal}
 use Rattle.gss_client.specs.declared.refusal.ClientRefusal.TheVariants.{LinkFault, PeerEnded, Refused, Negotiation, BadReply, NoMemory}
+use Rattle.gss_client.specs.Start.{StartSays}
+use Rattle.gss_client.specs.Creation.{OfferSays}
 use Rattle.gss_client.specs.Calling.{creation_call}
 use Rattle.gss_client.specs.Exchanging.{Talks, Stopped}
 use Rattle.gss_client.specs.Hearing.{Heard, whole, next_of}
@@ -165,20 +164,20 @@ own-id None book books = refl
 own-id (Some id) book books = refl
 
 -- the first record is the call
-front-record : (left : ℕ) (service : Service) (first xid proc : ℕ) (offer : Offer) (stream : List ℕ) (octets : List ℕ) (records : List (List ℕ)) → length octets ≤ 131072 → length (creation_call service xid proc offer.handle offer.token) ≤ 131072
+front-record : (left : ℕ) (service : Service) (first xid proc : ℕ) (offer : OfferSays) (stream : List ℕ) (octets : List ℕ) (records : List (List ℕ)) → length octets ≤ 131072 → length (creation_call service xid proc offer.handle offer.token) ≤ 131072
     → (creates (suc left) service first xid proc offer stream).written ≡ flat_map last_fragment (octets ∷ records) → octets ≡ creation_call service xid proc offer.handle offer.token
 front-record left service first xid proc offer stream octets records few small written =
     let call : List ℕ = creation_call service xid proc offer.handle offer.token in
     let f = creates-front left service first xid proc offer stream in
     ap octets_heard (same-record octets call (flat_map last_fragment records) f.more few small (sym written ∙ f.same))
 
-last-turn : (setup : AcceptSetup) (width left : ℕ) (service : Service) (first xid : ℕ) (id : Option ℕ) (acceptor : AcceptEnd) (initiator : InitEnd) (token : List ℕ) (one : KeptAnswers) (book : Around) (books : List Around) (octets : List ℕ) (records : List (List ℕ)) (others : List KeptAnswers) (rest stream : List ℕ) (outcome : Outcome)
+last-turn : (setup : AcceptSetup) (width left : ℕ) (service : Service) (first xid : ℕ) (id : Option ℕ) (acceptor : AcceptEnd) (initiator : EndSays) (token : List ℕ) (one : KeptAnswers) (book : Around) (books : List Around) (octets : List ℕ) (records : List (List ℕ)) (others : List KeptAnswers) (rest stream : List ℕ) (outcome : Outcome)
     → 0 < width → width < 2 ^ 32 → xid + 1 < 2 ^ 32 → IsId id → length token ≤ 65536 → length octets ≤ 131072 → ComesTo id book.before acceptor → IsDone setup (occasion_of one) acceptor initiator token outcome → IsBooked setup width octets one book
     → (creates (suc left) service first xid (proc_for id) (record { end = initiator; handle = handle_for id; token = token }) stream).written ≡ flat_map last_fragment (octets ∷ records)
     → stream ≡ replied width (octets ∷ records) (one ∷ others) ++ rest
     → Stood service first xid width (id_of id book.before.history) outcome (creates (suc left) service first xid (proc_for id) (record { end = initiator; handle = handle_for id; token = token }) stream) (octets ∷ records) (one ∷ []) (book ∷ books) rest
 last-turn setup width left service first xid id acceptor initiator token one book books octets records others rest stream outcome some wide xids is_id few within comes done b written heard =
-    let offer : Offer = record { end = initiator; handle = handle_for id; token = token } in
+    let offer : OfferSays = record { end = initiator; handle = handle_for id; token = token } in
     let call : List ℕ = creation_call service xid (proc_for id) (handle_for id) token in
     let own : ℕ = id_of id book.before.history in
     let fits : xid < 2 ^ 32 = omega (arith, xids) in
@@ -218,7 +217,7 @@ last-turn setup width left service first xid id acceptor initiator token one boo
           ∙ ap (λ (n : ℕ). said (flat_map last_fragment (octets ∷ records)) (Ok (begun service first n outcome (handle_of own))) rest) (next-xid xid xids)));
     }
 
-turns-on : (setup : AcceptSetup) (width left : ℕ) (service : Service) (first xid : ℕ) (id : Option ℕ) (acceptor : AcceptEnd) (initiator : InitEnd) (token : List ℕ) (answers : List KeptAnswers) (books : List Around) (records : List (List ℕ)) (later : List KeptAnswers) (rest stream : List ℕ) (outcome : Outcome)
+turns-on : (setup : AcceptSetup) (width left : ℕ) (service : Service) (first xid : ℕ) (id : Option ℕ) (acceptor : AcceptEnd) (initiator : EndSays) (token : List ℕ) (answers : List KeptAnswers) (books : List Around) (records : List (List ℕ)) (later : List KeptAnswers) (rest stream : List ℕ) (outcome : Outcome)
     → 0 < width → width < 2 ^ 32 → xid + length answers < 2 ^ 32 → length answers ≤ left → own_id id books < 2 ^ 64 → IsId id → length token ≤ 65536 → AllByRecursion IsWithin records → Awaits id acceptor books → IsLeftAlone (own_id id books) books
     → exchange.Completes setup (map occasion_of answers) acceptor initiator token outcome → Booked setup width records answers books
     → (creates left service first xid (proc_for id) (record { end = initiator; handle = handle_for id; token = token }) stream).written ≡ flat_map last_fragment records
@@ -232,7 +231,7 @@ turns-on setup width (suc left) service first xid id acceptor initiator token (o
     subst (λ (n : ℕ). Stood service first xid width n outcome (creates (suc left) service first xid (proc_for id) (record { end = initiator; handle = handle_for id; token = token }) stream) (octets ∷ records) (one ∷ []) (book ∷ books) rest) (sym (own-id id book books))
     (last-turn setup width left service first xid id acceptor initiator token one book books octets records later rest stream outcome some wide (omega (arith, xids)) is_id few within.0 awaits c b.0 written heard)
 turns-on setup width (suc left) service first xid id acceptor initiator token (one ∷ two ∷ more) (book ∷ books) (octets ∷ records) later rest stream outcome some wide xids turns ids is_id few within awaits alone c b written heard =
-    let offer : Offer = record { end = initiator; handle = handle_for id; token = token } in
+    let offer : OfferSays = record { end = initiator; handle = handle_for id; token = token } in
     let call : List ℕ = creation_call service xid (proc_for id) (handle_for id) token in
     let own : ℕ = id_of id book.before.history in
     let fits : xid < 2 ^ 32 = omega (arith, xids) in
@@ -245,7 +244,7 @@ turns-on setup width (suc left) service first xid id acceptor initiator token (o
     let stream_is : stream ≡ last_fragment reply ++ behind =
     heard ∙ (ap (λ (o : List ℕ). (framed (record_ruling o one width).reply ++ replied width records ((two ∷ more) ++ later)) ++ rest) is_call
     ∙ (ap (λ (r : Option (List ℕ)). (framed r ++ replied width records ((two ∷ more) ++ later)) ++ rest) is_reply ∙ append_assoc (last_fragment reply) (replied width records ((two ∷ more) ++ later)) rest)) in
-    let next : Offer = record { end = g.initiator_after; handle = handle_of own; token = g.further } in
+    let next : OfferSays = record { end = g.initiator_after; handle = handle_of own; token = g.further } in
     let all : creates (suc left) service first xid (proc_for id) offer stream ≡ after (last_fragment call) (creates left service first (xid_after xid) 2 next behind) =
     ap (λ (zs : List ℕ). creates (suc left) service first xid (proc_for id) offer zs) stream_is
     ∙ continued left service first xid (proc_for id) offer next reply behind (going-fits xid own g.reply t.size) (creation-goes xid initiator g.initiator_after own g.reply g.further fits t.size g.initiates) in
@@ -282,11 +281,11 @@ counts true false kinds.Scram = omega arith
 counts false true kinds.Scram = omega arith
 counts false false kinds.Scram = omega arith
 
-pub tokens-few : (setup : AcceptSetup) (own : InitSetup) (kind : MechKind) → tokens_of setup own kind ≤ 4
+pub tokens-few : (setup : AcceptSetup) (own : PlainSetup) (kind : MechKind) → tokens_of setup own kind ≤ 4
 tokens-few setup own kind = counts (is_first (kinds_of own.list) kind) (is_mic_due setup.offer (own_list own) kind) kind
 
 -- and takes that many replies
-pub opens-four : (own : InitSetup) (started : Started) → init_start own ≡ Ok started → replies_left started.end ≡ 4
+pub opens-four : (own : PlainSetup) (started : Started) → init_start own ≡ Ok started → replies_left started.end ≡ 4
 opens-four own started starts = ap replies_left (opened_from own own.list started refl starts).end
 
 first-awaits : (books : List Around) → Awaits None ends.New books
@@ -297,14 +296,14 @@ length-map : (answers : List KeptAnswers) → length (map occasion_of answers) �
 length-map [] = refl
 length-map (one ∷ more) = omega (arith, length-map more)
 
-pub few-answers : (setup : AcceptSetup) (width : ℕ) (start : Start) (stream : List ℕ) → (x : HonestExchange setup width start stream) → length x.answers ≤ 4
+pub few-answers : (setup : AcceptSetup) (width : ℕ) (start : StartSays) (stream : List ℕ) → (x : HonestExchange setup width start stream) → length x.answers ≤ 4
 few-answers setup width start stream x = omega (arith, length-map x.answers, x.pair.counted, tokens-few setup start.setup x.kind)
 
-pub completes : (setup : AcceptSetup) (width : ℕ) (start : Start) (stream : List ℕ) → (x : HonestExchange setup width start stream) → Completes setup width start stream x
+pub completes : (setup : AcceptSetup) (width : ℕ) (start : StartSays) (stream : List ℕ) → (x : HonestExchange setup width start stream) → Completes setup width start stream x
 completes setup width start stream x =
     let a = exchanges setup start.setup x.kind (map occasion_of x.answers) x.pair in
     let started = x.pair.started in
-    let offer : Offer = record { end = started.end; handle = []; token = started.token } in
+    let offer : OfferSays = record { end = started.end; handle = []; token = started.token } in
     let left : ℕ = replies_left started.end in
     let is : created_from start stream ≡ creates left start.service start.first 1 1 offer stream = created-is start started stream x.pair.starts in
     let four : left ≡ 4 = opens-four start.setup started x.pair.starts in

@@ -3,12 +3,11 @@ use Rattle.std.proofs.Common.{◌≡◌, ℕ, suc, ◌≤◌, lit<, refl, ap, �
 use Rattle.rpc_msgs.specs.Records.{Fragments, last_fragment}
 use Rattle.spnego_core.specs.declared.outcome.Outcome.{Outcome}
 use Rattle.spnego_core.specs.Initiating.{Started, init_start}
-use Rattle.gss_client.specs.declared.creation.Created.{Created}
-use Rattle.gss_client.specs.declared.creation.Created.TheVariants as created
-use Rattle.gss_client.specs.declared.creation.Offer.{Offer}
 use Rattle.gss_client.specs.declared.refusal.ClientRefusal.{ClientRefusal}
+use Rattle.gss_client.specs.Start.{StartSays}
+use Rattle.gss_client.specs.Creation.{OfferSays, CreatedSays}
+use Rattle.gss_client.specs.Creation as created
 use Rattle.rpcsec_bodies.specs.declared.service.Service.{Service}
-use Rattle.gss_client.specs.declared.start.Start.{Start}
 use Rattle.gss_client.specs.Calling.{creation_call}
 use Rattle.gss_client.specs.Hearing.{whole, next_of}
 use Rattle.gss_client.specs.Judging.{creation_step}
@@ -40,20 +39,20 @@ pub exchange-front : (call stream : List ℕ) → Fronts (last_fragment call) (e
 unfolding exchanges
 exchange-front call stream = record { more = (listens stream).written; same = refl }
 
-turn-front : (service : Service) (xid proc : ℕ) (offer : Offer) (stream : List ℕ) → Fronts (last_fragment (creation_call service xid proc offer.handle offer.token)) (turns service xid proc offer stream)
+turn-front : (service : Service) (xid proc : ℕ) (offer : OfferSays) (stream : List ℕ) → Fronts (last_fragment (creation_call service xid proc offer.handle offer.token)) (turns service xid proc offer stream)
 unfolding turns
 turn-front service xid proc offer stream =
     let call : List ℕ = creation_call service xid proc offer.handle offer.token in
     let f = exchange-front call stream in
     goes-front (last_fragment call) (exchanges call stream).written (exchanges call stream).rest (λ octets. judges (creation_step offer.end xid octets)) (exchanges call stream).answer f.more f.same
 
-pub creates-front : (left : ℕ) (service : Service) (first xid proc : ℕ) (offer : Offer) (stream : List ℕ) → Fronts (last_fragment (creation_call service xid proc offer.handle offer.token)) (creates (suc left) service first xid proc offer stream)
+pub creates-front : (left : ℕ) (service : Service) (first xid proc : ℕ) (offer : OfferSays) (stream : List ℕ) → Fronts (last_fragment (creation_call service xid proc offer.handle offer.token)) (creates (suc left) service first xid proc offer stream)
 unfolding creates
 creates-front left service first xid proc offer stream =
     let f = turn-front service xid proc offer stream in
     goes-front (last_fragment (creation_call service xid proc offer.handle offer.token)) (turns service xid proc offer stream).written (turns service xid proc offer stream).rest (by_turn service first xid (creates left service first (xid_after xid) 2)) (turns service xid proc offer stream).answer f.more f.same
 
-pub created-is : (start : Start) (started : Started) (stream : List ℕ) → init_start start.setup ≡ Ok started → created_from start stream ≡ creates (replies_left started.end) start.service start.first 1 1 (record { end = started.end; handle = []; token = started.token }) stream
+pub created-is : (start : StartSays) (started : Started) (stream : List ℕ) → init_start start.setup ≡ Ok started → created_from start stream ≡ creates (replies_left started.end) start.service start.first 1 1 (record { end = started.end; handle = []; token = started.token }) stream
 unfolding created_from
 created-is start started stream starts = rw starts refl
 
@@ -63,19 +62,19 @@ pub exchanged : (call reply rest : List ℕ) → length reply ≤ 131072 → exc
 unfolding exchanges
 exchanged call reply rest few = rw (listens-first reply rest few, append-nil (last_fragment call)) refl
 
-turned : (service : Service) (xid proc : ℕ) (offer : Offer) (reply rest : List ℕ) (what : Created) → length reply ≤ 131072 → creation_step offer.end xid reply ≡ Ok what → turns service xid proc offer (last_fragment reply ++ rest) ≡ said (last_fragment (creation_call service xid proc offer.handle offer.token)) (Ok what) rest
+turned : (service : Service) (xid proc : ℕ) (offer : OfferSays) (reply rest : List ℕ) (what : CreatedSays) → length reply ≤ 131072 → creation_step offer.end xid reply ≡ Ok what → turns service xid proc offer (last_fragment reply ++ rest) ≡ said (last_fragment (creation_call service xid proc offer.handle offer.token)) (Ok what) rest
 unfolding turns
 turned service xid proc offer reply rest what few judged =
     rw (exchanged (creation_call service xid proc offer.handle offer.token) reply rest few, judged, append-nil (last_fragment (creation_call service xid proc offer.handle offer.token))) refl
 
-pub established : (left : ℕ) (service : Service) (first xid proc : ℕ) (offer : Offer) (reply rest : List ℕ) (outcome : Outcome) (handle : List ℕ) → length reply ≤ 131072 → creation_step offer.end xid reply ≡ Ok (created.Stands outcome handle)
+pub established : (left : ℕ) (service : Service) (first xid proc : ℕ) (offer : OfferSays) (reply rest : List ℕ) (outcome : Outcome) (handle : List ℕ) → length reply ≤ 131072 → creation_step offer.end xid reply ≡ Ok (created.Stands outcome handle)
     → creates (suc left) service first xid proc offer (last_fragment reply ++ rest) ≡ said (last_fragment (creation_call service xid proc offer.handle offer.token)) (Ok (begun service first (xid_after xid) outcome handle)) rest
 unfolding creates
 established left service first xid proc offer reply rest outcome handle few judged =
     rw (turned service xid proc offer reply rest (created.Stands outcome handle) few judged, append-nil (last_fragment (creation_call service xid proc offer.handle offer.token))) refl
 
 -- a turn before the others
-pub continued : (left : ℕ) (service : Service) (first xid proc : ℕ) (offer next : Offer) (reply rest : List ℕ) → length reply ≤ 131072 → creation_step offer.end xid reply ≡ Ok (created.Going next)
+pub continued : (left : ℕ) (service : Service) (first xid proc : ℕ) (offer next : OfferSays) (reply rest : List ℕ) → length reply ≤ 131072 → creation_step offer.end xid reply ≡ Ok (created.Going next)
     → creates (suc left) service first xid proc offer (last_fragment reply ++ rest) ≡ after (last_fragment (creation_call service xid proc offer.handle offer.token)) (creates left service first (xid_after xid) 2 next rest)
 unfolding creates
 continued left service first xid proc offer next reply rest few judged = rw (turned service xid proc offer reply rest (created.Going next) few judged) refl

@@ -10,8 +10,8 @@ use Rattle.accept_core.specs.Stepping.{context_of}
 use Rattle.pair_laws.proofs.Resting.{no-slots}
 use Rattle.std.proofs.lemmas.List.{append-nil}
 use Rattle.gss_base.specs.declared.mech.MechKind.{MechKind}
-use Rattle.gss_client.specs.declared.creation.Offer.{Offer}
-use Rattle.gss_client.specs.declared.start.Start.{Start}
+use Rattle.gss_client.specs.Start.{StartSays}
+use Rattle.gss_client.specs.Creation.{OfferSays}
 use Rattle.gss_client.specs.Rank.{replies_left}
 use Rattle.gss_client.specs.Session.{SessionState}
 use Rattle.gss_client.specs.Talk.{creates, created_from}
@@ -73,7 +73,7 @@ pub all-at : (moment : ℕ) (kept : List KeptAnswers) → AllByRecursion (IsAt m
 all-at moment [] a = tt
 all-at moment (one ∷ more) a = (a.0, all-at moment more a.1)
 
-pub creation-runs : (width lasts : ℕ) (start : Start) (kind : MechKind) (count moment : ℕ) (stream more : List ℕ) (old new : BookOf) (front back : List Turn) (records : List Fragments) (tail rest : List ℕ) → IsCreation width lasts start kind count moment stream more old new front back records tail rest
+pub creation-runs : (width lasts : ℕ) (start : StartSays) (kind : MechKind) (count moment : ℕ) (stream more : List ℕ) (old new : BookOf) (front back : List Turn) (records : List Fragments) (tail rest : List ℕ) → IsCreation width lasts start kind count moment stream more old new front back records tail rest
     → CreationRuns width lasts start kind count moment stream more old new front back records tail rest
 creation-runs width lasts start kind count moment stream more old new front back records tail rest x =
     let occasions : List Occasion = map occasion_of (answers_of front) in
@@ -81,7 +81,7 @@ creation-runs width lasts start kind count moment stream more old new front back
     let a : Walked old.setup start.setup kind moment (occasions_on front []) x.pair.started = subst (λ (os : List Occasion). Walked old.setup start.setup kind moment os x.pair.started) (sym (append-nil occasions)) found in
     let started = x.pair.started in
     let left : ℕ = replies_left started.end in
-    let offer : Offer = record { end = started.end; handle = []; token = started.token } in
+    let offer : OfferSays = record { end = started.end; handle = []; token = started.token } in
     let is : created_from start stream ≡ creates left start.service start.first 1 1 offer stream = created-is start started stream x.pair.starts in
     let four : left ≡ 4 = opens-four start.setup started x.pair.starts in
     let few : length front ≤ 4 = omega (arith, occasions-long front, x.pair.counted, tokens-few old.setup start.setup kind) in

@@ -9,21 +9,21 @@ use Rattle.rpc_msgs.specs.Records.{Fragments, last_fragment}
 use Rattle.context_table.specs.Places.{live_of}
 use Rattle.spnego_core.specs.declared.accept_end.AcceptEnd.{AcceptEnd}
 use Rattle.spnego_core.specs.declared.accept_end.AcceptEnd.TheVariants as ends
-use Rattle.spnego_core.specs.declared.init_end.InitEnd.{InitEnd}
 use Rattle.spnego_core.specs.declared.outcome.Outcome.{Outcome}
 use Rattle.spnego_core.specs.declared.setup.AcceptSetup.{AcceptSetup}
+use Rattle.spnego_core.specs.Ends.{EndSays}
 use Rattle.spnego_core.specs.Exchange.{Occasion, HonestPair}
 use Rattle.accept_book.specs.Booking.{BookOf}
 use Rattle.accept_core.specs.Entering.{id_of}
 use Rattle.accept_book.specs.RecordShown.{KeptAnswers}
 use Rattle.rpcsec_bodies.specs.declared.service.Service.{Service}
+use Rattle.gss_client.specs.Start.{StartSays}
+use Rattle.gss_client.specs.Creation.{OfferSays}
 use Rattle.gss_client.specs.Calling.{creation_call}
 use Rattle.gss_client.specs.Rank.{replies_left}
 use Rattle.gss_client.specs.Session.{SessionState}
 use Rattle.gss_client.specs.Talk.{creates, created_from}
 use Rattle.gss_client.specs.Talking.{Said}
-use Rattle.gss_client.specs.declared.creation.Offer.{Offer}
-use Rattle.gss_client.specs.declared.start.Start.{Start}
 use Rattle.gss_server.specs.Connections.{octets_of}
 use Rattle.pair_laws.specs.Creation.{IsAt, idle, padded}
 use Rattle.pair_laws.specs.Honest.{occasion_of}
@@ -42,7 +42,7 @@ use Rattle.pair_laws.proofs.Walks.{walked}
 
 -- turns in a row as those of a creation, of which there are fewer than an honest pair has tokens,
 -- and nothing was written behind them but what is no record
-pub record IsShortCreation (width lasts : ℕ) (start : Start) (kind : MechKind) (count moment : ℕ)
+pub record IsShortCreation (width lasts : ℕ) (start : StartSays) (kind : MechKind) (count moment : ℕ)
     (tokens : ℕ) (stream more : List ℕ) (old new : BookOf) (front : List Turn)
     (records : List Fragments) (tail rest : List ℕ) : Type 0 where
   pub rests : RestsAt count moment old.core
@@ -85,14 +85,14 @@ occasions-long (turn ∷ front) = ap suc (occasions-long front)
 -- ---- turn by turn
 
 -- once the turns are through, a token that is due is written, and it is none of what is no record
-never-due : (setup : AcceptSetup) (width lasts left : ℕ) (service : Service) (first xid : ℕ) (id : Option ℕ) (acceptor : AcceptEnd) (initiator : InitEnd) (token : List ℕ) (front : List Turn) (next : Occasion) (extra : List Occasion) (records : List Fragments) (tail rest stream more : List ℕ) (outcome : Outcome) (count moment : ℕ) (marked : Bool) (old new : BookOf) → IsNoRecord tail
+never-due : (setup : AcceptSetup) (width lasts left : ℕ) (service : Service) (first xid : ℕ) (id : Option ℕ) (acceptor : AcceptEnd) (initiator : EndSays) (token : List ℕ) (front : List Turn) (next : Occasion) (extra : List Occasion) (records : List Fragments) (tail rest stream more : List ℕ) (outcome : Outcome) (count moment : ℕ) (marked : Bool) (old new : BookOf) → IsNoRecord tail
     → Due setup width lasts left service first xid id acceptor initiator token front (next ∷ extra) [] records tail rest stream more outcome count moment marked old new → ⊥
 never-due setup width lasts zero service first xid id acceptor initiator token [] next extra records tail rest stream more outcome count moment marked old new none d = let few : suc (length extra) ≤ 0 = d.turns in omega (arith, few)
 never-due setup width lasts zero service first xid id acceptor initiator token (turn ∷ front) next extra records tail rest stream more outcome count moment marked old new none d =
     let few : suc (length (occasions_on front (next ∷ extra))) ≤ 0 = d.turns in omega (arith, few)
 never-due setup width lasts (suc left) service first xid id acceptor initiator token [] next extra (cut ∷ records) tail rest stream more outcome count moment marked old new none d = absurd d.cuts
 never-due setup width lasts (suc left) service first xid id acceptor initiator token [] next extra [] tail rest stream more outcome count moment marked old new none d =
-    let offer : Offer = record { end = initiator; handle = handle_for id; token = token } in
+    let offer : OfferSays = record { end = initiator; handle = handle_for id; token = token } in
     let call : List ℕ = creation_call service xid (proc_for id) (handle_for id) token in
     let f = creates-front left service first xid (proc_for id) offer stream in
     none-first call (f.more ++ more) tail (creation-fits service xid id token d.few) none (sym (ap (λ (zs : List ℕ). zs ++ more) f.same ∙ append_assoc (last_fragment call) f.more more) ∙ d.written)
@@ -106,13 +106,13 @@ never-due setup width lasts (suc left) service first xid id acceptor initiator t
     let t = steps-on setup width lasts left service first xid id acceptor initiator token turn (two ∷ later) (next ∷ extra) [] cut records tail rest stream more outcome count moment marked old new d g d.walks.0 d.walks.1 d.completes.1 d.walks.2 in
     never-due setup width lasts left service first (xid + 1) (Some (id_of id turn.before.core.history)) g.acceptor_after g.initiator_after g.further (two ∷ later) next extra records tail rest t.behind more outcome count moment (marked_after marked t.opened.asked) turn.after new none t.due
 
-never-short : (width lasts : ℕ) (start : Start) (kind : MechKind) (count moment tokens : ℕ) (stream more : List ℕ) (old new : BookOf) (front : List Turn) (records : List Fragments) (tail rest : List ℕ)
+never-short : (width lasts : ℕ) (start : StartSays) (kind : MechKind) (count moment tokens : ℕ) (stream more : List ℕ) (old new : BookOf) (front : List Turn) (records : List Fragments) (tail rest : List ℕ)
     → IsShortCreation width lasts start kind count moment tokens stream more old new front records tail rest → length front < tokens → ⊥
 never-short width lasts start kind count moment tokens stream more old new front records tail rest x less =
     let occasions : List Occasion = map occasion_of (answers_of front) in
     let started = x.pair.started in
     let left : ℕ = replies_left started.end in
-    let offer : Offer = record { end = started.end; handle = []; token = started.token } in
+    let offer : OfferSays = record { end = started.end; handle = []; token = started.token } in
     let is : created_from start stream ≡ creates left start.service start.first 1 1 offer stream = created-is start started stream x.pair.starts in
     let four : left ≡ 4 = opens-four start.setup started x.pair.starts in
     let long : length occasions ≡ length front = occasions-long front in
@@ -158,7 +158,7 @@ never-short width lasts start kind count moment tokens stream more old new front
     long_padded moment (suc tokens) (occasion ∷ occasions) = ap suc (long_padded moment tokens occasions)
 
 -- there are none such: the client writes each of its tokens
-pub each-token : (width lasts : ℕ) (start : Start) (kind : MechKind) (count moment tokens : ℕ) (stream more : List ℕ) (old new : BookOf) (front : List Turn) (records : List Fragments) (tail rest : List ℕ)
+pub each-token : (width lasts : ℕ) (start : StartSays) (kind : MechKind) (count moment tokens : ℕ) (stream more : List ℕ) (old new : BookOf) (front : List Turn) (records : List Fragments) (tail rest : List ℕ)
     → IsShortCreation width lasts start kind count moment tokens stream more old new front records tail rest → tokens ≤ length front
 each-token width lasts start kind count moment tokens stream more old new front records tail rest x = by-less (nat_lt (length front) tokens) refl
   where

@@ -12,14 +12,14 @@ use Rattle.rpcsec_msgs.proofs.InitResLaws.{init_res-only}
 use Rattle.krb_tokens.specs.declared.end.Side.TheVariants.{Initiator, Acceptor}
 use Rattle.krb_tokens.specs.Mic.{mic_of, checked_mic}
 use Rattle.krb_tokens.proofs.Taken.{mic-taken}
-use Rattle.spnego_core.specs.declared.init_end.InitEnd.{InitEnd}
-use Rattle.spnego_core.specs.declared.init_end.InitStep.TheVariants as steps
 use Rattle.spnego_core.specs.declared.outcome.Outcome.{Outcome}
+use Rattle.spnego_core.specs.Ends.{EndSays}
+use Rattle.spnego_core.specs.EndSteps as steps
 use Rattle.spnego_core.specs.Initiating.{init_step, step_of}
 use Rattle.spnego_core.specs.Outcome.{token_end}
 use Rattle.rpcsec_bodies.proofs.Lengths.{mic-size}
 use Rattle.accept_book.specs.RecordShown.{handle_of}
-use Rattle.gss_client.specs.declared.creation.Created.TheVariants as created
+use Rattle.gss_client.specs.Creation as created
 use Rattle.gss_client.specs.Judging.{answer_in, granted_in, GrantedValue, by_step, creation_step}
 use Rattle.gss_server.proofs.BodyLengths.{init-fits}
 use Rattle.gss_server.proofs.ReplyLengths.{accepted-fits}
@@ -73,7 +73,7 @@ stands xid outcome id width token some =
     let good : checked_mic (token_end outcome Initiator) (window_mic outcome width) (word width) ≡ Ok tt = mic-taken (token_end outcome Acceptor) 1 (word width) in
     rw (wide, good) refl
 
-pub creation-stands : (xid : ℕ) (end : InitEnd) (outcome : Outcome) (id width : ℕ) (token : List ℕ) → xid < 2 ^ 32 → 0 < width → width < 2 ^ 32 → length token ≤ 65536 → step_of (init_step end token) ≡ Ok (steps.Done outcome)
+pub creation-stands : (xid : ℕ) (end : EndSays) (outcome : Outcome) (id width : ℕ) (token : List ℕ) → xid < 2 ^ 32 → 0 < width → width < 2 ^ 32 → length token ≤ 65536 → step_of (init_step end token) ≡ Ok (steps.Done outcome)
     → creation_step end xid (reply_octets (granting xid outcome id width token)) ≡ Ok (created.Stands outcome (handle_of id))
 unfolding creation_step
 creation-stands xid end outcome id width token fits some wide few takes =
@@ -93,7 +93,7 @@ result_on id token = record { context = handle_of id; major = 1; minor = 0; wind
 abbrev pub going : ℕ → ℕ → List ℕ → ReplyValue
 going xid id token = reply_with xid 0 [] (result_on id token)
 
-pub creation-goes : (xid : ℕ) (end after : InitEnd) (id : ℕ) (token further : List ℕ) → xid < 2 ^ 32 → length token ≤ 65536 → step_of (init_step end token) ≡ Ok (steps.More after further)
+pub creation-goes : (xid : ℕ) (end after : EndSays) (id : ℕ) (token further : List ℕ) → xid < 2 ^ 32 → length token ≤ 65536 → step_of (init_step end token) ≡ Ok (steps.More after further)
     → creation_step end xid (reply_octets (going xid id token)) ≡ Ok (created.Going (record { end = after; handle = handle_of id; token = further }))
 unfolding creation_step by_step
 creation-goes xid end after id token further fits few takes =

@@ -21,7 +21,7 @@ use Rattle.gss_client.specs.Session.{SessionState}
 use Rattle.gss_client.specs.Talk.{created_from}
 use Rattle.gss_client.specs.Talking.{Said}
 use Rattle.gss_client.specs.declared.refusal.ClientRefusal.{ClientRefusal}
-use Rattle.gss_client.specs.declared.start.Start.{Start}
+use Rattle.gss_client.specs.Start.{StartSays}
 use Rattle.gss_server.specs.declared.answer.Kept.{Kept}
 use Rattle.pair_laws.specs.Conferring.{DueCall, confers, by_opening, talk_of}
 use Rattle.pair_laws.specs.Creation.{IsAt, CreatesOn, IsCreation, Enters, padded}
@@ -46,7 +46,7 @@ opening-more : (due : List DueCall) (draws written rest : List ℕ) (answer : Re
 opening-more due draws written rest (Ok s) = record { more = (confers due s draws rest).written; is = refl }
 opening-more due draws written rest (Err refusal) = record { more = []; is = sym (append-nil written) }
 
-talk-more : (due : List DueCall) (start : Start) (draws stream : List ℕ) → After (created_from start stream).written (talk_of start due draws stream).written
+talk-more : (due : List DueCall) (start : StartSays) (draws stream : List ℕ) → After (created_from start stream).written (talk_of start due draws stream).written
 unfolding talk_of
 talk-more due start draws stream = let made : Said SessionState = created_from start stream in opening-more due draws made.written made.rest made.answer
 
@@ -105,7 +105,7 @@ entered-as id moment kind tokens other old new same e = (record { marks = e.mark
 -- ---- the creation
 
 -- the turns of a link, cut where the creation ends
-record IsCreatedBy (width lasts tokens : ℕ) (start : Start) (kind : MechKind) (count moment : ℕ) (due : List DueCall) (draws stream : List ℕ) (old new : BookOf) (records : List Fragments) (answers : List Kept) (tail : List ℕ) : Type 0 where
+record IsCreatedBy (width lasts tokens : ℕ) (start : StartSays) (kind : MechKind) (count moment : ℕ) (due : List DueCall) (draws stream : List ℕ) (old new : BookOf) (records : List Fragments) (answers : List Kept) (tail : List ℕ) : Type 0 where
   more : List ℕ
   is : (talk_of start due draws stream).written ≡ (created_from start stream).written ++ more
   front : List Turn
@@ -115,7 +115,7 @@ record IsCreatedBy (width lasts tokens : ℕ) (start : Start) (kind : MechKind) 
   moments : AllByRecursion (IsBy moment) (answers_of back)
 
 -- there are as many turns as tokens, for the client writes each of its tokens
-as-many : (width lasts tokens : ℕ) (start : Start) (kind : MechKind) (count moment : ℕ) (due : List DueCall) (draws stream : List ℕ) (old new : BookOf) (records : List Fragments) (answers : List Kept) (tail : List ℕ)
+as-many : (width lasts tokens : ℕ) (start : StartSays) (kind : MechKind) (count moment : ℕ) (due : List DueCall) (draws stream : List ℕ) (old new : BookOf) (records : List Fragments) (answers : List Kept) (tail : List ℕ)
     → IsServed width lasts tokens start kind count moment due draws stream old new records answers tail → (a : AreTurns width lasts records answers old new) → tokens ≤ length a.turns
 as-many width lasts tokens start kind count moment due draws stream old new records answers tail x a = by-count (enough-or-short tokens (length a.turns))
   where
@@ -143,7 +143,7 @@ as-many width lasts tokens start kind count moment due draws stream old new reco
           heard = x.heard ∙ (sym a.replies ∙ sym (append-nil (flat_map (heard_in width) a.turns)));
         })
 
-served-creates : (width lasts tokens : ℕ) (start : Start) (kind : MechKind) (count moment : ℕ) (due : List DueCall) (draws stream : List ℕ) (old new : BookOf) (records : List Fragments) (answers : List Kept) (tail : List ℕ)
+served-creates : (width lasts tokens : ℕ) (start : StartSays) (kind : MechKind) (count moment : ℕ) (due : List DueCall) (draws stream : List ℕ) (old new : BookOf) (records : List Fragments) (answers : List Kept) (tail : List ℕ)
     → IsServed width lasts tokens start kind count moment due draws stream old new records answers tail → IsCreatedBy width lasts tokens start kind count moment due draws stream old new records answers tail
 served-creates width lasts tokens start kind count moment due draws stream old new records answers tail x =
     let a = answered-turns width lasts records answers old new x.answered in
@@ -188,7 +188,7 @@ served-creates width lasts tokens start kind count moment due draws stream old n
 -- ---- what comes of it
 
 -- a talk behind a creation that came to a session tells its outcome
-told-on : (due : List DueCall) (start : Start) (draws stream : List ℕ) (agreed : Outcome) → CreatesOn (created_from start stream) agreed → (talk_of start due draws stream).outcome ≡ Some agreed
+told-on : (due : List DueCall) (start : StartSays) (draws stream : List ℕ) (agreed : Outcome) → CreatesOn (created_from start stream) agreed → (talk_of start due draws stream).outcome ≡ Some agreed
 unfolding talk_of
 told-on due start draws stream agreed c =
     let made : Said SessionState = created_from start stream in
@@ -200,7 +200,7 @@ created-law width lasts tokens start kind count moment due draws stream old new 
     let r = creation-runs width lasts start kind count moment stream s.more old new s.front s.back records tail [] s.creation in
     (r.agreed, told-on due start draws stream r.agreed r.created)
 
-pub linked-done : (keys keys' : SealKeys) (key : Key) → ForSealing keys key 22 → ForSealing keys' key 24 → (width lasts tokens : ℕ) (start : Start) (kind : MechKind) (count moment : ℕ) (due : List DueCall) (draws stream : List ℕ) (old new : BookOf) (records : List Fragments) (answers : List Kept) (tail : List ℕ) (outcome : Outcome)
+pub linked-done : (keys keys' : SealKeys) (key : Key) → ForSealing keys key 22 → ForSealing keys' key 24 → (width lasts tokens : ℕ) (start : StartSays) (kind : MechKind) (count moment : ℕ) (due : List DueCall) (draws stream : List ℕ) (old new : BookOf) (records : List Fragments) (answers : List Kept) (tail : List ℕ) (outcome : Outcome)
     → IsLinked key width lasts tokens start kind count moment due draws stream old new records answers tail outcome → LinkedDone tokens start kind count moment due draws stream old new outcome
 linked-done keys keys' key for for' width lasts tokens start kind count moment due draws stream old new records answers tail outcome x =
     let v = x.served in

@@ -13,10 +13,10 @@ use Rattle.krb_msgs.specs.declared.ticket.Ticket.{Ticket}
 use Rattle.ap_exchange.specs.Draws.{drawn_nonce}
 use Rattle.ap_exchange.specs.Request.{request_of, request_token, waiting, RequestFits}
 use Rattle.spnego_core.specs.declared.setup.AcceptSetup.{AcceptSetup}
-use Rattle.spnego_core.specs.declared.setup.InitSetup.{InitSetup}
 use Rattle.spnego_core.specs.declared.setup.MechCred.{MechCred}
 use Rattle.spnego_core.specs.declared.setup.MechCred.TheVariants as creds
 use Rattle.spnego_core.specs.declared.refusal.NegRefusal.{NegRefusal}
+use Rattle.spnego_core.specs.Ends.{PlainSetup}
 use Rattle.spnego_core.specs.Choice.{is_first, is_mic_due, same_kind}
 use Rattle.spnego_core.specs.Exchange.{Occasion, TicketFits, UserFits, Fitting, rounds_of, tokens_of}
 use Rattle.spnego_core.specs.InitMech.{kind_of, kinds_of, is_own_list, cred_for, MechBegun, init_begun}
@@ -41,7 +41,7 @@ ok-value (Err refusal) e = absurd cc
 some-is : {A : Type 0} (x y : A) → Some x ≡ Some y → x ≡ y
 some-is x y e = cc
 
-told-for : (own : InitSetup) (draws : List (List ℕ)) (list : List MechCred) (kind : MechKind) (cred : MechCred) → cred_for list kind ≡ Some cred → ((i : ℕ) (c : MechCred) → slice_get list i ≡ Some c → CredTold own draws c) → CredTold own draws cred
+told-for : (own : PlainSetup) (draws : List (List ℕ)) (list : List MechCred) (kind : MechKind) (cred : MechCred) → cred_for list kind ≡ Some cred → ((i : ℕ) (c : MechCred) → slice_get list i ≡ Some c → CredTold own draws c) → CredTold own draws cred
 told-for own draws [] kind cred e told = absurd cc
 told-for own draws (one ∷ rest) kind cred e told = by-cases (same_kind (kind_of one) kind) refl (told-for own draws rest kind cred)
   where
@@ -68,10 +68,10 @@ request-goes : (credential : Granted) (stamp : ℕ) (draws : List ℕ) (bindings
 unfolding request_of
 request-goes credential stamp draws bindings granted e = rw e refl
 
-request-told : (setup : AcceptSetup) (own : InitSetup) (draws : List (List ℕ)) (credential : Granted) (occasion : Occasion) → TicketTold own draws credential → CredMeets setup own (creds.Kerberos credential) occasion → RequestFits credential own.stamp own.draws own.bindings
+request-told : (setup : AcceptSetup) (own : PlainSetup) (draws : List (List ℕ)) (credential : Granted) (occasion : Occasion) → TicketTold own draws credential → CredMeets setup own (creds.Kerberos credential) occasion → RequestFits credential own.stamp own.draws own.bindings
 request-told setup own draws credential occasion told m = told.request (ap is_ok (request-goes credential own.stamp own.draws own.bindings m.granted m.is_ticket))
 
-tickets-fit : (setup : AcceptSetup) (own : InitSetup) (draws : List (List ℕ)) (credential : Granted) → TicketTold own draws credential → (occasions : List Occasion) → Each IsDrawn (drawn_on occasions) → Each (AnswerTold own.stamp credential) (drawn_on occasions)
+tickets-fit : (setup : AcceptSetup) (own : PlainSetup) (draws : List (List ℕ)) (credential : Granted) → TicketTold own draws credential → (occasions : List Occasion) → Each IsDrawn (drawn_on occasions) → Each (AnswerTold own.stamp credential) (drawn_on occasions)
     → AllByRecursion (CredMeets setup own (creds.Kerberos credential)) occasions → AllByRecursion (Fitting setup own (creds.Kerberos credential)) occasions
 tickets-fit setup own draws credential told [] sizes answers meets = tt
 tickets-fit setup own draws credential told (occasion ∷ occasions) sizes answers meets = (
@@ -79,22 +79,22 @@ tickets-fit setup own draws credential told (occasion ∷ occasions) sizes answe
   tickets-fit setup own draws credential told occasions (λ i drawn e. sizes (suc i) drawn e) (λ i drawn e. answers (suc i) drawn e) meets.1,
 )
 
-users-fit : (setup : AcceptSetup) (own : InitSetup) (user password : List ℕ) (occasions : List Occasion) → Each IsDrawn (drawn_on occasions) → AllByRecursion (CredMeets setup own (creds.Scram user password)) occasions → AllByRecursion (Fitting setup own (creds.Scram user password)) occasions
+users-fit : (setup : AcceptSetup) (own : PlainSetup) (user password : List ℕ) (occasions : List Occasion) → Each IsDrawn (drawn_on occasions) → AllByRecursion (CredMeets setup own (creds.Scram user password)) occasions → AllByRecursion (Fitting setup own (creds.Scram user password)) occasions
 users-fit setup own user password [] sizes meets = tt
 users-fit setup own user password (occasion ∷ occasions) sizes meets = (record { drawn = sizes zero occasion.drawn refl; facts = meets.0 }, users-fit setup own user password occasions (λ i drawn e. sizes (suc i) drawn e) meets.1)
 
-all-fit : (setup : AcceptSetup) (own : InitSetup) (cred : MechCred) (occasions : List Occasion) → Each IsDrawn (drawn_on occasions) → CredTold own (drawn_on occasions) cred → AllByRecursion (CredMeets setup own cred) occasions → AllByRecursion (Fitting setup own cred) occasions
+all-fit : (setup : AcceptSetup) (own : PlainSetup) (cred : MechCred) (occasions : List Occasion) → Each IsDrawn (drawn_on occasions) → CredTold own (drawn_on occasions) cred → AllByRecursion (CredMeets setup own cred) occasions → AllByRecursion (Fitting setup own cred) occasions
 all-fit setup own (creds.Kerberos credential) occasions sizes told meets = tickets-fit setup own (drawn_on occasions) credential told occasions sizes told.answers meets
 all-fit setup own (creds.Scram user password) occasions sizes told meets = users-fit setup own user password occasions sizes meets
 
 -- ---- how the chosen mechanism begins
 
-record Begins (own : InitSetup) (cred : MechCred) : Type 0 where
+record Begins (own : PlainSetup) (cred : MechCred) : Type 0 where
   begun : MechBegun
   begins : init_begun own cred ≡ Ok begun
   short : IsShort (resp_octets (token_sent begun.token))
 
-begins-on : (setup : AcceptSetup) (own : InitSetup) (draws : List (List ℕ)) (cred : MechCred) (occasion : Occasion) → IsDrawn own.draws → CredTold own draws cred → Fitting setup own cred occasion → Begins own cred
+begins-on : (setup : AcceptSetup) (own : PlainSetup) (draws : List (List ℕ)) (cred : MechCred) (occasion : Occasion) → IsDrawn own.draws → CredTold own draws cred → Fitting setup own cred occasion → Begins own cred
 begins-on setup own draws (creds.Kerberos credential) occasion size told f =
     let h : TicketFits setup own credential occasion = f.facts in
     let token : List ℕ = request_token credential own.stamp own.draws own.bindings in record {
@@ -115,13 +115,13 @@ one-token : (first due : Bool) (kind : MechKind) → 1 ≤ (if first then 0 else
 one-token first due kinds.Kerberos = omega arith
 one-token first due kinds.Scram = omega arith
 
-begins-some : (setup : AcceptSetup) (own : InitSetup) (draws : List (List ℕ)) (kind : MechKind) (cred : MechCred) (occasions : List Occasion) → length occasions ≡ tokens_of setup own kind → IsDrawn own.draws → CredTold own draws cred → AllByRecursion (Fitting setup own cred) occasions → Begins own cred
+begins-some : (setup : AcceptSetup) (own : PlainSetup) (draws : List (List ℕ)) (kind : MechKind) (cred : MechCred) (occasions : List Occasion) → length occasions ≡ tokens_of setup own kind → IsDrawn own.draws → CredTold own draws cred → AllByRecursion (Fitting setup own cred) occasions → Begins own cred
 begins-some setup own draws kind cred [] counted size told fit = absurd (omega (arith, counted, one-token (is_first (kinds_of own.list) kind) (is_mic_due setup.offer (own_list own) kind) kind))
 begins-some setup own draws kind cred (occasion ∷ occasions) counted size told fit = begins-on setup own draws cred occasion size told fit.0
 
 -- ---- the pair
 
-pub meeting : (own : InitSetup) (draws : List (List ℕ)) → SetupTold own draws → MeetLaw own draws
+pub meeting : (own : PlainSetup) (draws : List (List ℕ)) → SetupTold own draws → MeetLaw own draws
 meeting own draws told setup kind occasions same m =
     let s = ok-value {A = Started} {E = NegRefusal} (init_start own) m.begins in
     let known : CredTold own draws m.cred = told-for own draws own.list kind m.cred m.is_cred told.creds in
@@ -143,7 +143,7 @@ meeting own draws told setup kind occasions same m =
     }
 
 -- what a call tells that may want memory
-pub if-told : {E : Type 0} (own : InitSetup) (draws : List (List ℕ)) (result : Result (Unit {0}) E) → is_own_list own.list ≡ true → IsDrawn own.draws → Each IsDrawn draws → ((i : ℕ) (cred : MechCred) → slice_get own.list i ≡ Some cred → CredTold own draws cred)
+pub if-told : {E : Type 0} (own : PlainSetup) (draws : List (List ℕ)) (result : Result (Unit {0}) E) → is_own_list own.list ≡ true → IsDrawn own.draws → Each IsDrawn draws → ((i : ℕ) (cred : MechCred) → slice_get own.list i ≡ Some cred → CredTold own draws cred)
     → IfOk result (λ _. (started : Started) → init_start own ≡ Ok started → IsShort started.token) → IfOk result (λ _. MeetLaw own draws)
 if-told own draws (Ok done) list drawn all_drawn creds short = meeting own draws (record { list = list; drawn = drawn; all_drawn = all_drawn; short = short; creds = creds })
 if-told own draws (Err refusal) list drawn all_drawn creds short = tt

@@ -9,6 +9,7 @@ use Rattle.spnego_core.specs.declared.outcome.Outcome.{Outcome}
 use Rattle.spnego_core.specs.declared.setup.AcceptSetup.{AcceptSetup}
 use Rattle.spnego_core.specs.declared.accept_end.AcceptEnd.{AcceptEnd}
 use Rattle.spnego_core.specs.declared.accept_end.AcceptStep.TheVariants as steps
+use Rattle.spnego_core.specs.Ends.{EndSays}
 use Rattle.accept_core.specs.declared.entry.Entry.{Entry}
 use Rattle.accept_book.specs.Booking.{BookOf, Fits, mark_of, NotesMoment, names_of}
 use Rattle.accept_core.specs.Entering.{id_of, entered, noted}
@@ -17,11 +18,10 @@ use Rattle.pair_laws.proofs.Settling.{ComesTo}
 use Rattle.std.proofs.lemmas.List.{append-nil}
 use Rattle.spnego_core.specs.Exchange as exchange
 use Rattle.spnego_core.specs.Sizes.{IsShort}
-use Rattle.spnego_core.specs.declared.init_end.InitEnd.{InitEnd}
 use Rattle.accept_book.specs.RecordShown.{Ruling, handle_of}
 use Rattle.accept_book.specs.RecordRule.{record_ruling}
 use Rattle.rpcsec_bodies.specs.declared.service.Service.{Service}
-use Rattle.gss_client.specs.declared.creation.Offer.{Offer}
+use Rattle.gss_client.specs.Creation.{OfferSays}
 use Rattle.gss_client.specs.Calling.{creation_call}
 use Rattle.gss_client.specs.Session.{SessionState, xid_after}
 use Rattle.gss_client.specs.Talk.{begun, creates}
@@ -54,7 +54,7 @@ abbrev pub occasions_on : List Turn → List exchange.Occasion → List exchange
 occasions_on front extra = map occasion_of (answers_of front) ++ extra
 
 -- a creation that is due, from some turn on; behind its turns further tokens may be due
-pub record Due (setup : AcceptSetup) (width lasts left : ℕ) (service : Service) (first xid : ℕ) (id : Option ℕ) (acceptor : AcceptEnd) (initiator : InitEnd) (token : List ℕ) (front : List Turn) (extra : List exchange.Occasion) (back : List Turn) (records : List Fragments) (tail rest stream more : List ℕ) (outcome : Outcome) (count moment : ℕ) (marked : Bool) (old new : BookOf) : Type 0 where
+pub record Due (setup : AcceptSetup) (width lasts left : ℕ) (service : Service) (first xid : ℕ) (id : Option ℕ) (acceptor : AcceptEnd) (initiator : EndSays) (token : List ℕ) (front : List Turn) (extra : List exchange.Occasion) (back : List Turn) (records : List Fragments) (tail rest stream more : List ℕ) (outcome : Outcome) (count moment : ℕ) (marked : Bool) (old new : BookOf) : Type 0 where
   pub some_width : 0 < width
   pub width_fits : width < 2 ^ 32
   pub xids : xid + length front < 2 ^ 32
@@ -111,10 +111,10 @@ limits-on : (old middle new : BookOf) → SameLimits old middle → SameLimits m
 limits-on old middle new a b = record { setup = b.setup ∙ a.setup; limit = b.limit ∙ a.limit; width = b.width ∙ a.width; contexts = b.contexts ∙ a.contexts; capacity = b.capacity ∙ a.capacity }
 
 -- the first record is the call
-front-call : (left : ℕ) (service : Service) (first xid : ℕ) (id : Option ℕ) (initiator : InitEnd) (token : List ℕ) (turn : Turn) (cut : Fragments) (stream more rest : List ℕ) → length token ≤ 65536 → IsRecord cut → octets_in cut ≡ turn.octets
+front-call : (left : ℕ) (service : Service) (first xid : ℕ) (id : Option ℕ) (initiator : EndSays) (token : List ℕ) (turn : Turn) (cut : Fragments) (stream more rest : List ℕ) → length token ≤ 65536 → IsRecord cut → octets_in cut ≡ turn.octets
     → (creates (suc left) service first xid (proc_for id) (record { end = initiator; handle = handle_for id; token = token }) stream).written ++ more ≡ frame cut ++ rest → turn.octets ≡ creation_call service xid (proc_for id) (handle_for id) token
 front-call left service first xid id initiator token turn cut stream more rest few r same written =
-    let offer : Offer = record { end = initiator; handle = handle_for id; token = token } in
+    let offer : OfferSays = record { end = initiator; handle = handle_for id; token = token } in
     let call : List ℕ = creation_call service xid (proc_for id) (handle_for id) token in
     let f = creates-front left service first xid (proc_for id) offer stream in
     let s = same-front call (f.more ++ more) cut rest (creation-fits service xid id token few) r (sym (ap (λ (zs : List ℕ). zs ++ more) f.same ∙ append_assoc (last_fragment call) f.more more) ∙ written) in
@@ -157,11 +157,11 @@ more-entries : (own moment : ℕ) (settled : Entry) (id : Option ℕ) (mark : Op
 more-entries own moment settled id mark [] count e here old each = absurd (omega (arith, e))
 more-entries own moment settled id mark (two ∷ marks) count e here old each = each two marks
 
-opens-last : (setup : AcceptSetup) (width lasts left : ℕ) (service : Service) (first xid : ℕ) (id : Option ℕ) (acceptor : AcceptEnd) (initiator : InitEnd) (token : List ℕ) (turn : Turn) (back : List Turn) (cut : Fragments) (records : List Fragments) (tail rest stream more : List ℕ) (outcome : Outcome) (count moment : ℕ) (marked : Bool) (old new : BookOf)
+opens-last : (setup : AcceptSetup) (width lasts left : ℕ) (service : Service) (first xid : ℕ) (id : Option ℕ) (acceptor : AcceptEnd) (initiator : EndSays) (token : List ℕ) (turn : Turn) (back : List Turn) (cut : Fragments) (records : List Fragments) (tail rest stream more : List ℕ) (outcome : Outcome) (count moment : ℕ) (marked : Bool) (old new : BookOf)
     → Due setup width lasts (suc left) service first xid id acceptor initiator token (turn ∷ []) [] back (cut ∷ records) tail rest stream more outcome count moment marked old new
     → Done setup width lasts id outcome marked (creates (suc left) service first xid (proc_for id) (record { end = initiator; handle = handle_for id; token = token }) stream) (turn ∷ []) back tail more count moment old new
 opens-last setup width lasts left service first xid id acceptor initiator token turn back cut records tail rest stream more outcome count moment marked old new d =
-    let offer : Offer = record { end = initiator; handle = handle_for id; token = token } in
+    let offer : OfferSays = record { end = initiator; handle = handle_for id; token = token } in
     let call : List ℕ = creation_call service xid (proc_for id) (handle_for id) token in
     let done : exchange.IsDone setup (occasion_of turn.kept) acceptor initiator token outcome = d.completes in
     let xids : xid < 2 ^ 32 = omega (arith, d.xids) in
@@ -214,7 +214,7 @@ opens-last setup width lasts left service first xid id acceptor initiator token 
     }
 
 -- what a turn leaves due that isn't the last: the client goes on with its next token
-pub record Stepped (setup : AcceptSetup) (width lasts left : ℕ) (service : Service) (first xid : ℕ) (id : Option ℕ) (acceptor : AcceptEnd) (initiator : InitEnd) (token : List ℕ) (turn : Turn) (front : List Turn) (extra : List exchange.Occasion) (back : List Turn) (records : List Fragments) (tail rest stream more : List ℕ) (outcome : Outcome) (count moment : ℕ) (marked : Bool) (new : BookOf) (g : exchange.GoesOn setup (occasion_of turn.kept) acceptor initiator token) : Type 0 where
+pub record Stepped (setup : AcceptSetup) (width lasts left : ℕ) (service : Service) (first xid : ℕ) (id : Option ℕ) (acceptor : AcceptEnd) (initiator : EndSays) (token : List ℕ) (turn : Turn) (front : List Turn) (extra : List exchange.Occasion) (back : List Turn) (records : List Fragments) (tail rest stream more : List ℕ) (outcome : Outcome) (count moment : ℕ) (marked : Bool) (new : BookOf) (g : exchange.GoesOn setup (occasion_of turn.kept) acceptor initiator token) : Type 0 where
   pub is : turn.octets ≡ creation_call service xid (proc_for id) (handle_for id) token
   pub opened : Turns setup service width xid id token (id_of id turn.before.core.history) count moment marked turn (steps.More g.acceptor_after g.reply)
   pub behind : List ℕ
@@ -222,13 +222,13 @@ pub record Stepped (setup : AcceptSetup) (width lasts left : ℕ) (service : Ser
       ≡ after (last_fragment (creation_call service xid (proc_for id) (handle_for id) token)) (creates left service first (xid + 1) 2 (record { end = g.initiator_after; handle = handle_of (id_of id turn.before.core.history); token = g.further }) behind)
   pub due : Due setup width lasts left service first (xid + 1) (Some (id_of id turn.before.core.history)) g.acceptor_after g.initiator_after g.further front extra back records tail rest behind more outcome count moment (marked_after marked opened.asked) turn.after new
 
-pub steps-on : (setup : AcceptSetup) (width lasts left : ℕ) (service : Service) (first xid : ℕ) (id : Option ℕ) (acceptor : AcceptEnd) (initiator : InitEnd) (token : List ℕ) (turn : Turn) (front : List Turn) (extra : List exchange.Occasion) (back : List Turn) (cut : Fragments) (records : List Fragments) (tail rest stream more : List ℕ) (outcome : Outcome) (count moment : ℕ) (marked : Bool) (old new : BookOf)
+pub steps-on : (setup : AcceptSetup) (width lasts left : ℕ) (service : Service) (first xid : ℕ) (id : Option ℕ) (acceptor : AcceptEnd) (initiator : EndSays) (token : List ℕ) (turn : Turn) (front : List Turn) (extra : List exchange.Occasion) (back : List Turn) (cut : Fragments) (records : List Fragments) (tail rest stream more : List ℕ) (outcome : Outcome) (count moment : ℕ) (marked : Bool) (old new : BookOf)
     → Due setup width lasts (suc left) service first xid id acceptor initiator token (turn ∷ front) extra back (cut ∷ records) tail rest stream more outcome count moment marked old new
     → (g : exchange.GoesOn setup (occasion_of turn.kept) acceptor initiator token) → IsStamped setup moment (occasion_of turn.kept) acceptor token → IsShort g.reply
     → (c : exchange.Completes setup (occasions_on front extra) g.acceptor_after g.initiator_after g.further outcome) → Walks setup moment moment (occasions_on front extra) g.acceptor_after g.initiator_after g.further outcome c
     → Stepped setup width lasts left service first xid id acceptor initiator token turn front extra back records tail rest stream more outcome count moment marked new g
 steps-on setup width lasts left service first xid id acceptor initiator token turn front extra back cut records tail rest stream more outcome count moment marked old new d g stamped short c walks =
-    let offer : Offer = record { end = initiator; handle = handle_for id; token = token } in
+    let offer : OfferSays = record { end = initiator; handle = handle_for id; token = token } in
     let call : List ℕ = creation_call service xid (proc_for id) (handle_for id) token in
     let many : xid + suc (length front) < 2 ^ 32 = d.xids in
     let enough : suc (length (occasions_on front extra)) ≤ suc left = d.turns in
@@ -248,7 +248,7 @@ steps-on setup width lasts left service first xid id acceptor initiator token tu
     let is_reply : (record_ruling call turn.kept width).reply ≡ Some reply = ap (λ (r : Ruling). r.reply) o.turned.ruled in
     let behind : List ℕ = flat_map (heard_in width) (front ++ back) ++ rest in
     let stream_is : stream ≡ last_fragment reply ++ behind = heard-reply width turn (front ++ back) stream call reply rest d.heard is is_reply in
-    let further : Offer = record { end = g.initiator_after; handle = handle_of own; token = g.further } in
+    let further : OfferSays = record { end = g.initiator_after; handle = handle_of own; token = g.further } in
     let all : creates (suc left) service first xid (proc_for id) offer stream ≡ after (last_fragment call) (creates left service first (xid_after xid) 2 further behind) =
     ap (λ (zs : List ℕ). creates (suc left) service first xid (proc_for id) offer zs) stream_is
     ∙ continued left service first xid (proc_for id) offer further reply behind (going-fits xid own g.reply o.turned.size) (creation-goes xid initiator g.initiator_after own g.reply g.further xids o.turned.size g.initiates) in
@@ -291,13 +291,13 @@ steps-on setup width lasts left service first xid id acceptor initiator token tu
       };
     }
 
-opens-more : (setup : AcceptSetup) (width lasts left : ℕ) (service : Service) (first xid : ℕ) (id : Option ℕ) (acceptor : AcceptEnd) (initiator : InitEnd) (token : List ℕ) (turn next : Turn) (later back : List Turn) (cut : Fragments) (records : List Fragments) (tail rest stream more : List ℕ) (outcome : Outcome) (count moment : ℕ) (marked : Bool) (old new : BookOf)
-    → ((own : ℕ) (acceptor : AcceptEnd) (initiator : InitEnd) (token : List ℕ) (stream : List ℕ) (marked : Bool) (old : BookOf) → Due setup width lasts left service first (xid + 1) (Some own) acceptor initiator token (next ∷ later) [] back records tail rest stream more outcome count moment marked old new
+opens-more : (setup : AcceptSetup) (width lasts left : ℕ) (service : Service) (first xid : ℕ) (id : Option ℕ) (acceptor : AcceptEnd) (initiator : EndSays) (token : List ℕ) (turn next : Turn) (later back : List Turn) (cut : Fragments) (records : List Fragments) (tail rest stream more : List ℕ) (outcome : Outcome) (count moment : ℕ) (marked : Bool) (old new : BookOf)
+    → ((own : ℕ) (acceptor : AcceptEnd) (initiator : EndSays) (token : List ℕ) (stream : List ℕ) (marked : Bool) (old : BookOf) → Due setup width lasts left service first (xid + 1) (Some own) acceptor initiator token (next ∷ later) [] back records tail rest stream more outcome count moment marked old new
     → Done setup width lasts (Some own) outcome marked (creates left service first (xid + 1) 2 (record { end = initiator; handle = handle_of own; token = token }) stream) (next ∷ later) back tail more count moment old new)
     → Due setup width lasts (suc left) service first xid id acceptor initiator token (turn ∷ next ∷ later) [] back (cut ∷ records) tail rest stream more outcome count moment marked old new
     → Done setup width lasts id outcome marked (creates (suc left) service first xid (proc_for id) (record { end = initiator; handle = handle_for id; token = token }) stream) (turn ∷ next ∷ later) back tail more count moment old new
 opens-more setup width lasts left service first xid id acceptor initiator token turn next later back cut records tail rest stream more outcome count moment marked old new ih d =
-    let offer : Offer = record { end = initiator; handle = handle_for id; token = token } in
+    let offer : OfferSays = record { end = initiator; handle = handle_for id; token = token } in
     let call : List ℕ = creation_call service xid (proc_for id) (handle_for id) token in
     let g = d.completes.0 in
     let v : IsTurn width lasts turn = d.row.1 in
@@ -305,7 +305,7 @@ opens-more setup width lasts left service first xid id acceptor initiator token 
     let own_is : own ≡ count + 1 = subst (λ (b : BookOf). id_of id b.core.history ≡ count + 1) (sym d.row.0) d.own in
     let t = steps-on setup width lasts left service first xid id acceptor initiator token turn (next ∷ later) [] back cut records tail rest stream more outcome count moment marked old new d g d.walks.0 d.walks.1 d.completes.1 d.walks.2 in
     let o = t.opened in
-    let further : Offer = record { end = g.initiator_after; handle = handle_of own; token = g.further } in
+    let further : OfferSays = record { end = g.initiator_after; handle = handle_of own; token = g.further } in
     let part : Said SessionState = creates left service first (xid + 1) 2 further t.behind in
     let is : turn.octets ≡ call = t.is in
     let wrote : (creates (suc left) service first xid (proc_for id) offer stream).written ≡ last_fragment call ++ part.written = ap (λ (s : Said SessionState). s.written) t.goes in
@@ -343,7 +343,7 @@ opens-more setup width lasts left service first xid id acceptor initiator token 
       ready = r.ready;
     }
 
-pub opens-on : (setup : AcceptSetup) (width lasts left : ℕ) (service : Service) (first xid : ℕ) (id : Option ℕ) (acceptor : AcceptEnd) (initiator : InitEnd) (token : List ℕ) (front back : List Turn) (records : List Fragments) (tail rest stream more : List ℕ) (outcome : Outcome) (count moment : ℕ) (marked : Bool) (old new : BookOf)
+pub opens-on : (setup : AcceptSetup) (width lasts left : ℕ) (service : Service) (first xid : ℕ) (id : Option ℕ) (acceptor : AcceptEnd) (initiator : EndSays) (token : List ℕ) (front back : List Turn) (records : List Fragments) (tail rest stream more : List ℕ) (outcome : Outcome) (count moment : ℕ) (marked : Bool) (old new : BookOf)
     → Due setup width lasts left service first xid id acceptor initiator token front [] back records tail rest stream more outcome count moment marked old new
     → Done setup width lasts id outcome marked (creates left service first xid (proc_for id) (record { end = initiator; handle = handle_for id; token = token }) stream) front back tail more count moment old new
 opens-on setup width lasts left service first xid id acceptor initiator token [] back records tail rest stream more outcome count moment marked old new d = absurd d.completes

@@ -13,8 +13,8 @@ use Rattle.accept_book.specs.declared.book_answer.Lease.{Lease}
 use Rattle.gss_client.specs.declared.conversation.Parting.TheVariants.{Spent, Foreign}
 use Rattle.gss_client.specs.declared.procedure.Procedure.{Procedure}
 use Rattle.gss_client.specs.declared.refusal.ClientRefusal.{ClientRefusal}
+use Rattle.gss_client.specs.Start.{StartSays}
 use Rattle.rpcsec_bodies.specs.declared.service.Service.{Service}
-use Rattle.gss_client.specs.declared.start.Start.{Start}
 use Rattle.gss_client.specs.Conversation.{Conversed, conversed, behind, leaves, goes_on, converses, talk, by_session, by_creation}
 use Rattle.gss_client.specs.Procedure.{procedure_number, is_result}
 use Rattle.gss_client.specs.Session.{SessionState}
@@ -50,7 +50,7 @@ same-opening : (times : ℕ) (call : DueCall) (draws written rest : List ℕ) (a
 same-opening times call draws written rest (Ok s) = ap (λ (c : Conversed). by_session written (Some s.outcome) c) (equal-calls times call s draws rest)
 same-opening times call draws written rest (Err refusal) = refl
 
-pub equal-session : (start : Start) (times : ℕ) (call : DueCall) (draws stream : List ℕ) → talk start times call.procedure call.args draws stream ≡ talk_of start (replicate times call) draws stream
+pub equal-session : (start : StartSays) (times : ℕ) (call : DueCall) (draws stream : List ℕ) → talk start times call.procedure call.args draws stream ≡ talk_of start (replicate times call) draws stream
 unfolding talk talk_of
 equal-session start times call draws stream =
     let made : Said SessionState = created_from start stream in same-opening times call draws made.written made.rest made.answer
@@ -77,7 +77,7 @@ every : (service : Service) (times : ℕ) (call : DueCall) → IsProper service 
 every service zero call own = tt
 every service (suc left) call own = (own, every service left call own)
 
-pub runs : (keys keys' : SealKeys) (setup : AcceptSetup) (width : ℕ) (start : Start) (stream : List ℕ) (x : HonestExchange setup width start stream) (c : Completes setup width start stream x) (times : ℕ) (procedure : Procedure) (args draws : List ℕ) → ForSealing keys c.outcome.key 22 → ForSealing keys' c.outcome.key 24
+pub runs : (keys keys' : SealKeys) (setup : AcceptSetup) (width : ℕ) (start : StartSays) (stream : List ℕ) (x : HonestExchange setup width start stream) (c : Completes setup width start stream x) (times : ℕ) (procedure : Procedure) (args draws : List ℕ) → ForSealing keys c.outcome.key 22 → ForSealing keys' c.outcome.key 24
     → (r : HonestRun setup width start stream x c times procedure args draws) → Runs setup width start stream x c times procedure args draws r
 runs keys keys' setup width start stream x c times procedure args draws for for' r =
     let call : DueCall = record { procedure = procedure; args = args } in

@@ -27,8 +27,8 @@ use Rattle.accept_book.proofs.HonestRecords.{honest-ruled}
 use Rattle.gss_client.specs.declared.conversation.Parting.{Parting}
 use Rattle.gss_client.specs.declared.conversation.Parting.TheVariants.{Finished, Spent}
 use Rattle.gss_client.specs.declared.procedure.Procedure.{Procedure}
+use Rattle.gss_client.specs.Start.{StartSays}
 use Rattle.rpcsec_bodies.specs.declared.service.Service.{Service}
-use Rattle.gss_client.specs.declared.start.Start.{Start}
 use Rattle.gss_client.specs.Calling.{data_call, destroy_call}
 use Rattle.gss_client.specs.Conversation.{Conversed, conversed, behind, leaves, goes_on}
 use Rattle.gss_client.specs.Procedure.{procedure_number, is_result}
@@ -283,7 +283,7 @@ run-all keys keys' width lease Word k service for for' id named (call ∷ later)
 by-each : (width : ℕ) (lease : Lease) → Serving width lease (λ left core turns. Serves width lease core turns)
 by-each width lease = record { served = λ left core turn turns w. w.0; later = λ left core turn turns w entry history notes. w.1 }
 
-pub session-runs : (keys keys' : SealKeys) (setup : AcceptSetup) (width : ℕ) (start : Start) (stream : List ℕ) (x : HonestExchange setup width start stream) (c : Completes setup width start stream x) (due : List DueCall) (draws : List ℕ) → ForSealing keys c.outcome.key 22 → ForSealing keys' c.outcome.key 24
+pub session-runs : (keys keys' : SealKeys) (setup : AcceptSetup) (width : ℕ) (start : StartSays) (stream : List ℕ) (x : HonestExchange setup width start stream) (c : Completes setup width start stream x) (due : List DueCall) (draws : List ℕ) → ForSealing keys c.outcome.key 22 → ForSealing keys' c.outcome.key 24
     → (r : HonestSession setup width start stream x c due draws) → SessionRuns setup width start stream x c due draws r
 unfolding talk_of
 session-runs keys keys' setup width start stream x c due draws for for' r =

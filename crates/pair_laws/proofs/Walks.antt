@@ -32,14 +32,9 @@ use Rattle.spnego_core.specs.declared.refusal.NegRefusal.{NegRefusal}
 use Rattle.spnego_core.specs.declared.refusal.NegRefusal.TheVariants.{Defective, Rejected, MicMissing, MicBad}
 use Rattle.spnego_core.specs.declared.refusal.MechRefusal.{MechRefusal}
 use Rattle.spnego_core.specs.declared.setup.AcceptSetup.{AcceptSetup}
-use Rattle.spnego_core.specs.declared.setup.InitSetup.{InitSetup}
 use Rattle.spnego_core.specs.declared.setup.MechCred.{MechCred}
 use Rattle.spnego_core.specs.declared.setup.MechCred.TheVariants as creds
 use Rattle.spnego_core.specs.declared.init_mech.InitMech.{InitMech}
-use Rattle.spnego_core.specs.declared.init_end.InitEnd.{InitEnd}
-use Rattle.spnego_core.specs.declared.init_end.InitEnd.TheVariants as inits
-use Rattle.spnego_core.specs.declared.init_end.InitStep.{InitStep}
-use Rattle.spnego_core.specs.declared.init_end.InitStep.TheVariants as initiated
 use Rattle.spnego_core.specs.declared.accept_mech.AcceptMech.{AcceptMech}
 use Rattle.spnego_core.specs.declared.accept_mech.AcceptMech.TheVariants as mechs
 use Rattle.spnego_core.specs.declared.accept_end.Turn.{Turn}
@@ -54,6 +49,10 @@ use Rattle.spnego_core.specs.declared.accept_end.Answered.TheVariants as afters
 use Rattle.spnego_core.specs.declared.accept_end.AcceptPause.{AcceptPause}
 use Rattle.spnego_core.specs.declared.accept_end.AcceptStep.{AcceptStep}
 use Rattle.spnego_core.specs.declared.accept_end.AcceptStep.TheVariants as steps
+use Rattle.spnego_core.specs.Ends.{PlainSetup, EndSays}
+use Rattle.spnego_core.specs.Ends as inits
+use Rattle.spnego_core.specs.EndSteps.{StepSays}
+use Rattle.spnego_core.specs.EndSteps as initiated
 use Rattle.spnego_core.specs.Steps.{◌>>=◌, due, or_refuse}
 use Rattle.spnego_core.specs.Outcome.{outcome_of}
 use Rattle.spnego_core.specs.ListMic.{list_mic, is_list_mic}
@@ -230,12 +229,12 @@ abbrev IsNow : ℕ → Occasion → Type 0
 IsNow moment occasion = occasion.now ≡ moment
 
 -- a dialogue walks so, and its outcome has the credential's names
-record WalksOn (setup : AcceptSetup) (stamp moment : ℕ) (cred : MechCred) (occasions : List Occasion) (acceptor : AcceptEnd) (initiator : InitEnd) (token : List ℕ) (outcome : Outcome) (c : Completes setup occasions acceptor initiator token outcome) : Type 0 where
+record WalksOn (setup : AcceptSetup) (stamp moment : ℕ) (cred : MechCred) (occasions : List Occasion) (acceptor : AcceptEnd) (initiator : EndSays) (token : List ℕ) (outcome : Outcome) (c : Completes setup occasions acceptor initiator token outcome) : Type 0 where
   walks : Walks setup stamp moment occasions acceptor initiator token outcome c
   names : HasNames cred outcome
 
 -- from a step that is fine all others are
-walks-from : (setup : AcceptSetup) (stamp moment : ℕ) (cred : MechCred) (first : Occasion) (rest : List Occasion) (acceptor : AcceptEnd) (initiator : InitEnd) (token : List ℕ) (outcome : Outcome) → moment ≤ greatest_moment → AllByRecursion (IsNow moment) rest
+walks-from : (setup : AcceptSetup) (stamp moment : ℕ) (cred : MechCred) (first : Occasion) (rest : List Occasion) (acceptor : AcceptEnd) (initiator : EndSays) (token : List ℕ) (outcome : Outcome) → moment ≤ greatest_moment → AllByRecursion (IsNow moment) rest
     → FineOf stamp moment cred (accepting.step_of (accepting.accept_step setup acceptor token first.now first.drawn)) → (c : Completes setup (first ∷ rest) acceptor initiator token outcome) → WalksOn setup stamp moment cred (first ∷ rest) acceptor initiator token outcome c
 walks-from setup stamp moment cred first [] acceptor initiator token outcome known at fine c =
     let step : Result AcceptStep NegRefusal = accepting.step_of (accepting.accept_step setup acceptor token first.now first.drawn) in
@@ -253,7 +252,7 @@ at-most : (a b : ℕ) → nat_le a b ≡ true → a ≤ b
 at-most a b e = grind (arith, nat_tests)
 
 -- Kerberos: its mark is of the stamp
-request-fine : (setup : AcceptSetup) (own : InitSetup) (credential : Granted) (occasion : Occasion) (moment : ℕ) (turn : Turn) (chosen : Chosen) → length own.draws ≡ 66 → length occasion.drawn ≡ 66 → TicketFits setup own credential occasion → moment ≤ greatest_moment → occasion.now ≡ moment
+request-fine : (setup : AcceptSetup) (own : PlainSetup) (credential : Granted) (occasion : Occasion) (moment : ℕ) (turn : Turn) (chosen : Chosen) → length own.draws ≡ 66 → length occasion.drawn ≡ 66 → TicketFits setup own credential occasion → moment ≤ greatest_moment → occasion.now ≡ moment
     → FineOf own.stamp moment (creds.Kerberos credential) (accepting.step_of (accepting.run turn chosen (accept_taken setup mechs.Kerberos (request_token credential own.stamp own.draws own.bindings) occasion.now occasion.drawn)))
 unfolding accept_taken
 request-fine setup own credential occasion moment turn chosen draws drawn h known at =
@@ -272,11 +271,11 @@ started-user user password draw bindings started e =
     ap (λ (s : InitStarted). s.end.user) (sym (given_is _ started c.2))
 
 -- what the two rounds of an honest pair come to
-abbrev Pairs : AcceptSetup → InitSetup → List ℕ → List ℕ → Occasion → Occasion → Type 0
+abbrev Pairs : AcceptSetup → PlainSetup → List ℕ → List ℕ → Occasion → Occasion → Type 0
 Pairs setup own user password first second = scram_laws.Agrees user password (drawn_nonce own.draws) (drawn_nonce first.drawn) own.bindings setup.bindings setup.verifiers second.now
 
 -- the line that was taken is the user's
-line-user : (setup : AcceptSetup) (own : InitSetup) (user password : List ℕ) (first second : Occasion) → (p : Pairs setup own user password first second) → p.taken.end.line.name ≡ user
+line-user : (setup : AcceptSetup) (own : PlainSetup) (user password : List ℕ) (first second : Occasion) → (p : Pairs setup own user password first second) → p.taken.end.line.name ≡ user
 line-user setup own user password first second p =
     let line : p.accepted.done.initiator ≡ p.taken.end.line.name = ap (λ (f : AcceptFinished). f.done.initiator) (accepts p.taken.end p.proved.token setup.bindings second.now p.accepted p.accepts).same in
     let waits : p.finished.done.initiator ≡ p.proved.end.user = (completes p.proved.end p.accepted.token p.finished p.finishes).initiator in
@@ -284,7 +283,7 @@ line-user setup own user password first second p =
     sym line ∙ sym p.initiator ∙ waits ∙ answers ∙ started-user user password (drawn_nonce own.draws) own.bindings p.started p.starts
 
 -- SCRAM: the text asks for no mark
-text-fine : (setup : AcceptSetup) (own : InitSetup) (user password : List ℕ) (occasion : Occasion) (moment : ℕ) (turn : Turn) (chosen : Chosen) → UserFits setup own user password occasion → (p : Pairs setup own user password occasion occasion)
+text-fine : (setup : AcceptSetup) (own : PlainSetup) (user password : List ℕ) (occasion : Occasion) (moment : ℕ) (turn : Turn) (chosen : Chosen) → UserFits setup own user password occasion → (p : Pairs setup own user password occasion occasion)
     → FineOf own.stamp moment (creds.Scram user password) (accepting.step_of (accepting.run turn chosen (accept_taken setup mechs.Scram (text_begins p.started).token occasion.now occasion.drawn)))
 text-fine setup own user password occasion moment turn chosen h p =
     let r = texts-go setup own user password occasion occasion h p in
@@ -295,7 +294,7 @@ begun-is : (a b : MechBegun) (r : Result MechBegun MechRefusal) → r ≡ Ok a �
 begun-is a b r e f = let both : Ok a ≡ Ok b = sym e ∙ f in cc
 
 -- by the credential
-chosen-fine : (setup : AcceptSetup) (own : InitSetup) (cred : MechCred) (occasion : Occasion) (moment : ℕ) (turn : Turn) (end : AcceptEnd) (octets : List ℕ) (chosen : Chosen) (begun : MechBegun) → length own.draws ≡ 66 → Hears setup end octets turn chosen (accept_begun (kind_of cred)) begun.token → init_begun own cred ≡ Ok begun
+chosen-fine : (setup : AcceptSetup) (own : PlainSetup) (cred : MechCred) (occasion : Occasion) (moment : ℕ) (turn : Turn) (end : AcceptEnd) (octets : List ℕ) (chosen : Chosen) (begun : MechBegun) → length own.draws ≡ 66 → Hears setup end octets turn chosen (accept_begun (kind_of cred)) begun.token → init_begun own cred ≡ Ok begun
     → Fitting setup own cred occasion → moment ≤ greatest_moment → occasion.now ≡ moment → FineOf own.stamp moment cred (accepting.step_of (accepting.accept_step setup end octets occasion.now occasion.drawn))
 chosen-fine setup own (creds.Kerberos credential) occasion moment turn end octets chosen begun draws hears begins fits known at =
     let same : begun ≡ request_begins own credential = begun-is begun (request_begins own credential) (init_begun own (creds.Kerberos credential)) begins (request-begins setup own credential occasion fits.facts) in
@@ -309,7 +308,7 @@ chosen-fine setup own (creds.Scram user password) occasion moment turn end octet
 
 -- ---- the chosen mechanism is the own first one
 
-first-named : (own : InitSetup) (list : List MechCred) (kind : MechKind) → is_first_named (map (λ cred. oid_of (kind_of cred)) list) kind ≡ is_first (kinds_of list) kind
+first-named : (own : PlainSetup) (list : List MechCred) (kind : MechKind) → is_first_named (map (λ cred. oid_of (kind_of cred)) list) kind ≡ is_first (kinds_of list) kind
 first-named own [] kind = refl
 first-named own (creds.Kerberos credential ∷ rest) kind = refl
 first-named own (creds.Scram user password ∷ rest) kind = refl
@@ -317,7 +316,7 @@ first-named own (creds.Scram user password ∷ rest) kind = refl
 first-chosen : (first cred : MechCred) (rest : List MechCred) (kind : MechKind) → same_kind (kind_of first) kind ≡ true → cred_for (first ∷ rest) kind ≡ Some cred → first ≡ cred
 first-chosen first cred rest kind same e = let is : Some first ≡ Some cred = sym (rw same refl) ∙ e in cc
 
-with-first : (setup : AcceptSetup) (own : InitSetup) (cred : MechCred) (moment : ℕ) (occasions : List Occasion) (started : initiating.Started) (o : Opened own started)
+with-first : (setup : AcceptSetup) (own : PlainSetup) (cred : MechCred) (moment : ℕ) (occasions : List Occasion) (started : initiating.Started) (o : Opened own started)
     → is_own_list own.list ≡ true → best setup.offer (initiating.own_list own) ≡ Some (kind_of cred) → cred_for own.list (kind_of cred) ≡ Some cred → length own.draws ≡ 66 → IsShort started.token
     → AllByRecursion (Fitting setup own cred) occasions → is_first (kinds_of own.list) (kind_of cred) ≡ true → moment ≤ greatest_moment → AllByRecursion (IsNow moment) occasions
     → (outcome : Outcome) (c : Completes setup occasions ends.New started.end started.token outcome) → WalksOn setup own.stamp moment cred occasions ends.New started.end started.token outcome c
@@ -337,14 +336,14 @@ with-first setup own cred moment (occasion ∷ rest) started o list chosen is_cr
 -- ---- another one is chosen
 
 -- the acceptor's end waits for the chosen mechanism's token
-abbrev waiting : InitSetup → MechKind → AcceptEnd
+abbrev waiting : PlainSetup → MechKind → AcceptEnd
 waiting own kind = ends.Runs (record { chosen = chosen_on own kind true; mech = accept_begun kind })
 
 -- and its reply names that
 abbrev asked : MechKind → List ℕ
 asked kind = accepting.reply First kind true false None None
 
-passes-over : (setup : AcceptSetup) (own : InitSetup) (kind : MechKind) (token : List ℕ) (occasion : Occasion) → is_own_list own.list ≡ true → IsShort (init_octets (initiating.first_sent own token)) → best setup.offer (initiating.own_list own) ≡ Some kind → is_first_named (initiating.own_list own) kind ≡ false
+passes-over : (setup : AcceptSetup) (own : PlainSetup) (kind : MechKind) (token : List ℕ) (occasion : Occasion) → is_own_list own.list ≡ true → IsShort (init_octets (initiating.first_sent own token)) → best setup.offer (initiating.own_list own) ≡ Some kind → is_first_named (initiating.own_list own) kind ≡ false
     → accepting.step_of (accepting.accept_step setup ends.New (init_octets (initiating.first_sent own token)) occasion.now occasion.drawn) ≡ Ok (steps.More (waiting own kind) (asked kind))
 unfolding accepting.begins
 passes-over setup own kind token occasion list short chosen other = rw (init_reads own token list short, chosen, other) refl
@@ -373,11 +372,11 @@ no-end end token reply outcome lasts r e f = let both : Ok (steps.More end token
 no-mark : (stamp : ℕ) (end : AcceptEnd) (token : List ℕ) (r : Result AcceptStep NegRefusal) → r ≡ Ok (steps.More end token) → (pause : AcceptPause) → r ≡ Ok (steps.WantsAuth pause) → (accepting.mark_asked pause).at ≡ stamp
 no-mark stamp end token r e pause f = absurd (let both : Ok (steps.More end token) ≡ Ok (steps.WantsAuth pause) = sym e ∙ f in cc)
 
-same-sent : (end other : InitEnd) (token another : List ℕ) (r : Result InitStep NegRefusal) → r ≡ Ok (initiated.More end token) → r ≡ Ok (initiated.More other another) → token ≡ another
+same-sent : (end other : EndSays) (token another : List ℕ) (r : Result StepSays NegRefusal) → r ≡ Ok (initiated.More end token) → r ≡ Ok (initiated.More other another) → token ≡ another
 same-sent end other token another r e f = let both : Ok (initiated.More end token) ≡ Ok (initiated.More other another) = sym e ∙ f in cc
 
 -- once the acceptor passed the first token over
-walks-over : (setup : AcceptSetup) (own : InitSetup) (cred : MechCred) (moment : ℕ) (occasion : Occasion) (rest : List Occasion) (started : initiating.Started) (mech : InitMech) (begun : MechBegun)
+walks-over : (setup : AcceptSetup) (own : PlainSetup) (cred : MechCred) (moment : ℕ) (occasion : Occasion) (rest : List Occasion) (started : initiating.Started) (mech : InitMech) (begun : MechBegun)
     → started.end ≡ inits.Opens (record { own = own; mech = mech }) → accepting.step_of (accepting.accept_step setup ends.New started.token occasion.now occasion.drawn) ≡ Ok (steps.More (waiting own (kind_of cred)) (asked (kind_of cred)))
     → cred_for own.list (kind_of cred) ≡ Some cred → length own.draws ≡ 66 → init_begun own cred ≡ Ok begun → IsShort (resp_octets (initiating.token_sent begun.token)) → AllByRecursion (Fitting setup own cred) rest → is_first (kinds_of own.list) (kind_of cred) ≡ false
     → moment ≤ greatest_moment → AllByRecursion (IsNow moment) rest → (outcome : Outcome) (c : Completes setup (occasion ∷ rest) ends.New started.end started.token outcome) → WalksOn setup own.stamp moment cred (occasion ∷ rest) ends.New started.end started.token outcome c
@@ -388,9 +387,9 @@ walks-over setup own cred moment occasion (next ∷ later) started mech begun en
     let step : Result AcceptStep NegRefusal = accepting.step_of (accepting.accept_step setup ends.New started.token occasion.now occasion.drawn) in
     let same = same-more (waiting own kind) c.0.acceptor_after (asked kind) c.0.reply (passed_of step) (ap passed_of over) c.0.accepts in
     let sent : List ℕ = resp_octets (initiating.token_sent begun.token) in
-    let after : InitEnd = end_at Later own kind true begun.mech in
+    let after : EndSays = end_at Later own kind true begun.mech in
     let goes : initiating.step_of (initiating.init_step (inits.Opens (record { own = own; mech = mech })) (asked kind)) ≡ Ok (initiated.More after sent) = switches own kind mech cred begun (cred-own own.list kind cred is_cred) other is_cred begins in
-    let there : initiating.step_of (initiating.init_step started.end (asked kind)) ≡ Ok (initiated.More after sent) = subst (λ (e : InitEnd). initiating.step_of (initiating.init_step e (asked kind)) ≡ Ok (initiated.More after sent)) (sym end_is) goes in
+    let there : initiating.step_of (initiating.init_step started.end (asked kind)) ≡ Ok (initiated.More after sent) = subst (λ (e : EndSays). initiating.step_of (initiating.init_step e (asked kind)) ≡ Ok (initiated.More after sent)) (sym end_is) goes in
     let heard_so : initiating.step_of (initiating.init_step started.end c.0.reply) ≡ Ok (initiated.More after sent) = subst (λ (t : List ℕ). initiating.step_of (initiating.init_step started.end t) ≡ Ok (initiated.More after sent)) same.token_is there in
     let further : sent ≡ c.0.further = same-sent after c.0.initiator_after sent c.0.further (initiating.step_of (initiating.init_step started.end c.0.reply)) heard_so c.0.initiates in
     let heard : Hears setup (waiting own kind) sent Later (chosen_on own kind true) (accept_begun kind) begun.token = hears_later setup (chosen_on own kind true) (accept_begun kind) begun.token begun_short in
@@ -401,7 +400,7 @@ walks-over setup own cred moment occasion (next ∷ later) started mech begun en
     let short : IsShort (asked kind) = reply-fits First kind true false None None (λ v e. none-is v 65000 e) (λ v e. none-is v 28 e) in
     record { walks = (no-mark own.stamp (waiting own kind) (asked kind) step over, subst IsShort same.token_is short, w.walks); names = w.names }
 
-with-other : (setup : AcceptSetup) (own : InitSetup) (cred : MechCred) (moment : ℕ) (occasions : List Occasion) (started : initiating.Started) (o : Opened own started) (begun : MechBegun)
+with-other : (setup : AcceptSetup) (own : PlainSetup) (cred : MechCred) (moment : ℕ) (occasions : List Occasion) (started : initiating.Started) (o : Opened own started) (begun : MechBegun)
     → is_own_list own.list ≡ true → best setup.offer (initiating.own_list own) ≡ Some (kind_of cred) → cred_for own.list (kind_of cred) ≡ Some cred → length own.draws ≡ 66 → IsShort started.token → init_begun own cred ≡ Ok begun → IsShort (resp_octets (initiating.token_sent begun.token))
     → AllByRecursion (Fitting setup own cred) occasions → is_first (kinds_of own.list) (kind_of cred) ≡ false → moment ≤ greatest_moment → AllByRecursion (IsNow moment) occasions
     → (outcome : Outcome) (c : Completes setup occasions ends.New started.end started.token outcome) → WalksOn setup own.stamp moment cred occasions ends.New started.end started.token outcome c
@@ -415,7 +414,7 @@ with-other setup own cred moment (occasion ∷ rest) started o begun list chosen
 
 -- ---- an honest pair
 
-by-cred : (setup : AcceptSetup) (own : InitSetup) (cred : MechCred) (moment : ℕ) (occasions : List Occasion) (started : initiating.Started) (begun : MechBegun)
+by-cred : (setup : AcceptSetup) (own : PlainSetup) (cred : MechCred) (moment : ℕ) (occasions : List Occasion) (started : initiating.Started) (begun : MechBegun)
     → is_own_list own.list ≡ true → best setup.offer (initiating.own_list own) ≡ Some (kind_of cred) → cred_for own.list (kind_of cred) ≡ Some cred → length own.draws ≡ 66 → initiating.init_start own ≡ Ok started → IsShort started.token → init_begun own cred ≡ Ok begun → IsShort (resp_octets (initiating.token_sent begun.token))
     → AllByRecursion (Fitting setup own cred) occasions → moment ≤ greatest_moment → AllByRecursion (IsNow moment) occasions
     → (outcome : Outcome) (c : Completes setup occasions ends.New started.end started.token outcome) → WalksOn setup own.stamp moment cred occasions ends.New started.end started.token outcome c
@@ -430,7 +429,7 @@ same-cred : (a b : MechCred) (r : Option MechCred) → r ≡ Some a → r ≡ So
 same-cred a b r e f = let both : Some a ≡ Some b = sym e ∙ f in cc
 
 -- an honest pair completes, walks so, and has the credential's names
-pub walked : (setup : AcceptSetup) (own : InitSetup) (kind : MechKind) (moment : ℕ) (occasions : List Occasion) → (h : HonestPair setup own kind occasions) → AllByRecursion (λ occasion. occasion.now ≡ moment) occasions → moment ≤ greatest_moment → Walked setup own kind moment occasions h.started
+pub walked : (setup : AcceptSetup) (own : PlainSetup) (kind : MechKind) (moment : ℕ) (occasions : List Occasion) → (h : HonestPair setup own kind occasions) → AllByRecursion (λ occasion. occasion.now ≡ moment) occasions → moment ≤ greatest_moment → Walked setup own kind moment occasions h.started
 walked setup own kind moment occasions h at known =
     let a = exchanges setup own kind occasions h in
     let same : kind ≡ kind_of h.cred = sym (cred_for-kind own.list kind h.cred h.is_cred) in

@@ -8,7 +8,7 @@ use Rattle.gss_client.specs.declared.conversation.Parting.{Parting}
 use Rattle.gss_client.specs.declared.conversation.Parting.TheVariants.{Refused}
 use Rattle.gss_client.specs.declared.refusal.ClientRefusal.{ClientRefusal}
 use Rattle.gss_client.specs.declared.refusal.ClientRefusal.TheVariants.{LinkFault, NoMemory}
-use Rattle.gss_client.specs.declared.start.Start.{Start}
+use Rattle.gss_client.specs.Start.{StartSays}
 use Rattle.gss_client.specs.Conversation.{Talk, by_session}
 use Rattle.gss_client.specs.Conversing.{IsFront}
 use Rattle.gss_client.specs.Exchanging.{Done, Stopped}
@@ -23,17 +23,17 @@ use Rattle.pair_laws.specs.Holding.{ConferredOf, TalkedOf}
 abbrev by_said : List DueCall → List ℕ → Said SessionState → Talk
 by_said every draws one = by_opening every draws one.written one.rest one.answer
 
-talk-is : (start : Start) (every : List DueCall) (draws stream : List ℕ) → talk_of start every draws stream ≡ by_said every draws (created_from start stream)
+talk-is : (start : StartSays) (every : List DueCall) (draws stream : List ℕ) → talk_of start every draws stream ≡ by_said every draws (created_from start stream)
 unfolding talk_of
 talk-is start every draws stream = refl
 
-conversed-then : (tells : Bool) (given given' : List ℕ) (start : Start) (every : List DueCall) (a b c : Wire) (s : SessionState) (results : List (List ℕ)) (parting : Parting) (later : List ℕ) (d : Done (created_from start) a b s) (f : ConferredOf tells given given' every s b c results parting)
+conversed-then : (tells : Bool) (given given' : List ℕ) (start : StartSays) (every : List DueCall) (a b c : Wire) (s : SessionState) (results : List (List ℕ)) (parting : Parting) (later : List ℕ) (d : Done (created_from start) a b s) (f : ConferredOf tells given given' every s b c results parting)
     → talk_of start every (f.drawn ++ later) ((d.took ++ f.took) ++ c.coming) ≡ by_session d.wrote (Some s.outcome) (confers every s (f.drawn ++ later) (f.took ++ c.coming))
 conversed-then tells given given' start every a b c s results parting later d f =
     talk-is start every (f.drawn ++ later) ((d.took ++ f.took) ++ c.coming)
     ∙ ap (by_said every (f.drawn ++ later)) (ap (created_from start) (append_assoc d.took f.took c.coming) ∙ d.whole (f.took ++ c.coming))
 
-held : (tells : Bool) (given given' : List ℕ) (start : Start) (every : List DueCall) (a b c : Wire) (s : SessionState) (results : List (List ℕ)) (parting : Parting) → Done (created_from start) a b s → ConferredOf tells given given' every s b c results parting → TalkedOf tells given given' start every a c (Some s.outcome) results parting
+held : (tells : Bool) (given given' : List ℕ) (start : StartSays) (every : List DueCall) (a b c : Wire) (s : SessionState) (results : List (List ℕ)) (parting : Parting) → Done (created_from start) a b s → ConferredOf tells given given' every s b c results parting → TalkedOf tells given given' start every a c (Some s.outcome) results parting
 held tells given given' start every a b c s results parting d f =
     let all : (later : List ℕ) → talk_of start every (f.drawn ++ later) ((d.took ++ f.took) ++ c.coming) ≡ by_session d.wrote (Some s.outcome) (confers every s (f.drawn ++ later) (f.took ++ c.coming)) =
     λ later. conversed-then tells given given' start every a b c s results parting later d f in
@@ -59,7 +59,7 @@ held tells given given' start every a b c s results parting d f =
       heard = λ unrefused later. ap (λ (t : Talk). t.rest) (all later) ∙ f.heard unrefused later;
     }
 
-pub talked : (tells : Bool) (given given' : List ℕ) (start : Start) (every : List DueCall) (a b c : Wire) (s : SessionState) (outcome : Outcome) → outcome ≡ s.outcome → (results : List (List ℕ)) (parting : Parting) → Done (created_from start) a b s → ConferredOf tells given given' every s b c results parting → TalkedOf tells given given' start every a c (Some outcome) results parting
+pub talked : (tells : Bool) (given given' : List ℕ) (start : StartSays) (every : List DueCall) (a b c : Wire) (s : SessionState) (outcome : Outcome) → outcome ≡ s.outcome → (results : List (List ℕ)) (parting : Parting) → Done (created_from start) a b s → ConferredOf tells given given' every s b c results parting → TalkedOf tells given given' start every a c (Some outcome) results parting
 talked tells given given' start every a b c s outcome is results parting d f =
     subst (λ (o : Outcome). TalkedOf tells given given' start every a c (Some o) results parting) (sym is) (held tells given given' start every a b c s results parting d f)
 
@@ -68,7 +68,7 @@ further : (every : List DueCall) (draws written rest : List ℕ) (answer : Resul
 further every draws written rest (Ok s) = ((confers every s draws rest).written, refl)
 further every draws written rest (Err refusal) = ([], sym (append-nil written))
 
-unheld : (tells : Bool) (given : List ℕ) (start : Start) (every : List DueCall) (a c : Wire) (refusal : ClientRefusal) → Stopped (created_from start) a c refusal → TalkedOf tells given given start every a c None [] (Refused refusal)
+unheld : (tells : Bool) (given : List ℕ) (start : StartSays) (every : List DueCall) (a c : Wire) (refusal : ClientRefusal) → Stopped (created_from start) a c refusal → TalkedOf tells given given start every a c None [] (Refused refusal)
 unheld tells given start every a c refusal d =
     let one : Said SessionState = created_from start (d.took ++ c.coming) in
     let all : (later : List ℕ) → talk_of start every later (d.took ++ c.coming) ≡ by_said every later one =
@@ -102,5 +102,5 @@ unheld tells given start every a c refusal d =
       heard = λ unrefused. absurd (unrefused refusal refl);
     }
 
-pub untalked : (tells : Bool) (given : List ℕ) (start : Start) (every : List DueCall) (a c : Wire) (refusal : ClientRefusal) (results : List (List ℕ)) → results ≡ [] → Stopped (created_from start) a c refusal → TalkedOf tells given given start every a c None results (Refused refusal)
+pub untalked : (tells : Bool) (given : List ℕ) (start : StartSays) (every : List DueCall) (a c : Wire) (refusal : ClientRefusal) (results : List (List ℕ)) → results ≡ [] → Stopped (created_from start) a c refusal → TalkedOf tells given given start every a c None results (Refused refusal)
 untalked tells given start every a c refusal results none d = subst (λ (rs : List (List ℕ)). TalkedOf tells given given start every a c None rs (Refused refusal)) (sym none) (unheld tells given start every a c refusal d)

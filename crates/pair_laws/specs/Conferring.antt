@@ -5,7 +5,7 @@ use Rattle.std.specs.Prelude.{Some, None, Result, Ok, Err}
 use Rattle.gss_client.specs.declared.conversation.Parting.TheVariants.{Finished, Spent, Refused}
 use Rattle.gss_client.specs.declared.procedure.Procedure.{Procedure}
 use Rattle.gss_client.specs.declared.refusal.ClientRefusal.{ClientRefusal}
-use Rattle.gss_client.specs.declared.start.Start.{Start}
+use Rattle.gss_client.specs.Start.{StartSays}
 use Rattle.gss_client.specs.Conversation.{Conversed, leaves, goes_on, converses, Talk, by_session}
 use Rattle.gss_client.specs.Conversation.{talk}
 use Rattle.gss_client.specs.Procedure.{procedure_number}
@@ -47,7 +47,7 @@ by_opening due draws written rest (Err refusal) = record {
 }
 
 -- the creation of a context from this start, these calls, and the destruction
-unfoldable pub talk_of : Start → List DueCall → List ℕ → List ℕ → Talk
+unfoldable pub talk_of : StartSays → List DueCall → List ℕ → List ℕ → Talk
 talk_of start due draws stream =
     let said : Said SessionState = created_from start stream in
     by_opening due draws said.written said.rest said.answer
@@ -59,6 +59,6 @@ pub record EqualCalls : Type 0 where
   pub calls_are : (times : ℕ) (call : DueCall) (s : SessionState) (draws stream : List ℕ)
       → converses times call.procedure call.args s draws stream
       ≡ confers (replicate times call) s draws stream
-  pub session_is : (start : Start) (times : ℕ) (call : DueCall) (draws stream : List ℕ)
+  pub session_is : (start : StartSays) (times : ℕ) (call : DueCall) (draws stream : List ℕ)
       → talk start times call.procedure call.args draws stream
       ≡ talk_of start (replicate times call) draws stream

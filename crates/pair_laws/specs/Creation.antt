@@ -17,10 +17,10 @@ use Rattle.accept_core.specs.History.{numbers, posts}
 use Rattle.accept_book.specs.RecordShown.{KeptAnswers}
 use Rattle.accept_core.specs.declared.entry.Entry.{Entry}
 use Rattle.accept_core.specs.declared.entry.Entry.TheVariants.{Opened, Went, Settled}
+use Rattle.gss_client.specs.Start.{StartSays}
 use Rattle.gss_client.specs.Session.{SessionState}
 use Rattle.gss_client.specs.Talk.{created_from}
 use Rattle.gss_client.specs.Talking.{Said}
-use Rattle.gss_client.specs.declared.start.Start.{Start}
 use Rattle.gss_server.specs.Connections.{octets_of}
 use Rattle.pair_laws.specs.Booked.{Around}
 use Rattle.pair_laws.specs.Honest.{occasion_of, HonestExchange}
@@ -86,7 +86,7 @@ pub record SameLimits (old new : BookOf) : Type 0 where
 -- turns in a row from a book at rest with places: those of a creation by an honest pair, with which
 -- a session's writing and hearing begins, all at the moment of the client's stamp, and those behind
 -- it; what was written reads as their records, however these are cut
-pub record IsCreation (width lasts : ℕ) (start : Start) (kind : MechKind) (count moment : ℕ)
+pub record IsCreation (width lasts : ℕ) (start : StartSays) (kind : MechKind) (count moment : ℕ)
     (stream more : List ℕ) (old new : BookOf) (front back : List Turn) (records : List Fragments)
     (tail rest : List ℕ) : Type 0 where
   pub rests : RestsAt count moment old.core
@@ -108,7 +108,7 @@ pub record IsCreation (width lasts : ℕ) (start : Start) (kind : MechKind) (cou
 -- the exchange is honest, over these turns and no others; a book stands behind it in which the new
 -- context alone lives, with the next id, until this moment or longer; no call of it was made, and
 -- nobody posted meanwhile. The session has an outcome of the credential's names.
-pub record CreationRuns (width lasts : ℕ) (start : Start) (kind : MechKind) (count moment : ℕ)
+pub record CreationRuns (width lasts : ℕ) (start : StartSays) (kind : MechKind) (count moment : ℕ)
     (stream more : List ℕ) (old new : BookOf) (front back : List Turn) (records : List Fragments)
     (tail rest : List ℕ) : Type 0 where
   pub exchange : HonestExchange old.setup width start stream
@@ -137,7 +137,7 @@ pub record CreationRuns (width lasts : ℕ) (start : Start) (kind : MechKind) (c
 -- every creation in a row is an honest exchange
 abbrev pub CreationLaw : Type 0
 CreationLaw =
-    (width lasts : ℕ) (start : Start) (kind : MechKind) (count moment : ℕ)
+    (width lasts : ℕ) (start : StartSays) (kind : MechKind) (count moment : ℕ)
     (stream more : List ℕ) (old new : BookOf) (front back : List Turn) (records : List Fragments)
     (tail rest : List ℕ)
     → IsCreation width lasts start kind count moment stream more old new front back records tail

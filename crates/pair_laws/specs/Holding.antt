@@ -7,7 +7,7 @@ use Rattle.gss_client.specs.declared.conversation.Parting.{Parting}
 use Rattle.gss_client.specs.declared.conversation.Parting.TheVariants.{Refused}
 use Rattle.gss_client.specs.declared.refusal.ClientRefusal.{ClientRefusal}
 use Rattle.gss_client.specs.declared.refusal.ClientRefusal.TheVariants.{LinkFault, NoMemory}
-use Rattle.gss_client.specs.declared.start.Start.{Start}
+use Rattle.gss_client.specs.Start.{StartSays}
 use Rattle.gss_client.specs.Conversing.{IsFront, IsConversed, IsTalk, IsTalkFront}
 use Rattle.gss_client.specs.Exchanging.{Went}
 use Rattle.gss_client.specs.Session.{SessionState}
@@ -34,7 +34,7 @@ pub record ConferredOf (tells : Bool) (given given' : List ℕ) (due : List DueC
       → (confers due s (drawn ++ later) (took ++ new.coming)).rest ≡ new.coming
 
 -- the same for the whole talk
-pub record TalkedOf (tells : Bool) (given given' : List ℕ) (start : Start) (due : List DueCall)
+pub record TalkedOf (tells : Bool) (given given' : List ℕ) (start : StartSays) (due : List DueCall)
     (old new : Wire) (outcome : Option Outcome) (results : List (List ℕ)) (parting : Parting)
     : Type 0 where
   pub took : List ℕ

@@ -5,7 +5,7 @@ use Rattle.gss_base.specs.declared.mech.MechKind.{MechKind}
 use Rattle.spnego_core.specs.declared.setup.AcceptSetup.{AcceptSetup}
 use Rattle.spnego_core.specs.Exchange.{Occasion, HonestPair}
 use Rattle.accept_book.specs.RecordShown.{KeptAnswers}
-use Rattle.gss_client.specs.declared.start.Start.{Start}
+use Rattle.gss_client.specs.Start.{StartSays}
 use Rattle.gss_client.specs.Talk.{created_from}
 use Rattle.pair_laws.specs.Conversing.{Converses}
 use Rattle.pair_laws.specs.Booked.{Around, Booked, IsLeftAlone, id_in}
@@ -16,8 +16,8 @@ occasion_of kept = record { now = kept.now; drawn = take 66 kept.draws }
 
 -- the facts of a session's start and of an acceptor fit, and the session hears the replies of the
 -- acceptor's book
-pub record HonestExchange (setup : AcceptSetup) (width : ℕ) (start : Start) (stream : List ℕ) : Type
-    0 where
+pub record HonestExchange (setup : AcceptSetup) (width : ℕ) (start : StartSays)
+    (stream : List ℕ) : Type 0 where
   -- the octets to come, and the answers that are kept for the exchange
   pub converses : Converses width (created_from start) stream
   pub answers : List KeptAnswers

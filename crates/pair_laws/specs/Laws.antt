@@ -12,9 +12,9 @@ use Rattle.accept_book.specs.RecordRule.{record_ruling}
 use Rattle.accept_book.specs.declared.book_answer.Lease.{Lease}
 use Rattle.accept_book.specs.declared.book_answer.Negotiated.{Negotiated}
 use Rattle.accept_book.specs.declared.book_answer.NegAnswer.TheVariants.{Settled}
-use Rattle.gss_client.specs.declared.start.Start.{Start}
 use Rattle.gss_client.specs.declared.refusal.ClientRefusal.{ClientRefusal}
 use Rattle.gss_client.specs.declared.refusal.ClientRefusal.TheVariants.{LinkFault, NoMemory}
+use Rattle.gss_client.specs.Start.{StartSays}
 use Rattle.gss_client.specs.Exchanging.{Talks}
 use Rattle.gss_client.specs.Session.{SessionState}
 use Rattle.gss_client.specs.Talk.{begun, created_from}
@@ -53,7 +53,7 @@ IsBehind (one ∷ two ∷ answers) (book ∷ books) core = IsBehind (two ∷ ans
 -- both ends are done with one outcome, by the chosen mechanism: the book settled its next context
 -- with it, and has it so; the session stands on it, with the context's handle; its records are
 -- those of the creation, its transaction number is the next, and the rest of the stream is left
-pub record Completes (setup : AcceptSetup) (width : ℕ) (start : Start) (stream : List ℕ)
+pub record Completes (setup : AcceptSetup) (width : ℕ) (start : StartSays) (stream : List ℕ)
     (x : HonestExchange setup width start stream) : Type 0 where
   pub outcome : Outcome
   pub lasts : ℕ
@@ -73,10 +73,10 @@ CameTo result session = (result ≡ Ok session) ⊎ (result ≡ Err LinkFault) �
 -- an honest pair completes by its records, and so does a session's creation over a link
 pub record PairLaw : Type 0 where
   -- an honest exchange completes
-  pub completes : (setup : AcceptSetup) (width : ℕ) (start : Start) (stream : List ℕ)
+  pub completes : (setup : AcceptSetup) (width : ℕ) (start : StartSays) (stream : List ℕ)
       → (x : HonestExchange setup width start stream) → Completes setup width start stream x
   -- so does the creation of a session over a link that has these octets to come
-  pub over_a_link : (setup : AcceptSetup) (width : ℕ) (start : Start) (stream : List ℕ)
+  pub over_a_link : (setup : AcceptSetup) (width : ℕ) (start : StartSays) (stream : List ℕ)
       → (x : HonestExchange setup width start stream) → (c : Completes setup width start stream x)
       → (old new : Wire) (result : Result SessionState ClientRefusal) → IsStream old new stream
       → Talks (created_from start) old new result

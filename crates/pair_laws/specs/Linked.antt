@@ -13,7 +13,7 @@ use Rattle.accept_book.specs.Booking.{BookOf, names_of}
 use Rattle.accept_core.specs.History.{posts}
 use Rattle.accept_book.specs.RecordShown.{KeptAnswers}
 use Rattle.accept_core.specs.declared.entry.Entry.{Entry}
-use Rattle.gss_client.specs.declared.start.Start.{Start}
+use Rattle.gss_client.specs.Start.{StartSays}
 use Rattle.gss_server.specs.Connections.{octets_of, written_in}
 use Rattle.gss_server.specs.Hearing.{kept_answers}
 use Rattle.gss_server.specs.declared.answer.Kept.{Kept}
@@ -34,8 +34,8 @@ kept_of answers = map kept_answers answers
 -- what a session's talk wrote are these records and no other, which a book at rest answered, all
 -- of them at the moment of the client's stamp; with what was drawn for the first answers, so many,
 -- both ends are an honest pair
-pub record IsServed (width lasts tokens : ℕ) (start : Start) (kind : MechKind) (count moment : ℕ)
-    (due : List DueCall) (confounders stream : List ℕ) (old new : BookOf)
+pub record IsServed (width lasts tokens : ℕ) (start : StartSays) (kind : MechKind)
+    (count moment : ℕ) (due : List DueCall) (confounders stream : List ℕ) (old new : BookOf)
     (records : List Fragments) (answers : List Kept) (tail : List ℕ) : Type 0 where
   -- the link
   pub answered : AreAnswered width lasts records answers old new
@@ -64,7 +64,7 @@ pub record IsServed (width lasts tokens : ℕ) (start : Start) (kind : MechKind)
 -- such a session is created: it tells an outcome
 abbrev pub CreatedLaw : Type 0
 CreatedLaw =
-    (width lasts tokens : ℕ) (start : Start) (kind : MechKind) (count moment : ℕ)
+    (width lasts tokens : ℕ) (start : StartSays) (kind : MechKind) (count moment : ℕ)
     (due : List DueCall) (confounders stream : List ℕ) (old new : BookOf)
     (records : List Fragments) (answers : List Kept) (tail : List ℕ)
     → IsServed width lasts tokens start kind count moment due confounders stream old new records
@@ -72,7 +72,7 @@ CreatedLaw =
     → (agreed : Outcome) × ((talk_of start due confounders stream).outcome ≡ Some agreed)
 
 -- the same of a session that tells this outcome, on this key
-pub record IsLinked (key : Key) (width lasts tokens : ℕ) (start : Start) (kind : MechKind)
+pub record IsLinked (key : Key) (width lasts tokens : ℕ) (start : StartSays) (kind : MechKind)
     (count moment : ℕ) (due : List DueCall) (confounders stream : List ℕ) (old new : BookOf)
     (records : List Fragments) (answers : List Kept) (tail : List ℕ) (outcome : Outcome) : Type 0
   where
@@ -85,7 +85,7 @@ pub record IsLinked (key : Key) (width lasts tokens : ℕ) (start : Start) (kind
 -- the session is answered the service's results by the posts of the book, parts with all calls made
 -- or its numbers spent, and leaves no octet; the book has the entries of its creation, its calls
 -- and its end in the log and nothing else, and rests again
-pub record LinkedDone (tokens : ℕ) (start : Start) (kind : MechKind) (count moment : ℕ)
+pub record LinkedDone (tokens : ℕ) (start : StartSays) (kind : MechKind) (count moment : ℕ)
     (due : List DueCall) (confounders stream : List ℕ) (old new : BookOf) (outcome : Outcome)
     : Type 0 where
   pub mech : outcome.mech ≡ kind
@@ -111,7 +111,7 @@ pub record LinkedDone (tokens : ℕ) (start : Start) (kind : MechKind) (count mo
 -- every session over such a link on this key is done
 abbrev pub LinkedLaw : Key → Type 0
 LinkedLaw key =
-    (width lasts tokens : ℕ) (start : Start) (kind : MechKind) (count moment : ℕ)
+    (width lasts tokens : ℕ) (start : StartSays) (kind : MechKind) (count moment : ℕ)
     (due : List DueCall) (confounders stream : List ℕ) (old new : BookOf)
     (records : List Fragments) (answers : List Kept) (tail : List ℕ) (outcome : Outcome)
     → IsLinked key width lasts tokens start kind count moment due confounders stream old new records

@@ -11,9 +11,9 @@ use Rattle.ap_exchange.specs.Request.{request_of, RequestFits}
 use Rattle.ap_exchange.specs.Answer.{AnswerFits}
 use Rattle.ap_exchange.specs.Laws.{Fits, honest_judged}
 use Rattle.spnego_core.specs.declared.setup.AcceptSetup.{AcceptSetup}
-use Rattle.spnego_core.specs.declared.setup.InitSetup.{InitSetup}
 use Rattle.spnego_core.specs.declared.setup.MechCred.{MechCred}
 use Rattle.spnego_core.specs.declared.setup.MechCred.TheVariants as creds
+use Rattle.spnego_core.specs.Ends.{PlainSetup}
 use Rattle.spnego_core.specs.Choice.{best}
 use Rattle.spnego_core.specs.Exchange.{Occasion, UserFits, HonestPair, tokens_of}
 use Rattle.spnego_core.specs.InitMech.{is_own_list, cred_for}
@@ -24,14 +24,14 @@ use Rattle.spnego_core.specs.Sizes.{IsShort}
 
 -- Kerberos: the ticket, the names, the moment, the stamp and the bindings fit. SCRAM: the user and
 -- the password meet a line of the verifiers, and the acceptor has no bindings or the same ones
-abbrev pub CredMeets : AcceptSetup → InitSetup → MechCred → Occasion → Type 0
+abbrev pub CredMeets : AcceptSetup → PlainSetup → MechCred → Occasion → Type 0
 CredMeets setup own (creds.Kerberos credential) occasion = Fits setup.keytab setup.own occasion.now
     setup.bindings credential own.stamp own.bindings
 CredMeets setup own (creds.Scram user password) occasion = UserFits setup own user password occasion
 
 -- the first mechanism of the initiator's list begins, the two lists have a mechanism in common,
 -- and the facts of that one's credential fit on each occasion, of which there is one for each token
-pub record Meets (setup : AcceptSetup) (own : InitSetup) (kind : MechKind)
+pub record Meets (setup : AcceptSetup) (own : PlainSetup) (kind : MechKind)
     (occasions : List Occasion) : Type 0 where
   pub begins : is_ok (init_start own) ≡ true
   pub chosen : best setup.offer (own_list own) ≡ Some kind
@@ -45,7 +45,7 @@ abbrev pub drawn_on : List Occasion → List (List ℕ)
 drawn_on occasions = map (λ occasion. occasion.drawn) occasions
 
 -- with an acceptor that draws so, an initiator that meets it is an honest pair
-abbrev pub MeetLaw : InitSetup → List (List ℕ) → Type 0
+abbrev pub MeetLaw : PlainSetup → List (List ℕ) → Type 0
 MeetLaw own draws =
     (setup : AcceptSetup) (kind : MechKind) (occasions : List Occasion)
     → drawn_on occasions ≡ draws → Meets setup own kind occasions
@@ -60,7 +60,7 @@ pub record AnswerTold (stamp : ℕ) (credential : Granted) (drawn : List ℕ) : 
 
 -- a request with this credential has a spelling, where its ticket is one, and so have its answers;
 -- its ticket has at most 60,000 octets, and its client a name
-pub record TicketTold (own : InitSetup) (draws : List (List ℕ)) (credential : Granted) : Type 0
+pub record TicketTold (own : PlainSetup) (draws : List (List ℕ)) (credential : Granted) : Type 0
   where
     pub request : is_ok (request_of credential own.stamp own.draws own.bindings) ≡ true
         → RequestFits credential own.stamp own.draws own.bindings
@@ -70,7 +70,7 @@ pub record TicketTold (own : InitSetup) (draws : List (List ℕ)) (credential : 
         → AnswerTold own.stamp credential drawn
 
 -- the same of a credential of Kerberos; of SCRAM's nothing is to be told
-abbrev pub CredTold : InitSetup → List (List ℕ) → MechCred → Type 0
+abbrev pub CredTold : PlainSetup → List (List ℕ) → MechCred → Type 0
 CredTold own draws (creds.Kerberos credential) = TicketTold own draws credential
 CredTold own draws (creds.Scram user password) = Unit {0}
 
@@ -80,7 +80,7 @@ IsDrawn octets = length octets ≡ 66
 
 -- an initiator's setup, and what an acceptor draws: how many octets were drawn, that a first token
 -- has at most 65,536 octets, and what each credential tells
-pub record SetupTold (own : InitSetup) (draws : List (List ℕ)) : Type 0 where
+pub record SetupTold (own : PlainSetup) (draws : List (List ℕ)) : Type 0 where
   pub list : is_own_list own.list ≡ true
   pub drawn : IsDrawn own.draws
   pub all_drawn : (i : ℕ) (drawn : List ℕ) → slice_get draws i ≡ Some drawn → IsDrawn drawn

@@ -25,9 +25,9 @@ use Rattle.accept_core.specs.declared.entry.EndCause.TheVariants.{Destroyed}
 use Rattle.gss_client.specs.declared.conversation.Parting.{Parting}
 use Rattle.gss_client.specs.declared.conversation.Parting.TheVariants.{Finished, Spent}
 use Rattle.gss_client.specs.declared.procedure.Procedure.{Procedure}
+use Rattle.gss_client.specs.Start.{StartSays}
 use Rattle.rpcsec_bodies.specs.declared.service.Service.{Service}
 use Rattle.rpcsec_bodies.specs.declared.service.Service.TheVariants as services
-use Rattle.gss_client.specs.declared.start.Start.{Start}
 use Rattle.gss_client.specs.Conversation.{converses, talk}
 use Rattle.gss_client.specs.Procedure.{procedure_number}
 use Rattle.gss_server.specs.Connections.{framed}
@@ -100,7 +100,7 @@ pub record IsPlan (service : Service) (first : ℕ) (procedure : Procedure)
 
 -- behind its creation a session writes records and hears the replies to them, from the book that
 -- settled its context, of which no number from the first on was called yet
-pub record HonestRun (setup : AcceptSetup) (width : ℕ) (start : Start) (stream : List ℕ)
+pub record HonestRun (setup : AcceptSetup) (width : ℕ) (start : StartSays) (stream : List ℕ)
     (x : HonestExchange setup width start stream) (c : Completes setup width start stream x)
     (times : ℕ) (procedure : Procedure) (args confounders : List ℕ) : Type 0 where
   pub turns : List Turn
@@ -160,7 +160,7 @@ Logged width lease procedure args (suc made) number (turn ∷ turns) =
 -- the session agrees on the outcome, is answered the service's results, parts with all calls made
 -- or its numbers spent, and leaves the rest of the stream and of the random octets; the book has
 -- each call in its log, and has destroyed the context
-pub record Runs (setup : AcceptSetup) (width : ℕ) (start : Start) (stream : List ℕ)
+pub record Runs (setup : AcceptSetup) (width : ℕ) (start : StartSays) (stream : List ℕ)
     (x : HonestExchange setup width start stream) (c : Completes setup width start stream x)
     (times : ℕ) (procedure : Procedure) (args confounders : List ℕ)
     (r : HonestRun setup width start stream x c times procedure args confounders) : Type 0 where
@@ -179,7 +179,7 @@ pub record Runs (setup : AcceptSetup) (width : ℕ) (start : Start) (stream : Li
 -- every honest run on this key is complete
 abbrev pub RunLaw : Key → Type 0
 RunLaw key =
-    (setup : AcceptSetup) (width : ℕ) (start : Start) (stream : List ℕ)
+    (setup : AcceptSetup) (width : ℕ) (start : StartSays) (stream : List ℕ)
     (x : HonestExchange setup width start stream) (c : Completes setup width start stream x)
     (times : ℕ) (procedure : Procedure) (args confounders : List ℕ) → c.outcome.key ≡ key
     → (r : HonestRun setup width start stream x c times procedure args confounders)

@@ -13,7 +13,7 @@ use Rattle.accept_book.specs.Served.{are_args, result_of}
 use Rattle.accept_book.specs.declared.book_answer.Lease.{Lease}
 use Rattle.rpcsec_bodies.specs.declared.service.Service.{Service}
 use Rattle.rpcsec_bodies.specs.declared.service.Service.TheVariants as services
-use Rattle.gss_client.specs.declared.start.Start.{Start}
+use Rattle.gss_client.specs.Start.{StartSays}
 use Rattle.gss_client.specs.Procedure.{procedure_number}
 use Rattle.pair_laws.specs.Booked.{id_in}
 use Rattle.pair_laws.specs.Conferring.{DueCall, confers, talk_of}
@@ -43,7 +43,7 @@ pub record ArePlanned (service : Service) (first : ℕ) (due : List DueCall)
 
 -- behind its creation a session makes these calls: it writes records and hears the replies to them,
 -- from the book that settled its context, of which no number from the first on was called yet
-pub record HonestSession (setup : AcceptSetup) (width : ℕ) (start : Start) (stream : List ℕ)
+pub record HonestSession (setup : AcceptSetup) (width : ℕ) (start : StartSays) (stream : List ℕ)
     (x : HonestExchange setup width start stream) (c : Completes setup width start stream x)
     (due : List DueCall) (confounders : List ℕ) : Type 0 where
   pub turns : List Turn
@@ -84,7 +84,7 @@ AreLogged width lease (call ∷ later) number (turn ∷ turns) =
 -- the session agrees on the outcome, is answered the service's results, parts with all calls made
 -- or its numbers spent, and leaves the rest of the stream and of the random octets; the book has
 -- each call in its log, and has destroyed the context
-pub record SessionRuns (setup : AcceptSetup) (width : ℕ) (start : Start) (stream : List ℕ)
+pub record SessionRuns (setup : AcceptSetup) (width : ℕ) (start : StartSays) (stream : List ℕ)
     (x : HonestExchange setup width start stream) (c : Completes setup width start stream x)
     (due : List DueCall) (confounders : List ℕ)
     (r : HonestSession setup width start stream x c due confounders) : Type 0 where
@@ -102,7 +102,7 @@ pub record SessionRuns (setup : AcceptSetup) (width : ℕ) (start : Start) (stre
 -- every honest session on this key is complete
 abbrev pub SessionLaw : Key → Type 0
 SessionLaw key =
-    (setup : AcceptSetup) (width : ℕ) (start : Start) (stream : List ℕ)
+    (setup : AcceptSetup) (width : ℕ) (start : StartSays) (stream : List ℕ)
     (x : HonestExchange setup width start stream) (c : Completes setup width start stream x)
     (due : List DueCall) (confounders : List ℕ) → c.outcome.key ≡ key
     → (r : HonestSession setup width start stream x c due confounders)

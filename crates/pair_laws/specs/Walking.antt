@@ -12,12 +12,11 @@ use Rattle.spnego_core.specs.declared.accept_end.AcceptEnd.{AcceptEnd}
 use Rattle.spnego_core.specs.declared.accept_end.AcceptEnd.TheVariants as accepts
 use Rattle.spnego_core.specs.declared.accept_end.AcceptPause.{AcceptPause}
 use Rattle.spnego_core.specs.declared.accept_end.AcceptStep.TheVariants as steps
-use Rattle.spnego_core.specs.declared.init_end.InitEnd.{InitEnd}
 use Rattle.spnego_core.specs.declared.outcome.Outcome.{Outcome}
 use Rattle.spnego_core.specs.declared.setup.AcceptSetup.{AcceptSetup}
-use Rattle.spnego_core.specs.declared.setup.InitSetup.{InitSetup}
 use Rattle.spnego_core.specs.declared.setup.MechCred.{MechCred}
 use Rattle.spnego_core.specs.declared.setup.MechCred.TheVariants as creds
+use Rattle.spnego_core.specs.Ends.{PlainSetup, EndSays}
 
 -- the mark that the acceptor's step to a token asks for, where it does, is of this moment
 abbrev pub IsStamped : AcceptSetup → ℕ → Occasion → AcceptEnd → List ℕ → Type 0
@@ -28,7 +27,7 @@ IsStamped setup stamp occasion acceptor token = (pause : AcceptPause)
 -- along a dialogue each mark that is asked for is of this stamp, each reply has at most 65,536
 -- octets, and what the last one settles lasts until this moment or longer
 abbrev pub Walks : (setup : AcceptSetup) (stamp moment : ℕ) (occasions : List Occasion)
-    (acceptor : AcceptEnd) (initiator : InitEnd) (token : List ℕ) (outcome : Outcome)
+    (acceptor : AcceptEnd) (initiator : EndSays) (token : List ℕ) (outcome : Outcome)
     → Completes setup occasions acceptor initiator token outcome → Type 0
 Walks setup stamp moment [] acceptor initiator token outcome c = ⊥
 Walks setup stamp moment (last ∷ []) acceptor initiator token outcome c =
@@ -46,12 +45,12 @@ HasNames (creds.Kerberos credential) outcome = (outcome.initiator ≡ label_of c
 HasNames (creds.Scram user password) outcome = (outcome.initiator ≡ user) × (outcome.acceptor ≡ [])
 
 -- the same of the initiator's credential of a mechanism
-abbrev pub IsNamed : InitSetup → MechKind → Outcome → Type 0
+abbrev pub IsNamed : PlainSetup → MechKind → Outcome → Type 0
 IsNamed own kind outcome = (cred : MechCred) → cred_for own.list kind ≡ Some cred
     → HasNames cred outcome
 
 -- an honest pair whose occasions are all at one moment completes so
-pub record Walked (setup : AcceptSetup) (own : InitSetup) (kind : MechKind) (moment : ℕ)
+pub record Walked (setup : AcceptSetup) (own : PlainSetup) (kind : MechKind) (moment : ℕ)
     (occasions : List Occasion) (started : Started) : Type 0 where
   pub outcome : Outcome
   pub mech : outcome.mech ≡ kind

@@ -8,8 +8,8 @@ use Rattle.spnego_core.specs.declared.outcome.Outcome.{Outcome}
 use Rattle.accept_book.specs.Booking.{BookOf, names_of}
 use Rattle.accept_core.specs.History.{posts}
 use Rattle.accept_core.specs.declared.entry.Entry.{Entry}
+use Rattle.gss_client.specs.Start.{StartSays}
 use Rattle.gss_client.specs.Talk.{created_from}
-use Rattle.gss_client.specs.declared.start.Start.{Start}
 use Rattle.pair_laws.specs.Conferring.{DueCall, talk_of}
 use Rattle.pair_laws.specs.Creation.{IsCreation, SameLimits, Enters}
 use Rattle.pair_laws.specs.Resting.{RestsAt, IsBy}
@@ -21,7 +21,7 @@ use Rattle.pair_laws.specs.Walking.{IsNamed}
 -- turns in a row from a book at rest with places: those of a creation by an honest pair, and those
 -- of these calls and the end, all of them at one moment; what was written reads as their records
 -- and nothing else, however these are cut; and the session tells this outcome, on this key
-pub record IsSession (key : Key) (width lasts : ℕ) (start : Start) (kind : MechKind)
+pub record IsSession (key : Key) (width lasts : ℕ) (start : StartSays) (kind : MechKind)
     (count moment : ℕ) (due : List DueCall) (confounders stream : List ℕ) (old new : BookOf)
     (front back : List Turn) (rest : List ℕ) (outcome : Outcome) : Type 0 where
   pub more : List ℕ
@@ -50,7 +50,7 @@ posts_behind count (call ∷ later) = posts_behind (posts_with count call) later
 -- the service's results by the posts of the book, and parts with all calls made or its numbers
 -- spent; the book has its calls and its end in the log, behind the entries of its creation, and
 -- rests again
-pub record SessionDone (width : ℕ) (start : Start) (kind : MechKind) (count moment : ℕ)
+pub record SessionDone (width : ℕ) (start : StartSays) (kind : MechKind) (count moment : ℕ)
     (due : List DueCall) (confounders stream : List ℕ) (old new : BookOf) (front back : List Turn)
     (rest : List ℕ) (outcome : Outcome) : Type 0 where
   pub mech : outcome.mech ≡ kind
@@ -78,7 +78,7 @@ pub record SessionDone (width : ℕ) (start : Start) (kind : MechKind) (count mo
 -- every session in a row on this key is done
 abbrev pub WholeLaw : Key → Type 0
 WholeLaw key =
-    (width lasts : ℕ) (start : Start) (kind : MechKind) (count moment : ℕ) (due : List DueCall)
+    (width lasts : ℕ) (start : StartSays) (kind : MechKind) (count moment : ℕ) (due : List DueCall)
     (confounders stream : List ℕ) (old new : BookOf) (front back : List Turn) (rest : List ℕ)
     (outcome : Outcome)
     → IsSession key width lasts start kind count moment due confounders stream old new front back

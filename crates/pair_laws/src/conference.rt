@@ -5,6 +5,7 @@ ghost use Rattle.std.specs.Vec.{vec_len, vec_capacity};
 ghost use Rattle.sec_base.specs.Answers.{Rose};
 ghost use Rattle.spnego_core.specs.InitMech.{is_own_list};
 ghost use Rattle.gss_client.specs.Conversing.{Leaves};
+ghost use Rattle.gss_client.specs.Start.{start_says};
 ghost use Rattle.pair_laws.specs.Holding.{ConferredOf, TalkedOf};
 
 use crate::told::tell_octets;
@@ -152,7 +153,7 @@ pub fn hold_calls<L: Link, D: Draw>(
     requires first { 1 ≤ start.first }
     requires last { start.first ≤ 0x7fffffff }
     ensures told { IsTrue (L.tells link.old) → TalkedOf (D.tells draw.new) (D.given draw.old)
-        (D.given draw.new) start due.now (L.wire link.old) (L.wire link.new)
+        (D.given draw.new) (start_says start) due.now (L.wire link.old) (L.wire link.new)
         result.outcome result.results.items result.parting }
     ensures fault { result.parting ≡ Parting.Refused ClientRefusal.LinkFault
         → Rose (L.faults link.old) (L.faults link.new) }

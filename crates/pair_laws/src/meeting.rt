@@ -4,6 +4,7 @@ ghost use Rattle.std.specs.Prelude.{◌≡◌, ℕ, ◌≤◌, true, is_ok, leng
 ghost use Rattle.std.specs.Prelude.{slice_get, option_map};
 ghost use Rattle.gss_base.specs.Principal.{is_named};
 ghost use Rattle.ap_exchange.specs.Request.{request_of, RequestFits};
+ghost use Rattle.spnego_core.specs.Ends.{setup_says};
 ghost use Rattle.spnego_core.specs.InitMech.{is_own_list};
 ghost use Rattle.spnego_core.specs.Initiating.{Started, init_start};
 ghost use Rattle.spnego_core.specs.Sizes.{IsShort};
@@ -105,7 +106,7 @@ fn tell_ticket(
     credential: &Credential,
     draws: &[[u8; 66]],
 ) -> Result<(), NoMemory>
-    ensures { IfOk result (λ _. TicketTold own.now draws.now credential.now) }
+    ensures { IfOk result (λ _. TicketTold (setup_says own.now) draws.now credential.now) }
 {
     tell_request(
         alloc,
@@ -126,7 +127,7 @@ fn tell_cred(
     cred: &MechCred,
     draws: &[[u8; 66]],
 ) -> Result<(), NoMemory>
-    ensures { IfOk result (λ _. CredTold own.now draws.now cred.now) }
+    ensures { IfOk result (λ _. CredTold (setup_says own.now) draws.now cred.now) }
 {
     match cred {
         MechCred::Kerberos(credential) => tell_ticket(alloc, own, credential, draws),
@@ -137,7 +138,7 @@ fn tell_cred(
 /// Does nothing that stays: what each credential tells.
 fn tell_creds(alloc: Global, own: &InitSetup, draws: &[[u8; 66]]) -> Result<(), NoMemory>
     ensures { IfOk result (λ _. (i : ℕ) (cred : MechCredIs)
-        → slice_get own.now.list i ≡ Some cred → CredTold own.now draws.now cred) }
+        → slice_get own.now.list i ≡ Some cred → CredTold (setup_says own.now) draws.now cred) }
 {
     for cred in own.list.as_slice() {
         tell_cred(alloc, own, cred, draws)?;
@@ -148,8 +149,8 @@ fn tell_creds(alloc: Global, own: &InitSetup, draws: &[[u8; 66]]) -> Result<(), 
 /// Does nothing that stays: a first token has at most 65,536 octets.
 fn tell_start(alloc: Global, own: InitSetup) -> Result<(), NoMemory>
     requires { is_own_list own.list ≡ true }
-    ensures { IfOk result
-        (λ _. (started : Started) → init_start own ≡ Ok started → IsShort started.token) }
+    ensures { IfOk result (λ _. (started : Started) → init_start (setup_says own) ≡ Ok started
+        → IsShort started.token) }
 {
     match InitEnd::start(alloc, own) {
         Ok(_) => Ok(()),
@@ -162,7 +163,7 @@ fn tell_start(alloc: Global, own: InitSetup) -> Result<(), NoMemory>
 /// an honest pair if their facts fit: what has a spelling, and how long tokens are, is found out here.
 pub fn prove_meeting(alloc: Global, own: InitSetup, draws: &[[u8; 66]]) -> Result<(), NoMemory>
     requires { is_own_list own.list ≡ true }
-    ensures { IfOk result (λ _. MeetLaw own draws.now) }
+    ensures { IfOk result (λ _. MeetLaw (setup_says own) draws.now) }
 {
     tell_size(&own.draws);
     tell_sizes(draws);

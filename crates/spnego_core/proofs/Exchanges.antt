@@ -9,16 +9,16 @@ use Rattle.krb_files.specs.Granted.{Granted}
 use Rattle.spnego_core.specs.declared.outcome.Outcome.{Outcome}
 use Rattle.spnego_core.specs.declared.refusal.MechRefusal.{MechRefusal}
 use Rattle.spnego_core.specs.declared.setup.AcceptSetup.{AcceptSetup}
-use Rattle.spnego_core.specs.declared.setup.InitSetup.{InitSetup}
 use Rattle.spnego_core.specs.declared.setup.MechCred.{MechCred}
 use Rattle.spnego_core.specs.declared.setup.MechCred.TheVariants as creds
-use Rattle.spnego_core.specs.declared.init_end.InitEnd.TheVariants as inits
 use Rattle.spnego_core.specs.declared.accept_end.AcceptEnd.{AcceptEnd}
 use Rattle.spnego_core.specs.declared.accept_end.AcceptEnd.TheVariants as accepts
 use Rattle.spnego_core.specs.declared.accept_end.Turn.{Turn}
 use Rattle.spnego_core.specs.declared.accept_end.Turn.TheVariants.{First, Later}
 use Rattle.spnego_core.specs.declared.accept_mech.AcceptMech.TheVariants as mechs
 use Rattle.spnego_core.specs.declared.init_mech.InitMech.TheVariants as own_mechs
+use Rattle.spnego_core.specs.Ends.{PlainSetup}
+use Rattle.spnego_core.specs.Ends as inits
 use Rattle.spnego_core.specs.Outcome.{outcome_of}
 use Rattle.spnego_core.specs.Choice.{same_kind, is_first, is_first_named, is_mic_due, best}
 use Rattle.spnego_core.specs.Tokens.{init_octets, resp_octets}
@@ -39,7 +39,7 @@ begun_is a b r e f = let both : Ok a ≡ Ok b = sym e ∙ f in cc
 -- ---- the chosen mechanism runs
 
 -- both complete by this mechanism, with one outcome
-record Runs (setup : AcceptSetup) (own : InitSetup) (kind : MechKind) (due : Bool) (turn : Turn) (end : AcceptEnd) (octets : List ℕ) (begun : MechBegun) (occasions : List Occasion) : Type 0 where
+record Runs (setup : AcceptSetup) (own : PlainSetup) (kind : MechKind) (due : Bool) (turn : Turn) (end : AcceptEnd) (octets : List ℕ) (begun : MechBegun) (occasions : List Occasion) : Type 0 where
   outcome : Outcome
   mech : outcome.mech ≡ kind
   completes : Completes setup occasions end (end_at turn own kind due begun.mech) octets outcome
@@ -47,7 +47,7 @@ record Runs (setup : AcceptSetup) (own : InitSetup) (kind : MechKind) (due : Boo
 abbrev rounds_due : MechKind → Bool → ℕ
 rounds_due kind due = rounds_of kind + (if due then 1 else 0)
 
-request_runs : (setup : AcceptSetup) (own : InitSetup) (credential : Granted) (due : Bool) (turn : Turn) (end : AcceptEnd) (octets : List ℕ) (begun : MechBegun) (occasion : Occasion) (rest : List Occasion)
+request_runs : (setup : AcceptSetup) (own : PlainSetup) (credential : Granted) (due : Bool) (turn : Turn) (end : AcceptEnd) (octets : List ℕ) (begun : MechBegun) (occasion : Occasion) (rest : List Occasion)
     → (due ≡ false → is_first (kinds_of own.list) kinds.Kerberos ≡ true) → is_own own.list kinds.Kerberos ≡ true → MayCome turn own kinds.Kerberos → length own.draws ≡ 66 → init_begun own (creds.Kerberos credential) ≡ Ok begun
     → Hears setup end octets turn (chosen_on own kinds.Kerberos due) mechs.Kerberos begun.token → length occasion.drawn ≡ 66 → TicketFits setup own credential occasion → length rest ≡ (if due then 1 else 0)
     → Runs setup own kinds.Kerberos due turn end octets begun (occasion ∷ rest)
@@ -61,7 +61,7 @@ request_runs setup own credential due turn end octets begun occasion rest first 
       completes = ends_all setup own kinds.Kerberos due turn end octets mechs.Kerberos (request_begins own credential).mech (request_begins own credential).token _ occasion rest first is may heard r count;
     })
 
-texts_run : (setup : AcceptSetup) (own : InitSetup) (user password : List ℕ) (due : Bool) (turn : Turn) (end : AcceptEnd) (octets : List ℕ) (begun : MechBegun) (occasion next : Occasion) (rest : List Occasion)
+texts_run : (setup : AcceptSetup) (own : PlainSetup) (user password : List ℕ) (due : Bool) (turn : Turn) (end : AcceptEnd) (octets : List ℕ) (begun : MechBegun) (occasion next : Occasion) (rest : List Occasion)
     → (due ≡ false → is_first (kinds_of own.list) kinds.Scram ≡ true) → is_own own.list kinds.Scram ≡ true → MayCome turn own kinds.Scram → init_begun own (creds.Scram user password) ≡ Ok begun
     → Hears setup end octets turn (chosen_on own kinds.Scram due) mechs.Scram begun.token → UserFits setup own user password occasion → length rest ≡ (if due then 1 else 0)
     → Runs setup own kinds.Scram due turn end octets begun (occasion ∷ next ∷ rest)
@@ -83,7 +83,7 @@ texts_run setup own user password due turn end octets begun occasion next rest f
     })
 
 -- the chosen mechanism by its credential
-runs : (setup : AcceptSetup) (own : InitSetup) (cred : MechCred) (due : Bool) (turn : Turn) (end : AcceptEnd) (octets : List ℕ) (begun : MechBegun) (occasions : List Occasion)
+runs : (setup : AcceptSetup) (own : PlainSetup) (cred : MechCred) (due : Bool) (turn : Turn) (end : AcceptEnd) (octets : List ℕ) (begun : MechBegun) (occasions : List Occasion)
     → (due ≡ false → is_first (kinds_of own.list) (kind_of cred) ≡ true) → is_own own.list (kind_of cred) ≡ true → MayCome turn own (kind_of cred) → length own.draws ≡ 66 → init_begun own cred ≡ Ok begun
     → Hears setup end octets turn (chosen_on own (kind_of cred) due) (accept_begun (kind_of cred)) begun.token → AllByRecursion (Fitting setup own cred) occasions → length occasions ≡ rounds_due (kind_of cred) due
     → Runs setup own (kind_of cred) due turn end octets begun occasions
@@ -110,13 +110,13 @@ cred_for-own [] kind cred e = cc
 cred_for-own (first ∷ rest) kind cred e = own_by (same_kind (kind_of first) kind) true rest kind first cred refl (λ f. cred_for-own rest kind cred f) e
 
 -- the first mechanism of the own list is that of its first identifier
-first_named-is : (own : InitSetup) (list : List MechCred) (kind : MechKind) → is_first_named (map (λ cred. oid_of (kind_of cred)) list) kind ≡ is_first (kinds_of list) kind
+first_named-is : (own : PlainSetup) (list : List MechCred) (kind : MechKind) → is_first_named (map (λ cred. oid_of (kind_of cred)) list) kind ≡ is_first (kinds_of list) kind
 first_named-is own [] kind = refl
 first_named-is own (creds.Kerberos credential ∷ rest) kind = refl
 first_named-is own (creds.Scram user password ∷ rest) kind = refl
 
 -- an end that sent its first token
-pub record Opened (own : InitSetup) (started : initiating.Started) : Type 0 where
+pub record Opened (own : PlainSetup) (started : initiating.Started) : Type 0 where
   pub first : MechCred
   pub rest : List MechCred
   pub list : own.list ≡ first ∷ rest
@@ -125,7 +125,7 @@ pub record Opened (own : InitSetup) (started : initiating.Started) : Type 0 wher
   pub end : started.end ≡ inits.Opens (record { own = own; mech = begun.mech })
   pub token : started.token ≡ init_octets (initiating.first_sent own begun.token)
 
-opened_by : (own : InitSetup) (first : MechCred) (rest : List MechCred) (started : initiating.Started) (r : Result MechBegun MechRefusal) → own.list ≡ first ∷ rest → init_begun own first ≡ r → initiating.opens own r ≡ Ok started → Opened own started
+opened_by : (own : PlainSetup) (first : MechCred) (rest : List MechCred) (started : initiating.Started) (r : Result MechBegun MechRefusal) → own.list ≡ first ∷ rest → init_begun own first ≡ r → initiating.opens own r ≡ Ok started → Opened own started
 opened_by own first rest started (Ok begun) list begins e =
     let same : record { end = inits.Opens (record { own = own; mech = begun.mech }); token = init_octets (initiating.first_sent own begun.token); makes = begun.makes } ≡ started = cc in
     record {
@@ -139,7 +139,7 @@ opened_by own first rest started (Ok begun) list begins e =
     }
 opened_by own first rest started (Err refusal) list begins e = cc
 
-pub opened_from : (own : InitSetup) (list : List MechCred) (started : initiating.Started) → own.list ≡ list → initiating.starts own list ≡ Ok started → Opened own started
+pub opened_from : (own : PlainSetup) (list : List MechCred) (started : initiating.Started) → own.list ≡ list → initiating.starts own list ≡ Ok started → Opened own started
 opened_from own [] started e starts = cc
 opened_from own (first ∷ rest) started e starts = opened_by own first rest started (init_begun own first) e refl starts
 
@@ -157,7 +157,7 @@ due_other : (a b : Bool) → a ≡ false → not (a && b) ≡ true
 due_other true b e = cc
 due_other false b e = refl
 
-agrees_from : (setup : AcceptSetup) (own : InitSetup) (kind : MechKind) (occasions : List Occasion) (started : initiating.Started) (o : Opened own started) → (outcome : Outcome) → outcome.mech ≡ kind
+agrees_from : (setup : AcceptSetup) (own : PlainSetup) (kind : MechKind) (occasions : List Occasion) (started : initiating.Started) (o : Opened own started) → (outcome : Outcome) → outcome.mech ≡ kind
     → Completes setup occasions accepts.New (inits.Opens (record { own = own; mech = o.begun.mech })) (init_octets (initiating.first_sent own o.begun.token)) outcome → Agrees setup own kind occasions started
 agrees_from setup own kind occasions started o outcome mech completes = record {
   outcome = outcome;
@@ -168,7 +168,7 @@ agrees_from setup own kind occasions started o outcome mech completes = record {
 }
 
 -- the chosen mechanism is the own first one
-with_first : (setup : AcceptSetup) (own : InitSetup) (cred : MechCred) (occasions : List Occasion) (started : initiating.Started) (o : Opened own started) (begun : MechBegun)
+with_first : (setup : AcceptSetup) (own : PlainSetup) (cred : MechCred) (occasions : List Occasion) (started : initiating.Started) (o : Opened own started) (begun : MechBegun)
     → is_own_list own.list ≡ true → best setup.offer (initiating.own_list own) ≡ Some (kind_of cred) → cred_for own.list (kind_of cred) ≡ Some cred → length own.draws ≡ 66 → IsShort started.token → init_begun own cred ≡ Ok begun
     → AllByRecursion (Fitting setup own cred) occasions → is_first (kinds_of own.list) (kind_of cred) ≡ true → length occasions ≡ rounds_due (kind_of cred) (is_mic_due setup.offer (initiating.own_list own) (kind_of cred))
     → Agrees setup own (kind_of cred) occasions started
@@ -184,7 +184,7 @@ with_first setup own cred occasions started o begun list chosen is_cred draws sh
     agrees_from setup own kind occasions started o r.outcome r.mech r.completes
 
 -- another one is chosen: its first token goes with the second message
-switch_before : (setup : AcceptSetup) (own : InitSetup) (cred : MechCred) (occasion : Occasion) (rest : List Occasion) (first begun : MechBegun) (outcome : Outcome)
+switch_before : (setup : AcceptSetup) (own : PlainSetup) (cred : MechCred) (occasion : Occasion) (rest : List Occasion) (first begun : MechBegun) (outcome : Outcome)
     → is_own_list own.list ≡ true → best setup.offer (initiating.own_list own) ≡ Some (kind_of cred) → cred_for own.list (kind_of cred) ≡ Some cred → IsShort (init_octets (initiating.first_sent own first.token)) → init_begun own cred ≡ Ok begun → IsShort (resp_octets (initiating.token_sent begun.token)) → is_first (kinds_of own.list) (kind_of cred) ≡ false
     → Completes setup rest (accepts.Runs (record { chosen = chosen_on own (kind_of cred) true; mech = accept_begun (kind_of cred) })) (end_at Later own (kind_of cred) true begun.mech) (resp_octets (initiating.token_sent begun.token)) outcome
     → Completes setup (occasion ∷ rest) accepts.New (inits.Opens (record { own = own; mech = first.mech })) (init_octets (initiating.first_sent own first.token)) outcome
@@ -202,7 +202,7 @@ switch_before setup own cred occasion (next ∷ later) first begun outcome list 
   c,
 )
 
-with_other : (setup : AcceptSetup) (own : InitSetup) (cred : MechCred) (occasion : Occasion) (rest : List Occasion) (started : initiating.Started) (o : Opened own started) (begun : MechBegun)
+with_other : (setup : AcceptSetup) (own : PlainSetup) (cred : MechCred) (occasion : Occasion) (rest : List Occasion) (started : initiating.Started) (o : Opened own started) (begun : MechBegun)
     → is_own_list own.list ≡ true → best setup.offer (initiating.own_list own) ≡ Some (kind_of cred) → cred_for own.list (kind_of cred) ≡ Some cred → length own.draws ≡ 66 → IsShort started.token → init_begun own cred ≡ Ok begun
     → IsShort (resp_octets (initiating.token_sent begun.token)) → AllByRecursion (Fitting setup own cred) rest → is_first (kinds_of own.list) (kind_of cred) ≡ false → length rest ≡ rounds_due (kind_of cred) true
     → Agrees setup own (kind_of cred) (occasion ∷ rest) started
@@ -224,7 +224,7 @@ count_other : (n r d : ℕ) (b : Bool) → b ≡ false → n ≡ (if b then 0 el
 count_other n r d true e c = cc
 count_other n r d false e c = omega (arith, c)
 
-other_by : (setup : AcceptSetup) (own : InitSetup) (cred : MechCred) (occasions : List Occasion) (started : initiating.Started) (o : Opened own started) (begun : MechBegun)
+other_by : (setup : AcceptSetup) (own : PlainSetup) (cred : MechCred) (occasions : List Occasion) (started : initiating.Started) (o : Opened own started) (begun : MechBegun)
     → is_own_list own.list ≡ true → best setup.offer (initiating.own_list own) ≡ Some (kind_of cred) → cred_for own.list (kind_of cred) ≡ Some cred → length own.draws ≡ 66 → IsShort started.token → init_begun own cred ≡ Ok begun
     → IsShort (resp_octets (initiating.token_sent begun.token)) → AllByRecursion (Fitting setup own cred) occasions → is_first (kinds_of own.list) (kind_of cred) ≡ false → length occasions ≡ 1 + rounds_due (kind_of cred) true
     → Agrees setup own (kind_of cred) occasions started
@@ -232,7 +232,7 @@ other_by setup own cred [] started o begun list chosen is_cred draws short begin
 other_by setup own cred (occasion ∷ rest) started o begun list chosen is_cred draws short begins begun_short fits other count =
     with_other setup own cred occasion rest started o begun list chosen is_cred draws short begins begun_short fits.1 other (omega (arith, count))
 
-by_cred : (setup : AcceptSetup) (own : InitSetup) (cred : MechCred) (occasions : List Occasion) (started : initiating.Started) (begun : MechBegun)
+by_cred : (setup : AcceptSetup) (own : PlainSetup) (cred : MechCred) (occasions : List Occasion) (started : initiating.Started) (begun : MechBegun)
     → is_own_list own.list ≡ true → length own.draws ≡ 66 → initiating.init_start own ≡ Ok started → IsShort started.token → init_begun own cred ≡ Ok begun → IsShort (resp_octets (initiating.token_sent begun.token)) → AllByRecursion (Fitting setup own cred) occasions
     → best setup.offer (initiating.own_list own) ≡ Some (kind_of cred) → cred_for own.list (kind_of cred) ≡ Some cred → length occasions ≡ tokens_of setup own (kind_of cred) → Agrees setup own (kind_of cred) occasions started
 by_cred setup own cred occasions started begun list draws starts short begins begun_short fits chosen is_cred count =
@@ -250,7 +250,7 @@ by_cred setup own cred occasions started begun list draws starts short begins be
           (subst (λ (b : Bool). length occasions ≡ 1 + (rounds_of kind + (if b then 1 else 0))) is_due whole)
     ]
 
-pub exchanges : (setup : AcceptSetup) (own : InitSetup) (kind : MechKind) (occasions : List Occasion) → (h : HonestPair setup own kind occasions) → Agrees setup own kind occasions h.started
+pub exchanges : (setup : AcceptSetup) (own : PlainSetup) (kind : MechKind) (occasions : List Occasion) → (h : HonestPair setup own kind occasions) → Agrees setup own kind occasions h.started
 exchanges setup own kind occasions h =
     subst (λ (k : MechKind). best setup.offer (initiating.own_list own) ≡ Some k → cred_for own.list k ≡ Some h.cred → length occasions ≡ tokens_of setup own k → Agrees setup own k occasions h.started)
     (cred_for-kind own.list kind h.cred h.is_cred)

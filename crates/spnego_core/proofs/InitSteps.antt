@@ -22,19 +22,14 @@ use Rattle.spnego_core.specs.declared.refusal.NegRefusal.TheVariants.{Defective,
 use Rattle.spnego_core.specs.declared.refusal.MechRefusal.{MechRefusal}
 use Rattle.spnego_core.specs.declared.setup.MechCred.{MechCred}
 use Rattle.spnego_core.specs.declared.setup.MechCred.TheVariants as creds
-use Rattle.spnego_core.specs.declared.setup.InitSetup.{InitSetup}
 use Rattle.spnego_core.specs.declared.init_mech.InitMech.{InitMech}
 use Rattle.spnego_core.specs.declared.init_mech.InitMech.TheVariants as mechs
 use Rattle.spnego_core.specs.declared.init_mech.InitAnswer.{InitAnswer}
 use Rattle.spnego_core.specs.declared.init_mech.InitAnswer.TheVariants as answers
-use Rattle.spnego_core.specs.declared.init_end.Opening.{Opening}
-use Rattle.spnego_core.specs.declared.init_end.Talk.{Talk}
-use Rattle.spnego_core.specs.declared.init_end.Talking.{Talking}
-use Rattle.spnego_core.specs.declared.init_end.Signed.{Signed}
-use Rattle.spnego_core.specs.declared.init_end.InitEnd.{InitEnd}
-use Rattle.spnego_core.specs.declared.init_end.InitEnd.TheVariants as ends
-use Rattle.spnego_core.specs.declared.init_end.InitStep.{InitStep}
-use Rattle.spnego_core.specs.declared.init_end.InitStep.TheVariants as steps
+use Rattle.spnego_core.specs.Ends.{PlainSetup, OpeningSays, TalkSays, TalkingSays, SignedSays, EndSays}
+use Rattle.spnego_core.specs.Ends as ends
+use Rattle.spnego_core.specs.EndSteps.{StepSays}
+use Rattle.spnego_core.specs.EndSteps as steps
 use Rattle.spnego_core.specs.Outcome.{outcome_of}
 use Rattle.spnego_core.specs.Steps.{◌>>=◌, due, or_refuse}
 use Rattle.spnego_core.specs.Tokens.{rejects, says_completed, resp_read, last_read, resp_octets}
@@ -67,11 +62,11 @@ one : (making first : MechMaking) → AmongMakings (first ∷ []) making → mak
 one making first (inl e) = e
 one making first (inr h) = absurd h
 
-seen-more : (own : InitSetup) (outcome : Outcome) (front back found : List MechMaking) → found ≡ front ++ back → SeesMic own front outcome → SeesMic own found outcome
+seen-more : (own : PlainSetup) (outcome : Outcome) (front back found : List MechMaking) → found ≡ front ++ back → SeesMic own front outcome → SeesMic own found outcome
 seen-more own outcome front back found e s =
     record { mic = s.mic; right = s.right; verified = rw e (among_front front back _ s.verified) }
 
-seen-behind : (own : InitSetup) (outcome : Outcome) (front back : List MechMaking) → SeesMic own back outcome → SeesMic own (front ++ back) outcome
+seen-behind : (own : PlainSetup) (outcome : Outcome) (front back : List MechMaking) → SeesMic own back outcome → SeesMic own (front ++ back) outcome
 seen-behind own outcome front back s = record { mic = s.mic; right = s.right; verified = among_back front back _ s.verified }
 
 front-only : (front : List MechMaking) (making : MechMaking) → AmongMakings (front ++ []) making → AmongMakings front making
@@ -79,7 +74,7 @@ front-only front making h = elim (among_split front [] making h) [ inl a ↦ a |
 
 -- ---- the end of a mechanism that is done
 
-pub record Ended (talk : Talk) (outcome : Outcome) (taken : Initiated) : Type 0 where
+pub record Ended (talk : TalkSays) (outcome : Outcome) (taken : Initiated) : Type 0 where
   pub after : outcome.mech ≡ talk.chosen → After talk.own taken.chosen taken.listed taken.step
   pub finished : finished_in taken.step ≡ Some outcome
   pub answers : answers_in taken.step ≡ None
@@ -88,7 +83,7 @@ pub record Ended (talk : Talk) (outcome : Outcome) (taken : Initiated) : Type 0 
   pub made : (making : MechMaking) → AmongMakings taken.makes making → making ≡ mic_making outcome Initiator (own_list talk.own)
   pub sees : taken.listed ≡ true → SeesMic talk.own taken.found outcome
 
-ended-law : (talk : Talk) (outcome : Outcome) (listed completes : Bool) (found : List MechMaking) → Covered talk.own talk.chosen listed → (listed ≡ true → SeesMic talk.own found outcome) → On (Ended talk outcome) (behind [] found (Ok (ended talk outcome listed completes)))
+ended-law : (talk : TalkSays) (outcome : Outcome) (listed completes : Bool) (found : List MechMaking) → Covered talk.own talk.chosen listed → (listed ≡ true → SeesMic talk.own found outcome) → On (Ended talk outcome) (behind [] found (Ok (ended talk outcome listed completes)))
 ended-law talk outcome listed true found covered sees = record {
   after = λ e. tt;
   finished = refl;
@@ -112,7 +107,7 @@ unowed : (first asked : Bool) → (not first || asked) ≡ false → first ≡ t
 unowed true asked e = refl
 unowed false asked e = cc
 
-looks-law : (talk : Talk) (outcome : Outcome) (state : Option NegState) (mic : Option (List ℕ)) → On (Ended talk outcome) (looks talk outcome state mic)
+looks-law : (talk : TalkSays) (outcome : Outcome) (state : Option NegState) (mic : Option (List ℕ)) → On (Ended talk outcome) (looks talk outcome state mic)
 looks-law talk outcome state None =
     either (Ended talk outcome) (is_mic_owed talk) (Err MicMissing) (Ok (ended talk outcome false (completes_now state false))) (λ e. tt)
     (λ e. ended-law talk outcome false (completes_now state false) [] (inl (unowed (is_first (kinds_of talk.own.list) talk.chosen) talk.asked e)) (λ f. absurd (let g : false ≡ true = f in cc)))
@@ -123,7 +118,7 @@ looks-law talk outcome state (Some mic) =
 
 -- ---- a step of an end whose mechanism wasn't done
 
-pub record Ran (own : InitSetup) (before : Option MechKind) (next : Option InitModel) (kind : MechKind) (taken : Initiated) : Type 0 where
+pub record Ran (own : PlainSetup) (before : Option MechKind) (next : Option InitModel) (kind : MechKind) (taken : Initiated) : Type 0 where
   pub after : After own taken.chosen taken.listed taken.step
   pub chosen : taken.chosen ≡ Some kind
   pub made : (making : MechMaking) → AmongMakings taken.makes making → IsRequest own taken.chosen making ⊎ (IsProof own next taken.chosen making ⊎ IsOwnMic own taken.step making)
@@ -133,10 +128,10 @@ pub record Ran (own : InitSetup) (before : Option MechKind) (next : Option InitM
   pub covered : (outcome : Outcome) → finished_in taken.step ≡ Some outcome → Covered own kind taken.listed
   pub mech : (outcome : Outcome) → finished_in taken.step ≡ Some outcome → outcome.mech ≡ kind
 
-same-outcome : (step : InitStep) (a b : Outcome) → finished_in step ≡ Some a → finished_in step ≡ Some b → a ≡ b
+same-outcome : (step : StepSays) (a b : Outcome) → finished_in step ≡ Some a → finished_in step ≡ Some b → a ≡ b
 same-outcome step a b e f = let both : Some a ≡ Some b = sym e ∙ f in cc
 
-finish-more : (own : InitSetup) (front back : List MechMaking) (outcome : Outcome) → IsFinish own front outcome → IsFinish own (front ++ back) outcome
+finish-more : (own : PlainSetup) (front back : List MechMaking) (outcome : Outcome) → IsFinish own front outcome → IsFinish own (front ++ back) outcome
 finish-more own front back outcome (inl by) = inl (record {
   end = by.end;
   token = by.token;
@@ -156,7 +151,7 @@ finish-more own front back outcome (inr by) = inr (record {
   verified = λ making m. among_front front back making (by.verified making m);
 })
 
-ran-ended : (talk : Talk) (before : Option MechKind) (next : Option InitModel) (outcome : Outcome) (front : List MechMaking) → outcome.mech ≡ talk.chosen → IsFinish talk.own front outcome → (r : Result Initiated NegRefusal) → On (Ended talk outcome) r → On (Ran talk.own before next talk.chosen) (behind [] front r)
+ran-ended : (talk : TalkSays) (before : Option MechKind) (next : Option InitModel) (outcome : Outcome) (front : List MechMaking) → outcome.mech ≡ talk.chosen → IsFinish talk.own front outcome → (r : Result Initiated NegRefusal) → On (Ended talk outcome) r → On (Ran talk.own before next talk.chosen) (behind [] front r)
 ran-ended talk before next outcome front mech by (Err refusal) h = tt
 ran-ended talk before next outcome front mech by (Ok taken) h =
     let same : (o : Outcome) → finished_in taken.step ≡ Some o → outcome ≡ o = λ o e. same-outcome taken.step outcome o h.finished e in
@@ -171,7 +166,7 @@ ran-ended talk before next outcome front mech by (Ok taken) h =
       mech = λ o e. sym (ap (λ (x : Outcome). x.mech) (same o e)) ∙ mech;
     }
 
-ran-law : (talk : Talk) (before : Option MechKind) (next : Option InitModel) (state : Option NegState) (mic : Option (List ℕ)) (end : ApInit) (token : List ℕ) (result : Result MechDone ApRefusal) → IsWaiting talk.own end → kinds.Kerberos ≡ talk.chosen → reply_taken end token ≡ result → On (Ran talk.own before next talk.chosen) (ran talk state mic (reply_answered (map typed (reply_found end token)) result))
+ran-law : (talk : TalkSays) (before : Option MechKind) (next : Option InitModel) (state : Option NegState) (mic : Option (List ℕ)) (end : ApInit) (token : List ℕ) (result : Result MechDone ApRefusal) → IsWaiting talk.own end → kinds.Kerberos ≡ talk.chosen → reply_taken end token ≡ result → On (Ran talk.own before next talk.chosen) (ran talk state mic (reply_answered (map typed (reply_found end token)) result))
 ran-law talk before next state mic end token (Err refusal) waits mech takes = tt
 ran-law talk before next state mic end token (Ok made) waits mech takes =
     ran-ended talk before next (outcome_of kinds.Kerberos made) (map typed (reply_found end token)) mech
@@ -179,7 +174,7 @@ ran-law talk before next state mic end token (Ok made) waits mech takes =
     (looks talk (outcome_of kinds.Kerberos made) state mic) (looks-law talk (outcome_of kinds.Kerberos made) state mic)
 
 -- SCRAM's proof is handed out, and the signature is due
-proved-law : (talk : Talk) (before : Option MechKind) (state : Option NegState) (mic : Option (List ℕ)) (end : InitModel) (text : List ℕ) (result : Result InitAnswered ScramRefusal) → IsFirstText talk.own end → kinds.Scram ≡ talk.chosen → init_answered end text ≡ result → On (Ran talk.own before (Some end) talk.chosen) (ran talk state mic (text_answered result))
+proved-law : (talk : TalkSays) (before : Option MechKind) (state : Option NegState) (mic : Option (List ℕ)) (end : InitModel) (text : List ℕ) (result : Result InitAnswered ScramRefusal) → IsFirstText talk.own end → kinds.Scram ≡ talk.chosen → init_answered end text ≡ result → On (Ran talk.own before (Some end) talk.chosen) (ran talk state mic (text_answered result))
 proved-law talk before state mic end text (Err refusal) first mech answers = tt
 proved-law talk before state mic end text (Ok answered) first mech answers = by_state (says_completed state)
   where
@@ -210,14 +205,14 @@ proved-law talk before state mic end text (Ok answered) first mech answers = by_
       mech = λ o e. absurd (unfinished o e);
     }
 
-signed-law : (talk : Talk) (before : Option MechKind) (next : Option InitModel) (state : Option NegState) (mic : Option (List ℕ)) (end : WaitModel) (token : List ℕ) (result : Result InitFinished ScramRefusal) → IsProved talk.own end → kinds.Scram ≡ talk.chosen → init_finished end token ≡ result → On (Ran talk.own before next talk.chosen) (ran talk state mic (final_answered result))
+signed-law : (talk : TalkSays) (before : Option MechKind) (next : Option InitModel) (state : Option NegState) (mic : Option (List ℕ)) (end : WaitModel) (token : List ℕ) (result : Result InitFinished ScramRefusal) → IsProved talk.own end → kinds.Scram ≡ talk.chosen → init_finished end token ≡ result → On (Ran talk.own before next talk.chosen) (ran talk state mic (final_answered result))
 signed-law talk before next state mic end token (Err refusal) proved mech takes = tt
 signed-law talk before next state mic end token (Ok made) proved mech takes =
     ran-ended talk before next (outcome_of kinds.Scram made.done) made.found mech
     (inr (record { end = end; proved = proved; token = token; finished = made; takes = takes; outcome_is = refl; verified = λ making m. m }))
     (looks talk (outcome_of kinds.Scram made.done) state mic) (looks-law talk (outcome_of kinds.Scram made.done) state mic)
 
-run-law : (size : ℕ) (talk : Talk) (before : Option MechKind) (mech : InitMech) (state : Option NegState) (token mic : Option (List ℕ)) → IsMechOf talk.own mech → kind_of_mech mech ≡ talk.chosen → On (Ran talk.own before (answering mech) talk.chosen) (run size talk mech state token mic)
+run-law : (size : ℕ) (talk : TalkSays) (before : Option MechKind) (mech : InitMech) (state : Option NegState) (token mic : Option (List ℕ)) → IsMechOf talk.own mech → kind_of_mech mech ≡ talk.chosen → On (Ran talk.own before (answering mech) talk.chosen) (run size talk mech state token mic)
 unfolding run init_taken
 run-law size talk before mech state None mic waits kind = tt
 run-law size talk before (mechs.Kerberos end) state (Some token) mic waits kind = ran-law talk before None state mic end token (reply_taken end token) waits kind refl
@@ -245,7 +240,7 @@ cred_for-kind [] kind cred e = cc
 cred_for-kind (first ∷ rest) kind cred e =
     by_test (same_kind (kind_of first) kind) kind first cred (cred_for rest kind) (λ f. same_kind-is (kind_of first) kind f) (λ f. cred_for-kind rest kind cred f) e
 
-request-begun : (talk : Talk) (next : Option InitModel) (credential : Granted) (result : Result (ApInit × List ℕ) ApRefusal) → kinds.Kerberos ≡ talk.chosen → cred_for talk.own.list kinds.Kerberos ≡ Some (creds.Kerberos credential) → request_of credential talk.own.stamp talk.own.draws talk.own.bindings ≡ result → On (Ran talk.own None next talk.chosen) (switched talk (request_begun (map typed (request_makes credential talk.own.stamp talk.own.draws talk.own.bindings)) result))
+request-begun : (talk : TalkSays) (next : Option InitModel) (credential : Granted) (result : Result (ApInit × List ℕ) ApRefusal) → kinds.Kerberos ≡ talk.chosen → cred_for talk.own.list kinds.Kerberos ≡ Some (creds.Kerberos credential) → request_of credential talk.own.stamp talk.own.draws talk.own.bindings ≡ result → On (Ran talk.own None next talk.chosen) (switched talk (request_begun (map typed (request_makes credential talk.own.stamp talk.own.draws talk.own.bindings)) result))
 request-begun talk next credential (Err refusal) kind is_own sends = tt
 request-begun talk next credential (Ok sent) kind is_own sends = record {
   after = record {
@@ -266,7 +261,7 @@ request-begun talk next credential (Ok sent) kind is_own sends = record {
   mech = λ o e. absurd (unfinished o e);
 }
 
-text-begun : (talk : Talk) (next : Option InitModel) (user password : List ℕ) (result : Result InitStarted ScramRefusal) → kinds.Scram ≡ talk.chosen → cred_for talk.own.list kinds.Scram ≡ Some (creds.Scram user password) → init_started user password (drawn_nonce talk.own.draws) talk.own.bindings ≡ result → On (Ran talk.own None next talk.chosen) (switched talk (text_begun result))
+text-begun : (talk : TalkSays) (next : Option InitModel) (user password : List ℕ) (result : Result InitStarted ScramRefusal) → kinds.Scram ≡ talk.chosen → cred_for talk.own.list kinds.Scram ≡ Some (creds.Scram user password) → init_started user password (drawn_nonce talk.own.draws) talk.own.bindings ≡ result → On (Ran talk.own None next talk.chosen) (switched talk (text_begun result))
 text-begun talk next user password (Err refusal) kind is_own starts = tt
 text-begun talk next user password (Ok started) kind is_own starts = record {
   after = record {
@@ -287,7 +282,7 @@ text-begun talk next user password (Ok started) kind is_own starts = record {
   mech = λ o e. absurd (unfinished o e);
 }
 
-switched-law : (talk : Talk) (next : Option InitModel) (cred : MechCred) → cred_for talk.own.list talk.chosen ≡ Some cred → On (Ran talk.own None next talk.chosen) (switched talk (init_begun talk.own cred))
+switched-law : (talk : TalkSays) (next : Option InitModel) (cred : MechCred) → cred_for talk.own.list talk.chosen ≡ Some cred → On (Ran talk.own None next talk.chosen) (switched talk (init_begun talk.own cred))
 unfolding init_begun
 switched-law talk next (creds.Kerberos credential) e =
     let kind : kinds.Kerberos ≡ talk.chosen = cred_for-kind talk.own.list talk.chosen (creds.Kerberos credential) e in
@@ -296,11 +291,11 @@ switched-law talk next (creds.Scram user password) e =
     let kind : kinds.Scram ≡ talk.chosen = cred_for-kind talk.own.list talk.chosen (creds.Scram user password) e in
     text-begun talk next user password (init_started user password (drawn_nonce talk.own.draws) talk.own.bindings) kind (rw kind e) refl
 
-begins_other-law : (talk : Talk) (next : Option InitModel) (found : Option MechCred) → cred_for talk.own.list talk.chosen ≡ found → On (Ran talk.own None next talk.chosen) (begins_other talk found)
+begins_other-law : (talk : TalkSays) (next : Option InitModel) (found : Option MechCred) → cred_for talk.own.list talk.chosen ≡ found → On (Ran talk.own None next talk.chosen) (begins_other talk found)
 begins_other-law talk next None e = tt
 begins_other-law talk next (Some cred) e = switched-law talk next cred e
 
-switches-law : (talk : Talk) (next : Option InitModel) (state : Option NegState) (token : Option (List ℕ)) → On (Ran talk.own None next talk.chosen) (switches talk state token)
+switches-law : (talk : TalkSays) (next : Option InitModel) (state : Option NegState) (token : Option (List ℕ)) → On (Ran talk.own None next talk.chosen) (switches talk state token)
 switches-law talk next state (Some token) = tt
 switches-law talk next state None =
     either (Ran talk.own None next talk.chosen) (says_completed state) (Err (Defective 0)) (begins_other talk (cred_for talk.own.list talk.chosen)) (λ e. tt)
@@ -308,7 +303,7 @@ switches-law talk next state None =
 
 -- ---- the machine
 
-picks-law : (size : ℕ) (opening : Opening) (kind : MechKind) (state : Option NegState) (token mic : Option (List ℕ)) → GoodInit (ends.Opens opening) → On (Ran opening.own None (answering opening.mech) kind) (picks size opening kind state token mic)
+picks-law : (size : ℕ) (opening : OpeningSays) (kind : MechKind) (state : Option NegState) (token mic : Option (List ℕ)) → GoodInit (ends.Opens opening) → On (Ran opening.own None (answering opening.mech) kind) (picks size opening kind state token mic)
 unfolding picks
 picks-law size opening kind state token mic good =
     either (Ran opening.own None (answering opening.mech) kind) (is_first (kinds_of opening.own.list) kind) (run size (talk_with opening.own kind state) opening.mech state token mic) (switches (talk_with opening.own kind state) state token)
@@ -320,7 +315,7 @@ on-bind P (Ok x) next f = f x
 on-bind P (Err refusal) next f = tt
 
 -- what a step of an unfinished end shows
-fresh : (old : InitEnd) (kind : MechKind) → finished_of old ≡ None → ((k : MechKind) → chosen_of old ≡ Some k → kind ≡ k) → (r : Result Initiated NegRefusal) → On (Ran (own_of old) (chosen_of old) (answers_next old) kind) r → On (InitLaw old) r
+fresh : (old : EndSays) (kind : MechKind) → finished_of old ≡ None → ((k : MechKind) → chosen_of old ≡ Some k → kind ≡ k) → (r : Result Initiated NegRefusal) → On (Ran (own_of old) (chosen_of old) (answers_next old) kind) r → On (InitLaw old) r
 fresh old kind unfinished_yet turns (Err refusal) h = tt
 fresh old kind unfinished_yet turns (Ok taken) h = record {
   after = h.after;
@@ -334,7 +329,7 @@ fresh old kind unfinished_yet turns (Ok taken) h = record {
   stays = λ o e. absurd (let f : None ≡ Some o = sym unfinished_yet ∙ e in cc);
 }
 
-opened-law : (size : ℕ) (opening : Opening) (resp : NegResp) → GoodInit (ends.Opens opening) → On (InitLaw (ends.Opens opening)) (opened size opening resp)
+opened-law : (size : ℕ) (opening : OpeningSays) (resp : NegResp) → GoodInit (ends.Opens opening) → On (InitLaw (ends.Opens opening)) (opened size opening resp)
 unfolding opened
 opened-law size opening resp good =
     let P : Initiated → Type 0 = InitLaw (ends.Opens opening) in
@@ -349,7 +344,7 @@ opened-law size opening resp good =
     (λ kind. fresh (ends.Opens opening) kind refl (λ k e. absurd (let f : None ≡ Some k = e in cc)) (picks size opening kind (Some state) resp.token resp.mic)
     (picks-law size opening kind (Some state) resp.token resp.mic good)))))
 
-talked-law : (size : ℕ) (talking : Talking) (resp : NegResp) → GoodInit (ends.Talks talking) → On (InitLaw (ends.Talks talking)) (talked size talking resp)
+talked-law : (size : ℕ) (talking : TalkingSays) (resp : NegResp) → GoodInit (ends.Talks talking) → On (InitLaw (ends.Talks talking)) (talked size talking resp)
 unfolding talked
 talked-law size talking resp good =
     let P : Initiated → Type 0 = InitLaw (ends.Talks talking) in
@@ -361,7 +356,7 @@ talked-law size talking resp good =
     (run size (talk_after talking.talk resp.state) talking.mech resp.state resp.token resp.mic)
     (run-law size (talk_after talking.talk resp.state) (Some talking.talk.chosen) talking.mech resp.state resp.token resp.mic good.mech good.chosen)))
 
-settles-law : (signed : Signed) (listed completes : Bool) (found : List MechMaking) → GoodInit (ends.Signed signed) → (listed ≡ true → (signed.listed ≡ true) ⊎ SeesMic signed.talk.own found signed.outcome) → (signed.listed ≡ true → listed ≡ true) → On (InitLaw (ends.Signed signed)) (behind [] found (settles signed listed completes))
+settles-law : (signed : SignedSays) (listed completes : Bool) (found : List MechMaking) → GoodInit (ends.Signed signed) → (listed ≡ true → (signed.listed ≡ true) ⊎ SeesMic signed.talk.own found signed.outcome) → (signed.listed ≡ true → listed ≡ true) → On (InitLaw (ends.Signed signed)) (behind [] found (settles signed listed completes))
 settles-law signed listed false found good sees grows = tt
 settles-law signed listed true found good sees grows =
     let same : (o : Outcome) → Some signed.outcome ≡ Some o → signed.outcome ≡ o = λ o e. cc in
@@ -385,7 +380,7 @@ settles-law signed listed true found good sees grows =
     covers (inl e) = inl e
     covers (inr e) = inr (grows e)
 
-looks_again-law : (signed : Signed) (state : Option NegState) (mic : Option (List ℕ)) → GoodInit (ends.Signed signed) → On (InitLaw (ends.Signed signed)) (looks_again signed state mic)
+looks_again-law : (signed : SignedSays) (state : Option NegState) (mic : Option (List ℕ)) → GoodInit (ends.Signed signed) → On (InitLaw (ends.Signed signed)) (looks_again signed state mic)
 looks_again-law signed state None good = unseen (completes_later state)
   where
     unseen : (completes : Bool) → On (InitLaw (ends.Signed signed)) (settles signed signed.listed completes)
@@ -396,7 +391,7 @@ looks_again-law signed state (Some mic) good =
     either (InitLaw (ends.Signed signed)) (is_list_mic signed.outcome Initiator (own_list signed.talk.own) mic) (behind [] found (settles signed true (completes_later state))) (Err MicBad)
     (λ e. settles-law signed true (completes_later state) found good (λ l. inr (record { mic = mic; right = e; verified = inl refl })) (λ l. refl)) (λ e. tt)
 
-closed-law : (signed : Signed) (resp : NegResp) → GoodInit (ends.Signed signed) → On (InitLaw (ends.Signed signed)) (closed signed resp)
+closed-law : (signed : SignedSays) (resp : NegResp) → GoodInit (ends.Signed signed) → On (InitLaw (ends.Signed signed)) (closed signed resp)
 unfolding closed
 closed-law signed resp good =
     let P : Initiated → Type 0 = InitLaw (ends.Signed signed) in
@@ -406,7 +401,7 @@ closed-law signed resp good =
     (λ same. looks_again signed resp.state resp.mic)
     (λ same. looks_again-law signed resp.state resp.mic good))
 
-step-law : (old : InitEnd) (token : List ℕ) → GoodInit old → On (InitLaw old) (init_step old token)
+step-law : (old : EndSays) (token : List ℕ) → GoodInit old → On (InitLaw old) (init_step old token)
 step-law (ends.Opens opening) token good =
     on-bind (InitLaw (ends.Opens opening)) (resp_read token) (opened (length token) opening) (λ resp. opened-law (length token) opening resp good)
 step-law (ends.Talks talking) token good =
@@ -417,7 +412,7 @@ step-law (ends.Signed signed) token good =
 on-ok : (P : Initiated → Type 0) (r : Result Initiated NegRefusal) (taken : Initiated) → r ≡ Ok taken → On P r → P taken
 on-ok P r taken e h = subst (On P) e h
 
-pub init_steps : (old : InitEnd) (token : List ℕ) (taken : Initiated) → GoodInit old → init_step old token ≡ Ok taken → InitLaw old taken
+pub init_steps : (old : EndSays) (token : List ℕ) (taken : Initiated) → GoodInit old → init_step old token ≡ Ok taken → InitLaw old taken
 init_steps old token taken good e = on-ok (InitLaw old) (init_step old token) taken e (step-law old token good)
 
 -- ---- the start
@@ -426,7 +421,7 @@ OnStarted : (Started → Type 0) → Result Started NegRefusal → Type 0
 OnStarted P (Ok started) = P started
 OnStarted P (Err refusal) = Unit {0}
 
-request-opens : (own : InitSetup) (credential : Granted) (rest : List MechCred) (result : Result (ApInit × List ℕ) ApRefusal) → own.list ≡ creds.Kerberos credential ∷ rest → request_of credential own.stamp own.draws own.bindings ≡ result → OnStarted (StartLaw own) (opens own (request_begun (map typed (request_makes credential own.stamp own.draws own.bindings)) result))
+request-opens : (own : PlainSetup) (credential : Granted) (rest : List MechCred) (result : Result (ApInit × List ℕ) ApRefusal) → own.list ≡ creds.Kerberos credential ∷ rest → request_of credential own.stamp own.draws own.bindings ≡ result → OnStarted (StartLaw own) (opens own (request_begun (map typed (request_makes credential own.stamp own.draws own.bindings)) result))
 unfolding OnStarted
 request-opens own credential rest (Err refusal) list sends = tt
 request-opens own credential rest (Ok sent) list sends =
@@ -441,7 +436,7 @@ request-opens own credential rest (Ok sent) list sends =
       made = λ making m. (credential, is_own, one making _ m);
     }
 
-text-opens : (own : InitSetup) (user password : List ℕ) (rest : List MechCred) (result : Result InitStarted ScramRefusal) → own.list ≡ creds.Scram user password ∷ rest → init_started user password (drawn_nonce own.draws) own.bindings ≡ result → OnStarted (StartLaw own) (opens own (text_begun result))
+text-opens : (own : PlainSetup) (user password : List ℕ) (rest : List MechCred) (result : Result InitStarted ScramRefusal) → own.list ≡ creds.Scram user password ∷ rest → init_started user password (drawn_nonce own.draws) own.bindings ≡ result → OnStarted (StartLaw own) (opens own (text_begun result))
 unfolding OnStarted
 text-opens own user password rest (Err refusal) list starts = tt
 text-opens own user password rest (Ok started) list starts =
@@ -456,12 +451,12 @@ text-opens own user password rest (Ok started) list starts =
       made = λ making m. absurd m;
     }
 
-starts-law : (own : InitSetup) (list : List MechCred) → own.list ≡ list → OnStarted (StartLaw own) (starts own list)
+starts-law : (own : PlainSetup) (list : List MechCred) → own.list ≡ list → OnStarted (StartLaw own) (starts own list)
 unfolding OnStarted init_begun
 starts-law own [] e = tt
 starts-law own (creds.Kerberos credential ∷ rest) e = request-opens own credential rest (request_of credential own.stamp own.draws own.bindings) e refl
 starts-law own (creds.Scram user password ∷ rest) e = text-opens own user password rest (init_started user password (drawn_nonce own.draws) own.bindings) e refl
 
-pub init_starts : (own : InitSetup) (started : Started) → init_start own ≡ Ok started → StartLaw own started
+pub init_starts : (own : PlainSetup) (started : Started) → init_start own ≡ Ok started → StartLaw own started
 unfolding OnStarted
 init_starts own started e = subst (OnStarted (StartLaw own)) e (starts-law own own.list refl)

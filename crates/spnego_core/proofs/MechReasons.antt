@@ -20,13 +20,13 @@ use Rattle.scram_mech.proofs.Reasons.{step-reasons}
 use Rattle.spnego_core.specs.declared.refusal.MechRefusal.{MechRefusal}
 use Rattle.spnego_core.specs.declared.refusal.NegRefusal.{NegRefusal}
 use Rattle.spnego_core.specs.declared.setup.AcceptSetup.{AcceptSetup}
-use Rattle.spnego_core.specs.declared.setup.InitSetup.{InitSetup}
 use Rattle.spnego_core.specs.declared.setup.MechCred.{MechCred}
 use Rattle.spnego_core.specs.declared.setup.MechCred.TheVariants as creds
 use Rattle.spnego_core.specs.declared.accept_mech.AcceptMech.{AcceptMech}
 use Rattle.spnego_core.specs.declared.accept_mech.AcceptMech.TheVariants as accepts
 use Rattle.spnego_core.specs.declared.init_mech.InitMech.{InitMech}
 use Rattle.spnego_core.specs.declared.init_mech.InitMech.TheVariants as inits
+use Rattle.spnego_core.specs.Ends.{PlainSetup}
 use Rattle.spnego_core.specs.Reasons.{mech_wants_memory, neg_wants_memory}
 use Rattle.spnego_core.specs.Steps.{◌>>=◌, due, or_refuse}
 use Rattle.spnego_core.specs.Tokens.{said_in}
@@ -74,7 +74,7 @@ unfolding MechReasoned
 text_begun-reasoned (Ok started) h = tt
 text_begun-reasoned (Err e) h = h e refl
 
-pub init_begun-reasoned : (own : InitSetup) (cred : MechCred) → MechReasoned (init_begun own cred)
+pub init_begun-reasoned : (own : PlainSetup) (cred : MechCred) → MechReasoned (init_begun own cred)
 unfolding init_begun
 init_begun-reasoned own (creds.Kerberos credential) =
     request_begun-reasoned _ (request_of credential own.stamp own.draws own.bindings) (request-reasons credential own.stamp own.draws own.bindings)

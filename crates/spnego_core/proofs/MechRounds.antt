@@ -40,7 +40,6 @@ use Rattle.scram_mech.proofs.Frames.{unframed-framed, first-short}
 use Rattle.scram_mech.proofs.Lengths.{answer_short, final_short}
 use Rattle.spnego_core.specs.declared.outcome.Outcome.{Outcome}
 use Rattle.spnego_core.specs.declared.setup.AcceptSetup.{AcceptSetup}
-use Rattle.spnego_core.specs.declared.setup.InitSetup.{InitSetup}
 use Rattle.spnego_core.specs.declared.setup.MechCred.TheVariants as creds
 use Rattle.spnego_core.specs.declared.init_mech.InitMech.TheVariants as inits
 use Rattle.spnego_core.specs.declared.init_mech.InitAnswer.TheVariants as tells
@@ -48,6 +47,7 @@ use Rattle.spnego_core.specs.declared.accept_mech.AcceptMech.TheVariants as mech
 use Rattle.spnego_core.specs.declared.accept_mech.AcceptAnswer.TheVariants as answers
 use Rattle.spnego_core.specs.declared.accept_end.Answered.{Answered}
 use Rattle.spnego_core.specs.declared.accept_end.Answered.TheVariants as afters
+use Rattle.spnego_core.specs.Ends.{PlainSetup}
 use Rattle.spnego_core.specs.Outcome.{outcome_of}
 use Rattle.spnego_core.specs.AcceptMech.{request_answered, proof_answered, accept_taken}
 use Rattle.spnego_core.specs.InitMech.{MechBegun, init_begun, init_taken}
@@ -64,14 +64,14 @@ gone_passed (afters.Done outcome lasts token) = refl
 -- ---- Kerberos
 
 -- what begins
-abbrev pub request_begins : InitSetup → Granted → MechBegun
+abbrev pub request_begins : PlainSetup → Granted → MechBegun
 request_begins own credential = record {
   mech = inits.Kerberos (waiting credential own.stamp own.draws own.bindings);
   token = request_token credential own.stamp own.draws own.bindings;
   makes = map typed (request_makes credential own.stamp own.draws own.bindings);
 }
 
-pub request-begins : (setup : AcceptSetup) (own : InitSetup) (credential : Granted) (occasion : Occasion) → TicketFits setup own credential occasion → init_begun own (creds.Kerberos credential) ≡ Ok (request_begins own credential)
+pub request-begins : (setup : AcceptSetup) (own : PlainSetup) (credential : Granted) (occasion : Occasion) → TicketFits setup own credential occasion → init_begun own (creds.Kerberos credential) ≡ Ok (request_begins own credential)
 unfolding init_begun request_of
 request-begins setup own credential occasion h = rw h.fit.is_ticket refl
 
@@ -79,11 +79,11 @@ request-begins setup own credential occasion h = rw h.fit.is_ticket refl
 one_outcome : (a b : MechDone) → ap_laws.Agrees a b → outcome_of kinds.Kerberos a ≡ outcome_of kinds.Kerberos b
 one_outcome a b g = λ i. record { mech = kinds.Kerberos; initiator = g.initiator_name i; acceptor = g.acceptor_name i; key = g.key i; subkey = g.subkey i; hash = g.hash i }
 
-abbrev judged_on : (setup : AcceptSetup) (own : InitSetup) (credential : Granted) (occasion : Occasion) → TicketFits setup own credential occasion → Judged
+abbrev judged_on : (setup : AcceptSetup) (own : PlainSetup) (credential : Granted) (occasion : Occasion) → TicketFits setup own credential occasion → Judged
 judged_on setup own credential occasion h = ap_laws.honest_judged credential own.stamp own.bindings h.fit.part
 
 -- the request's round is the last
-pub request-ends : (setup : AcceptSetup) (own : InitSetup) (credential : Granted) (occasion : Occasion) → length own.draws ≡ 66 → length occasion.drawn ≡ 66 → (h : TicketFits setup own credential occasion)
+pub request-ends : (setup : AcceptSetup) (own : PlainSetup) (credential : Granted) (occasion : Occasion) → length own.draws ≡ 66 → length occasion.drawn ≡ 66 → (h : TicketFits setup own credential occasion)
     → LastRound setup occasion mechs.Kerberos (request_begins own credential).mech (request_begins own credential).token (outcome_of kinds.Kerberos (answer_done (judged_on setup own credential occasion h) occasion.drawn))
 unfolding accept_taken init_taken
 request-ends setup own credential occasion draws drawn h =
@@ -120,7 +120,7 @@ few_rounds rounds e = grind (arith, nat_tests)
 abbrev pub text_begins : InitStarted → MechBegun
 text_begins started = record { mech = inits.Scram started.end; token = started.token; makes = [] }
 
-pub text-begins : (own : InitSetup) (user password : List ℕ) (started : InitStarted) → init_started user password (drawn_nonce own.draws) own.bindings ≡ Ok started → init_begun own (creds.Scram user password) ≡ Ok (text_begins started)
+pub text-begins : (own : PlainSetup) (user password : List ℕ) (started : InitStarted) → init_started user password (drawn_nonce own.draws) own.bindings ≡ Ok started → init_begun own (creds.Scram user password) ≡ Ok (text_begins started)
 unfolding init_begun
 text-begins own user password started e = rw e refl
 
@@ -176,23 +176,23 @@ accept-plain : (end : AcceptModel) (text : List ℕ) (bindings : Option (List �
 accept-plain end text bindings now finished e = ap (λ (f : AcceptFinished). f.done.subkey) (accepts end text bindings now finished e).same
 
 -- what the two rounds of an honest pair come to
-abbrev Pairs : AcceptSetup → InitSetup → List ℕ → List ℕ → Occasion → Occasion → Type 0
+abbrev Pairs : AcceptSetup → PlainSetup → List ℕ → List ℕ → Occasion → Occasion → Type 0
 Pairs setup own user password first second =
     scram_laws.Agrees user password (drawn_nonce own.draws) (drawn_nonce first.drawn) own.bindings setup.bindings setup.verifiers second.now
 
-pub pairs : (setup : AcceptSetup) (own : InitSetup) (user password : List ℕ) (first second : Occasion) → UserFits setup own user password first → Pairs setup own user password first second
+pub pairs : (setup : AcceptSetup) (own : PlainSetup) (user password : List ℕ) (first second : Occasion) → UserFits setup own user password first → Pairs setup own user password first second
 pairs setup own user password first second h =
     agrees user password (drawn_nonce own.draws) (drawn_nonce first.drawn) own.bindings setup.bindings setup.verifiers h.salt h.rounds second.now h.honest h.bound
 
 -- the proof is short
-pub proof-short : (setup : AcceptSetup) (own : InitSetup) (user password : List ℕ) (first second : Occasion) → UserFits setup own user password first → (p : Pairs setup own user password first second) → length p.proved.token ≤ 65000
+pub proof-short : (setup : AcceptSetup) (own : PlainSetup) (user password : List ℕ) (first second : Occasion) → UserFits setup own user password first → (p : Pairs setup own user password first second) → length p.proved.token ≤ 65000
 proof-short setup own user password first second h p = omega (arith, answer_short p.started.end p.taken.token p.proved (bound_few p.starts) p.proves)
   where
     bound_few : init_started user password (drawn_nonce own.draws) own.bindings ≡ Ok p.started → length (data_of p.started.end.bindings) ≤ 32768
     bound_few e = subst (λ (b : Option (List ℕ)). length (data_of b) ≤ 32768) (sym (started_bindings user password (drawn_nonce own.draws) own.bindings p.started e)) h.honest.data_few
 
 -- the round of the texts
-pub texts-go : (setup : AcceptSetup) (own : InitSetup) (user password : List ℕ) (first second : Occasion) → UserFits setup own user password first → (p : Pairs setup own user password first second)
+pub texts-go : (setup : AcceptSetup) (own : PlainSetup) (user password : List ℕ) (first second : Occasion) → UserFits setup own user password first → (p : Pairs setup own user password first second)
     → TextRound setup first mechs.Scram (text_begins p.started).mech (text_begins p.started).token (mechs.Proof p.taken.end) (inits.Proof p.proved.end) p.proved.token
 unfolding accept_taken init_taken
 texts-go setup own user password first second h p = record {
@@ -208,7 +208,7 @@ texts-go setup own user password first second h p = record {
 }
 
 -- the round of the proof is the last
-pub proof-ends : (setup : AcceptSetup) (own : InitSetup) (user password : List ℕ) (first second : Occasion) → (p : Pairs setup own user password first second)
+pub proof-ends : (setup : AcceptSetup) (own : PlainSetup) (user password : List ℕ) (first second : Occasion) → (p : Pairs setup own user password first second)
     → LastRound setup second (mechs.Proof p.taken.end) (inits.Proof p.proved.end) p.proved.token (outcome_of kinds.Scram p.accepted.done)
 unfolding accept_taken init_taken
 proof-ends setup own user password first second p = record {

@@ -19,13 +19,13 @@ use Rattle.ap_exchange.specs.Laws.{honest_judged, Agrees}
 use Rattle.ap_exchange.proofs.Honest.{honest_request, honest_reply}
 use Rattle.spnego_core.specs.declared.outcome.Outcome.{Outcome}
 use Rattle.spnego_core.specs.declared.setup.AcceptSetup.{AcceptSetup}
-use Rattle.spnego_core.specs.declared.setup.InitSetup.{InitSetup}
-use Rattle.spnego_core.specs.declared.init_end.InitEnd.TheVariants as inits
-use Rattle.spnego_core.specs.declared.init_end.InitStep.TheVariants as initiated
 use Rattle.spnego_core.specs.declared.accept_end.AcceptEnd.TheVariants as accepts
 use Rattle.spnego_core.specs.declared.accept_end.AcceptPause.{AcceptPause}
 use Rattle.spnego_core.specs.declared.accept_end.AcceptStep.TheVariants as accepted
 use Rattle.spnego_core.specs.declared.accept_end.Turn.TheVariants.{First}
+use Rattle.spnego_core.specs.Ends.{PlainSetup}
+use Rattle.spnego_core.specs.Ends as inits
+use Rattle.spnego_core.specs.EndSteps as initiated
 use Rattle.spnego_core.specs.Outcome.{outcome_of, token_end}
 use Rattle.spnego_core.specs.ListMic.{list_mic, is_list_mic}
 use Rattle.spnego_core.specs.Choice.{is_first}
@@ -102,7 +102,7 @@ pub after_mics : (setup : AcceptSetup) (now : ℕ) (drawn : List ℕ) (credentia
     → DoneAfterMics setup now drawn (opening_end credential stamp draws bindings) (first_token credential stamp draws bindings) (pair_outcome (honest_judged credential stamp bindings pair.fit.part) drawn)
 unfolding initiating.opened initiating.picks initiating.run init_taken initiating.closed accepting.closes
 after_mics setup now drawn credential stamp draws bindings pair other sent replied signed =
-    let own : InitSetup = setup_with credential stamp draws bindings in
+    let own : PlainSetup = setup_with credential stamp draws bindings in
     let list : List (List ℕ) = initiating.own_list own in
     let j : Judged = honest_judged credential stamp bindings pair.fit.part in
     let outcome : Outcome = pair_outcome j drawn in

@@ -17,8 +17,7 @@ use Rattle.ap_exchange.specs.Request.{request_token, request_of, RequestFits}
 use Rattle.spnego_core.specs.declared.outcome.Outcome.{Outcome}
 use Rattle.spnego_core.specs.declared.setup.MechCred.{MechCred}
 use Rattle.spnego_core.specs.declared.setup.MechCred.TheVariants as creds
-use Rattle.spnego_core.specs.declared.setup.InitSetup.{InitSetup}
-use Rattle.spnego_core.specs.declared.init_end.Talk.{Talk}
+use Rattle.spnego_core.specs.Ends.{PlainSetup}
 use Rattle.spnego_core.specs.Tokens.{init_octets, resp_octets}
 use Rattle.spnego_core.specs.ListMic.{list_mic}
 use Rattle.spnego_core.specs.InitMech.{kind_of, is_own_list}
@@ -55,7 +54,7 @@ list_within (only ∷ []) e = more 30 (omega arith) (both (own_within only) none
 list_within (first ∷ second ∷ []) e = more 30 (omega arith) (both (own_within first) (both (own_within second) none))
 list_within (first ∷ second ∷ third ∷ rest) e = cc
 
-pub first_short : (own : InitSetup) (token : List ℕ) → is_own_list own.list ≡ true → FitsBeside token → IsShort (init_octets (first_sent own token))
+pub first_short : (own : PlainSetup) (token : List ℕ) → is_own_list own.list ≡ true → FitsBeside token → IsShort (init_octets (first_sent own token))
 unfolding init_octets neg_init spnego_identifier mech_types
 first_short own token list h =
     let sent : Within token 61040 = record { most = h } in
@@ -72,7 +71,7 @@ pub if_short : {E : Type 0} (r : Result (List ℕ) E) (token : List ℕ) → IfO
 if_short (Ok o) token e h = subst IsShort (sym e) h
 if_short (Err refusal) token e h = tt
 
-pub if_first : {E : Type 0} (own : InitSetup) (token : List ℕ) (list : List (List ℕ)) (r : Result (List ℕ) E) → list ≡ own_list own → IfOk r (λ o. o ≡ init_octets (record { list = list; flags = None; token = Some token; mic = None })) → is_own_list own.list ≡ true → FitsBeside token → IfOk r IsShort
+pub if_first : {E : Type 0} (own : PlainSetup) (token : List ℕ) (list : List (List ℕ)) (r : Result (List ℕ) E) → list ≡ own_list own → IfOk r (λ o. o ≡ init_octets (record { list = list; flags = None; token = Some token; mic = None })) → is_own_list own.list ≡ true → FitsBeside token → IfOk r IsShort
 if_first own token list r e g l h =
     if_short r (init_octets (first_sent own token)) (subst (λ (x : List (List ℕ)). IfOk r (λ o. o ≡ init_octets (record { list = x; flags = None; token = Some token; mic = None }))) e g) (first_short own token l h)
 

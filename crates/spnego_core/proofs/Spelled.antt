@@ -17,9 +17,9 @@ use Rattle.spnego_msgs.specs.NegResp.{neg_state, neg_resp}
 use Rattle.spnego_msgs.specs.NegInit.{spnego_identifier, neg_init}
 use Rattle.spnego_msgs.specs.Lists.{mech_types, is_count}
 use Rattle.spnego_core.specs.declared.setup.MechCred.{MechCred}
-use Rattle.spnego_core.specs.declared.setup.InitSetup.{InitSetup}
 use Rattle.spnego_core.specs.declared.accept_end.Turn.{Turn}
 use Rattle.spnego_core.specs.declared.accept_end.Turn.TheVariants.{First, Later}
+use Rattle.spnego_core.specs.Ends.{PlainSetup}
 use Rattle.spnego_core.specs.Sizes.{IsShort}
 use Rattle.spnego_core.specs.Tokens.{init_read, init_octets, resp_read, resp_octets}
 use Rattle.spnego_core.specs.InitMech.{kind_of, is_own_list}
@@ -141,11 +141,11 @@ list_counted (only ∷ []) e = refl
 list_counted (first ∷ second ∷ []) e = refl
 list_counted (first ∷ second ∷ third ∷ rest) e = cc
 
-types_sized : (own : InitSetup) → is_own_list own.list ≡ true → Sized (mech_types.spell (own_list own)) (mech_types.fits (own_list own))
+types_sized : (own : PlainSetup) → is_own_list own.list ≡ true → Sized (mech_types.spell (own_list own)) (mech_types.fits (own_list own))
 unfolding mech_types
 types_sized own e = record { holds = λ h. both_hold ((element_sized 0x30 (list_sized own.list)).holds h) (list_counted own.list e) }
 
-init_sized : (own : InitSetup) (token : List ℕ) → is_own_list own.list ≡ true → Sized (init_octets (first_sent own token)) (neg_init.fits (first_sent own token))
+init_sized : (own : PlainSetup) (token : List ℕ) → is_own_list own.list ≡ true → Sized (init_octets (first_sent own token)) (neg_init.fits (first_sent own token))
 unfolding init_octets neg_init spnego_identifier
 init_sized own token e =
     element_sized 0x60 (both_sized (element_sized 6 any_sized) (element_sized 0xa0 (element_sized 0x30
@@ -154,5 +154,5 @@ init_sized own token e =
     (both_sized (element_sized 0xa2 (string_sized token))
     (both_sized none_sized none_sized)))))))
 
-pub init_reads : (own : InitSetup) (token : List ℕ) → is_own_list own.list ≡ true → IsShort (init_octets (first_sent own token)) → init_read (init_octets (first_sent own token)) ≡ Ok (first_sent own token)
+pub init_reads : (own : PlainSetup) (token : List ℕ) → is_own_list own.list ≡ true → IsShort (init_octets (first_sent own token)) → init_read (init_octets (first_sent own token)) ≡ Ok (first_sent own token)
 init_reads own token e h = init_again (first_sent own token) ((init_sized own token e).holds (omega (arith, h)))

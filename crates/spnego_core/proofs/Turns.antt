@@ -6,14 +6,9 @@ use Rattle.gss_base.specs.Mech.{oid_of, mech_of}
 use Rattle.krb_tokens.specs.declared.end.Side.TheVariants.{Initiator, Acceptor}
 use Rattle.spnego_core.specs.declared.outcome.Outcome.{Outcome}
 use Rattle.spnego_core.specs.declared.setup.AcceptSetup.{AcceptSetup}
-use Rattle.spnego_core.specs.declared.setup.InitSetup.{InitSetup}
 use Rattle.spnego_core.specs.declared.setup.MechCred.{MechCred}
 use Rattle.spnego_core.specs.declared.init_mech.InitMech.{InitMech}
 use Rattle.spnego_core.specs.declared.init_mech.InitAnswer.TheVariants as tells
-use Rattle.spnego_core.specs.declared.init_end.Talk.{Talk}
-use Rattle.spnego_core.specs.declared.init_end.InitEnd.{InitEnd}
-use Rattle.spnego_core.specs.declared.init_end.InitEnd.TheVariants as inits
-use Rattle.spnego_core.specs.declared.init_end.InitStep.TheVariants as initiated
 use Rattle.spnego_core.specs.declared.accept_mech.AcceptMech.{AcceptMech}
 use Rattle.spnego_core.specs.declared.accept_mech.AcceptAnswer.TheVariants as answers
 use Rattle.spnego_core.specs.declared.accept_end.Turn.{Turn}
@@ -23,6 +18,9 @@ use Rattle.spnego_core.specs.declared.accept_end.AcceptEnd.{AcceptEnd}
 use Rattle.spnego_core.specs.declared.accept_end.AcceptEnd.TheVariants as accepts
 use Rattle.spnego_core.specs.declared.accept_end.AcceptStep.{AcceptStep}
 use Rattle.spnego_core.specs.declared.accept_end.AcceptStep.TheVariants as accepted
+use Rattle.spnego_core.specs.Ends.{PlainSetup, TalkSays, EndSays}
+use Rattle.spnego_core.specs.Ends as inits
+use Rattle.spnego_core.specs.EndSteps as initiated
 use Rattle.spnego_core.specs.ListMic.{list_mic}
 use Rattle.spnego_core.specs.Choice.{is_first, is_first_named, best}
 use Rattle.spnego_core.specs.Tokens.{init_octets, resp_octets}
@@ -38,19 +36,19 @@ use Rattle.spnego_core.proofs.Pairs.{acceptors_mic, initiators_mic}
 use Rattle.spnego_core.proofs.Spelled.{reply_reads, token_reads, token_short, mic_reads, mic_short, init_reads}
 
 -- what both know once the mechanism was chosen; whether the MIC is due is said by the first reply
-abbrev pub talk_on : InitSetup → MechKind → Bool → Talk
+abbrev pub talk_on : PlainSetup → MechKind → Bool → TalkSays
 talk_on own kind due = record { own = own; chosen = kind; asked = due }
 
-abbrev pub chosen_on : InitSetup → MechKind → Bool → Chosen
+abbrev pub chosen_on : PlainSetup → MechKind → Bool → Chosen
 chosen_on own kind due = record { received = initiating.own_list own; kind = kind; due = due }
 
 -- the initiator's end while the chosen mechanism runs, by the turn of the reply that is due
-abbrev pub end_at : Turn → InitSetup → MechKind → Bool → InitMech → InitEnd
+abbrev pub end_at : Turn → PlainSetup → MechKind → Bool → InitMech → EndSays
 end_at First own kind due mech = inits.Opens (record { own = own; mech = mech })
 end_at Later own kind due mech = inits.Talks (record { talk = talk_on own kind due; mech = mech })
 
 -- a first reply that carries on a mechanism is for the own first one
-abbrev pub MayCome : Turn → InitSetup → MechKind → Type 0
+abbrev pub MayCome : Turn → PlainSetup → MechKind → Type 0
 MayCome First own kind = is_first (kinds_of own.list) kind ≡ true
 MayCome Later own kind = Unit {0}
 
@@ -63,7 +61,7 @@ one_within octets n h v e = some-is octets v n (record { most = h }) e
 
 -- ---- the initiator takes a reply
 
-takes_first : (own : InitSetup) (kind : MechKind) (due finished : Bool) (mech : InitMech) (token : List ℕ) (mic : Option (List ℕ)) → is_own own.list kind ≡ true → is_first (kinds_of own.list) kind ≡ true → length token ≤ 65000 → ((v : List ℕ) → mic ≡ Some v → Within v 28)
+takes_first : (own : PlainSetup) (kind : MechKind) (due finished : Bool) (mech : InitMech) (token : List ℕ) (mic : Option (List ℕ)) → is_own own.list kind ≡ true → is_first (kinds_of own.list) kind ≡ true → length token ≤ 65000 → ((v : List ℕ) → mic ≡ Some v → Within v 28)
     → initiating.init_step (inits.Opens (record { own = own; mech = mech })) (accepting.reply First kind due finished (Some token) mic)
     ≡ initiating.ran (talk_on own kind due) (Some (accepting.state_said First due finished)) mic (init_taken mech token)
 unfolding initiating.opened initiating.picks initiating.run
@@ -74,7 +72,7 @@ takes_first own kind false true mech token mic is first few m =
 takes_first own kind false false mech token mic is first few m =
     rw (reply_reads First kind false false (Some token) mic (one_within token 65000 few) m, named_back kind, is, first) refl
 
-takes_later : (own : InitSetup) (kind : MechKind) (due finished : Bool) (mech : InitMech) (token : List ℕ) (mic : Option (List ℕ)) → length token ≤ 65000 → ((v : List ℕ) → mic ≡ Some v → Within v 28)
+takes_later : (own : PlainSetup) (kind : MechKind) (due finished : Bool) (mech : InitMech) (token : List ℕ) (mic : Option (List ℕ)) → length token ≤ 65000 → ((v : List ℕ) → mic ≡ Some v → Within v 28)
     → initiating.init_step (inits.Talks (record { talk = talk_on own kind due; mech = mech })) (accepting.reply Later kind due finished (Some token) mic)
     ≡ initiating.ran (talk_on own kind due) (Some (accepting.state_said Later due finished)) mic (init_taken mech token)
 unfolding initiating.talked initiating.run
@@ -82,14 +80,14 @@ takes_later own kind true finished mech token mic few m = rw (reply_reads Later 
 takes_later own kind false true mech token mic few m = rw (reply_reads Later kind false true (Some token) mic (one_within token 65000 few) m) refl
 takes_later own kind false false mech token mic few m = rw (reply_reads Later kind false false (Some token) mic (one_within token 65000 few) m) refl
 
-takes : (turn : Turn) (own : InitSetup) (kind : MechKind) (due finished : Bool) (mech : InitMech) (token : List ℕ) (mic : Option (List ℕ)) → is_own own.list kind ≡ true → MayCome turn own kind → length token ≤ 65000 → ((v : List ℕ) → mic ≡ Some v → Within v 28)
+takes : (turn : Turn) (own : PlainSetup) (kind : MechKind) (due finished : Bool) (mech : InitMech) (token : List ℕ) (mic : Option (List ℕ)) → is_own own.list kind ≡ true → MayCome turn own kind → length token ≤ 65000 → ((v : List ℕ) → mic ≡ Some v → Within v 28)
     → initiating.init_step (end_at turn own kind due mech) (accepting.reply turn kind due finished (Some token) mic)
     ≡ initiating.ran (talk_on own kind due) (Some (accepting.state_said turn due finished)) mic (init_taken mech token)
 takes First own kind due finished mech token mic is may few m = takes_first own kind due finished mech token mic is may few m
 takes Later own kind due finished mech token mic is may few m = takes_later own kind due finished mech token mic few m
 
 -- the mechanism goes on
-goes_on : (turn : Turn) (due : Bool) (talk : Talk) (taken : MechReplied) (mech : InitMech) (further : List ℕ) → taken.answer ≡ tells.More mech further
+goes_on : (turn : Turn) (due : Bool) (talk : TalkSays) (taken : MechReplied) (mech : InitMech) (further : List ℕ) → taken.answer ≡ tells.More mech further
     → initiating.step_of (initiating.ran talk (Some (accepting.state_said turn due false)) None (Ok taken))
     ≡ Ok (initiated.More (inits.Talks (record { talk = talk; mech = mech })) (resp_octets (initiating.token_sent further)))
 goes_on First true talk taken mech further e = rw e refl
@@ -98,27 +96,27 @@ goes_on Later true talk taken mech further e = rw e refl
 goes_on Later false talk taken mech further e = rw e refl
 
 -- the mechanism is done, and the MICs aren't due
-ends_plain : (turn : Turn) (own : InitSetup) (kind : MechKind) (taken : MechReplied) (outcome : Outcome) → is_first (kinds_of own.list) kind ≡ true → taken.answer ≡ tells.Done outcome
+ends_plain : (turn : Turn) (own : PlainSetup) (kind : MechKind) (taken : MechReplied) (outcome : Outcome) → is_first (kinds_of own.list) kind ≡ true → taken.answer ≡ tells.Done outcome
     → initiating.step_of (initiating.ran (talk_on own kind false) (Some (accepting.state_said turn false true)) None (Ok taken)) ≡ Ok (initiated.Done outcome)
 ends_plain First own kind taken outcome first e = rw (e, first) refl
 ends_plain Later own kind taken outcome first e = rw (e, first) refl
 
 -- the end once the own MIC was sent
-abbrev pub signed_on : InitSetup → MechKind → Outcome → InitEnd
+abbrev pub signed_on : PlainSetup → MechKind → Outcome → EndSays
 signed_on own kind outcome = inits.Signed (record { talk = talk_on own kind true; outcome = outcome; listed = true })
 
-abbrev pub last_mic : InitSetup → Outcome → List ℕ
+abbrev pub last_mic : PlainSetup → Outcome → List ℕ
 last_mic own outcome = resp_octets (initiating.mic_sent (list_mic outcome Initiator (initiating.own_list own)))
 
 -- the mechanism is done, and the acceptor's MIC is there
-ends_signed : (turn : Turn) (own : InitSetup) (kind : MechKind) (taken : MechReplied) (outcome : Outcome) → taken.answer ≡ tells.Done outcome
+ends_signed : (turn : Turn) (own : PlainSetup) (kind : MechKind) (taken : MechReplied) (outcome : Outcome) → taken.answer ≡ tells.Done outcome
     → initiating.step_of (initiating.ran (talk_on own kind true) (Some (accepting.state_said turn true true)) (Some (list_mic outcome Acceptor (initiating.own_list own))) (Ok taken))
     ≡ Ok (initiated.More (signed_on own kind outcome) (last_mic own outcome))
 ends_signed First own kind taken outcome e = rw (e, acceptors_mic outcome (initiating.own_list own)) refl
 ends_signed Later own kind taken outcome e = rw (e, acceptors_mic outcome (initiating.own_list own)) refl
 
 -- another mechanism than the own first was chosen
-pub switches : (own : InitSetup) (kind : MechKind) (mech : InitMech) (cred : MechCred) (begun : MechBegun) → is_own own.list kind ≡ true → is_first (kinds_of own.list) kind ≡ false → cred_for own.list kind ≡ Some cred → init_begun own cred ≡ Ok begun
+pub switches : (own : PlainSetup) (kind : MechKind) (mech : InitMech) (cred : MechCred) (begun : MechBegun) → is_own own.list kind ≡ true → is_first (kinds_of own.list) kind ≡ false → cred_for own.list kind ≡ Some cred → init_begun own cred ≡ Ok begun
     → initiating.step_of (initiating.init_step (inits.Opens (record { own = own; mech = mech })) (accepting.reply First kind true false None None))
     ≡ Ok (initiated.More (end_at Later own kind true begun.mech) (resp_octets (initiating.token_sent begun.token)))
 unfolding initiating.opened initiating.picks
@@ -133,7 +131,7 @@ Hears setup end octets turn chosen mech token =
     (now : ℕ) (drawn : List ℕ) → accepting.accept_step setup end octets now drawn ≡ accepting.run turn chosen (accept_taken setup mech token now drawn)
 
 -- the first token, for the chosen mechanism
-pub hears_first : (setup : AcceptSetup) (own : InitSetup) (kind : MechKind) (token : List ℕ) → is_own_list own.list ≡ true → IsShort (init_octets (initiating.first_sent own token)) → best setup.offer (initiating.own_list own) ≡ Some kind → is_first_named (initiating.own_list own) kind ≡ true
+pub hears_first : (setup : AcceptSetup) (own : PlainSetup) (kind : MechKind) (token : List ℕ) → is_own_list own.list ≡ true → IsShort (init_octets (initiating.first_sent own token)) → best setup.offer (initiating.own_list own) ≡ Some kind → is_first_named (initiating.own_list own) kind ≡ true
     → Hears setup accepts.New (init_octets (initiating.first_sent own token)) First (accepting.begun setup (initiating.own_list own) kind).chosen (accept_begun kind) token
 unfolding accepting.begins
 hears_first setup own kind token list short chosen first now drawn = rw (init_reads own token list short, chosen, first) refl
@@ -145,7 +143,7 @@ unfolding accepting.proceeds
 hears_later setup chosen mech token short now drawn = rw (token_reads token short) refl
 
 -- the first token, for another mechanism than the chosen one, which waits
-pub waits : (setup : AcceptSetup) (own : InitSetup) (kind : MechKind) (token : List ℕ) (occasion : Occasion) → is_own_list own.list ≡ true → IsShort (init_octets (initiating.first_sent own token)) → best setup.offer (initiating.own_list own) ≡ Some kind → is_first_named (initiating.own_list own) kind ≡ false
+pub waits : (setup : AcceptSetup) (own : PlainSetup) (kind : MechKind) (token : List ℕ) (occasion : Occasion) → is_own_list own.list ≡ true → IsShort (init_octets (initiating.first_sent own token)) → best setup.offer (initiating.own_list own) ≡ Some kind → is_first_named (initiating.own_list own) kind ≡ false
     → answered_on setup occasion accepts.New (init_octets (initiating.first_sent own token))
     ≡ Ok (accepted.More (accepts.Runs (record { chosen = chosen_on own kind true; mech = accept_begun kind })) (accepting.reply First kind true false None None))
 unfolding accepting.begins
@@ -154,7 +152,7 @@ waits setup own kind token occasion list short chosen other = rw (init_reads own
 -- ---- the MICs
 
 -- both are done once the acceptor took the initiator's MIC
-pub closes : (setup : AcceptSetup) (own : InitSetup) (kind : MechKind) (outcome : Outcome) (lasts : ℕ) (occasion : Occasion)
+pub closes : (setup : AcceptSetup) (own : PlainSetup) (kind : MechKind) (outcome : Outcome) (lasts : ℕ) (occasion : Occasion)
     → IsDone setup occasion (accepts.Owes (record { received = initiating.own_list own; outcome = outcome; lasts = lasts })) (signed_on own kind outcome) (last_mic own outcome) outcome
 unfolding accepting.closes initiating.closed
 closes setup own kind outcome lasts occasion =
@@ -204,7 +202,7 @@ text_answered : (setup : AcceptSetup) (end : AcceptEnd) (octets : List ℕ) (tur
 text_answered setup end octets turn chosen mech token own mech_after own_after further occasion hears r = rw (hears occasion.now occasion.drawn, r.accepts, r.says) refl
 
 -- a round of texts, before the others
-pub texts : (setup : AcceptSetup) (own : InitSetup) (kind : MechKind) (due : Bool) (turn : Turn) (end : AcceptEnd) (octets : List ℕ) (mech : AcceptMech) (own_mech : InitMech) (token : List ℕ) (mech_after : AcceptMech) (own_after : InitMech) (further : List ℕ) (outcome : Outcome) (occasion next : Occasion) (later : List Occasion)
+pub texts : (setup : AcceptSetup) (own : PlainSetup) (kind : MechKind) (due : Bool) (turn : Turn) (end : AcceptEnd) (octets : List ℕ) (mech : AcceptMech) (own_mech : InitMech) (token : List ℕ) (mech_after : AcceptMech) (own_after : InitMech) (further : List ℕ) (outcome : Outcome) (occasion next : Occasion) (later : List Occasion)
     → is_own own.list kind ≡ true → MayCome turn own kind → Hears setup end octets turn (chosen_on own kind due) mech token → TextRound setup occasion mech own_mech token mech_after own_after further
     → Completes setup (next ∷ later) (accepts.Runs (record { chosen = chosen_on own kind due; mech = mech_after })) (end_at Later own kind due own_after) (resp_octets (initiating.token_sent further)) outcome
     → Completes setup (occasion ∷ next ∷ later) end (end_at turn own kind due own_mech) octets outcome
@@ -224,7 +222,7 @@ texts setup own kind due turn end octets mech own_mech token mech_after own_afte
 )
 
 -- the last round, and the MICs where they are due
-pub ends_all : (setup : AcceptSetup) (own : InitSetup) (kind : MechKind) (due : Bool) (turn : Turn) (end : AcceptEnd) (octets : List ℕ) (mech : AcceptMech) (own_mech : InitMech) (token : List ℕ) (outcome : Outcome) (occasion : Occasion) (rest : List Occasion)
+pub ends_all : (setup : AcceptSetup) (own : PlainSetup) (kind : MechKind) (due : Bool) (turn : Turn) (end : AcceptEnd) (octets : List ℕ) (mech : AcceptMech) (own_mech : InitMech) (token : List ℕ) (outcome : Outcome) (occasion : Occasion) (rest : List Occasion)
     → (due ≡ false → is_first (kinds_of own.list) kind ≡ true) → is_own own.list kind ≡ true → MayCome turn own kind → Hears setup end octets turn (chosen_on own kind due) mech token → LastRound setup occasion mech own_mech token outcome → length rest ≡ (if due then 1 else 0)
     → Completes setup (occasion ∷ rest) end (end_at turn own kind due own_mech) octets outcome
 ends_all setup own kind false turn end octets mech own_mech token outcome occasion [] first is may hears r count = record {

@@ -15,15 +15,14 @@ use Rattle.scram_mech.specs.Laws.{Honest}
 use Rattle.spnego_core.specs.declared.outcome.Outcome.{Outcome}
 use Rattle.spnego_core.specs.declared.refusal.NegRefusal.{NegRefusal}
 use Rattle.spnego_core.specs.declared.setup.AcceptSetup.{AcceptSetup}
-use Rattle.spnego_core.specs.declared.setup.InitSetup.{InitSetup}
 use Rattle.spnego_core.specs.declared.setup.MechCred.{MechCred}
 use Rattle.spnego_core.specs.declared.setup.MechCred.TheVariants as creds
-use Rattle.spnego_core.specs.declared.init_end.InitEnd.{InitEnd}
-use Rattle.spnego_core.specs.declared.init_end.InitStep.TheVariants as initiated
 use Rattle.spnego_core.specs.declared.accept_end.AcceptEnd.{AcceptEnd}
 use Rattle.spnego_core.specs.declared.accept_end.AcceptEnd.TheVariants as accepts
 use Rattle.spnego_core.specs.declared.accept_end.AcceptStep.{AcceptStep}
 use Rattle.spnego_core.specs.declared.accept_end.AcceptStep.TheVariants as accepted
+use Rattle.spnego_core.specs.Ends.{PlainSetup, EndSays}
+use Rattle.spnego_core.specs.EndSteps as initiated
 use Rattle.spnego_core.specs.Choice.{is_first, best, is_mic_due}
 use Rattle.spnego_core.specs.InitMech.{kinds_of, is_own_list, cred_for, MechBegun, init_begun}
 use Rattle.spnego_core.specs.Sizes.{IsShort}
@@ -57,11 +56,11 @@ answered_on setup occasion end token = passed_of
 -- the acceptor takes the token, the initiator takes its reply, and both go on; the further token
 -- has at most 65,536 octets
 pub record GoesOn (setup : AcceptSetup) (occasion : Occasion) (acceptor : AcceptEnd)
-    (initiator : InitEnd) (token : List ℕ) : Type 0 where
+    (initiator : EndSays) (token : List ℕ) : Type 0 where
   pub reply : List ℕ
   pub acceptor_after : AcceptEnd
   pub accepts : answered_on setup occasion acceptor token ≡ Ok (accepted.More acceptor_after reply)
-  pub initiator_after : InitEnd
+  pub initiator_after : EndSays
   pub further : List ℕ
   pub initiates : initiating.step_of (initiating.init_step initiator reply)
       ≡ Ok (initiated.More initiator_after further)
@@ -69,7 +68,7 @@ pub record GoesOn (setup : AcceptSetup) (occasion : Occasion) (acceptor : Accept
 
 -- the acceptor takes the token, the initiator takes its reply, and both are done with this outcome
 pub record IsDone (setup : AcceptSetup) (occasion : Occasion) (acceptor : AcceptEnd)
-    (initiator : InitEnd) (token : List ℕ) (outcome : Outcome) : Type 0 where
+    (initiator : EndSays) (token : List ℕ) (outcome : Outcome) : Type 0 where
   pub reply : List ℕ
   pub lasts : ℕ
   pub accepts : answered_on setup occasion acceptor token ≡ Ok (accepted.Done outcome lasts reply)
@@ -77,7 +76,7 @@ pub record IsDone (setup : AcceptSetup) (occasion : Occasion) (acceptor : Accept
       ≡ Ok (initiated.Done outcome)
 
 -- both go on, on each of these occasions but the last, and on that both are done
-abbrev pub Completes : AcceptSetup → List Occasion → AcceptEnd → InitEnd → List ℕ → Outcome → Type 0
+abbrev pub Completes : AcceptSetup → List Occasion → AcceptEnd → EndSays → List ℕ → Outcome → Type 0
 Completes setup [] acceptor initiator token outcome = ⊥
 Completes setup (last ∷ []) acceptor initiator token outcome =
     IsDone setup last acceptor initiator token outcome
@@ -89,7 +88,7 @@ Completes setup (occasion ∷ next ∷ later) acceptor initiator token outcome =
 
 -- Kerberos: the ticket, the names, the moment, the stamp and the bindings fit, and what both write
 -- has a spelling
-pub record TicketFits (setup : AcceptSetup) (own : InitSetup) (credential : Granted)
+pub record TicketFits (setup : AcceptSetup) (own : PlainSetup) (credential : Granted)
     (occasion : Occasion) : Type 0 where
   pub fit : Fits setup.keytab setup.own occasion.now setup.bindings credential own.stamp
       own.bindings
@@ -98,7 +97,7 @@ pub record TicketFits (setup : AcceptSetup) (own : InitSetup) (credential : Gran
 
 -- SCRAM: the user and the password meet a line of the verifiers, and the acceptor has no bindings
 -- or the same ones
-pub record UserFits (setup : AcceptSetup) (own : InitSetup) (user password : List ℕ)
+pub record UserFits (setup : AcceptSetup) (own : PlainSetup) (user password : List ℕ)
     (occasion : Occasion) : Type 0 where
   pub salt : List ℕ
   pub rounds : ℕ
@@ -107,12 +106,12 @@ pub record UserFits (setup : AcceptSetup) (own : InitSetup) (user password : Lis
   pub bound : is_bound setup.bindings (data_of own.bindings) ≡ true
 
 -- the facts of a credential fit on an occasion, by its mechanism
-abbrev pub CredFits : AcceptSetup → InitSetup → MechCred → Occasion → Type 0
+abbrev pub CredFits : AcceptSetup → PlainSetup → MechCred → Occasion → Type 0
 CredFits setup own (creds.Kerberos credential) occasion = TicketFits setup own credential occasion
 CredFits setup own (creds.Scram user password) occasion = UserFits setup own user password occasion
 
 -- the facts fit on an occasion, and the acceptor draws its 66 octets
-pub record Fitting (setup : AcceptSetup) (own : InitSetup) (cred : MechCred)
+pub record Fitting (setup : AcceptSetup) (own : PlainSetup) (cred : MechCred)
     (occasion : Occasion) : Type 0 where
   pub drawn : length occasion.drawn ≡ 66
   pub facts : CredFits setup own cred occasion
@@ -124,14 +123,14 @@ rounds_of kinds.Scram = 2
 
 -- how many tokens an initiator sends: the first one, which is another mechanism's where the chosen
 -- one isn't its first; those of the chosen one; and the MIC of the list where it is due
-abbrev pub tokens_of : AcceptSetup → InitSetup → MechKind → ℕ
+abbrev pub tokens_of : AcceptSetup → PlainSetup → MechKind → ℕ
 tokens_of setup own kind =
     (if is_first (kinds_of own.list) kind then 0 else 1) + rounds_of
     kind + (if is_mic_due setup.offer (initiating.own_list own) kind then 1 else 0)
 
 -- the two lists have a mechanism in common, both it and the initiator's first begin, and the facts
 -- of the chosen one fit on each occasion
-pub record HonestPair (setup : AcceptSetup) (own : InitSetup) (kind : MechKind)
+pub record HonestPair (setup : AcceptSetup) (own : PlainSetup) (kind : MechKind)
     (occasions : List Occasion) : Type 0 where
   pub is_list : is_own_list own.list ≡ true
   -- the first of the initiator's list that the acceptor offers, and its credential
@@ -152,7 +151,7 @@ pub record HonestPair (setup : AcceptSetup) (own : InitSetup) (kind : MechKind)
   pub fit : AllByRecursion (Fitting setup own cred) occasions
 
 -- both ends complete by the chosen mechanism, with one outcome
-pub record Agrees (setup : AcceptSetup) (own : InitSetup) (kind : MechKind)
+pub record Agrees (setup : AcceptSetup) (own : PlainSetup) (kind : MechKind)
     (occasions : List Occasion) (started : initiating.Started) : Type 0 where
   pub outcome : Outcome
   pub mech : outcome.mech ≡ kind
@@ -160,5 +159,5 @@ pub record Agrees (setup : AcceptSetup) (own : InitSetup) (kind : MechKind)
 
 -- an honest pair agrees
 abbrev pub ExchangeLaw : Type 0
-ExchangeLaw = (setup : AcceptSetup) (own : InitSetup) (kind : MechKind) (occasions : List Occasion)
+ExchangeLaw = (setup : AcceptSetup) (own : PlainSetup) (kind : MechKind) (occasions : List Occasion)
     → (h : HonestPair setup own kind occasions) → Agrees setup own kind occasions h.started

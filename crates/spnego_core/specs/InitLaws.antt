@@ -16,16 +16,12 @@ use Rattle.scram_mech.specs.Initiator.{InitFinished, init_started, init_answered
 use Rattle.spnego_core.specs.declared.outcome.Outcome.{Outcome}
 use Rattle.spnego_core.specs.declared.refusal.NegRefusal.{NegRefusal}
 use Rattle.spnego_core.specs.declared.setup.MechCred.TheVariants as creds
-use Rattle.spnego_core.specs.declared.setup.InitSetup.{InitSetup}
 use Rattle.spnego_core.specs.declared.init_mech.InitMech.{InitMech}
 use Rattle.spnego_core.specs.declared.init_mech.InitMech.TheVariants as mechs
-use Rattle.spnego_core.specs.declared.init_end.Opening.{Opening}
-use Rattle.spnego_core.specs.declared.init_end.Talking.{Talking}
-use Rattle.spnego_core.specs.declared.init_end.Signed.{Signed}
-use Rattle.spnego_core.specs.declared.init_end.InitEnd.{InitEnd}
-use Rattle.spnego_core.specs.declared.init_end.InitEnd.TheVariants as ends
-use Rattle.spnego_core.specs.declared.init_end.InitStep.{InitStep}
-use Rattle.spnego_core.specs.declared.init_end.InitStep.TheVariants as steps
+use Rattle.spnego_core.specs.Ends.{PlainSetup, OpeningSays, TalkingSays, SignedSays, EndSays}
+use Rattle.spnego_core.specs.Ends as ends
+use Rattle.spnego_core.specs.EndSteps.{StepSays}
+use Rattle.spnego_core.specs.EndSteps as steps
 use Rattle.spnego_core.specs.Outcome.{outcome_of}
 use Rattle.spnego_core.specs.ListMic.{is_list_mic, mic_making, mic_found}
 use Rattle.spnego_core.specs.Choice.{is_first}
@@ -36,31 +32,31 @@ use Rattle.spnego_core.specs.Initiating.{Started, Initiated, own_list, init_star
 -- ---- what an end knows
 
 -- what it was begun with
-abbrev pub own_of : InitEnd → InitSetup
+abbrev pub own_of : EndSays → PlainSetup
 own_of (ends.Opens opening) = opening.own
 own_of (ends.Talks talking) = talking.talk.own
 own_of (ends.Signed signed) = signed.talk.own
 
 -- the mechanism that the acceptor chose
-abbrev pub chosen_of : InitEnd → Option MechKind
+abbrev pub chosen_of : EndSays → Option MechKind
 chosen_of (ends.Opens opening) = None
 chosen_of (ends.Talks talking) = Some talking.talk.chosen
 chosen_of (ends.Signed signed) = Some signed.talk.chosen
 
 -- the acceptor's MIC over the own list was verified
-abbrev pub listed_of : InitEnd → Bool
+abbrev pub listed_of : EndSays → Bool
 listed_of (ends.Opens opening) = false
 listed_of (ends.Talks talking) = false
 listed_of (ends.Signed signed) = signed.listed
 
 -- the outcome of a mechanism that is done
-abbrev pub finished_of : InitEnd → Option Outcome
+abbrev pub finished_of : EndSays → Option Outcome
 finished_of (ends.Opens opening) = None
 finished_of (ends.Talks talking) = None
 finished_of (ends.Signed signed) = Some signed.outcome
 
 -- the outcome of a mechanism that is done after the step
-abbrev pub finished_in : InitStep → Option Outcome
+abbrev pub finished_in : StepSays → Option Outcome
 finished_in (steps.More end token) = finished_of end
 finished_in (steps.Done outcome) = Some outcome
 
@@ -71,26 +67,26 @@ answering (mechs.Scram end) = Some end
 answering (mechs.Proof end) = None
 
 -- the same of an initiator's end
-abbrev pub answers_next : InitEnd → Option InitModel
+abbrev pub answers_next : EndSays → Option InitModel
 answers_next (ends.Opens opening) = answering opening.mech
 answers_next (ends.Talks talking) = answering talking.mech
 answers_next (ends.Signed signed) = None
 
 -- the same of the end after a step, where it goes on
-abbrev pub answers_in : InitStep → Option InitModel
+abbrev pub answers_in : StepSays → Option InitModel
 answers_in (steps.More end token) = answers_next end
 answers_in (steps.Done outcome) = None
 
 -- ---- good ends: those that runs reach
 
 -- a Kerberos end that waits for the reply to a request by the own credential
-pub record IsWaiting (own : InitSetup) (end : ApInit) : Type 0 where
+pub record IsWaiting (own : PlainSetup) (end : ApInit) : Type 0 where
   pub credential : Granted
   pub is_own : cred_for own.list kinds.Kerberos ≡ Some (creds.Kerberos credential)
   pub waits : end ≡ waiting credential own.stamp own.draws own.bindings
 
 -- a SCRAM end whose first text has the own user and nonce
-pub record IsFirstText (own : InitSetup) (end : InitModel) : Type 0 where
+pub record IsFirstText (own : PlainSetup) (end : InitModel) : Type 0 where
   pub user : List ℕ
   pub password : List ℕ
   pub is_own : cred_for own.list kinds.Scram ≡ Some (creds.Scram user password)
@@ -99,7 +95,7 @@ pub record IsFirstText (own : InitSetup) (end : InitModel) : Type 0 where
   pub waits : end ≡ started.end
 
 -- a SCRAM end that answered a first text of the acceptor with its proof
-pub record IsProved (own : InitSetup) (end : WaitModel) : Type 0 where
+pub record IsProved (own : PlainSetup) (end : WaitModel) : Type 0 where
   pub before : InitModel
   pub first : IsFirstText own before
   pub text : List ℕ
@@ -108,7 +104,7 @@ pub record IsProved (own : InitSetup) (end : WaitModel) : Type 0 where
   pub waits : end ≡ answered.end
 
 -- a mechanism's state comes of the own setup: of its credential, stamp, draws and bindings
-abbrev pub IsMechOf : InitSetup → InitMech → Type 0
+abbrev pub IsMechOf : PlainSetup → InitMech → Type 0
 IsMechOf own (mechs.Kerberos end) = IsWaiting own end
 IsMechOf own (mechs.Scram end) = IsFirstText own end
 IsMechOf own (mechs.Proof end) = IsProved own end
@@ -121,26 +117,26 @@ kind_of_mech (mechs.Proof end) = kinds.Scram
 
 -- the chosen mechanism is the own first choice, or the acceptor's MIC over the own list was
 -- verified: the list arrived as it was sent
-abbrev pub Covered : InitSetup → MechKind → Bool → Type 0
+abbrev pub Covered : PlainSetup → MechKind → Bool → Type 0
 Covered own chosen listed = (is_first (kinds_of own.list) chosen ≡ true) ⊎ (listed ≡ true)
 
 -- an end that sent its first token: the own first mechanism runs
-pub record GoodOpening (opening : Opening) : Type 0 where
+pub record GoodOpening (opening : OpeningSays) : Type 0 where
   pub mech : IsMechOf opening.own opening.mech
   pub first : is_first (kinds_of opening.own.list) (kind_of_mech opening.mech) ≡ true
 
 -- an end whose mechanism isn't done: the chosen one runs
-pub record GoodTalking (talking : Talking) : Type 0 where
+pub record GoodTalking (talking : TalkingSays) : Type 0 where
   pub mech : IsMechOf talking.talk.own talking.mech
   pub chosen : kind_of_mech talking.mech ≡ talking.talk.chosen
 
 -- an end that sent its MIC: its outcome is by the chosen mechanism, and the choice is covered
-pub record GoodSigned (signed : Signed) : Type 0 where
+pub record GoodSigned (signed : SignedSays) : Type 0 where
   pub covered : Covered signed.talk.own signed.talk.chosen signed.listed
   pub chosen : signed.outcome.mech ≡ signed.talk.chosen
 
 -- an initiator's end is good, by what was done last
-abbrev pub GoodInit : InitEnd → Type 0
+abbrev pub GoodInit : EndSays → Type 0
 GoodInit (ends.Opens opening) = GoodOpening opening
 GoodInit (ends.Talks talking) = GoodTalking talking
 GoodInit (ends.Signed signed) = GoodSigned signed
@@ -149,20 +145,20 @@ GoodInit (ends.Signed signed) = GoodSigned signed
 
 -- the end that goes on keeps what it was begun with, is good, and knows what is chosen and whether
 -- the acceptor's MIC was verified
-pub record GoesOn (own : InitSetup) (chosen : Option MechKind) (listed : Bool)
-    (end : InitEnd) : Type 0 where
+pub record GoesOn (own : PlainSetup) (chosen : Option MechKind) (listed : Bool)
+    (end : EndSays) : Type 0 where
   pub own_is : own_of end ≡ own
   pub good : GoodInit end
   pub chosen_is : chosen_of end ≡ chosen
   pub listed_is : listed_of end ≡ listed
 
 -- what an end that goes on after the step keeps and knows
-abbrev pub After : InitSetup → Option MechKind → Bool → InitStep → Type 0
+abbrev pub After : PlainSetup → Option MechKind → Bool → StepSays → Type 0
 After own chosen listed (steps.More end token) = GoesOn own chosen listed end
 After own chosen listed (steps.Done outcome) = Unit {0}
 
 -- a request by the own credential of a mechanism that is chosen now
-pub record IsRequest (own : InitSetup) (chosen : Option MechKind) (making : MechMaking) : Type 0
+pub record IsRequest (own : PlainSetup) (chosen : Option MechKind) (making : MechMaking) : Type 0
   where
     pub credential : Granted
     pub is_own : cred_for own.list kinds.Kerberos ≡ Some (creds.Kerberos credential)
@@ -171,7 +167,7 @@ pub record IsRequest (own : InitSetup) (chosen : Option MechKind) (making : Mech
 
 -- the proof of the own password, which is handed out once: by the end that answers the acceptor's
 -- first text
-pub record IsProof (own : InitSetup) (next : Option InitModel) (chosen : Option MechKind)
+pub record IsProof (own : PlainSetup) (next : Option InitModel) (chosen : Option MechKind)
     (making : MechMaking) : Type 0 where
   pub end : InitModel
   pub was : next ≡ Some end
@@ -183,13 +179,13 @@ pub record IsProof (own : InitSetup) (next : Option InitModel) (chosen : Option 
   pub now : chosen ≡ Some kinds.Scram
 
 -- the MIC over the own list, under the key of the finished mechanism
-pub record IsOwnMic (own : InitSetup) (step : InitStep) (making : MechMaking) : Type 0 where
+pub record IsOwnMic (own : PlainSetup) (step : StepSays) (making : MechMaking) : Type 0 where
   pub outcome : Outcome
   pub finished : finished_in step ≡ Some outcome
   pub made : making ≡ mic_making outcome Initiator (own_list own)
 
 -- a reply was taken, and what was found verified in it is among what the step found
-pub record ByReply (own : InitSetup) (found : List MechMaking) (outcome : Outcome) : Type 0 where
+pub record ByReply (own : PlainSetup) (found : List MechMaking) (outcome : Outcome) : Type 0 where
   pub end : ApInit
   pub token : List ℕ
   pub made : MechDone
@@ -200,7 +196,7 @@ pub record ByReply (own : InitSetup) (found : List MechMaking) (outcome : Outcom
       → AmongMakings found making
 
 -- the signature was taken, and what was found verified in it is among what the step found
-pub record BySignature (own : InitSetup) (found : List MechMaking) (outcome : Outcome) : Type 0
+pub record BySignature (own : PlainSetup) (found : List MechMaking) (outcome : Outcome) : Type 0
   where
     pub end : WaitModel
     pub proved : IsProved own end
@@ -212,17 +208,17 @@ pub record BySignature (own : InitSetup) (found : List MechMaking) (outcome : Ou
         → AmongMakings found making
 
 -- the acceptor's MIC over the own list was verified in this step
-pub record SeesMic (own : InitSetup) (found : List MechMaking) (outcome : Outcome) : Type 0 where
+pub record SeesMic (own : PlainSetup) (found : List MechMaking) (outcome : Outcome) : Type 0 where
   pub mic : List ℕ
   pub right : is_list_mic outcome Initiator (own_list own) mic ≡ true
   pub verified : AmongMakings found (mic_found outcome Initiator (own_list own) mic)
 
 -- a mechanism is finished with this outcome in the step, by Kerberos's reply or SCRAM's signature
-abbrev pub IsFinish : InitSetup → List MechMaking → Outcome → Type 0
+abbrev pub IsFinish : PlainSetup → List MechMaking → Outcome → Type 0
 IsFinish own found outcome = ByReply own found outcome ⊎ BySignature own found outcome
 
 -- what holds of a step that was taken from a good end
-pub record InitLaw (old : InitEnd) (taken : Initiated) : Type 0 where
+pub record InitLaw (old : EndSays) (taken : Initiated) : Type 0 where
   pub after : After (own_of old) taken.chosen taken.listed taken.step
   -- what is handed out: a request by the own credential, the proof of the own password, or the MIC
   -- over the own list
@@ -252,7 +248,7 @@ pub record InitLaw (old : InitEnd) (taken : Initiated) : Type 0 where
 
 -- what holds of an end that sent its first token: it hands out no more than a request by the own
 -- credential
-pub record StartLaw (own : InitSetup) (started : Started) : Type 0 where
+pub record StartLaw (own : PlainSetup) (started : Started) : Type 0 where
   pub own_is : own_of started.end ≡ own
   pub good : GoodInit started.end
   pub unchosen : chosen_of started.end ≡ None
@@ -262,12 +258,12 @@ pub record StartLaw (own : InitSetup) (started : Started) : Type 0 where
 
 -- the laws of each start, and of each step that the machine takes from a good end
 pub record InitLaws : Type 0 where
-  pub starts : (own : InitSetup) (started : Started) → init_start own ≡ Ok started
+  pub starts : (own : PlainSetup) (started : Started) → init_start own ≡ Ok started
       → StartLaw own started
-  pub steps : (old : InitEnd) (token : List ℕ) (taken : Initiated) → GoodInit old
+  pub steps : (old : EndSays) (token : List ℕ) (taken : Initiated) → GoodInit old
       → init_step old token ≡ Ok taken → InitLaw old taken
   -- no start and no step is refused for want of memory, and no refusal holds it
-  pub start_reasons : (own : InitSetup) (refusal : NegRefusal) → init_start own ≡ Err refusal
+  pub start_reasons : (own : PlainSetup) (refusal : NegRefusal) → init_start own ≡ Err refusal
       → neg_wants_memory refusal ≡ false
-  pub step_reasons : (old : InitEnd) (token : List ℕ) (refusal : NegRefusal)
+  pub step_reasons : (old : EndSays) (token : List ℕ) (refusal : NegRefusal)
       → init_step old token ≡ Err refusal → neg_wants_memory refusal ≡ false

@@ -21,11 +21,11 @@ use Rattle.spnego_core.specs.declared.refusal.MechRefusal.{MechRefusal}
 use Rattle.spnego_core.specs.declared.refusal.MechRefusal.TheVariants.{Ap, Scram}
 use Rattle.spnego_core.specs.declared.setup.MechCred.{MechCred}
 use Rattle.spnego_core.specs.declared.setup.MechCred.TheVariants as creds
-use Rattle.spnego_core.specs.declared.setup.InitSetup.{InitSetup}
 use Rattle.spnego_core.specs.declared.init_mech.InitMech.{InitMech}
 use Rattle.spnego_core.specs.declared.init_mech.InitMech.TheVariants as mechs
 use Rattle.spnego_core.specs.declared.init_mech.InitAnswer.{InitAnswer}
 use Rattle.spnego_core.specs.declared.init_mech.InitAnswer.TheVariants.{More, Done}
+use Rattle.spnego_core.specs.Ends.{PlainSetup}
 use Rattle.spnego_core.specs.Outcome.{outcome_of}
 use Rattle.spnego_core.specs.Choice.{same_kind}
 
@@ -79,7 +79,7 @@ text_begun (Ok started) =
 text_begun (Err refusal) = Err (Scram refusal)
 
 -- a mechanism begins, by its credential
-unfoldable pub init_begun : InitSetup → MechCred → Result MechBegun MechRefusal
+unfoldable pub init_begun : PlainSetup → MechCred → Result MechBegun MechRefusal
 init_begun own (creds.Kerberos credential) =
     request_begun (map typed (request_makes credential own.stamp own.draws own.bindings))
     (request_of credential own.stamp own.draws own.bindings)

@@ -5,6 +5,8 @@ pub mod ListMic
 pub mod Choice
 pub mod AcceptMech
 pub mod Accepting
+pub mod Ends
+pub mod EndSteps
 pub mod InitMech
 pub mod Initiating
 pub mod Reasons

@@ -13,17 +13,16 @@ use Rattle.ap_exchange.specs.Answer.{answer_done, answer_token, AnswerFits}
 use Rattle.ap_exchange.specs.Laws.{Fits, honest_judged}
 use Rattle.spnego_core.specs.declared.outcome.Outcome.{Outcome}
 use Rattle.spnego_core.specs.declared.setup.AcceptSetup.{AcceptSetup}
-use Rattle.spnego_core.specs.declared.setup.InitSetup.{InitSetup}
 use Rattle.spnego_core.specs.declared.setup.MechCred.TheVariants as creds
 use Rattle.spnego_core.specs.declared.init_mech.InitMech.TheVariants as mechs
-use Rattle.spnego_core.specs.declared.init_end.InitEnd.{InitEnd}
-use Rattle.spnego_core.specs.declared.init_end.InitEnd.TheVariants as inits
-use Rattle.spnego_core.specs.declared.init_end.InitStep.TheVariants as initiated
 use Rattle.spnego_core.specs.declared.accept_end.AcceptEnd.{AcceptEnd}
 use Rattle.spnego_core.specs.declared.accept_end.AcceptEnd.TheVariants as accepts
 use Rattle.spnego_core.specs.declared.accept_end.AcceptPause.{AcceptPause}
 use Rattle.spnego_core.specs.declared.accept_end.AcceptStep.TheVariants as accepted
 use Rattle.spnego_core.specs.declared.accept_end.Turn.TheVariants.{First}
+use Rattle.spnego_core.specs.Ends.{PlainSetup, EndSays}
+use Rattle.spnego_core.specs.Ends as inits
+use Rattle.spnego_core.specs.EndSteps as initiated
 use Rattle.spnego_core.specs.Outcome.{outcome_of}
 use Rattle.spnego_core.specs.ListMic.{list_mic}
 use Rattle.spnego_core.specs.Choice.{is_among, is_first}
@@ -32,7 +31,7 @@ use Rattle.spnego_core.specs.Accepting as accepting
 use Rattle.spnego_core.specs.Initiating as initiating
 
 -- the setup of an initiator with this credential alone
-abbrev pub setup_with : Granted → ℕ → List ℕ → Option (List ℕ) → InitSetup
+abbrev pub setup_with : Granted → ℕ → List ℕ → Option (List ℕ) → PlainSetup
 setup_with credential stamp draws bindings =
     record {
       list = creds.Kerberos credential ∷ [];
@@ -59,7 +58,7 @@ first_token credential stamp draws bindings =
     (request_token credential stamp draws bindings))
 
 -- its end behind them
-abbrev pub opening_end : Granted → ℕ → List ℕ → Option (List ℕ) → InitEnd
+abbrev pub opening_end : Granted → ℕ → List ℕ → Option (List ℕ) → EndSays
 opening_end credential stamp draws bindings = inits.Opens (record {
   own = setup_with credential stamp draws bindings;
   mech = mechs.Kerberos (waiting credential stamp draws bindings);
@@ -81,7 +80,7 @@ signed_reply j drawn list =
     (Some (list_mic (pair_outcome j drawn) Acceptor list))
 
 -- both are done with the acceptor's one answer
-pub record DoneAtOnce (setup : AcceptSetup) (now : ℕ) (drawn : List ℕ) (end : InitEnd)
+pub record DoneAtOnce (setup : AcceptSetup) (now : ℕ) (drawn : List ℕ) (end : EndSays)
     (token : List ℕ) (outcome : Outcome) : Type 0 where
   pub pause : AcceptPause
   pub asks : accepting.step_of (accepting.accept_step setup accepts.New token now drawn)
@@ -93,7 +92,7 @@ pub record DoneAtOnce (setup : AcceptSetup) (now : ℕ) (drawn : List ℕ) (end 
 
 -- both are done after each has verified the other's MIC of the list; the acceptor's last token is
 -- empty
-pub record DoneAfterMics (setup : AcceptSetup) (now : ℕ) (drawn : List ℕ) (end : InitEnd)
+pub record DoneAfterMics (setup : AcceptSetup) (now : ℕ) (drawn : List ℕ) (end : EndSays)
     (token : List ℕ) (outcome : Outcome) : Type 0 where
   pub pause : AcceptPause
   pub asks : accepting.step_of (accepting.accept_step setup accepts.New token now drawn)
@@ -101,7 +100,7 @@ pub record DoneAfterMics (setup : AcceptSetup) (now : ℕ) (drawn : List ℕ) (e
   pub owing : AcceptEnd
   pub reply : List ℕ
   pub goes_on : accepting.step_after pause ≡ accepted.More owing reply
-  pub signed : InitEnd
+  pub signed : EndSays
   pub mic : List ℕ
   pub takes : initiating.step_of (initiating.init_step end reply) ≡ Ok (initiated.More signed mic)
   pub lasts : ℕ

@@ -8,8 +8,8 @@ use Rattle.spnego_core.specs.declared.accept_end.AcceptStep.{AcceptStep}
 use Rattle.spnego_core.specs.declared.accept_end.AcceptStep.TheVariants as steps
 use Rattle.spnego_core.specs.declared.init_mech.InitAnswer.{InitAnswer}
 use Rattle.spnego_core.specs.declared.init_mech.InitAnswer.TheVariants as answers
-use Rattle.spnego_core.specs.declared.init_end.InitStep.{InitStep}
-use Rattle.spnego_core.specs.declared.init_end.InitStep.TheVariants as turns
+use Rattle.spnego_core.specs.EndSteps.{StepSays}
+use Rattle.spnego_core.specs.EndSteps as turns
 
 -- the token has at most 65,536 octets
 abbrev pub IsShort : List ℕ → Type 0
@@ -27,7 +27,7 @@ ShortAccept (steps.Done outcome lasts token) = IsShort token
 ShortAccept (steps.WantsAuth pause) = ShortAnswered pause.after
 
 -- the token of an initiator's step is short, where it has one
-abbrev pub ShortInit : InitStep → Type 0
+abbrev pub ShortInit : StepSays → Type 0
 ShortInit (turns.More end token) = IsShort token
 ShortInit (turns.Done outcome) = Unit {0}
 

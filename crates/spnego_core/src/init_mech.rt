@@ -7,6 +7,7 @@ ghost use Rattle.ap_exchange.specs.Draws.{drawn_nonce};
 ghost use Rattle.scram_mech.specs.MechMaking.{typed};
 ghost use Rattle.scram_mech.specs.Initiator.{init_started, init_answered, init_finished};
 ghost use Rattle.spnego_core.specs.Sizes.{FitsBeside, ShortAnswer};
+ghost use Rattle.spnego_core.specs.Ends.{setup_says};
 ghost use Rattle.spnego_core.specs.InitMech.{cred_for, request_begun, text_begun, init_begun};
 ghost use Rattle.spnego_core.specs.InitMech.{begun_with, text_answered, final_answered, init_taken};
 ghost use Rattle.spnego_core.specs.InitMech.{replied};
@@ -129,7 +130,7 @@ impl InitMech {
         cred: &MechCred,
     ) -> Result<(InitMech, Octets), NegRefusal>
         ensures exact { Gives NegRefusal.NoMemory (λ b. b) result
-            (begun_with (init_begun own.now cred.now)) }
+            (begun_with (init_begun (setup_says own.now) cred.now)) }
         ensures short { IfOk result (λ b. FitsBeside b.1) }
     {
         let bindings = own.bindings.as_ref();

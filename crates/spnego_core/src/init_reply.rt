@@ -8,6 +8,8 @@ ghost use Rattle.spnego_core.specs.InitMech.{kinds_of, init_begun};
 ghost use Rattle.spnego_core.specs.Choice.{is_first};
 ghost use Rattle.spnego_core.specs.Tokens.{resp_octets};
 ghost use Rattle.spnego_core.specs.Sizes.{IsShort, FitsBeside, ShortInit};
+ghost use Rattle.spnego_core.specs.Ends.{setup_says, talk_says, signed_says};
+ghost use Rattle.spnego_core.specs.EndSteps.{step_says};
 ghost use Rattle.spnego_core.specs.Initiating.{own_list, token_sent, mic_sent, own_mic, ended};
 ghost use Rattle.spnego_core.specs.Initiating.{is_mic_owed, completes_now, completes_later, looks};
 ghost use Rattle.spnego_core.specs.Initiating.{looks_again, step_of};
@@ -42,7 +44,8 @@ pub fn token_sent(alloc: Global, token: Octets) -> Result<Octets, NoMemory>
 
 /// The token with the own MIC.
 fn mic_sent(alloc: Global, talk: &Talk, outcome: &Outcome) -> Result<Octets, NoMemory>
-    ensures exact { IfOk result (λ o. o ≡ resp_octets (mic_sent (own_mic talk.now outcome.now))) }
+    ensures exact { IfOk result
+        (λ o. o ≡ resp_octets (mic_sent (own_mic (talk_says talk.now) outcome.now))) }
     ensures short { IfOk result IsShort }
 {
     let list = own_list(alloc, &talk.own)?;
@@ -64,8 +67,9 @@ fn ended(
     listed: bool,
     completes: bool,
 ) -> Result<InitStep, NoMemory>
-    ensures exact { IfOk result (λ s. s ≡ (ended talk outcome listed completes).step) }
-    ensures short { IfOk result ShortInit }
+    ensures exact { IfOk result
+        (λ s. step_says s ≡ (ended (talk_says talk) outcome listed completes).step) }
+    ensures short { IfOk result (λ s. ShortInit (step_says s)) }
 {
     if completes {
         return Ok(InitStep::Done(outcome));
@@ -91,7 +95,7 @@ pub fn is_first_own(list: &[MechCred], kind: MechKind) -> bool
 
 /// Whether the acceptor's MIC must come.
 fn is_mic_owed(talk: &Talk) -> bool
-    ensures { result ≡ is_mic_owed talk.now }
+    ensures { result ≡ is_mic_owed (talk_says talk.now) }
 {
     !is_first_own(talk.own.list.as_slice(), talk.chosen) || talk.asked
 }
@@ -119,7 +123,7 @@ fn completes_later(state: Option<NegState>) -> bool
 /// Takes a MIC of the acceptor over the own list.
 fn listed(alloc: Global, talk: &Talk, outcome: &Outcome, mic: &Octets) -> Result<bool, NegRefusal>
     ensures { Gives NegRefusal.NoMemory (λ b. b) result
-        (Ok (is_list_mic outcome.now Initiator (own_list talk.now.own) mic.now)) }
+        (Ok (is_list_mic outcome.now Initiator (own_list (setup_says talk.now.own)) mic.now)) }
 {
     let list = own_list(alloc, &talk.own)?;
     is_list_mic(alloc, outcome, Side::Initiator, list.as_slice(), mic)
@@ -133,9 +137,9 @@ pub fn looks(
     state: Option<NegState>,
     mic: Option<Octets>,
 ) -> Result<InitStep, NegRefusal>
-    ensures exact { Gives NegRefusal.NoMemory (λ s. s) result
-        (step_of (looks talk outcome state mic)) }
-    ensures short { IfOk result ShortInit }
+    ensures exact { Gives NegRefusal.NoMemory step_says result
+        (step_of (looks (talk_says talk) outcome state mic)) }
+    ensures short { IfOk result (λ s. ShortInit (step_says s)) }
 {
     match mic {
         None => {
@@ -162,9 +166,9 @@ pub fn looks_again(
     state: Option<NegState>,
     mic: Option<Octets>,
 ) -> Result<InitStep, NegRefusal>
-    ensures exact { Gives NegRefusal.NoMemory (λ s. s) result
-        (step_of (looks_again signed state mic)) }
-    ensures short { IfOk result ShortInit }
+    ensures exact { Gives NegRefusal.NoMemory step_says result
+        (step_of (looks_again (signed_says signed) state mic)) }
+    ensures short { IfOk result (λ s. ShortInit (step_says s)) }
 {
     if let Some(mic) = mic {
         if !listed(alloc, &signed.talk, &signed.outcome, &mic)? {

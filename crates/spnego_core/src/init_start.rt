@@ -5,6 +5,7 @@ ghost use Rattle.sec_base.specs.Answers.{Gives};
 ghost use Rattle.spnego_core.specs.InitMech.{is_own_list};
 ghost use Rattle.spnego_core.specs.Tokens.{init_octets};
 ghost use Rattle.spnego_core.specs.Sizes.{IsShort, FitsBeside};
+ghost use Rattle.spnego_core.specs.Ends.{setup_says, end_says};
 ghost use Rattle.spnego_core.specs.Initiating.{own_list, first_sent, opens, starts, sent_of};
 ghost use Rattle.spnego_core.specs.Initiating.{init_start};
 
@@ -19,7 +20,7 @@ use std::alloc::Global;
 
 /// The list as it is sent.
 pub fn own_list(alloc: Global, own: &InitSetup) -> Result<Vec<Oid>, NoMemory>
-    ensures { IfOk result (λ list. list.items ≡ own_list own.now) }
+    ensures { IfOk result (λ list. list.items ≡ own_list (setup_says own.now)) }
 {
     let list = own.list.as_slice();
     let oids = list.iter().map(|cred| cred.kind().oid()).collect(alloc)?;
@@ -29,7 +30,7 @@ pub fn own_list(alloc: Global, own: &InitSetup) -> Result<Vec<Oid>, NoMemory>
 /// The first token: the own list, and the first token of its first mechanism.
 fn first_sent(alloc: Global, own: &InitSetup, token: Octets) -> Result<Octets, NoMemory>
     requires { is_own_list own.now.list ≡ true }
-    ensures exact { IfOk result (λ o. o ≡ init_octets (first_sent own.now token)) }
+    ensures exact { IfOk result (λ o. o ≡ init_octets (first_sent (setup_says own.now) token)) }
     ensures short { FitsBeside token → IfOk result IsShort }
 {
     let list = own_list(alloc, own)?;
@@ -46,7 +47,8 @@ impl InitEnd {
     /// The end and its first token.
     pub fn start(alloc: Global, setup: InitSetup) -> Result<(InitEnd, Octets), NegRefusal>
         requires { is_own_list setup.list ≡ true }
-        ensures exact { Gives NegRefusal.NoMemory (λ p. p) result (sent_of (init_start setup)) }
+        ensures exact { Gives NegRefusal.NoMemory (λ p. (end_says p.0, p.1)) result
+            (sent_of (init_start (setup_says setup))) }
         ensures short { IfOk result (λ p. IsShort p.1) }
     {
         let Some(first) = setup.list.as_slice().first() else {

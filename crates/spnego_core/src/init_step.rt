@@ -4,6 +4,9 @@ ghost use Rattle.std.specs.Prelude.{◌≡◌, IfOk};
 ghost use Rattle.sec_base.specs.Answers.{Gives};
 ghost use Rattle.spnego_core.specs.InitMech.{is_own, cred_for};
 ghost use Rattle.spnego_core.specs.Sizes.{ShortInit, ShortAnswer};
+ghost use Rattle.spnego_core.specs.Ends.{setup_says, opening_says, talk_says, talking_says};
+ghost use Rattle.spnego_core.specs.Ends.{signed_says, end_says};
+ghost use Rattle.spnego_core.specs.EndSteps.{step_says};
 ghost use Rattle.spnego_core.specs.Initiating.{told, run, begins_other, switches, talk_with, picks};
 ghost use Rattle.spnego_core.specs.Initiating.{own_kind, opened, is_chosen, talk_after, talked};
 ghost use Rattle.spnego_core.specs.Initiating.{closed, init_step, step_of};
@@ -28,9 +31,9 @@ fn told(
     mic: Option<Octets>,
     answer: InitAnswer,
 ) -> Result<InitStep, NegRefusal>
-    ensures exact { Gives NegRefusal.NoMemory (λ s. s) result
-        (step_of (told talk state mic answer)) }
-    ensures short { ShortAnswer answer → IfOk result ShortInit }
+    ensures exact { Gives NegRefusal.NoMemory step_says result
+        (step_of (told (talk_says talk) state mic answer)) }
+    ensures short { ShortAnswer answer → IfOk result (λ s. ShortInit (step_says s)) }
 {
     match answer {
         InitAnswer::More(mech, token) => {
@@ -56,9 +59,9 @@ fn run(
     token: Option<Octets>,
     mic: Option<Octets>,
 ) -> Result<InitStep, NegRefusal>
-    ensures exact { Gives NegRefusal.NoMemory (λ s. s) result
-        (step_of (run size talk mech state token mic)) }
-    ensures short { IfOk result ShortInit }
+    ensures exact { Gives NegRefusal.NoMemory step_says result
+        (step_of (run size (talk_says talk) mech state token mic)) }
+    ensures short { IfOk result (λ s. ShortInit (step_says s)) }
 {
     let Some(token) = token else {
         return Err(NegRefusal::Defective { at: size });
@@ -69,9 +72,9 @@ fn run(
 
 /// Another mechanism than the own first begins.
 fn begins_other(alloc: Global, talk: Talk) -> Result<InitStep, NegRefusal>
-    ensures exact { Gives NegRefusal.NoMemory (λ s. s) result
-        (step_of (begins_other talk (cred_for talk.own.list talk.chosen))) }
-    ensures short { IfOk result ShortInit }
+    ensures exact { Gives NegRefusal.NoMemory step_says result
+        (step_of (begins_other (talk_says talk) (cred_for talk.own.list talk.chosen))) }
+    ensures short { IfOk result (λ s. ShortInit (step_says s)) }
 {
     let Some(cred) = cred_for(talk.own.list.as_slice(), talk.chosen) else {
         return Err(NegRefusal::MechNotMine);
@@ -89,9 +92,9 @@ fn switches(
     state: Option<NegState>,
     token: Option<Octets>,
 ) -> Result<InitStep, NegRefusal>
-    ensures exact { Gives NegRefusal.NoMemory (λ s. s) result
-        (step_of (switches talk state token)) }
-    ensures short { IfOk result ShortInit }
+    ensures exact { Gives NegRefusal.NoMemory step_says result
+        (step_of (switches (talk_says talk) state token)) }
+    ensures short { IfOk result (λ s. ShortInit (step_says s)) }
 {
     match token {
         Some(_) => Err(NegRefusal::Defective { at: 0 }),
@@ -107,7 +110,7 @@ fn switches(
 
 /// The talk as the first reply begins it.
 fn talk_with(own: InitSetup, chosen: MechKind, state: Option<NegState>) -> Talk
-    ensures { result ≡ talk_with own chosen state }
+    ensures { talk_says result ≡ talk_with (setup_says own) chosen state }
 {
     Talk {
         own,
@@ -127,9 +130,9 @@ fn picks(
     token: Option<Octets>,
     mic: Option<Octets>,
 ) -> Result<InitStep, NegRefusal>
-    ensures exact { Gives NegRefusal.NoMemory (λ s. s) result
-        (step_of (picks size opening kind state token mic)) }
-    ensures short { IfOk result ShortInit }
+    ensures exact { Gives NegRefusal.NoMemory step_says result
+        (step_of (picks size (opening_says opening) kind state token mic)) }
+    ensures short { IfOk result (λ s. ShortInit (step_says s)) }
 {
     let Opening { own, mech } = opening;
     let first = is_first_own(own.list.as_slice(), kind);
@@ -164,8 +167,9 @@ fn opened(
     opening: Opening,
     resp: NegResp,
 ) -> Result<InitStep, NegRefusal>
-    ensures exact { Gives NegRefusal.NoMemory (λ s. s) result (step_of (opened size opening resp)) }
-    ensures short { IfOk result ShortInit }
+    ensures exact { Gives NegRefusal.NoMemory step_says result
+        (step_of (opened size (opening_says opening) resp)) }
+    ensures short { IfOk result (λ s. ShortInit (step_says s)) }
 {
     let NegResp {
         state,
@@ -200,7 +204,7 @@ fn is_chosen(kind: MechKind, mech: Option<Oid>) -> bool
 
 /// The talk behind a further reply.
 fn talk_after(talk: Talk, state: Option<NegState>) -> Talk
-    ensures { result ≡ talk_after talk state }
+    ensures { talk_says result ≡ talk_after (talk_says talk) state }
 {
     let Talk { own, chosen, asked } = talk;
     Talk {
@@ -218,8 +222,9 @@ fn talked(
     talking: Talking,
     resp: NegResp,
 ) -> Result<InitStep, NegRefusal>
-    ensures exact { Gives NegRefusal.NoMemory (λ s. s) result (step_of (talked size talking resp)) }
-    ensures short { IfOk result ShortInit }
+    ensures exact { Gives NegRefusal.NoMemory step_says result
+        (step_of (talked size (talking_says talking) resp)) }
+    ensures short { IfOk result (λ s. ShortInit (step_says s)) }
 {
     let NegResp {
         state,
@@ -240,8 +245,9 @@ fn talked(
 /// What follows a reply to the own MIC.
 #[tactic(auto, unfolding(crate::specs::Initiating::closed))]
 fn closed(alloc: Global, signed: Signed, resp: NegResp) -> Result<InitStep, NegRefusal>
-    ensures exact { Gives NegRefusal.NoMemory (λ s. s) result (step_of (closed signed resp)) }
-    ensures short { IfOk result ShortInit }
+    ensures exact { Gives NegRefusal.NoMemory step_says result
+        (step_of (closed (signed_says signed) resp)) }
+    ensures short { IfOk result (λ s. ShortInit (step_says s)) }
 {
     let NegResp {
         state,
@@ -261,9 +267,9 @@ fn closed(alloc: Global, signed: Signed, resp: NegResp) -> Result<InitStep, NegR
 impl InitEnd {
     /// Takes the acceptor's reply. The end is spent, whatever the answer.
     pub fn step(self, alloc: Global, token: &[u8]) -> Result<InitStep, NegRefusal>
-        ensures exact { Gives NegRefusal.NoMemory (λ s. s) result
-            (step_of (init_step self token.now)) }
-        ensures short { IfOk result ShortInit }
+        ensures exact { Gives NegRefusal.NoMemory step_says result
+            (step_of (init_step (end_says self) token.now)) }
+        ensures short { IfOk result (λ s. ShortInit (step_says s)) }
     {
         match self {
             InitEnd::Opens(opening) => {

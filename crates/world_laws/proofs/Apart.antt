@@ -10,7 +10,7 @@ use Rattle.rpc_msgs.specs.Xdr.{octets_at, word_at, opaque_at}
 use Rattle.spnego_msgs.specs.Lists.{list_octets}
 use Rattle.spnego_core.specs.declared.setup.MechCred.{MechCred}
 use Rattle.spnego_core.specs.declared.setup.MechCred.TheVariants as creds
-use Rattle.spnego_core.specs.declared.setup.InitSetup.{InitSetup}
+use Rattle.spnego_core.specs.Ends.{PlainSetup}
 use Rattle.spnego_core.specs.InitMech.{kind_of, is_own_list}
 use Rattle.spnego_core.specs.Initiating.{own_list}
 use Rattle.accept_book.specs.Served.{is_one_opaque, are_args, result_of}
@@ -111,5 +111,5 @@ own-octets (creds.Scram u p ∷ creds.Kerberos a ∷ []) e = scram-first
 own-octets (creds.Scram u p ∷ creds.Scram v q ∷ []) e = absurd cc
 own-octets (a ∷ b ∷ c ∷ rest) e = absurd cc
 
-pub own-list : (own : InitSetup) → is_own_list own.list ≡ true → OfList (list_octets (own_list own))
+pub own-list : (own : PlainSetup) → is_own_list own.list ≡ true → OfList (list_octets (own_list own))
 own-list own e = own-octets own.list e

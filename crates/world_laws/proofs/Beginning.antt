@@ -3,12 +3,11 @@ use Rattle.std.proofs.Common.{◌≡◌, ℕ, zero, suc, arith, refl, sym, ap, s
 use Rattle.std.proofs.lemmas.Option.{slice_get-map}
 use Rattle.scram_mech.specs.declared.verifiers.Verifier.{Verifier}
 use Rattle.scram_mech.specs.VerifierFile.{IsLine, AreLines}
-use Rattle.spnego_core.specs.declared.setup.InitSetup.{InitSetup}
+use Rattle.spnego_core.specs.Ends.{PlainSetup}
 use Rattle.spnego_core.specs.InitMech.{is_own_list}
 use Rattle.accept_book.specs.Booking.{BookOf}
 use Rattle.world_laws.specs.declared.event.WorldEvent.{WorldEvent}
-use Rattle.world_laws.specs.declared.stage.Stage.{Stage}
-use Rattle.world_laws.specs.declared.stage.Stage.TheVariants.{Ready}
+use Rattle.world_laws.specs.Stages.{StageSays, Ready}
 use Rattle.world_laws.specs.Events.{IsBook, Run, Begins}
 use Rattle.world_laws.specs.Setups.{IsSetup}
 use Rattle.world_laws.specs.Showing.{Ran}
@@ -36,21 +35,21 @@ none-in (suc count) zero hand there = same hand there
     same hand e = grind (arith, e)
 none-in (suc count) (suc lane) hand there = none-in count lane hand there
 
-ready-by : (own : Option InitSetup) (stage : Stage) → option_map (λ setup. Ready setup) own ≡ Some stage → (setup : InitSetup) × (own ≡ Some setup) × (stage ≡ Ready setup)
+ready-by : (own : Option PlainSetup) (stage : StageSays) → option_map (λ setup. Ready setup) own ≡ Some stage → (setup : PlainSetup) × (own ≡ Some setup) × (stage ≡ Ready setup)
 ready-by None stage e = nothing stage e
   where
-    nothing : (stage : Stage) → None ≡ Some stage → (setup : InitSetup) × (None ≡ Some setup) × (stage ≡ Ready setup)
+    nothing : (stage : StageSays) → None ≡ Some stage → (setup : PlainSetup) × (None ≡ Some setup) × (stage ≡ Ready setup)
     nothing stage e = grind (arith, e)
 ready-by (Some own) stage e = (own, refl, same (Ready own) stage e)
   where
-    same : (a b : Stage) → Some a ≡ Some b → b ≡ a
+    same : (a b : StageSays) → Some a ≡ Some b → b ≡ a
     same a b e = grind (arith, e)
 
-abbrev world-of : List InitSetup → BookOf → ℕ → World
+abbrev world-of : List PlainSetup → BookOf → ℕ → World
 world-of setups book lanes = record { facts = setups; stages = map (λ setup. Ready setup) setups; book = book; lanes = replicate lanes None; fixed = []; makings = [] }
 
-begins : (setups : List InitSetup) (book : BookOf) (lanes : ℕ) → book.core.history ≡ [] → IsBook book → AreLines book.setup.verifiers
-    → ((i : ℕ) (own : InitSetup) → slice_get setups i ≡ Some own → is_own_list own.list ≡ true) → ((i : ℕ) (own : InitSetup) → slice_get setups i ≡ Some own → IsSetup own)
+begins : (setups : List PlainSetup) (book : BookOf) (lanes : ℕ) → book.core.history ≡ [] → IsBook book → AreLines book.setup.verifiers
+    → ((i : ℕ) (own : PlainSetup) → slice_get setups i ≡ Some own → is_own_list own.list ≡ true) → ((i : ℕ) (own : PlainSetup) → slice_get setups i ≡ Some own → IsSetup own)
     → Begins (world-of setups book lanes)
 begins setups book lanes empty is_book lines lists each = record {
   ready = λ i own there. (slice_get-map (λ setup. Ready setup) setups i ∙ ap (option_map (λ setup. Ready setup)) there, lists i own there);
@@ -63,9 +62,20 @@ begins setups book lanes empty is_book lines lists each = record {
   proper = record { setups = each; lines = line-in book.setup.verifiers lines };
 }
 
-pub ran-new : (facts setups : List InitSetup) (stages : List Stage) (book : BookOf) (count : ℕ) (lanes : List (Option InHand)) (events : List WorldEvent)
+-- initiators that weren't started, each by its setup
+ready-each : {A B : Type 0} (says : A → PlainSetup) (shows : B → StageSays) (make : A → B) → ((own : A) → shows (make own) ≡ Ready (says own)) → (setups : List A)
+    → map shows (map make setups) ≡ map (λ setup. Ready setup) (map says setups)
+ready-each says shows make same [] = refl
+ready-each says shows make same (own ∷ rest) =
+    ap (λ stage. stage ∷ map shows (map make rest)) (same own) ∙ ap (λ stages. Ready (says own) ∷ stages) (ready-each says shows make same rest)
+
+pub ready-says : {A B : Type 0} (says : A → PlainSetup) (shows : B → StageSays) (make : A → B) → ((own : A) → shows (make own) ≡ Ready (says own)) → (stages : List B) (setups : List A)
+    → stages ≡ map make setups → map shows stages ≡ map (λ setup. Ready setup) (map says setups)
+ready-says says shows make same stages setups is = ap (map shows) is ∙ ready-each says shows make same setups
+
+pub ran-new : (facts setups : List PlainSetup) (stages : List StageSays) (book : BookOf) (count : ℕ) (lanes : List (Option InHand)) (events : List WorldEvent)
     → facts ≡ setups → stages ≡ map (λ setup. Ready setup) setups → lanes ≡ replicate count None → events ≡ [] → book.core.history ≡ [] → IsBook book → AreLines book.setup.verifiers
-    → ((i : ℕ) (own : InitSetup) → slice_get setups i ≡ Some own → is_own_list own.list ≡ true) → ((i : ℕ) (own : InitSetup) → slice_get setups i ≡ Some own → IsSetup own)
+    → ((i : ℕ) (own : PlainSetup) → slice_get setups i ≡ Some own → is_own_list own.list ≡ true) → ((i : ℕ) (own : PlainSetup) → slice_get setups i ≡ Some own → IsSetup own)
     → Ran (record { facts = facts; stages = stages; book = Some book; lanes = lanes; events = events })
 ran-new facts setups stages book count lanes events facts_are stages_are lanes_are events_are empty is_book lines lists each = record {
   start = world-of setups book count;
@@ -75,5 +85,5 @@ ran-new facts setups stages book count lanes events facts_are stages_are lanes_a
   shows = record { facts = facts_are; stages = stages_are; book = refl; lanes = lanes_are };
 }
 
-pub each-over : (xs ys : List InitSetup) → xs ≡ ys → ((i : ℕ) (own : InitSetup) → slice_get xs i ≡ Some own → IsSetup own) → (i : ℕ) (own : InitSetup) → slice_get ys i ≡ Some own → IsSetup own
+pub each-over : (xs ys : List PlainSetup) → xs ≡ ys → ((i : ℕ) (own : PlainSetup) → slice_get xs i ≡ Some own → IsSetup own) → (i : ℕ) (own : PlainSetup) → slice_get ys i ≡ Some own → IsSetup own
 each-over xs ys same each i own there = each i own (ap (λ zs. slice_get zs i) same ∙ there)

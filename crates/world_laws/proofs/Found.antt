@@ -1,11 +1,10 @@
 -- What was found verified stays, over every event.
 use Rattle.std.proofs.Common.{◌≡◌, ℕ, sym, ap, subst, ◌∙◌, List, slice_get, Some}
 use Rattle.std.proofs.lemmas.Option.{none-some}
-use Rattle.spnego_core.specs.declared.init_end.InitEnd.{InitEnd}
 use Rattle.spnego_core.specs.declared.outcome.Outcome.{Outcome}
-use Rattle.spnego_core.specs.declared.setup.InitSetup.{InitSetup}
-use Rattle.world_laws.specs.declared.stage.Stage.TheVariants as stages
+use Rattle.spnego_core.specs.Ends.{PlainSetup, EndSays}
 use Rattle.world_laws.specs.declared.event.WorldEvent.{WorldEvent}
+use Rattle.world_laws.specs.Stages as stages
 use Rattle.world_laws.specs.Deeds.{Deed}
 use Rattle.world_laws.specs.State.{Context, World}
 use Rattle.world_laws.specs.Lanes.{in_hand}
@@ -21,16 +20,16 @@ use Rattle.world_laws.proofs.Happening.{Came, Idling, Moving, Laning, came}
 
 -- ---- before the first event
 
-ready-asks : (own : InitSetup) (xid : ℕ) (end : InitEnd) → stages.Asks xid end ≡ stages.Ready own → ⊥
+ready-asks : (own : PlainSetup) (xid : ℕ) (end : EndSays) → stages.Asks xid end ≡ stages.Ready own → ⊥
 ready-asks own xid end e = cc
 
 unfixed : (w : World) (place : ℕ) (x : Context) → Begins w → slice_get w.fixed place ≡ Some x → ⊥
 unfixed w place x begins e = none-some x (sym (ap (λ (l : List Context). slice_get l place) begins.unfixed) ∙ e)
 
-unasked : (w : World) (i xid : ℕ) (end : InitEnd) → Begins w → slice_get w.stages i ≡ Some (stages.Asks xid end) → ⊥
+unasked : (w : World) (i xid : ℕ) (end : EndSays) → Begins w → slice_get w.stages i ≡ Some (stages.Asks xid end) → ⊥
 unasked w i xid end begins e = let k = begins.known i (stages.Asks xid end) e in ready-asks k.0 xid end k.2
 
-uncompleted : (w : World) (i : ℕ) (own : InitSetup) (outcome : Outcome) → Begins w → Completed w i own outcome → ⊥
+uncompleted : (w : World) (i : ℕ) (own : PlainSetup) (outcome : Outcome) → Begins w → Completed w i own outcome → ⊥
 uncompleted w i own outcome begins c = let k = begins.known i c.stage c.stands in none-some c.session (sym (ap session_in k.2) ∙ c.in_session)
 
 pub found-start : (marking : Marking) (w : World) → Begins w → Found marking w

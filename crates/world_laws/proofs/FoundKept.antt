@@ -11,18 +11,17 @@ use Rattle.ap_exchange.specs.Keys.{authenticator_usage}
 use Rattle.ap_exchange.specs.Laws.{JudgesBy}
 use Rattle.scram_mech.specs.Acceptor.{AcceptModel, accept_finished}
 use Rattle.scram_mech.specs.MechMaking.{MechMaking, typed}
-use Rattle.spnego_core.specs.declared.init_end.InitEnd.{InitEnd}
 use Rattle.spnego_core.specs.declared.outcome.Outcome.{Outcome}
 use Rattle.spnego_core.specs.declared.setup.AcceptSetup.{AcceptSetup}
-use Rattle.spnego_core.specs.declared.setup.InitSetup.{InitSetup}
+use Rattle.spnego_core.specs.Ends.{PlainSetup, EndSays}
 use Rattle.spnego_core.specs.AcceptLaws.{IsOfLine}
 use Rattle.spnego_core.specs.AcceptMech.{ByRequest, ByProof}
 use Rattle.spnego_core.specs.InitLaws.{own_of, listed_of, finished_of, Covered}
 use Rattle.spnego_core.specs.Outcome.{outcome_of}
 use Rattle.gss_client.specs.Session.{SessionState}
 use Rattle.accept_book.specs.Booking.{BookOf}
-use Rattle.world_laws.specs.declared.stage.Stage.{Stage}
-use Rattle.world_laws.specs.declared.stage.Stage.TheVariants as stages
+use Rattle.world_laws.specs.Stages.{StageSays}
+use Rattle.world_laws.specs.Stages as stages
 use Rattle.world_laws.specs.Deeds.{Deed}
 use Rattle.world_laws.specs.State.{InHand, Context, World, moved_to}
 use Rattle.world_laws.specs.Lanes.{with_lane}
@@ -85,7 +84,7 @@ context-grows marking old new x g f = record {
 
 -- ---- an initiator
 
-pub finished-grows : (marking : Marking) (old new : World) (own : InitSetup) (outcome : Outcome) → Stays old new → MechFinished marking old own outcome → MechFinished marking new own outcome
+pub finished-grows : (marking : Marking) (old new : World) (own : PlainSetup) (outcome : Outcome) → Stays old new → MechFinished marking old own outcome → MechFinished marking new own outcome
 finished-grows marking old new own outcome g (inl f) = inl (record {
   end = f.end;
   waits = f.waits;
@@ -105,30 +104,30 @@ finished-grows marking old new own outcome g (inr f) = inr (record {
   handed_out = λ guarded making among. g.made making (f.handed_out guarded making among);
 })
 
-saw-grows : (marking : Marking) (old new : World) (own : InitSetup) (outcome : Outcome) → Stays old new → SawList marking old own outcome → SawList marking new own outcome
+saw-grows : (marking : Marking) (old new : World) (own : PlainSetup) (outcome : Outcome) → Stays old new → SawList marking old own outcome → SawList marking new own outcome
 saw-grows marking old new own outcome g f = record { mic = f.mic; right = f.right; handed_out = λ on. g.made _ (f.handed_out on) }
 
 -- an end whose mechanism is done
-pub record EndFound (marking : Marking) (w : World) (end : InitEnd) : Type 0 where
+pub record EndFound (marking : Marking) (w : World) (end : EndSays) : Type 0 where
   pub signed : (outcome : Outcome) → finished_of end ≡ Some outcome → MechFinished marking w (own_of end) outcome
   pub listed : (outcome : Outcome) → finished_of end ≡ Some outcome → listed_of end ≡ true → SawList marking w (own_of end) outcome
 
 -- a context that stands
-pub record OutcomeFound (marking : Marking) (w : World) (own : InitSetup) (outcome : Outcome) : Type 0 where
+pub record OutcomeFound (marking : Marking) (w : World) (own : PlainSetup) (outcome : Outcome) : Type 0 where
   pub finished : MechFinished marking w own outcome
   pub covered : Covered own outcome.mech false ⊎ SawList marking w own outcome
 
-pub end-grows : (marking : Marking) (old new : World) (end : InitEnd) → Stays old new → EndFound marking old end → EndFound marking new end
+pub end-grows : (marking : Marking) (old new : World) (end : EndSays) → Stays old new → EndFound marking old end → EndFound marking new end
 end-grows marking old new end g f = record {
   signed = λ outcome e. finished-grows marking old new (own_of end) outcome g (f.signed outcome e);
   listed = λ outcome e l. saw-grows marking old new (own_of end) outcome g (f.listed outcome e l);
 }
 
-covered-grows : (marking : Marking) (old new : World) (own : InitSetup) (outcome : Outcome) → Stays old new → Covered own outcome.mech false ⊎ SawList marking old own outcome → Covered own outcome.mech false ⊎ SawList marking new own outcome
+covered-grows : (marking : Marking) (old new : World) (own : PlainSetup) (outcome : Outcome) → Stays old new → Covered own outcome.mech false ⊎ SawList marking old own outcome → Covered own outcome.mech false ⊎ SawList marking new own outcome
 covered-grows marking old new own outcome g (inl first) = inl first
 covered-grows marking old new own outcome g (inr saw) = inr (saw-grows marking old new own outcome g saw)
 
-pub outcome-grows : (marking : Marking) (old new : World) (own : InitSetup) (outcome : Outcome) → Stays old new → OutcomeFound marking old own outcome → OutcomeFound marking new own outcome
+pub outcome-grows : (marking : Marking) (old new : World) (own : PlainSetup) (outcome : Outcome) → Stays old new → OutcomeFound marking old own outcome → OutcomeFound marking new own outcome
 outcome-grows marking old new own outcome g f = record {
   finished = finished-grows marking old new own outcome g f.finished;
   covered = covered-grows marking old new own outcome g f.covered;
@@ -138,8 +137,8 @@ outcome-grows marking old new own outcome g f = record {
 
 pub record Founds (marking : Marking) (w : World) : Type 0 where
   pub contexts : (place : ℕ) (x : Context) → slice_get w.fixed place ≡ Some x → ContextFound marking w x
-  pub asks : (i xid : ℕ) (end : InitEnd) → slice_get w.stages i ≡ Some (stages.Asks xid end) → EndFound marking w end
-  pub completed : (i : ℕ) (own : InitSetup) (outcome : Outcome) → Completed w i own outcome → OutcomeFound marking w own outcome
+  pub asks : (i xid : ℕ) (end : EndSays) → slice_get w.stages i ≡ Some (stages.Asks xid end) → EndFound marking w end
+  pub completed : (i : ℕ) (own : PlainSetup) (outcome : Outcome) → Completed w i own outcome → OutcomeFound marking w own outcome
 
 pub of-found : (marking : Marking) (w : World) → Found marking w → Founds marking w
 of-found marking w f = record {
@@ -161,19 +160,19 @@ to-found marking w f = record {
 -- ---- an initiator is elsewhere
 
 -- what is to be known of where it is
-pub record StageFound (marking : Marking) (old : World) (i : ℕ) (stage : Stage) : Type 0 where
-  pub asks : (xid : ℕ) (end : InitEnd) → stage ≡ stages.Asks xid end → EndFound marking old end
-  pub stands : (own : InitSetup) (s : SessionState) → slice_get old.facts i ≡ Some own → session_in stage ≡ Some s → OutcomeFound marking old own s.outcome
+pub record StageFound (marking : Marking) (old : World) (i : ℕ) (stage : StageSays) : Type 0 where
+  pub asks : (xid : ℕ) (end : EndSays) → stage ≡ stages.Asks xid end → EndFound marking old end
+  pub stands : (own : PlainSetup) (s : SessionState) → slice_get old.facts i ≡ Some own → session_in stage ≡ Some s → OutcomeFound marking old own s.outcome
 
-moved-asks : (marking : Marking) (old new : World) (i : ℕ) (stage : Stage) → Stays old new → Founds marking old → StageFound marking old i stage
-    → (j xid : ℕ) (end : InitEnd) → slice_get (slice_set old.stages i stage) j ≡ Some (stages.Asks xid end) → EndFound marking new end
+moved-asks : (marking : Marking) (old new : World) (i : ℕ) (stage : StageSays) → Stays old new → Founds marking old → StageFound marking old i stage
+    → (j xid : ℕ) (end : EndSays) → slice_get (slice_set old.stages i stage) j ≡ Some (stages.Asks xid end) → EndFound marking new end
 moved-asks marking old new i stage g f s j xid end e = elim (set-cases old.stages i j stage (stages.Asks xid end) e) [
   | inl own ↦ end-grows marking old new end g (s.asks xid end (sym own.1))
   | inr other ↦ end-grows marking old new end g (f.asks j xid end other.1)
 ]
 
-moved-completed : (marking : Marking) (old new : World) (i : ℕ) (stage : Stage) → Stays old new → Founds marking old → StageFound marking old i stage
-    → (j : ℕ) (own : InitSetup) (outcome : Outcome) (now : Stage) (session : SessionState) → slice_get old.facts j ≡ Some own → slice_get (slice_set old.stages i stage) j ≡ Some now → session_in now ≡ Some session → session.outcome ≡ outcome
+moved-completed : (marking : Marking) (old new : World) (i : ℕ) (stage : StageSays) → Stays old new → Founds marking old → StageFound marking old i stage
+    → (j : ℕ) (own : PlainSetup) (outcome : Outcome) (now : StageSays) (session : SessionState) → slice_get old.facts j ≡ Some own → slice_get (slice_set old.stages i stage) j ≡ Some now → session_in now ≡ Some session → session.outcome ≡ outcome
     → OutcomeFound marking new own outcome
 moved-completed marking old new i stage g f s j own outcome now session facts e in_session is =
     subst (OutcomeFound marking new own) is (outcome-grows marking old new own session.outcome g (elim (set-cases old.stages i j stage now e) [
@@ -181,12 +180,12 @@ moved-completed marking old new i stage g f s j own outcome now session facts e 
       | inr other ↦ f.completed j own session.outcome (record { there = facts; stage = now; stands = other.1; session = session; in_session = in_session; outcome_is = refl })
     ]))
 
-pub moved-found : (marking : Marking) (old new : World) (i : ℕ) (stage : Stage) (makes : List MechMaking) → new ≡ moved_to old i stage makes → Stays old new → Founds marking old → StageFound marking old i stage → Founds marking new
+pub moved-found : (marking : Marking) (old new : World) (i : ℕ) (stage : StageSays) (makes : List MechMaking) → new ≡ moved_to old i stage makes → Stays old new → Founds marking old → StageFound marking old i stage → Founds marking new
 moved-found marking old new i stage makes is g f s = record {
   contexts = λ place x e. context-grows marking old new x g (f.contexts place x (sym (ap (λ (w : World). slice_get w.fixed place) is) ∙ e));
   asks = λ j xid end e. moved-asks marking old new i stage g f s j xid end (sym (ap (λ (w : World). slice_get w.stages j) is) ∙ e);
   completed = λ j own outcome c.
-      moved-completed marking old new i stage g f s j own outcome c.stage c.session (sym (ap (λ (l : List InitSetup). slice_get l j) g.facts) ∙ c.there)
+      moved-completed marking old new i stage g f s j own outcome c.stage c.session (sym (ap (λ (l : List PlainSetup). slice_get l j) g.facts) ∙ c.there)
       (sym (ap (λ (w : World). slice_get w.stages j) is) ∙ c.stands) c.in_session c.outcome_is;
 }
 
@@ -210,7 +209,7 @@ lane-found marking old new lane hand book deed is g f more = record {
   contexts = λ place x e. lane-contexts marking old new deed g f more place x (sym (ap (λ (w : World). slice_get w.fixed place) is) ∙ e);
   asks = λ j xid end e. end-grows marking old new end g (f.asks j xid end (sym (ap (λ (w : World). slice_get w.stages j) is) ∙ e));
   completed = λ j own outcome c. outcome-grows marking old new own outcome g (f.completed j own outcome (record {
-    there = sym (ap (λ (l : List InitSetup). slice_get l j) g.facts) ∙ c.there;
+    there = sym (ap (λ (l : List PlainSetup). slice_get l j) g.facts) ∙ c.there;
     stage = c.stage;
     stands = sym (ap (λ (w : World). slice_get w.stages j) is) ∙ c.stands;
     session = c.session;

@@ -3,21 +3,20 @@ use Rattle.std.proofs.Common.{◌≡◌, inl, inr, ℕ, refl, sym, ap, subst, �
 use Rattle.std.specs.Prelude.{Result, Ok, Err}
 use Rattle.std.proofs.lemmas.Option.{none-some, same_Some}
 use Rattle.scram_mech.specs.MechMaking.{MechMaking, AmongMakings}
-use Rattle.spnego_core.specs.declared.init_end.InitEnd.{InitEnd}
-use Rattle.spnego_core.specs.declared.init_end.InitEnd.TheVariants as ends
-use Rattle.spnego_core.specs.declared.init_end.InitStep.{InitStep}
-use Rattle.spnego_core.specs.declared.init_end.InitStep.TheVariants as steps
 use Rattle.spnego_core.specs.declared.outcome.Outcome.{Outcome}
 use Rattle.spnego_core.specs.declared.refusal.NegRefusal.{NegRefusal}
-use Rattle.spnego_core.specs.declared.setup.InitSetup.{InitSetup}
+use Rattle.spnego_core.specs.Ends.{PlainSetup, EndSays}
+use Rattle.spnego_core.specs.Ends as ends
+use Rattle.spnego_core.specs.EndSteps.{StepSays}
+use Rattle.spnego_core.specs.EndSteps as steps
 use Rattle.spnego_core.specs.Initiating.{Started, Initiated, init_start}
 use Rattle.spnego_core.specs.InitLaws.{own_of, chosen_of, finished_of, GoodInit, After, InitLaw}
-use Rattle.gss_client.specs.declared.creation.Created.{Created}
-use Rattle.gss_client.specs.declared.creation.Created.TheVariants as created
 use Rattle.gss_client.specs.declared.refusal.ClientRefusal.{ClientRefusal}
+use Rattle.gss_client.specs.Creation.{CreatedSays}
+use Rattle.gss_client.specs.Creation as created
 use Rattle.gss_client.specs.Judging.{granted_in, creation_step}
 use Rattle.gss_client.specs.Session.{SessionState}
-use Rattle.world_laws.specs.declared.stage.Stage.TheVariants as stages
+use Rattle.world_laws.specs.Stages as stages
 use Rattle.world_laws.specs.Deeds.{Deed}
 use Rattle.world_laws.specs.State.{World}
 use Rattle.world_laws.specs.Initiators.{Moved, started_by, starts, initiated, verified, window_found, created_by, takes, calls}
@@ -31,16 +30,16 @@ use Rattle.world_laws.proofs.Happening.{Move, Starting, Taking, Calling}
 
 -- ---- stages
 
-asks-same : (x y : ℕ) (a b : InitEnd) → stages.Asks x a ≡ stages.Asks y b → a ≡ b
+asks-same : (x y : ℕ) (a b : EndSays) → stages.Asks x a ≡ stages.Asks y b → a ≡ b
 asks-same x y a b e = cc
 
-stands-asks : (s : SessionState) (xid : ℕ) (end : InitEnd) → stages.Stands s ≡ stages.Asks xid end → ⊥
+stands-asks : (s : SessionState) (xid : ℕ) (end : EndSays) → stages.Stands s ≡ stages.Asks xid end → ⊥
 stands-asks s xid end e = cc
 
-left-asks : (s : SessionState) (xid : ℕ) (end : InitEnd) → stages.Left s ≡ stages.Asks xid end → ⊥
+left-asks : (s : SessionState) (xid : ℕ) (end : EndSays) → stages.Left s ≡ stages.Asks xid end → ⊥
 left-asks s xid end e = cc
 
-over-asks : (xid : ℕ) (end : InitEnd) → stages.Over ≡ stages.Asks xid end → ⊥
+over-asks : (xid : ℕ) (end : EndSays) → stages.Over ≡ stages.Asks xid end → ⊥
 over-asks xid end e = cc
 
 -- of who ended before its context stood there is nothing to be known
@@ -50,19 +49,19 @@ over-found marking old i = record {
   stands = λ own s there e. absurd (none-some s e);
 }
 
-asks-found : (marking : Marking) (old : World) (i xid : ℕ) (end : InitEnd) → EndFound marking old end → StageFound marking old i (stages.Asks xid end)
+asks-found : (marking : Marking) (old : World) (i xid : ℕ) (end : EndSays) → EndFound marking old end → StageFound marking old i (stages.Asks xid end)
 asks-found marking old i xid end f = record {
   asks = λ number other e. subst (EndFound marking old) (asks-same xid number end other e) f;
   stands = λ own s there e. absurd (none-some s e);
 }
 
-stands-found : (marking : Marking) (old : World) (i : ℕ) (session : SessionState) → ((own : InitSetup) → slice_get old.facts i ≡ Some own → OutcomeFound marking old own session.outcome) → StageFound marking old i (stages.Stands session)
+stands-found : (marking : Marking) (old : World) (i : ℕ) (session : SessionState) → ((own : PlainSetup) → slice_get old.facts i ≡ Some own → OutcomeFound marking old own session.outcome) → StageFound marking old i (stages.Stands session)
 stands-found marking old i session f = record {
   asks = λ xid end e. absurd (stands-asks session xid end e);
   stands = λ own s there e. subst (λ (t : SessionState). OutcomeFound marking old own t.outcome) (same_Some session s e) (f own there);
 }
 
-left-found : (marking : Marking) (old : World) (i : ℕ) (session : SessionState) → ((own : InitSetup) → slice_get old.facts i ≡ Some own → OutcomeFound marking old own session.outcome) → StageFound marking old i (stages.Left session)
+left-found : (marking : Marking) (old : World) (i : ℕ) (session : SessionState) → ((own : PlainSetup) → slice_get old.facts i ≡ Some own → OutcomeFound marking old own session.outcome) → StageFound marking old i (stages.Left session)
 left-found marking old i session f = record {
   asks = λ xid end e. absurd (left-asks session xid end e);
   stands = λ own s there e. subst (λ (t : SessionState). OutcomeFound marking old own t.outcome) (same_Some session s e) (f own there);
@@ -70,18 +69,18 @@ left-found marking old i session f = record {
 
 -- ---- it starts
 
-unfinished : (end : InitEnd) (outcome : Outcome) → chosen_of end ≡ None → finished_of end ≡ Some outcome → ⊥
+unfinished : (end : EndSays) (outcome : Outcome) → chosen_of end ≡ None → finished_of end ≡ Some outcome → ⊥
 unfinished (ends.Opens opening) outcome e f = none-some outcome f
 unfinished (ends.Talks talking) outcome e f = none-some outcome f
 unfinished (ends.Signed signed) outcome e f = none-some signed.talk.chosen (sym e)
 
-unchosen-found : (marking : Marking) (old : World) (end : InitEnd) → chosen_of end ≡ None → EndFound marking old end
+unchosen-found : (marking : Marking) (old : World) (end : EndSays) → chosen_of end ≡ None → EndFound marking old end
 unchosen-found marking old end e = record {
   signed = λ outcome f. absurd (unfinished end outcome e f);
   listed = λ outcome f l. absurd (unfinished end outcome e f);
 }
 
-starts-found : (laws : Below) (marking : Marking) (old : World) (i : ℕ) (own : InitSetup) (r : Result Started NegRefusal) → init_start own ≡ r → StageFound marking old i (started_by r).stage
+starts-found : (laws : Below) (marking : Marking) (old : World) (i : ℕ) (own : PlainSetup) (r : Result Started NegRefusal) → init_start own ≡ r → StageFound marking old i (started_by r).stage
 starts-found laws marking old i own (Err refusal) e = over-found marking old i
 starts-found laws marking old i own (Ok started) e = asks-found marking old i 1 started.end (unchosen-found marking old started.end (laws.init.starts own started e).unchosen)
 
@@ -102,24 +101,24 @@ verified-in marking old more o taken e f =
     let g : Verified marking old (taken.found ++ more) = subst (λ (p : Option Initiated). Verified marking old (verified p ++ more)) e f in
     λ making among guarded. g making (in-front taken.found more making among) guarded
 
-step-of : (laws : Below) (marking : Marking) (old : World) (i xid : ℕ) (end : InitEnd) (octets : List ℕ) (step : InitStep) → Built marking old → slice_get old.facts i ≡ Some (own_of end) → EndFound marking old end
+step-of : (laws : Below) (marking : Marking) (old : World) (i xid : ℕ) (end : EndSays) (octets : List ℕ) (step : StepSays) → Built marking old → slice_get old.facts i ≡ Some (own_of end) → EndFound marking old end
     → (s : Stepped xid end octets step) → InitLaw end s.taken → Verified marking old s.taken.found → StepFound marking old (own_of end) step s.taken.listed
-step-of laws marking old i xid end octets step built there f s law found = subst (λ (t : InitStep). StepFound marking old (own_of end) t s.taken.listed) s.step_is (step-found laws marking old i end s.taken built there f law found)
+step-of laws marking old i xid end octets step built there f s law found = subst (λ (t : StepSays). StepFound marking old (own_of end) t s.taken.listed) s.step_is (step-found laws marking old i end s.taken built there f law found)
 
-going : (marking : Marking) (old : World) (xid : ℕ) (end next : InitEnd) (octets token : List ℕ) (s : Stepped xid end octets (steps.More next token)) → InitLaw end s.taken → StepFound marking old (own_of end) (steps.More next token) s.taken.listed → EndFound marking old next
+going : (marking : Marking) (old : World) (xid : ℕ) (end next : EndSays) (octets token : List ℕ) (s : Stepped xid end octets (steps.More next token)) → InitLaw end s.taken → StepFound marking old (own_of end) (steps.More next token) s.taken.listed → EndFound marking old next
 going marking old xid end next octets token s law f =
     going-found marking old (own_of end) s.taken.chosen s.taken.listed next token (subst (After (own_of end) s.taken.chosen s.taken.listed) s.step_is law.after) f
 
-standing : (marking : Marking) (old : World) (i xid : ℕ) (end : InitEnd) (octets : List ℕ) (outcome : Outcome) (s : Stepped xid end octets (steps.Done outcome)) → InitLaw end s.taken → slice_get old.facts i ≡ Some (own_of end)
-    → StepFound marking old (own_of end) (steps.Done outcome) s.taken.listed → (own : InitSetup) → slice_get old.facts i ≡ Some own → OutcomeFound marking old own outcome
+standing : (marking : Marking) (old : World) (i xid : ℕ) (end : EndSays) (octets : List ℕ) (outcome : Outcome) (s : Stepped xid end octets (steps.Done outcome)) → InitLaw end s.taken → slice_get old.facts i ≡ Some (own_of end)
+    → StepFound marking old (own_of end) (steps.Done outcome) s.taken.listed → (own : PlainSetup) → slice_get old.facts i ≡ Some own → OutcomeFound marking old own outcome
 standing marking old i xid end octets outcome s law there f own other =
-    subst (λ (o : InitSetup). OutcomeFound marking old o outcome) (same_Some (own_of end) own (sym there ∙ other)) (done-found marking old (own_of end) s.taken.listed outcome f (law.covered outcome s.step_is))
+    subst (λ (o : PlainSetup). OutcomeFound marking old o outcome) (same_Some (own_of end) own (sym there ∙ other)) (done-found marking old (own_of end) s.taken.listed outcome f (law.covered outcome s.step_is))
 
 append-none : (xs : List MechMaking) → xs ++ [] ≡ xs
 append-none [] = refl
 append-none (x ∷ xs) = ap (λ (l : List MechMaking). x ∷ l) (append-none xs)
 
-takes-found : (laws : Below) (marking : Marking) (old : World) (i first xid : ℕ) (end : InitEnd) (octets : List ℕ) (r : Result Created ClientRefusal) → Built marking old → slice_get old.facts i ≡ Some (own_of end) → GoodInit end → EndFound marking old end
+takes-found : (laws : Below) (marking : Marking) (old : World) (i first xid : ℕ) (end : EndSays) (octets : List ℕ) (r : Result CreatedSays ClientRefusal) → Built marking old → slice_get old.facts i ≡ Some (own_of end) → GoodInit end → EndFound marking old end
     → Behind xid end octets r → Verified marking old (created_by first xid end octets r).found → StageFound marking old i (created_by first xid end octets r).stage
 takes-found laws marking old i first xid end octets (Err refusal) built there good f s found = over-found marking old i
 takes-found laws marking old i first xid end octets (Ok (created.Going offer)) built there good f s found =
@@ -131,7 +130,7 @@ takes-found laws marking old i first xid end octets (Ok (created.Stands outcome 
     (step-of laws marking old i xid end octets (steps.Done outcome) built there f s (laws.init.steps end s.token s.taken good s.steps)
     (verified-in marking old (window_found outcome (granted_in xid octets)) (initiated xid end octets) s.taken s.is found)))
 
-takes-lost : (marking : Marking) (old : World) (i first xid : ℕ) (end : InitEnd) (octets : List ℕ) (r : Result Created ClientRefusal) → StageFound marking old i (created_by first xid end octets r).lost
+takes-lost : (marking : Marking) (old : World) (i first xid : ℕ) (end : EndSays) (octets : List ℕ) (r : Result CreatedSays ClientRefusal) → StageFound marking old i (created_by first xid end octets r).lost
 takes-lost marking old i first xid end octets (Err refusal) = over-found marking old i
 takes-lost marking old i first xid end octets (Ok (created.Going offer)) = over-found marking old i
 takes-lost marking old i first xid end octets (Ok (created.Stands outcome handle)) = over-found marking old i
@@ -143,16 +142,16 @@ pub record MoveFound (marking : Marking) (old : World) (i : ℕ) (moved : Moved)
   pub did : Verified marking old moved.found → StageFound marking old i moved.stage
   pub lost : StageFound marking old i moved.lost
 
-starting : (laws : Below) (marking : Marking) (old : World) (i : ℕ) (own : InitSetup) → MoveFound marking old i (starts own)
+starting : (laws : Below) (marking : Marking) (old : World) (i : ℕ) (own : PlainSetup) → MoveFound marking old i (starts own)
 starting laws marking old i own = record { did = λ found. starts-found laws marking old i own (init_start own) refl; lost = starts-lost marking old i (init_start own) }
 
-taking : (laws : Below) (marking : Marking) (old : World) (i first xid : ℕ) (end : InitEnd) (octets : List ℕ) → Built marking old → slice_get old.facts i ≡ Some (own_of end) → GoodInit end → EndFound marking old end → MoveFound marking old i (takes first xid end octets)
+taking : (laws : Below) (marking : Marking) (old : World) (i first xid : ℕ) (end : EndSays) (octets : List ℕ) → Built marking old → slice_get old.facts i ≡ Some (own_of end) → GoodInit end → EndFound marking old end → MoveFound marking old i (takes first xid end octets)
 taking laws marking old i first xid end octets built there good f = record {
   did = λ found. takes-found laws marking old i first xid end octets (creation_step end xid octets) built there good f (behind xid end octets) found;
   lost = takes-lost marking old i first xid end octets (creation_step end xid octets);
 }
 
-calling : (marking : Marking) (old : World) (i : ℕ) (s : SessionState) (procedure : ℕ) (args : List ℕ) → ((own : InitSetup) → slice_get old.facts i ≡ Some own → OutcomeFound marking old own s.outcome) → MoveFound marking old i (calls s procedure args)
+calling : (marking : Marking) (old : World) (i : ℕ) (s : SessionState) (procedure : ℕ) (args : List ℕ) → ((own : PlainSetup) → slice_get old.facts i ≡ Some own → OutcomeFound marking old own s.outcome) → MoveFound marking old i (calls s procedure args)
 calling marking old i s procedure args f = record { did = λ found. stands-found marking old i _ f; lost = left-found marking old i s f }
 
 pub move-found : (laws : Below) (marking : Marking) (old : World) (i : ℕ) (moved : Moved) → Known old → Founds marking old → Built marking old → Move old i moved → MoveFound marking old i moved

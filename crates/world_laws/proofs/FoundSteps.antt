@@ -9,12 +9,11 @@ use Rattle.ap_exchange.specs.Laws.{TakesBy}
 use Rattle.ap_exchange.specs.Reply.{reply_found}
 use Rattle.scram_mech.specs.Laws.{Completes}
 use Rattle.scram_mech.specs.MechMaking.{OfType, OfPassword, MechMaking, AmongMakings, typed, signature_making}
-use Rattle.spnego_core.specs.declared.init_end.InitEnd.{InitEnd}
-use Rattle.spnego_core.specs.declared.init_end.InitEnd.TheVariants as ends
-use Rattle.spnego_core.specs.declared.init_end.InitStep.{InitStep}
-use Rattle.spnego_core.specs.declared.init_end.InitStep.TheVariants as steps
 use Rattle.spnego_core.specs.declared.outcome.Outcome.{Outcome}
-use Rattle.spnego_core.specs.declared.setup.InitSetup.{InitSetup}
+use Rattle.spnego_core.specs.Ends.{PlainSetup, EndSays}
+use Rattle.spnego_core.specs.Ends as ends
+use Rattle.spnego_core.specs.EndSteps.{StepSays}
+use Rattle.spnego_core.specs.EndSteps as steps
 use Rattle.spnego_core.specs.ListMic.{mic_found}
 use Rattle.spnego_core.specs.Initiating.{Initiated, own_list}
 use Rattle.spnego_core.specs.InitLaws.{own_of, listed_of, finished_of, finished_in, Covered, GoesOn, ByReply, BySignature, SeesMic, IsFinish, InitLaw}
@@ -29,7 +28,7 @@ Verified marking w found = (making : MechMaking) → AmongMakings found making �
 
 -- who finished on something guarded has the key of a context that is built on a guarded key
 abbrev pub Built : Marking → World → Type 0
-Built marking w = (i : ℕ) (own : InitSetup) (outcome : Outcome) → slice_get w.facts i ≡ Some own → MechFinished marking w own outcome → OnGuarded marking own outcome.mech → BuiltKey marking w.fixed outcome.key
+Built marking w = (i : ℕ) (own : PlainSetup) (outcome : Outcome) → slice_get w.facts i ≡ Some own → MechFinished marking w own outcome → OnGuarded marking own outcome.mech → BuiltKey marking w.fixed outcome.key
 
 -- ---- one making that was found
 
@@ -51,7 +50,7 @@ sealed-key key usage octets found making e among = ap (λ (m : MechMaking). m.ke
 
 -- ---- a mechanism is finished
 
-by-reply : (marking : Marking) (w : World) (own : InitSetup) (found : List MechMaking) (outcome : Outcome) (r : ByReply own found outcome) → TakesBy r.end r.token r.made → Verified marking w found → KrbDone marking w own outcome
+by-reply : (marking : Marking) (w : World) (own : PlainSetup) (found : List MechMaking) (outcome : Outcome) (r : ByReply own found outcome) → TakesBy r.end r.token r.made → Verified marking w found → KrbDone marking w own outcome
 by-reply marking w own found outcome r takes verified = record {
   end = r.end;
   waits = r.waits;
@@ -63,7 +62,7 @@ by-reply marking w own found outcome r takes verified = record {
       verified making (r.verified making among) (guarded-session marking w r.end.session making (sealed-key r.end.session _ takes.octets (reply_found r.end r.token) making takes.finds among) guarded);
 }
 
-by-signature : (marking : Marking) (w : World) (own : InitSetup) (found : List MechMaking) (outcome : Outcome) (r : BySignature own found outcome) → Completes r.end r.token r.finished → Verified marking w found → ScramDone marking w own outcome
+by-signature : (marking : Marking) (w : World) (own : PlainSetup) (found : List MechMaking) (outcome : Outcome) (r : BySignature own found outcome) → Completes r.end r.token r.finished → Verified marking w found → ScramDone marking w own outcome
 by-signature marking w own found outcome r completes verified = record {
   end = r.end;
   proved = r.proved;
@@ -76,28 +75,28 @@ by-signature marking w own found outcome r completes verified = record {
       (guarded-secret marking w r.end.server making (ap (λ (m : MechMaking). m.key) (only-one (signature_making r.end.server r.end.auth) making r.finished.found completes.found among)) guarded);
 }
 
-finish-found : (laws : Below) (marking : Marking) (w : World) (own : InitSetup) (found : List MechMaking) (outcome : Outcome) → Verified marking w found → IsFinish own found outcome → MechFinished marking w own outcome
+finish-found : (laws : Below) (marking : Marking) (w : World) (own : PlainSetup) (found : List MechMaking) (outcome : Outcome) → Verified marking w found → IsFinish own found outcome → MechFinished marking w own outcome
 finish-found laws marking w own found outcome verified (inl r) = inl (by-reply marking w own found outcome r (laws.exchange.takes r.end r.token r.made r.takes) verified)
 finish-found laws marking w own found outcome verified (inr r) = inr (by-signature marking w own found outcome r (laws.scram.completes r.end r.token r.finished r.takes) verified)
 
 -- ---- a step
 
-pub record StepFound (marking : Marking) (w : World) (own : InitSetup) (step : InitStep) (listed : Bool) : Type 0 where
+pub record StepFound (marking : Marking) (w : World) (own : PlainSetup) (step : StepSays) (listed : Bool) : Type 0 where
   pub finished : (outcome : Outcome) → finished_in step ≡ Some outcome → MechFinished marking w own outcome
   pub saw : (outcome : Outcome) → finished_in step ≡ Some outcome → listed ≡ true → SawList marking w own outcome
 
 -- an end that knows of the acceptor's MIC has finished
-listed-finished : (end : InitEnd) → listed_of end ≡ true → (outcome : Outcome) × (finished_of end ≡ Some outcome)
+listed-finished : (end : EndSays) → listed_of end ≡ true → (outcome : Outcome) × (finished_of end ≡ Some outcome)
 listed-finished (ends.Opens opening) e = absurd (let f : false ≡ true = e in cc)
 listed-finished (ends.Talks talking) e = absurd (let f : false ≡ true = e in cc)
 listed-finished (ends.Signed signed) e = (signed.outcome, refl)
 
-step-finished : (laws : Below) (marking : Marking) (w : World) (end : InitEnd) (taken : Initiated) (outcome : Outcome) → EndFound marking w end → Verified marking w taken.found
+step-finished : (laws : Below) (marking : Marking) (w : World) (end : EndSays) (taken : Initiated) (outcome : Outcome) → EndFound marking w end → Verified marking w taken.found
     → (finished_of end ≡ Some outcome) ⊎ IsFinish (own_of end) taken.found outcome → MechFinished marking w (own_of end) outcome
 step-finished laws marking w end taken outcome f verified (inl before) = f.signed outcome before
 step-finished laws marking w end taken outcome f verified (inr now) = finish-found laws marking w (own_of end) taken.found outcome verified now
 
-saw-now : (marking : Marking) (w : World) (own : InitSetup) (found : List MechMaking) (outcome : Outcome) → Verified marking w found → (OnGuarded marking own outcome.mech → BuiltKey marking w.fixed outcome.key)
+saw-now : (marking : Marking) (w : World) (own : PlainSetup) (found : List MechMaking) (outcome : Outcome) → Verified marking w found → (OnGuarded marking own outcome.mech → BuiltKey marking w.fixed outcome.key)
     → SeesMic own found outcome → SawList marking w own outcome
 saw-now marking w own found outcome verified built s = record {
   mic = s.mic;
@@ -105,19 +104,19 @@ saw-now marking w own found outcome verified built s = record {
   handed_out = λ on. verified (mic_found outcome Initiator (own_list own) s.mic) s.verified (inr (built on));
 }
 
-saw-before : (marking : Marking) (w : World) (end : InitEnd) (taken : Initiated) (outcome : Outcome) → EndFound marking w end → InitLaw end taken → finished_in taken.step ≡ Some outcome → listed_of end ≡ true → SawList marking w (own_of end) outcome
+saw-before : (marking : Marking) (w : World) (end : EndSays) (taken : Initiated) (outcome : Outcome) → EndFound marking w end → InitLaw end taken → finished_in taken.step ≡ Some outcome → listed_of end ≡ true → SawList marking w (own_of end) outcome
 saw-before marking w end taken outcome f law e listed =
     let was = listed-finished end listed in
     let same : was.0 ≡ outcome = same_Some was.0 outcome (sym (law.stays was.0 was.1) ∙ e) in
     subst (SawList marking w (own_of end)) same (f.listed was.0 was.1 listed)
 
-step-saw : (marking : Marking) (w : World) (end : InitEnd) (taken : Initiated) (outcome : Outcome) → EndFound marking w end → InitLaw end taken → Verified marking w taken.found
+step-saw : (marking : Marking) (w : World) (end : EndSays) (taken : Initiated) (outcome : Outcome) → EndFound marking w end → InitLaw end taken → Verified marking w taken.found
     → (OnGuarded marking (own_of end) outcome.mech → BuiltKey marking w.fixed outcome.key) → finished_in taken.step ≡ Some outcome → (listed_of end ≡ true) ⊎ SeesMic (own_of end) taken.found outcome
     → SawList marking w (own_of end) outcome
 step-saw marking w end taken outcome f law verified built e (inl before) = saw-before marking w end taken outcome f law e before
 step-saw marking w end taken outcome f law verified built e (inr now) = saw-now marking w (own_of end) taken.found outcome verified built now
 
-pub step-found : (laws : Below) (marking : Marking) (w : World) (i : ℕ) (end : InitEnd) (taken : Initiated) → Built marking w → slice_get w.facts i ≡ Some (own_of end) → EndFound marking w end → InitLaw end taken → Verified marking w taken.found
+pub step-found : (laws : Below) (marking : Marking) (w : World) (i : ℕ) (end : EndSays) (taken : Initiated) → Built marking w → slice_get w.facts i ≡ Some (own_of end) → EndFound marking w end → InitLaw end taken → Verified marking w taken.found
     → StepFound marking w (own_of end) taken.step taken.listed
 step-found laws marking w i end taken built there f law verified = record {
   finished = λ outcome e. step-finished laws marking w end taken outcome f verified (law.finishes outcome e);
@@ -127,15 +126,15 @@ step-found laws marking w i end taken built there f law verified = record {
 
 -- ---- where it leads
 
-pub going-found : (marking : Marking) (w : World) (own : InitSetup) (chosen : Option MechKind) (listed : Bool) (end : InitEnd) (token : List ℕ) → GoesOn own chosen listed end → StepFound marking w own (steps.More end token) listed → EndFound marking w end
+pub going-found : (marking : Marking) (w : World) (own : PlainSetup) (chosen : Option MechKind) (listed : Bool) (end : EndSays) (token : List ℕ) → GoesOn own chosen listed end → StepFound marking w own (steps.More end token) listed → EndFound marking w end
 going-found marking w own chosen listed end token goes s = record {
-  signed = λ outcome e. subst (λ (o : InitSetup). MechFinished marking w o outcome) (sym goes.own_is) (s.finished outcome e);
-  listed = λ outcome e l. subst (λ (o : InitSetup). SawList marking w o outcome) (sym goes.own_is) (s.saw outcome e (sym goes.listed_is ∙ l));
+  signed = λ outcome e. subst (λ (o : PlainSetup). MechFinished marking w o outcome) (sym goes.own_is) (s.finished outcome e);
+  listed = λ outcome e l. subst (λ (o : PlainSetup). SawList marking w o outcome) (sym goes.own_is) (s.saw outcome e (sym goes.listed_is ∙ l));
 }
 
-covered-found : (marking : Marking) (w : World) (own : InitSetup) (listed : Bool) (outcome : Outcome) → StepFound marking w own (steps.Done outcome) listed → Covered own outcome.mech listed → Covered own outcome.mech false ⊎ SawList marking w own outcome
+covered-found : (marking : Marking) (w : World) (own : PlainSetup) (listed : Bool) (outcome : Outcome) → StepFound marking w own (steps.Done outcome) listed → Covered own outcome.mech listed → Covered own outcome.mech false ⊎ SawList marking w own outcome
 covered-found marking w own listed outcome s (inl first) = inl (inl first)
 covered-found marking w own listed outcome s (inr saw) = inr (s.saw outcome refl saw)
 
-pub done-found : (marking : Marking) (w : World) (own : InitSetup) (listed : Bool) (outcome : Outcome) → StepFound marking w own (steps.Done outcome) listed → Covered own outcome.mech listed → OutcomeFound marking w own outcome
+pub done-found : (marking : Marking) (w : World) (own : PlainSetup) (listed : Bool) (outcome : Outcome) → StepFound marking w own (steps.Done outcome) listed → Covered own outcome.mech listed → OutcomeFound marking w own outcome
 done-found marking w own listed outcome s covered = record { finished = s.finished outcome refl; covered = covered-found marking w own listed outcome s covered }

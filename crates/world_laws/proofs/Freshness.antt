@@ -5,18 +5,18 @@ use Rattle.krb_files.specs.Granted.{Granted}
 use Rattle.krb_files.specs.Keytab.{found}
 use Rattle.scram_mech.specs.declared.verifiers.Verifier.{Verifier}
 use Rattle.spnego_core.specs.declared.setup.AcceptSetup.{AcceptSetup}
-use Rattle.spnego_core.specs.declared.setup.InitSetup.{InitSetup}
+use Rattle.spnego_core.specs.Ends.{PlainSetup}
 use Rattle.world_laws.specs.Premises.{Marking, Listed, HasTicket, HasAccount, Proved, AtInitiator, Fresh}
 use Rattle.world_laws.specs.State.{World}
 use Rattle.world_laws.proofs.Growing.{Grows, fixed-grow, listed-grows, makings-grow, built-grows, completed-stays}
 
-pub ticket-on : (old new : World) (i : ℕ) (own : InitSetup) (c : Granted) → Grows old new → HasTicket old i own c → HasTicket new i own c
+pub ticket-on : (old new : World) (i : ℕ) (own : PlainSetup) (c : Granted) → Grows old new → HasTicket old i own c → HasTicket new i own c
 ticket-on old new i own c g has = record { there = ap (λ facts. slice_get facts i) g.facts ∙ has.there; is_own = has.is_own }
 
-pub account-on : (old new : World) (i : ℕ) (own : InitSetup) (user password : List ℕ) → Grows old new → HasAccount old i own user password → HasAccount new i own user password
+pub account-on : (old new : World) (i : ℕ) (own : PlainSetup) (user password : List ℕ) → Grows old new → HasAccount old i own user password → HasAccount new i own user password
 account-on old new i own user password g has = record { there = ap (λ facts. slice_get facts i) g.facts ∙ has.there; is_own = has.is_own }
 
-pub proved-on : (old new : World) (own : InitSetup) (auth : List ℕ) → Grows old new → Proved old own auth → Proved new own auth
+pub proved-on : (old new : World) (own : PlainSetup) (auth : List ℕ) → Grows old new → Proved old own auth → Proved new own auth
 proved-on old new own auth g p = record {
   user = p.user;
   password = p.password;

@@ -5,7 +5,7 @@ use Rattle.std.proofs.lemmas.Option.{none-some, same_Some}
 use Rattle.krb_derive.specs.declared.key.Key.{Key}
 use Rattle.scram_mech.specs.MechMaking.{MechMaking, AmongMakings}
 use Rattle.spnego_core.specs.declared.outcome.Outcome.{Outcome}
-use Rattle.spnego_core.specs.declared.setup.InitSetup.{InitSetup}
+use Rattle.spnego_core.specs.Ends.{PlainSetup}
 use Rattle.context_table.specs.Places.{IsPast}
 use Rattle.spnego_core.proofs.Makings.{among_front}
 use Rattle.accept_core.specs.declared.entry.Entry.{Entry}
@@ -13,9 +13,9 @@ use Rattle.accept_book.specs.Booking.{BookOf}
 use Rattle.accept_core.specs.History.{entry_at}
 use Rattle.accept_book.specs.RecordShown.{Negotiate, Asked, AskedStep, AskedLook, AskedAdmit, AskedEnd}
 use Rattle.gss_client.specs.Session.{SessionState}
-use Rattle.world_laws.specs.declared.stage.Stage.{Stage}
-use Rattle.world_laws.specs.declared.stage.Stage.TheVariants as stages
 use Rattle.world_laws.specs.declared.event.WorldEvent.{WorldEvent}
+use Rattle.world_laws.specs.Stages.{StageSays}
+use Rattle.world_laws.specs.Stages as stages
 use Rattle.world_laws.specs.Deeds.{Deed, quiet}
 use Rattle.world_laws.specs.State.{InHand, Context, World, moved_to}
 use Rattle.world_laws.specs.Initiators.{Moved, calls}
@@ -29,8 +29,8 @@ use Rattle.history_laws.proofs.Histories.{Fronts, no-front, entry-stays}
 use Rattle.history_laws.proofs.Answering.{IsPastFor, answers-front, answers-setup}
 
 -- a session that stands or was left at this place, with this outcome
-pub record StandsAt (places : List Stage) (i : ℕ) (outcome : Outcome) : Type 0 where
-  pub stage : Stage
+pub record StandsAt (places : List StageSays) (i : ℕ) (outcome : Outcome) : Type 0 where
+  pub stage : StageSays
   pub stands : slice_get places i ≡ Some stage
   pub session : SessionState
   pub in_session : session_in stage ≡ Some session
@@ -61,24 +61,24 @@ same-grows w = record {
 -- ---- an initiator moves: one whose context stands has the same outcome afterwards
 
 -- where an initiator was before its context stood, none stands
-no-session : (places : List Stage) (i : ℕ) (outcome : Outcome) (stage : Stage) → slice_get places i ≡ Some stage → session_in stage ≡ None → StandsAt places i outcome → ⊥
+no-session : (places : List StageSays) (i : ℕ) (outcome : Outcome) (stage : StageSays) → slice_get places i ≡ Some stage → session_in stage ≡ None → StandsAt places i outcome → ⊥
 no-session places i outcome stage there e s =
     none-some s.session (sym e ∙ (ap session_in (same_Some stage s.stage (sym there ∙ s.stands)) ∙ s.in_session))
 
 -- this place is set to another stage
-stands-set : (places : List Stage) (i j : ℕ) (stage : Stage) (outcome : Outcome) → (i ≡ j → StandsAt places j outcome → StandsAt (slice_set places i stage) j outcome)
+stands-set : (places : List StageSays) (i j : ℕ) (stage : StageSays) (outcome : Outcome) → (i ≡ j → StandsAt places j outcome → StandsAt (slice_set places i stage) j outcome)
     → StandsAt places j outcome → StandsAt (slice_set places i stage) j outcome
 stands-set places i j stage outcome here s = elim (cases_eq i j) [
   | inl e ↦ here e s
   | inr ne ↦ record { stage = s.stage; stands = set-other places i j stage ne ∙ s.stands; session = s.session; in_session = s.in_session; outcome_is = s.outcome_is }
 ]
 
-stands-fresh : (places : List Stage) (i j : ℕ) (before stage : Stage) (outcome : Outcome) → slice_get places i ≡ Some before → session_in before ≡ None
+stands-fresh : (places : List StageSays) (i j : ℕ) (before stage : StageSays) (outcome : Outcome) → slice_get places i ≡ Some before → session_in before ≡ None
     → StandsAt places j outcome → StandsAt (slice_set places i stage) j outcome
 stands-fresh places i j before stage outcome there e = stands-set places i j stage outcome
     (λ q s. absurd (no-session places j outcome before (subst (λ (k : ℕ). slice_get places k ≡ Some before) q there) e s))
 
-stands-again : (places : List Stage) (i j : ℕ) (before stage : Stage) (session next : SessionState) (outcome : Outcome) → slice_get places i ≡ Some before → session_in before ≡ Some session
+stands-again : (places : List StageSays) (i j : ℕ) (before stage : StageSays) (session next : SessionState) (outcome : Outcome) → slice_get places i ≡ Some before → session_in before ≡ Some session
     → session_in stage ≡ Some next → next.outcome ≡ session.outcome → StandsAt places j outcome → StandsAt (slice_set places i stage) j outcome
 stands-again places i j before stage session next outcome there e f same = stands-set places i j stage outcome
     (λ q s. (let is_before : before ≡ s.stage = same_Some before s.stage (sym (subst (λ (k : ℕ). slice_get places k ≡ Some before) q there) ∙ s.stands) in
@@ -104,7 +104,7 @@ move-sessions w i moved (Calling session procedure args there left served proper
       stands-again w.stages i j (stages.Stands session) (calls session procedure args).lost session _ outcome there refl refl refl s,
     )
 
-moved-grows : (w : World) (i : ℕ) (stage : Stage) (makes : List MechMaking) → ((j : ℕ) (outcome : Outcome) → StandsAt w.stages j outcome → StandsAt (slice_set w.stages i stage) j outcome)
+moved-grows : (w : World) (i : ℕ) (stage : StageSays) (makes : List MechMaking) → ((j : ℕ) (outcome : Outcome) → StandsAt w.stages j outcome → StandsAt (slice_set w.stages i stage) j outcome)
     → Grows w (moved_to w i stage makes)
 moved-grows w i stage makes sessions = record {
   facts = refl;
@@ -199,11 +199,11 @@ was-made-grows old new making g (inr b) = inr (word-grows old new making g b)
 pub built-grows : (marking : Marking) (old new : World) (key : Key) → Grows old new → BuiltKey marking old.fixed key → BuiltKey marking new.fixed key
 built-grows marking old new key g b = record { context = b.context; listed = listed-grows old new b.context g b.listed; guarded = b.guarded; is_key = b.is_key }
 
-pub completed-stays : (old new : World) (i : ℕ) (own : InitSetup) (outcome : Outcome) → Grows old new → Completed old i own outcome → Completed new i own outcome
+pub completed-stays : (old new : World) (i : ℕ) (own : PlainSetup) (outcome : Outcome) → Grows old new → Completed old i own outcome → Completed new i own outcome
 completed-stays old new i own outcome g c =
     let s = g.sessions i outcome (record { stage = c.stage; stands = c.stands; session = c.session; in_session = c.in_session; outcome_is = c.outcome_is }) in
     record {
-      there = subst (λ (fs : List InitSetup). slice_get fs i ≡ Some own) (sym g.facts) c.there;
+      there = subst (λ (fs : List PlainSetup). slice_get fs i ≡ Some own) (sym g.facts) c.there;
       stage = s.stage;
       stands = s.stands;
       session = s.session;

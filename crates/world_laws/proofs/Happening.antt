@@ -1,13 +1,12 @@
 -- What an event came to: nothing, an initiator's move, or a lane's.
 use Rattle.std.proofs.Common.{◌≡◌, ℕ, ◌≤◌, Bool, true, false, nat_le, List, slice_get, Option, Some, None, refl}
-use Rattle.spnego_core.specs.declared.init_end.InitEnd.{InitEnd}
-use Rattle.spnego_core.specs.declared.setup.InitSetup.{InitSetup}
+use Rattle.spnego_core.specs.Ends.{PlainSetup, EndSays}
 use Rattle.accept_book.specs.Served.{are_args}
 use Rattle.gss_client.specs.Session.{SessionState}
-use Rattle.world_laws.specs.declared.stage.Stage.{Stage}
-use Rattle.world_laws.specs.declared.stage.Stage.TheVariants as stages
 use Rattle.world_laws.specs.declared.event.WorldEvent.{WorldEvent}
 use Rattle.world_laws.specs.declared.event.WorldEvent.TheVariants.{Start, Deliver, Lane, CallBy}
+use Rattle.world_laws.specs.Stages.{StageSays}
+use Rattle.world_laws.specs.Stages as stages
 use Rattle.world_laws.specs.Deeds.{Deed}
 use Rattle.world_laws.specs.State.{InHand, World}
 use Rattle.world_laws.specs.Initiators.{Moved, starts, takes, calls}
@@ -16,8 +15,8 @@ use Rattle.world_laws.specs.Events.{Idles, Moves, StartsBy, DeliversBy, CallsBy,
 
 -- an initiator's move, from where it is
 pub data Move (w : World) (i : ℕ) (moved : Moved) : Type 0 where
-  Starting : (own : InitSetup) → slice_get w.stages i ≡ Some (stages.Ready own) → moved ≡ starts own → Move w i moved
-  Taking : (first xid : ℕ) (end : InitEnd) (octets : List ℕ) → slice_get w.stages i ≡ Some (stages.Asks xid end) → moved ≡ takes first xid end octets → Move w i moved
+  Starting : (own : PlainSetup) → slice_get w.stages i ≡ Some (stages.Ready own) → moved ≡ starts own → Move w i moved
+  Taking : (first xid : ℕ) (end : EndSays) (octets : List ℕ) → slice_get w.stages i ≡ Some (stages.Asks xid end) → moved ≡ takes first xid end octets → Move w i moved
   Calling : (s : SessionState) (procedure : ℕ) (args : List ℕ) → slice_get w.stages i ≡ Some (stages.Stands s) → nat_le s.number 0x7fffffff ≡ true → procedure ≤ 4 → are_args procedure args ≡ true
       → moved ≡ calls s procedure args → Move w i moved
 
@@ -26,7 +25,7 @@ pub data Came (old : World) (deed : Deed) (new : World) : Type 0 where
   Moving : (i : ℕ) (moved : Moved) → Move old i moved → Moves old i moved deed new → Came old deed new
   Laning : (lane : ℕ) (hand : Option InHand) (octets : List ℕ) (now : ℕ) (draws : List ℕ) → slice_get old.lanes lane ≡ Some hand → LaneMoves old lane (in_hand hand octets now draws) deed new → Came old deed new
 
-started : (old : World) (i : ℕ) (stage : Option Stage) (deed : Deed) (new : World) → slice_get old.stages i ≡ stage → StartsBy old i stage deed new → Came old deed new
+started : (old : World) (i : ℕ) (stage : Option StageSays) (deed : Deed) (new : World) → slice_get old.stages i ≡ stage → StartsBy old i stage deed new → Came old deed new
 started old i None deed new there did = Idling did
 started old i (Some (stages.Ready own)) deed new there did = Moving i (starts own) (Starting own there refl) did
 started old i (Some (stages.Asks xid end)) deed new there did = Idling did
@@ -34,7 +33,7 @@ started old i (Some (stages.Stands s)) deed new there did = Idling did
 started old i (Some (stages.Left s)) deed new there did = Idling did
 started old i (Some stages.Over) deed new there did = Idling did
 
-delivered : (old : World) (i : ℕ) (octets : List ℕ) (first : ℕ) (stage : Option Stage) (deed : Deed) (new : World) → slice_get old.stages i ≡ stage → DeliversBy old i octets first stage deed new → Came old deed new
+delivered : (old : World) (i : ℕ) (octets : List ℕ) (first : ℕ) (stage : Option StageSays) (deed : Deed) (new : World) → slice_get old.stages i ≡ stage → DeliversBy old i octets first stage deed new → Came old deed new
 delivered old i octets first None deed new there did = Idling did
 delivered old i octets first (Some (stages.Ready own)) deed new there did = Idling did
 delivered old i octets first (Some (stages.Asks xid end)) deed new there did = Moving i (takes first xid end octets) (Taking first xid end octets there refl) did
@@ -47,7 +46,7 @@ numbered : (old : World) (i : ℕ) (s : SessionState) (procedure : ℕ) (args : 
 numbered old i s procedure args deed new true there served proper left did = Moving i (calls s procedure args) (Calling s procedure args there left served proper refl) (rw left at did)
 numbered old i s procedure args deed new false there served proper left did = Idling (rw left at did)
 
-called : (old : World) (i procedure : ℕ) (args : List ℕ) (stage : Option Stage) (deed : Deed) (new : World) → slice_get old.stages i ≡ stage → procedure ≤ 4 → are_args procedure args ≡ true
+called : (old : World) (i procedure : ℕ) (args : List ℕ) (stage : Option StageSays) (deed : Deed) (new : World) → slice_get old.stages i ≡ stage → procedure ≤ 4 → are_args procedure args ≡ true
     → CallsBy old i procedure args stage deed new → Came old deed new
 called old i procedure args None deed new there served proper did = Idling did
 called old i procedure args (Some (stages.Ready own)) deed new there served proper did = Idling did

@@ -24,8 +24,8 @@ use Rattle.accept_book.specs.BookAnswers.{BookStepped}
 use Rattle.gss_server.specs.Asking.{BookAnswers}
 use Rattle.world_laws.specs.declared.event.WorldEvent.{WorldEvent}
 use Rattle.world_laws.specs.declared.event.WorldEvent.TheVariants.{Start, Deliver, Lane, CallBy}
-use Rattle.world_laws.specs.declared.stage.Stage.{Stage}
-use Rattle.world_laws.specs.declared.stage.Stage.TheVariants as stages
+use Rattle.world_laws.specs.Stages.{StageSays}
+use Rattle.world_laws.specs.Stages as stages
 use Rattle.world_laws.specs.Deeds.{Deed, quiet}
 use Rattle.world_laws.specs.State.{InHand, Context, World, moved_to}
 use Rattle.world_laws.specs.Initiators.{Moved, calls}
@@ -148,7 +148,7 @@ moved-held old i moved deed new held (inl did) =
 moved-held old i moved deed new held (inr lost) =
     subst Held (sym lost.1) (held-from (moved_to old i moved.lost []) held.book held.good (facts-of old held) (leases-of old held))
 
-start-held : (old : World) (i : ℕ) (stage : Option Stage) (deed : Deed) (new : World) → Held old → StartsBy old i stage deed new → Held new
+start-held : (old : World) (i : ℕ) (stage : Option StageSays) (deed : Deed) (new : World) → Held old → StartsBy old i stage deed new → Held new
 start-held old i None deed new held did = idles-held old deed new held did
 start-held old i (Some (stages.Ready own)) deed new held did = moved-held old i _ deed new held did
 start-held old i (Some (stages.Asks xid end)) deed new held did = idles-held old deed new held did
@@ -156,7 +156,7 @@ start-held old i (Some (stages.Stands s)) deed new held did = idles-held old dee
 start-held old i (Some (stages.Left s)) deed new held did = idles-held old deed new held did
 start-held old i (Some stages.Over) deed new held did = idles-held old deed new held did
 
-deliver-held : (old : World) (i : ℕ) (octets : List ℕ) (first : ℕ) (stage : Option Stage) (deed : Deed) (new : World) → Held old → DeliversBy old i octets first stage deed new → Held new
+deliver-held : (old : World) (i : ℕ) (octets : List ℕ) (first : ℕ) (stage : Option StageSays) (deed : Deed) (new : World) → Held old → DeliversBy old i octets first stage deed new → Held new
 deliver-held old i octets first None deed new held did = idles-held old deed new held did
 deliver-held old i octets first (Some (stages.Ready own)) deed new held did = idles-held old deed new held did
 deliver-held old i octets first (Some (stages.Asks xid end)) deed new held did = moved-held old i _ deed new held did
@@ -168,7 +168,7 @@ with-held : (left : Bool) (old : World) (i : ℕ) (s : SessionState) (procedure 
 with-held true old i s procedure args deed new held did = moved-held old i (calls s procedure args) deed new held did
 with-held false old i s procedure args deed new held did = idles-held old deed new held did
 
-call-held : (old : World) (i procedure : ℕ) (args : List ℕ) (stage : Option Stage) (deed : Deed) (new : World) → Held old → CallsBy old i procedure args stage deed new → Held new
+call-held : (old : World) (i procedure : ℕ) (args : List ℕ) (stage : Option StageSays) (deed : Deed) (new : World) → Held old → CallsBy old i procedure args stage deed new → Held new
 call-held old i procedure args None deed new held did = idles-held old deed new held did
 call-held old i procedure args (Some (stages.Ready own)) deed new held did = idles-held old deed new held did
 call-held old i procedure args (Some (stages.Asks xid end)) deed new held did = idles-held old deed new held did

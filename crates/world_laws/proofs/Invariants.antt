@@ -18,9 +18,7 @@ use Rattle.ap_exchange.specs.Request.{request_making}
 use Rattle.scram_mech.specs.Acceptor.{AcceptModel, AcceptFinished, accept_finished}
 use Rattle.scram_mech.specs.Initiator.{InitModel, WaitModel, InitAnswered, InitFinished, init_answered, init_finished}
 use Rattle.scram_mech.specs.MechMaking.{MechMaking, AmongMakings, typed}
-use Rattle.spnego_core.specs.declared.init_end.InitEnd.{InitEnd}
 use Rattle.spnego_core.specs.declared.outcome.Outcome.{Outcome}
-use Rattle.spnego_core.specs.declared.setup.InitSetup.{InitSetup}
 use Rattle.spnego_core.specs.declared.setup.MechCred.TheVariants as creds
 use Rattle.spnego_core.specs.AcceptLaws.{IsOfLine}
 use Rattle.spnego_core.specs.AcceptMech.{ByRequest, ByProof}
@@ -40,9 +38,10 @@ use Rattle.accept_book.specs.RecordShown.{end_of}
 use Rattle.accept_book.specs.Served.{are_args, result_of}
 use Rattle.accept_core.specs.Stepping.{Context as Slot, context_of}
 use Rattle.spnego_core.specs.declared.accept_end.AcceptEnd.{AcceptEnd}
+use Rattle.spnego_core.specs.Ends.{PlainSetup, EndSays}
 use Rattle.gss_client.specs.Session.{SessionState}
-use Rattle.world_laws.specs.declared.stage.Stage.{Stage}
-use Rattle.world_laws.specs.declared.stage.Stage.TheVariants as stages
+use Rattle.world_laws.specs.Stages.{StageSays}
+use Rattle.world_laws.specs.Stages as stages
 pub use Rattle.world_laws.specs.Agreement.{FixedAs, WasOpened, HasAuthEntry}
 pub use Rattle.world_laws.specs.Below.{Below}
 use Rattle.world_laws.specs.State.{InHand, Context, World}
@@ -55,10 +54,10 @@ use Rattle.world_laws.specs.Premises.{Marking, GuardedSession, GuardedSecret, On
 
 -- each end is good, and of the facts at its place
 pub record Known (w : World) : Type 0 where
-  pub sized : (i : ℕ) (own : InitSetup) → slice_get w.facts i ≡ Some own → is_own_list own.list ≡ true
-  pub ready : (i : ℕ) (own : InitSetup) → slice_get w.stages i ≡ Some (stages.Ready own) → slice_get w.facts i ≡ Some own
-  pub asks : (i xid : ℕ) (end : InitEnd) → slice_get w.stages i ≡ Some (stages.Asks xid end) → (slice_get w.facts i ≡ Some (own_of end)) × GoodInit end
-  pub placed : (i : ℕ) (stage : Stage) → slice_get w.stages i ≡ Some stage → (own : InitSetup) × (slice_get w.facts i ≡ Some own)
+  pub sized : (i : ℕ) (own : PlainSetup) → slice_get w.facts i ≡ Some own → is_own_list own.list ≡ true
+  pub ready : (i : ℕ) (own : PlainSetup) → slice_get w.stages i ≡ Some (stages.Ready own) → slice_get w.facts i ≡ Some own
+  pub asks : (i xid : ℕ) (end : EndSays) → slice_get w.stages i ≡ Some (stages.Asks xid end) → (slice_get w.facts i ≡ Some (own_of end)) × GoodInit end
+  pub placed : (i : ℕ) (stage : StageSays) → slice_get w.stages i ≡ Some stage → (own : PlainSetup) × (slice_get w.facts i ≡ Some own)
 
 -- ---- contexts
 
@@ -84,12 +83,12 @@ pub record Held (w : World) : Type 0 where
 
 -- ---- who handed out what
 
-pub record MadeRequest (own : InitSetup) (making : MechMaking) : Type 0 where
+pub record MadeRequest (own : PlainSetup) (making : MechMaking) : Type 0 where
   pub credential : Granted
   pub is_own : cred_for own.list kinds.Kerberos ≡ Some (creds.Kerberos credential)
   pub made : making ≡ typed (request_making credential own.stamp own.draws own.bindings)
 
-pub record MadeProof (own : InitSetup) (making : MechMaking) : Type 0 where
+pub record MadeProof (own : PlainSetup) (making : MechMaking) : Type 0 where
   pub end : InitModel
   pub first : IsFirstText own end
   pub text : List ℕ
@@ -98,11 +97,11 @@ pub record MadeProof (own : InitSetup) (making : MechMaking) : Type 0 where
   pub made : AmongMakings answered.makes making
 
 -- the MIC over the own list
-pub record MadeListMic (own : InitSetup) (making : MechMaking) : Type 0 where
+pub record MadeListMic (own : PlainSetup) (making : MechMaking) : Type 0 where
   pub outcome : Outcome
   pub made : making ≡ mic_making outcome Initiator (own_list own)
 
-pub record MadeCall (w : World) (i : ℕ) (own : InitSetup) (making : MechMaking) : Type 0 where
+pub record MadeCall (w : World) (i : ℕ) (own : PlainSetup) (making : MechMaking) : Type 0 where
   pub session : SessionState
   pub completed : Completed w i own session.outcome
   pub procedure : ℕ
@@ -111,12 +110,12 @@ pub record MadeCall (w : World) (i : ℕ) (own : InitSetup) (making : MechMaking
   pub proper : are_args procedure args ≡ true
   pub made : AmongMakings (map typed (call_makings session procedure args)) making
 
-abbrev pub InitMade : World → ℕ → InitSetup → MechMaking → Type 0
+abbrev pub InitMade : World → ℕ → PlainSetup → MechMaking → Type 0
 InitMade w i own making = MadeRequest own making ⊎ (MadeProof own making ⊎ (MadeListMic own making ⊎ MadeCall w i own making))
 
 pub record ByInitiator (w : World) (making : MechMaking) : Type 0 where
   pub i : ℕ
-  pub own : InitSetup
+  pub own : PlainSetup
   pub there : slice_get w.facts i ≡ Some own
   pub made : InitMade w i own making
 
@@ -186,7 +185,7 @@ pub record ScramFixed (marking : Marking) (w : World) (x : Context) (end : Accep
   pub handed_out : GuardedSecret marking end.line.stored → (making : MechMaking) → AmongMakings finished.found making → WasMade w making
 
 -- an initiator whose mechanism is done, by a reply or by a signature; where the key is guarded, that was handed out
-pub record KrbDone (marking : Marking) (w : World) (own : InitSetup) (outcome : Outcome) : Type 0 where
+pub record KrbDone (marking : Marking) (w : World) (own : PlainSetup) (outcome : Outcome) : Type 0 where
   pub end : ApInit
   pub waits : IsWaiting own end
   pub token : List ℕ
@@ -195,7 +194,7 @@ pub record KrbDone (marking : Marking) (w : World) (own : InitSetup) (outcome : 
   pub outcome_is : outcome ≡ outcome_of kinds.Kerberos done
   pub handed_out : GuardedSession marking end.session → (making : MechMaking) → AmongMakings (map typed (reply_found end token)) making → WasMade w making
 
-pub record ScramDone (marking : Marking) (w : World) (own : InitSetup) (outcome : Outcome) : Type 0 where
+pub record ScramDone (marking : Marking) (w : World) (own : PlainSetup) (outcome : Outcome) : Type 0 where
   pub end : WaitModel
   pub proved : IsProved own end
   pub token : List ℕ
@@ -204,11 +203,11 @@ pub record ScramDone (marking : Marking) (w : World) (own : InitSetup) (outcome 
   pub outcome_is : outcome ≡ outcome_of kinds.Scram finished.done
   pub handed_out : GuardedSecret marking end.server → (making : MechMaking) → AmongMakings finished.found making → WasMade w making
 
-abbrev pub MechFinished : Marking → World → InitSetup → Outcome → Type 0
+abbrev pub MechFinished : Marking → World → PlainSetup → Outcome → Type 0
 MechFinished marking w own outcome = KrbDone marking w own outcome ⊎ ScramDone marking w own outcome
 
 -- the acceptor's MIC over the own list was verified; where the initiator is on a guarded key, it was handed out
-pub record SawList (marking : Marking) (w : World) (own : InitSetup) (outcome : Outcome) : Type 0 where
+pub record SawList (marking : Marking) (w : World) (own : PlainSetup) (outcome : Outcome) : Type 0 where
   pub mic : List ℕ
   pub right : is_list_mic outcome Initiator (own_list own) mic ≡ true
   pub handed_out : OnGuarded marking own outcome.mech → WasMade w (mic_found outcome Initiator (own_list own) mic)
@@ -216,37 +215,37 @@ pub record SawList (marking : Marking) (w : World) (own : InitSetup) (outcome : 
 pub record Found (marking : Marking) (w : World) : Type 0 where
   pub requests : (place : ℕ) (x : Context) (request : Judged) → slice_get w.fixed place ≡ Some x → x.fixed.basis ≡ ByRequest request → KrbFixed marking w x request
   pub proofs : (place : ℕ) (x : Context) (end : AcceptModel) (text : List ℕ) → slice_get w.fixed place ≡ Some x → x.fixed.basis ≡ ByProof end text → ScramFixed marking w x end text
-  pub signed : (i xid : ℕ) (end : InitEnd) (outcome : Outcome) → slice_get w.stages i ≡ Some (stages.Asks xid end) → finished_of end ≡ Some outcome → MechFinished marking w (own_of end) outcome
-  pub completed : (i : ℕ) (own : InitSetup) (outcome : Outcome) → Completed w i own outcome → MechFinished marking w own outcome
+  pub signed : (i xid : ℕ) (end : EndSays) (outcome : Outcome) → slice_get w.stages i ≡ Some (stages.Asks xid end) → finished_of end ≡ Some outcome → MechFinished marking w (own_of end) outcome
+  pub completed : (i : ℕ) (own : PlainSetup) (outcome : Outcome) → Completed w i own outcome → MechFinished marking w own outcome
   -- the acceptor's MIC over the own list
-  pub signed_list : (i xid : ℕ) (end : InitEnd) (outcome : Outcome) → slice_get w.stages i ≡ Some (stages.Asks xid end) → finished_of end ≡ Some outcome → listed_of end ≡ true → SawList marking w (own_of end) outcome
-  pub covered : (i : ℕ) (own : InitSetup) (outcome : Outcome) → Completed w i own outcome → Covered own outcome.mech false ⊎ SawList marking w own outcome
+  pub signed_list : (i xid : ℕ) (end : EndSays) (outcome : Outcome) → slice_get w.stages i ≡ Some (stages.Asks xid end) → finished_of end ≡ Some outcome → listed_of end ≡ true → SawList marking w (own_of end) outcome
+  pub covered : (i : ℕ) (own : PlainSetup) (outcome : Outcome) → Completed w i own outcome → Covered own outcome.mech false ⊎ SawList marking w own outcome
 
 -- ---- an initiator hands out one proof, and only by the mechanism that was chosen
 
 -- what is used of freshness on the way: the facts of initiators stay as they are
 pub record FreshFacts (w : World) : Type 0 where
-  pub stamps : (i j : ℕ) (own other : InitSetup) (c d : Granted) → HasTicket w i own c → HasTicket w j other d → c.session ≡ d.session → own.stamp ≡ other.stamp → i ≡ j
-  pub nonces : (i j : ℕ) (own other : InitSetup) (a p b q : List ℕ) → HasAccount w i own a p → HasAccount w j other b q → drawn_nonce own.draws ≡ drawn_nonce other.draws → i ≡ j
+  pub stamps : (i j : ℕ) (own other : PlainSetup) (c d : Granted) → HasTicket w i own c → HasTicket w j other d → c.session ≡ d.session → own.stamp ≡ other.stamp → i ≡ j
+  pub nonces : (i j : ℕ) (own other : PlainSetup) (a p b q : List ℕ) → HasAccount w i own a p → HasAccount w j other b q → drawn_nonce own.draws ≡ drawn_nonce other.draws → i ≡ j
 
 -- the own first mechanism is Kerberos, or it was chosen
-abbrev pub MayAsk : InitSetup → Option MechKind → Type 0
+abbrev pub MayAsk : PlainSetup → Option MechKind → Type 0
 MayAsk own chosen = (is_first (kinds_of own.list) kinds.Kerberos ≡ true) ⊎ (chosen ≡ Some kinds.Kerberos)
 
 pub record Once (w : World) : Type 0 where
-  pub proofs : (i : ℕ) (own : InitSetup) (making other : MechMaking) → slice_get w.facts i ≡ Some own → AmongMakings w.makings making → AmongMakings w.makings other
+  pub proofs : (i : ℕ) (own : PlainSetup) (making other : MechMaking) → slice_get w.facts i ≡ Some own → AmongMakings w.makings making → AmongMakings w.makings other
       → MadeProof own making → MadeProof own other → making ≡ other
   -- an initiator that wasn't started has handed nothing out
-  pub unproved : (i : ℕ) (own : InitSetup) (making : MechMaking) → slice_get w.stages i ≡ Some (stages.Ready own) → AmongMakings w.makings making → MadeProof own making → ⊥
-  pub unasked : (i : ℕ) (own : InitSetup) (making : MechMaking) → slice_get w.stages i ≡ Some (stages.Ready own) → AmongMakings w.makings making → MadeRequest own making → ⊥
+  pub unproved : (i : ℕ) (own : PlainSetup) (making : MechMaking) → slice_get w.stages i ≡ Some (stages.Ready own) → AmongMakings w.makings making → MadeProof own making → ⊥
+  pub unasked : (i : ℕ) (own : PlainSetup) (making : MechMaking) → slice_get w.stages i ≡ Some (stages.Ready own) → AmongMakings w.makings making → MadeRequest own making → ⊥
   -- one whose proof is out hands out no other, and has chosen SCRAM
-  pub proved : (i xid : ℕ) (end : InitEnd) (making : MechMaking) → slice_get w.stages i ≡ Some (stages.Asks xid end) → AmongMakings w.makings making → MadeProof (own_of end) making
+  pub proved : (i xid : ℕ) (end : EndSays) (making : MechMaking) → slice_get w.stages i ≡ Some (stages.Asks xid end) → AmongMakings w.makings making → MadeProof (own_of end) making
       → (answers_next end ≡ None) × (chosen_of end ≡ Some kinds.Scram)
-  pub done_proved : (i : ℕ) (own : InitSetup) (outcome : Outcome) (making : MechMaking) → Completed w i own outcome → AmongMakings w.makings making → MadeProof own making → outcome.mech ≡ kinds.Scram
+  pub done_proved : (i : ℕ) (own : PlainSetup) (outcome : Outcome) (making : MechMaking) → Completed w i own outcome → AmongMakings w.makings making → MadeProof own making → outcome.mech ≡ kinds.Scram
   -- one whose request is out has Kerberos first, or has chosen it
-  pub asked : (i xid : ℕ) (end : InitEnd) (making : MechMaking) → slice_get w.stages i ≡ Some (stages.Asks xid end) → AmongMakings w.makings making → MadeRequest (own_of end) making
+  pub asked : (i xid : ℕ) (end : EndSays) (making : MechMaking) → slice_get w.stages i ≡ Some (stages.Asks xid end) → AmongMakings w.makings making → MadeRequest (own_of end) making
       → MayAsk (own_of end) (chosen_of end)
-  pub done_asked : (i : ℕ) (own : InitSetup) (outcome : Outcome) (making : MechMaking) → Completed w i own outcome → AmongMakings w.makings making → MadeRequest own making
+  pub done_asked : (i : ℕ) (own : PlainSetup) (outcome : Outcome) (making : MechMaking) → Completed w i own outcome → AmongMakings w.makings making → MadeRequest own making
       → MayAsk own (Some outcome.mech)
 
 -- ---- all of it

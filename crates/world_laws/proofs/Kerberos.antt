@@ -20,8 +20,8 @@ use Rattle.scram_mech.specs.Acceptor.{AcceptModel}
 use Rattle.scram_mech.specs.Laws.{Laws as ScramLaws}
 use Rattle.scram_mech.specs.MechMaking.{OfType, MechMaking, AmongMakings, typed}
 use Rattle.spnego_core.specs.declared.outcome.Outcome.{Outcome}
-use Rattle.spnego_core.specs.declared.setup.InitSetup.{InitSetup}
 use Rattle.spnego_core.specs.declared.setup.MechCred.TheVariants as creds
+use Rattle.spnego_core.specs.Ends.{PlainSetup}
 use Rattle.spnego_core.specs.AcceptMech.{Basis, ByRequest, ByProof}
 use Rattle.spnego_core.specs.InitMech.{cred_for}
 use Rattle.spnego_core.specs.Outcome.{outcome_of}
@@ -39,10 +39,10 @@ use Rattle.world_laws.proofs.Spelled.{Heard, Answered, heard, answered}
 
 -- ---- small facts
 
-pub same-cred : (own : InitSetup) (c d : Granted) → cred_for own.list kinds.Kerberos ≡ Some (creds.Kerberos c) → cred_for own.list kinds.Kerberos ≡ Some (creds.Kerberos d) → c ≡ d
+pub same-cred : (own : PlainSetup) (c d : Granted) → cred_for own.list kinds.Kerberos ≡ Some (creds.Kerberos c) → cred_for own.list kinds.Kerberos ≡ Some (creds.Kerberos d) → c ≡ d
 same-cred own c d e f = cc
 
-pub same-own : (w : World) (i : ℕ) (a b : InitSetup) → slice_get w.facts i ≡ Some a → slice_get w.facts i ≡ Some b → a ≡ b
+pub same-own : (w : World) (i : ℕ) (a b : PlainSetup) → slice_get w.facts i ≡ Some a → slice_get w.facts i ≡ Some b → a ≡ b
 same-own w i a b e f = cc
 
 pub same-context : (w : World) (i : ℕ) (x y : Context) → slice_get w.fixed i ≡ Some x → slice_get w.fixed i ≡ Some y → x ≡ y
@@ -64,7 +64,7 @@ auth-id a b m s t h p q same e f = let g : entry_at p h ≡ Some (Auth b m t) = 
 
 pub record Asked (w : World) (request : Judged) : Type 0 where
   pub i : ℕ
-  pub own : InitSetup
+  pub own : PlainSetup
   pub credential : Granted
   pub has : HasTicket w i own credential
   pub session : request.session ≡ credential.session
@@ -114,7 +114,7 @@ asked scram marking w proper fresh owning x request f guarded =
 -- ---- the context whose answer an initiator took
 
 -- it is on a request with the initiator's session key and stamp, and has the initiator's outcome
-pub record Answers (w : World) (own : InitSetup) (credential : Granted) (outcome : Outcome) : Type 0 where
+pub record Answers (w : World) (own : PlainSetup) (credential : Granted) (outcome : Outcome) : Type 0 where
   pub place : ℕ
   pub context : Context
   pub there : slice_get w.fixed place ≡ Some context
@@ -128,7 +128,7 @@ among-found : (end : ApInit) (token : List ℕ) (m : Making) → reply_found end
 among-found end token m e = subst (λ (ms : List Making). AmongMakings (map typed ms) (typed m)) (sym e) (inl refl)
 
 -- two outcomes with the same fields
-same-outcome : (credential : Granted) (own : InitSetup) (request : Judged) (draws : List ℕ) (subkey : Option Key) → subkey ≡ Some (acceptor_subkey request draws)
+same-outcome : (credential : Granted) (own : PlainSetup) (request : Judged) (draws : List ℕ) (subkey : Option Key) → subkey ≡ Some (acceptor_subkey request draws)
     → request.initiator ≡ label_of credential.client → request.acceptor ≡ label_of credential.server → request.hash ≡ hash_of own.bindings
     → outcome_of kinds.Kerberos (reply_done (waiting credential own.stamp own.draws own.bindings) subkey) ≡ outcome_of kinds.Kerberos (answer_done request draws)
 same-outcome credential own request draws subkey s i a h = rw (s, i, a, h) refl
@@ -137,15 +137,15 @@ same-outcome credential own request draws subkey s i a h = rw (s, i, a, h) refl
 answer-says : (end : ApInit) (token : List ℕ) (done : MechDone) (t : TakesBy end token done) (request : Judged) (draws : List ℕ) → request.stamp < 253402300800 * 1000000 → t.octets ≡ reply_octets request draws → Answered request draws end.stamp t.subkey
 answer-says end token done t request draws small same = answered request draws t.octets t.said end.stamp t.subkey small same t.says t.stamp t.subkey_is
 
-abbrev Waits : InitSetup → Granted → ApInit → Type 0
+abbrev Waits : PlainSetup → Granted → ApInit → Type 0
 Waits own credential end = end ≡ waiting credential own.stamp own.draws own.bindings
 
-finished-by : (w : World) (i : ℕ) (own : InitSetup) (credential : Granted) (end : ApInit) (token : List ℕ) (done : MechDone) (outcome : Outcome) (x : Context) (place : ℕ) (request : Judged) (draws : List ℕ)
+finished-by : (w : World) (i : ℕ) (own : PlainSetup) (credential : Granted) (end : ApInit) (token : List ℕ) (done : MechDone) (outcome : Outcome) (x : Context) (place : ℕ) (request : Judged) (draws : List ℕ)
     → Waits own credential end → (t : TakesBy end token done) → outcome ≡ outcome_of kinds.Kerberos done → slice_get w.fixed place ≡ Some x → x.fixed.basis ≡ ByRequest request
     → x.fixed.outcome ≡ outcome_of kinds.Kerberos (answer_done request draws) → end.session ≡ request.session → (a : Asked w request) → Answered request draws end.stamp t.subkey
     → a.own ≡ own → a.credential ≡ credential → Answers w own credential outcome
 finished-by w i own credential end token done outcome x place request draws waits t is there basis fixed session a said same cred =
-    let hash : request.hash ≡ hash_of own.bindings = a.hash ∙ ap (λ (o : InitSetup). hash_of o.bindings) same in
+    let hash : request.hash ≡ hash_of own.bindings = a.hash ∙ ap (λ (o : PlainSetup). hash_of o.bindings) same in
     let initiator : request.initiator ≡ label_of credential.client = a.initiator ∙ ap (λ (c : Granted). label_of c.client) cred in
     let acceptor : request.acceptor ≡ label_of credential.server = a.acceptor ∙ ap (λ (c : Granted). label_of c.server) cred in
     let left : outcome ≡ outcome_of kinds.Kerberos (reply_done (waiting credential own.stamp own.draws own.bindings) t.subkey) =
@@ -162,17 +162,17 @@ finished-by w i own credential end token done outcome x place request draws wait
     }
 
 -- the initiator of the request is this one
-asker : (marking : Marking) (w : World) → Fresh marking w → (i : ℕ) (own : InitSetup) (credential : Granted) → HasTicket w i own credential → (request : Judged) (a : Asked w request) → request.session ≡ credential.session → request.stamp ≡ own.stamp
+asker : (marking : Marking) (w : World) → Fresh marking w → (i : ℕ) (own : PlainSetup) (credential : Granted) → HasTicket w i own credential → (request : Judged) (a : Asked w request) → request.session ≡ credential.session → request.stamp ≡ own.stamp
     → a.i ≡ i
 asker marking w fresh i own credential has request a session stamp = fresh.stamps a.i i a.own own a.credential credential a.has has (sym a.session ∙ session) (sym a.stamp ∙ stamp)
 
-asker-own : (w : World) (i : ℕ) (own : InitSetup) → slice_get w.facts i ≡ Some own → (request : Judged) (a : Asked w request) → a.i ≡ i → a.own ≡ own
+asker-own : (w : World) (i : ℕ) (own : PlainSetup) → slice_get w.facts i ≡ Some own → (request : Judged) (a : Asked w request) → a.i ≡ i → a.own ≡ own
 asker-own w i own there request a same = same-own w i a.own own (subst (λ (k : ℕ). slice_get w.facts k ≡ Some a.own) same a.has.there) there
 
-asker-cred : (w : World) (own : InitSetup) (credential : Granted) → cred_for own.list kinds.Kerberos ≡ Some (creds.Kerberos credential) → (request : Judged) (a : Asked w request) → a.own ≡ own → a.credential ≡ credential
-asker-cred w own credential is request a same = same-cred own a.credential credential (subst (λ (o : InitSetup). cred_for o.list kinds.Kerberos ≡ Some (creds.Kerberos a.credential)) same a.has.is_own) is
+asker-cred : (w : World) (own : PlainSetup) (credential : Granted) → cred_for own.list kinds.Kerberos ≡ Some (creds.Kerberos credential) → (request : Judged) (a : Asked w request) → a.own ≡ own → a.credential ≡ credential
+asker-cred w own credential is request a same = same-cred own a.credential credential (subst (λ (o : PlainSetup). cred_for o.list kinds.Kerberos ≡ Some (creds.Kerberos a.credential)) same a.has.is_own) is
 
-answers-by : (marking : Marking) (w : World) → Fresh marking w → (i : ℕ) (own : InitSetup) (credential : Granted) → HasTicket w i own credential → (end : ApInit) (token : List ℕ) (done : MechDone) (outcome : Outcome) → Waits own credential end
+answers-by : (marking : Marking) (w : World) → Fresh marking w → (i : ℕ) (own : PlainSetup) (credential : Granted) → HasTicket w i own credential → (end : ApInit) (token : List ℕ) (done : MechDone) (outcome : Outcome) → Waits own credential end
     → (t : TakesBy end token done) → outcome ≡ outcome_of kinds.Kerberos done → (place : ℕ) (x : Context) → slice_get w.fixed place ≡ Some x
     → (made : MadeAnswer x (typed (sealed_making end.session reply_usage t.octets))) → Asked w made.request → Answers w own credential outcome
 answers-by marking w fresh i own credential has end token done outcome waits t is place x there made a =
@@ -184,7 +184,7 @@ answers-by marking w fresh i own credential has end token done outcome waits t i
     finished-by w i own credential end token done outcome x place made.request made.draws waits t is there made.basis made.outcome_is session a said same (asker-cred w own credential has.is_own made.request a same)
 
 -- from an initiator whose mechanism is done by Kerberos, on a marked ticket
-pub krb-answers : (exchange : ExchangeLaws) (scram : ScramLaws) (marking : Marking) (w : World) → Proper w → Fresh marking w → Owning w → Found marking w → (i : ℕ) (own : InitSetup) (outcome : Outcome) → slice_get w.facts i ≡ Some own
+pub krb-answers : (exchange : ExchangeLaws) (scram : ScramLaws) (marking : Marking) (w : World) → Proper w → Fresh marking w → Owning w → Found marking w → (i : ℕ) (own : PlainSetup) (outcome : Outcome) → slice_get w.facts i ≡ Some own
     → (d : KrbDone marking w own outcome) → (on : OnTicket marking own) → Answers w own on.credential outcome
 krb-answers exchange scram marking w proper fresh owning found i own outcome there d on = from (exchange.takes d.end d.token d.done d.takes)
   where
@@ -207,7 +207,7 @@ krb-answers exchange scram marking w proper fresh owning found i own outcome the
     from t = by t (from-answer scram w _ owning (d.handed_out guarded (typed (sealed_making d.end.session reply_usage t.octets)) (among-found d.end d.token _ t.finds)) refl)
 
 -- the key is one of a context that is built on a guarded key
-pub krb-built : (marking : Marking) (w : World) (own : InitSetup) (outcome : Outcome) (on : OnTicket marking own) → Answers w own on.credential outcome → BuiltKey marking w.fixed outcome.key
+pub krb-built : (marking : Marking) (w : World) (own : PlainSetup) (outcome : Outcome) (on : OnTicket marking own) → Answers w own on.credential outcome → BuiltKey marking w.fixed outcome.key
 krb-built marking w own outcome on a = record {
   context = a.context;
   listed = record { place = a.place; there = a.there };
@@ -217,7 +217,7 @@ krb-built marking w own outcome on a = record {
 
 -- ---- a partner
 
-pub krb-partner : (w : World) (own : InitSetup) (credential : Granted) (outcome : Outcome) → cred_for own.list kinds.Kerberos ≡ Some (creds.Kerberos credential) → Answers w own credential outcome → HasPartner w own outcome
+pub krb-partner : (w : World) (own : PlainSetup) (credential : Granted) (outcome : Outcome) → cred_for own.list kinds.Kerberos ≡ Some (creds.Kerberos credential) → Answers w own credential outcome → HasPartner w own outcome
 krb-partner w own credential outcome is a = record {
   place = a.place;
   context = a.context;
@@ -239,7 +239,7 @@ one-request w held i j x y a b e f on other same =
     held.ids i j x y e f (auth-id x.id y.id (judged_mark b) p.at q.at w.book.core.history p.place q.place places first q.entry)
 
 -- the mark of a request that an initiator's context took
-pub asked-mark : (marking : Marking) (w : World) → Fresh marking w → (i : ℕ) (own : InitSetup) (credential : Granted) → HasTicket w i own credential → (request : Judged) → Asked w request → request.session ≡ credential.session → request.stamp ≡ own.stamp
+pub asked-mark : (marking : Marking) (w : World) → Fresh marking w → (i : ℕ) (own : PlainSetup) (credential : Granted) → HasTicket w i own credential → (request : Judged) → Asked w request → request.session ≡ credential.session → request.stamp ≡ own.stamp
     → judged_mark request ≡ mark_for (label_of credential.server) (label_of credential.client) own.stamp
 asked-mark marking w fresh i own credential has request a session stamp =
     let k : a.i ≡ i = asker marking w fresh i own credential has request a session stamp in

@@ -11,7 +11,7 @@ use Rattle.ap_exchange.specs.Request.{label_of}
 use Rattle.scram_mech.specs.Acceptor.{AcceptModel}
 use Rattle.scram_mech.specs.MechMaking.{AmongMakings}
 use Rattle.spnego_core.specs.declared.outcome.Outcome.{Outcome}
-use Rattle.spnego_core.specs.declared.setup.InitSetup.{InitSetup}
+use Rattle.spnego_core.specs.Ends.{PlainSetup}
 use Rattle.spnego_core.specs.AcceptMech.{Basis, ByRequest, ByProof}
 use Rattle.world_laws.specs.State.{Context, World}
 use Rattle.world_laws.specs.Premises.{Marking, GuardedSession, GuardedBasis, OnTicket, Fresh, HasTicket, Completed}
@@ -27,12 +27,12 @@ other-kind e = absurd cc
 pub scram-is : (marking : Marking) (w : World) (x : Context) (end : AcceptModel) (text : List ℕ) → ScramFixed marking w x end text → x.fixed.outcome.mech ≡ kinds.Scram
 scram-is marking w x end text f = ap (λ (o : Outcome). o.mech) f.outcome_is
 
-pub krb-done : (marking : Marking) (w : World) (own : InitSetup) (outcome : Outcome) → MechFinished marking w own outcome → outcome.mech ≡ kinds.Kerberos → KrbDone marking w own outcome
+pub krb-done : (marking : Marking) (w : World) (own : PlainSetup) (outcome : Outcome) → MechFinished marking w own outcome → outcome.mech ≡ kinds.Kerberos → KrbDone marking w own outcome
 krb-done marking w own outcome (inl d) e = d
 krb-done marking w own outcome (inr d) e = other-kind (sym e ∙ ap (λ (o : Outcome). o.mech) d.outcome_is)
 
 -- another context that took the initiator's request is the same
-took-same : (laws : Below) (marking : Marking) (w : World) → Proper w → Fresh marking w → Kept marking w → (i : ℕ) (own : InitSetup) (outcome : Outcome) → slice_get w.facts i ≡ Some own → (on : OnTicket marking own) → (a : Answers w own on.credential outcome)
+took-same : (laws : Below) (marking : Marking) (w : World) → Proper w → Fresh marking w → Kept marking w → (i : ℕ) (own : PlainSetup) (outcome : Outcome) → slice_get w.facts i ≡ Some own → (on : OnTicket marking own) → (a : Answers w own on.credential outcome)
     → (other : ℕ) (y : Context) → slice_get w.fixed other ≡ Some y → (request : Judged) → y.fixed.basis ≡ ByRequest request → TookRequest own request → other ≡ a.place
 took-same laws marking w proper fresh kept i own outcome there on a other y on_it request basis took = one-request w kept.held other a.place y a.context request a.request on_it a.there basis a.basis (mine ∙ sym its)
   where
@@ -54,12 +54,12 @@ took-same laws marking w proper fresh kept i own outcome there on a other y on_i
     its : judged_mark a.request ≡ mark_for (label_of on.credential.server) (label_of on.credential.client) own.stamp
     its = asked-mark marking w fresh i own on.credential has a.request second a.session a.stamp
 
-pub krb-only : (laws : Below) (marking : Marking) (w : World) → Proper w → Fresh marking w → Kept marking w → (i : ℕ) (own : InitSetup) (outcome : Outcome) → slice_get w.facts i ≡ Some own → (on : OnTicket marking own) → (a : Answers w own on.credential outcome)
+pub krb-only : (laws : Below) (marking : Marking) (w : World) → Proper w → Fresh marking w → Kept marking w → (i : ℕ) (own : PlainSetup) (outcome : Outcome) → slice_get w.facts i ≡ Some own → (on : OnTicket marking own) → (a : Answers w own on.credential outcome)
     → (other : ℕ) (y : Context) → slice_get w.fixed other ≡ Some y → y.fixed.outcome.mech ≡ kinds.Kerberos → (b : Basis) → y.fixed.basis ≡ b → Partner w own b → other ≡ a.place
 krb-only laws marking w proper fresh kept i own outcome there on a other y on_it mech (ByRequest request) basis took = took-same laws marking w proper fresh kept i own outcome there on a other y on_it request basis took
 krb-only laws marking w proper fresh kept i own outcome there on a other y on_it mech (ByProof end text) basis took = other-kind (sym mech ∙ scram-is marking w y end text (kept.found.proofs other y end text on_it basis))
 
-krb-has-one : (laws : Below) (marking : Marking) (w : World) → Proper w → Fresh marking w → Kept marking w → (i : ℕ) (own : InitSetup) (outcome : Outcome) → slice_get w.facts i ≡ Some own → (on : OnTicket marking own) → outcome.mech ≡ kinds.Kerberos
+krb-has-one : (laws : Below) (marking : Marking) (w : World) → Proper w → Fresh marking w → Kept marking w → (i : ℕ) (own : PlainSetup) (outcome : Outcome) → slice_get w.facts i ≡ Some own → (on : OnTicket marking own) → outcome.mech ≡ kinds.Kerberos
     → Answers w own on.credential outcome → HasOneBy marking w own outcome
 krb-has-one laws marking w proper fresh kept i own outcome there on mech a = record {
   has = record {
@@ -72,7 +72,7 @@ krb-has-one laws marking w proper fresh kept i own outcome there on mech a = rec
   only = λ other y on_it same took. krb-only laws marking w proper fresh kept i own outcome there on a other y on_it (same ∙ mech) y.fixed.basis refl took;
 }
 
-krb-initiators : (laws : Below) (marking : Marking) (w : World) → Proper w → Fresh marking w → Kept marking w → (i : ℕ) (own : InitSetup) (outcome : Outcome) → Completed w i own outcome → outcome.mech ≡ kinds.Kerberos → OnTicket marking own → HasOneBy marking w own outcome
+krb-initiators : (laws : Below) (marking : Marking) (w : World) → Proper w → Fresh marking w → Kept marking w → (i : ℕ) (own : PlainSetup) (outcome : Outcome) → Completed w i own outcome → outcome.mech ≡ kinds.Kerberos → OnTicket marking own → HasOneBy marking w own outcome
 krb-initiators laws marking w proper fresh kept i own outcome completed mech on =
     krb-has-one laws marking w proper fresh kept i own outcome completed.there on mech
     (krb-answers laws.exchange laws.scram marking w proper fresh kept.owning kept.found i own outcome completed.there (krb-done marking w own outcome (kept.found.completed i own outcome completed) mech) on)
@@ -84,7 +84,7 @@ request-initiator marking w fresh kept x request f basis mech a = record {
   initiator = a.i;
   own = a.own;
   there = a.has.there;
-  ran = λ setup ready. kept.once.unasked a.i setup a.making ready a.among (subst (λ (z : InitSetup). MadeRequest z a.making) (same-own w a.i a.own setup a.has.there (kept.known.ready a.i setup ready)) a.made);
+  ran = λ setup ready. kept.once.unasked a.i setup a.making ready a.among (subst (λ (z : PlainSetup). MadeRequest z a.making) (same-own w a.i a.own setup a.has.there (kept.known.ready a.i setup ready)) a.made);
   partner = subst (λ (b : Basis). Partner w a.own b) (sym basis) (record { credential = a.credential; is_own = a.has.is_own; session = a.session; stamp = a.stamp });
   handed_out = subst (λ (b : Basis). HandedOut w a.own b) (sym basis) (record { credential = a.made.credential; is_own = a.made.is_own; handed_out = subst (AmongMakings w.makings) a.made.made a.among });
   names = subst (λ (k : MechKind). NamesBy k a.own x.fixed.outcome) (sym mech) (record {
@@ -97,7 +97,7 @@ request-initiator marking w fresh kept x request f basis mech a = record {
   only = λ other next there took. only other next there (subst (λ (b : Basis). Partner w next b) basis took);
 }
   where
-    only : (other : ℕ) (next : InitSetup) → slice_get w.facts other ≡ Some next → TookRequest next request → other ≡ a.i
+    only : (other : ℕ) (next : PlainSetup) → slice_get w.facts other ≡ Some next → TookRequest next request → other ≡ a.i
     only other next there took =
         fresh.stamps other a.i next a.own took.credential a.credential (record { there = there; is_own = took.is_own }) a.has (sym took.session ∙ a.session) (sym took.stamp ∙ a.stamp)
 

@@ -1,15 +1,14 @@
 -- Initiators' ends are good, and of the facts at their places.
 use Rattle.std.proofs.Common.{◌≡◌, inl, inr, ℕ, sym, subst, List, [], slice_get, Some}
 use Rattle.scram_mech.specs.MechMaking.{MechMaking}
-use Rattle.spnego_core.specs.declared.init_end.InitEnd.{InitEnd}
-use Rattle.spnego_core.specs.declared.init_end.InitStep.TheVariants as steps
-use Rattle.spnego_core.specs.declared.setup.InitSetup.{InitSetup}
+use Rattle.spnego_core.specs.Ends.{PlainSetup, EndSays}
+use Rattle.spnego_core.specs.EndSteps as steps
 use Rattle.spnego_core.specs.InitLaws.{own_of, GoodInit, GoesOn, After, InitLaw, StartLaw}
 use Rattle.spnego_core.specs.Initiating.{Initiated}
 use Rattle.gss_client.specs.Session.{xid_after}
-use Rattle.world_laws.specs.declared.stage.Stage.{Stage}
-use Rattle.world_laws.specs.declared.stage.Stage.TheVariants as stages
 use Rattle.world_laws.specs.declared.event.WorldEvent.{WorldEvent}
+use Rattle.world_laws.specs.Stages.{StageSays}
+use Rattle.world_laws.specs.Stages as stages
 use Rattle.world_laws.specs.Deeds.{Deed}
 use Rattle.world_laws.specs.State.{InHand, World, moved_to}
 use Rattle.world_laws.specs.Initiators.{Moved, starts, takes}
@@ -22,50 +21,50 @@ use Rattle.world_laws.proofs.Moving.{StartedBy, starts-by, Went, Stood, takes-by
 
 -- ---- at the start
 
-ready-is : (own next : InitSetup) (xid : ℕ) (end : InitEnd) → stages.Asks xid end ≡ stages.Ready own → ⊥
+ready-is : (own next : PlainSetup) (xid : ℕ) (end : EndSays) → stages.Asks xid end ≡ stages.Ready own → ⊥
 ready-is own next xid end e = cc
 
-same-ready : (own next : InitSetup) → stages.Ready own ≡ stages.Ready next → own ≡ next
+same-ready : (own next : PlainSetup) → stages.Ready own ≡ stages.Ready next → own ≡ next
 same-ready own next e = cc
 
 pub known-start : (w : World) → Begins w → Known w
 known-start w b = record {
   sized = λ i own there. (b.ready i own there).1;
-  ready = λ i own there. (let k = b.known i (stages.Ready own) there in subst (λ (o : InitSetup). slice_get w.facts i ≡ Some o) (sym (same-ready own k.0 k.2)) k.1);
+  ready = λ i own there. (let k = b.known i (stages.Ready own) there in subst (λ (o : PlainSetup). slice_get w.facts i ≡ Some o) (sym (same-ready own k.0 k.2)) k.1);
   asks = λ i xid end there. (let k = b.known i (stages.Asks xid end) there in absurd (ready-is k.0 k.0 xid end k.2));
   placed = λ i stage there. (let k = b.known i stage there in (k.0, k.1));
 }
 
 -- ---- what is known of a stage that an initiator comes to
 
-abbrev KnownStage : List InitSetup → ℕ → Stage → Type 0
+abbrev KnownStage : List PlainSetup → ℕ → StageSays → Type 0
 KnownStage facts i (stages.Ready own) = ⊥
 KnownStage facts i (stages.Asks xid end) = (slice_get facts i ≡ Some (own_of end)) × GoodInit end
 KnownStage facts i (stages.Stands s) = Unit {0}
 KnownStage facts i (stages.Left s) = Unit {0}
 KnownStage facts i stages.Over = Unit {0}
 
-asks-known : (facts : List InitSetup) (i xid : ℕ) (end : InitEnd) (own : InitSetup) → slice_get facts i ≡ Some own → own_of end ≡ own → GoodInit end → KnownStage facts i (stages.Asks xid end)
-asks-known facts i xid end own there e good = (subst (λ (o : InitSetup). slice_get facts i ≡ Some o) (sym e) there, good)
+asks-known : (facts : List PlainSetup) (i xid : ℕ) (end : EndSays) (own : PlainSetup) → slice_get facts i ≡ Some own → own_of end ≡ own → GoodInit end → KnownStage facts i (stages.Asks xid end)
+asks-known facts i xid end own there e good = (subst (λ (o : PlainSetup). slice_get facts i ≡ Some o) (sym e) there, good)
 
 -- the end that goes on by the step of a good end
-pub goes-on : (old : InitEnd) (taken : Initiated) (end : InitEnd) (token : List ℕ) → InitLaw old taken → taken.step ≡ steps.More end token → GoesOn (own_of old) taken.chosen taken.listed end
+pub goes-on : (old : EndSays) (taken : Initiated) (end : EndSays) (token : List ℕ) → InitLaw old taken → taken.step ≡ steps.More end token → GoesOn (own_of old) taken.chosen taken.listed end
 goes-on old taken end token law e = subst (After (own_of old) taken.chosen taken.listed) e law.after
 
-starting-known : (laws : Below) (w : World) (i : ℕ) (own : InitSetup) → slice_get w.stages i ≡ Some (stages.Ready own) → Known w → StartedBy own (starts own)
+starting-known : (laws : Below) (w : World) (i : ℕ) (own : PlainSetup) → slice_get w.stages i ≡ Some (stages.Ready own) → Known w → StartedBy own (starts own)
     → KnownStage w.facts i (starts own).stage × KnownStage w.facts i (starts own).lost
 starting-known laws w i own there k by =
     let law : StartLaw own by.started = laws.init.starts own by.started by.is in
     (subst (KnownStage w.facts i) (sym by.stage) (asks-known w.facts i 1 by.started.end own (k.ready i own there) law.own_is law.good), subst (KnownStage w.facts i) (sym by.lost) tt)
 
-going-known : (laws : Below) (w : World) (i xid : ℕ) (end : InitEnd) (octets : List ℕ) (moved : Moved) → slice_get w.stages i ≡ Some (stages.Asks xid end) → Known w → Went xid end octets moved
+going-known : (laws : Below) (w : World) (i xid : ℕ) (end : EndSays) (octets : List ℕ) (moved : Moved) → slice_get w.stages i ≡ Some (stages.Asks xid end) → Known w → Went xid end octets moved
     → KnownStage w.facts i moved.stage × KnownStage w.facts i moved.lost
 going-known laws w i xid end octets moved there k by =
     let was = k.asks i xid end there in
     let on = goes-on end by.by.taken by.offer.end by.offer.token (laws.init.steps end by.by.granted.result.token by.by.taken was.1 by.by.step_is) by.by.leads in
     (subst (KnownStage w.facts i) (sym by.stage) (asks-known w.facts i (xid_after xid) by.offer.end (own_of end) was.0 on.own_is on.good), subst (KnownStage w.facts i) (sym by.lost) tt)
 
-stood-known : (w : World) (i xid : ℕ) (end : InitEnd) (octets : List ℕ) (moved : Moved) → Stood xid end octets moved → KnownStage w.facts i moved.stage × KnownStage w.facts i moved.lost
+stood-known : (w : World) (i xid : ℕ) (end : EndSays) (octets : List ℕ) (moved : Moved) → Stood xid end octets moved → KnownStage w.facts i moved.stage × KnownStage w.facts i moved.lost
 stood-known w i xid end octets moved by = (subst (KnownStage w.facts i) (sym by.stage) tt, subst (KnownStage w.facts i) (sym by.lost) tt)
 
 move-known : (laws : Below) (w : World) (i : ℕ) (moved : Moved) → Known w → Move w i moved → KnownStage w.facts i moved.stage × KnownStage w.facts i moved.lost
@@ -82,14 +81,14 @@ move-known laws w i moved k (Taking first xid end octets there is) = subst (λ (
 ])
 move-known laws w i moved k (Calling s procedure args there left served proper is) = subst (λ (m : Moved). KnownStage w.facts i m.stage × KnownStage w.facts i m.lost) (sym is) (tt, tt)
 
-move-there : (w : World) (i : ℕ) (moved : Moved) → Move w i moved → (stage : Stage) × (slice_get w.stages i ≡ Some stage)
+move-there : (w : World) (i : ℕ) (moved : Moved) → Move w i moved → (stage : StageSays) × (slice_get w.stages i ≡ Some stage)
 move-there w i moved (Starting own there is) = (_, there)
 move-there w i moved (Taking first xid end octets there is) = (_, there)
 move-there w i moved (Calling s procedure args there left served proper is) = (_, there)
 
 -- ---- a step
 
-known-set : (w : World) (i : ℕ) (stage : Stage) (makes : List MechMaking) (own : InitSetup) → Known w → slice_get w.facts i ≡ Some own → KnownStage w.facts i stage → Known (moved_to w i stage makes)
+known-set : (w : World) (i : ℕ) (stage : StageSays) (makes : List MechMaking) (own : PlainSetup) → Known w → slice_get w.facts i ≡ Some own → KnownStage w.facts i stage → Known (moved_to w i stage makes)
 known-set w i stage makes own k there s = record {
   sized = k.sized;
   ready = λ j next e. elim (set-cases w.stages i j stage (stages.Ready next) e) [ inl a ↦ absurd (subst (KnownStage w.facts i) (sym a.1) s) | inr b ↦ k.ready j next b.1 ];

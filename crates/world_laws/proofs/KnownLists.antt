@@ -15,7 +15,7 @@ use Rattle.spnego_core.specs.declared.accept_end.AcceptEnd.{AcceptEnd}
 use Rattle.spnego_core.specs.declared.accept_end.AcceptEnd.TheVariants as ends
 use Rattle.spnego_core.specs.declared.outcome.Outcome.{Outcome}
 use Rattle.spnego_core.specs.declared.setup.AcceptSetup.{AcceptSetup}
-use Rattle.spnego_core.specs.declared.setup.InitSetup.{InitSetup}
+use Rattle.spnego_core.specs.Ends.{PlainSetup}
 use Rattle.spnego_core.specs.AcceptLaws.{TakesMic, Stands as StandsBy}
 use Rattle.spnego_core.specs.Choice.{is_first, is_first_named}
 use Rattle.spnego_core.specs.Initiating.{own_list}
@@ -71,7 +71,7 @@ use Rattle.world_laws.proofs.Signers.{Signer, Caller, SignedBy, Signed, kept-by}
 -- the list that came is the own list of an initiator on a guarded key, whose mechanism is done with the context's key
 pub record Named (marking : Marking) (w : World) (x : Context) : Type 0 where
   pub i : ℕ
-  pub own : InitSetup
+  pub own : PlainSetup
   pub outcome : Outcome
   pub there : slice_get w.facts i ≡ Some own
   pub done : MechFinished marking w own outcome
@@ -94,7 +94,7 @@ knows-on marking old new x g (inr n) = inr (record {
   i = n.i;
   own = n.own;
   outcome = n.outcome;
-  there = ap (λ (facts : List InitSetup). slice_get facts n.i) g.facts ∙ n.there;
+  there = ap (λ (facts : List PlainSetup). slice_get facts n.i) g.facts ∙ n.there;
   done = finished-grows marking old new n.own n.outcome (kept-by old new g) n.done;
   guarded = n.guarded;
   key = n.key;
@@ -249,7 +249,7 @@ sixteen tokens outcome list mic e =
     shown-long (token_end outcome Acceptor) mic (list_octets list) (tokens.mic (token_end outcome Acceptor) mic (list_octets list) (taken-ok (checked_mic (token_end outcome Acceptor) mic (list_octets list)) e))
 
 -- who made it has that list
-same-list : (laws : Below) (own : InitSetup) (outcome other : Outcome) (list : List (List ℕ)) (mic : List ℕ) → OfList (list_octets (own_list own)) → is_list_mic outcome Acceptor list mic ≡ true
+same-list : (laws : Below) (own : PlainSetup) (outcome other : Outcome) (list : List (List ℕ)) (mic : List ℕ) → OfList (list_octets (own_list own)) → is_list_mic outcome Acceptor list mic ≡ true
     → mic_found outcome Acceptor list mic ≡ mic_making other Initiator (own_list own) → (list ≡ own_list own) × (other.key ≡ outcome.key)
 same-list laws own outcome other list mic o right e =
     let parts = split-back (list_octets list) (take 16 mic) (list_octets (own_list own)) (mic_header (token_end other Initiator) 0)

@@ -2,7 +2,7 @@
 use Rattle.std.proofs.Common.{◌≡◌, ◌⊎◌, inl, inr, ℕ, true, refl, sym, ap, ◌∙◌, subst, List, [], ◌∷◌, slice_get, Some}
 use Rattle.gss_base.specs.declared.mech.MechKind.{MechKind}
 use Rattle.spnego_core.specs.declared.outcome.Outcome.{Outcome}
-use Rattle.spnego_core.specs.declared.setup.InitSetup.{InitSetup}
+use Rattle.spnego_core.specs.Ends.{PlainSetup}
 use Rattle.spnego_core.specs.AcceptMech.{Basis, ByRequest, ByProof}
 use Rattle.spnego_core.specs.Choice.{is_first}
 use Rattle.spnego_core.specs.Initiating.{own_list}
@@ -31,7 +31,7 @@ use Rattle.world_laws.proofs.Signers.{Signed, signed-start, signed-step}
 place-same : (w : World) (i j : ℕ) (x y : Context) → i ≡ j → slice_get w.fixed i ≡ Some x → slice_get w.fixed j ≡ Some y → x ≡ y
 place-same w i j x y e there next = same-context w j x y (subst (λ (n : ℕ). slice_get w.fixed n ≡ Some x) e there) next
 
-krb-partner : (laws : Below) (marking : Marking) (w : World) → Proper w → Fresh marking w → Kept marking w → (place : ℕ) (x : Context) → slice_get w.fixed place ≡ Some x → GuardedBasis marking x.fixed.basis → (own : InitSetup) (outcome : Outcome)
+krb-partner : (laws : Below) (marking : Marking) (w : World) → Proper w → Fresh marking w → Kept marking w → (place : ℕ) (x : Context) → slice_get w.fixed place ≡ Some x → GuardedBasis marking x.fixed.basis → (own : PlainSetup) (outcome : Outcome)
     → outcome.key ≡ x.fixed.outcome.key → (on : OnTicket marking own) → Answers w own on.credential outcome → (b : Basis) → x.fixed.basis ≡ b → Partner w own x.fixed.basis
 krb-partner laws marking w proper fresh kept place x there guarded own outcome key on a (ByRequest request) basis =
     let same : a.context ≡ x = place-same w a.place place a.context x (fresh.subkeys a.place place a.context x a.request request a.there there (record { basis = a.basis }) (record { basis = basis }) (sym (ap (λ (o : Outcome). o.key) a.agree) ∙ key)) a.there there in
@@ -39,7 +39,7 @@ krb-partner laws marking w proper fresh kept place x there guarded own outcome k
 krb-partner laws marking w proper fresh kept place x there guarded own outcome key on a (ByProof end text) basis =
     not-mixed laws marking w proper fresh kept a.place place a.context x a.there there (inr guarded) a.request a.basis end text basis (sym (ap (λ (o : Outcome). o.key) a.agree) ∙ key)
 
-scram-partner : (laws : Below) (marking : Marking) (w : World) → Proper w → Fresh marking w → Kept marking w → ProofKeysApart marking w → (place : ℕ) (x : Context) → slice_get w.fixed place ≡ Some x → GuardedBasis marking x.fixed.basis → (own : InitSetup) (outcome : Outcome)
+scram-partner : (laws : Below) (marking : Marking) (w : World) → Proper w → Fresh marking w → Kept marking w → ProofKeysApart marking w → (place : ℕ) (x : Context) → slice_get w.fixed place ≡ Some x → GuardedBasis marking x.fixed.basis → (own : PlainSetup) (outcome : Outcome)
     → outcome.key ≡ x.fixed.outcome.key → ScramAnswers marking w own outcome → (b : Basis) → x.fixed.basis ≡ b → Partner w own x.fixed.basis
 scram-partner laws marking w proper fresh kept apart place x there guarded own outcome key a (ByRequest request) basis =
     not-mixed laws marking w proper fresh kept place a.place x a.context there a.there (inl guarded) request basis a.end a.text a.basis (sym key ∙ ap (λ (o : Outcome). o.key) a.agree)
@@ -51,7 +51,7 @@ scram-partner laws marking w proper fresh kept apart place x there guarded own o
     subst (λ (c : Basis). Partner w own c) (sym a.basis ∙ ap (λ (z : Context). z.fixed.basis) same) (record { auth = a.auth; taken = a.taken; proved = a.proved })
 
 named-partner : (laws : Below) (marking : Marking) (w : World) → Proper w → Fresh marking w → Kept marking w → ProofKeysApart marking w → (place : ℕ) (x : Context) → slice_get w.fixed place ≡ Some x → GuardedBasis marking x.fixed.basis
-    → (i : ℕ) (own : InitSetup) (outcome : Outcome) → slice_get w.facts i ≡ Some own → MechFinished marking w own outcome → OnGuarded marking own outcome.mech → outcome.key ≡ x.fixed.outcome.key → Partner w own x.fixed.basis
+    → (i : ℕ) (own : PlainSetup) (outcome : Outcome) → slice_get w.facts i ≡ Some own → MechFinished marking w own outcome → OnGuarded marking own outcome.mech → outcome.key ≡ x.fixed.outcome.key → Partner w own x.fixed.basis
 named-partner laws marking w proper fresh kept apart place x there guarded i own outcome facts (inl d) on key =
     let ticket : OnTicket marking own = subst (λ (k : MechKind). OnGuarded marking own k) (ap (λ (o : Outcome). o.mech) d.outcome_is) on in
     krb-partner laws marking w proper fresh kept place x there guarded own outcome key ticket (krb-answers laws.exchange laws.scram marking w proper fresh kept.owning kept.found i own outcome facts d ticket) x.fixed.basis refl

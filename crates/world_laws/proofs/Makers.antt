@@ -9,7 +9,7 @@ use Rattle.scram_mech.specs.MechMaking.{MechMaking, AmongMakings, typed}
 use Rattle.scram_mech.specs.Initiator.{InitAnswered, answer_with, bare_of, secret_of, auth_of}
 use Rattle.scram_mech.specs.Acceptor.{AcceptFinished, finish_with, auth_with}
 use Rattle.scram_mech.specs.Laws.{Laws as ScramLaws}
-use Rattle.spnego_core.specs.declared.setup.InitSetup.{InitSetup}
+use Rattle.spnego_core.specs.Ends.{PlainSetup}
 use Rattle.accept_book.specs.Served.{result_of}
 use Rattle.gss_client.specs.Calling.{own_end}
 use Rattle.gss_client.specs.Session.{SessionState}
@@ -37,20 +37,20 @@ tag-of m x e = ap tag e
 
 -- ---- initiators
 
-pub tag-request : (own : InitSetup) (m : MechMaking) → MadeRequest own m → tag m ≡ 45
+pub tag-request : (own : PlainSetup) (m : MechMaking) → MadeRequest own m → tag m ≡ 45
 tag-request own m made = tag-of m _ made.made
 
 pub only : (m x : MechMaking) → AmongMakings (x ∷ []) m → m ≡ x
 only m x (inl e) = e
 only m x (inr n) = absurd n
 
-pub tag-proof : (scram : ScramLaws) (own : InitSetup) (m : MechMaking) → MadeProof own m → tag m ≡ 3
+pub tag-proof : (scram : ScramLaws) (own : PlainSetup) (m : MechMaking) → MadeProof own m → tag m ≡ 3
 tag-proof scram own m made =
     let p = scram.proves made.end made.text made.answered made.answers in
     let among : AmongMakings (answer_with made.end (bare_of made.end p.second) (secret_of made.end p.second) (auth_of made.end made.text p.second)).makes m = subst (λ (a : InitAnswered). AmongMakings a.makes m) p.same made.made in
     tag-of m _ (only m _ among)
 
-pub tag-list_mic : (own : InitSetup) (m : MechMaking) → MadeListMic own m → tag m ≡ 100
+pub tag-list_mic : (own : PlainSetup) (m : MechMaking) → MadeListMic own m → tag m ≡ 100
 tag-list_mic own m made = tag-of m _ made.made
 
 -- a MIC, or sealed octets, of an initiator
@@ -90,7 +90,7 @@ tag-calls s procedure args m a = split (among-both (cond (procedure == 0) (heade
     split (inl a) = inl (null-header (procedure == 0) (header_making s 0 1 procedure) m refl a)
     split (inr a) = call-rest s procedure args m a
 
-pub tag-call : (w : World) (i : ℕ) (own : InitSetup) (m : MechMaking) → MadeCall w i own m → IsInitiators m
+pub tag-call : (w : World) (i : ℕ) (own : PlainSetup) (m : MechMaking) → MadeCall w i own m → IsInitiators m
 tag-call w i own m made = tag-calls made.session made.procedure made.args m made.made
 
 -- ---- contexts
@@ -149,7 +149,7 @@ pub record AnswerOf (w : World) (m : MechMaking) : Type 0 where
   pub there : slice_get w.fixed place ≡ Some context
   pub made : MadeAnswer context m
 
-not-initiator : (scram : ScramLaws) (w : World) (i : ℕ) (own : InitSetup) (m : MechMaking) (n : ℕ) → tag m ≡ n → (n ≡ 45 → ⊥) → (n ≡ 3 → ⊥) → (n ≡ 100 → ⊥) → (n ≡ 97 → ⊥) → InitMade w i own m → ⊥
+not-initiator : (scram : ScramLaws) (w : World) (i : ℕ) (own : PlainSetup) (m : MechMaking) (n : ℕ) → tag m ≡ n → (n ≡ 45 → ⊥) → (n ≡ 3 → ⊥) → (n ≡ 100 → ⊥) → (n ≡ 97 → ⊥) → InitMade w i own m → ⊥
 not-initiator scram w i own m n t a b c d (inl made) = a (sym t ∙ tag-request own m made)
 not-initiator scram w i own m n t a b c d (inr (inl made)) = b (sym t ∙ tag-proof scram own m made)
 not-initiator scram w i own m n t a b c d (inr (inr (inl made))) = c (sym t ∙ tag-list_mic own m made)
@@ -172,7 +172,7 @@ from-answer scram w m owning (inr mic) t = absurd (omega (arith, t, tag-word w m
 -- an initiator's request
 pub record RequestOf (w : World) (m : MechMaking) : Type 0 where
   pub i : ℕ
-  pub own : InitSetup
+  pub own : PlainSetup
   pub there : slice_get w.facts i ≡ Some own
   pub made : MadeRequest own m
   pub among : AmongMakings w.makings m
@@ -183,7 +183,7 @@ not-context scram x m n t a b c d (inr (inl made)) = b (sym t ∙ tag-signature 
 not-context scram x m n t a b c d (inr (inr (inl made))) = c (sym t ∙ tag-accept_mic x m made)
 not-context scram x m n t a b c d (inr (inr (inr made))) = clash-accept n m (tag-result x m made) t c d
 
-request-made : (scram : ScramLaws) (w : World) (i : ℕ) (own : InitSetup) (m : MechMaking) → tag m ≡ 45 → InitMade w i own m → MadeRequest own m
+request-made : (scram : ScramLaws) (w : World) (i : ℕ) (own : PlainSetup) (m : MechMaking) → tag m ≡ 45 → InitMade w i own m → MadeRequest own m
 request-made scram w i own m t (inl made) = made
 request-made scram w i own m t (inr (inl made)) = absurd (omega (arith, t, tag-proof scram own m made))
 request-made scram w i own m t (inr (inr (inl made))) = absurd (omega (arith, t, tag-list_mic own m made))
@@ -200,12 +200,12 @@ from-request scram w m owning (inr mic) t = absurd (omega (arith, t, tag-word w 
 -- an initiator's proof
 pub record ProofOf (w : World) (m : MechMaking) : Type 0 where
   pub i : ℕ
-  pub own : InitSetup
+  pub own : PlainSetup
   pub there : slice_get w.facts i ≡ Some own
   pub made : MadeProof own m
   pub among : AmongMakings w.makings m
 
-proof-made : (scram : ScramLaws) (w : World) (i : ℕ) (own : InitSetup) (m : MechMaking) → tag m ≡ 3 → InitMade w i own m → MadeProof own m
+proof-made : (scram : ScramLaws) (w : World) (i : ℕ) (own : PlainSetup) (m : MechMaking) → tag m ≡ 3 → InitMade w i own m → MadeProof own m
 proof-made scram w i own m t (inl made) = absurd (omega (arith, t, tag-request own m made))
 proof-made scram w i own m t (inr (inl made)) = made
 proof-made scram w i own m t (inr (inr (inl made))) = absurd (omega (arith, t, tag-list_mic own m made))

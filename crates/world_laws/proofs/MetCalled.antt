@@ -12,7 +12,7 @@ use Rattle.krb_derive.specs.Making.{Making}
 use Rattle.seq_window.specs.Marks.{greatest, is_in}
 use Rattle.spnego_core.specs.declared.accept_end.AcceptEnd.{AcceptEnd}
 use Rattle.spnego_core.specs.declared.outcome.Outcome.{Outcome}
-use Rattle.spnego_core.specs.declared.setup.InitSetup.{InitSetup}
+use Rattle.spnego_core.specs.Ends.{PlainSetup}
 use Rattle.spnego_core.specs.Outcome.{token_end}
 use Rattle.context_table.specs.declared.slot.Slot.{Slot}
 use Rattle.context_table.specs.declared.slot.SlotState.{SlotState}
@@ -37,8 +37,8 @@ use Rattle.gss_server.specs.Asking.{BookAnswers}
 use Rattle.world_laws.specs.declared.event.Happened.{Happened}
 use Rattle.world_laws.specs.declared.event.Happened.TheVariants.{Sent}
 use Rattle.world_laws.specs.declared.event.WorldEvent.TheVariants.{Lane, CallBy}
-use Rattle.world_laws.specs.declared.stage.Stage.{Stage}
-use Rattle.world_laws.specs.declared.stage.Stage.TheVariants as stages
+use Rattle.world_laws.specs.Stages.{StageSays}
+use Rattle.world_laws.specs.Stages as stages
 use Rattle.world_laws.specs.Deeds.{Deed}
 use Rattle.world_laws.specs.State.{InHand, Context, World, moved_to}
 use Rattle.world_laws.specs.Events.{Moves, CallsBy, LanesBy, Happens}
@@ -55,7 +55,7 @@ use Rattle.world_laws.proofs.Undecided.{undecided, unanswered}
 -- a world after an exchange, and a call of a served procedure at a moment in time
 pub record Calling : Type 0 where
   pub w : World
-  pub own : InitSetup
+  pub own : PlainSetup
   pub outcome : Outcome
   pub context : Context
   pub rests : Rests w own outcome context
@@ -109,7 +109,7 @@ pub record Sends (c : Calling) (deed : Deed) (new : World) : Type 0 where
   pub new_is : new ≡ sent_world c
 
 pub sends : (c : Calling) (happened : Happened) (deed : Deed) (new : World) → Happens c.w (CallBy 0 c.procedure c.args) deed new → deed.answer ≡ Some happened → Sends c deed new
-sends c happened deed new h some = by (subst (λ (st : List Stage). CallsBy c.w 0 c.procedure c.args (slice_get st 0) deed new) c.rests.stands h.did)
+sends c happened deed new h some = by (subst (λ (st : List StageSays). CallsBy c.w 0 c.procedure c.args (slice_get st 0) deed new) c.rests.stands h.did)
   where
     by : Moves c.w 0 (calls (session c) c.procedure c.args) deed new → Sends c deed new
     by (inl m) = record { answer = ap (λ (d : Deed). d.answer) m.0; new_is = m.1 }

@@ -20,11 +20,11 @@ use Rattle.spnego_core.specs.declared.accept_end.AcceptStep.{AcceptStep}
 use Rattle.spnego_core.specs.declared.accept_end.AcceptStep.TheVariants as accept_steps
 use Rattle.spnego_core.specs.declared.accept_end.Answered.{Answered}
 use Rattle.spnego_core.specs.declared.accept_end.Answered.TheVariants as afters
-use Rattle.spnego_core.specs.declared.init_end.InitEnd.{InitEnd}
-use Rattle.spnego_core.specs.declared.init_end.InitStep.TheVariants as init_steps
 use Rattle.spnego_core.specs.declared.outcome.Outcome.{Outcome}
 use Rattle.spnego_core.specs.declared.refusal.NegRefusal.{NegRefusal}
 use Rattle.spnego_core.specs.declared.setup.AcceptSetup.{AcceptSetup}
+use Rattle.spnego_core.specs.Ends.{EndSays}
+use Rattle.spnego_core.specs.EndSteps as init_steps
 use Rattle.spnego_core.specs.Accepting.{Fixed, IsSettled, accept_step}
 use Rattle.spnego_core.specs.Exchange.{passed}
 use Rattle.spnego_core.specs.Initiating.{Started, Initiated, init_start, step_of}
@@ -43,9 +43,9 @@ use Rattle.accept_core.specs.History.{numbers, taken_of}
 use Rattle.accept_book.specs.RecordRule.{stepped, ask_step, record_ruling}
 use Rattle.accept_book.specs.RecordShown.{KeptAnswers, Question, Negotiate, Look, Admit, End, Asked, AskedStep, AskedLook, AskedAdmit, AskedEnd, Ruling, handle_of}
 use Rattle.accept_core.specs.Stepping.{context_after, until_of}
-use Rattle.gss_client.specs.declared.creation.Created.{Created}
-use Rattle.gss_client.specs.declared.creation.Created.TheVariants as created
 use Rattle.gss_client.specs.declared.refusal.ClientRefusal.{ClientRefusal}
+use Rattle.gss_client.specs.Creation.{CreatedSays}
+use Rattle.gss_client.specs.Creation as created
 use Rattle.gss_client.specs.Calling.{creation_call}
 use Rattle.gss_client.specs.Judging.{granted_in}
 use Rattle.gss_client.specs.Session.{SessionState, xid_after}
@@ -57,8 +57,8 @@ use Rattle.pair_laws.proofs.Settling.{Came, Negotiates, ComesTo, slot-state, ste
 use Rattle.world_laws.specs.declared.event.Happened.{Happened}
 use Rattle.world_laws.specs.declared.event.Happened.TheVariants.{Sent, Completed, Stepped, Refused, Nothing}
 use Rattle.world_laws.specs.declared.event.WorldEvent.TheVariants.{Start, Deliver, Lane}
-use Rattle.world_laws.specs.declared.stage.Stage.{Stage}
-use Rattle.world_laws.specs.declared.stage.Stage.TheVariants as stages
+use Rattle.world_laws.specs.Stages.{StageSays}
+use Rattle.world_laws.specs.Stages as stages
 use Rattle.world_laws.specs.Deeds.{Deed}
 use Rattle.world_laws.specs.State.{InHand, Context, World}
 use Rattle.world_laws.specs.Initiators.{started_by, starts, initiated_by, initiated_with, initiated, handed_out, verified, window_found, created_by, takes}
@@ -74,7 +74,7 @@ abbrev pub call_of : ℕ → Option ℕ → List ℕ → List ℕ
 call_of xid id token = creation_call Integrity xid (proc_for id) (handle_for id) token
 
 -- the world of the one initiator, which is at this stage; contexts have the id 1
-abbrev pub world_in : Setting → Stage → BookOf → List (Option InHand) → List MechMaking → List Fixed → World
+abbrev pub world_in : Setting → StageSays → BookOf → List (Option InHand) → List MechMaking → List Fixed → World
 world_in x stage book lanes made fixed = record { facts = x.own ∷ []; stages = stage ∷ []; book = book; lanes = lanes; fixed = map (context_with 1) fixed; makings = made }
 
 -- how the book stands before a turn, with so many draws left: it awaits a token for this end, and has room
@@ -96,7 +96,7 @@ pub record Case : Type 0 where
   pub id : Option ℕ
   pub xid : ℕ
   pub end : AcceptEnd
-  pub initiator : InitEnd
+  pub initiator : EndSays
   pub token : List ℕ
   pub draws : List ℕ
   pub made : List MechMaking
@@ -410,17 +410,17 @@ settled-granted xid outcome token fits few =
     grants xid 6 (window_mic outcome told_width) (result_with 1 told_width token) fits (lit< tt) (omega (arith, mic-size (token_end outcome Acceptor) 1 (word told_width))) is (lit≤ tt)
 
 -- it goes on
-pub record TakesOn (x : Setting) (xid : ℕ) (book : BookOf) (lanes : List (Option InHand)) (made : List MechMaking) (fixed : List Fixed) (taken : Initiated) (next : InitEnd) (further : List ℕ) (deed : Deed) (new : World) : Type 0 where
+pub record TakesOn (x : Setting) (xid : ℕ) (book : BookOf) (lanes : List (Option InHand)) (made : List MechMaking) (fixed : List Fixed) (taken : Initiated) (next : EndSays) (further : List ℕ) (deed : Deed) (new : World) : Type 0 where
   pub answer : deed.answer ≡ Some (Sent (call_of (xid_after xid) (Some 1) further))
   pub found : deed.found ≡ taken.found
   pub opened : deed.opened ≡ None
   pub new_is : new ≡ world_in x (stages.Asks (xid_after xid) next) book lanes (made ++ taken.makes) fixed
 
-takes-on-by : (x : Setting) (xid : ℕ) (initiator : InitEnd) (book : BookOf) (lanes : List (Option InHand)) (made : List MechMaking) (fixed : List Fixed) (reply : List ℕ) (t : Took initiator reply made) (next : InitEnd) (further : List ℕ) → t.initiated.step ≡ init_steps.More next further
+takes-on-by : (x : Setting) (xid : ℕ) (initiator : EndSays) (book : BookOf) (lanes : List (Option InHand)) (made : List MechMaking) (fixed : List Fixed) (reply : List ℕ) (t : Took initiator reply made) (next : EndSays) (further : List ℕ) → t.initiated.step ≡ init_steps.More next further
     → xid < 2 ^ 32 → length reply ≤ 65536 → (deed : Deed) (new : World) → Moves (world_in x (stages.Asks xid initiator) book lanes made fixed) 0 (takes 1 xid initiator (reply_octets (going xid 1 reply))) deed new → deed.answer ≢ None
     → TakesOn x xid book lanes made fixed t.initiated next further deed new
 takes-on-by x xid initiator book lanes made fixed reply t next further more fits few deed new moves some =
-    by (subst (λ (r : Result Created ClientRefusal). Moves (world_in x (stages.Asks xid initiator) book lanes made fixed) 0 (created_by 1 xid initiator (reply_octets (going xid 1 reply)) r) deed new)
+    by (subst (λ (r : Result CreatedSays ClientRefusal). Moves (world_in x (stages.Asks xid initiator) book lanes made fixed) 0 (created_by 1 xid initiator (reply_octets (going xid 1 reply)) r) deed new)
     (creation-goes xid initiator next 1 reply further fits few (ap step_of t.initiates ∙ ap Ok more)) moves)
   where
     is : initiated xid initiator (reply_octets (going xid 1 reply)) ≡ Some t.initiated
@@ -436,7 +436,7 @@ takes-on-by x xid initiator book lanes made fixed reply t next further more fits
     }
     by (inr m) = absurd (some (ap (λ (d : Deed). d.answer) m.0))
 
-pub takes-on : (x : Setting) (xid : ℕ) (initiator : InitEnd) (book : BookOf) (lanes : List (Option InHand)) (made : List MechMaking) (fixed : List Fixed) (reply : List ℕ) (t : Took initiator reply made) (next : InitEnd) (further : List ℕ) → t.initiated.step ≡ init_steps.More next further
+pub takes-on : (x : Setting) (xid : ℕ) (initiator : EndSays) (book : BookOf) (lanes : List (Option InHand)) (made : List MechMaking) (fixed : List Fixed) (reply : List ℕ) (t : Took initiator reply made) (next : EndSays) (further : List ℕ) → t.initiated.step ≡ init_steps.More next further
     → xid < 2 ^ 32 → length reply ≤ 65536 → (deed : Deed) (new : World) → Happens (world_in x (stages.Asks xid initiator) book lanes made fixed) (Deliver 0 (reply_octets (going xid 1 reply)) 1) deed new → deed.answer ≢ None
     → TakesOn x xid book lanes made fixed t.initiated next further deed new
 takes-on x xid initiator book lanes made fixed reply t next further more fits few deed new h some = takes-on-by x xid initiator book lanes made fixed reply t next further more fits few deed new h.did some
@@ -458,11 +458,11 @@ pub record TakesLast (x : Setting) (xid : ℕ) (book : BookOf) (lanes : List (Op
   pub opened : deed.opened ≡ None
   pub new_is : new ≡ world_in x (stages.Stands (session_with xid outcome)) book lanes (made ++ taken.makes) fixed
 
-takes-last-by : (x : Setting) (xid : ℕ) (initiator : InitEnd) (book : BookOf) (lanes : List (Option InHand)) (made : List MechMaking) (fixed : List Fixed) (reply : List ℕ) (t : Took initiator reply made) (outcome : Outcome) → t.initiated.step ≡ init_steps.Done outcome
+takes-last-by : (x : Setting) (xid : ℕ) (initiator : EndSays) (book : BookOf) (lanes : List (Option InHand)) (made : List MechMaking) (fixed : List Fixed) (reply : List ℕ) (t : Took initiator reply made) (outcome : Outcome) → t.initiated.step ≡ init_steps.Done outcome
     → xid < 2 ^ 32 → length reply ≤ 65536 → (deed : Deed) (new : World) → Moves (world_in x (stages.Asks xid initiator) book lanes made fixed) 0 (takes 1 xid initiator (reply_octets (granting xid outcome 1 told_width reply))) deed new → deed.answer ≢ None
     → TakesLast x xid book lanes made fixed t.initiated outcome deed new
 takes-last-by x xid initiator book lanes made fixed reply t outcome done fits few deed new moves some =
-    by (subst (λ (r : Result Created ClientRefusal). Moves (world_in x (stages.Asks xid initiator) book lanes made fixed) 0 (created_by 1 xid initiator (reply_octets (granting xid outcome 1 told_width reply)) r) deed new)
+    by (subst (λ (r : Result CreatedSays ClientRefusal). Moves (world_in x (stages.Asks xid initiator) book lanes made fixed) 0 (created_by 1 xid initiator (reply_octets (granting xid outcome 1 told_width reply)) r) deed new)
     (creation-stands xid initiator outcome 1 told_width reply fits (lit< tt) (lit< tt) few (ap step_of t.initiates ∙ ap Ok done)) moves)
   where
     is : initiated xid initiator (reply_octets (granting xid outcome 1 told_width reply)) ≡ Some t.initiated
@@ -478,7 +478,7 @@ takes-last-by x xid initiator book lanes made fixed reply t outcome done fits fe
     }
     by (inr m) = absurd (some (ap (λ (d : Deed). d.answer) m.0))
 
-pub takes-last : (x : Setting) (xid : ℕ) (initiator : InitEnd) (book : BookOf) (lanes : List (Option InHand)) (made : List MechMaking) (fixed : List Fixed) (reply : List ℕ) (t : Took initiator reply made) (outcome : Outcome) → t.initiated.step ≡ init_steps.Done outcome
+pub takes-last : (x : Setting) (xid : ℕ) (initiator : EndSays) (book : BookOf) (lanes : List (Option InHand)) (made : List MechMaking) (fixed : List Fixed) (reply : List ℕ) (t : Took initiator reply made) (outcome : Outcome) → t.initiated.step ≡ init_steps.Done outcome
     → xid < 2 ^ 32 → length reply ≤ 65536 → (deed : Deed) (new : World) → Happens (world_in x (stages.Asks xid initiator) book lanes made fixed) (Deliver 0 (reply_octets (granting xid outcome 1 told_width reply)) 1) deed new → deed.answer ≢ None
     → TakesLast x xid book lanes made fixed t.initiated outcome deed new
 takes-last x xid initiator book lanes made fixed reply t outcome done fits few deed new h some = takes-last-by x xid initiator book lanes made fixed reply t outcome done fits few deed new h.did some

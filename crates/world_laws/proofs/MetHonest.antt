@@ -14,7 +14,6 @@ use Rattle.scram_mech.specs.MechMaking.{OfType, OfPassword, MechMaking, AmongMak
 use Rattle.scram_mech.specs.Secrets.{stored_key}
 use Rattle.scram_mech.proofs.Masks.{length-proof}
 use Rattle.spnego_core.specs.declared.setup.AcceptSetup.{AcceptSetup}
-use Rattle.spnego_core.specs.declared.setup.InitSetup.{InitSetup}
 use Rattle.spnego_core.specs.declared.setup.MechCred.TheVariants as creds
 use Rattle.spnego_core.specs.declared.init_mech.InitMech.TheVariants as own_mechs
 use Rattle.spnego_core.specs.declared.accept_mech.AcceptMech.TheVariants as mechs
@@ -27,6 +26,7 @@ use Rattle.spnego_core.specs.AcceptMech.{ByRequest, ByProof}
 use Rattle.spnego_core.specs.Accepting.{gone_on, finished, run, ran_with, reply}
 use Rattle.spnego_core.specs.declared.accept_end.Answered.{Answered}
 use Rattle.spnego_core.specs.declared.accept_end.Answered.TheVariants as afters
+use Rattle.spnego_core.specs.Ends.{PlainSetup}
 use Rattle.spnego_core.specs.Choice.{is_first_named, best}
 use Rattle.spnego_core.specs.Exchange.{Occasion, passed, TicketFits, UserFits}
 use Rattle.spnego_core.specs.InitMech.{is_own, is_own_list, cred_for}
@@ -53,10 +53,10 @@ use Rattle.world_laws.proofs.MetRounds.{Setting, setup_in, Marked, IsNew, IsType
 
 -- ---- the marking: the ticket of a credential, or its user
 
-abbrev pub ticket_of : (setup : AcceptSetup) (own : InitSetup) (credential : Granted) (occasion : Occasion) → TicketFits setup own credential occasion → Ticket
+abbrev pub ticket_of : (setup : AcceptSetup) (own : PlainSetup) (credential : Granted) (occasion : Occasion) → TicketFits setup own credential occasion → Ticket
 ticket_of setup own credential occasion fits = record { client = client_granted fits.fit.part; server = credential.server; service = fits.fit.service; session = credential.session; marked = true }
 
-abbrev pub by_ticket : (book : BookOf) (own : InitSetup) (now : ℕ) (credential : Granted) (drawn : List ℕ) → TicketFits book.setup own credential (record { now = now; drawn = drawn }) → Setting
+abbrev pub by_ticket : (book : BookOf) (own : PlainSetup) (now : ℕ) (credential : Granted) (drawn : List ℕ) → TicketFits book.setup own credential (record { now = now; drawn = drawn }) → Setting
 by_ticket book own now credential drawn fits = record {
   book = book;
   own = own;
@@ -64,7 +64,7 @@ by_ticket book own now credential drawn fits = record {
   marking = record { tickets = ticket_of book.setup own credential (record { now = now; drawn = drawn }) fits ∷ []; accounts = [] };
 }
 
-abbrev pub by_account : BookOf → InitSetup → ℕ → List ℕ → List ℕ → Setting
+abbrev pub by_account : BookOf → PlainSetup → ℕ → List ℕ → List ℕ → Setting
 by_account book own now user password = record { book = book; own = own; now = now; marking = record { tickets = []; accounts = (record { user = user; password = password }) ∷ [] } }
 
 only : {A : Type 0} (x y : A) (place : ℕ) → slice_get (x ∷ []) place ≡ Some y → y ≡ x
@@ -74,7 +74,7 @@ only x y (suc place) e = absurd (none-some y e)
 no-listed : {A B : Type 0} (value : A) → Listed [] value → B
 no-listed value listed = absurd (none-some value listed.there)
 
-pub ticket-marked : (book : BookOf) (own : InitSetup) (now : ℕ) (credential : Granted) (drawn : List ℕ) → (fits : TicketFits book.setup own credential (record { now = now; drawn = drawn })) → cred_for own.list kinds.Kerberos ≡ Some (creds.Kerberos credential)
+pub ticket-marked : (book : BookOf) (own : PlainSetup) (now : ℕ) (credential : Granted) (drawn : List ℕ) → (fits : TicketFits book.setup own credential (record { now = now; drawn = drawn })) → cred_for own.list kinds.Kerberos ≡ Some (creds.Kerberos credential)
     → Marked (by_ticket book own now credential drawn fits)
 ticket-marked book own now credential drawn fits is_own = record {
   tickets = λ c t has listed.
@@ -85,7 +85,7 @@ ticket-marked book own now credential drawn fits is_own = record {
   lines = λ account line listed. no-listed account listed;
 }
 
-pub account-marked : (book : BookOf) (own : InitSetup) (now : ℕ) (user password : List ℕ) → ReadyFor book own now (creds.Scram user password) → Marked (by_account book own now user password)
+pub account-marked : (book : BookOf) (own : PlainSetup) (now : ℕ) (user password : List ℕ) → ReadyFor book own now (creds.Scram user password) → Marked (by_account book own now user password)
 account-marked book own now user password ready = record {
   tickets = λ c t has listed. no-listed t listed;
   servers = λ t listed. no-listed t listed;
@@ -100,17 +100,17 @@ account-marked book own now user password ready = record {
 pub issues-none : (x : Setting) (end : AcceptEnd) (octets : List ℕ) → request_of (setup_in x) end octets ≡ None → Issues x end octets
 issues-none x end octets none = λ o e. absurd (none-some o (sym (ap (opened_in (setup_in x).keytab (setup_in x).own) none) ∙ e))
 
-pub first-scram : (setup : AcceptSetup) (own : InitSetup) (token : List ℕ) → is_own_list own.list ≡ true → IsShort (init_octets (first_sent own token)) → best setup.offer (own_list own) ≡ Some kinds.Scram → request_of setup accepts.New (init_octets (first_sent own token)) ≡ None
+pub first-scram : (setup : AcceptSetup) (own : PlainSetup) (token : List ℕ) → is_own_list own.list ≡ true → IsShort (init_octets (first_sent own token)) → best setup.offer (own_list own) ≡ Some kinds.Scram → request_of setup accepts.New (init_octets (first_sent own token)) ≡ None
 first-scram setup own token list short chosen = rw (init_reads own token list short, chosen) (none-either (is_first_named (own_list own) kinds.Kerberos))
   where
     none-either : (b : Bool) → ◌≡◌ {A = Option (List ℕ)} (if b then None else None) None
     none-either true = refl
     none-either false = refl
 
-pub first-other : (setup : AcceptSetup) (own : InitSetup) (token : List ℕ) → is_own_list own.list ≡ true → IsShort (init_octets (first_sent own token)) → is_first_named (own_list own) kinds.Kerberos ≡ false → request_of setup accepts.New (init_octets (first_sent own token)) ≡ None
+pub first-other : (setup : AcceptSetup) (own : PlainSetup) (token : List ℕ) → is_own_list own.list ≡ true → IsShort (init_octets (first_sent own token)) → is_first_named (own_list own) kinds.Kerberos ≡ false → request_of setup accepts.New (init_octets (first_sent own token)) ≡ None
 first-other setup own token list short other = rw (init_reads own token list short, other) refl
 
-pub first-request : (setup : AcceptSetup) (own : InitSetup) (token : List ℕ) → is_own_list own.list ≡ true → IsShort (init_octets (first_sent own token)) → best setup.offer (own_list own) ≡ Some kinds.Kerberos → is_first_named (own_list own) kinds.Kerberos ≡ true
+pub first-request : (setup : AcceptSetup) (own : PlainSetup) (token : List ℕ) → is_own_list own.list ≡ true → IsShort (init_octets (first_sent own token)) → best setup.offer (own_list own) ≡ Some kinds.Kerberos → is_first_named (own_list own) kinds.Kerberos ≡ true
     → request_of setup accepts.New (init_octets (first_sent own token)) ≡ Some token
 first-request setup own token list short chosen first = rw (init_reads own token list short, chosen, first) refl
 
@@ -118,7 +118,7 @@ pub later-request : (setup : AcceptSetup) (chosen : Chosen) (token : List ℕ) �
 later-request setup chosen token short = rw (token_reads token short) refl
 
 -- the request of a marked ticket
-pub issues-request : (book : BookOf) (own : InitSetup) (now : ℕ) (credential : Granted) (drawn : List ℕ) → (fits : TicketFits book.setup own credential (record { now = now; drawn = drawn })) → (end : AcceptEnd) (octets : List ℕ)
+pub issues-request : (book : BookOf) (own : PlainSetup) (now : ℕ) (credential : Granted) (drawn : List ℕ) → (fits : TicketFits book.setup own credential (record { now = now; drawn = drawn })) → (end : AcceptEnd) (octets : List ℕ)
     → request_of book.setup end octets ≡ Some (tickets.request_by own credential) → Issues (by_ticket book own now credential drawn fits) end octets
 issues-request book own now credential drawn fits end octets is = λ o e.
     let exchanged = tickets.exchanges book.setup own credential (record { now = now; drawn = drawn }) fits in
@@ -135,10 +135,10 @@ issues-request book own now credential drawn fits end octets is = λ o e.
 
 -- ---- Kerberos: one round
 
-guarded-session : (book : BookOf) (own : InitSetup) (now : ℕ) (credential : Granted) (drawn : List ℕ) → (fits : TicketFits book.setup own credential (record { now = now; drawn = drawn })) → GuardedSession (by_ticket book own now credential drawn fits).marking credential.session
+guarded-session : (book : BookOf) (own : PlainSetup) (now : ℕ) (credential : Granted) (drawn : List ℕ) → (fits : TicketFits book.setup own credential (record { now = now; drawn = drawn })) → GuardedSession (by_ticket book own now credential drawn fits).marking credential.session
 guarded-session book own now credential drawn fits = record { ticket = ticket_of book.setup own credential (record { now = now; drawn = drawn }) fits; issued = record { place = 0; there = refl }; marked = refl; session = refl }
 
-pub request-round : (book : BookOf) (own : InitSetup) (now : ℕ) (credential : Granted) (drawn : List ℕ) (made : List MechMaking) → length own.draws ≡ 66 → length drawn ≡ 66 → (fits : TicketFits book.setup own credential (record { now = now; drawn = drawn }))
+pub request-round : (book : BookOf) (own : PlainSetup) (now : ℕ) (credential : Granted) (drawn : List ℕ) (made : List MechMaking) → length own.draws ≡ 66 → length drawn ≡ 66 → (fits : TicketFits book.setup own credential (record { now = now; drawn = drawn }))
     → cred_for own.list kinds.Kerberos ≡ Some (creds.Kerberos credential) → IsNew (by_ticket book own now credential drawn fits) (judged_mark (tickets.judged_on book.setup own credential (record { now = now; drawn = drawn }) fits))
     → AmongMakings made (tickets.asking own credential)
     → LastRound (by_ticket book own now credential drawn fits) drawn mechs.Kerberos (request_begins own credential).mech (request_begins own credential).token made
@@ -178,7 +178,7 @@ request-round book own now credential drawn made own_draws long fits is_own new 
 -- ---- SCRAM: two rounds
 
 -- the user, on the occasion of the first text
-abbrev pub user_on : (book : BookOf) (own : InitSetup) (now : ℕ) (user password drawn : List ℕ) → UserFits book.setup own user password (record { now = now; drawn = drawn }) → texts.Users
+abbrev pub user_on : (book : BookOf) (own : PlainSetup) (now : ℕ) (user password drawn : List ℕ) → UserFits book.setup own user password (record { now = now; drawn = drawn }) → texts.Users
 user_on book own now user password drawn fits = record { setup = book.setup; own = own; user = user; password = password; occasion = record { now = now; drawn = drawn }; fits = fits }
 
 gone-passed : (after : Answered) → passed (gone_on after) ≡ gone_on after
@@ -213,7 +213,7 @@ one-proof u now before typed_all key last proof long among = elim (among_split (
     no-signature (inl is) = other-kind (ap (λ (m : MechMaking). m.kind) is)
     no-signature (inr none) = absurd none
 
-pub proof-round : (book : BookOf) (own : InitSetup) (now : ℕ) (user password drawn next : List ℕ) (before : List MechMaking) → (fits : UserFits book.setup own user password (record { now = now; drawn = drawn }))
+pub proof-round : (book : BookOf) (own : PlainSetup) (now : ℕ) (user password drawn next : List ℕ) (before : List MechMaking) → (fits : UserFits book.setup own user password (record { now = now; drawn = drawn }))
     → cred_for own.list kinds.Scram ≡ Some (creds.Scram user password) → ((m : MechMaking) → AmongMakings before m → IsTyped m)
     → LastRound (by_account book own now user password) next (mechs.Proof (texts.accept_end (user_on book own now user password drawn fits))) (own_mechs.Proof (texts.proved (user_on book own now user password drawn fits)).end)
     (texts.proved (user_on book own now user password drawn fits)).token ((before ++ []) ++ ((texts.proved (user_on book own now user password drawn fits)).makes ++ []))
@@ -259,7 +259,7 @@ proof-round book own now user password drawn next before fits is_own typed_all =
         (subst (λ (a : AcceptModel). HasAuth a text auth) (sym (same-end _ end _ text e)) has))
 
 -- the round of the texts
-abbrev pub text-round : (book : BookOf) (own : InitSetup) (now : ℕ) (user password drawn : List ℕ) (before : List MechMaking) (due : Bool) (turn : Turn) (end : AcceptEnd) (octets : List ℕ) → (fits : UserFits book.setup own user password (record { now = now; drawn = drawn }))
+abbrev pub text-round : (book : BookOf) (own : PlainSetup) (now : ℕ) (user password drawn : List ℕ) (before : List MechMaking) (due : Bool) (turn : Turn) (end : AcceptEnd) (octets : List ℕ) → (fits : UserFits book.setup own user password (record { now = now; drawn = drawn }))
     → is_own own.list kinds.Scram ≡ true → MayCome turn own kinds.Scram → Hears book.setup end octets turn (chosen_on own kinds.Scram due) mechs.Scram (texts.one_token (user_on book own now user password drawn fits)) → Issues (by_account book own now user password) end octets
     → Goes (by_account book own now user password) end (end_at turn own kinds.Scram due (own_mechs.Scram (texts.init_end (user_on book own now user password drawn fits)))) octets drawn before []
 text-round book own now user password drawn before due turn end octets fits is may hears issues = record {

@@ -18,8 +18,8 @@ use Rattle.gss_client.specs.Talk.{begun}
 use Rattle.world_laws.specs.declared.event.Happened.{Happened}
 use Rattle.world_laws.specs.declared.event.Happened.TheVariants.{Sent}
 use Rattle.world_laws.specs.declared.event.WorldEvent.TheVariants.{Lane, CallBy}
-use Rattle.world_laws.specs.declared.stage.Stage.{Stage}
-use Rattle.world_laws.specs.declared.stage.Stage.TheVariants as stages
+use Rattle.world_laws.specs.Stages.{StageSays}
+use Rattle.world_laws.specs.Stages as stages
 use Rattle.world_laws.specs.Deeds.{Deed}
 use Rattle.world_laws.specs.State.{World}
 use Rattle.world_laws.specs.Initiators.{call_makings}
@@ -55,7 +55,7 @@ given laws shown kind k procedure args served proper size now draws timely rules
   proper = proper;
   size = size;
   timely = timely k.met.now.book k.met.context.id k.met.context.fixed.lasts k.met.outcome.mech (names_of k.met.outcome) k.met.shows.book k.rests.whole;
-  law = λ lease same. rules (begun Integrity 1 k.rests.xid k.met.outcome (handle_of k.met.context.id)) lease (ap (λ (xs : List Stage). slice_get xs 0) (k.met.shows.stages ∙ k.rests.stands)) same;
+  law = λ lease same. rules (begun Integrity 1 k.rests.xid k.met.outcome (handle_of k.met.context.id)) lease (ap (λ (xs : List StageSays). slice_get xs 0) (k.met.shows.stages ∙ k.rests.stands)) same;
 }
 
 abbrev calling : {shown : Shown} {now : ℕ} {draws : List ℕ} {procedure : ℕ} {args : List ℕ} → Given shown now draws procedure args → Calling
@@ -157,7 +157,7 @@ goes-on begin now draws procedure args g two p deed new ad all = record {
   facts = ad.facts;
   fixed = ad.fixed;
   setup = all.setup;
-  completed = completed-was g.k.met.now new (session (calling g)) g.k.rests.stands (ad.stands ∙ ap (λ (xs : List Stage). slice_set xs 0 (stages.Stands (session_after (session (calling g))))) g.k.rests.stands) ad.facts;
+  completed = completed-was g.k.met.now new (session (calling g)) g.k.rests.stands (ad.stands ∙ ap (λ (xs : List StageSays). slice_set xs 0 (stages.Stands (session_after (session (calling g))))) g.k.rests.stands) ad.facts;
   handed_out = λ making octets password among. was-among g.k.met.now.makings (call_makings (session (calling g)) procedure args) ad.makes making octets password (subst (λ (ms : List MechMaking). AmongMakings ms making) ad.makings among);
 }
 

@@ -7,17 +7,17 @@ use Rattle.krb_tokens.specs.declared.end.Side.TheVariants.{Initiator, Acceptor}
 use Rattle.krb_tokens.specs.Mic.{mic_header, mic_of}
 use Rattle.spnego_core.specs.declared.outcome.Outcome.{Outcome}
 use Rattle.spnego_core.specs.declared.setup.AcceptSetup.{AcceptSetup}
-use Rattle.spnego_core.specs.declared.setup.InitSetup.{InitSetup}
 use Rattle.spnego_core.specs.declared.setup.MechCred.{MechCred}
 use Rattle.spnego_core.specs.declared.init_mech.InitMech.{InitMech}
 use Rattle.spnego_core.specs.declared.init_mech.InitAnswer.TheVariants as tells
-use Rattle.spnego_core.specs.declared.init_end.InitEnd.TheVariants as inits
-use Rattle.spnego_core.specs.declared.init_end.InitStep.TheVariants as initiated
 use Rattle.spnego_core.specs.declared.accept_end.AcceptEnd.{AcceptEnd}
 use Rattle.spnego_core.specs.declared.accept_end.AcceptEnd.TheVariants as accepts
 use Rattle.spnego_core.specs.declared.accept_end.AcceptStep.TheVariants as accepted
 use Rattle.spnego_core.specs.declared.accept_end.Turn.{Turn}
 use Rattle.spnego_core.specs.declared.accept_end.Turn.TheVariants.{First, Later}
+use Rattle.spnego_core.specs.Ends.{PlainSetup}
+use Rattle.spnego_core.specs.Ends as inits
+use Rattle.spnego_core.specs.EndSteps as initiated
 use Rattle.spnego_core.specs.Choice.{is_first, is_first_named, best}
 use Rattle.spnego_core.specs.ListMic.{list_mic, mic_making, mic_found}
 use Rattle.spnego_core.specs.Tokens.{init_octets, resp_octets}
@@ -69,7 +69,7 @@ mic-holds outcome list = λ v e. some-is (list_mic outcome Acceptor list) v 28 (
 
 -- ---- the initiator takes a reply
 
-takes-first : (own : InitSetup) (kind : MechKind) (due finished : Bool) (mech : InitMech) (token : List ℕ) (mic : Option (List ℕ)) → is_own own.list kind ≡ true → is_first (kinds_of own.list) kind ≡ true → length token ≤ 65000 → Holds mic 28
+takes-first : (own : PlainSetup) (kind : MechKind) (due finished : Bool) (mech : InitMech) (token : List ℕ) (mic : Option (List ℕ)) → is_own own.list kind ≡ true → is_first (kinds_of own.list) kind ≡ true → length token ≤ 65000 → Holds mic 28
     → initiating.init_step (inits.Opens (record { own = own; mech = mech })) (accepting.reply First kind due finished (Some token) mic)
     ≡ initiating.ran (talk_on own kind due) (Some (accepting.state_said First due finished)) mic (init_taken mech token)
 unfolding initiating.opened initiating.picks initiating.run
@@ -80,7 +80,7 @@ takes-first own kind false true mech token mic is first few m =
 takes-first own kind false false mech token mic is first few m =
     rw (reply_reads First kind false false (Some token) mic (one-within token 65000 few) m, named-back kind, is, first) refl
 
-takes-later : (own : InitSetup) (kind : MechKind) (due finished : Bool) (mech : InitMech) (token : List ℕ) (mic : Option (List ℕ)) → length token ≤ 65000 → Holds mic 28
+takes-later : (own : PlainSetup) (kind : MechKind) (due finished : Bool) (mech : InitMech) (token : List ℕ) (mic : Option (List ℕ)) → length token ≤ 65000 → Holds mic 28
     → initiating.init_step (inits.Talks (record { talk = talk_on own kind due; mech = mech })) (accepting.reply Later kind due finished (Some token) mic)
     ≡ initiating.ran (talk_on own kind due) (Some (accepting.state_said Later due finished)) mic (init_taken mech token)
 unfolding initiating.talked initiating.run
@@ -88,14 +88,14 @@ takes-later own kind true finished mech token mic few m = rw (reply_reads Later 
 takes-later own kind false true mech token mic few m = rw (reply_reads Later kind false true (Some token) mic (one-within token 65000 few) m) refl
 takes-later own kind false false mech token mic few m = rw (reply_reads Later kind false false (Some token) mic (one-within token 65000 few) m) refl
 
-takes : (turn : Turn) (own : InitSetup) (kind : MechKind) (due finished : Bool) (mech : InitMech) (token : List ℕ) (mic : Option (List ℕ)) → is_own own.list kind ≡ true → MayCome turn own kind → length token ≤ 65000 → Holds mic 28
+takes : (turn : Turn) (own : PlainSetup) (kind : MechKind) (due finished : Bool) (mech : InitMech) (token : List ℕ) (mic : Option (List ℕ)) → is_own own.list kind ≡ true → MayCome turn own kind → length token ≤ 65000 → Holds mic 28
     → initiating.init_step (end_at turn own kind due mech) (accepting.reply turn kind due finished (Some token) mic)
     ≡ initiating.ran (talk_on own kind due) (Some (accepting.state_said turn due finished)) mic (init_taken mech token)
 takes First own kind due finished mech token mic is may few m = takes-first own kind due finished mech token mic is may few m
 takes Later own kind due finished mech token mic is may few m = takes-later own kind due finished mech token mic few m
 
 -- the mechanism goes on
-abbrev pub gone_on : InitSetup → MechKind → Bool → MechReplied → InitMech → List ℕ → initiating.Initiated
+abbrev pub gone_on : PlainSetup → MechKind → Bool → MechReplied → InitMech → List ℕ → initiating.Initiated
 gone_on own kind due replied next further = record {
   step = initiated.More (inits.Talks (record { talk = talk_on own kind due; mech = next })) (resp_octets (initiating.token_sent further));
   chosen = Some kind;
@@ -104,14 +104,14 @@ gone_on own kind due replied next further = record {
   found = replied.found ++ [];
 }
 
-more-by : (turn : Turn) (own : InitSetup) (kind : MechKind) (due : Bool) (replied : MechReplied) (next : InitMech) (further : List ℕ) → replied.answer ≡ tells.More next further
+more-by : (turn : Turn) (own : PlainSetup) (kind : MechKind) (due : Bool) (replied : MechReplied) (next : InitMech) (further : List ℕ) → replied.answer ≡ tells.More next further
     → initiating.ran (talk_on own kind due) (Some (accepting.state_said turn due false)) None (Ok replied) ≡ Ok (gone_on own kind due replied next further)
 more-by First own kind true replied next further e = rw e refl
 more-by First own kind false replied next further e = rw e refl
 more-by Later own kind true replied next further e = rw e refl
 more-by Later own kind false replied next further e = rw e refl
 
-pub takes-more : (turn : Turn) (own : InitSetup) (kind : MechKind) (due : Bool) (mech : InitMech) (token : List ℕ) (replied : MechReplied) (next : InitMech) (further : List ℕ) → is_own own.list kind ≡ true → MayCome turn own kind → length token ≤ 65000
+pub takes-more : (turn : Turn) (own : PlainSetup) (kind : MechKind) (due : Bool) (mech : InitMech) (token : List ℕ) (replied : MechReplied) (next : InitMech) (further : List ℕ) → is_own own.list kind ≡ true → MayCome turn own kind → length token ≤ 65000
     → init_taken mech token ≡ Ok replied → replied.answer ≡ tells.More next further
     → initiating.init_step (end_at turn own kind due mech) (accepting.reply turn kind due false (Some token) None) ≡ Ok (gone_on own kind due replied next further)
 takes-more turn own kind due mech token replied next further is may few e more =
@@ -122,12 +122,12 @@ takes-more turn own kind due mech token replied next further is may few e more =
 abbrev pub ended_plain : MechKind → MechReplied → Outcome → initiating.Initiated
 ended_plain kind replied outcome = record { step = initiated.Done outcome; chosen = Some kind; listed = false; makes = replied.makes ++ []; found = replied.found ++ [] }
 
-plain-by : (turn : Turn) (own : InitSetup) (kind : MechKind) (replied : MechReplied) (outcome : Outcome) → is_first (kinds_of own.list) kind ≡ true → replied.answer ≡ tells.Done outcome
+plain-by : (turn : Turn) (own : PlainSetup) (kind : MechKind) (replied : MechReplied) (outcome : Outcome) → is_first (kinds_of own.list) kind ≡ true → replied.answer ≡ tells.Done outcome
     → initiating.ran (talk_on own kind false) (Some (accepting.state_said turn false true)) None (Ok replied) ≡ Ok (ended_plain kind replied outcome)
 plain-by First own kind replied outcome first e = rw (e, first) refl
 plain-by Later own kind replied outcome first e = rw (e, first) refl
 
-pub takes-plain : (turn : Turn) (own : InitSetup) (kind : MechKind) (mech : InitMech) (token : List ℕ) (replied : MechReplied) (outcome : Outcome) → is_own own.list kind ≡ true → MayCome turn own kind → is_first (kinds_of own.list) kind ≡ true → length token ≤ 65000
+pub takes-plain : (turn : Turn) (own : PlainSetup) (kind : MechKind) (mech : InitMech) (token : List ℕ) (replied : MechReplied) (outcome : Outcome) → is_own own.list kind ≡ true → MayCome turn own kind → is_first (kinds_of own.list) kind ≡ true → length token ≤ 65000
     → init_taken mech token ≡ Ok replied → replied.answer ≡ tells.Done outcome
     → initiating.init_step (end_at turn own kind false mech) (accepting.reply turn kind false true (Some token) None) ≡ Ok (ended_plain kind replied outcome)
 takes-plain turn own kind mech token replied outcome is may first few e done =
@@ -135,7 +135,7 @@ takes-plain turn own kind mech token replied outcome is may first few e done =
     ∙ (ap (initiating.ran (talk_on own kind false) (Some (accepting.state_said turn false true)) None) e ∙ plain-by turn own kind replied outcome first done)
 
 -- it is done, and the acceptor's MIC is there
-abbrev pub ended_signed : InitSetup → MechKind → MechReplied → Outcome → initiating.Initiated
+abbrev pub ended_signed : PlainSetup → MechKind → MechReplied → Outcome → initiating.Initiated
 ended_signed own kind replied outcome = record {
   step = initiated.More (signed_on own kind outcome) (last_mic own outcome);
   chosen = Some kind;
@@ -144,12 +144,12 @@ ended_signed own kind replied outcome = record {
   found = replied.found ++ mic_found outcome Initiator (initiating.own_list own) (list_mic outcome Acceptor (initiating.own_list own)) ∷ [];
 }
 
-signed-by : (turn : Turn) (own : InitSetup) (kind : MechKind) (replied : MechReplied) (outcome : Outcome) → replied.answer ≡ tells.Done outcome
+signed-by : (turn : Turn) (own : PlainSetup) (kind : MechKind) (replied : MechReplied) (outcome : Outcome) → replied.answer ≡ tells.Done outcome
     → initiating.ran (talk_on own kind true) (Some (accepting.state_said turn true true)) (Some (list_mic outcome Acceptor (initiating.own_list own))) (Ok replied) ≡ Ok (ended_signed own kind replied outcome)
 signed-by First own kind replied outcome e = rw (e, acceptors_mic outcome (initiating.own_list own)) refl
 signed-by Later own kind replied outcome e = rw (e, acceptors_mic outcome (initiating.own_list own)) refl
 
-pub takes-signed : (turn : Turn) (own : InitSetup) (kind : MechKind) (mech : InitMech) (token : List ℕ) (replied : MechReplied) (outcome : Outcome) → is_own own.list kind ≡ true → MayCome turn own kind → length token ≤ 65000
+pub takes-signed : (turn : Turn) (own : PlainSetup) (kind : MechKind) (mech : InitMech) (token : List ℕ) (replied : MechReplied) (outcome : Outcome) → is_own own.list kind ≡ true → MayCome turn own kind → length token ≤ 65000
     → init_taken mech token ≡ Ok replied → replied.answer ≡ tells.Done outcome
     → initiating.init_step (end_at turn own kind true mech) (accepting.reply turn kind true true (Some token) (Some (list_mic outcome Acceptor (initiating.own_list own)))) ≡ Ok (ended_signed own kind replied outcome)
 takes-signed turn own kind mech token replied outcome is may few e done =
@@ -157,7 +157,7 @@ takes-signed turn own kind mech token replied outcome is may few e done =
     ∙ (ap (initiating.ran (talk_on own kind true) (Some (accepting.state_said turn true true)) (Some (list_mic outcome Acceptor (initiating.own_list own)))) e ∙ signed-by turn own kind replied outcome done)
 
 -- another mechanism than the own first was chosen
-abbrev pub switched : InitSetup → MechKind → MechBegun → initiating.Initiated
+abbrev pub switched : PlainSetup → MechKind → MechBegun → initiating.Initiated
 switched own kind begun = record {
   step = initiated.More (end_at Later own kind true begun.mech) (resp_octets (initiating.token_sent begun.token));
   chosen = Some kind;
@@ -166,7 +166,7 @@ switched own kind begun = record {
   found = [];
 }
 
-pub switches : (own : InitSetup) (kind : MechKind) (mech : InitMech) (cred : MechCred) (begun : MechBegun) → is_own own.list kind ≡ true → is_first (kinds_of own.list) kind ≡ false → cred_for own.list kind ≡ Some cred → init_begun own cred ≡ Ok begun
+pub switches : (own : PlainSetup) (kind : MechKind) (mech : InitMech) (cred : MechCred) (begun : MechBegun) → is_own own.list kind ≡ true → is_first (kinds_of own.list) kind ≡ false → cred_for own.list kind ≡ Some cred → init_begun own cred ≡ Ok begun
     → initiating.init_step (inits.Opens (record { own = own; mech = mech })) (accepting.reply First kind true false None None) ≡ Ok (switched own kind begun)
 unfolding initiating.opened initiating.picks
 switches own kind mech cred begun is other cred_is begins =
@@ -176,14 +176,14 @@ switches own kind mech cred begun is other cred_is begins =
 abbrev pub closed_with : MechKind → Outcome → initiating.Initiated
 closed_with kind outcome = record { step = initiated.Done outcome; chosen = Some kind; listed = true; makes = []; found = [] }
 
-pub closes : (own : InitSetup) (kind : MechKind) (outcome : Outcome) → initiating.init_step (signed_on own kind outcome) [] ≡ Ok (closed_with kind outcome)
+pub closes : (own : PlainSetup) (kind : MechKind) (outcome : Outcome) → initiating.init_step (signed_on own kind outcome) [] ≡ Ok (closed_with kind outcome)
 unfolding initiating.closed
 closes own kind outcome = refl
 
 -- ---- the acceptor takes a token
 
 -- the first token, for another mechanism than the chosen one, which waits
-abbrev pub waiting : InitSetup → MechKind → accepting.Accepted
+abbrev pub waiting : PlainSetup → MechKind → accepting.Accepted
 waiting own kind = record {
   step = accepted.More (accepts.Runs (record { chosen = chosen_on own kind true; mech = accept_begun kind })) (accepting.reply First kind true false None None);
   makes = [];
@@ -191,16 +191,16 @@ waiting own kind = record {
   fixes = None;
 }
 
-pub waits : (setup : AcceptSetup) (own : InitSetup) (kind : MechKind) (token : List ℕ) (now : ℕ) (drawn : List ℕ) → is_own_list own.list ≡ true → IsShort (init_octets (initiating.first_sent own token)) → best setup.offer (initiating.own_list own) ≡ Some kind → is_first_named (initiating.own_list own) kind ≡ false
+pub waits : (setup : AcceptSetup) (own : PlainSetup) (kind : MechKind) (token : List ℕ) (now : ℕ) (drawn : List ℕ) → is_own_list own.list ≡ true → IsShort (init_octets (initiating.first_sent own token)) → best setup.offer (initiating.own_list own) ≡ Some kind → is_first_named (initiating.own_list own) kind ≡ false
     → accepting.accept_step setup accepts.New (init_octets (initiating.first_sent own token)) now drawn ≡ Ok (waiting own kind)
 unfolding accepting.begins
 waits setup own kind token now drawn list short chosen other = rw (init_reads own token list short, chosen, other) refl
 
 -- the end that owes the MIC, and its step
-abbrev pub owes : InitSetup → Outcome → ℕ → AcceptEnd
+abbrev pub owes : PlainSetup → Outcome → ℕ → AcceptEnd
 owes own outcome lasts = accepts.Owes (record { received = initiating.own_list own; outcome = outcome; lasts = lasts })
 
-abbrev pub settled : InitSetup → Outcome → ℕ → accepting.Accepted
+abbrev pub settled : PlainSetup → Outcome → ℕ → accepting.Accepted
 settled own outcome lasts = record {
   step = accepted.Done outcome lasts [];
   makes = [];
@@ -208,7 +208,7 @@ settled own outcome lasts = record {
   fixes = None;
 }
 
-pub settles : (setup : AcceptSetup) (own : InitSetup) (outcome : Outcome) (lasts now : ℕ) (drawn : List ℕ) → accepting.accept_step setup (owes own outcome lasts) (last_mic own outcome) now drawn ≡ Ok (settled own outcome lasts)
+pub settles : (setup : AcceptSetup) (own : PlainSetup) (outcome : Outcome) (lasts now : ℕ) (drawn : List ℕ) → accepting.accept_step setup (owes own outcome lasts) (last_mic own outcome) now drawn ≡ Ok (settled own outcome lasts)
 unfolding accepting.closes
 settles setup own outcome lasts now drawn =
     rw (mic_reads (list_mic outcome Initiator (initiating.own_list own)) (list_mic_within outcome Initiator (initiating.own_list own)), initiators_mic outcome (initiating.own_list own)) refl

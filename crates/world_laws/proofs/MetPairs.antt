@@ -23,16 +23,16 @@ use Rattle.spnego_core.specs.declared.outcome.Outcome.{Outcome}
 use Rattle.spnego_core.specs.declared.refusal.MechRefusal.{MechRefusal}
 use Rattle.spnego_core.specs.declared.refusal.NegRefusal.{NegRefusal}
 use Rattle.spnego_core.specs.declared.setup.AcceptSetup.{AcceptSetup}
-use Rattle.spnego_core.specs.declared.setup.InitSetup.{InitSetup}
 use Rattle.spnego_core.specs.declared.setup.MechCred.{MechCred}
 use Rattle.spnego_core.specs.declared.setup.MechCred.TheVariants as creds
 use Rattle.spnego_core.specs.declared.init_mech.InitMech.TheVariants as own_mechs
-use Rattle.spnego_core.specs.declared.init_end.InitEnd.TheVariants as inits
 use Rattle.spnego_core.specs.declared.accept_mech.AcceptMech.TheVariants as mechs
 use Rattle.spnego_core.specs.declared.accept_end.AcceptEnd.{AcceptEnd}
 use Rattle.spnego_core.specs.declared.accept_end.AcceptEnd.TheVariants as accepts
 use Rattle.spnego_core.specs.declared.accept_end.Turn.{Turn}
 use Rattle.spnego_core.specs.declared.accept_end.Turn.TheVariants.{First, Later}
+use Rattle.spnego_core.specs.Ends.{PlainSetup}
+use Rattle.spnego_core.specs.Ends as inits
 use Rattle.spnego_core.specs.AcceptMech.{accept_begun}
 use Rattle.spnego_core.specs.Accepting.{reply}
 use Rattle.spnego_core.specs.Choice.{same_kind, is_first, is_first_named, is_mic_due, best}
@@ -80,14 +80,14 @@ text-typed : (r : Result InitStarted ScramRefusal) (begun : MechBegun) → text_
 text-typed (Ok started) begun e m among = absurd (subst (λ (b : MechBegun). AmongMakings b.makes m) (sym (ok-begun (record { mech = own_mechs.Scram started.end; token = started.token; makes = [] }) begun e)) among)
 text-typed (Err refusal) begun e m among = absurd cc
 
-begun-typed : (own : InitSetup) (cred : MechCred) (begun : MechBegun) → init_begun own cred ≡ Ok begun → (m : MechMaking) → AmongMakings begun.makes m → IsTyped m
+begun-typed : (own : PlainSetup) (cred : MechCred) (begun : MechBegun) → init_begun own cred ≡ Ok begun → (m : MechMaking) → AmongMakings begun.makes m → IsTyped m
 unfolding init_begun
 begun-typed own (creds.Kerberos credential) begun e m among = request-typed (request_makes credential own.stamp own.draws own.bindings) (kerberos_request credential own.stamp own.draws own.bindings) begun e m among
 begun-typed own (creds.Scram user password) begun e m among = text-typed (init_started user password (drawn_nonce own.draws) own.bindings) begun e m among
 
 -- ---- the chosen mechanism runs
 
-abbrev pub setting_with : BookOf → InitSetup → ℕ → Marking → Setting
+abbrev pub setting_with : BookOf → PlainSetup → ℕ → Marking → Setting
 setting_with book own now marking = record { book = book; own = own; now = now; marking = marking }
 
 -- the request that a token has, for the chosen mechanism
@@ -95,7 +95,7 @@ abbrev opened_for : MechKind → List ℕ → Option (List ℕ)
 opened_for kinds.Kerberos token = Some token
 opened_for kinds.Scram token = None
 
-record Runs (book : BookOf) (own : InitSetup) (kind : MechKind) (now : ℕ) (due : Bool) (turn : Turn) (end : AcceptEnd) (octets : List ℕ) (begun : MechBegun) (made : List MechMaking) (draws : List (List ℕ)) : Type 0 where
+record Runs (book : BookOf) (own : PlainSetup) (kind : MechKind) (now : ℕ) (due : Bool) (turn : Turn) (end : AcceptEnd) (octets : List ℕ) (begun : MechBegun) (made : List MechMaking) (draws : List (List ℕ)) : Type 0 where
   marking : Marking
   marked : Marked (setting_with book own now marking)
   outcome : Outcome
@@ -106,7 +106,7 @@ abbrev rounds_due : MechKind → Bool → ℕ
 rounds_due kind due = rounds_of kind + (if due then 1 else 0)
 
 -- what is known of the token at hand
-record AtHand (book : BookOf) (own : InitSetup) (cred : MechCred) (now : ℕ) (due : Bool) (turn : Turn) (end : AcceptEnd) (octets : List ℕ) (begun : MechBegun) (made : List MechMaking) : Type 0 where
+record AtHand (book : BookOf) (own : PlainSetup) (cred : MechCred) (now : ℕ) (due : Bool) (turn : Turn) (end : AcceptEnd) (octets : List ℕ) (begun : MechBegun) (made : List MechMaking) : Type 0 where
   first : due ≡ false → is_first (kinds_of own.list) (kind_of cred) ≡ true
   is_cred : cred_for own.list (kind_of cred) ≡ Some cred
   is : is_own own.list (kind_of cred) ≡ true
@@ -120,7 +120,7 @@ record AtHand (book : BookOf) (own : InitSetup) (cred : MechCred) (now : ℕ) (d
   ready : ReadyFor book own now cred
   untaken : taken_of book.core.history ≡ []
 
-request-runs : (book : BookOf) (own : InitSetup) (credential : Granted) (now : ℕ) (due : Bool) (turn : Turn) (end : AcceptEnd) (octets : List ℕ) (begun : MechBegun) (made : List MechMaking) (draws : List ℕ) (rest : List (List ℕ))
+request-runs : (book : BookOf) (own : PlainSetup) (credential : Granted) (now : ℕ) (due : Bool) (turn : Turn) (end : AcceptEnd) (octets : List ℕ) (begun : MechBegun) (made : List MechMaking) (draws : List ℕ) (rest : List (List ℕ))
     → AtHand book own (creds.Kerberos credential) now due turn end octets begun made → length (take 66 draws) ≡ 66 → TicketFits book.setup own credential (record { now = now; drawn = take 66 draws }) → length rest ≡ (if due then 1 else 0)
     → Runs book own kinds.Kerberos now due turn end octets begun made (draws ∷ rest)
 request-runs book own credential now due turn end octets begun made draws rest a long fits count =
@@ -142,7 +142,7 @@ request-runs book own credential now due turn end octets begun made draws rest a
           (issues-request book own now credential (take 66 draws) fits end octets opens) r count;
     })
 
-texts-run : (book : BookOf) (own : InitSetup) (user password : List ℕ) (now : ℕ) (due : Bool) (turn : Turn) (end : AcceptEnd) (octets : List ℕ) (begun : MechBegun) (made : List MechMaking) (draws next : List ℕ) (rest : List (List ℕ))
+texts-run : (book : BookOf) (own : PlainSetup) (user password : List ℕ) (now : ℕ) (due : Bool) (turn : Turn) (end : AcceptEnd) (octets : List ℕ) (begun : MechBegun) (made : List MechMaking) (draws next : List ℕ) (rest : List (List ℕ))
     → AtHand book own (creds.Scram user password) now due turn end octets begun made → UserFits book.setup own user password (record { now = now; drawn = take 66 draws }) → length rest ≡ (if due then 1 else 0)
     → Runs book own kinds.Scram now due turn end octets begun made (draws ∷ next ∷ rest)
 texts-run book own user password now due turn end octets begun made draws next rest a fits count =
@@ -167,7 +167,7 @@ texts-run book own user password now due turn end octets begun made draws next r
       );
     })
 
-runs : (book : BookOf) (own : InitSetup) (cred : MechCred) (now : ℕ) (due : Bool) (turn : Turn) (end : AcceptEnd) (octets : List ℕ) (begun : MechBegun) (made : List MechMaking) (draws : List (List ℕ))
+runs : (book : BookOf) (own : PlainSetup) (cred : MechCred) (now : ℕ) (due : Bool) (turn : Turn) (end : AcceptEnd) (octets : List ℕ) (begun : MechBegun) (made : List MechMaking) (draws : List (List ℕ))
     → AtHand book own cred now due turn end octets begun made → AllByRecursion (Fitting book.setup own cred) (occasions_at now draws) → length draws ≡ rounds_due (kind_of cred) due
     → Runs book own (kind_of cred) now due turn end octets begun made draws
 runs book own (creds.Kerberos credential) now due turn end octets begun made [] a fits count = absurd (omega (arith, count))
@@ -180,7 +180,7 @@ runs book own (creds.Scram user password) now due turn end octets begun made (dr
 
 -- ---- the first token
 
-pub record Honest (book : BookOf) (own : InitSetup) (kind : MechKind) (now : ℕ) (draws : List (List ℕ)) (started : Started) : Type 0 where
+pub record Honest (book : BookOf) (own : PlainSetup) (kind : MechKind) (now : ℕ) (draws : List (List ℕ)) (started : Started) : Type 0 where
   pub marking : Marking
   pub marked : Marked (setting_with book own now marking)
   pub outcome : Outcome
@@ -188,10 +188,10 @@ pub record Honest (book : BookOf) (own : InitSetup) (kind : MechKind) (now : ℕ
   pub rounds : Rounds (setting_with book own now marking) draws accepts.New started.end started.token started.makes [] outcome
 
 -- an end that sent it
-abbrev started_by : InitSetup → MechBegun → Started
+abbrev started_by : PlainSetup → MechBegun → Started
 started_by own begun = record { end = inits.Opens (record { own = own; mech = begun.mech }); token = init_octets (first_sent own begun.token); makes = begun.makes }
 
-record Began (own : InitSetup) (started : Started) : Type 0 where
+record Began (own : PlainSetup) (started : Started) : Type 0 where
   first : MechCred
   rest : List MechCred
   list : own.list ≡ first ∷ rest
@@ -205,11 +205,11 @@ given_started s = Ok s
 ok-started : (a b : Started) → given_started a ≡ given_started b → a ≡ b
 ok-started a b e = cc
 
-began-by : (own : InitSetup) (first : MechCred) (rest : List MechCred) (started : Started) (r : Result MechBegun MechRefusal) → own.list ≡ first ∷ rest → init_begun own first ≡ r → opens own r ≡ Ok started → Began own started
+began-by : (own : PlainSetup) (first : MechCred) (rest : List MechCred) (started : Started) (r : Result MechBegun MechRefusal) → own.list ≡ first ∷ rest → init_begun own first ≡ r → opens own r ≡ Ok started → Began own started
 began-by own first rest started (Ok begun) list begins e = record { first = first; rest = rest; list = list; begun = begun; begins = begins; is = ok-started started (started_by own begun) (sym e) }
 began-by own first rest started (Err refusal) list begins e = absurd cc
 
-began-from : (own : InitSetup) (list : List MechCred) (started : Started) → own.list ≡ list → starts own list ≡ Ok started → Began own started
+began-from : (own : PlainSetup) (list : List MechCred) (started : Started) → own.list ≡ list → starts own list ≡ Ok started → Began own started
 began-from own [] started e begins = absurd cc
 began-from own (first ∷ rest) started e begins = began-by own first rest started (init_begun own first) e refl begins
 
@@ -230,22 +230,22 @@ cred-own : (list : List MechCred) (kind : MechKind) (cred : MechCred) → cred_f
 cred-own [] kind cred e = absurd cc
 cred-own (first ∷ rest) kind cred e = own-by (same_kind (kind_of first) kind) rest kind first cred refl (λ f. cred-own rest kind cred f) e
 
-first-opened : (setup : AcceptSetup) (own : InitSetup) (kind : MechKind) (token : List ℕ) → is_own_list own.list ≡ true → IsShort (init_octets (first_sent own token)) → best setup.offer (own_list own) ≡ Some kind → is_first_named (own_list own) kind ≡ true
+first-opened : (setup : AcceptSetup) (own : PlainSetup) (kind : MechKind) (token : List ℕ) → is_own_list own.list ≡ true → IsShort (init_octets (first_sent own token)) → best setup.offer (own_list own) ≡ Some kind → is_first_named (own_list own) kind ≡ true
     → request_of setup accepts.New (init_octets (first_sent own token)) ≡ opened_for kind token
 first-opened setup own kinds.Kerberos token list short chosen named = first-request setup own token list short chosen named
 first-opened setup own kinds.Scram token list short chosen named = first-scram setup own token list short chosen
 
-other-opened : (setup : AcceptSetup) (own : InitSetup) (kind : MechKind) (token : List ℕ) → is_own_list own.list ≡ true → IsShort (init_octets (first_sent own token)) → best setup.offer (own_list own) ≡ Some kind → is_first_named (own_list own) kind ≡ false
+other-opened : (setup : AcceptSetup) (own : PlainSetup) (kind : MechKind) (token : List ℕ) → is_own_list own.list ≡ true → IsShort (init_octets (first_sent own token)) → best setup.offer (own_list own) ≡ Some kind → is_first_named (own_list own) kind ≡ false
     → request_of setup accepts.New (init_octets (first_sent own token)) ≡ None
 other-opened setup own kinds.Kerberos token list short chosen other = first-other setup own token list short other
 other-opened setup own kinds.Scram token list short chosen other = first-scram setup own token list short chosen
 
-later-opened : (setup : AcceptSetup) (own : InitSetup) (kind : MechKind) (token : List ℕ) → IsShort (resp_octets (token_sent token)) → request_of setup (accepts.Runs (record { chosen = chosen_on own kind true; mech = accept_begun kind })) (resp_octets (token_sent token)) ≡ opened_for kind token
+later-opened : (setup : AcceptSetup) (own : PlainSetup) (kind : MechKind) (token : List ℕ) → IsShort (resp_octets (token_sent token)) → request_of setup (accepts.Runs (record { chosen = chosen_on own kind true; mech = accept_begun kind })) (resp_octets (token_sent token)) ≡ opened_for kind token
 later-opened setup own kinds.Kerberos token short = later-request setup (chosen_on own kinds.Kerberos true) token short
 later-opened setup own kinds.Scram token short = refl
 
 -- what is known of the pair
-record Pair (book : BookOf) (own : InitSetup) (cred : MechCred) (now : ℕ) (started : Started) (begun : MechBegun) : Type 0 where
+record Pair (book : BookOf) (own : PlainSetup) (cred : MechCred) (now : ℕ) (started : Started) (begun : MechBegun) : Type 0 where
   list : is_own_list own.list ≡ true
   chosen : best book.setup.offer (own_list own) ≡ Some (kind_of cred)
   is_cred : cred_for own.list (kind_of cred) ≡ Some cred
@@ -258,7 +258,7 @@ record Pair (book : BookOf) (own : InitSetup) (cred : MechCred) (now : ℕ) (sta
   untaken : taken_of book.core.history ≡ []
 
 -- the chosen mechanism is the own first one
-with-first : (book : BookOf) (own : InitSetup) (cred : MechCred) (now : ℕ) (draws : List (List ℕ)) (started : Started) (begun : MechBegun) → Pair book own cred now started begun
+with-first : (book : BookOf) (own : PlainSetup) (cred : MechCred) (now : ℕ) (draws : List (List ℕ)) (started : Started) (begun : MechBegun) → Pair book own cred now started begun
     → AllByRecursion (Fitting book.setup own cred) (occasions_at now draws) → is_first (kinds_of own.list) (kind_of cred) ≡ true → length draws ≡ rounds_due (kind_of cred) (is_mic_due book.setup.offer (own_list own) (kind_of cred))
     → Honest book own (kind_of cred) now draws started
 with-first book own cred now draws started begun p fits first count =
@@ -320,7 +320,7 @@ waits-goes x kind drawn cred first begun list chosen named other short is is_cre
   short = begun_short;
 }
 
-with-other : (book : BookOf) (own : InitSetup) (cred : MechCred) (now : ℕ) (draws next : List ℕ) (rest : List (List ℕ)) (started : Started) (begun : MechBegun) → Pair book own cred now started begun
+with-other : (book : BookOf) (own : PlainSetup) (cred : MechCred) (now : ℕ) (draws next : List ℕ) (rest : List (List ℕ)) (started : Started) (begun : MechBegun) → Pair book own cred now started begun
     → AllByRecursion (Fitting book.setup own cred) (occasions_at now (next ∷ rest)) → is_first (kinds_of own.list) (kind_of cred) ≡ false → length (next ∷ rest) ≡ rounds_due (kind_of cred) true
     → Honest book own (kind_of cred) now (draws ∷ next ∷ rest) started
 with-other book own cred now draws next rest started begun p fits other count =
@@ -378,14 +378,14 @@ due-other : (a b : Bool) → a ≡ false → not (a && b) ≡ true
 due-other true b e = absurd cc
 due-other false b e = refl
 
-other-by : (book : BookOf) (own : InitSetup) (cred : MechCred) (now : ℕ) (draws : List (List ℕ)) (started : Started) (begun : MechBegun) → Pair book own cred now started begun
+other-by : (book : BookOf) (own : PlainSetup) (cred : MechCred) (now : ℕ) (draws : List (List ℕ)) (started : Started) (begun : MechBegun) → Pair book own cred now started begun
     → AllByRecursion (Fitting book.setup own cred) (occasions_at now draws) → is_first (kinds_of own.list) (kind_of cred) ≡ false → length draws ≡ 1 + (rounds_of (kind_of cred) + 1)
     → Honest book own (kind_of cred) now draws started
 other-by book own cred now [] started begun p fits other count = absurd (omega (arith, count))
 other-by book own cred now (draws ∷ []) started begun p fits other count = absurd (omega (arith, count))
 other-by book own cred now (draws ∷ next ∷ rest) started begun p fits other count = with-other book own cred now draws next rest started begun p fits.1 other (omega (arith, count))
 
-by-cred : (book : BookOf) (own : InitSetup) (cred : MechCred) (now : ℕ) (draws : List (List ℕ)) (started : Started) (begun : MechBegun) → Pair book own cred now started begun
+by-cred : (book : BookOf) (own : PlainSetup) (cred : MechCred) (now : ℕ) (draws : List (List ℕ)) (started : Started) (begun : MechBegun) → Pair book own cred now started begun
     → AllByRecursion (Fitting book.setup own cred) (occasions_at now draws) → length (occasions_at now draws) ≡ tokens_of book.setup own (kind_of cred) → Honest book own (kind_of cred) now draws started
 by-cred book own cred now draws started begun p fits counted =
     let kind : MechKind = kind_of cred in
@@ -400,7 +400,7 @@ by-cred book own cred now draws started begun p fits counted =
           other-by book own cred now draws started begun p fits other (subst (λ (b : Bool). length draws ≡ 1 + (rounds_of kind + (if b then 1 else 0))) is_due whole)
     ]
 
-pub honest : (book : BookOf) (own : InitSetup) (kind : MechKind) (now : ℕ) (draws : List (List ℕ)) → taken_of book.core.history ≡ [] → (h : HonestPair book.setup own kind (occasions_at now draws)) → ReadyFor book own now h.cred → Honest book own kind now draws h.started
+pub honest : (book : BookOf) (own : PlainSetup) (kind : MechKind) (now : ℕ) (draws : List (List ℕ)) → taken_of book.core.history ≡ [] → (h : HonestPair book.setup own kind (occasions_at now draws)) → ReadyFor book own now h.cred → Honest book own kind now draws h.started
 honest book own kind now draws untaken h ready =
     subst (λ (k : MechKind). best book.setup.offer (own_list own) ≡ Some k → cred_for own.list k ≡ Some h.cred → length (occasions_at now draws) ≡ tokens_of book.setup own k → Honest book own k now draws h.started)
     (cred_for-kind own.list kind h.cred h.is_cred)

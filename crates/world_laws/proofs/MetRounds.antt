@@ -13,12 +13,11 @@ use Rattle.scram_mech.specs.MechMaking.{OfType, MechMaking, AmongMakings, proof_
 use Rattle.scram_mech.specs.Secrets.{stored_key}
 use Rattle.spnego_core.specs.declared.outcome.Outcome.{Outcome}
 use Rattle.spnego_core.specs.declared.setup.AcceptSetup.{AcceptSetup}
-use Rattle.spnego_core.specs.declared.setup.InitSetup.{InitSetup}
 use Rattle.spnego_core.specs.declared.setup.MechCred.TheVariants as creds
-use Rattle.spnego_core.specs.declared.init_end.InitEnd.{InitEnd}
-use Rattle.spnego_core.specs.declared.init_end.InitStep.TheVariants as init_steps
 use Rattle.spnego_core.specs.declared.accept_end.AcceptEnd.{AcceptEnd}
 use Rattle.spnego_core.specs.declared.accept_end.AcceptStep.TheVariants as accept_steps
+use Rattle.spnego_core.specs.Ends.{PlainSetup, EndSays}
+use Rattle.spnego_core.specs.EndSteps as init_steps
 use Rattle.spnego_core.specs.AcceptMech.{Basis, ByRequest, ByProof}
 use Rattle.spnego_core.specs.Accepting.{Fixed, Accepted, accept_step}
 use Rattle.spnego_core.specs.Exchange.{passed}
@@ -33,7 +32,7 @@ use Rattle.world_laws.specs.Premises.{Ticket, Account, Marking, Listed, GuardedB
 -- the ends of an exchange, the book as it is before, the moment, and what the reader marks
 pub record Setting : Type 0 where
   pub book : BookOf
-  pub own : InitSetup
+  pub own : PlainSetup
   pub now : ℕ
   pub marking : Marking
 
@@ -74,20 +73,20 @@ pub record Heard (x : Setting) (end : AcceptEnd) (token drawn : List ℕ) (made 
   pub unmarked : accepted.fixes ≡ None → mark_of accepted.step ≡ None
 
 -- the initiator's end takes the reply
-pub record Took (end : InitEnd) (reply : List ℕ) (made : List MechMaking) : Type 0 where
+pub record Took (end : EndSays) (reply : List ℕ) (made : List MechMaking) : Type 0 where
   pub initiated : Initiated
   pub initiates : init_step end reply ≡ Ok initiated
   pub found : (m : MechMaking) → AmongMakings initiated.found m → AmongMakings made m
 
 -- both go on
-pub record Goes (x : Setting) (end : AcceptEnd) (initiator : InitEnd) (token drawn : List ℕ) (made : List MechMaking) (fixed : List Fixed) : Type 0 where
+pub record Goes (x : Setting) (end : AcceptEnd) (initiator : EndSays) (token drawn : List ℕ) (made : List MechMaking) (fixed : List Fixed) : Type 0 where
   pub heard : Heard x end token drawn made fixed
   pub after : AcceptEnd
   pub reply : List ℕ
   pub goes : passed heard.accepted.step ≡ accept_steps.More after reply
   pub size : length reply ≤ 65536
   pub took : Took initiator reply (made ++ heard.accepted.makes)
-  pub next : InitEnd
+  pub next : EndSays
   pub further : List ℕ
   pub more : took.initiated.step ≡ init_steps.More next further
   pub short : IsShort further
@@ -100,7 +99,7 @@ pub record Final (x : Setting) (made : List MechMaking) (outcome : Outcome) (bas
   pub by_proof : (end : AcceptModel) (text auth : List ℕ) → basis ≡ ByProof end text → HasAuth end text auth → OneProof auth made
 
 -- both are done
-pub record Ends (x : Setting) (end : AcceptEnd) (initiator : InitEnd) (token drawn : List ℕ) (made : List MechMaking) (fixed : List Fixed) (outcome : Outcome) : Type 0 where
+pub record Ends (x : Setting) (end : AcceptEnd) (initiator : EndSays) (token drawn : List ℕ) (made : List MechMaking) (fixed : List Fixed) (outcome : Outcome) : Type 0 where
   pub heard : Heard x end token drawn made fixed
   pub lasts : ℕ
   pub reply : List ℕ
@@ -116,7 +115,7 @@ pub record Ends (x : Setting) (end : AcceptEnd) (initiator : InitEnd) (token dra
   pub final : Final x (made ++ heard.accepted.makes) outcome context.basis
 
 -- the exchange from here, with these draws, one for each token
-abbrev pub Rounds : Setting → List (List ℕ) → AcceptEnd → InitEnd → List ℕ → List MechMaking → List Fixed → Outcome → Type 0
+abbrev pub Rounds : Setting → List (List ℕ) → AcceptEnd → EndSays → List ℕ → List MechMaking → List Fixed → Outcome → Type 0
 Rounds x [] end initiator token made fixed outcome = ⊥
 Rounds x (draws ∷ []) end initiator token made fixed outcome = Ends x end initiator token (take 66 draws) made fixed outcome
 Rounds x (draws ∷ next ∷ later) end initiator token made fixed outcome =

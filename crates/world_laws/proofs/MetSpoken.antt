@@ -8,13 +8,13 @@ use Rattle.krb_files.specs.Keytab.{found}
 use Rattle.scram_mech.specs.MechMaking.{OfType, OfPassword, MechMaking, AmongMakings, typed}
 use Rattle.spnego_core.specs.declared.outcome.Outcome.{Outcome}
 use Rattle.spnego_core.specs.declared.setup.AcceptSetup.{AcceptSetup}
-use Rattle.spnego_core.specs.declared.setup.InitSetup.{InitSetup}
+use Rattle.spnego_core.specs.Ends.{PlainSetup}
 use Rattle.spnego_core.proofs.Makings.{among_split}
 use Rattle.gss_client.specs.Session.{SessionState, session_after}
 use Rattle.world_laws.specs.declared.event.Happened.{Happened}
 use Rattle.world_laws.specs.declared.event.WorldEvent.{WorldEvent}
-use Rattle.world_laws.specs.declared.stage.Stage.{Stage}
-use Rattle.world_laws.specs.declared.stage.Stage.TheVariants as stages
+use Rattle.world_laws.specs.Stages.{StageSays}
+use Rattle.world_laws.specs.Stages as stages
 use Rattle.world_laws.specs.State.{Context, World}
 use Rattle.world_laws.specs.Events.{Happens, Next, Run}
 use Rattle.world_laws.specs.Premises.{Marking, Listed, BuiltKey, Unforged, NoForgery, HasTicket, HasAccount, AtInitiator, session_in, Completed, Fresh}
@@ -57,7 +57,7 @@ pub record GoesOn (old new : World) : Type 0 where
   pub facts : new.facts ≡ old.facts
   pub fixed : new.fixed ≡ old.fixed
   pub setup : new.book.setup ≡ old.book.setup
-  pub completed : (i : ℕ) (own : InitSetup) (outcome : Outcome) → Completed new i own outcome → Completed old i own outcome
+  pub completed : (i : ℕ) (own : PlainSetup) (outcome : Outcome) → Completed new i own outcome → Completed old i own outcome
   pub handed_out : (making : MechMaking) (octets : List ℕ) → making.key ≡ OfPassword octets → AmongMakings new.makings making → AmongMakings old.makings making
 
 typed-key : (ms : List Making) (making : MechMaking) → AmongMakings (map typed ms) making → (key : Key) × (making.key ≡ OfType key)
@@ -81,11 +81,11 @@ was-among front calls replies making octets password a = elim (among_split ((fro
   | inr made ↦ (let k = typed-key replies making made in not-both k.0 octets (sym k.1 ∙ password))
 ]
 
-ticket-was : (old new : World) (i : ℕ) (own : InitSetup) (c : Granted) → GoesOn old new → HasTicket new i own c → HasTicket old i own c
-ticket-was old new i own c g has = record { there = ap (λ (fs : List InitSetup). slice_get fs i) (sym g.facts) ∙ has.there; is_own = has.is_own }
+ticket-was : (old new : World) (i : ℕ) (own : PlainSetup) (c : Granted) → GoesOn old new → HasTicket new i own c → HasTicket old i own c
+ticket-was old new i own c g has = record { there = ap (λ (fs : List PlainSetup). slice_get fs i) (sym g.facts) ∙ has.there; is_own = has.is_own }
 
-account-was : (old new : World) (i : ℕ) (own : InitSetup) (user password : List ℕ) → GoesOn old new → HasAccount new i own user password → HasAccount old i own user password
-account-was old new i own user password g has = record { there = ap (λ (fs : List InitSetup). slice_get fs i) (sym g.facts) ∙ has.there; is_own = has.is_own }
+account-was : (old new : World) (i : ℕ) (own : PlainSetup) (user password : List ℕ) → GoesOn old new → HasAccount new i own user password → HasAccount old i own user password
+account-was old new i own user password g has = record { there = ap (λ (fs : List PlainSetup). slice_get fs i) (sym g.facts) ∙ has.there; is_own = has.is_own }
 
 at-was : (old new : World) (key : Key) (auth : List ℕ) → GoesOn old new → AtInitiator new key auth → AtInitiator old key auth
 at-was old new key auth g at = record {
@@ -136,14 +136,14 @@ one-place x y zero e = (refl, sym (same_Some x y e))
 one-place x y (suc i) e = absurd (none-some y e)
 
 pub completed-was : (old new : World) (s : SessionState) → old.stages ≡ stages.Stands s ∷ [] → new.stages ≡ stages.Stands (session_after s) ∷ [] → new.facts ≡ old.facts
-    → (i : ℕ) (own : InitSetup) (outcome : Outcome) → Completed new i own outcome → Completed old i own outcome
+    → (i : ℕ) (own : PlainSetup) (outcome : Outcome) → Completed new i own outcome → Completed old i own outcome
 completed-was old new s was is facts i own outcome done =
-    let one = one-place (stages.Stands (session_after s)) done.stage i (subst (λ (xs : List Stage). slice_get xs i ≡ Some done.stage) is done.stands) in
+    let one = one-place (stages.Stands (session_after s)) done.stage i (subst (λ (xs : List StageSays). slice_get xs i ≡ Some done.stage) is done.stands) in
     let same : session_after s ≡ done.session = same_Some (session_after s) done.session (ap session_in (sym one.1) ∙ done.in_session) in
     record {
-      there = ap (λ (fs : List InitSetup). slice_get fs i) (sym facts) ∙ done.there;
+      there = ap (λ (fs : List PlainSetup). slice_get fs i) (sym facts) ∙ done.there;
       stage = stages.Stands s;
-      stands = ap (λ (xs : List Stage). slice_get xs i) was ∙ ap (λ (k : ℕ). slice_get (stages.Stands s ∷ []) k) one.0;
+      stands = ap (λ (xs : List StageSays). slice_get xs i) was ∙ ap (λ (k : ℕ). slice_get (stages.Stands s ∷ []) k) one.0;
       session = s;
       in_session = refl;
       outcome_is = ap (λ (x : SessionState). x.outcome) same ∙ done.outcome_is;

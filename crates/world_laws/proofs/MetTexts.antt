@@ -33,13 +33,13 @@ use Rattle.scram_mech.proofs.Masks.{proof-gives, length-proof, proof-octets, sig
 use Rattle.spnego_core.specs.declared.outcome.Outcome.{Outcome}
 use Rattle.spnego_core.specs.declared.refusal.MechRefusal.{MechRefusal}
 use Rattle.spnego_core.specs.declared.setup.AcceptSetup.{AcceptSetup}
-use Rattle.spnego_core.specs.declared.setup.InitSetup.{InitSetup}
 use Rattle.spnego_core.specs.declared.setup.MechCred.TheVariants as creds
 use Rattle.spnego_core.specs.declared.init_mech.InitAnswer.TheVariants as tells
 use Rattle.spnego_core.specs.declared.init_mech.InitMech.TheVariants as mechs
 use Rattle.spnego_core.specs.declared.accept_mech.AcceptMech.{AcceptMech}
 use Rattle.spnego_core.specs.declared.accept_mech.AcceptMech.TheVariants as accepts
 use Rattle.spnego_core.specs.declared.accept_mech.AcceptAnswer.TheVariants as answers
+use Rattle.spnego_core.specs.Ends.{PlainSetup}
 use Rattle.spnego_core.specs.Outcome.{outcome_of}
 use Rattle.spnego_core.specs.AcceptMech.{MechTaken, proof_answered, accept_taken}
 use Rattle.spnego_core.specs.Exchange.{Occasion, UserFits}
@@ -50,7 +50,7 @@ use Rattle.world_laws.specs.Premises.{HasAuth}
 -- a user and an acceptor whose facts fit on the occasion of the first text
 pub record Users : Type 0 where
   pub setup : AcceptSetup
-  pub own : InitSetup
+  pub own : PlainSetup
   pub user : List ℕ
   pub password : List ℕ
   pub occasion : Occasion

@@ -30,10 +30,10 @@ use Rattle.ap_exchange.proofs.Passed.{same_own}
 use Rattle.scram_mech.specs.MechMaking.{MechMaking, typed}
 use Rattle.spnego_core.specs.declared.outcome.Outcome.{Outcome}
 use Rattle.spnego_core.specs.declared.setup.AcceptSetup.{AcceptSetup}
-use Rattle.spnego_core.specs.declared.setup.InitSetup.{InitSetup}
 use Rattle.spnego_core.specs.declared.init_mech.InitAnswer.TheVariants as tells
 use Rattle.spnego_core.specs.declared.init_mech.InitMech.TheVariants as mechs
 use Rattle.spnego_core.specs.declared.accept_mech.AcceptMech.TheVariants as accepts
+use Rattle.spnego_core.specs.Ends.{PlainSetup}
 use Rattle.spnego_core.specs.Outcome.{outcome_of}
 use Rattle.spnego_core.specs.AcceptMech.{MechTaken, request_answered, accept_taken}
 use Rattle.spnego_core.specs.Exchange.{Occasion, TicketFits}
@@ -63,14 +63,14 @@ data-again refusal key usage confounder octets s = rw (type-again key, s.opens) 
 -- ---- the request
 
 -- the token, and what is handed out with it
-abbrev pub request_by : InitSetup → Granted → List ℕ
+abbrev pub request_by : PlainSetup → Granted → List ℕ
 request_by own credential = request_token credential own.stamp own.draws own.bindings
 
-abbrev pub asking : InitSetup → Granted → MechMaking
+abbrev pub asking : PlainSetup → Granted → MechMaking
 asking own credential = typed (request_making credential own.stamp own.draws own.bindings)
 
 -- what it opens to
-abbrev pub exchange : (setup : AcceptSetup) (own : InitSetup) (credential : Granted) (occasion : Occasion) → TicketFits setup own credential occasion → Exchange
+abbrev pub exchange : (setup : AcceptSetup) (own : PlainSetup) (credential : Granted) (occasion : Occasion) → TicketFits setup own credential occasion → Exchange
 exchange setup own credential occasion fits = record {
   request = ap_req_of credential own.stamp own.draws own.bindings;
   granted = fits.fit.granted;
@@ -82,7 +82,7 @@ exchange setup own credential occasion fits = record {
   said = authenticator_of credential own.stamp own.draws own.bindings;
 }
 
-pub exchanges : (setup : AcceptSetup) (own : InitSetup) (credential : Granted) (occasion : Occasion) → (fits : TicketFits setup own credential occasion)
+pub exchanges : (setup : AcceptSetup) (own : PlainSetup) (credential : Granted) (occasion : Occasion) → (fits : TicketFits setup own credential occasion)
     → exchange_of setup.keytab setup.own (request_by own credential) ≡ Ok (exchange setup own credential occasion fits)
 unfolding exchange_of ticket_for request_token
 exchanges setup own credential occasion fits =
@@ -101,22 +101,22 @@ exchanges setup own credential occasion fits =
       authenticator_law.again (length (authenticator_octets credential own.stamp own.draws own.bindings)) (authenticator_of credential own.stamp own.draws own.bindings) made.sealed,
     ) refl
 
-found-in : (setup : AcceptSetup) (own : InitSetup) (credential : Granted) (occasion : Occasion) → TicketFits setup own credential occasion
+found-in : (setup : AcceptSetup) (own : PlainSetup) (credential : Granted) (occasion : Occasion) → TicketFits setup own credential occasion
     → judge_found setup.keytab setup.own (request_by own credential) ≡ request_making credential own.stamp own.draws own.bindings ∷ []
 found-in setup own credential occasion fits = ap verified_in (exchanges setup own credential occasion fits)
 
 -- the request as it is judged, and the one outcome
-abbrev pub judged_on : (setup : AcceptSetup) (own : InitSetup) (credential : Granted) (occasion : Occasion) → TicketFits setup own credential occasion → Judged
+abbrev pub judged_on : (setup : AcceptSetup) (own : PlainSetup) (credential : Granted) (occasion : Occasion) → TicketFits setup own credential occasion → Judged
 judged_on setup own credential occasion fits = honest_judged credential own.stamp own.bindings fits.fit.part
 
 abbrev pub outcome_with : Judged → List ℕ → Outcome
 outcome_with j drawn = outcome_of kinds.Kerberos (answer_done j drawn)
 
 -- what the acceptor makes of it
-abbrev pub taken_with : InitSetup → Granted → Judged → List ℕ → MechTaken
+abbrev pub taken_with : PlainSetup → Granted → Judged → List ℕ → MechTaken
 taken_with own credential j drawn = request_answered drawn (asking own credential ∷ []) j
 
-pub request-taken : (setup : AcceptSetup) (own : InitSetup) (credential : Granted) (occasion : Occasion) → length own.draws ≡ 66 → (fits : TicketFits setup own credential occasion)
+pub request-taken : (setup : AcceptSetup) (own : PlainSetup) (credential : Granted) (occasion : Occasion) → length own.draws ≡ 66 → (fits : TicketFits setup own credential occasion)
     → accept_taken setup accepts.Kerberos (request_by own credential) occasion.now occasion.drawn ≡ Ok (taken_with own credential (judged_on setup own credential occasion fits) occasion.drawn)
 unfolding accept_taken
 request-taken setup own credential occasion draws fits =
@@ -136,7 +136,7 @@ one-outcome a b g = λ i. record { mech = kinds.Kerberos; initiator = g.initiato
 abbrev pub replied_with : Judged → List ℕ → MechReplied
 replied_with j drawn = record { answer = tells.Done (outcome_with j drawn); makes = []; found = typed (answer_making j drawn) ∷ [] }
 
-pub reply-taken : (setup : AcceptSetup) (own : InitSetup) (credential : Granted) (occasion : Occasion) → length occasion.drawn ≡ 66 → (fits : TicketFits setup own credential occasion)
+pub reply-taken : (setup : AcceptSetup) (own : PlainSetup) (credential : Granted) (occasion : Occasion) → length occasion.drawn ≡ 66 → (fits : TicketFits setup own credential occasion)
     → init_taken (mechs.Kerberos (waiting credential own.stamp own.draws own.bindings)) (answer_token (judged_on setup own credential occasion fits) occasion.drawn)
     ≡ Ok (replied_with (judged_on setup own credential occasion fits) occasion.drawn)
 unfolding init_taken

@@ -12,12 +12,11 @@ use Rattle.scram_mech.proofs.Masks.{length-proof}
 use Rattle.spnego_core.specs.declared.accept_end.AcceptEnd.{AcceptEnd}
 use Rattle.spnego_core.specs.declared.accept_end.AcceptEnd.TheVariants as ends
 use Rattle.spnego_core.specs.declared.accept_end.AcceptStep.TheVariants as accept_steps
-use Rattle.spnego_core.specs.declared.init_end.InitEnd.{InitEnd}
 use Rattle.spnego_core.specs.declared.outcome.Outcome.{Outcome}
 use Rattle.spnego_core.specs.declared.setup.AcceptSetup.{AcceptSetup}
-use Rattle.spnego_core.specs.declared.setup.InitSetup.{InitSetup}
 use Rattle.spnego_core.specs.declared.setup.MechCred.TheVariants as creds
-use Rattle.spnego_core.specs.declared.init_end.InitStep.TheVariants as init_steps
+use Rattle.spnego_core.specs.Ends.{PlainSetup, EndSays}
+use Rattle.spnego_core.specs.EndSteps as init_steps
 use Rattle.spnego_core.specs.Accepting.{Fixed}
 use Rattle.spnego_core.specs.Choice.{is_first, is_mic_due}
 use Rattle.spnego_core.specs.Exchange.{rounds_of, tokens_of}
@@ -34,8 +33,8 @@ use Rattle.world_laws.specs.declared.event.Happened.{Happened}
 use Rattle.world_laws.specs.declared.event.Happened.TheVariants.{Sent, Completed}
 use Rattle.world_laws.specs.declared.event.WorldEvent.{WorldEvent}
 use Rattle.world_laws.specs.declared.event.WorldEvent.TheVariants.{Start, Deliver, Lane}
-use Rattle.world_laws.specs.declared.stage.Stage.{Stage}
-use Rattle.world_laws.specs.declared.stage.Stage.TheVariants as stages
+use Rattle.world_laws.specs.Stages.{StageSays}
+use Rattle.world_laws.specs.Stages as stages
 use Rattle.world_laws.specs.Carrying.{sent_in, completed_in, IsTurn}
 use Rattle.world_laws.specs.Deeds.{Deed}
 use Rattle.world_laws.specs.State.{InHand, Context, World}
@@ -72,7 +71,7 @@ record Done (x : Setting) (xid : ℕ) (book : BookOf) (lanes : List (Option InHa
 abbrev last_world : Setting → ℕ → BookOf → List (Option InHand) → List MechMaking → Fixed → Outcome → World
 last_world x xid book lanes made fixed outcome = world_in x (stages.Stands (session_with xid outcome)) book lanes made (fixed ∷ [])
 
-the-outcome : (x : Setting) (xid : ℕ) (book : BookOf) (lanes : List (Option InHand)) (made : List MechMaking) (fixed : Fixed) (outcome other : Outcome) (i : ℕ) (own : InitSetup) → CompletedWith (last_world x xid book lanes made fixed outcome) i own other → other ≡ outcome
+the-outcome : (x : Setting) (xid : ℕ) (book : BookOf) (lanes : List (Option InHand)) (made : List MechMaking) (fixed : Fixed) (outcome other : Outcome) (i : ℕ) (own : PlainSetup) → CompletedWith (last_world x xid book lanes made fixed outcome) i own other → other ≡ outcome
 the-outcome x xid book lanes made fixed outcome other i own done =
     let stage : done.stage ≡ stages.Stands (session_with xid outcome) = (one-place (stages.Stands (session_with xid outcome)) done.stage i done.stands).1 in
     sym done.outcome_is ∙ sym (ap (λ (s : SessionState). s.outcome) (same_Some (session_with xid outcome) done.session (sym (ap session_in stage) ∙ done.in_session)))
@@ -98,13 +97,13 @@ fresh-so x xid book lanes made fixed outcome d = record {
   untold = λ i own c other has done mech built. by-ticket own c (is-own i own c has) (sym (ap (λ (o : Outcome). o.mech) (the-outcome x xid book lanes made fixed outcome other i own done)) ∙ mech);
 }
   where
-    is-own : (i : ℕ) (own : InitSetup) (c : Granted) → HasTicket (last_world x xid book lanes made fixed outcome) i own c → cred_for x.own.list kinds.Kerberos ≡ Some (creds.Kerberos c)
-    is-own i own c has = subst (λ (o : InitSetup). cred_for o.list kinds.Kerberos ≡ Some (creds.Kerberos c)) (one-place x.own own i has.there).1 has.is_own
+    is-own : (i : ℕ) (own : PlainSetup) (c : Granted) → HasTicket (last_world x xid book lanes made fixed outcome) i own c → cred_for x.own.list kinds.Kerberos ≡ Some (creds.Kerberos c)
+    is-own i own c has = subst (λ (o : PlainSetup). cred_for o.list kinds.Kerberos ≡ Some (creds.Kerberos c)) (one-place x.own own i has.there).1 has.is_own
 
     basis : (c : Context) → Listed (context_with 1 fixed ∷ []) c → c.fixed.basis ≡ fixed.basis
     basis c listed = ap (λ (z : Context). z.fixed.basis) (the-context fixed c listed)
 
-    by-ticket : (own : InitSetup) (c : Granted) → cred_for x.own.list kinds.Kerberos ≡ Some (creds.Kerberos c) → outcome.mech ≡ kinds.Kerberos → GuardedSession x.marking c.session
+    by-ticket : (own : PlainSetup) (c : Granted) → cred_for x.own.list kinds.Kerberos ≡ Some (creds.Kerberos c) → outcome.mech ≡ kinds.Kerberos → GuardedSession x.marking c.session
     by-ticket own c is mech =
         let on : OnTicket x.marking x.own = subst (λ (k : MechKind). OnGuarded x.marking x.own k) mech d.final.guarded in
         subst (λ (g : Granted). GuardedSession x.marking g.session) (same-cred x.own on.credential c on.is_own is) on.guarded
@@ -138,7 +137,7 @@ pub record Talks (x : Setting) (start : World) (left : ℕ) (draws : List (List 
   id : Option ℕ
   xid : ℕ
   end : AcceptEnd
-  initiator : InitEnd
+  initiator : EndSays
   token : List ℕ
   made : List MechMaking
   fixed : List Fixed
@@ -221,18 +220,18 @@ next-xid : (xid : ℕ) → xid + 1 < 2 ^ 32 → xid_after xid ≡ xid + 1
 next-xid xid h = omega arith
 
 -- the reply comes
-goes-past : (x : Setting) (xid : ℕ) (initiator : InitEnd) (book : BookOf) (lanes : List (Option InHand)) (made : List MechMaking) (fixed : List Fixed) (reply : List ℕ) (t : Took initiator reply made) (deed : Deed)
+goes-past : (x : Setting) (xid : ℕ) (initiator : EndSays) (book : BookOf) (lanes : List (Option InHand)) (made : List MechMaking) (fixed : List Fixed) (reply : List ℕ) (t : Took initiator reply made) (deed : Deed)
     → deed.found ≡ t.initiated.found → deed.opened ≡ None → Unforged x.marking (world_in x (stages.Asks xid initiator) book lanes made fixed) deed
 goes-past x xid initiator book lanes made fixed reply t deed found closed = record {
   made = λ making among guarded. inl (t.found making (subst (λ (ms : List MechMaking). AmongMakings ms making) found among));
   issued = λ opened is. absurd (none-some opened (sym closed ∙ is));
 }
 
-record TookOn (x : Setting) (start : World) (xid : ℕ) (book : BookOf) (lanes : List (Option InHand)) (made : List MechMaking) (fixed : List Fixed) (makes : List MechMaking) (next : InitEnd) (further : List ℕ) (happened : Happened) (shown : Shown) : Type 0 where
+record TookOn (x : Setting) (start : World) (xid : ℕ) (book : BookOf) (lanes : List (Option InHand)) (made : List MechMaking) (fixed : List Fixed) (makes : List MechMaking) (next : EndSays) (further : List ℕ) (happened : Happened) (shown : Shown) : Type 0 where
   sent : happened ≡ Sent (call_of (xid_after xid) (Some 1) further)
   past : PastOf x start shown (world_in x (stages.Asks (xid_after xid) next) book lanes (made ++ makes) fixed)
 
-took-on : (x : Setting) (start : World) (xid : ℕ) (initiator : InitEnd) (book : BookOf) (lanes : List (Option InHand)) (made : List MechMaking) (fixed : List Fixed) (reply : List ℕ) (t : Took initiator reply made) (next : InitEnd) (further : List ℕ) → t.initiated.step ≡ init_steps.More next further
+took-on : (x : Setting) (start : World) (xid : ℕ) (initiator : EndSays) (book : BookOf) (lanes : List (Option InHand)) (made : List MechMaking) (fixed : List Fixed) (reply : List ℕ) (t : Took initiator reply made) (next : EndSays) (further : List ℕ) → t.initiated.step ≡ init_steps.More next further
     → xid < 2 ^ 32 → length reply ≤ 65536 → (happened : Happened) (old shown : Shown) → PastOf x start old (world_in x (stages.Asks xid initiator) book lanes made fixed) → Steps (Deliver 0 (reply_to xid (accept_steps.More ends.New reply)) 1) (Some happened) old shown
     → TookOn x start xid book lanes made fixed t.initiated.makes next further happened shown
 took-on x start xid initiator book lanes made fixed reply t next further more fits few happened old shown past steps = by (steps.follows (world_in x (stages.Asks xid initiator) book lanes made fixed) past.shows)
@@ -254,7 +253,7 @@ record TookLast (x : Setting) (start : World) (xid : ℕ) (book : BookOf) (lanes
   completed : happened ≡ Completed outcome
   past : PastOf x start shown (last_world x xid book lanes (made ++ makes) fixed outcome)
 
-took-last : (x : Setting) (start : World) (xid : ℕ) (initiator : InitEnd) (book : BookOf) (lanes : List (Option InHand)) (made : List MechMaking) (fixed : Fixed) (reply : List ℕ) (t : Took initiator reply made) (outcome : Outcome) → t.initiated.step ≡ init_steps.Done outcome
+took-last : (x : Setting) (start : World) (xid : ℕ) (initiator : EndSays) (book : BookOf) (lanes : List (Option InHand)) (made : List MechMaking) (fixed : Fixed) (reply : List ℕ) (t : Took initiator reply made) (outcome : Outcome) → t.initiated.step ≡ init_steps.Done outcome
     → fixed.outcome ≡ outcome → WasSettled book.core.history 1 → xid < 2 ^ 32 → length reply ≤ 65536 → (happened : Happened) (old shown : Shown) → PastOf x start old (world_in x (stages.Asks xid initiator) book lanes made (fixed ∷ []))
     → Steps (Deliver 0 (reply_to xid (accept_steps.Done outcome 0 reply)) 1) (Some happened) old shown
     → TookLast x start xid book lanes made fixed t.initiated.makes outcome happened shown
@@ -414,7 +413,7 @@ idle-lane : (lanes : ℕ) → 0 < lanes → ◌≡◌ {A = Option (Option InHand
 idle-lane zero some = absurd (omega (arith, some))
 idle-lane (suc lanes) some = refl
 
-first-is : (w : World) (facts : List InitSetup) (ready : List Stage) (book : BookOf) (lanes : List (Option InHand)) → w.facts ≡ facts → w.stages ≡ ready → w.book ≡ book → w.lanes ≡ lanes → w.fixed ≡ [] → w.makings ≡ []
+first-is : (w : World) (facts : List PlainSetup) (ready : List StageSays) (book : BookOf) (lanes : List (Option InHand)) → w.facts ≡ facts → w.stages ≡ ready → w.book ≡ book → w.lanes ≡ lanes → w.fixed ≡ [] → w.makings ≡ []
     → w ≡ record { facts = facts; stages = ready; book = book; lanes = lanes; fixed = []; makings = [] }
 first-is w facts ready book lanes a b c d e f = λ i. record { facts = a i; stages = b i; book = c i; lanes = d i; fixed = e i; makings = f i }
 
@@ -430,7 +429,7 @@ few-tokens false true kinds.Scram = (omega arith, omega arith)
 few-tokens false false kinds.Scram = (omega arith, omega arith)
 
 -- what is known before it
-record Ready (shown : Shown) (book : BookOf) (lanes now : ℕ) (draws : List (List ℕ)) (own : InitSetup) (kind : MechKind) (started : Started) : Type 0 where
+record Ready (shown : Shown) (book : BookOf) (lanes now : ℕ) (draws : List (List ℕ)) (own : PlainSetup) (kind : MechKind) (started : Started) : Type 0 where
   start : World
   begins : Begins start
   start_is : start ≡ record { facts = own ∷ []; stages = stages.Ready own ∷ []; book = book; lanes = replicate lanes None; fixed = []; makings = [] }
@@ -470,7 +469,7 @@ started-so x started lanes happened old shown begins past steps = by (steps.foll
     by f = with f (starts-so x started lanes f.deed f.new begins f.happens (λ e. none-some happened (sym e ∙ f.answered)))
 
 -- and there is a first turn
-talks-first : (book : BookOf) (lanes now : ℕ) (draws : List (List ℕ)) (own : InitSetup) (kind : MechKind) (started : Started) (h : Honest book own kind now draws started) (happened : Happened) (shown : Shown)
+talks-first : (book : BookOf) (lanes now : ℕ) (draws : List (List ℕ)) (own : PlainSetup) (kind : MechKind) (started : Started) (h : Honest book own kind now draws started) (happened : Happened) (shown : Shown)
     → book.core.history ≡ [] → 0 < lanes → live_of book.core.table < book.core.table.limit → length book.core.history + 2 + 2 * length draws ≤ book.core.limit → length draws ≤ 4 → 1 ≤ length draws → length started.token ≤ 65536
     → Sent_first (setting_with book own now h.marking) (first_world (setting_with book own now h.marking) (replicate lanes None)) started (replicate lanes None) happened shown
     → StandsBy (setting_with book own now h.marking) (first_world (setting_with book own now h.marking) (replicate lanes None)) kind draws h.outcome happened shown

@@ -1,50 +1,48 @@
 -- What an initiator's move is: by the step of its end.
 use Rattle.std.proofs.Common.{◌≡◌, ◌⊎◌, inl, inr, ℕ, Bool, true, false, refl, ◌∙◌, ap, subst, List, ◌++◌, Option, Some, Result, Ok, Err}
 use Rattle.std.specs.Prelude.{◌==◌, not}
-use Rattle.spnego_core.specs.declared.init_end.InitEnd.{InitEnd}
-use Rattle.spnego_core.specs.declared.init_end.InitStep.{InitStep}
-use Rattle.spnego_core.specs.declared.init_end.InitStep.TheVariants as steps
 use Rattle.spnego_core.specs.declared.outcome.Outcome.{Outcome}
 use Rattle.spnego_core.specs.declared.refusal.NegRefusal.{NegRefusal}
-use Rattle.spnego_core.specs.declared.setup.InitSetup.{InitSetup}
+use Rattle.spnego_core.specs.Ends.{PlainSetup, EndSays}
+use Rattle.spnego_core.specs.EndSteps.{StepSays}
+use Rattle.spnego_core.specs.EndSteps as steps
 use Rattle.spnego_core.specs.Initiating.{Started, Initiated, init_start, init_step, step_of}
-use Rattle.gss_client.specs.declared.creation.Created.{Created}
-use Rattle.gss_client.specs.declared.creation.Created.TheVariants as creations
-use Rattle.gss_client.specs.declared.creation.Offer.{Offer}
 use Rattle.gss_client.specs.declared.refusal.ClientRefusal.{ClientRefusal}
 use Rattle.gss_client.specs.declared.refusal.ClientRefusal.TheVariants.{BadReply}
 use Rattle.gss_client.specs.declared.refusal.ReplyWhy.TheVariants.{Verifier, Steps, Width}
+use Rattle.gss_client.specs.Creation.{OfferSays, CreatedSays}
+use Rattle.gss_client.specs.Creation as creations
 use Rattle.rpcsec_bodies.specs.declared.service.Service.TheVariants.{Integrity}
 use Rattle.gss_client.specs.Judging.{◌>>=◌, due, is_verified, GrantedValue, granted_in, negotiated, by_step, creation_step}
 use Rattle.gss_client.specs.Session.{xid_after}
 use Rattle.gss_client.specs.Talk.{begun}
-use Rattle.world_laws.specs.declared.stage.Stage.TheVariants as stages
+use Rattle.world_laws.specs.Stages as stages
 use Rattle.world_laws.specs.Initiators.{Moved, refused, started_by, starts, initiated_by, initiated_with, initiated, handed_out, verified, window_found, created_by, takes}
 
 -- ---- it starts
 
-pub record StartedBy (own : InitSetup) (moved : Moved) : Type 0 where
+pub record StartedBy (own : PlainSetup) (moved : Moved) : Type 0 where
   pub started : Started
   pub is : init_start own ≡ Ok started
   pub stage : moved.stage ≡ stages.Asks 1 started.end
   pub lost : moved.lost ≡ stages.Over
   pub makes : moved.makes ≡ started.makes
 
-start-by : (own : InitSetup) (started : Result Started NegRefusal) → init_start own ≡ started → (started_by started ≡ refused) ⊎ StartedBy own (started_by started)
+start-by : (own : PlainSetup) (started : Result Started NegRefusal) → init_start own ≡ started → (started_by started ≡ refused) ⊎ StartedBy own (started_by started)
 start-by own (Err refusal) e = inl refl
 start-by own (Ok started) e = inr (record { started = started; is = e; stage = refl; lost = refl; makes = refl })
 
-pub starts-by : (own : InitSetup) → (starts own ≡ refused) ⊎ StartedBy own (starts own)
+pub starts-by : (own : PlainSetup) → (starts own ≡ refused) ⊎ StartedBy own (starts own)
 starts-by own = start-by own (init_start own) refl
 
 -- ---- what comes of a reply to its creation call
 
-abbrev pub LeadsTo : InitStep → Created → Type 0
+abbrev pub LeadsTo : StepSays → CreatedSays → Type 0
 LeadsTo step (creations.Going offer) = step ≡ steps.More offer.end offer.token
 LeadsTo step (creations.Stands outcome handle) = step ≡ steps.Done outcome
 
 -- the step of the end behind what a creation came to
-pub record SteppedBy (end : InitEnd) (xid : ℕ) (octets : List ℕ) (what : Created) : Type 0 where
+pub record SteppedBy (end : EndSays) (xid : ℕ) (octets : List ℕ) (what : CreatedSays) : Type 0 where
   pub taken : Initiated
   pub initiated_is : initiated xid end octets ≡ Some taken
   pub granted : GrantedValue
@@ -57,23 +55,23 @@ behind-due refusal true next x e = e
 behind-due refusal false next x e = absurd cc
 
 -- one answer
-same-ok : (what : Result Created ClientRefusal) (x y : Created) → what ≡ Ok x → what ≡ Ok y → x ≡ y
+same-ok : (what : Result CreatedSays ClientRefusal) (x y : CreatedSays) → what ≡ Ok x → what ≡ Ok y → x ≡ y
 same-ok what x y e f = cc
 
-step-leads : (g : GrantedValue) (step : InitStep) (what : Created) → by_step g step ≡ Ok what → LeadsTo step what
+step-leads : (g : GrantedValue) (step : StepSays) (what : CreatedSays) → by_step g step ≡ Ok what → LeadsTo step what
 unfolding by_step
 step-leads g (steps.More end token) what e =
-    let offer : Offer = record { end = end; handle = g.result.context; token = token } in
+    let offer : OfferSays = record { end = end; handle = g.result.context; token = token } in
     let is : Ok (creations.Going offer) ≡ Ok what = behind-due (BadReply Steps) (g.result.major == 1) (Ok (creations.Going offer)) what e in
     subst (LeadsTo (steps.More end token)) (same-ok (Ok (creations.Going offer)) (creations.Going offer) what refl is) refl
 step-leads g (steps.Done outcome) what e =
-    let last : Result Created ClientRefusal = Ok (creations.Stands outcome g.result.context) in
+    let last : Result CreatedSays ClientRefusal = Ok (creations.Stands outcome g.result.context) in
     let is : last ≡ Ok what =
     behind-due (BadReply Verifier) (is_verified outcome g.answer g.result.window) last what
     (behind-due (BadReply Width) (not (g.result.window == 0)) _ what (behind-due (BadReply Steps) (g.result.major == 0) _ what e)) in
     subst (LeadsTo (steps.Done outcome)) (same-ok last (creations.Stands outcome g.result.context) what refl is) refl
 
-step-by : (end : InitEnd) (xid : ℕ) (octets : List ℕ) (what : Created) (g : GrantedValue) (taken : Result Initiated NegRefusal) → granted_in xid octets ≡ Ok g → init_step end g.result.token ≡ taken
+step-by : (end : EndSays) (xid : ℕ) (octets : List ℕ) (what : CreatedSays) (g : GrantedValue) (taken : Result Initiated NegRefusal) → granted_in xid octets ≡ Ok g → init_step end g.result.token ≡ taken
     → (negotiated (step_of taken) >>= by_step g) ≡ Ok what → SteppedBy end xid octets what
 step-by end xid octets what g (Err refusal) granted step e = absurd cc
 step-by end xid octets what g (Ok taken) granted step e = record {
@@ -85,18 +83,18 @@ step-by end xid octets what g (Ok taken) granted step e = record {
   leads = step-leads g taken.step what e;
 }
 
-grant-by : (end : InitEnd) (xid : ℕ) (octets : List ℕ) (what : Created) (granted : Result GrantedValue ClientRefusal) → granted_in xid octets ≡ granted
+grant-by : (end : EndSays) (xid : ℕ) (octets : List ℕ) (what : CreatedSays) (granted : Result GrantedValue ClientRefusal) → granted_in xid octets ≡ granted
     → (granted >>= (λ (g : GrantedValue). negotiated (step_of (init_step end g.result.token)) >>= by_step g)) ≡ Ok what → SteppedBy end xid octets what
 grant-by end xid octets what (Err refusal) granted e = absurd cc
 grant-by end xid octets what (Ok g) granted e = step-by end xid octets what g (init_step end g.result.token) granted refl e
 
-pub stepped-by : (end : InitEnd) (xid : ℕ) (octets : List ℕ) (what : Created) → creation_step end xid octets ≡ Ok what → SteppedBy end xid octets what
+pub stepped-by : (end : EndSays) (xid : ℕ) (octets : List ℕ) (what : CreatedSays) → creation_step end xid octets ≡ Ok what → SteppedBy end xid octets what
 unfolding creation_step
 stepped-by end xid octets what e = grant-by end xid octets what (granted_in xid octets) refl e
 
 -- it goes on
-pub record Went (xid : ℕ) (end : InitEnd) (octets : List ℕ) (moved : Moved) : Type 0 where
-  pub offer : Offer
+pub record Went (xid : ℕ) (end : EndSays) (octets : List ℕ) (moved : Moved) : Type 0 where
+  pub offer : OfferSays
   pub by : SteppedBy end xid octets (creations.Going offer)
   pub stage : moved.stage ≡ stages.Asks (xid_after xid) offer.end
   pub lost : moved.lost ≡ stages.Over
@@ -104,7 +102,7 @@ pub record Went (xid : ℕ) (end : InitEnd) (octets : List ℕ) (moved : Moved) 
   pub found : moved.found ≡ by.taken.found
 
 -- its context stands
-pub record Stood (xid : ℕ) (end : InitEnd) (octets : List ℕ) (moved : Moved) : Type 0 where
+pub record Stood (xid : ℕ) (end : EndSays) (octets : List ℕ) (moved : Moved) : Type 0 where
   pub first : ℕ
   pub outcome : Outcome
   pub handle : List ℕ
@@ -114,7 +112,7 @@ pub record Stood (xid : ℕ) (end : InitEnd) (octets : List ℕ) (moved : Moved)
   pub makes : moved.makes ≡ by.taken.makes
   pub found : moved.found ≡ by.taken.found ++ window_found outcome (granted_in xid octets)
 
-take-by : (first xid : ℕ) (end : InitEnd) (octets : List ℕ) (what : Result Created ClientRefusal) → creation_step end xid octets ≡ what
+take-by : (first xid : ℕ) (end : EndSays) (octets : List ℕ) (what : Result CreatedSays ClientRefusal) → creation_step end xid octets ≡ what
     → (created_by first xid end octets what ≡ refused) ⊎ (Went xid end octets (created_by first xid end octets what) ⊎ Stood xid end octets (created_by first xid end octets what))
 take-by first xid end octets (Err refusal) e = inl refl
 take-by first xid end octets (Ok (creations.Going offer)) e =
@@ -133,5 +131,5 @@ take-by first xid end octets (Ok (creations.Stands outcome handle)) e =
       found = ap (λ (o : Option Initiated). verified o ++ window_found outcome (granted_in xid octets)) by.initiated_is;
     }))
 
-pub takes-by : (first xid : ℕ) (end : InitEnd) (octets : List ℕ) → (takes first xid end octets ≡ refused) ⊎ (Went xid end octets (takes first xid end octets) ⊎ Stood xid end octets (takes first xid end octets))
+pub takes-by : (first xid : ℕ) (end : EndSays) (octets : List ℕ) → (takes first xid end octets ≡ refused) ⊎ (Went xid end octets (takes first xid end octets) ⊎ Stood xid end octets (takes first xid end octets))
 takes-by first xid end octets = take-by first xid end octets (creation_step end xid octets) refl

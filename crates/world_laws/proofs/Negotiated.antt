@@ -6,7 +6,7 @@ use Rattle.krb_derive.specs.declared.key.Key.{Key}
 use Rattle.ap_exchange.specs.declared.judged.Judged.{Judged}
 use Rattle.scram_mech.specs.Acceptor.{AcceptModel, auth_with}
 use Rattle.spnego_core.specs.declared.outcome.Outcome.{Outcome}
-use Rattle.spnego_core.specs.declared.setup.InitSetup.{InitSetup}
+use Rattle.spnego_core.specs.Ends.{PlainSetup}
 use Rattle.spnego_core.specs.AcceptMech.{Basis, ByRequest, ByProof}
 use Rattle.spnego_core.specs.Choice.{is_among, best}
 use Rattle.spnego_core.specs.InitLaws.{Covered}
@@ -51,7 +51,7 @@ by-bases laws marking w proper fresh kept i j x y there on_it guarded same (ByPr
 
 -- ---- the mechanism is the best of the own list
 
-saw-best : (laws : Below) (marking : Marking) (w : World) → Proper w → Fresh marking w → Kept marking w → (own : InitSetup) (outcome : Outcome) (place : ℕ) (x : Context) → slice_get w.fixed place ≡ Some x → GuardedBasis marking x.fixed.basis → outcome ≡ x.fixed.outcome
+saw-best : (laws : Below) (marking : Marking) (w : World) → Proper w → Fresh marking w → Kept marking w → (own : PlainSetup) (outcome : Outcome) (place : ℕ) (x : Context) → slice_get w.fixed place ≡ Some x → GuardedBasis marking x.fixed.basis → outcome ≡ x.fixed.outcome
     → CameSo w (own_list own) outcome.key → best w.book.setup.offer (own_list own) ≡ Some outcome.mech
 saw-best laws marking w proper fresh kept own outcome place x there guarded agree c =
     let mine : best w.book.setup.offer c.context.fixed.received ≡ Some c.context.fixed.outcome.mech = kept.held.best_is c.place c.context c.there in
@@ -60,7 +60,7 @@ saw-best laws marking w proper fresh kept own outcome place x there guarded agre
     by-bases laws marking w proper fresh kept c.place place c.context x c.there there guarded key c.context.fixed.basis x.fixed.basis refl refl ∙ ap (λ (o : Outcome). o.mech) (sym agree) in
     ap (λ (list : List (List ℕ)). best w.book.setup.offer list) (sym c.received) ∙ (mine ∙ ap Some mech)
 
-best-is : (laws : Below) (marking : Marking) (w : World) → Proper w → Fresh marking w → Kept marking w → (i : ℕ) (own : InitSetup) (outcome : Outcome) → slice_get w.facts i ≡ Some own → OnGuarded marking own outcome.mech
+best-is : (laws : Below) (marking : Marking) (w : World) → Proper w → Fresh marking w → Kept marking w → (i : ℕ) (own : PlainSetup) (outcome : Outcome) → slice_get w.facts i ≡ Some own → OnGuarded marking own outcome.mech
     → (place : ℕ) (x : Context) → slice_get w.fixed place ≡ Some x → GuardedBasis marking x.fixed.basis → outcome ≡ x.fixed.outcome → Covered own outcome.mech false ⊎ SawList marking w own outcome → best w.book.setup.offer (own_list own) ≡ Some outcome.mech
 best-is laws marking w proper fresh kept i own outcome there on place x on_it guarded agree (inl (inl first)) =
     best-first w.book.setup.offer own.list outcome.mech first (best-among w.book.setup.offer x.fixed.received outcome.mech (kept.held.best_is place x on_it ∙ ap (λ (o : Outcome). Some o.mech) (sym agree)))
@@ -71,12 +71,12 @@ best-is laws marking w proper fresh kept i own outcome there on place x on_it gu
 
 -- ---- a partner of the other mechanism
 
-other-proof : {A : Type 0} (laws : Below) (marking : Marking) (w : World) → Proper w → Fresh marking w → Kept marking w → (i : ℕ) (own : InitSetup) (outcome : Outcome) → Completed w i own outcome → outcome.mech ≡ kinds.Kerberos → (end : AcceptModel) (text : List ℕ) → TookProof w own end text → A
+other-proof : {A : Type 0} (laws : Below) (marking : Marking) (w : World) → Proper w → Fresh marking w → Kept marking w → (i : ℕ) (own : PlainSetup) (outcome : Outcome) → Completed w i own outcome → outcome.mech ≡ kinds.Kerberos → (end : AcceptModel) (text : List ℕ) → TookProof w own end text → A
 other-proof laws marking w proper fresh kept i own outcome completed mech end text took =
     let made = proved-made laws.scram marking w proper fresh kept.owning i own took.auth completed.there took.proved in
     other-kind (sym mech ∙ kept.once.done_proved i own outcome (proved_making took.proved.password took.proved.parts took.auth) completed took.proved.handed_out made)
 
-pub krb-across : (laws : Below) (marking : Marking) (w : World) → Proper w → Fresh marking w → Kept marking w → (i : ℕ) (own : InitSetup) (outcome : Outcome) → Completed w i own outcome → outcome.mech ≡ kinds.Kerberos → (on : OnTicket marking own) → (a : Answers w own on.credential outcome)
+pub krb-across : (laws : Below) (marking : Marking) (w : World) → Proper w → Fresh marking w → Kept marking w → (i : ℕ) (own : PlainSetup) (outcome : Outcome) → Completed w i own outcome → outcome.mech ≡ kinds.Kerberos → (on : OnTicket marking own) → (a : Answers w own on.credential outcome)
     → (other : ℕ) (y : Context) → slice_get w.fixed other ≡ Some y → (b : Basis) → y.fixed.basis ≡ b → Partner w own b → other ≡ a.place
 krb-across laws marking w proper fresh kept i own outcome completed mech on a other y on_it (ByRequest request) basis took =
     krb-only laws marking w proper fresh kept i own outcome completed.there on a other y on_it (krb-is marking w y request (kept.found.requests other y request on_it basis)) (ByRequest request) basis took
@@ -84,14 +84,14 @@ krb-across laws marking w proper fresh kept i own outcome completed mech on a ot
     other-proof laws marking w proper fresh kept i own outcome completed mech end text took
 
 -- the request is its own
-asked-own : (marking : Marking) (w : World) → Fresh marking w → (i : ℕ) (own : InitSetup) → slice_get w.facts i ≡ Some own → (request : Judged) (a : Asked w request) → TookRequest own request → MadeRequest own a.making
+asked-own : (marking : Marking) (w : World) → Fresh marking w → (i : ℕ) (own : PlainSetup) → slice_get w.facts i ≡ Some own → (request : Judged) (a : Asked w request) → TookRequest own request → MadeRequest own a.making
 asked-own marking w fresh i own there request a took =
     let k = fresh.stamps a.i i a.own own a.credential took.credential a.has (record { there = there; is_own = took.is_own }) (sym a.session ∙ took.session) (sym a.stamp ∙ took.stamp) in
     let mine : a.own ≡ own = same-own w i a.own own (subst (λ (n : ℕ). slice_get w.facts n ≡ Some a.own) k a.has.there) there in
-    subst (λ (z : InitSetup). MadeRequest z a.making) mine a.made
+    subst (λ (z : PlainSetup). MadeRequest z a.making) mine a.made
 
 -- Kerberos would be the best
-other-best : {A : Type 0} (w : World) (own : InitSetup) (outcome : Outcome) → outcome.mech ≡ kinds.Scram → best w.book.setup.offer (own_list own) ≡ Some outcome.mech → is_among w.book.setup.offer kinds.Kerberos ≡ true → MayAsk own (Some outcome.mech) → A
+other-best : {A : Type 0} (w : World) (own : PlainSetup) (outcome : Outcome) → outcome.mech ≡ kinds.Scram → best w.book.setup.offer (own_list own) ≡ Some outcome.mech → is_among w.book.setup.offer kinds.Kerberos ≡ true → MayAsk own (Some outcome.mech) → A
 other-best w own outcome mech is among (inl first) =
     let kerberos : best w.book.setup.offer (own_list own) ≡ Some kinds.Kerberos = best-first w.book.setup.offer own.list kinds.Kerberos first among in
     let scram : best w.book.setup.offer (own_list own) ≡ Some kinds.Scram = is ∙ ap Some mech in
@@ -101,7 +101,7 @@ other-best w own outcome mech is among (inr chosen) =
     let clash : Some kinds.Scram ≡ Some kinds.Kerberos = ap Some (sym mech) ∙ chosen in
     absurd cc
 
-other-request : {A : Type 0} (laws : Below) (marking : Marking) (w : World) → Proper w → Fresh marking w → Kept marking w → (i : ℕ) (own : InitSetup) (outcome : Outcome) → Completed w i own outcome → outcome.mech ≡ kinds.Scram → best w.book.setup.offer (own_list own) ≡ Some outcome.mech
+other-request : {A : Type 0} (laws : Below) (marking : Marking) (w : World) → Proper w → Fresh marking w → Kept marking w → (i : ℕ) (own : PlainSetup) (outcome : Outcome) → Completed w i own outcome → outcome.mech ≡ kinds.Scram → best w.book.setup.offer (own_list own) ≡ Some outcome.mech
     → (other : ℕ) (y : Context) → slice_get w.fixed other ≡ Some y → (request : Judged) → y.fixed.basis ≡ ByRequest request → TookRequest own request → GuardedSession marking request.session → A
 other-request laws marking w proper fresh kept i own outcome completed mech is other y on_it request basis took guarded =
     let f : KrbFixed marking w y request = kept.found.requests other y request on_it basis in
@@ -110,7 +110,7 @@ other-request laws marking w proper fresh kept i own outcome completed mech is o
     other-best w own outcome mech is (best-among w.book.setup.offer y.fixed.received kinds.Kerberos (kept.held.best_is other y on_it ∙ ap Some (krb-is marking w y request f)))
     (kept.once.done_asked i own outcome a.making completed a.among made)
 
-pub scram-across : (laws : Below) (marking : Marking) (w : World) → Proper w → Fresh marking w → Kept marking w → (i : ℕ) (own : InitSetup) (outcome : Outcome) → Completed w i own outcome → outcome.mech ≡ kinds.Scram → best w.book.setup.offer (own_list own) ≡ Some outcome.mech → (a : ScramAnswers marking w own outcome)
+pub scram-across : (laws : Below) (marking : Marking) (w : World) → Proper w → Fresh marking w → Kept marking w → (i : ℕ) (own : PlainSetup) (outcome : Outcome) → Completed w i own outcome → outcome.mech ≡ kinds.Scram → best w.book.setup.offer (own_list own) ≡ Some outcome.mech → (a : ScramAnswers marking w own outcome)
     → (other : ℕ) (y : Context) → slice_get w.fixed other ≡ Some y → (b : Basis) → y.fixed.basis ≡ b → Partner w own b → GuardedBasis marking b → other ≡ a.place
 scram-across laws marking w proper fresh kept i own outcome completed mech is a other y on_it (ByRequest request) basis took guarded =
     other-request laws marking w proper fresh kept i own outcome completed mech is other y on_it request basis took guarded
@@ -119,13 +119,13 @@ scram-across laws marking w proper fresh kept i own outcome completed mech is a 
 
 -- ---- one partner
 
-krb-guarded : (marking : Marking) (w : World) (own : InitSetup) (outcome : Outcome) (on : OnTicket marking own) (a : Answers w own on.credential outcome) → GuardedBasis marking a.context.fixed.basis
+krb-guarded : (marking : Marking) (w : World) (own : PlainSetup) (outcome : Outcome) (on : OnTicket marking own) (a : Answers w own on.credential outcome) → GuardedBasis marking a.context.fixed.basis
 krb-guarded marking w own outcome on a = subst (λ (b : Basis). GuardedBasis marking b) (sym a.basis) (subst (λ (k : Key). GuardedSession marking k) (sym a.session) on.guarded)
 
-scram-guarded : (marking : Marking) (w : World) (own : InitSetup) (outcome : Outcome) (a : ScramAnswers marking w own outcome) → GuardedBasis marking a.context.fixed.basis
+scram-guarded : (marking : Marking) (w : World) (own : PlainSetup) (outcome : Outcome) (a : ScramAnswers marking w own outcome) → GuardedBasis marking a.context.fixed.basis
 scram-guarded marking w own outcome a = subst (λ (b : Basis). GuardedBasis marking b) (sym a.basis) a.marked
 
-krb-one : (laws : Below) (marking : Marking) (w : World) → Proper w → Fresh marking w → Kept marking w → (i : ℕ) (own : InitSetup) (outcome : Outcome) → Completed w i own outcome → OnGuarded marking own outcome.mech → outcome.mech ≡ kinds.Kerberos → (on : OnTicket marking own) → Answers w own on.credential outcome → HasOne marking w own outcome
+krb-one : (laws : Below) (marking : Marking) (w : World) → Proper w → Fresh marking w → Kept marking w → (i : ℕ) (own : PlainSetup) (outcome : Outcome) → Completed w i own outcome → OnGuarded marking own outcome.mech → outcome.mech ≡ kinds.Kerberos → (on : OnTicket marking own) → Answers w own on.credential outcome → HasOne marking w own outcome
 krb-one laws marking w proper fresh kept i own outcome completed guarded mech on a = record {
   has = record {
     place = a.place;
@@ -139,7 +139,7 @@ krb-one laws marking w proper fresh kept i own outcome completed guarded mech on
   only = λ other y on_it took built. krb-across laws marking w proper fresh kept i own outcome completed mech on a other y on_it y.fixed.basis refl took;
 }
 
-scram-one : (laws : Below) (marking : Marking) (w : World) → Proper w → Fresh marking w → Kept marking w → (i : ℕ) (own : InitSetup) (outcome : Outcome) → Completed w i own outcome → outcome.mech ≡ kinds.Scram → best w.book.setup.offer (own_list own) ≡ Some outcome.mech → ScramAnswers marking w own outcome → HasOne marking w own outcome
+scram-one : (laws : Below) (marking : Marking) (w : World) → Proper w → Fresh marking w → Kept marking w → (i : ℕ) (own : PlainSetup) (outcome : Outcome) → Completed w i own outcome → outcome.mech ≡ kinds.Scram → best w.book.setup.offer (own_list own) ≡ Some outcome.mech → ScramAnswers marking w own outcome → HasOne marking w own outcome
 scram-one laws marking w proper fresh kept i own outcome completed mech is a = record {
   has = record {
     place = a.place;
@@ -153,7 +153,7 @@ scram-one laws marking w proper fresh kept i own outcome completed mech is a = r
   only = λ other y on_it took built. scram-across laws marking w proper fresh kept i own outcome completed mech is a other y on_it y.fixed.basis refl took built;
 }
 
-one-by : (laws : Below) (marking : Marking) (w : World) → Proper w → Fresh marking w → Kept marking w → (i : ℕ) (own : InitSetup) (outcome : Outcome) → Completed w i own outcome → OnGuarded marking own outcome.mech → (kind : MechKind) → outcome.mech ≡ kind → OnGuarded marking own kind → HasOne marking w own outcome
+one-by : (laws : Below) (marking : Marking) (w : World) → Proper w → Fresh marking w → Kept marking w → (i : ℕ) (own : PlainSetup) (outcome : Outcome) → Completed w i own outcome → OnGuarded marking own outcome.mech → (kind : MechKind) → outcome.mech ≡ kind → OnGuarded marking own kind → HasOne marking w own outcome
 one-by laws marking w proper fresh kept i own outcome completed guarded kinds.Kerberos mech on =
     krb-one laws marking w proper fresh kept i own outcome completed guarded mech on
     (krb-answers laws.exchange laws.scram marking w proper fresh kept.owning kept.found i own outcome completed.there (krb-done marking w own outcome (kept.found.completed i own outcome completed) mech) on)
@@ -162,7 +162,7 @@ one-by laws marking w proper fresh kept i own outcome completed guarded kinds.Sc
     scram-one laws marking w proper fresh kept i own outcome completed mech
     (best-is laws marking w proper fresh kept i own outcome completed.there guarded a.place a.context a.there (scram-guarded marking w own outcome a) a.agree (kept.found.covered i own outcome completed)) a
 
-pub has-one : (laws : Below) (marking : Marking) (w : World) → Proper w → Fresh marking w → Kept marking w → (i : ℕ) (own : InitSetup) (outcome : Outcome) → Completed w i own outcome → OnGuarded marking own outcome.mech → HasOne marking w own outcome
+pub has-one : (laws : Below) (marking : Marking) (w : World) → Proper w → Fresh marking w → Kept marking w → (i : ℕ) (own : PlainSetup) (outcome : Outcome) → Completed w i own outcome → OnGuarded marking own outcome.mech → HasOne marking w own outcome
 has-one laws marking w proper fresh kept i own outcome completed guarded = one-by laws marking w proper fresh kept i own outcome completed guarded outcome.mech refl guarded
 
 -- ---- a context and its initiator
@@ -174,7 +174,7 @@ initiator-by laws marking w proper fresh kept place x there guarded kinds.Scram 
 pub has-initiator : (laws : Below) (marking : Marking) (w : World) → Proper w → Fresh marking w → Kept marking w → (place : ℕ) (x : Context) → slice_get w.fixed place ≡ Some x → GuardedBasis marking x.fixed.basis → HasInitiator w x
 has-initiator laws marking w proper fresh kept place x there guarded = initiator-by laws marking w proper fresh kept place x there guarded x.fixed.outcome.mech refl
 
-meets-by : (marking : Marking) (w : World) (place : ℕ) (x : Context) → slice_get w.fixed place ≡ Some x → GuardedBasis marking x.fixed.basis → (own : InitSetup) (outcome : Outcome) → Partner w own x.fixed.basis → HasOne marking w own outcome → outcome ≡ x.fixed.outcome
+meets-by : (marking : Marking) (w : World) (place : ℕ) (x : Context) → slice_get w.fixed place ≡ Some x → GuardedBasis marking x.fixed.basis → (own : PlainSetup) (outcome : Outcome) → Partner w own x.fixed.basis → HasOne marking w own outcome → outcome ≡ x.fixed.outcome
 meets-by marking w place x there guarded own outcome partner one =
     let same : place ≡ one.has.place = one.only place x there partner guarded in
     let context : one.has.context ≡ x = same-context w place one.has.context x (subst (λ (n : ℕ). slice_get w.fixed n ≡ Some one.has.context) (sym same) one.has.there) there in
@@ -187,7 +187,7 @@ meets laws marking w proper fresh kept place x there guarded h = record {
 }
 
 -- the partners of a context on a guarded key are one
-apart-by : (w : World) (x : Context) (i j : ℕ) (own other : InitSetup) → slice_get w.facts i ≡ Some own → slice_get w.facts j ≡ Some other → Partner w own x.fixed.basis → Partner w other x.fixed.basis → HasInitiator w x → i ≡ j
+apart-by : (w : World) (x : Context) (i j : ℕ) (own other : PlainSetup) → slice_get w.facts i ≡ Some own → slice_get w.facts j ≡ Some other → Partner w own x.fixed.basis → Partner w other x.fixed.basis → HasInitiator w x → i ≡ j
 apart-by w x i j own other there next first second h = h.only i own there first ∙ sym (h.only j other next second)
 
 pub agreement : (laws : Below) (marking : Marking) (w : World) → Proper w → Fresh marking w → Kept marking w → Agreement marking w

@@ -4,18 +4,17 @@ use Rattle.std.proofs.lemmas.Option.{none-some, same_Some}
 use Rattle.gss_base.specs.declared.mech.MechKind.{MechKind}
 use Rattle.gss_base.specs.declared.mech.MechKind.TheVariants as kinds
 use Rattle.scram_mech.specs.MechMaking.{MechMaking, AmongMakings}
-use Rattle.spnego_core.specs.declared.init_end.InitEnd.{InitEnd}
-use Rattle.spnego_core.specs.declared.init_end.InitStep.TheVariants as steps
 use Rattle.spnego_core.specs.declared.outcome.Outcome.{Outcome}
-use Rattle.spnego_core.specs.declared.setup.InitSetup.{InitSetup}
+use Rattle.spnego_core.specs.Ends.{PlainSetup, EndSays}
+use Rattle.spnego_core.specs.EndSteps as steps
 use Rattle.spnego_core.specs.Initiating.{Initiated}
 use Rattle.spnego_core.specs.InitLaws.{own_of, chosen_of, finished_in, answers_next, answers_in, IsRequest, IsProof, InitLaw}
 use Rattle.spnego_core.proofs.Makings.{among_split}
 use Rattle.accept_book.specs.Served.{are_args}
 use Rattle.gss_client.specs.Session.{SessionState}
 use Rattle.world_laws.specs.declared.event.WorldEvent.{WorldEvent}
-use Rattle.world_laws.specs.declared.stage.Stage.{Stage}
-use Rattle.world_laws.specs.declared.stage.Stage.TheVariants as stages
+use Rattle.world_laws.specs.Stages.{StageSays}
+use Rattle.world_laws.specs.Stages as stages
 use Rattle.world_laws.specs.Deeds.{Deed}
 use Rattle.world_laws.specs.State.{InHand, World}
 use Rattle.world_laws.specs.Initiators.{Moved, refused, starts, takes, calls}
@@ -50,19 +49,19 @@ once-start w b = record {
     none making a = subst (λ (ms : List MechMaking). AmongMakings ms making) b.unmade a
 
 -- where an initiator comes to, over what was handed out then
-record Comes (own : InitSetup) (makes more : List MechMaking) (stage : Stage) : Type 0 where
+record Comes (own : PlainSetup) (makes more : List MechMaking) (stage : StageSays) : Type 0 where
   ones : OneOf own (makes ++ more)
   at : OnceAt own (makes ++ more) stage
 
-over-comes : (own : InitSetup) (makes : List MechMaking) (stage : Stage) → stage ≡ stages.Over → OneOf own makes → Comes own makes [] stage
+over-comes : (own : PlainSetup) (makes : List MechMaking) (stage : StageSays) → stage ≡ stages.Over → OneOf own makes → Comes own makes [] stage
 over-comes own makes stage e ones = record { ones = ones-more own makes [] (none-of own) ones; at = subst (OnceAt own (makes ++ [])) (sym e) tt }
 
 -- ---- it starts
 
-start-requests : (laws : Below) (own : InitSetup) (moved : Moved) (by : StartedBy own moved) (making : MechMaking) → AmongMakings moved.makes making → AmongMakings by.started.makes making
+start-requests : (laws : Below) (own : PlainSetup) (moved : Moved) (by : StartedBy own moved) (making : MechMaking) → AmongMakings moved.makes making → AmongMakings by.started.makes making
 start-requests laws own moved by making a = subst (λ (ms : List MechMaking). AmongMakings ms making) by.makes a
 
-start-unproved : (laws : Below) (own : InitSetup) (makes : List MechMaking) (moved : Moved) → StartedBy own moved → NoneOf own makes → (making : MechMaking) → AmongMakings (makes ++ moved.makes) making → MadeProof own making → ⊥
+start-unproved : (laws : Below) (own : PlainSetup) (makes : List MechMaking) (moved : Moved) → StartedBy own moved → NoneOf own makes → (making : MechMaking) → AmongMakings (makes ++ moved.makes) making → MadeProof own making → ⊥
 start-unproved laws own makes moved by n making a p = elim (among_split makes moved.makes making a) [
   | inl before ↦ n.proofs making before p
   | inr now ↦
@@ -70,13 +69,13 @@ start-unproved laws own makes moved by n making a p = elim (among_split makes mo
       omega (arith, tag-proof laws.scram own making p, tag-request own making (record { credential = r.0; is_own = r.1; made = r.2 }))
 ]
 
-start-asked : (laws : Below) (own : InitSetup) (makes : List MechMaking) (moved : Moved) (chosen : Option MechKind) → StartedBy own moved → NoneOf own makes → (making : MechMaking) → AmongMakings (makes ++ moved.makes) making → MadeRequest own making → MayAsk own chosen
+start-asked : (laws : Below) (own : PlainSetup) (makes : List MechMaking) (moved : Moved) (chosen : Option MechKind) → StartedBy own moved → NoneOf own makes → (making : MechMaking) → AmongMakings (makes ++ moved.makes) making → MadeRequest own making → MayAsk own chosen
 start-asked laws own makes moved chosen by n making a r = elim (among_split makes moved.makes making a) [
   | inl before ↦ absurd (n.requests making before r)
   | inr now ↦ inl (start-first own by.started making by.is (start-requests laws own moved by making now))
 ]
 
-start-comes : (laws : Below) (own : InitSetup) (makes : List MechMaking) (moved : Moved) → StartedBy own moved → NoneOf own makes → Comes own makes moved.makes moved.stage
+start-comes : (laws : Below) (own : PlainSetup) (makes : List MechMaking) (moved : Moved) → StartedBy own moved → NoneOf own makes → Comes own makes moved.makes moved.stage
 start-comes laws own makes moved by n = record {
   ones = λ making other a b p q. absurd (start-unproved laws own makes moved by n making a p);
   at = subst (OnceAt own (makes ++ moved.makes)) (sym by.stage) (record {
@@ -87,13 +86,13 @@ start-comes laws own makes moved by n = record {
 
 -- ---- it takes a reply
 
-proof-now : (laws : Below) (end : InitEnd) (taken : Initiated) (making : MechMaking) → InitLaw end taken → AmongMakings taken.makes making → MadeProof (own_of end) making → IsProof (own_of end) (answers_next end) taken.chosen making
+proof-now : (laws : Below) (end : EndSays) (taken : Initiated) (making : MechMaking) → InitLaw end taken → AmongMakings taken.makes making → MadeProof (own_of end) making → IsProof (own_of end) (answers_next end) taken.chosen making
 proof-now laws end taken making law a p = elim (law.made making a) [
   | inl r ↦ absurd (omega (arith, tag-proof laws.scram (own_of end) making p, tag-request (own_of end) making (record { credential = r.credential; is_own = r.is_own; made = r.made })))
   | inr more ↦ elim more [ inl q ↦ q | inr m ↦ absurd (omega (arith, tag-proof laws.scram (own_of end) making p, tag-list_mic (own_of end) making (record { outcome = m.outcome; made = m.made }))) ]
 ]
 
-request-now : (laws : Below) (end : InitEnd) (taken : Initiated) (making : MechMaking) → InitLaw end taken → AmongMakings taken.makes making → MadeRequest (own_of end) making → IsRequest (own_of end) taken.chosen making
+request-now : (laws : Below) (end : EndSays) (taken : Initiated) (making : MechMaking) → InitLaw end taken → AmongMakings taken.makes making → MadeRequest (own_of end) making → IsRequest (own_of end) taken.chosen making
 request-now laws end taken making law a r = elim (law.made making a) [
   | inl q ↦ q
   | inr more ↦ elim more [
@@ -107,19 +106,19 @@ request-now laws end taken making law a r = elim (law.made making a) [
 ]
 
 -- what holds of the step
-record Steps (end : InitEnd) (makes : List MechMaking) (taken : Initiated) : Type 0 where
+record Steps (end : EndSays) (makes : List MechMaking) (taken : Initiated) : Type 0 where
   ones : OneOf (own_of end) (makes ++ taken.makes)
   proved : (making : MechMaking) → AmongMakings (makes ++ taken.makes) making → MadeProof (own_of end) making → (answers_in taken.step ≡ None) × (taken.chosen ≡ Some kinds.Scram)
   asked : (making : MechMaking) → AmongMakings (makes ++ taken.makes) making → MadeRequest (own_of end) making → MayAsk (own_of end) taken.chosen
 
 -- a proof before, and one now
-proof-twice : (laws : Below) (end : InitEnd) (makes : List MechMaking) (taken : Initiated) (making other : MechMaking) → InitLaw end taken → OnceAsking (own_of end) makes end
+proof-twice : (laws : Below) (end : EndSays) (makes : List MechMaking) (taken : Initiated) (making other : MechMaking) → InitLaw end taken → OnceAsking (own_of end) makes end
     → AmongMakings makes making → MadeProof (own_of end) making → AmongMakings taken.makes other → MadeProof (own_of end) other → ⊥
 proof-twice laws end makes taken making other law once a p b q =
     let now = proof-now laws end taken other law b q in
     none-some now.end (sym (once.proved making a p).0 ∙ now.was)
 
-step-ones : (laws : Below) (end : InitEnd) (makes : List MechMaking) (taken : Initiated) → InitLaw end taken → OneProof taken → OneOf (own_of end) makes → OnceAsking (own_of end) makes end → OneOf (own_of end) (makes ++ taken.makes)
+step-ones : (laws : Below) (end : EndSays) (makes : List MechMaking) (taken : Initiated) → InitLaw end taken → OneProof taken → OneOf (own_of end) makes → OnceAsking (own_of end) makes end → OneOf (own_of end) (makes ++ taken.makes)
 step-ones laws end makes taken law one ones once making other a b p q = elim (among_split makes taken.makes making a) [
   | inl c ↦ elim (among_split makes taken.makes other b) [
     | inl d ↦ ones making other c d p q
@@ -131,11 +130,11 @@ step-ones laws end makes taken law one ones once making other a b p q = elim (am
   ]
 ]
 
-may-turn : (own : InitSetup) (before after : Option MechKind) → (before ≡ Some kinds.Kerberos → after ≡ Some kinds.Kerberos) → MayAsk own before → MayAsk own after
+may-turn : (own : PlainSetup) (before after : Option MechKind) → (before ≡ Some kinds.Kerberos → after ≡ Some kinds.Kerberos) → MayAsk own before → MayAsk own after
 may-turn own before after f (inl e) = inl e
 may-turn own before after f (inr e) = inr (f e)
 
-step-holds : (laws : Below) (end : InitEnd) (makes : List MechMaking) (taken : Initiated) → InitLaw end taken → OneProof taken → OneOf (own_of end) makes → OnceAsking (own_of end) makes end → Steps end makes taken
+step-holds : (laws : Below) (end : EndSays) (makes : List MechMaking) (taken : Initiated) → InitLaw end taken → OneProof taken → OneOf (own_of end) makes → OnceAsking (own_of end) makes end → Steps end makes taken
 step-holds laws end makes taken law one ones once = record {
   ones = step-ones laws end makes taken law one ones once;
   proved = λ making a p. elim (among_split makes taken.makes making a) [
@@ -148,7 +147,7 @@ step-holds laws end makes taken law one ones once = record {
   ];
 }
 
-going-asks : (end next : InitEnd) (makes : List MechMaking) (taken : Initiated) (token : List ℕ) → InitLaw end taken → Steps end makes taken → taken.step ≡ steps.More next token → OnceAsking (own_of end) (makes ++ taken.makes) next
+going-asks : (end next : EndSays) (makes : List MechMaking) (taken : Initiated) (token : List ℕ) → InitLaw end taken → Steps end makes taken → taken.step ≡ steps.More next token → OnceAsking (own_of end) (makes ++ taken.makes) next
 going-asks end next makes taken token law s e =
     let on = goes-on end taken next token law e in
     record {
@@ -156,7 +155,7 @@ going-asks end next makes taken token law s e =
       asked = λ making a r. subst (MayAsk (own_of end)) (sym on.chosen_is) (s.asked making a r);
     }
 
-done-stands : (end : InitEnd) (makes : List MechMaking) (taken : Initiated) (outcome : Outcome) → InitLaw end taken → Steps end makes taken → taken.step ≡ steps.Done outcome → OnceStanding (own_of end) (makes ++ taken.makes) outcome
+done-stands : (end : EndSays) (makes : List MechMaking) (taken : Initiated) (outcome : Outcome) → InitLaw end taken → Steps end makes taken → taken.step ≡ steps.Done outcome → OnceStanding (own_of end) (makes ++ taken.makes) outcome
 done-stands end makes taken outcome law s e =
     let is : taken.chosen ≡ Some outcome.mech = law.chosen outcome (ap finished_in e) in
     record {
@@ -168,12 +167,12 @@ done-stands end makes taken outcome law s e =
 
 -- where an initiator comes to by a move, and where memory is wanted
 record MoveComes (w : World) (i : ℕ) (moved : Moved) : Type 0 where
-  own : InitSetup
+  own : PlainSetup
   there : slice_get w.facts i ≡ Some own
   stage : Comes own w.makings moved.makes moved.stage
   lost : Comes own w.makings [] moved.lost
 
-refused-comes : (w : World) (i : ℕ) (own : InitSetup) (moved : Moved) → slice_get w.facts i ≡ Some own → OneOf own w.makings → moved ≡ refused → MoveComes w i moved
+refused-comes : (w : World) (i : ℕ) (own : PlainSetup) (moved : Moved) → slice_get w.facts i ≡ Some own → OneOf own w.makings → moved ≡ refused → MoveComes w i moved
 refused-comes w i own moved there ones e = subst (MoveComes w i) (sym e) (record {
   own = own;
   there = there;
@@ -181,7 +180,7 @@ refused-comes w i own moved there ones e = subst (MoveComes w i) (sym e) (record
   lost = over-comes own w.makings stages.Over refl ones;
 })
 
-went-comes : (laws : Below) (w : World) (i xid : ℕ) (end : InitEnd) (octets : List ℕ) (moved : Moved) → Known w → slice_get w.stages i ≡ Some (stages.Asks xid end) → OneOf (own_of end) w.makings → OnceAsking (own_of end) w.makings end
+went-comes : (laws : Below) (w : World) (i xid : ℕ) (end : EndSays) (octets : List ℕ) (moved : Moved) → Known w → slice_get w.stages i ≡ Some (stages.Asks xid end) → OneOf (own_of end) w.makings → OnceAsking (own_of end) w.makings end
     → Went xid end octets moved → MoveComes w i moved
 went-comes laws w i xid end octets moved k there ones once by =
     let law = taken-law laws w i xid end by.by.granted.result.token by.by.taken k there by.by.step_is in
@@ -194,7 +193,7 @@ went-comes laws w i xid end octets moved k there ones once by =
       lost = over-comes (own_of end) w.makings moved.lost by.lost ones;
     }
 
-stood-comes : (laws : Below) (w : World) (i xid : ℕ) (end : InitEnd) (octets : List ℕ) (moved : Moved) → Known w → slice_get w.stages i ≡ Some (stages.Asks xid end) → OneOf (own_of end) w.makings → OnceAsking (own_of end) w.makings end
+stood-comes : (laws : Below) (w : World) (i xid : ℕ) (end : EndSays) (octets : List ℕ) (moved : Moved) → Known w → slice_get w.stages i ≡ Some (stages.Asks xid end) → OneOf (own_of end) w.makings → OnceAsking (own_of end) w.makings end
     → Stood xid end octets moved → MoveComes w i moved
 stood-comes laws w i xid end octets moved k there ones once by =
     let law = taken-law laws w i xid end by.by.granted.result.token by.by.taken k there by.by.step_is in
@@ -207,7 +206,7 @@ stood-comes laws w i xid end octets moved k there ones once by =
       lost = over-comes (own_of end) w.makings moved.lost by.lost ones;
     }
 
-call-comes : (laws : Below) (w : World) (i : ℕ) (own : InitSetup) (s : SessionState) (procedure : ℕ) (args : List ℕ) → slice_get w.facts i ≡ Some own → slice_get w.stages i ≡ Some (stages.Stands s) → procedure ≤ 4 → are_args procedure args ≡ true
+call-comes : (laws : Below) (w : World) (i : ℕ) (own : PlainSetup) (s : SessionState) (procedure : ℕ) (args : List ℕ) → slice_get w.facts i ≡ Some own → slice_get w.stages i ≡ Some (stages.Stands s) → procedure ≤ 4 → are_args procedure args ≡ true
     → OneOf own w.makings → OnceStanding own w.makings s.outcome → MoveComes w i (calls s procedure args)
 call-comes laws w i own s procedure args there stands served proper ones once =
     let n = calls-none laws.scram w i own own (calls s procedure args).makes (λ making a. call-made w i own s procedure args making there stands served proper a) in

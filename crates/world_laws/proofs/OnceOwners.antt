@@ -18,8 +18,8 @@ use Rattle.scram_mech.specs.MechMaking.{OfType, MechMaking, AmongMakings, proof_
 use Rattle.scram_mech.specs.Secrets.{stored_key, proof_of}
 use Rattle.scram_mech.proofs.Masks.{length-proof}
 use Rattle.scram_mech.proofs.Written.{decoded-encoded}
-use Rattle.spnego_core.specs.declared.setup.InitSetup.{InitSetup}
 use Rattle.spnego_core.specs.declared.setup.MechCred.TheVariants as creds
+use Rattle.spnego_core.specs.Ends.{PlainSetup}
 use Rattle.spnego_core.specs.InitMech.{cred_for}
 use Rattle.world_laws.specs.Setups.{IsSetup, Proper}
 use Rattle.world_laws.specs.State.{World}
@@ -38,7 +38,7 @@ one-making : (making first : MechMaking) → AmongMakings (first ∷ []) making 
 one-making making first a = elim a [ inl e ↦ e | inr n ↦ absurd n ]
 
 -- what a proof is over
-record Over (own : InitSetup) (making : MechMaking) : Type 0 where
+record Over (own : PlainSetup) (making : MechMaking) : Type 0 where
   user : List ℕ
   password : List ℕ
   account : cred_for own.list kinds.Scram ≡ Some (creds.Scram user password)
@@ -50,7 +50,7 @@ record Over (own : InitSetup) (making : MechMaking) : Type 0 where
   reads : auth_parts auth ≡ Some parts
   nonce : parts.client ≡ encoded (drawn_nonce own.draws)
 
-over : (scram : ScramLaws) (own : InitSetup) (making : MechMaking) → IsSetup own → MadeProof own making → Over own making
+over : (scram : ScramLaws) (own : PlainSetup) (making : MechMaking) → IsSetup own → MadeProof own making → Over own making
 over scram own making setup p =
     let t : Told own p.answered = told scram own setup p.end p.first p.text p.answered p.answers in
     record {
@@ -67,7 +67,7 @@ over scram own making setup p =
       nonce = t.nonce;
     }
 
-same-nonce : (own other : InitSetup) (making : MechMaking) → IsSetup own → IsSetup other → Over own making → Over other making → drawn_nonce own.draws ≡ drawn_nonce other.draws
+same-nonce : (own other : PlainSetup) (making : MechMaking) → IsSetup own → IsSetup other → Over own making → Over other making → drawn_nonce own.draws ≡ drawn_nonce other.draws
 same-nonce own other making s t a b =
     let auth : a.auth ≡ b.auth = front-same a.auth a.proof b.auth b.proof (a.sized ∙ sym b.sized) (sym a.octets ∙ b.octets) in
     let parts : a.parts ≡ b.parts = same_Some a.parts b.parts (sym a.reads ∙ (ap auth_parts auth ∙ b.reads)) in
@@ -87,7 +87,7 @@ spelled-same a b fits small e =
 whole-stamp : (stamp : ℕ) → seconds_of stamp + micros_of stamp ≡ stamp
 whole-stamp stamp = omega arith
 
-same-stamp : (own other : InitSetup) (c d : Granted) → authenticator_of c own.stamp own.draws own.bindings ≡ authenticator_of d other.stamp other.draws other.bindings → own.stamp ≡ other.stamp
+same-stamp : (own other : PlainSetup) (c d : Granted) → authenticator_of c own.stamp own.draws own.bindings ≡ authenticator_of d other.stamp other.draws other.bindings → own.stamp ≡ other.stamp
 same-stamp own other c d e = sym (whole-stamp own.stamp) ∙ (ap (λ (a : Authenticator). a.ctime + a.cusec) e ∙ whole-stamp other.stamp)
 
 typed-same : (a b : Key) → OfType a ≡ OfType b → a ≡ b

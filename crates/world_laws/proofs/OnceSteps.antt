@@ -22,16 +22,11 @@ use Rattle.spnego_core.specs.declared.refusal.NegRefusal.{NegRefusal}
 use Rattle.spnego_core.specs.declared.refusal.NegRefusal.TheVariants.{Defective, Rejected, MechNotMine, MicMissing, MicBad}
 use Rattle.spnego_core.specs.declared.setup.MechCred.{MechCred}
 use Rattle.spnego_core.specs.declared.setup.MechCred.TheVariants as creds
-use Rattle.spnego_core.specs.declared.setup.InitSetup.{InitSetup}
 use Rattle.spnego_core.specs.declared.init_mech.InitMech.{InitMech}
 use Rattle.spnego_core.specs.declared.init_mech.InitMech.TheVariants as mechs
-use Rattle.spnego_core.specs.declared.init_end.Opening.{Opening}
-use Rattle.spnego_core.specs.declared.init_end.Talk.{Talk}
-use Rattle.spnego_core.specs.declared.init_end.Talking.{Talking}
-use Rattle.spnego_core.specs.declared.init_end.Signed.{Signed}
-use Rattle.spnego_core.specs.declared.init_end.InitEnd.{InitEnd}
-use Rattle.spnego_core.specs.declared.init_end.InitEnd.TheVariants as ends
-use Rattle.spnego_core.specs.declared.init_end.InitStep.TheVariants as steps
+use Rattle.spnego_core.specs.Ends.{PlainSetup, OpeningSays, TalkSays, TalkingSays, SignedSays, EndSays}
+use Rattle.spnego_core.specs.Ends as ends
+use Rattle.spnego_core.specs.EndSteps as steps
 use Rattle.spnego_core.specs.Outcome.{outcome_of}
 use Rattle.spnego_core.specs.Steps.{◌>>=◌, due, or_refuse}
 use Rattle.spnego_core.specs.Tokens.{rejects, says_completed, resp_read, last_read, resp_octets}
@@ -81,27 +76,27 @@ behind-none : (found : List MechMaking) (r : Result Initiated NegRefusal) → On
 behind-none found (Ok taken) h = record { none = h.none }
 behind-none found (Err refusal) h = tt
 
-ended-none : (talk : Talk) (outcome : Outcome) (listed completes : Bool) → NoProof (ended talk outcome listed completes)
+ended-none : (talk : TalkSays) (outcome : Outcome) (listed completes : Bool) → NoProof (ended talk outcome listed completes)
 ended-none talk outcome listed true = nothing-made _ refl
 ended-none talk outcome listed false = one-made (ended talk outcome listed false) (mic_making outcome Initiator (own_list talk.own)) refl (λ e. cc)
 
-looks-none : (talk : Talk) (outcome : Outcome) (state : Option NegState) (mic : Option (List ℕ)) → On NoProof (looks talk outcome state mic)
+looks-none : (talk : TalkSays) (outcome : Outcome) (state : Option NegState) (mic : Option (List ℕ)) → On NoProof (looks talk outcome state mic)
 looks-none talk outcome state None = either NoProof (is_mic_owed talk) (Err MicMissing) (Ok (ended talk outcome false (completes_now state false))) tt (ended-none talk outcome false (completes_now state false))
 looks-none talk outcome state (Some mic) =
     either NoProof (is_list_mic outcome Initiator (own_list talk.own) mic) (behind [] (mic_found outcome Initiator (own_list talk.own) mic ∷ []) (Ok (ended talk outcome true (completes_now state true)))) (Err MicBad)
     (behind-none (mic_found outcome Initiator (own_list talk.own) mic ∷ []) (Ok (ended talk outcome true (completes_now state true))) (ended-none talk outcome true (completes_now state true))) tt
 
-reply-none : (talk : Talk) (state : Option NegState) (mic : Option (List ℕ)) (found : List MechMaking) (result : Result MechDone ApRefusal) → On NoProof (ran talk state mic (reply_answered found result))
+reply-none : (talk : TalkSays) (state : Option NegState) (mic : Option (List ℕ)) (found : List MechMaking) (result : Result MechDone ApRefusal) → On NoProof (ran talk state mic (reply_answered found result))
 reply-none talk state mic found (Err refusal) = tt
 reply-none talk state mic found (Ok done) = behind-none found (looks talk (outcome_of kinds.Kerberos done) state mic) (looks-none talk (outcome_of kinds.Kerberos done) state mic)
 
-final-none : (talk : Talk) (state : Option NegState) (mic : Option (List ℕ)) (result : Result InitFinished ScramRefusal) → On NoProof (ran talk state mic (final_answered result))
+final-none : (talk : TalkSays) (state : Option NegState) (mic : Option (List ℕ)) (result : Result InitFinished ScramRefusal) → On NoProof (ran talk state mic (final_answered result))
 final-none talk state mic (Err refusal) = tt
 final-none talk state mic (Ok finished) = behind-none finished.found (looks talk (outcome_of kinds.Scram finished.done) state mic) (looks-none talk (outcome_of kinds.Scram finished.done) state mic)
 
 -- ---- the proof
 
-sent-one : (talk : Talk) (wait : WaitModel) (token : List ℕ) (makes : List MechMaking) (first : MechMaking) → makes ≡ first ∷ []
+sent-one : (talk : TalkSays) (wait : WaitModel) (token : List ℕ) (makes : List MechMaking) (first : MechMaking) → makes ≡ first ∷ []
     → OneProof (record { step = steps.More (ends.Talks (record { talk = talk; mech = mechs.Proof wait })) (resp_octets (token_sent token)); chosen = Some talk.chosen; listed = false; makes = makes ++ []; found = [] })
 sent-one talk wait token makes first e = record {
   next = λ making a k. refl;
@@ -111,7 +106,7 @@ sent-one talk wait token makes first e = record {
     is-first : (making : MechMaking) → AmongMakings (makes ++ []) making → making ≡ first
     is-first making a = elim (among_split makes [] making a) [ inl f ↦ only making first (subst (λ (ms : List MechMaking). AmongMakings ms making) e f) | inr n ↦ absurd n ]
 
-text-one : (scram : ScramLaws) (talk : Talk) (state : Option NegState) (mic : Option (List ℕ)) (end : InitModel) (text : List ℕ) (result : Result InitAnswered ScramRefusal) → init_answered end text ≡ result → On OneProof (ran talk state mic (text_answered result))
+text-one : (scram : ScramLaws) (talk : TalkSays) (state : Option NegState) (mic : Option (List ℕ)) (end : InitModel) (text : List ℕ) (result : Result InitAnswered ScramRefusal) → init_answered end text ≡ result → On OneProof (ran talk state mic (text_answered result))
 text-one scram talk state mic end text (Err refusal) e = tt
 text-one scram talk state mic end text (Ok answered) e =
     let p = scram.proves end text answered e in
@@ -121,7 +116,7 @@ text-one scram talk state mic end text (Ok answered) e =
     by-state true sent h = tt
     by-state false sent h = h
 
-run-one : (scram : ScramLaws) (size : ℕ) (talk : Talk) (mech : InitMech) (state : Option NegState) (token mic : Option (List ℕ)) → On OneProof (run size talk mech state token mic)
+run-one : (scram : ScramLaws) (size : ℕ) (talk : TalkSays) (mech : InitMech) (state : Option NegState) (token mic : Option (List ℕ)) → On OneProof (run size talk mech state token mic)
 unfolding run init_taken
 run-one scram size talk mech state None mic = tt
 run-one scram size talk (mechs.Kerberos end) state (Some token) mic = none-one _ (reply-none talk state mic (map typed (reply_found end token)) (reply_taken end token))
@@ -130,36 +125,36 @@ run-one scram size talk (mechs.Proof end) state (Some token) mic = none-one _ (f
 
 -- ---- another mechanism begins
 
-request-none : (talk : Talk) (first : MechMaking) (result : Result (ApInit × List ℕ) ApRefusal) → (first.kind ≡ Proof → ⊥) → On NoProof (switched talk (request_begun (first ∷ []) result))
+request-none : (talk : TalkSays) (first : MechMaking) (result : Result (ApInit × List ℕ) ApRefusal) → (first.kind ≡ Proof → ⊥) → On NoProof (switched talk (request_begun (first ∷ []) result))
 request-none talk first (Err refusal) other = tt
 request-none talk first (Ok sent) other = one-made _ first refl other
 
-text-none : (talk : Talk) (result : Result InitStarted ScramRefusal) → On NoProof (switched talk (text_begun result))
+text-none : (talk : TalkSays) (result : Result InitStarted ScramRefusal) → On NoProof (switched talk (text_begun result))
 text-none talk (Err refusal) = tt
 text-none talk (Ok started) = nothing-made _ refl
 
-switched-none : (talk : Talk) (cred : MechCred) → On NoProof (switched talk (init_begun talk.own cred))
+switched-none : (talk : TalkSays) (cred : MechCred) → On NoProof (switched talk (init_begun talk.own cred))
 unfolding init_begun
 switched-none talk (creds.Kerberos credential) = request-none talk _ (request_of credential talk.own.stamp talk.own.draws talk.own.bindings) (λ e. cc)
 switched-none talk (creds.Scram user password) = text-none talk (init_started user password (drawn_nonce talk.own.draws) talk.own.bindings)
 
-other-none : (talk : Talk) (found : Option MechCred) → On NoProof (begins_other talk found)
+other-none : (talk : TalkSays) (found : Option MechCred) → On NoProof (begins_other talk found)
 other-none talk None = tt
 other-none talk (Some cred) = switched-none talk cred
 
-switches-none : (talk : Talk) (state : Option NegState) (token : Option (List ℕ)) → On NoProof (switches talk state token)
+switches-none : (talk : TalkSays) (state : Option NegState) (token : Option (List ℕ)) → On NoProof (switches talk state token)
 switches-none talk state (Some token) = tt
 switches-none talk state None = either NoProof (says_completed state) (Err (Defective 0)) (begins_other talk (cred_for talk.own.list talk.chosen)) tt (other-none talk (cred_for talk.own.list talk.chosen))
 
 -- ---- the machine
 
-picks-one : (scram : ScramLaws) (size : ℕ) (opening : Opening) (kind : MechKind) (state : Option NegState) (token mic : Option (List ℕ)) → On OneProof (picks size opening kind state token mic)
+picks-one : (scram : ScramLaws) (size : ℕ) (opening : OpeningSays) (kind : MechKind) (state : Option NegState) (token mic : Option (List ℕ)) → On OneProof (picks size opening kind state token mic)
 unfolding picks
 picks-one scram size opening kind state token mic =
     either OneProof (is_first (kinds_of opening.own.list) kind) (run size (talk_with opening.own kind state) opening.mech state token mic) (switches (talk_with opening.own kind state) state token)
     (run-one scram size (talk_with opening.own kind state) opening.mech state token mic) (none-one _ (switches-none (talk_with opening.own kind state) state token))
 
-opened-one : (scram : ScramLaws) (size : ℕ) (opening : Opening) (resp : NegResp) → On OneProof (opened size opening resp)
+opened-one : (scram : ScramLaws) (size : ℕ) (opening : OpeningSays) (resp : NegResp) → On OneProof (opened size opening resp)
 unfolding opened
 opened-one scram size opening resp =
     on-bind {A = Unit {0}} OneProof (due Rejected (not (rejects resp.state)))
@@ -172,7 +167,7 @@ opened-one scram size opening resp =
     (λ kind. picks size opening kind (Some state) resp.token resp.mic)
     (λ kind. picks-one scram size opening kind (Some state) resp.token resp.mic))))
 
-talked-one : (scram : ScramLaws) (size : ℕ) (talking : Talking) (resp : NegResp) → On OneProof (talked size talking resp)
+talked-one : (scram : ScramLaws) (size : ℕ) (talking : TalkingSays) (resp : NegResp) → On OneProof (talked size talking resp)
 unfolding talked
 talked-one scram size talking resp =
     on-bind {A = Unit {0}} OneProof (due Rejected (not (rejects resp.state)))
@@ -181,17 +176,17 @@ talked-one scram size talking resp =
     (λ same. run size (talk_after talking.talk resp.state) talking.mech resp.state resp.token resp.mic)
     (λ same. run-one scram size (talk_after talking.talk resp.state) talking.mech resp.state resp.token resp.mic))
 
-settles-none : (signed : Signed) (listed completes : Bool) → On NoProof (settles signed listed completes)
+settles-none : (signed : SignedSays) (listed completes : Bool) → On NoProof (settles signed listed completes)
 settles-none signed listed true = nothing-made _ refl
 settles-none signed listed false = tt
 
-looks_again-none : (signed : Signed) (state : Option NegState) (mic : Option (List ℕ)) → On NoProof (looks_again signed state mic)
+looks_again-none : (signed : SignedSays) (state : Option NegState) (mic : Option (List ℕ)) → On NoProof (looks_again signed state mic)
 looks_again-none signed state None = settles-none signed signed.listed (completes_later state)
 looks_again-none signed state (Some mic) =
     either NoProof (is_list_mic signed.outcome Initiator (own_list signed.talk.own) mic) (behind [] (mic_found signed.outcome Initiator (own_list signed.talk.own) mic ∷ []) (settles signed true (completes_later state))) (Err MicBad)
     (behind-none (mic_found signed.outcome Initiator (own_list signed.talk.own) mic ∷ []) (settles signed true (completes_later state)) (settles-none signed true (completes_later state))) tt
 
-closed-one : (signed : Signed) (resp : NegResp) → On OneProof (closed signed resp)
+closed-one : (signed : SignedSays) (resp : NegResp) → On OneProof (closed signed resp)
 unfolding closed
 closed-one signed resp =
     on-bind {A = Unit {0}} OneProof (due Rejected (not (rejects resp.state)))
@@ -199,12 +194,12 @@ closed-one signed resp =
     (λ goes. on-bind {A = Unit {0}} OneProof (due MechNotMine (is_chosen signed.talk.chosen resp.mech)) (λ same. looks_again signed resp.state resp.mic)
     (λ same. none-one _ (looks_again-none signed resp.state resp.mic)))
 
-step-one : (scram : ScramLaws) (old : InitEnd) (token : List ℕ) → On OneProof (init_step old token)
+step-one : (scram : ScramLaws) (old : EndSays) (token : List ℕ) → On OneProof (init_step old token)
 step-one scram (ends.Opens opening) token = on-bind OneProof (resp_read token) (opened (length token) opening) (λ resp. opened-one scram (length token) opening resp)
 step-one scram (ends.Talks talking) token = on-bind OneProof (resp_read token) (talked (length token) talking) (λ resp. talked-one scram (length token) talking resp)
 step-one scram (ends.Signed signed) token = on-bind OneProof (last_read token) (closed signed) (λ resp. closed-one signed resp)
 
-pub one-proof : (scram : ScramLaws) (old : InitEnd) (token : List ℕ) (taken : Initiated) → init_step old token ≡ Ok taken → OneProof taken
+pub one-proof : (scram : ScramLaws) (old : EndSays) (token : List ℕ) (taken : Initiated) → init_step old token ≡ Ok taken → OneProof taken
 one-proof scram old token taken e = subst (On OneProof) e (step-one scram old token)
 
 -- ---- the first request
@@ -212,7 +207,7 @@ one-proof scram old token taken e = subst (On OneProof) e (step-one scram old to
 none-made : (x started : Started) (r : Result Started NegRefusal) → r ≡ Ok x → r ≡ Ok started → x.makes ≡ [] → started.makes ≡ []
 none-made x started r e f n = let same : x ≡ started = cc in subst (λ (s : Started). s.makes ≡ []) same n
 
-begun-first : (own : InitSetup) (first : MechCred) (rest : List MechCred) (started : Started) (making : MechMaking) → opens own (init_begun own first) ≡ Ok started → AmongMakings started.makes making → is_first (kinds_of (first ∷ rest)) kinds.Kerberos ≡ true
+begun-first : (own : PlainSetup) (first : MechCred) (rest : List MechCred) (started : Started) (making : MechMaking) → opens own (init_begun own first) ≡ Ok started → AmongMakings started.makes making → is_first (kinds_of (first ∷ rest)) kinds.Kerberos ≡ true
 unfolding init_begun
 begun-first own (creds.Kerberos credential) rest started making e a = refl
 begun-first own (creds.Scram user password) rest started making e a = absurd (by (init_started user password (drawn_nonce own.draws) own.bindings) e)
@@ -221,9 +216,9 @@ begun-first own (creds.Scram user password) rest started making e a = absurd (by
     by (Err refusal) f = cc
     by (Ok sent) f = (let is : started.makes ≡ [] = none-made _ started _ refl f refl in subst (λ (ms : List MechMaking). AmongMakings ms making) is a)
 
-start-by : (own : InitSetup) (list : List MechCred) (started : Started) (making : MechMaking) → starts own list ≡ Ok started → AmongMakings started.makes making → is_first (kinds_of list) kinds.Kerberos ≡ true
+start-by : (own : PlainSetup) (list : List MechCred) (started : Started) (making : MechMaking) → starts own list ≡ Ok started → AmongMakings started.makes making → is_first (kinds_of list) kinds.Kerberos ≡ true
 start-by own [] started making e a = absurd cc
 start-by own (first ∷ rest) started making e a = begun-first own first rest started making e a
 
-pub start-first : (own : InitSetup) (started : Started) (making : MechMaking) → init_start own ≡ Ok started → AmongMakings started.makes making → is_first (kinds_of own.list) kinds.Kerberos ≡ true
+pub start-first : (own : PlainSetup) (started : Started) (making : MechMaking) → init_start own ≡ Ok started → AmongMakings started.makes making → is_first (kinds_of own.list) kinds.Kerberos ≡ true
 start-first own started making e a = start-by own own.list started making e a

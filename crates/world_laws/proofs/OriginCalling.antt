@@ -1,8 +1,7 @@
 -- What each event adds to the calls that were made.
 use Rattle.std.proofs.Common.{◌≡◌, ◌≢◌, ◌⊎◌, inl, inr, ℕ, Bool, true, false, nat_le, refl, sym, ◌∙◌, ap, subst, List, [], ◌++◌, append-nil, slice_get, Option, Some, None, option_to_list, Ok, Err}
 use Rattle.scram_mech.specs.MechMaking.{MechMaking, AmongMakings}
-use Rattle.spnego_core.specs.declared.init_end.InitEnd.{InitEnd}
-use Rattle.spnego_core.specs.declared.setup.InitSetup.{InitSetup}
+use Rattle.spnego_core.specs.Ends.{PlainSetup, EndSays}
 use Rattle.spnego_core.specs.InitLaws.{own_of, answers_next, InitLaw}
 use Rattle.spnego_core.specs.InitMech.{is_own_list}
 use Rattle.spnego_core.specs.Initiating.{Initiated}
@@ -12,8 +11,8 @@ use Rattle.gss_client.specs.Session.{SessionState}
 use Rattle.world_laws.specs.declared.event.Happened.{Happened}
 use Rattle.world_laws.specs.declared.event.WorldEvent.{WorldEvent}
 use Rattle.world_laws.specs.declared.event.WorldEvent.TheVariants.{Start, Deliver, Lane, CallBy}
-use Rattle.world_laws.specs.declared.stage.Stage.{Stage}
-use Rattle.world_laws.specs.declared.stage.Stage.TheVariants as stages
+use Rattle.world_laws.specs.Stages.{StageSays}
+use Rattle.world_laws.specs.Stages as stages
 use Rattle.world_laws.specs.Deeds.{Deed}
 use Rattle.world_laws.specs.State.{InHand, World}
 use Rattle.world_laws.specs.Initiators.{Moved, starts, takes, calls}
@@ -40,14 +39,14 @@ AllUncalled makes = (m : MechMaking) → AmongMakings makes m → Uncalled m
 none-uncalled : (makes : List MechMaking) → makes ≡ [] → AllUncalled makes
 none-uncalled makes e = λ m a. absurd (among-none makes m e a)
 
-starts-uncalled : (laws : Below) (own : InitSetup) → AllUncalled (starts own).makes
+starts-uncalled : (laws : Below) (own : PlainSetup) → AllUncalled (starts own).makes
 starts-uncalled laws own = elim (starts-by own) [
   | inl e ↦ none-uncalled (starts own).makes (ap (λ (v : Moved). v.makes) e)
   | inr by ↦ λ m a. (let r = (laws.init.starts own by.started by.is).made m (subst (λ (ms : List MechMaking). AmongMakings ms m) by.makes a) in
       uncalled-request own m (record { credential = r.0; is_own = r.1; made = r.2 }))
 ]
 
-step-uncalled : (laws : Below) (end : InitEnd) (taken : Initiated) → is_own_list (own_of end).list ≡ true → InitLaw end taken → AllUncalled taken.makes
+step-uncalled : (laws : Below) (end : EndSays) (taken : Initiated) → is_own_list (own_of end).list ≡ true → InitLaw end taken → AllUncalled taken.makes
 step-uncalled laws end taken sized law = λ m a. elim (law.made m a) [
   | inl r ↦ uncalled-request (own_of end) m (request-made (own_of end) taken.chosen m r)
   | inr more ↦ elim more [
@@ -56,7 +55,7 @@ step-uncalled laws end taken sized law = λ m a. elim (law.made m a) [
   ]
 ]
 
-takes-uncalled : (laws : Below) (w : World) (i first xid : ℕ) (end : InitEnd) (octets : List ℕ) → Known w → slice_get w.stages i ≡ Some (stages.Asks xid end) → AllUncalled (takes first xid end octets).makes
+takes-uncalled : (laws : Below) (w : World) (i first xid : ℕ) (end : EndSays) (octets : List ℕ) → Known w → slice_get w.stages i ≡ Some (stages.Asks xid end) → AllUncalled (takes first xid end octets).makes
 takes-uncalled laws w i first xid end octets k there = elim (takes-by first xid end octets) [
   | inl e ↦ none-uncalled (takes first xid end octets).makes (ap (λ (v : Moved). v.makes) e)
   | inr more ↦ elim more [
@@ -97,7 +96,7 @@ now-uncalled : (called : Called) (old : World) (i : ℕ) (moved : Moved) (deed :
 now-uncalled called old i moved deed new un (inl m) = record { makes = moved.makes; is = ap (λ (w : World). w.makings) m.1; of = λ k a. inr (un k a) }
 now-uncalled called old i moved deed new un (inr m) = record { makes = []; is = ap (λ (w : World). w.makings) m.1; of = λ k a. absurd a }
 
-now-started : (called : Called) (laws : Below) (old : World) (i : ℕ) (stage : Option Stage) (deed : Deed) (new : World) → StartsBy old i stage deed new → Now called old new
+now-started : (called : Called) (laws : Below) (old : World) (i : ℕ) (stage : Option StageSays) (deed : Deed) (new : World) → StartsBy old i stage deed new → Now called old new
 now-started called laws old i None deed new did = now-idle called old deed new did
 now-started called laws old i (Some (stages.Ready own)) deed new did = now-uncalled called old i (starts own) deed new (starts-uncalled laws own) did
 now-started called laws old i (Some (stages.Asks xid end)) deed new did = now-idle called old deed new did
@@ -105,7 +104,7 @@ now-started called laws old i (Some (stages.Stands s)) deed new did = now-idle c
 now-started called laws old i (Some (stages.Left s)) deed new did = now-idle called old deed new did
 now-started called laws old i (Some stages.Over) deed new did = now-idle called old deed new did
 
-now-delivered : (called : Called) (laws : Below) (old : World) (i : ℕ) (octets : List ℕ) (first : ℕ) (stage : Option Stage) (deed : Deed) (new : World) → Known old → slice_get old.stages i ≡ stage
+now-delivered : (called : Called) (laws : Below) (old : World) (i : ℕ) (octets : List ℕ) (first : ℕ) (stage : Option StageSays) (deed : Deed) (new : World) → Known old → slice_get old.stages i ≡ stage
     → DeliversBy old i octets first stage deed new → Now called old new
 now-delivered called laws old i octets first None deed new k there did = now-idle called old deed new did
 now-delivered called laws old i octets first (Some (stages.Ready own)) deed new k there did = now-idle called old deed new did
@@ -165,7 +164,7 @@ now-standing : (called : Called) (laws : Below) (old : World) (i procedure : ℕ
 now-standing called laws old i procedure args s deed new true k g there left did = now-call called laws old i procedure args s deed new k g there left did
 now-standing called laws old i procedure args s deed new false k g there left did = now-idle _ old deed new did
 
-now-calls : (called : Called) (laws : Below) (old : World) (i procedure : ℕ) (args : List ℕ) (stage : Option Stage) (deed : Deed) (new : World) → Known old → Grows old new → slice_get old.stages i ≡ stage
+now-calls : (called : Called) (laws : Below) (old : World) (i procedure : ℕ) (args : List ℕ) (stage : Option StageSays) (deed : Deed) (new : World) → Known old → Grows old new → slice_get old.stages i ≡ stage
     → CallsBy old i procedure args stage deed new → Now (and_now called old (CallBy i procedure args) deed) old new
 now-calls called laws old i procedure args None deed new k g there did = now-idle _ old deed new did
 now-calls called laws old i procedure args (Some (stages.Ready own)) deed new k g there did = now-idle _ old deed new did

@@ -4,14 +4,14 @@ use Rattle.std.proofs.lemmas.Bool.{cases_eq}
 use Rattle.std.proofs.lemmas.Bool.Decides.{nat_tests}
 use Rattle.scram_mech.specs.Laws.{Laws as ScramLaws}
 use Rattle.scram_mech.specs.MechMaking.{MechMaking, AmongMakings, typed}
-use Rattle.spnego_core.specs.declared.setup.InitSetup.{InitSetup}
+use Rattle.spnego_core.specs.Ends.{PlainSetup}
 use Rattle.spnego_core.specs.InitMech.{is_own_list}
 use Rattle.accept_book.specs.Served.{are_args}
 use Rattle.gss_client.specs.Session.{SessionState, session_after}
 use Rattle.world_laws.specs.declared.event.WorldEvent.{WorldEvent}
 use Rattle.world_laws.specs.declared.event.WorldEvent.TheVariants.{CallBy}
-use Rattle.world_laws.specs.declared.stage.Stage.{Stage}
-use Rattle.world_laws.specs.declared.stage.Stage.TheVariants as stages
+use Rattle.world_laws.specs.Stages.{StageSays}
+use Rattle.world_laws.specs.Stages as stages
 use Rattle.world_laws.specs.Deeds.{Deed}
 use Rattle.world_laws.specs.State.{Context, World}
 use Rattle.world_laws.specs.Initiators.{Moved, calls, call_makings}
@@ -26,7 +26,7 @@ use Rattle.world_laws.proofs.Makers.{tag, tag-request, tag-proof, tag-list_mic, 
 -- ---- what is handed out for no call: of an initiator's MICs that over its own list alone, and nothing sealed
 
 pub record OwnListMic (m : MechMaking) : Type 0 where
-  pub own : InitSetup
+  pub own : PlainSetup
   pub sized : is_own_list own.list ≡ true
   pub made : MadeListMic own m
 
@@ -37,13 +37,13 @@ pub record Uncalled (m : MechMaking) : Type 0 where
 uncalled-tag : (m : MechMaking) (n : ℕ) → tag m ≡ n → (n ≡ 100 → ⊥) → (n ≡ 97 → ⊥) → Uncalled m
 uncalled-tag m n t a b = record { signed = λ e. absurd (a (sym t ∙ e)); sealed = λ e. b (sym t ∙ e) }
 
-pub uncalled-request : (own : InitSetup) (m : MechMaking) → MadeRequest own m → Uncalled m
+pub uncalled-request : (own : PlainSetup) (m : MechMaking) → MadeRequest own m → Uncalled m
 uncalled-request own m made = uncalled-tag m 45 (tag-request own m made) (λ e. absurd (omega arith)) (λ e. absurd (omega arith))
 
-pub uncalled-proof : (scram : ScramLaws) (own : InitSetup) (m : MechMaking) → MadeProof own m → Uncalled m
+pub uncalled-proof : (scram : ScramLaws) (own : PlainSetup) (m : MechMaking) → MadeProof own m → Uncalled m
 uncalled-proof scram own m made = uncalled-tag m 3 (tag-proof scram own m made) (λ e. absurd (omega arith)) (λ e. absurd (omega arith))
 
-pub uncalled-list : (own : InitSetup) (m : MechMaking) → is_own_list own.list ≡ true → MadeListMic own m → Uncalled m
+pub uncalled-list : (own : PlainSetup) (m : MechMaking) → is_own_list own.list ≡ true → MadeListMic own m → Uncalled m
 uncalled-list own m sized made =
     record { signed = λ e. record { own = own; sized = sized; made = made }; sealed = λ e. absurd (let t = tag-list_mic own m made in omega (arith, t, e)) }
 
@@ -62,7 +62,7 @@ abbrev pub Called : Type 1
 Called = (i number procedure : ℕ) → List ℕ → Type 0
 
 -- the initiator's later calls have greater numbers
-abbrev pub IsPast : Option Stage → ℕ → Type 0
+abbrev pub IsPast : Option StageSays → ℕ → Type 0
 IsPast None number = ⊥
 IsPast (Some (stages.Ready own)) number = ⊥
 IsPast (Some (stages.Asks xid end)) number = ⊥
@@ -72,7 +72,7 @@ IsPast (Some stages.Over) number = ⊥
 
 pub record CalledMaking (called : Called) (w : World) (m : MechMaking) : Type 0 where
   pub i : ℕ
-  pub own : InitSetup
+  pub own : PlainSetup
   pub session : SessionState
   pub procedure : ℕ
   pub args : List ℕ
@@ -119,7 +119,7 @@ same-event i j p q a b e = (cc, cc)
 -- a call's number is not one of those before
 not-past : (old : World) (event : WorldEvent) (deed : Deed) (i number procedure : ℕ) (args : List ℕ) → IsPast (slice_get old.stages i) number → IsCall old event deed i number procedure args → ⊥
 not-past old event deed i number procedure args past c =
-    let less : number < c.session.number = subst (λ (stage : Option Stage). IsPast stage number) c.stands past in
+    let less : number < c.session.number = subst (λ (stage : Option StageSays). IsPast stage number) c.stands past in
     let is = c.number_is in absurd (omega (arith, less, is))
 
 pub now-same : (called : Called) (old : World) (event : WorldEvent) (deed : Deed) → Calls called old → (i number p q : ℕ) (a b : List ℕ) → and_now called old event deed i number p a → and_now called old event deed i number q b → (p ≡ q) × (a ≡ b)
@@ -130,13 +130,13 @@ now-same called old event deed c i number p q a b (inr x) (inr y) = same-event i
 
 -- ---- stages
 
-past-set : (places : List Stage) (i : ℕ) (before next : Stage) → slice_get places i ≡ Some before → ((number : ℕ) → IsPast (Some before) number → IsPast (Some next) number)
+past-set : (places : List StageSays) (i : ℕ) (before next : StageSays) → slice_get places i ≡ Some before → ((number : ℕ) → IsPast (Some before) number → IsPast (Some next) number)
     → (j number : ℕ) → IsPast (slice_get places j) number → IsPast (slice_get (slice_set places i next) j) number
 past-set places i before next there on j number past = elim (cases_eq i j) [
   | inl e ↦ subst (λ (k : ℕ). IsPast (slice_get (slice_set places i next) k) number) e
-      (subst (λ (stage : Option Stage). IsPast stage number) (sym (set-same places i next before there))
-      (on number (subst (λ (stage : Option Stage). IsPast stage number) there (subst (λ (k : ℕ). IsPast (slice_get places k) number) (sym e) past))))
-  | inr ne ↦ subst (λ (stage : Option Stage). IsPast stage number) (sym (set-other places i j next ne)) past
+      (subst (λ (stage : Option StageSays). IsPast stage number) (sym (set-same places i next before there))
+      (on number (subst (λ (stage : Option StageSays). IsPast stage number) there (subst (λ (k : ℕ). IsPast (slice_get places k) number) (sym e) past))))
+  | inr ne ↦ subst (λ (stage : Option StageSays). IsPast stage number) (sym (set-other places i j next ne)) past
 ]
 
 move-past : (old : World) (i : ℕ) (moved : Moved) (deed : Deed) (new : World) → Move old i moved → Moves old i moved deed new → (j number : ℕ) → IsPast (slice_get old.stages j) number → IsPast (slice_get new.stages j) number
@@ -159,7 +159,7 @@ came-past old deed new (Laning lane hand octets now draws there (inr a)) j numbe
 answered-past : (old : World) (i : ℕ) (s : SessionState) (procedure : ℕ) (args : List ℕ) (deed : Deed) (new : World) → slice_get old.stages i ≡ Some (stages.Stands s) → deed.answer ≢ None
     → Moves old i (calls s procedure args) deed new → IsPast (slice_get new.stages i) s.number
 answered-past old i s procedure args deed new there answered (inl m) = subst (λ (w : World). IsPast (slice_get w.stages i) s.number) (sym m.1)
-    (subst (λ (stage : Option Stage). IsPast stage s.number) (sym (set-same old.stages i (stages.Stands (session_after s)) (stages.Stands s) there)) (omega arith))
+    (subst (λ (stage : Option StageSays). IsPast stage s.number) (sym (set-same old.stages i (stages.Stands (session_after s)) (stages.Stands s) there)) (omega arith))
 answered-past old i s procedure args deed new there answered (inr m) = absurd (answered (ap (λ (d : Deed). d.answer) m.0))
 
 -- the move of a call that may be made
@@ -172,7 +172,7 @@ call-moves : (old : World) (event : WorldEvent) (deed : Deed) (new : World) (i n
 call-moves old event deed new i number procedure args did c =
     let by : CallsBy old i procedure args (slice_get old.stages i) deed new = subst (λ (e : WorldEvent). HappensBy old e deed new) c.event_is did in
     with-number old i c.session procedure args deed new (subst (λ (n : ℕ). nat_le n 0x7fffffff ≡ true) (sym c.number_is) c.left)
-    (subst (λ (stage : Option Stage). CallsBy old i procedure args stage deed new) c.stands by)
+    (subst (λ (stage : Option StageSays). CallsBy old i procedure args stage deed new) c.stands by)
 
 pub now-past : (old : World) (event : WorldEvent) (deed : Deed) (new : World) (i number procedure : ℕ) (args : List ℕ) → HappensBy old event deed new → IsCall old event deed i number procedure args → IsPast (slice_get new.stages i) number
 now-past old event deed new i number procedure args did c = subst (IsPast (slice_get new.stages i)) c.number_is

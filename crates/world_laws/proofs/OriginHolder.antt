@@ -3,7 +3,7 @@ use Rattle.std.proofs.Common.{◌≡◌, inl, inr, ℕ, sym, ap, subst, List, sl
 use Rattle.gss_base.specs.declared.mech.MechKind.TheVariants as kinds
 use Rattle.scram_mech.specs.MechMaking.{AmongMakings}
 use Rattle.spnego_core.specs.declared.outcome.Outcome.{Outcome}
-use Rattle.spnego_core.specs.declared.setup.InitSetup.{InitSetup}
+use Rattle.spnego_core.specs.Ends.{PlainSetup}
 use Rattle.world_laws.specs.State.{Context, World}
 use Rattle.world_laws.specs.Premises.{Marking, GuardedBasis, Completed, Proved, Fresh}
 use Rattle.world_laws.specs.Setups.{Proper}
@@ -15,11 +15,11 @@ use Rattle.world_laws.proofs.TakenTexts.{made-is}
 use Rattle.world_laws.proofs.OriginWaiting.{HandedProof, Proofs, completed-proof}
 
 -- a proof that was handed out, by its AuthMessage
-record ProvedOver (w : World) (own : InitSetup) : Type 0 where
+record ProvedOver (w : World) (own : PlainSetup) : Type 0 where
   auth : List ℕ
   proved : Proved w own auth
 
-proved-over : (laws : Below) (w : World) → Proper w → (j : ℕ) (own : InitSetup) → slice_get w.facts j ≡ Some own → HandedProof w own → ProvedOver w own
+proved-over : (laws : Below) (w : World) → Proper w → (j : ℕ) (own : PlainSetup) → slice_get w.facts j ≡ Some own → HandedProof w own → ProvedOver w own
 proved-over laws w proper j own there h = by (told laws.scram own (proper.setups j own there) h.made.end h.made.first h.made.text h.made.answered h.made.answers)
   where
     by : Told own h.made.answered → ProvedOver w own
@@ -39,7 +39,7 @@ proved-over laws w proper j own there h = by (told laws.scram own (proper.setups
     }
 
 partner-by : (laws : Below) (marking : Marking) (w : World) → Proper w → Fresh marking w → Kept marking w → Proofs w → (place : ℕ) (x : Context) → slice_get w.fixed place ≡ Some x → GuardedBasis marking x.fixed.basis
-    → (j : ℕ) (own : InitSetup) (outcome : Outcome) → Completed w j own outcome → outcome.key ≡ x.fixed.outcome.key → MechFinished marking w own outcome → Partner w own x.fixed.basis
+    → (j : ℕ) (own : PlainSetup) (outcome : Outcome) → Completed w j own outcome → outcome.key ≡ x.fixed.outcome.key → MechFinished marking w own outcome → Partner w own x.fixed.basis
 partner-by laws marking w proper fresh kept proofs place x there guarded j own outcome completed key (inl d) =
     krb-holds laws marking w proper fresh kept j own outcome completed (ap (λ (o : Outcome). o.mech) d.outcome_is) place x there guarded (sym key)
 partner-by laws marking w proper fresh kept proofs place x there guarded j own outcome completed key (inr d) =
@@ -48,6 +48,6 @@ partner-by laws marking w proper fresh kept proofs place x there guarded j own o
     scram-holds laws marking w proper fresh kept j own outcome p.auth completed mech p.proved place x there guarded (sym key)
 
 pub partner-of : (laws : Below) (marking : Marking) (w : World) → Proper w → Fresh marking w → Kept marking w → Proofs w → (place : ℕ) (x : Context) → slice_get w.fixed place ≡ Some x → GuardedBasis marking x.fixed.basis
-    → (j : ℕ) (own : InitSetup) (outcome : Outcome) → Completed w j own outcome → outcome.key ≡ x.fixed.outcome.key → Partner w own x.fixed.basis
+    → (j : ℕ) (own : PlainSetup) (outcome : Outcome) → Completed w j own outcome → outcome.key ≡ x.fixed.outcome.key → Partner w own x.fixed.basis
 partner-of laws marking w proper fresh kept proofs place x there guarded j own outcome completed key =
     partner-by laws marking w proper fresh kept proofs place x there guarded j own outcome completed key (kept.found.completed j own outcome completed)

@@ -13,7 +13,7 @@ use Rattle.rpc_msgs.proofs.WordLengths.{length-word}
 use Rattle.rpcsec_msgs.specs.Cred.{CredValue}
 use Rattle.scram_mech.specs.MechMaking.{OfType, MechMaking, typed}
 use Rattle.spnego_msgs.specs.Lists.{list_octets}
-use Rattle.spnego_core.specs.declared.setup.InitSetup.{InitSetup}
+use Rattle.spnego_core.specs.Ends.{PlainSetup}
 use Rattle.spnego_core.specs.Initiating.{own_list}
 use Rattle.spnego_core.specs.Outcome.{token_end}
 use Rattle.gss_client.specs.Calling.{own_end, header_of}
@@ -50,7 +50,7 @@ no-list tokens key octets header long not l =
 -- a call with this number, which is of this procedure where it is of data; without protection of procedure 0 alone
 pub record HeaderFrom (called : Called) (w : World) (key : Key) (call : CallValue) (cred : CredValue) : Type 0 where
   pub i : ℕ
-  pub own : InitSetup
+  pub own : PlainSetup
   pub session : SessionState
   pub procedure : ℕ
   pub args : List ℕ
@@ -129,7 +129,7 @@ header-from called tokens w key header tail call cred calls t long made =
 -- a call with this number and these arguments
 pub record BodyFrom (called : Called) (w : World) (key : Key) (seq : ℕ) (args : List ℕ) : Type 0 where
   pub i : ℕ
-  pub own : InitSetup
+  pub own : PlainSetup
   pub session : SessionState
   pub procedure : ℕ
   pub was : called i session.number procedure args

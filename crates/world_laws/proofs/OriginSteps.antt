@@ -23,21 +23,16 @@ use Rattle.spnego_core.specs.declared.outcome.Outcome.{Outcome}
 use Rattle.spnego_core.specs.declared.refusal.NegRefusal.{NegRefusal}
 use Rattle.spnego_core.specs.declared.refusal.NegRefusal.TheVariants.{Defective, Rejected, MechNotMine, MicMissing, MicBad}
 use Rattle.spnego_core.specs.declared.refusal.MechRefusal.{MechRefusal}
-use Rattle.spnego_core.specs.declared.setup.InitSetup.{InitSetup}
 use Rattle.spnego_core.specs.declared.setup.MechCred.{MechCred}
 use Rattle.spnego_core.specs.declared.setup.MechCred.TheVariants as creds
 use Rattle.spnego_core.specs.declared.init_mech.InitMech.{InitMech}
 use Rattle.spnego_core.specs.declared.init_mech.InitMech.TheVariants as mechs
 use Rattle.spnego_core.specs.declared.init_mech.InitAnswer.{InitAnswer}
 use Rattle.spnego_core.specs.declared.init_mech.InitAnswer.TheVariants as answers
-use Rattle.spnego_core.specs.declared.init_end.Opening.{Opening}
-use Rattle.spnego_core.specs.declared.init_end.Talk.{Talk}
-use Rattle.spnego_core.specs.declared.init_end.Talking.{Talking}
-use Rattle.spnego_core.specs.declared.init_end.Signed.{Signed}
-use Rattle.spnego_core.specs.declared.init_end.InitEnd.{InitEnd}
-use Rattle.spnego_core.specs.declared.init_end.InitEnd.TheVariants as ends
-use Rattle.spnego_core.specs.declared.init_end.InitStep.{InitStep}
-use Rattle.spnego_core.specs.declared.init_end.InitStep.TheVariants as steps
+use Rattle.spnego_core.specs.Ends.{PlainSetup, OpeningSays, TalkSays, TalkingSays, SignedSays, EndSays}
+use Rattle.spnego_core.specs.Ends as ends
+use Rattle.spnego_core.specs.EndSteps.{StepSays}
+use Rattle.spnego_core.specs.EndSteps as steps
 use Rattle.spnego_core.specs.Choice.{is_first}
 use Rattle.spnego_core.specs.InitMech.{kinds_of, cred_for, MechBegun, request_begun, text_begun, init_begun, reply_answered, text_answered, final_answered, init_taken}
 use Rattle.spnego_core.specs.Initiating.{Started, Initiated, opens, starts, init_start, opened, talked, closed, init_step, behind, own_list, ended, is_mic_owed, is_chosen, completes_now, completes_later, looks, token_sent, told, ran, run, begins_other, switched, switches, talk_with, talk_after, picks, own_kind, settles, looks_again}
@@ -55,12 +50,12 @@ proof_end (mechs.Kerberos end) = None
 proof_end (mechs.Scram end) = None
 proof_end (mechs.Proof end) = Some end
 
-abbrev pub waits_of : InitEnd → Option WaitModel
+abbrev pub waits_of : EndSays → Option WaitModel
 waits_of (ends.Opens opening) = proof_end opening.mech
 waits_of (ends.Talks talking) = proof_end talking.mech
 waits_of (ends.Signed signed) = None
 
-abbrev pub waits_in : InitStep → Option WaitModel
+abbrev pub waits_in : StepSays → Option WaitModel
 waits_in (steps.More end token) = waits_of end
 waits_in (steps.Done outcome) = None
 
@@ -90,7 +85,7 @@ behind-proving Ready makes found (Ok taken) p = record {
   finishes = p.finishes;
 }
 
-ended-proving : (Ready : Outcome → Type 0) (talk : Talk) (outcome : Outcome) (listed now : Bool) → (outcome.mech ≡ kinds.Scram → Ready outcome) → Proving Ready (ended talk outcome listed now)
+ended-proving : (Ready : Outcome → Type 0) (talk : TalkSays) (outcome : Outcome) (listed now : Bool) → (outcome.mech ≡ kinds.Scram → Ready outcome) → Proving Ready (ended talk outcome listed now)
 ended-proving Ready talk outcome listed true ready = record {
   proves = λ wait e. absurd (none-some wait e);
   finishes = λ other e scram. (let same : outcome ≡ other = same_Some outcome other e in subst (λ (o : Outcome). o.mech ≡ kinds.Scram → Ready o) same ready scram);
@@ -100,7 +95,7 @@ ended-proving Ready talk outcome listed false ready = record {
   finishes = λ other e scram. (let same : outcome ≡ other = same_Some outcome other e in subst (λ (o : Outcome). o.mech ≡ kinds.Scram → Ready o) same ready scram);
 }
 
-looks-proving : (Ready : Outcome → Type 0) (talk : Talk) (outcome : Outcome) (state : Option NegState) (mic : Option (List ℕ)) → (outcome.mech ≡ kinds.Scram → Ready outcome) → On (Proving Ready) (looks talk outcome state mic)
+looks-proving : (Ready : Outcome → Type 0) (talk : TalkSays) (outcome : Outcome) (state : Option NegState) (mic : Option (List ℕ)) → (outcome.mech ≡ kinds.Scram → Ready outcome) → On (Proving Ready) (looks talk outcome state mic)
 looks-proving Ready talk outcome state None ready = either (Proving Ready) (is_mic_owed talk) (Err MicMissing) (Ok (ended talk outcome false (completes_now state false))) tt (ended-proving Ready talk outcome false (completes_now state false) ready)
 looks-proving Ready talk outcome state (Some mic) ready = either (Proving Ready) (is_list_mic outcome Initiator (own_list talk.own) mic) (behind [] (mic_found outcome Initiator (own_list talk.own) mic ∷ []) (Ok (ended talk outcome true (completes_now state true)))) (Err MicBad)
     (behind-proving Ready [] (mic_found outcome Initiator (own_list talk.own) mic ∷ []) (Ok (ended talk outcome true (completes_now state true))) (ended-proving Ready talk outcome true (completes_now state true) ready)) tt
@@ -112,7 +107,7 @@ abbrev Answering : (Outcome → Type 0) → List MechMaking → InitAnswer → T
 Answering Ready makes (answers.More mech token) = (wait : WaitModel) → proof_end mech ≡ Some wait → HasProof makes
 Answering Ready makes (answers.Done outcome) = outcome.mech ≡ kinds.Scram → Ready outcome
 
-told-proving : (Ready : Outcome → Type 0) (talk : Talk) (state : Option NegState) (mic : Option (List ℕ)) (makes found : List MechMaking) (answer : InitAnswer) → Answering Ready makes answer
+told-proving : (Ready : Outcome → Type 0) (talk : TalkSays) (state : Option NegState) (mic : Option (List ℕ)) (makes found : List MechMaking) (answer : InitAnswer) → Answering Ready makes answer
     → On (Proving Ready) (behind makes found (told talk state mic answer))
 told-proving Ready talk state mic makes found (answers.More mech token) a = more (says_completed state)
   where
@@ -131,7 +126,7 @@ Waited before outcome = (wait : WaitModel) × (before ≡ Some wait)
 no-scram : kinds.Kerberos ≡ kinds.Scram → ⊥
 no-scram e = cc
 
-replied : (talk : Talk) (state : Option NegState) (mic : Option (List ℕ)) (end : ApInit) (found : List MechMaking) (r : Result MechDone ApRefusal) → On (Proving (Waited None)) (ran talk state mic (reply_answered found r))
+replied : (talk : TalkSays) (state : Option NegState) (mic : Option (List ℕ)) (end : ApInit) (found : List MechMaking) (r : Result MechDone ApRefusal) → On (Proving (Waited None)) (ran talk state mic (reply_answered found r))
 replied talk state mic end found (Ok made) = told-proving (Waited None) talk state mic [] found (answers.Done _) (λ e. absurd (no-scram e))
 replied talk state mic end found (Err refusal) = tt
 
@@ -140,29 +135,29 @@ one-proof scram end token answered e =
     let p = scram.proves end token answered e in
     subst (λ (a : InitAnswered). HasProof a.makes) (sym p.same) (record { making = _; among = inl refl; is_proof = refl })
 
-answered-text : (scram : ScramLaws) (talk : Talk) (state : Option NegState) (mic : Option (List ℕ)) (end : InitModel) (token : List ℕ) (r : Result InitAnswered ScramRefusal) → init_answered end token ≡ r
+answered-text : (scram : ScramLaws) (talk : TalkSays) (state : Option NegState) (mic : Option (List ℕ)) (end : InitModel) (token : List ℕ) (r : Result InitAnswered ScramRefusal) → init_answered end token ≡ r
     → On (Proving (Waited None)) (ran talk state mic (text_answered r))
 answered-text scram talk state mic end token (Ok answered) e = told-proving (Waited None) talk state mic answered.makes [] (answers.More (mechs.Proof answered.end) answered.token) (λ wait f. one-proof scram end token answered e)
 answered-text scram talk state mic end token (Err refusal) e = tt
 
-answered-final : (talk : Talk) (state : Option NegState) (mic : Option (List ℕ)) (end : WaitModel) (r : Result InitFinished ScramRefusal) → On (Proving (Waited (Some end))) (ran talk state mic (final_answered r))
+answered-final : (talk : TalkSays) (state : Option NegState) (mic : Option (List ℕ)) (end : WaitModel) (r : Result InitFinished ScramRefusal) → On (Proving (Waited (Some end))) (ran talk state mic (final_answered r))
 answered-final talk state mic end (Ok finished) = told-proving (Waited (Some end)) talk state mic [] finished.found (answers.Done _) (λ e. (end, refl))
 answered-final talk state mic end (Err refusal) = tt
 
-ran-proving : (scram : ScramLaws) (talk : Talk) (state : Option NegState) (mic : Option (List ℕ)) (mech : InitMech) (token : List ℕ) → On (Proving (Waited (proof_end mech))) (ran talk state mic (init_taken mech token))
+ran-proving : (scram : ScramLaws) (talk : TalkSays) (state : Option NegState) (mic : Option (List ℕ)) (mech : InitMech) (token : List ℕ) → On (Proving (Waited (proof_end mech))) (ran talk state mic (init_taken mech token))
 unfolding init_taken
 ran-proving scram talk state mic (mechs.Kerberos end) token = replied talk state mic end _ (reply_taken end token)
 ran-proving scram talk state mic (mechs.Scram end) token = answered-text scram talk state mic end token (init_answered end token) refl
 ran-proving scram talk state mic (mechs.Proof end) token = answered-final talk state mic end (init_finished end token)
 
-run-proving : (scram : ScramLaws) (size : ℕ) (talk : Talk) (mech : InitMech) (state : Option NegState) (token mic : Option (List ℕ)) → On (Proving (Waited (proof_end mech))) (run size talk mech state token mic)
+run-proving : (scram : ScramLaws) (size : ℕ) (talk : TalkSays) (mech : InitMech) (state : Option NegState) (token mic : Option (List ℕ)) → On (Proving (Waited (proof_end mech))) (run size talk mech state token mic)
 unfolding run
 run-proving scram size talk mech state None mic = tt
 run-proving scram size talk mech state (Some token) mic = ran-proving scram talk state mic mech token
 
 -- ---- another mechanism begins, which waits for no signature
 
-begun-none : (own : InitSetup) (cred : MechCred) (begun : MechBegun) → init_begun own cred ≡ Ok begun → proof_end begun.mech ≡ None
+begun-none : (own : PlainSetup) (cred : MechCred) (begun : MechBegun) → init_begun own cred ≡ Ok begun → proof_end begun.mech ≡ None
 unfolding init_begun
 begun-none own (creds.Kerberos credential) begun e = by (request_of credential own.stamp own.draws own.bindings) e
   where
@@ -175,27 +170,27 @@ begun-none own (creds.Scram user password) begun e = by (init_started user passw
     by (Ok started) f = ap (λ (b : MechBegun). proof_end b.mech) (ok_is {E = MechRefusal} begun _ (sym f))
     by (Err refusal) f = absurd cc
 
-switched-proving : (Ready : Outcome → Type 0) (talk : Talk) (cred : MechCred) (r : Result MechBegun MechRefusal) → init_begun talk.own cred ≡ r → On (Proving Ready) (switched talk r)
+switched-proving : (Ready : Outcome → Type 0) (talk : TalkSays) (cred : MechCred) (r : Result MechBegun MechRefusal) → init_begun talk.own cred ≡ r → On (Proving Ready) (switched talk r)
 switched-proving Ready talk cred (Err refusal) e = tt
 switched-proving Ready talk cred (Ok begun) e = record {
   proves = λ wait f. absurd (none-some wait (sym (begun-none talk.own cred begun e) ∙ f));
   finishes = λ outcome f scram. absurd (none-some outcome f);
 }
 
-other-proving : (Ready : Outcome → Type 0) (talk : Talk) (cred : Option MechCred) → On (Proving Ready) (begins_other talk cred)
+other-proving : (Ready : Outcome → Type 0) (talk : TalkSays) (cred : Option MechCred) → On (Proving Ready) (begins_other talk cred)
 other-proving Ready talk None = tt
 other-proving Ready talk (Some cred) = switched-proving Ready talk cred (init_begun talk.own cred) refl
 
-switches-proving : (Ready : Outcome → Type 0) (talk : Talk) (state : Option NegState) (token : Option (List ℕ)) → On (Proving Ready) (switches talk state token)
+switches-proving : (Ready : Outcome → Type 0) (talk : TalkSays) (state : Option NegState) (token : Option (List ℕ)) → On (Proving Ready) (switches talk state token)
 switches-proving Ready talk state (Some token) = tt
 switches-proving Ready talk state None = either (Proving Ready) (says_completed state) _ _ tt (other-proving Ready talk (cred_for talk.own.list talk.chosen))
 
-picks-proving : (scram : ScramLaws) (size : ℕ) (opening : Opening) (kind : MechKind) (state : Option NegState) (token mic : Option (List ℕ)) → On (Proving (Waited (proof_end opening.mech))) (picks size opening kind state token mic)
+picks-proving : (scram : ScramLaws) (size : ℕ) (opening : OpeningSays) (kind : MechKind) (state : Option NegState) (token mic : Option (List ℕ)) → On (Proving (Waited (proof_end opening.mech))) (picks size opening kind state token mic)
 unfolding picks
 picks-proving scram size opening kind state token mic = either (Proving (Waited (proof_end opening.mech))) (is_first (kinds_of opening.own.list) kind) _ _
     (run-proving scram size (talk_with opening.own kind state) opening.mech state token mic) (switches-proving (Waited (proof_end opening.mech)) (talk_with opening.own kind state) state token)
 
-opened-proving : (scram : ScramLaws) (size : ℕ) (opening : Opening) (resp : NegResp) → On (Proving (Waited (proof_end opening.mech))) (opened size opening resp)
+opened-proving : (scram : ScramLaws) (size : ℕ) (opening : OpeningSays) (resp : NegResp) → On (Proving (Waited (proof_end opening.mech))) (opened size opening resp)
 unfolding opened
 opened-proving scram size opening resp =
     goes_on (Proving (Waited (proof_end opening.mech))) (due Rejected (not (rejects resp.state))) _
@@ -203,7 +198,7 @@ opened-proving scram size opening resp =
     (λ state. goes_on (Proving (Waited (proof_end opening.mech))) (or_refuse (Defective size) resp.mech) _
     (λ oid. goes_on (Proving (Waited (proof_end opening.mech))) (or_refuse MechNotMine (own_kind opening.own.list (mech_of oid))) _ (λ kind. picks-proving scram size opening kind (Some state) resp.token resp.mic))))
 
-talked-proving : (scram : ScramLaws) (size : ℕ) (talking : Talking) (resp : NegResp) → On (Proving (Waited (proof_end talking.mech))) (talked size talking resp)
+talked-proving : (scram : ScramLaws) (size : ℕ) (talking : TalkingSays) (resp : NegResp) → On (Proving (Waited (proof_end talking.mech))) (talked size talking resp)
 unfolding talked
 talked-proving scram size talking resp =
     goes_on (Proving (Waited (proof_end talking.mech))) (due Rejected (not (rejects resp.state))) _
@@ -212,16 +207,16 @@ talked-proving scram size talking resp =
 
 -- ---- once the mechanism is done
 
-settles-proving : (signed : Signed) (listed now : Bool) → On (Proving (λ outcome. signed.outcome ≡ outcome)) (settles signed listed now)
+settles-proving : (signed : SignedSays) (listed now : Bool) → On (Proving (λ outcome. signed.outcome ≡ outcome)) (settles signed listed now)
 settles-proving signed listed true = record { proves = λ wait e. absurd (none-some wait e); finishes = λ outcome e scram. same_Some signed.outcome outcome e }
 settles-proving signed listed false = tt
 
-again-proving : (signed : Signed) (state : Option NegState) (mic : Option (List ℕ)) → On (Proving (λ outcome. signed.outcome ≡ outcome)) (looks_again signed state mic)
+again-proving : (signed : SignedSays) (state : Option NegState) (mic : Option (List ℕ)) → On (Proving (λ outcome. signed.outcome ≡ outcome)) (looks_again signed state mic)
 again-proving signed state None = settles-proving signed signed.listed (completes_later state)
 again-proving signed state (Some mic) = either (Proving (λ outcome. signed.outcome ≡ outcome)) (is_list_mic signed.outcome Initiator (own_list signed.talk.own) mic) (behind [] (mic_found signed.outcome Initiator (own_list signed.talk.own) mic ∷ []) (settles signed true (completes_later state))) (Err MicBad)
     (behind-proving (λ outcome. signed.outcome ≡ outcome) [] (mic_found signed.outcome Initiator (own_list signed.talk.own) mic ∷ []) (settles signed true (completes_later state)) (settles-proving signed true (completes_later state))) tt
 
-closed-proving : (signed : Signed) (resp : NegResp) → On (Proving (λ outcome. signed.outcome ≡ outcome)) (closed signed resp)
+closed-proving : (signed : SignedSays) (resp : NegResp) → On (Proving (λ outcome. signed.outcome ≡ outcome)) (closed signed resp)
 unfolding closed
 closed-proving signed resp =
     goes_on (Proving (λ outcome. signed.outcome ≡ outcome)) (due Rejected (not (rejects resp.state))) _
@@ -230,22 +225,22 @@ closed-proving signed resp =
 -- ---- the machine
 
 -- it was finished so, or waited for the signature
-abbrev pub ReadyBy : InitEnd → Outcome → Type 0
+abbrev pub ReadyBy : EndSays → Outcome → Type 0
 ReadyBy (ends.Opens opening) outcome = Waited (proof_end opening.mech) outcome
 ReadyBy (ends.Talks talking) outcome = Waited (proof_end talking.mech) outcome
 ReadyBy (ends.Signed signed) outcome = signed.outcome ≡ outcome
 
-on-step : (scram : ScramLaws) (old : InitEnd) (token : List ℕ) → On (Proving (ReadyBy old)) (init_step old token)
+on-step : (scram : ScramLaws) (old : EndSays) (token : List ℕ) → On (Proving (ReadyBy old)) (init_step old token)
 on-step scram (ends.Opens opening) token = goes_on (Proving (ReadyBy (ends.Opens opening))) (resp_read token) _ (λ resp. opened-proving scram (length token) opening resp)
 on-step scram (ends.Talks talking) token = goes_on (Proving (ReadyBy (ends.Talks talking))) (resp_read token) _ (λ resp. talked-proving scram (length token) talking resp)
 on-step scram (ends.Signed signed) token = goes_on (Proving (ReadyBy (ends.Signed signed))) (last_read token) _ (λ resp. closed-proving signed resp)
 
-pub step-proving : (scram : ScramLaws) (old : InitEnd) (token : List ℕ) (taken : Initiated) → init_step old token ≡ Ok taken → Proving (ReadyBy old) taken
+pub step-proving : (scram : ScramLaws) (old : EndSays) (token : List ℕ) (taken : Initiated) → init_step old token ≡ Ok taken → Proving (ReadyBy old) taken
 step-proving scram old token taken e = subst (On (Proving (ReadyBy old))) e (on-step scram old token)
 
 -- ---- the start
 
-pub start-waits : (own : InitSetup) (started : Started) → init_start own ≡ Ok started → waits_of started.end ≡ None
+pub start-waits : (own : PlainSetup) (started : Started) → init_start own ≡ Ok started → waits_of started.end ≡ None
 start-waits own started e = by own.list e
   where
     opens-by : (cred : MechCred) (r : Result MechBegun MechRefusal) → init_begun own cred ≡ r → opens own r ≡ Ok started → waits_of started.end ≡ None

@@ -16,7 +16,7 @@ use Rattle.rpcsec_msgs.specs.Bodies.{checked_at, sealed_at}
 use Rattle.rpcsec_msgs.specs.Cred.{CredValue, cred_at}
 use Rattle.scram_mech.specs.MechMaking.{MechMaking, AmongMakings, typed}
 use Rattle.spnego_core.specs.declared.outcome.Outcome.{Outcome}
-use Rattle.spnego_core.specs.declared.setup.InitSetup.{InitSetup}
+use Rattle.spnego_core.specs.Ends.{PlainSetup}
 use Rattle.accept_book.specs.Served.{are_args}
 use Rattle.accept_book.specs.declared.book_answer.Lease.{Lease}
 use Rattle.accept_book.specs.RecordShown.{KeptAnswers, end_of, is_verified}
@@ -128,10 +128,10 @@ pub record Traced (called : Called) (w : World) (context : Context) (number : �
 
 -- who completed with this key is the initiator
 abbrev pub Holds : World → Key → ℕ → Type 0
-Holds w key initiator = (j : ℕ) (own : InitSetup) (outcome : Outcome) → Completed w j own outcome → outcome.key ≡ key → j ≡ initiator
+Holds w key initiator = (j : ℕ) (own : PlainSetup) (outcome : Outcome) → Completed w j own outcome → outcome.key ≡ key → j ≡ initiator
 
 -- the initiator at one place is that at another
-completed-as : (w : World) (i j : ℕ) (own other : InitSetup) (outcome : Outcome) → i ≡ j → slice_get w.facts j ≡ Some other → Completed w i own outcome → Completed w j other outcome
+completed-as : (w : World) (i j : ℕ) (own other : PlainSetup) (outcome : Outcome) → i ≡ j → slice_get w.facts j ≡ Some other → Completed w i own outcome → Completed w j other outcome
 completed-as w i j own other outcome same there c = record {
   there = there;
   stage = c.stage;

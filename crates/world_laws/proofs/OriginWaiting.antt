@@ -5,18 +5,17 @@ use Rattle.gss_base.specs.declared.mech.MechKind.TheVariants as kinds
 use Rattle.krb_derive.specs.Making.{Kind, Proof, Sealed, Check}
 use Rattle.scram_mech.specs.Initiator.{WaitModel}
 use Rattle.scram_mech.specs.MechMaking.{MechMaking, AmongMakings}
-use Rattle.spnego_core.specs.declared.init_end.InitEnd.{InitEnd}
-use Rattle.spnego_core.specs.declared.init_end.InitEnd.TheVariants as ends
-use Rattle.spnego_core.specs.declared.init_end.InitStep.{InitStep}
 use Rattle.spnego_core.specs.declared.outcome.Outcome.{Outcome}
-use Rattle.spnego_core.specs.declared.setup.InitSetup.{InitSetup}
+use Rattle.spnego_core.specs.Ends.{PlainSetup, EndSays}
+use Rattle.spnego_core.specs.Ends as ends
+use Rattle.spnego_core.specs.EndSteps.{StepSays}
 use Rattle.spnego_core.specs.InitLaws.{own_of, chosen_of, finished_of, finished_in, answers_next, InitLaw}
 use Rattle.spnego_core.specs.Initiating.{Initiated}
 use Rattle.spnego_core.proofs.Makings.{among_back}
 use Rattle.gss_client.specs.Session.{SessionState}
 use Rattle.world_laws.specs.declared.event.WorldEvent.{WorldEvent}
-use Rattle.world_laws.specs.declared.stage.Stage.{Stage}
-use Rattle.world_laws.specs.declared.stage.Stage.TheVariants as stages
+use Rattle.world_laws.specs.Stages.{StageSays}
+use Rattle.world_laws.specs.Stages as stages
 use Rattle.world_laws.specs.Deeds.{Deed}
 use Rattle.world_laws.specs.State.{World}
 use Rattle.world_laws.specs.Initiators.{Moved, starts, takes}
@@ -30,13 +29,13 @@ use Rattle.world_laws.proofs.Moving.{starts-by, takes-by}
 use Rattle.world_laws.proofs.Owning.{proof-made, taken-law}
 use Rattle.world_laws.proofs.OriginSteps.{waits_of, waits_in, HasProof, Proving, ReadyBy, step-proving, start-waits}
 
-pub record HandedProof (w : World) (own : InitSetup) : Type 0 where
+pub record HandedProof (w : World) (own : PlainSetup) : Type 0 where
   pub making : MechMaking
   pub among : AmongMakings w.makings making
   pub made : MadeProof own making
 
 -- what a stage says of the proof
-abbrev pub StageProof : World → InitSetup → Stage → Type 0
+abbrev pub StageProof : World → PlainSetup → StageSays → Type 0
 StageProof w own (stages.Ready other) = Unit {0}
 StageProof w own (stages.Asks xid end) = ((wait : WaitModel) → waits_of end ≡ Some wait → HandedProof w own) × ((outcome : Outcome) → finished_of end ≡ Some outcome → outcome.mech ≡ kinds.Scram → HandedProof w own)
 StageProof w own (stages.Stands s) = s.outcome.mech ≡ kinds.Scram → HandedProof w own
@@ -44,17 +43,17 @@ StageProof w own (stages.Left s) = s.outcome.mech ≡ kinds.Scram → HandedProo
 StageProof w own stages.Over = Unit {0}
 
 pub record Proofs (w : World) : Type 0 where
-  pub handed : (i : ℕ) (own : InitSetup) (stage : Stage) → slice_get w.facts i ≡ Some own → slice_get w.stages i ≡ Some stage → StageProof w own stage
+  pub handed : (i : ℕ) (own : PlainSetup) (stage : StageSays) → slice_get w.facts i ≡ Some own → slice_get w.stages i ≡ Some stage → StageProof w own stage
 
 pub proofs-start : (w : World) → Begins w → Proofs w
 proofs-start w b = record { handed = λ i own stage there stands. (let k = b.known i stage stands in subst (StageProof w own) (sym k.2) tt) }
 
 -- ---- over an event
 
-handed-on : (old new : World) (own : InitSetup) → Grows old new → HandedProof old own → HandedProof new own
+handed-on : (old new : World) (own : PlainSetup) → Grows old new → HandedProof old own → HandedProof new own
 handed-on old new own g h = record { making = h.making; among = makings-grow old new h.making g h.among; made = h.made }
 
-stage-on : (old new : World) (own : InitSetup) (stage : Stage) → Grows old new → StageProof old own stage → StageProof new own stage
+stage-on : (old new : World) (own : PlainSetup) (stage : StageSays) → Grows old new → StageProof old own stage → StageProof new own stage
 stage-on old new own (stages.Ready other) g s = tt
 stage-on old new own (stages.Asks xid end) g s = (λ wait e. handed-on old new own g (s.0 wait e), λ outcome e scram. handed-on old new own g (s.1 outcome e scram))
 stage-on old new own (stages.Stands x) g s = λ scram. handed-on old new own g (s scram)
@@ -68,12 +67,12 @@ proofs-same old new g same p = record {
 }
 
 -- one stage is another
-proofs-set : (old new : World) (i : ℕ) (stage : Stage) → Grows old new → new.stages ≡ slice_set old.stages i stage → ((own : InitSetup) → slice_get old.facts i ≡ Some own → StageProof new own stage) → Proofs old → Proofs new
+proofs-set : (old new : World) (i : ℕ) (stage : StageSays) → Grows old new → new.stages ≡ slice_set old.stages i stage → ((own : PlainSetup) → slice_get old.facts i ≡ Some own → StageProof new own stage) → Proofs old → Proofs new
 proofs-set old new i stage g same now p = record {
   handed = λ j own next there stands. by j own next (subst (λ fs. slice_get fs j ≡ Some own) g.facts there) (set-cases old.stages i j stage next (subst (λ ss. slice_get ss j ≡ Some next) same stands));
 }
   where
-    by : (j : ℕ) (own : InitSetup) (next : Stage) → slice_get old.facts j ≡ Some own → ((i ≡ j) × (next ≡ stage)) ⊎ ((i ≢ j) × (slice_get old.stages j ≡ Some next)) → StageProof new own next
+    by : (j : ℕ) (own : PlainSetup) (next : StageSays) → slice_get old.facts j ≡ Some own → ((i ≡ j) × (next ≡ stage)) ⊎ ((i ≢ j) × (slice_get old.stages j ≡ Some next)) → StageProof new own next
     by j own next there (inl here) = subst (StageProof new own) (sym here.1) (now own (subst (λ (k : ℕ). slice_get old.facts k ≡ Some own) (sym here.0) there))
     by j own next there (inr other) = stage-on old new own next g (p.handed j own next there other.1)
 
@@ -92,7 +91,7 @@ no-mic kind e f = absurd (clash (sym e ∙ f))
     clash g = cc
 
 -- a proof among what a step handed out is the initiator's
-step-proof : (end : InitEnd) (taken : Initiated) (h : HasProof taken.makes) → InitLaw end taken → MadeProof (own_of end) h.making
+step-proof : (end : EndSays) (taken : Initiated) (h : HasProof taken.makes) → InitLaw end taken → MadeProof (own_of end) h.making
 step-proof end taken h law = elim (law.made h.making h.among) [
   | inl r ↦ absurd (no-request h.making.kind (ap (λ (m : MechMaking). m.kind) r.made) h.is_proof)
   | inr more ↦ elim more [
@@ -101,28 +100,28 @@ step-proof end taken h law = elim (law.made h.making h.among) [
   ]
 ]
 
-ready-handed : (old : World) (own : InitSetup) (xid : ℕ) (end : InitEnd) (outcome : Outcome) → StageProof old own (stages.Asks xid end) → outcome.mech ≡ kinds.Scram → ReadyBy end outcome → HandedProof old own
+ready-handed : (old : World) (own : PlainSetup) (xid : ℕ) (end : EndSays) (outcome : Outcome) → StageProof old own (stages.Asks xid end) → outcome.mech ≡ kinds.Scram → ReadyBy end outcome → HandedProof old own
 ready-handed old own xid (ends.Opens opening) outcome s scram r = s.0 r.0 r.1
 ready-handed old own xid (ends.Talks talking) outcome s scram r = s.0 r.0 r.1
 ready-handed old own xid (ends.Signed signed) outcome s scram r = s.1 outcome (ap Some r) scram
 
 -- what the step's end says of the proof
-step-stage : (old new : World) (own : InitSetup) (xid : ℕ) (end : InitEnd) (taken : Initiated) (step : InitStep) → Grows old new → (own_of end ≡ own) → ((m : MechMaking) → AmongMakings taken.makes m → AmongMakings new.makings m) → InitLaw end taken
+step-stage : (old new : World) (own : PlainSetup) (xid : ℕ) (end : EndSays) (taken : Initiated) (step : StepSays) → Grows old new → (own_of end ≡ own) → ((m : MechMaking) → AmongMakings taken.makes m → AmongMakings new.makings m) → InitLaw end taken
     → Proving (ReadyBy end) taken → StageProof old own (stages.Asks xid end) → taken.step ≡ step
     → ((wait : WaitModel) → waits_in step ≡ Some wait → HandedProof new own) × ((outcome : Outcome) → finished_in step ≡ Some outcome → outcome.mech ≡ kinds.Scram → HandedProof new own)
 step-stage old new own xid end taken step g same among law p s is = (
-  λ wait e. (let h = p.proves wait (ap waits_in is ∙ e) in record { making = h.making; among = among h.making h.among; made = subst (λ (o : InitSetup). MadeProof o h.making) same (step-proof end taken h law) }),
+  λ wait e. (let h = p.proves wait (ap waits_in is ∙ e) in record { making = h.making; among = among h.making h.among; made = subst (λ (o : PlainSetup). MadeProof o h.making) same (step-proof end taken h law) }),
   λ outcome e scram. handed-on old new own g (ready-handed old own xid end outcome s scram (p.finishes outcome (ap finished_in is ∙ e) scram)),
 )
 
-unchosen-unfinished : (end : InitEnd) → chosen_of end ≡ None → finished_of end ≡ None
+unchosen-unfinished : (end : EndSays) → chosen_of end ≡ None → finished_of end ≡ None
 unchosen-unfinished (ends.Opens opening) e = refl
 unchosen-unfinished (ends.Talks talking) e = refl
 unchosen-unfinished (ends.Signed signed) e = absurd (none-some signed.talk.chosen (sym e))
 
 -- ---- a move
 
-starting : (laws : Below) (w : World) (own next : InitSetup) → StageProof w next (starts own).stage × StageProof w next (starts own).lost
+starting : (laws : Below) (w : World) (own next : PlainSetup) → StageProof w next (starts own).stage × StageProof w next (starts own).lost
 starting laws w own next = elim (starts-by own) [
   | inl e ↦ (subst (λ (m : Moved). StageProof w next m.stage) (sym e) tt, subst (λ (m : Moved). StageProof w next m.lost) (sym e) tt)
   | inr by ↦ (
@@ -134,7 +133,7 @@ starting laws w own next = elim (starts-by own) [
   )
 ]
 
-same-own : (w : World) (i : ℕ) (a b : InitSetup) → slice_get w.facts i ≡ Some a → slice_get w.facts i ≡ Some b → a ≡ b
+same-own : (w : World) (i : ℕ) (a b : PlainSetup) → slice_get w.facts i ≡ Some a → slice_get w.facts i ≡ Some b → a ≡ b
 same-own w i a b e f = same_Some a b (sym e ∙ f)
 
 -- what the move handed out is there
@@ -142,7 +141,7 @@ moved-among : (old new : World) (moved : Moved) (makes : List MechMaking) → ne
 moved-among old new moved makes e f m a =
     subst (λ (ms : List MechMaking). AmongMakings ms m) (sym e) (among_back old.makings moved.makes m (subst (λ (ms : List MechMaking). AmongMakings ms m) (sym f) a))
 
-taking : (laws : Below) (old new : World) (i first xid : ℕ) (end : InitEnd) (octets : List ℕ) (own : InitSetup) → Known old → Proofs old → Grows old new → slice_get old.stages i ≡ Some (stages.Asks xid end) → slice_get old.facts i ≡ Some own
+taking : (laws : Below) (old new : World) (i first xid : ℕ) (end : EndSays) (octets : List ℕ) (own : PlainSetup) → Known old → Proofs old → Grows old new → slice_get old.stages i ≡ Some (stages.Asks xid end) → slice_get old.facts i ≡ Some own
     → new.makings ≡ old.makings ++ (takes first xid end octets).makes → StageProof new own (takes first xid end octets).stage
 taking laws old new i first xid end octets own k p g stands there makes = elim (takes-by first xid end octets) [
   | inl e ↦ subst (λ (m : Moved). StageProof new own m.stage) (sym e) tt
@@ -158,7 +157,7 @@ taking laws old new i first xid end octets own k p g stands there makes = elim (
   ]
 ]
 
-over : (laws : Below) (w : World) (first xid : ℕ) (end : InitEnd) (octets : List ℕ) (own : InitSetup) → StageProof w own (takes first xid end octets).lost
+over : (laws : Below) (w : World) (first xid : ℕ) (end : EndSays) (octets : List ℕ) (own : PlainSetup) → StageProof w own (takes first xid end octets).lost
 over laws w first xid end octets own = elim (takes-by first xid end octets) [
   | inl e ↦ subst (λ (m : Moved). StageProof w own m.lost) (sym e) tt
   | inr more ↦ elim more [ inl by ↦ subst (StageProof w own) (sym by.lost) tt | inr by ↦ subst (StageProof w own) (sym by.lost) tt ]
@@ -192,13 +191,13 @@ proofs-step laws old event deed new k h p = came-proofs laws old deed new k (gro
 
 -- ---- who completed
 
-done-stage : (w : World) (own : InitSetup) (stage : Stage) (session : SessionState) → session_in stage ≡ Some session → StageProof w own stage → session.outcome.mech ≡ kinds.Scram → HandedProof w own
+done-stage : (w : World) (own : PlainSetup) (stage : StageSays) (session : SessionState) → session_in stage ≡ Some session → StageProof w own stage → session.outcome.mech ≡ kinds.Scram → HandedProof w own
 done-stage w own (stages.Ready other) session e s scram = absurd (none-some session e)
 done-stage w own (stages.Asks xid end) session e s scram = absurd (none-some session e)
 done-stage w own (stages.Stands x) session e s scram = s (ap (λ (y : SessionState). y.outcome.mech) (same_Some x session e) ∙ scram)
 done-stage w own (stages.Left x) session e s scram = s (ap (λ (y : SessionState). y.outcome.mech) (same_Some x session e) ∙ scram)
 done-stage w own stages.Over session e s scram = absurd (none-some session e)
 
-pub completed-proof : (w : World) (i : ℕ) (own : InitSetup) (outcome : Outcome) → Proofs w → Completed w i own outcome → outcome.mech ≡ kinds.Scram → HandedProof w own
+pub completed-proof : (w : World) (i : ℕ) (own : PlainSetup) (outcome : Outcome) → Proofs w → Completed w i own outcome → outcome.mech ≡ kinds.Scram → HandedProof w own
 completed-proof w i own outcome p c scram =
     done-stage w own c.stage c.session c.in_session (p.handed i own c.stage c.there c.stands) (ap (λ (o : Outcome). o.mech) c.outcome_is ∙ scram)

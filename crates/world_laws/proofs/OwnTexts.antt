@@ -25,8 +25,8 @@ use Rattle.scram_mech.proofs.Pieces.{Spelled, bind_ok, pieces_of-found}
 use Rattle.scram_mech.proofs.ValueGrammar.{run-found}
 use Rattle.scram_mech.proofs.Written.{first-read, third-read, encoded-nonce, length-encoded}
 use Rattle.scram_mech.proofs.Masks.{length-proof, proof-octets}
-use Rattle.spnego_core.specs.declared.setup.InitSetup.{InitSetup}
 use Rattle.spnego_core.specs.declared.setup.MechCred.TheVariants as creds
+use Rattle.spnego_core.specs.Ends.{PlainSetup}
 use Rattle.spnego_core.specs.InitLaws.{IsFirstText}
 use Rattle.spnego_core.specs.InitMech.{cred_for}
 use Rattle.world_laws.specs.Setups.{IsSetup}
@@ -54,7 +54,7 @@ judged-name user u e =
 
 -- ---- the first text
 
-pub record Began (own : InitSetup) (end : InitModel) : Type 0 where
+pub record Began (own : PlainSetup) (end : InitModel) : Type 0 where
   pub user : List ℕ
   pub password : List ℕ
   pub is_own : cred_for own.list kinds.Scram ≡ Some (creds.Scram user password)
@@ -67,7 +67,7 @@ given s = Ok s
 started-is : (a b : InitStarted) → given a ≡ given b → a ≡ b
 started-is a b e = cc
 
-pub began : (own : InitSetup) (end : InitModel) → IsFirstText own end → Began own end
+pub began : (own : PlainSetup) (end : InitModel) → IsFirstText own end → Began own end
 unfolding init_started
 began own end f = by f.user f.password f.is_own f.started f.starts f.waits
   where
@@ -99,13 +99,13 @@ bytes-take (suc n) [] b i = b i
 bytes-take (suc n) (x ∷ xs) b zero = b zero
 bytes-take (suc n) (x ∷ xs) b (suc i) = bytes-take n xs (λ j. b (suc j)) i
 
-pub nonce-octets : (own : InitSetup) → IsSetup own → (i : ℕ) → slice_index (drawn_nonce own.draws) i < 256
+pub nonce-octets : (own : PlainSetup) → IsSetup own → (i : ℕ) → slice_index (drawn_nonce own.draws) i < 256
 nonce-octets own s = bytes-take 18 (drop 48 own.draws) (bytes-drop 48 own.draws s.draws.each)
 
-nonce-long : (own : InitSetup) → IsSetup own → length (drawn_nonce own.draws) ≡ 18
+nonce-long : (own : PlainSetup) → IsSetup own → length (drawn_nonce own.draws) ≡ 18
 nonce-long own s = length-take-le 18 (drop 48 own.draws) (omega (arith, length-drop 48 own.draws, s.draws.enough))
 
-own-nonce : (own : InitSetup) → IsSetup own → IsNonce 232 (encoded (drawn_nonce own.draws))
+own-nonce : (own : PlainSetup) → IsSetup own → IsNonce 232 (encoded (drawn_nonce own.draws))
 own-nonce own s =
     let size : length (encoded (drawn_nonce own.draws)) ≡ 4 * ((length (drawn_nonce own.draws) + 2) / 3) = length-encoded (drawn_nonce own.draws) in
     let long : length (drawn_nonce own.draws) ≡ 18 = nonce-long own s in
@@ -121,7 +121,7 @@ abbrev pub secret_with : List ℕ → AuthParts → Secret
 secret_with password parts = record { password = password; salt = parts.salt; rounds = parts.rounds }
 
 -- what an initiator answered a second text with
-pub record Told (own : InitSetup) (answered : InitAnswered) : Type 0 where
+pub record Told (own : PlainSetup) (answered : InitAnswered) : Type 0 where
   pub user : List ℕ
   pub password : List ℕ
   pub is_own : cred_for own.list kinds.Scram ≡ Some (creds.Scram user password)
@@ -141,10 +141,10 @@ pub record Told (own : InitSetup) (answered : InitAnswered) : Type 0 where
     key = key_of_client (stored_key (secret_with password parts)) (client_key (secret_with password parts)) auth;
   }
 
-abbrev begun_with : InitSetup → List ℕ → List ℕ → InitModel
+abbrev begun_with : PlainSetup → List ℕ → List ℕ → InitModel
 begun_with own user password = record { user = user; password = password; nonce = encoded (drawn_nonce own.draws); bindings = own.bindings }
 
-told-by : (scram : ScramLaws) (own : InitSetup) (user password : List ℕ) → IsSetup own → cred_for own.list kinds.Scram ≡ Some (creds.Scram user password) → IsName user → (text : List ℕ) (second : Second) → second_of text ≡ Ok second → are_rounds second.rounds ≡ true
+told-by : (scram : ScramLaws) (own : PlainSetup) (user password : List ℕ) → IsSetup own → cred_for own.list kinds.Scram ≡ Some (creds.Scram user password) → IsName user → (text : List ℕ) (second : Second) → second_of text ≡ Ok second → are_rounds second.rounds ≡ true
     → Told own (answer_with (begun_with own user password) (bare_of (begun_with own user password) second) (secret_of (begun_with own user password) second) (auth_of (begun_with own user password) text second))
 told-by scram own user password s is_own named text second reads ranged =
     let nonce : List ℕ = encoded (drawn_nonce own.draws) in
@@ -173,7 +173,7 @@ told-by scram own user password s is_own named text second reads ranged =
       end = refl;
     }
 
-pub told : (scram : ScramLaws) (own : InitSetup) → IsSetup own → (end : InitModel) → IsFirstText own end → (text : List ℕ) (answered : InitAnswered) → init_answered end text ≡ Ok answered → Told own answered
+pub told : (scram : ScramLaws) (own : PlainSetup) → IsSetup own → (end : InitModel) → IsFirstText own end → (text : List ℕ) (answered : InitAnswered) → init_answered end text ≡ Ok answered → Told own answered
 told scram own s end first text answered e = by (began own end first) (scram.proves end text answered e)
   where
     by : Began own end → Proves end text answered → Told own answered

@@ -3,14 +3,13 @@ use Rattle.std.proofs.Common.{◌≡◌, ◌⊎◌, inl, inr, ℕ, ◌≤◌, tr
 use Rattle.gss_base.specs.declared.mech.MechKind.{MechKind}
 use Rattle.scram_mech.specs.Initiator.{InitModel}
 use Rattle.scram_mech.specs.MechMaking.{MechMaking, AmongMakings, typed}
-use Rattle.spnego_core.specs.declared.init_end.InitEnd.{InitEnd}
-use Rattle.spnego_core.specs.declared.setup.InitSetup.{InitSetup}
+use Rattle.spnego_core.specs.Ends.{PlainSetup, EndSays}
 use Rattle.spnego_core.specs.InitLaws.{own_of, answers_next, IsRequest, IsProof, InitLaw}
 use Rattle.spnego_core.specs.Initiating.{Initiated, init_step}
 use Rattle.spnego_core.proofs.Makings.{among_split}
 use Rattle.accept_book.specs.Served.{are_args}
 use Rattle.gss_client.specs.Session.{SessionState}
-use Rattle.world_laws.specs.declared.stage.Stage.TheVariants as stages
+use Rattle.world_laws.specs.Stages as stages
 use Rattle.world_laws.specs.Deeds.{Deed}
 use Rattle.world_laws.specs.State.{World}
 use Rattle.world_laws.specs.Initiators.{Moved, refused, starts, takes, call_makings}
@@ -31,7 +30,7 @@ owning-start w b = record { owned = λ making a. absurd (among-none w.makings ma
 
 -- ---- owners stay
 
-init-made-grows : (old new : World) (i : ℕ) (own : InitSetup) (making : MechMaking) → Grows old new → InitMade old i own making → InitMade new i own making
+init-made-grows : (old new : World) (i : ℕ) (own : PlainSetup) (making : MechMaking) → Grows old new → InitMade old i own making → InitMade new i own making
 init-made-grows old new i own making g (inl a) = inl a
 init-made-grows old new i own making g (inr (inl b)) = inr (inl b)
 init-made-grows old new i own making g (inr (inr (inl c))) = inr (inr (inl c))
@@ -49,7 +48,7 @@ pub initiator-grows : (old new : World) (making : MechMaking) → Grows old new 
 initiator-grows old new making g b = record {
   i = b.i;
   own = b.own;
-  there = subst (λ (fs : List InitSetup). slice_get fs b.i ≡ Some b.own) (sym g.facts) b.there;
+  there = subst (λ (fs : List PlainSetup). slice_get fs b.i ≡ Some b.own) (sym g.facts) b.there;
   made = init-made-grows old new b.i b.own making g b.made;
 }
 
@@ -71,18 +70,18 @@ owned-more old new makes g e o more = record {
 
 -- ---- what initiators hand out
 
-start-made : (laws : Below) (w : World) (i : ℕ) (own : InitSetup) (moved : Moved) (making : MechMaking) → StartedBy own moved → AmongMakings moved.makes making → InitMade w i own making
+start-made : (laws : Below) (w : World) (i : ℕ) (own : PlainSetup) (moved : Moved) (making : MechMaking) → StartedBy own moved → AmongMakings moved.makes making → InitMade w i own making
 start-made laws w i own moved making by a =
     let m = (laws.init.starts own by.started by.is).made making (subst (λ (ms : List MechMaking). AmongMakings ms making) by.makes a) in
     inl (record { credential = m.0; is_own = m.1; made = m.2 })
 
-pub proof-made : (own : InitSetup) (next : Option InitModel) (chosen : Option MechKind) (making : MechMaking) → IsProof own next chosen making → MadeProof own making
+pub proof-made : (own : PlainSetup) (next : Option InitModel) (chosen : Option MechKind) (making : MechMaking) → IsProof own next chosen making → MadeProof own making
 proof-made own next chosen making p = record { end = p.end; first = p.first; text = p.text; answered = p.answered; answers = p.answers; made = p.made }
 
-pub request-made : (own : InitSetup) (chosen : Option MechKind) (making : MechMaking) → IsRequest own chosen making → MadeRequest own making
+pub request-made : (own : PlainSetup) (chosen : Option MechKind) (making : MechMaking) → IsRequest own chosen making → MadeRequest own making
 request-made own chosen making r = record { credential = r.credential; is_own = r.is_own; made = r.made }
 
-step-made : (w : World) (i : ℕ) (end : InitEnd) (taken : Initiated) (making : MechMaking) → InitLaw end taken → AmongMakings taken.makes making → InitMade w i (own_of end) making
+step-made : (w : World) (i : ℕ) (end : EndSays) (taken : Initiated) (making : MechMaking) → InitLaw end taken → AmongMakings taken.makes making → InitMade w i (own_of end) making
 step-made w i end taken making law a = elim (law.made making a) [
   | inl r ↦ inl (request-made (own_of end) taken.chosen making r)
   | inr more ↦ elim more [
@@ -92,10 +91,10 @@ step-made w i end taken making law a = elim (law.made making a) [
 ]
 
 -- the law of the step behind an initiator's move
-pub taken-law : (laws : Below) (w : World) (i xid : ℕ) (end : InitEnd) (token : List ℕ) (taken : Initiated) → Known w → slice_get w.stages i ≡ Some (stages.Asks xid end) → init_step end token ≡ Ok taken → InitLaw end taken
+pub taken-law : (laws : Below) (w : World) (i xid : ℕ) (end : EndSays) (token : List ℕ) (taken : Initiated) → Known w → slice_get w.stages i ≡ Some (stages.Asks xid end) → init_step end token ≡ Ok taken → InitLaw end taken
 taken-law laws w i xid end token taken k there step = laws.init.steps end token taken (k.asks i xid end there).1 step
 
-pub call-made : (w : World) (i : ℕ) (own : InitSetup) (s : SessionState) (procedure : ℕ) (args : List ℕ) (making : MechMaking) → slice_get w.facts i ≡ Some own → slice_get w.stages i ≡ Some (stages.Stands s)
+pub call-made : (w : World) (i : ℕ) (own : PlainSetup) (s : SessionState) (procedure : ℕ) (args : List ℕ) (making : MechMaking) → slice_get w.facts i ≡ Some own → slice_get w.stages i ≡ Some (stages.Stands s)
     → procedure ≤ 4 → are_args procedure args ≡ true → AmongMakings (map typed (call_makings s procedure args)) making → MadeCall w i own making
 call-made w i own s procedure args making there stands served proper a = record {
   session = s;
@@ -109,21 +108,21 @@ call-made w i own s procedure args making there stands served proper a = record 
 
 -- where the move is from, what its initiator was begun with, and that it hands out no more than that initiator may
 pub record Mover (w : World) (i : ℕ) (moved : Moved) : Type 0 where
-  pub own : InitSetup
+  pub own : PlainSetup
   pub there : slice_get w.facts i ≡ Some own
   pub made : (making : MechMaking) → AmongMakings moved.makes making → InitMade w i own making
 
-start-mover : (laws : Below) (w : World) (i : ℕ) (own : InitSetup) (moved : Moved) → slice_get w.facts i ≡ Some own → StartedBy own moved → Mover w i moved
+start-mover : (laws : Below) (w : World) (i : ℕ) (own : PlainSetup) (moved : Moved) → slice_get w.facts i ≡ Some own → StartedBy own moved → Mover w i moved
 start-mover laws w i own moved there by = record { own = own; there = there; made = λ making a. start-made laws w i own moved making by a }
 
-step-mover : (w : World) (i : ℕ) (end : InitEnd) (taken : Initiated) (moved : Moved) → slice_get w.facts i ≡ Some (own_of end) → InitLaw end taken → moved.makes ≡ taken.makes → Mover w i moved
+step-mover : (w : World) (i : ℕ) (end : EndSays) (taken : Initiated) (moved : Moved) → slice_get w.facts i ≡ Some (own_of end) → InitLaw end taken → moved.makes ≡ taken.makes → Mover w i moved
 step-mover w i end taken moved there law e = record {
   own = own_of end;
   there = there;
   made = λ making a. step-made w i end taken making law (subst (λ (ms : List MechMaking). AmongMakings ms making) e a);
 }
 
-refused-mover : (w : World) (i : ℕ) (own : InitSetup) (moved : Moved) → slice_get w.facts i ≡ Some own → moved ≡ refused → Mover w i moved
+refused-mover : (w : World) (i : ℕ) (own : PlainSetup) (moved : Moved) → slice_get w.facts i ≡ Some own → moved ≡ refused → Mover w i moved
 refused-mover w i own moved there e = record { own = own; there = there; made = λ making a. absurd (among-none moved.makes making (ap (λ (m : Moved). m.makes) e) a) }
 
 pub mover : (laws : Below) (w : World) (i : ℕ) (moved : Moved) → Known w → Move w i moved → Mover w i moved

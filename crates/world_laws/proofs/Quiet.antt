@@ -2,19 +2,19 @@
 use Rattle.std.proofs.Common.{◌≡◌, inl, inr, ℕ, Bool, true, false, nat_le, refl, sym, ◌∙◌, ap, subst, List, [], slice_get, Option, Some, None, Result, Ok, Err}
 use Rattle.std.proofs.lemmas.Option.{none-some, same_Some}
 use Rattle.scram_mech.specs.MechMaking.{MechMaking, AmongMakings}
-use Rattle.spnego_core.specs.declared.init_end.InitEnd.{InitEnd}
 use Rattle.spnego_core.specs.declared.refusal.NegRefusal.{NegRefusal}
+use Rattle.spnego_core.specs.Ends.{EndSays}
 use Rattle.spnego_core.specs.Initiating.{Started, init_start}
-use Rattle.gss_client.specs.declared.creation.Created.{Created}
-use Rattle.gss_client.specs.declared.creation.Created.TheVariants as created
 use Rattle.gss_client.specs.declared.refusal.ClientRefusal.{ClientRefusal}
+use Rattle.gss_client.specs.Creation.{CreatedSays}
+use Rattle.gss_client.specs.Creation as created
 use Rattle.gss_client.specs.Judging.{creation_step}
 use Rattle.gss_client.specs.Session.{SessionState}
 use Rattle.world_laws.specs.declared.event.Happened.TheVariants.{Refused}
 use Rattle.world_laws.specs.declared.event.WorldEvent.{WorldEvent}
 use Rattle.world_laws.specs.declared.event.WorldEvent.TheVariants.{Start, Deliver, Lane, CallBy}
-use Rattle.world_laws.specs.declared.stage.Stage.{Stage}
-use Rattle.world_laws.specs.declared.stage.Stage.TheVariants as stages
+use Rattle.world_laws.specs.Stages.{StageSays}
+use Rattle.world_laws.specs.Stages as stages
 use Rattle.world_laws.specs.Deeds.{Deed}
 use Rattle.world_laws.specs.State.{World}
 use Rattle.world_laws.specs.Initiators.{Moved, did, started_by, starts, created_by, takes, calls}
@@ -47,7 +47,7 @@ started-none : (r : Result Started NegRefusal) → (started_by r).found ≡ []
 started-none (Err refusal) = refl
 started-none (Ok started) = refl
 
-start-none : (old : World) (i : ℕ) (stage : Option Stage) (deed : Deed) (new : World) → StartsBy old i stage deed new → FindsNone deed
+start-none : (old : World) (i : ℕ) (stage : Option StageSays) (deed : Deed) (new : World) → StartsBy old i stage deed new → FindsNone deed
 start-none old i None deed new d = idles-none old deed new d
 start-none old i (Some (stages.Ready own)) deed new d = moves-none old i (starts own) deed new (λ e. started-none (init_start own)) d
 start-none old i (Some (stages.Asks xid end)) deed new d = idles-none old deed new d
@@ -57,12 +57,12 @@ start-none old i (Some stages.Over) deed new d = idles-none old deed new d
 
 -- ---- a reply that is refused
 
-created-none : (first xid : ℕ) (end : InitEnd) (octets : List ℕ) (what : Result Created ClientRefusal) → (created_by first xid end octets what).answer ≡ Refused → (created_by first xid end octets what).found ≡ []
+created-none : (first xid : ℕ) (end : EndSays) (octets : List ℕ) (what : Result CreatedSays ClientRefusal) → (created_by first xid end octets what).answer ≡ Refused → (created_by first xid end octets what).found ≡ []
 created-none first xid end octets (Err refusal) e = refl
 created-none first xid end octets (Ok (created.Going offer)) e = absurd cc
 created-none first xid end octets (Ok (created.Stands outcome handle)) e = absurd cc
 
-reply-none : (old : World) (i : ℕ) (octets : List ℕ) (first : ℕ) (stage : Option Stage) (deed : Deed) (new : World) → deed.answer ≡ Some Refused → DeliversBy old i octets first stage deed new → FindsNone deed
+reply-none : (old : World) (i : ℕ) (octets : List ℕ) (first : ℕ) (stage : Option StageSays) (deed : Deed) (new : World) → deed.answer ≡ Some Refused → DeliversBy old i octets first stage deed new → FindsNone deed
 reply-none old i octets first None deed new refused d = idles-none old deed new d
 reply-none old i octets first (Some (stages.Ready own)) deed new refused d = idles-none old deed new d
 reply-none old i octets first (Some (stages.Asks xid end)) deed new refused d =
@@ -78,7 +78,7 @@ number-none : (left : Bool) (old : World) (i : ℕ) (s : SessionState) (procedur
 number-none true old i s procedure args deed new d = moves-none old i (calls s procedure args) deed new (λ e. refl) d
 number-none false old i s procedure args deed new d = idles-none old deed new d
 
-call-none : (old : World) (i procedure : ℕ) (args : List ℕ) (stage : Option Stage) (deed : Deed) (new : World) → CallsBy old i procedure args stage deed new → FindsNone deed
+call-none : (old : World) (i procedure : ℕ) (args : List ℕ) (stage : Option StageSays) (deed : Deed) (new : World) → CallsBy old i procedure args stage deed new → FindsNone deed
 call-none old i procedure args None deed new d = idles-none old deed new d
 call-none old i procedure args (Some (stages.Ready own)) deed new d = idles-none old deed new d
 call-none old i procedure args (Some (stages.Asks xid end)) deed new d = idles-none old deed new d

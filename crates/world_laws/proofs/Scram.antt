@@ -19,8 +19,8 @@ use Rattle.scram_mech.specs.ThirdText.{Third}
 use Rattle.scram_mech.proofs.Pieces.{bind_ok}
 use Rattle.scram_mech.proofs.Written.{decoded-encoded}
 use Rattle.spnego_core.specs.declared.outcome.Outcome.{Outcome}
-use Rattle.spnego_core.specs.declared.setup.InitSetup.{InitSetup}
 use Rattle.spnego_core.specs.declared.setup.MechCred.TheVariants as creds
+use Rattle.spnego_core.specs.Ends.{PlainSetup}
 use Rattle.spnego_core.specs.AcceptMech.{Basis, ByProof}
 use Rattle.spnego_core.specs.InitMech.{cred_for}
 use Rattle.spnego_core.specs.Outcome.{outcome_of}
@@ -35,13 +35,13 @@ use Rattle.world_laws.proofs.TakenTexts.{Taken, taken, scram_outcome, ScramAsked
 
 -- ---- one nonce, one initiator
 
-pub nonce-same : (a b : InitSetup) → IsSetup a → IsSetup b → encoded (drawn_nonce a.draws) ≡ encoded (drawn_nonce b.draws) → drawn_nonce a.draws ≡ drawn_nonce b.draws
+pub nonce-same : (a b : PlainSetup) → IsSetup a → IsSetup b → encoded (drawn_nonce a.draws) ≡ encoded (drawn_nonce b.draws) → drawn_nonce a.draws ≡ drawn_nonce b.draws
 nonce-same a b s t e = sym (decoded-encoded (drawn_nonce a.draws) (nonce-octets a s)) ∙ (ap decoded e ∙ decoded-encoded (drawn_nonce b.draws) (nonce-octets b t))
 
-pub one-nonce : (marking : Marking) (w : World) → Proper w → Fresh marking w → (i j : ℕ) (a b : InitSetup) (u p v q : List ℕ) → HasAccount w i a u p → HasAccount w j b v q → encoded (drawn_nonce a.draws) ≡ encoded (drawn_nonce b.draws) → i ≡ j
+pub one-nonce : (marking : Marking) (w : World) → Proper w → Fresh marking w → (i j : ℕ) (a b : PlainSetup) (u p v q : List ℕ) → HasAccount w i a u p → HasAccount w j b v q → encoded (drawn_nonce a.draws) ≡ encoded (drawn_nonce b.draws) → i ≡ j
 one-nonce marking w proper fresh i j a b u p v q f g e = fresh.nonces i j a b u p v q f g (nonce-same a b (proper.setups i a f.there) (proper.setups j b g.there) e)
 
-pub same-account : (own : InitSetup) (u p v q : List ℕ) → cred_for own.list kinds.Scram ≡ Some (creds.Scram u p) → cred_for own.list kinds.Scram ≡ Some (creds.Scram v q) → (u ≡ v) × (p ≡ q)
+pub same-account : (own : PlainSetup) (u p v q : List ℕ) → cred_for own.list kinds.Scram ≡ Some (creds.Scram u p) → cred_for own.list kinds.Scram ≡ Some (creds.Scram v q) → (u ≡ v) × (p ≡ q)
 same-account own u p v q e f = (cc, cc)
 
 -- ---- an initiator that is done
@@ -63,13 +63,13 @@ done-is wait text finished e =
     ap (λ (f : InitFinished). f.done) (sym (given-is _ finished c.2))
 
 -- its outcome, by what it was told
-outcome-told : (scram : ScramLaws) (marking : Marking) (w : World) (own : InitSetup) (outcome : Outcome) → (d : ScramDone marking w own outcome) → (o : Told own d.proved.answered) → outcome ≡ scram_outcome o.user o.password o.parts o.auth own.bindings
+outcome-told : (scram : ScramLaws) (marking : Marking) (w : World) (own : PlainSetup) (outcome : Outcome) → (d : ScramDone marking w own outcome) → (o : Told own d.proved.answered) → outcome ≡ scram_outcome o.user o.password o.parts o.auth own.bindings
 outcome-told scram marking w own outcome d o =
     d.outcome_is ∙ ap (λ (z : MechDone). outcome_of kinds.Scram z) (done-is d.end d.token d.finished d.takes) ∙ ap (λ (z : WaitModel). outcome_of kinds.Scram (done_with z)) (d.proved.waits ∙ o.end)
 
 -- ---- the context whose signature an initiator took
 
-pub record ScramAnswers (marking : Marking) (w : World) (own : InitSetup) (outcome : Outcome) : Type 0 where
+pub record ScramAnswers (marking : Marking) (w : World) (own : PlainSetup) (outcome : Outcome) : Type 0 where
   pub place : ℕ
   pub context : Context
   pub there : slice_get w.fixed place ≡ Some context
@@ -83,7 +83,7 @@ pub record ScramAnswers (marking : Marking) (w : World) (own : InitSetup) (outco
   pub agree : outcome ≡ context.fixed.outcome
 
 -- the line is the marked user's
-marked-by : (marking : Marking) (w : World) (own : InitSetup) (x : Context) (end : AcceptModel) (text : List ℕ) (answered : InitAnswered) → (t : Taken w x end text) → (o : Told own answered) → auth_with end t.third.bare ≡ o.auth → OnAccount marking own → MarkedLine marking end.line
+marked-by : (marking : Marking) (w : World) (own : PlainSetup) (x : Context) (end : AcceptModel) (text : List ℕ) (answered : InitAnswered) → (t : Taken w x end text) → (o : Told own answered) → auth_with end t.third.bare ≡ o.auth → OnAccount marking own → MarkedLine marking end.line
 marked-by marking w own x end text answered t o same on =
     let parts : t.parts ≡ o.parts = some-parts (auth_with end t.third.bare) o.auth t.parts o.parts same t.reads o.reads in
     let user : o.user ≡ on.account.user = (same-account own o.user o.password on.account.user on.account.password o.is_own on.is_own).0 in
@@ -93,11 +93,11 @@ marked-by marking w own x end text answered t o same on =
 same-outcome : (u p v q auth other : List ℕ) (a b : AuthParts) (bindings theirs : Option (List ℕ)) → u ≡ v → p ≡ q → a ≡ b → auth ≡ other → bindings ≡ theirs → scram_outcome u p a auth bindings ≡ scram_outcome v q b other theirs
 same-outcome u p v q auth other a b bindings theirs e f g h k = rw (e, f, g, h, k) refl
 
-answers-with : (marking : Marking) (w : World) → (i : ℕ) (own : InitSetup) (outcome : Outcome) (answered : InitAnswered) → (o : Told own answered) → outcome ≡ scram_outcome o.user o.password o.parts o.auth own.bindings
+answers-with : (marking : Marking) (w : World) → (i : ℕ) (own : PlainSetup) (outcome : Outcome) (answered : InitAnswered) → (o : Told own answered) → outcome ≡ scram_outcome o.user o.password o.parts o.auth own.bindings
     → (place : ℕ) (x : Context) → slice_get w.fixed place ≡ Some x → (end : AcceptModel) (text : List ℕ) → x.fixed.basis ≡ ByProof end text → MarkedLine marking end.line → (q : ScramAsked w x end text) → q.auth ≡ o.auth → q.own ≡ own → ScramAnswers marking w own outcome
 answers-with marking w i own outcome answered o is place x there end text basis marked q auth same =
     let parts : q.parts ≡ o.parts = some-parts q.auth o.auth q.parts o.parts auth q.reads o.reads in
-    let mine = subst (λ (z : InitSetup). cred_for z.list kinds.Scram ≡ Some (creds.Scram q.user q.password)) same q.has.is_own in
+    let mine = subst (λ (z : PlainSetup). cred_for z.list kinds.Scram ≡ Some (creds.Scram q.user q.password)) same q.has.is_own in
     let account = same-account own o.user o.password q.user q.password o.is_own mine in
     record {
       place = place;
@@ -109,12 +109,12 @@ answers-with marking w i own outcome answered o is place x there end text basis 
       marked = marked;
       auth = q.auth;
       taken = q.taken;
-      proved = subst (λ (z : InitSetup). Proved w z q.auth) same q.proved;
-      agree = is ∙ (same-outcome o.user o.password q.user q.password o.auth q.auth o.parts q.parts own.bindings q.own.bindings account.0 account.1 (sym parts) (sym auth) (ap (λ (z : InitSetup). z.bindings) (sym same)) ∙ sym q.outcome_is);
+      proved = subst (λ (z : PlainSetup). Proved w z q.auth) same q.proved;
+      agree = is ∙ (same-outcome o.user o.password q.user q.password o.auth q.auth o.parts q.parts own.bindings q.own.bindings account.0 account.1 (sym parts) (sym auth) (ap (λ (z : PlainSetup). z.bindings) (sym same)) ∙ sym q.outcome_is);
     }
 
 -- whoever handed the proof out is the initiator
-asker-is : (marking : Marking) (w : World) → Proper w → Fresh marking w → (i : ℕ) (own : InitSetup) (answered : InitAnswered) → slice_get w.facts i ≡ Some own → (o : Told own answered) → (x : Context) (end : AcceptModel) (text : List ℕ) → (q : ScramAsked w x end text) → q.auth ≡ o.auth → q.own ≡ own
+asker-is : (marking : Marking) (w : World) → Proper w → Fresh marking w → (i : ℕ) (own : PlainSetup) (answered : InitAnswered) → slice_get w.facts i ≡ Some own → (o : Told own answered) → (x : Context) (end : AcceptModel) (text : List ℕ) → (q : ScramAsked w x end text) → q.auth ≡ o.auth → q.own ≡ own
 asker-is marking w proper fresh i own answered there o x end text q auth =
     let parts : q.parts ≡ o.parts = some-parts q.auth o.auth q.parts o.parts auth q.reads o.reads in
     let nonce : encoded (drawn_nonce q.own.draws) ≡ encoded (drawn_nonce own.draws) = sym q.nonce ∙ (ap (λ (z : AuthParts). z.client) parts ∙ o.nonce) in
@@ -124,7 +124,7 @@ asker-is marking w proper fresh i own answered there o x end text q auth =
 asked-auth : (w : World) (x : Context) (end : AcceptModel) (text : List ℕ) (t : Taken w x end text) (q : ScramAsked w x end text) → q.auth ≡ auth_with end t.third.bare
 asked-auth w x end text t q = q.taken.auth_is ∙ ap (λ (z : Third). auth_with end z.bare) (same-third text q.taken.third t.third q.taken.read t.read)
 
-signed-by : (scram : ScramLaws) (marking : Marking) (w : World) → Proper w → Fresh marking w → Owning w → (i : ℕ) (own : InitSetup) (outcome : Outcome) (answered : InitAnswered) → slice_get w.facts i ≡ Some own → OnAccount marking own → (o : Told own answered)
+signed-by : (scram : ScramLaws) (marking : Marking) (w : World) → Proper w → Fresh marking w → Owning w → (i : ℕ) (own : PlainSetup) (outcome : Outcome) (answered : InitAnswered) → slice_get w.facts i ≡ Some own → OnAccount marking own → (o : Told own answered)
     → outcome ≡ scram_outcome o.user o.password o.parts o.auth own.bindings → (place : ℕ) (x : Context) → slice_get w.fixed place ≡ Some x → (end : AcceptModel) (text : List ℕ) → x.fixed.basis ≡ ByProof end text → ScramFixed marking w x end text → (t : Taken w x end text)
     → auth_with end t.third.bare ≡ o.auth → ScramAnswers marking w own outcome
 signed-by scram marking w proper fresh owning i own outcome answered there on o is place x on_it end text basis f t auth =
@@ -144,13 +144,13 @@ signed-auth scram w x server auth made t = by (scram.accepts made.end made.text 
         only _ _ (subst (λ (z : AcceptFinished). AmongMakings z.makes (signature_making server auth)) a.same made.made) in
         ap (λ (z : Third). auth_with made.end z.bare) third ∙ sym (ap (λ (z : MechMaking). z.octets) is)
 
-guarded-server : (marking : Marking) (own : InitSetup) (answered : InitAnswered) (server : List ℕ) → OnAccount marking own → (o : Told own answered) → server ≡ server_key (secret_with o.password o.parts) → GuardedSecret marking server
+guarded-server : (marking : Marking) (own : PlainSetup) (answered : InitAnswered) (server : List ℕ) → OnAccount marking own → (o : Told own answered) → server ≡ server_key (secret_with o.password o.parts) → GuardedSecret marking server
 guarded-server marking own answered server on o is =
     let password : o.password ≡ on.account.password = (same-account own o.user o.password on.account.user on.account.password o.is_own on.is_own).1 in
     record { account = on.account; marked = on.marked; salt = o.parts.salt; rounds = o.parts.rounds; ranged = o.ranged; is_key = inr (is ∙ ap (λ (p : List ℕ). server_key (secret_with p o.parts)) password) }
 
 -- from an initiator whose mechanism is done by SCRAM, as a marked user
-pub scram-answers : (scram : ScramLaws) (marking : Marking) (w : World) → Proper w → Fresh marking w → Owning w → Found marking w → (i : ℕ) (own : InitSetup) (outcome : Outcome) → slice_get w.facts i ≡ Some own
+pub scram-answers : (scram : ScramLaws) (marking : Marking) (w : World) → Proper w → Fresh marking w → Owning w → Found marking w → (i : ℕ) (own : PlainSetup) (outcome : Outcome) → slice_get w.facts i ≡ Some own
     → ScramDone marking w own outcome → OnAccount marking own → ScramAnswers marking w own outcome
 scram-answers scram marking w proper fresh owning found i own outcome there d on =
     told-it (told scram own (proper.setups i own there) d.proved.before d.proved.first d.proved.text d.proved.answered d.proved.answers)
@@ -171,7 +171,7 @@ scram-answers scram marking w proper fresh owning found i own outcome there d on
         with-signature o (from-signature scram w (signature_making d.end.server d.end.auth) owning (d.handed_out (guarded-server marking own d.proved.answered d.end.server on o server) (signature_making d.end.server d.end.auth) among) refl)
 
 -- the key is one of a context that is built on a guarded key
-pub scram-built : (marking : Marking) (w : World) (own : InitSetup) (outcome : Outcome) → ScramAnswers marking w own outcome → BuiltKey marking w.fixed outcome.key
+pub scram-built : (marking : Marking) (w : World) (own : PlainSetup) (outcome : Outcome) → ScramAnswers marking w own outcome → BuiltKey marking w.fixed outcome.key
 scram-built marking w own outcome a = record {
   context = a.context;
   listed = record { place = a.place; there = a.there };

@@ -2,19 +2,18 @@
 use Rattle.std.proofs.Common.{◌≡◌, ◌⊎◌, inl, inr, ℕ, sym, ap, ◌∙◌, subst, arith, List, [], ◌++◌, slice_get, Some}
 use Rattle.scram_mech.specs.MechMaking.{MechMaking, AmongMakings}
 use Rattle.krb_tokens.specs.declared.end.Side.TheVariants.{Initiator}
-use Rattle.spnego_core.specs.declared.init_end.InitEnd.{InitEnd}
-use Rattle.spnego_core.specs.declared.init_end.InitStep.{InitStep}
-use Rattle.spnego_core.specs.declared.init_end.InitStep.TheVariants as steps
 use Rattle.spnego_core.specs.declared.outcome.Outcome.{Outcome}
-use Rattle.spnego_core.specs.declared.setup.InitSetup.{InitSetup}
+use Rattle.spnego_core.specs.Ends.{PlainSetup, EndSays}
+use Rattle.spnego_core.specs.EndSteps.{StepSays}
+use Rattle.spnego_core.specs.EndSteps as steps
 use Rattle.spnego_core.specs.InitLaws.{own_of, answers_next, finished_in, IsOwnMic, InitLaw}
 use Rattle.spnego_core.specs.Initiating.{Initiated, own_list}
 use Rattle.spnego_core.specs.ListMic.{mic_making}
 use Rattle.spnego_core.proofs.Makings.{among_front, among_split}
 use Rattle.gss_client.specs.Session.{xid_after}
 use Rattle.world_laws.specs.declared.event.WorldEvent.{WorldEvent}
-use Rattle.world_laws.specs.declared.stage.Stage.{Stage}
-use Rattle.world_laws.specs.declared.stage.Stage.TheVariants as stages
+use Rattle.world_laws.specs.Stages.{StageSays}
+use Rattle.world_laws.specs.Stages as stages
 use Rattle.world_laws.specs.Deeds.{Deed}
 use Rattle.world_laws.specs.State.{World, moved_to}
 use Rattle.world_laws.specs.Initiators.{Moved, refused}
@@ -37,7 +36,7 @@ use Rattle.world_laws.proofs.Slices.{set-same}
 -- an initiator whose mechanism is done made it, over its own list; with the key of a context that is built on a guarded key it is on a guarded key
 pub record Signer (marking : Marking) (last w : World) (making : MechMaking) : Type 0 where
   pub i : ℕ
-  pub own : InitSetup
+  pub own : PlainSetup
   pub outcome : Outcome
   pub there : slice_get w.facts i ≡ Some own
   pub made : making ≡ mic_making outcome Initiator (own_list own)
@@ -46,7 +45,7 @@ pub record Signer (marking : Marking) (last w : World) (making : MechMaking) : T
 
 pub record Caller (w : World) (making : MechMaking) : Type 0 where
   pub i : ℕ
-  pub own : InitSetup
+  pub own : PlainSetup
   pub there : slice_get w.facts i ≡ Some own
   pub made : MadeCall w i own making
 
@@ -68,8 +67,8 @@ signed-start marking last w begins = record { by = λ making a t. absurd (among-
 pub kept-by : (old new : World) → Grows old new → Stays old new
 kept-by old new g = record { facts = g.facts; setup = g.setup; made = λ making made. was-made-grows old new making g made }
 
-there-on : (old new : World) (i : ℕ) (own : InitSetup) → Grows old new → slice_get old.facts i ≡ Some own → slice_get new.facts i ≡ Some own
-there-on old new i own g there = ap (λ (facts : List InitSetup). slice_get facts i) g.facts ∙ there
+there-on : (old new : World) (i : ℕ) (own : PlainSetup) → Grows old new → slice_get old.facts i ≡ Some own → slice_get new.facts i ≡ Some own
+there-on old new i own g there = ap (λ (facts : List PlainSetup). slice_get facts i) g.facts ∙ there
 
 signer-on : (marking : Marking) (last old new : World) (making : MechMaking) → Grows old new → Signer marking last old making → Signer marking last new making
 signer-on marking last old new making g s = record {
@@ -115,25 +114,25 @@ signed-more marking last old new makes g e signed more = record {
 -- ---- an initiator moves
 
 abbrev Untold : Marking → World → World → Type 0
-Untold marking last new = (i : ℕ) (own : InitSetup) (outcome : Outcome) → Finished new i own outcome → BuiltKey marking last.fixed outcome.key → OnGuarded marking own outcome.mech
+Untold marking last new = (i : ℕ) (own : PlainSetup) (outcome : Outcome) → Finished new i own outcome → BuiltKey marking last.fixed outcome.key → OnGuarded marking own outcome.mech
 
 -- what a step leads to has the outcome of the mechanism that is done
-leads-more : (step : InitStep) (end : InitEnd) (token : List ℕ) (outcome : Outcome) (xid : ℕ) → step ≡ steps.More end token → finished_in step ≡ Some outcome → outcome_in (stages.Asks xid end) ≡ Some outcome
+leads-more : (step : StepSays) (end : EndSays) (token : List ℕ) (outcome : Outcome) (xid : ℕ) → step ≡ steps.More end token → finished_in step ≡ Some outcome → outcome_in (stages.Asks xid end) ≡ Some outcome
 leads-more step end token outcome xid is e = sym (ap finished_in is) ∙ e
 
-leads-done : (step : InitStep) (last outcome : Outcome) → step ≡ steps.Done last → finished_in step ≡ Some outcome → Some last ≡ Some outcome
+leads-done : (step : StepSays) (last outcome : Outcome) → step ≡ steps.Done last → finished_in step ≡ Some outcome → Some last ≡ Some outcome
 leads-done step last outcome is e = sym (ap finished_in is) ∙ e
 
 -- where the initiator of a move is finishes
-moved-there : (old new : World) (i : ℕ) (stage was : Stage) (makes : List MechMaking) → new ≡ moved_to old i stage makes → slice_get old.stages i ≡ Some was → slice_get new.stages i ≡ Some stage
+moved-there : (old new : World) (i : ℕ) (stage was : StageSays) (makes : List MechMaking) → new ≡ moved_to old i stage makes → slice_get old.stages i ≡ Some was → slice_get new.stages i ≡ Some stage
 moved-there old new i stage was makes is there = ap (λ (w : World). slice_get w.stages i) is ∙ set-same old.stages i stage was there
 
-finished-then : (old new : World) (i : ℕ) (own : InitSetup) (stage was : Stage) (makes : List MechMaking) (outcome : Outcome) → Grows old new → new ≡ moved_to old i stage makes → slice_get old.stages i ≡ Some was → slice_get old.facts i ≡ Some own
+finished-then : (old new : World) (i : ℕ) (own : PlainSetup) (stage was : StageSays) (makes : List MechMaking) (outcome : Outcome) → Grows old new → new ≡ moved_to old i stage makes → slice_get old.stages i ≡ Some was → slice_get old.facts i ≡ Some own
     → outcome_in stage ≡ Some outcome → Finished new i own outcome
 finished-then old new i own stage was makes outcome g is there facts e = record { there = there-on old new i own g facts; stage = stage; stands = moved-there old new i stage was makes is there; finished = e }
 
 -- the MIC over the own list, handed out by a step
-mic-signer : (marking : Marking) (last old new : World) (i : ℕ) (end : InitEnd) (taken : Initiated) (making : MechMaking) → Grows old new → slice_get old.facts i ≡ Some (own_of end) → StepFound marking old (own_of end) taken.step taken.listed
+mic-signer : (marking : Marking) (last old new : World) (i : ℕ) (end : EndSays) (taken : Initiated) (making : MechMaking) → Grows old new → slice_get old.facts i ≡ Some (own_of end) → StepFound marking old (own_of end) taken.step taken.listed
     → ((outcome : Outcome) → finished_in taken.step ≡ Some outcome → Finished new i (own_of end) outcome) → Untold marking last new → IsOwnMic (own_of end) taken.step making → Signer marking last new making
 mic-signer marking last old new i end taken making g there f finishes untold m = record {
   i = i;
@@ -145,7 +144,7 @@ mic-signer marking last old new i end taken making g there f finishes untold m =
   guarded = λ built. untold i (own_of end) m.outcome (finishes m.outcome m.finished) built;
 }
 
-step-signed : (laws : Below) (marking : Marking) (last old new : World) (i : ℕ) (end : InitEnd) (taken : Initiated) (making : MechMaking) → Grows old new → slice_get old.facts i ≡ Some (own_of end) → InitLaw end taken
+step-signed : (laws : Below) (marking : Marking) (last old new : World) (i : ℕ) (end : EndSays) (taken : Initiated) (making : MechMaking) → Grows old new → slice_get old.facts i ≡ Some (own_of end) → InitLaw end taken
     → StepFound marking old (own_of end) taken.step taken.listed → ((outcome : Outcome) → finished_in taken.step ≡ Some outcome → Finished new i (own_of end) outcome) → Untold marking last new
     → AmongMakings taken.makes making → tag making ≡ 100 → SignedBy marking last new making
 step-signed laws marking last old new i end taken making g there law f finishes untold a t = elim (law.made making a) [
@@ -156,7 +155,7 @@ step-signed laws marking last old new i end taken making g there law f finishes 
   ]
 ]
 
-start-signed : (laws : Below) (own : InitSetup) (moved : Moved) (making : MechMaking) → StartedBy own moved → AmongMakings moved.makes making → tag making ≡ 100 → ⊥
+start-signed : (laws : Below) (own : PlainSetup) (moved : Moved) (making : MechMaking) → StartedBy own moved → AmongMakings moved.makes making → tag making ≡ 100 → ⊥
 start-signed laws own moved making by a t =
     let m = (laws.init.starts own by.started by.is).made making (subst (λ (ms : List MechMaking). AmongMakings ms making) by.makes a) in
     omega (arith, t, tag-request own making (record { credential = m.0; is_own = m.1; made = m.2 }))
@@ -168,7 +167,7 @@ refused-signed moved making e a = among-none moved.makes making (ap (λ (m : Mov
 verified-front : (marking : Marking) (w : World) (found front back : List MechMaking) → found ≡ front ++ back → Verified marking w found → Verified marking w front
 verified-front marking w found front back e f = λ making a guarded. f making (subst (λ (ms : List MechMaking). AmongMakings ms making) (sym e) (among_front front back making a)) guarded
 
-went-signed : (laws : Below) (marking : Marking) (last old new : World) (i xid : ℕ) (end : InitEnd) (octets : List ℕ) (moved : Moved) (making : MechMaking) → Grows old new → Known old → Founds marking old → Built marking old
+went-signed : (laws : Below) (marking : Marking) (last old new : World) (i xid : ℕ) (end : EndSays) (octets : List ℕ) (moved : Moved) (making : MechMaking) → Grows old new → Known old → Founds marking old → Built marking old
     → slice_get old.stages i ≡ Some (stages.Asks xid end) → Verified marking old moved.found → new ≡ moved_to old i moved.stage moved.makes → Untold marking last new → Went xid end octets moved
     → AmongMakings moved.makes making → tag making ≡ 100 → SignedBy marking last new making
 went-signed laws marking last old new i xid end octets moved making g known f built there verified is untold by a t =
@@ -179,10 +178,10 @@ went-signed laws marking last old new i xid end octets moved making g known f bu
     let s : StepFound marking old (own_of end) taken.step taken.listed = step-found laws marking old i end taken built facts (f.asks i xid end there) law seen in
     step-signed laws marking last old new i end taken making g facts law s
     (λ outcome e. finished-then old new i (own_of end) (stages.Asks (xid_after xid) by.offer.end) (stages.Asks xid end) moved.makes outcome g
-    (is ∙ ap (λ (stage : Stage). moved_to old i stage moved.makes) by.stage) there facts (leads-more taken.step by.offer.end by.offer.token outcome (xid_after xid) by.by.leads e))
+    (is ∙ ap (λ (stage : StageSays). moved_to old i stage moved.makes) by.stage) there facts (leads-more taken.step by.offer.end by.offer.token outcome (xid_after xid) by.by.leads e))
     untold (subst (λ (ms : List MechMaking). AmongMakings ms making) by.makes a) t
 
-stood-signed : (laws : Below) (marking : Marking) (last old new : World) (i xid : ℕ) (end : InitEnd) (octets : List ℕ) (moved : Moved) (making : MechMaking) → Grows old new → Known old → Founds marking old → Built marking old
+stood-signed : (laws : Below) (marking : Marking) (last old new : World) (i xid : ℕ) (end : EndSays) (octets : List ℕ) (moved : Moved) (making : MechMaking) → Grows old new → Known old → Founds marking old → Built marking old
     → slice_get old.stages i ≡ Some (stages.Asks xid end) → Verified marking old moved.found → new ≡ moved_to old i moved.stage moved.makes → Untold marking last new → Stood xid end octets moved
     → AmongMakings moved.makes making → tag making ≡ 100 → SignedBy marking last new making
 stood-signed laws marking last old new i xid end octets moved making g known f built there verified is untold by a t =

@@ -1,15 +1,15 @@
 -- What an event makes of the parts of a world is an event of the world.
 use Rattle.std.proofs.Common.{◌≡◌, ◌⊎◌, inl, inr, ℕ, refl, sym, ap, subst, arith, ◌∙◌, Bool, true, false, nat_le, is_some, IsSome, List, [], ◌∷◌, ◌++◌, append-nil, slice_get, Option, Some, None, Result, Ok, Err, IfOk, IsErr}
 use Rattle.scram_mech.specs.MechMaking.{MechMaking}
-use Rattle.spnego_core.specs.declared.setup.InitSetup.{InitSetup}
+use Rattle.spnego_core.specs.Ends.{PlainSetup}
 use Rattle.spnego_core.specs.InitMech.{is_own_list}
 use Rattle.accept_book.specs.Booking.{BookOf}
 use Rattle.gss_client.specs.Session.{SessionState}
 use Rattle.world_laws.specs.declared.event.Happened.{Happened}
 use Rattle.world_laws.specs.declared.event.WorldEvent.{WorldEvent}
 use Rattle.world_laws.specs.declared.event.WorldEvent.TheVariants.{Start, Deliver, Lane, CallBy}
-use Rattle.world_laws.specs.declared.stage.Stage.{Stage}
-use Rattle.world_laws.specs.declared.stage.Stage.TheVariants as stages
+use Rattle.world_laws.specs.Stages.{StageSays}
+use Rattle.world_laws.specs.Stages as stages
 use Rattle.world_laws.specs.Deeds.{Deed, quiet, nothing}
 use Rattle.world_laws.specs.Events.{IsBook, Idles, Moves, StartsBy, DeliversBy, CallsWith, CallsBy, LanesBy, IsProper, HappensBy, Next, Run}
 use Rattle.world_laws.specs.Initiators.{Moved, did}
@@ -25,7 +25,7 @@ use Rattle.world_laws.proofs.LaneTurns.{lane-moved}
 
 -- ---- initiators
 
-abbrev with-stages : World → List Stage → List MechMaking → World
+abbrev with-stages : World → List StageSays → List MechMaking → World
 with-stages w stages makes = record { facts = w.facts; stages = stages; book = w.book; lanes = w.lanes; fixed = w.fixed; makings = w.makings ++ makes }
 
 abbrev MovesOr : Option Moved → World → ℕ → Deed → World → Type 0
@@ -33,16 +33,16 @@ MovesOr None w i deed new = Idles w deed new
 MovesOr (Some moved) w i deed new = Moves w i moved deed new
 
 -- what an initiator's event did
-record Did (moved : Option Moved) (w : World) (i : ℕ) (answer : Option Happened) (stages : List Stage) : Type 0 where
+record Did (moved : Option Moved) (w : World) (i : ℕ) (answer : Option Happened) (stages : List StageSays) : Type 0 where
   deed : Deed
   answered : deed.answer ≡ answer
   moves : MovesOr moved w i deed (with-stages w stages deed.makes)
 
-same-world : (w : World) (stages : List Stage) → stages ≡ w.stages → with-stages w stages [] ≡ w
+same-world : (w : World) (stages : List StageSays) → stages ≡ w.stages → with-stages w stages [] ≡ w
 same-world w stages e = ap (λ s. record { facts = w.facts; stages = s; book = w.book; lanes = w.lanes; fixed = w.fixed; makings = w.makings ++ [] }) e
     ∙ ap (λ m. record { facts = w.facts; stages = w.stages; book = w.book; lanes = w.lanes; fixed = w.fixed; makings = m }) (append-nil w.makings)
 
-did-turn : (moved : Option Moved) (w : World) (i : ℕ) (answer : Option Happened) (stages : List Stage) → Turns moved i answer w.stages stages → Did moved w i answer stages
+did-turn : (moved : Option Moved) (w : World) (i : ℕ) (answer : Option Happened) (stages : List StageSays) → Turns moved i answer w.stages stages → Did moved w i answer stages
 did-turn None w i answer stages turns = record { deed = nothing; answered = sym turns.0; moves = (refl, same-world w stages turns.1) }
 did-turn (Some moved) w i answer stages (inl to) = record {
   deed = did moved;
@@ -55,7 +55,7 @@ did-turn (Some moved) w i answer stages (inr lost) = record {
   moves = inr (refl, ap (λ s. with-stages w s []) lost.1);
 }
 
-starts-as : (w : World) (i : ℕ) (deed : Deed) (new : World) (stage : Option Stage) → MovesOr (of_stage started_from stage) w i deed new → StartsBy w i stage deed new
+starts-as : (w : World) (i : ℕ) (deed : Deed) (new : World) (stage : Option StageSays) → MovesOr (of_stage started_from stage) w i deed new → StartsBy w i stage deed new
 starts-as w i deed new None m = m
 starts-as w i deed new (Some (stages.Ready own)) m = m
 starts-as w i deed new (Some (stages.Asks xid end)) m = m
@@ -63,7 +63,7 @@ starts-as w i deed new (Some (stages.Stands s)) m = m
 starts-as w i deed new (Some (stages.Left s)) m = m
 starts-as w i deed new (Some stages.Over) m = m
 
-delivers-as : (w : World) (i : ℕ) (octets : List ℕ) (first : ℕ) (deed : Deed) (new : World) (stage : Option Stage) → MovesOr (of_stage (taken_from first octets) stage) w i deed new → DeliversBy w i octets first stage deed new
+delivers-as : (w : World) (i : ℕ) (octets : List ℕ) (first : ℕ) (deed : Deed) (new : World) (stage : Option StageSays) → MovesOr (of_stage (taken_from first octets) stage) w i deed new → DeliversBy w i octets first stage deed new
 delivers-as w i octets first deed new None m = m
 delivers-as w i octets first deed new (Some (stages.Ready own)) m = m
 delivers-as w i octets first deed new (Some (stages.Asks xid end)) m = m
@@ -76,7 +76,7 @@ with-as : (left : Bool) (w : World) (i : ℕ) (s : SessionState) (procedure : �
 with-as true w i s procedure args deed new m = m
 with-as false w i s procedure args deed new m = m
 
-calls-as : (w : World) (i procedure : ℕ) (args : List ℕ) (deed : Deed) (new : World) (stage : Option Stage) → MovesOr (of_stage (called_from procedure args) stage) w i deed new
+calls-as : (w : World) (i procedure : ℕ) (args : List ℕ) (deed : Deed) (new : World) (stage : Option StageSays) → MovesOr (of_stage (called_from procedure args) stage) w i deed new
     → CallsBy w i procedure args stage deed new
 calls-as w i procedure args deed new None m = m
 calls-as w i procedure args deed new (Some (stages.Ready own)) m = m
@@ -140,7 +140,7 @@ done-lane w lane octets now draws (Some before) answer desk legal goes =
 
 -- ---- any event
 
-abbrev pub shown-with : List InitSetup → HeldParts → List WorldEvent → Shown
+abbrev pub shown-with : List PlainSetup → HeldParts → List WorldEvent → Shown
 shown-with facts parts events = record { facts = facts; stages = parts.stages; book = parts.desk.book; lanes = parts.desk.lanes; events = events }
 
 -- the parts show the world
@@ -150,7 +150,7 @@ pub record PartsShow (w : World) (parts : HeldParts) : Type 0 where
   pub lanes_are : parts.desk.lanes ≡ w.lanes
 
 -- an initiator's event, once it is what `by` makes of its move
-moved-follows : (event : WorldEvent) (answer : Option Happened) (moved : Option Moved) (i : ℕ) (w : World) (facts : List InitSetup) (old new : HeldParts) (events : List WorldEvent) → IsProper event
+moved-follows : (event : WorldEvent) (answer : Option Happened) (moved : Option Moved) (i : ℕ) (w : World) (facts : List PlainSetup) (old new : HeldParts) (events : List WorldEvent) → IsProper event
     → IsBook w.book → facts ≡ w.facts → PartsShow w old → Turns moved i answer w.stages new.stages → new.desk ≡ old.desk
     → ((deed : Deed) (next : World) → MovesOr moved w i deed next → HappensBy w event deed next) → Follows event answer w (shown-with facts new events)
 moved-follows event answer moved i w facts old new events proper legal facts_are show turns desk by =
@@ -162,7 +162,7 @@ moved-follows event answer moved i w facts old new events proper legal facts_are
       shows = record { facts = facts_are; stages = refl; book = ap (λ (k : Desk). k.book) desk ∙ show.book_is; lanes = ap (λ (k : Desk). k.lanes) desk ∙ show.lanes_are };
     }
 
-turns-over : (moved : Option Stage → Option Moved) (i : ℕ) (answer : Option Happened) (a b new : List Stage) → a ≡ b → Turns (moved (slice_get a i)) i answer a new → Turns (moved (slice_get b i)) i answer b new
+turns-over : (moved : Option StageSays → Option Moved) (i : ℕ) (answer : Option Happened) (a b new : List StageSays) → a ≡ b → Turns (moved (slice_get a i)) i answer a new → Turns (moved (slice_get b i)) i answer b new
 turns-over moved i answer a b new e turns = subst (λ xs. Turns (moved (slice_get xs i)) i answer xs new) e turns
 
 lane-over : (lane : ℕ) (taken : InHand) (answer : Option Happened) (a b new : Desk) → a ≡ b → LaneTurns (slice_get a.lanes lane) lane taken answer a new → LaneTurns (slice_get b.lanes lane) lane taken answer b new
@@ -171,7 +171,7 @@ lane-over lane taken answer a b new e turns = subst (λ (d : Desk). LaneTurns (s
 desk-is : (w : World) (desk : Desk) → desk.book ≡ Some w.book → desk.lanes ≡ w.lanes → desk ≡ record { book = Some w.book; lanes = w.lanes }
 desk-is w desk b l = ap (λ x. record { book = x; lanes = desk.lanes }) b ∙ ap (λ y. record { book = Some w.book; lanes = y }) l
 
-pub passes-follow : (event : WorldEvent) (answer : Option Happened) (w : World) (facts : List InitSetup) (old new : HeldParts) (events : List WorldEvent) → IsProper event → IsBook w.book
+pub passes-follow : (event : WorldEvent) (answer : Option Happened) (w : World) (facts : List PlainSetup) (old new : HeldParts) (events : List WorldEvent) → IsProper event → IsBook w.book
     → facts ≡ w.facts → PartsShow w old → Passes event answer old new → Follows event answer w (shown-with facts new events)
 passes-follow (Start i) answer w facts old new events proper legal facts_are show passes =
     moved-follows (Start i) answer (of_stage started_from (slice_get w.stages i)) i w facts old new events proper legal facts_are show
@@ -216,7 +216,7 @@ run-known laws a (event ∷ later) b run known =
 
 -- ---- what a world that came of a run shows
 
-pub ran-lists : (laws : Below) (shown : Shown) → Ran shown → (i : ℕ) (own : InitSetup) → slice_get shown.stages i ≡ Some (stages.Ready own) → is_own_list own.list ≡ true
+pub ran-lists : (laws : Below) (shown : Shown) → Ran shown → (i : ℕ) (own : PlainSetup) → slice_get shown.stages i ≡ Some (stages.Ready own) → is_own_list own.list ≡ true
 ran-lists laws shown r i own there =
     let known : Known r.now = run-known laws r.start shown.events r.now r.run (known-start r.start r.begins) in
     known.sized i own (known.ready i own (ap (λ xs. slice_get xs i) (sym r.shows.stages) ∙ there))
@@ -237,7 +237,7 @@ ran-more event answer old new steps r = by (steps.follows r.now r.shows)
     }
 
 -- a step, from every world that shows the old
-pub steps-of : (event : WorldEvent) (answer : Option Happened) (facts : List InitSetup) (old new : HeldParts) (before after : List WorldEvent) → IsProper event
+pub steps-of : (event : WorldEvent) (answer : Option Happened) (facts : List PlainSetup) (old new : HeldParts) (before after : List WorldEvent) → IsProper event
     → ((b : BookOf) → old.desk.book ≡ Some b → IsBook b) → Passes event answer old new → after ≡ before ++ event ∷ []
     → Steps event answer (shown-with facts old before) (shown-with facts new after)
 steps-of event answer facts old new before after proper legal passes more = record {

@@ -19,7 +19,7 @@ use Rattle.scram_mech.specs.VerifierFile.{IsLine}
 use Rattle.scram_mech.proofs.Masks.{length-proof}
 use Rattle.scram_mech.proofs.Written.{second-read}
 use Rattle.spnego_core.specs.declared.outcome.Outcome.{Outcome}
-use Rattle.spnego_core.specs.declared.setup.InitSetup.{InitSetup}
+use Rattle.spnego_core.specs.Ends.{PlainSetup}
 use Rattle.spnego_core.specs.Outcome.{outcome_of}
 use Rattle.world_laws.specs.State.{Context, World}
 use Rattle.world_laws.specs.Premises.{Marking, Listed, MarkedLine, GuardedSecret, WasMade, Fresh, HasAuth, HasAccount, Proved}
@@ -130,7 +130,7 @@ scram_outcome user password parts auth bindings = record {
 
 pub record ScramAsked (w : World) (x : Context) (end : AcceptModel) (text : List ℕ) : Type 0 where
   pub i : ℕ
-  pub own : InitSetup
+  pub own : PlainSetup
   pub user : List ℕ
   pub password : List ℕ
   pub has : HasAccount w i own user password
@@ -168,7 +168,7 @@ same-outcome name user stored proof auth mine binding bindings password parts a 
 abbrev pub proof_by : List ℕ → AuthParts → List ℕ → MechMaking
 proof_by password parts auth = proof_making (stored_key (secret_with password parts)) auth (proof_of (secret_with password parts) auth)
 
-pub made-is : (m : MechMaking) (own : InitSetup) (made : MadeProof own m) (o : Told own made.answered) → m ≡ proof_by o.password o.parts o.auth
+pub made-is : (m : MechMaking) (own : PlainSetup) (made : MadeProof own m) (o : Told own made.answered) → m ≡ proof_by o.password o.parts o.auth
 made-is m own made o = only m (proof_by o.password o.parts o.auth) (subst (λ (ms : List MechMaking). AmongMakings ms m) o.makes made.made)
 
 asked-with : (scram : ScramLaws) (marking : Marking) (w : World) → Proper w → (x : Context) (end : AcceptModel) (text : List ℕ) → (t : Taken w x end text)

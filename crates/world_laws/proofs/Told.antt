@@ -5,9 +5,9 @@ use Rattle.std.proofs.lemmas.Option.{slice_get_within}
 use Rattle.gss_base.specs.declared.mech.MechKind.{MechKind}
 use Rattle.gss_base.specs.declared.mech.MechKind.TheVariants as kinds
 use Rattle.scram_mech.specs.Grammar.{AreOctets}
-use Rattle.spnego_core.specs.declared.setup.InitSetup.{InitSetup}
 use Rattle.spnego_core.specs.declared.setup.MechCred.{MechCred}
 use Rattle.spnego_core.specs.declared.setup.MechCred.TheVariants as creds
+use Rattle.spnego_core.specs.Ends.{PlainSetup}
 use Rattle.world_laws.specs.Setups.{IsSpelled, IsSetup}
 use Rattle.spnego_core.specs.Choice.{same_kind}
 use Rattle.spnego_core.specs.InitMech.{kind_of, cred_for}
@@ -49,7 +49,7 @@ cred-listed [] kind cred is = no-cred cred is
 cred-listed (first ∷ rest) kind cred is = first-or first rest cred (cred_for rest kind) (same_kind (kind_of first) kind) (cred-listed rest kind cred) is
 
 -- a setup, by its parts
-pub setup-told : {E : Type 0} (own : InitSetup) (result : Result (Unit {0}) E) → AreOctets 66 66 own.draws
+pub setup-told : {E : Type 0} (own : PlainSetup) (result : Result (Unit {0}) E) → AreOctets 66 66 own.draws
     → ((application : List ℕ) → own.bindings ≡ Some application → AreOctets 1 32768 application)
     → IfOk result (λ _. (i : ℕ) (cred : MechCred) → slice_get own.list i ≡ Some cred → IsSpelled cred own.stamp own.draws own.bindings) → IfOk result (λ _. IsSetup own)
 setup-told own (Ok done) draws bound spelled = record {

@@ -10,9 +10,9 @@ use Rattle.ap_exchange.specs.Request.{label_of, request_making}
 use Rattle.scram_mech.specs.Acceptor.{AcceptModel}
 use Rattle.scram_mech.specs.MechMaking.{AmongMakings, typed}
 use Rattle.spnego_core.specs.declared.outcome.Outcome.{Outcome}
-use Rattle.spnego_core.specs.declared.setup.InitSetup.{InitSetup}
 use Rattle.spnego_core.specs.declared.setup.MechCred.TheVariants as creds
 use Rattle.spnego_core.specs.declared.accept_end.AcceptEnd.{AcceptEnd}
+use Rattle.spnego_core.specs.Ends.{PlainSetup}
 use Rattle.spnego_core.specs.AcceptMech.{Basis, ByRequest, ByProof}
 use Rattle.spnego_core.specs.Choice.{best}
 use Rattle.spnego_core.specs.InitMech.{cred_for}
@@ -26,7 +26,7 @@ use Rattle.accept_book.specs.BookLaws.{fixed_in}
 use Rattle.accept_core.specs.History.{entry_at}
 use Rattle.accept_core.specs.Stepping.{Context as Slot, context_of}
 use Rattle.world_laws.specs.declared.event.WorldEvent.{WorldEvent}
-use Rattle.world_laws.specs.declared.stage.Stage.TheVariants.{Ready}
+use Rattle.world_laws.specs.Stages.{Ready}
 use Rattle.world_laws.specs.State.{Context, World}
 use Rattle.world_laws.specs.Events.{Run, Begins}
 use Rattle.world_laws.specs.Premises.{Marking, GuardedBasis, OnGuarded, NoForgery, Fresh, Completed}
@@ -35,40 +35,40 @@ use Rattle.world_laws.specs.Premises.{Proved, HasAuth}
 -- ---- partners
 
 -- the context took the initiator's authenticator: the session key and the stamp are its own
-pub record TookRequest (own : InitSetup) (request : Judged) : Type 0 where
+pub record TookRequest (own : PlainSetup) (request : Judged) : Type 0 where
   pub credential : Granted
   pub is_own : cred_for own.list kinds.Kerberos ≡ Some (creds.Kerberos credential)
   pub session : request.session ≡ credential.session
   pub stamp : request.stamp ≡ own.stamp
 
 -- the context took the initiator's proof: both have one AuthMessage
-pub record TookProof (w : World) (own : InitSetup) (end : AcceptModel) (text : List ℕ) : Type 0
+pub record TookProof (w : World) (own : PlainSetup) (end : AcceptModel) (text : List ℕ) : Type 0
   where
     pub auth : List ℕ
     pub taken : HasAuth end text auth
     pub proved : Proved w own auth
 
 -- the initiator handed out the authenticator of its request
-pub record AskedOut (w : World) (own : InitSetup) : Type 0 where
+pub record AskedOut (w : World) (own : PlainSetup) : Type 0 where
   pub credential : Granted
   pub is_own : cred_for own.list kinds.Kerberos ≡ Some (creds.Kerberos credential)
   pub handed_out : AmongMakings w.makings (typed (request_making credential own.stamp own.draws
       own.bindings))
 
 -- the initiator's partner: a context that is built on this took its authenticator or its proof
-abbrev pub Partner : World → InitSetup → Basis → Type 0
+abbrev pub Partner : World → PlainSetup → Basis → Type 0
 Partner w own (ByRequest request) = TookRequest own request
 Partner w own (ByProof end text) = TookProof w own end text
 
 -- what a context on this took was handed out by the initiator: the authenticator of its request, or
 -- its proof
-abbrev pub HandedOut : World → InitSetup → Basis → Type 0
+abbrev pub HandedOut : World → PlainSetup → Basis → Type 0
 HandedOut w own (ByRequest request) = AskedOut w own
 HandedOut w own (ByProof end text) = (auth : List ℕ) × Proved w own auth
 
 -- a context at this place of what was fixed is the initiator's partner, and they agree: on the
 -- mechanism, both names, the key and whose it is, and the hash of the bindings
-pub record HasPartner (w : World) (own : InitSetup) (outcome : Outcome) : Type 0 where
+pub record HasPartner (w : World) (own : PlainSetup) (outcome : Outcome) : Type 0 where
   pub place : ℕ
   pub context : Context
   pub there : slice_get w.fixed place ≡ Some context
@@ -79,14 +79,14 @@ pub record HasPartner (w : World) (own : InitSetup) (outcome : Outcome) : Type 0
 
 -- a context has an initiator whose authenticator or proof it took; its facts give the context's
 -- names and hash
-pub record NamesByTicket (own : InitSetup) (outcome : Outcome) : Type 0 where
+pub record NamesByTicket (own : PlainSetup) (outcome : Outcome) : Type 0 where
   pub credential : Granted
   pub is_own : cred_for own.list kinds.Kerberos ≡ Some (creds.Kerberos credential)
   pub initiator : outcome.initiator ≡ label_of credential.client
   pub acceptor : outcome.acceptor ≡ label_of credential.server
 
 -- the same by SCRAM: the initiator is the account's user, and the acceptor has no name
-pub record NamesByAccount (own : InitSetup) (outcome : Outcome) : Type 0 where
+pub record NamesByAccount (own : PlainSetup) (outcome : Outcome) : Type 0 where
   pub user : List ℕ
   pub password : List ℕ
   pub is_own : cred_for own.list kinds.Scram ≡ Some (creds.Scram user password)
@@ -94,7 +94,7 @@ pub record NamesByAccount (own : InitSetup) (outcome : Outcome) : Type 0 where
   pub acceptor : outcome.acceptor ≡ []
 
 -- the outcome's names are those of the initiator's own credential of this mechanism
-abbrev pub NamesBy : MechKind → InitSetup → Outcome → Type 0
+abbrev pub NamesBy : MechKind → PlainSetup → Outcome → Type 0
 NamesBy kinds.Kerberos own outcome = NamesByTicket own outcome
 NamesBy kinds.Scram own outcome = NamesByAccount own outcome
 
@@ -102,22 +102,22 @@ NamesBy kinds.Scram own outcome = NamesByAccount own outcome
 -- context took, and whose facts give its names and hash
 pub record HasInitiator (w : World) (context : Context) : Type 0 where
   pub initiator : ℕ
-  pub own : InitSetup
+  pub own : PlainSetup
   pub there : slice_get w.facts initiator ≡ Some own
-  pub ran : (setup : InitSetup) → slice_get w.stages initiator ≢ Some (Ready setup)
+  pub ran : (setup : PlainSetup) → slice_get w.stages initiator ≢ Some (Ready setup)
   pub partner : Partner w own context.fixed.basis
   pub handed_out : HandedOut w own context.fixed.basis
   pub names : NamesBy context.fixed.outcome.mech own context.fixed.outcome
   pub hash : context.fixed.outcome.hash ≡ hash_of own.bindings
   -- nobody else's
-  pub only : (other : ℕ) (next : InitSetup) → slice_get w.facts other ≡ Some next
+  pub only : (other : ℕ) (next : PlainSetup) → slice_get w.facts other ≡ Some next
       → Partner w next context.fixed.basis → other ≡ initiator
 
 -- ---- an initiator's partner
 
 -- it has a partner on a guarded key, and each partner on a guarded key, of whatever mechanism, is
 -- this one; the mechanism is the first of the own list that the acceptor offers
-pub record HasOne (marking : Marking) (w : World) (own : InitSetup) (outcome : Outcome) : Type 0
+pub record HasOne (marking : Marking) (w : World) (own : PlainSetup) (outcome : Outcome) : Type 0
   where
     pub has : HasPartner w own outcome
     pub guarded : GuardedBasis marking has.context.fixed.basis
@@ -179,10 +179,10 @@ pub record IsBooks (w : World) (place : ℕ) (x : Context) : Type 0 where
 -- what holds of initiators that completed on guarded keys, of contexts that are built on such,
 -- and of what stands in the acceptor's log and table
 pub record Agreement (marking : Marking) (w : World) : Type 0 where
-  pub initiators : (i : ℕ) (own : InitSetup) (outcome : Outcome) → Completed w i own outcome
+  pub initiators : (i : ℕ) (own : PlainSetup) (outcome : Outcome) → Completed w i own outcome
       → OnGuarded marking own outcome.mech → HasOne marking w own outcome
   -- no two share one
-  pub apart : (i j : ℕ) (own other : InitSetup) (place : ℕ) (x : Context)
+  pub apart : (i j : ℕ) (own other : PlainSetup) (place : ℕ) (x : Context)
       → slice_get w.facts i ≡ Some own → slice_get w.facts j ≡ Some other
       → slice_get w.fixed place ≡ Some x → GuardedBasis marking x.fixed.basis
       → Partner w own x.fixed.basis → Partner w other x.fixed.basis → i ≡ j

@@ -8,12 +8,12 @@ use Rattle.world_laws.specs.declared.event.Happened.{Happened}
 use Rattle.world_laws.specs.declared.event.Happened.TheVariants.{Sent, Completed, Stepped, Refused}
 use Rattle.world_laws.specs.declared.event.Happened.TheVariants.{Nothing}
 use Rattle.world_laws.specs.declared.event.WorldEvent.TheVariants.{Deliver, Lane}
-use Rattle.world_laws.specs.declared.stage.Stage.{Stage}
-use Rattle.world_laws.specs.declared.stage.Stage.TheVariants as stages
+use Rattle.world_laws.specs.Stages.{StageSays}
+use Rattle.world_laws.specs.Stages as stages
 use Rattle.world_laws.specs.Showing.{Shown, Steps}
 
 -- the calls of a session whose key is this are answered as the law of honest calls says
-abbrev pub RulesCalls : Option Stage → Type 0
+abbrev pub RulesCalls : Option StageSays → Type 0
 RulesCalls stage = (s : SessionState) (lease : Lease) → stage ≡ Some (stages.Stands s)
     → lease.outcome.key ≡ s.outcome.key → HonestLaw lease
 

@@ -1,17 +1,17 @@
 -- Events, and runs of them.
 use Rattle.std.specs.Prelude.{◌≡◌, ◌⊎◌, ℕ, ◌≤◌, Bool, true, false, nat_le, List, [], ◌∷◌, length}
 use Rattle.std.specs.Prelude.{slice_get, Option, Some, None}
-use Rattle.spnego_core.specs.declared.setup.InitSetup.{InitSetup}
+use Rattle.spnego_core.specs.Ends.{PlainSetup}
 use Rattle.spnego_core.specs.InitMech.{is_own_list}
 use Rattle.accept_book.specs.Booking.{BookOf, by_outcome}
 use Rattle.accept_core.specs.History.{posts}
 use Rattle.accept_core.specs.Replays.{Replays}
 use Rattle.accept_book.specs.Served.{are_args}
 use Rattle.gss_client.specs.Session.{SessionState}
-use Rattle.world_laws.specs.declared.stage.Stage.{Stage}
-use Rattle.world_laws.specs.declared.stage.Stage.TheVariants as stages
 use Rattle.world_laws.specs.declared.event.WorldEvent.{WorldEvent}
 use Rattle.world_laws.specs.declared.event.WorldEvent.TheVariants.{Start, Deliver, Lane, CallBy}
+use Rattle.world_laws.specs.Stages.{StageSays}
+use Rattle.world_laws.specs.Stages as stages
 use Rattle.world_laws.specs.Deeds.{Deed, quiet, nothing}
 use Rattle.world_laws.specs.State.{InHand, World, moved_to}
 use Rattle.world_laws.specs.Initiators.{Moved, did, starts, takes, calls}
@@ -34,7 +34,7 @@ Moves old i moved deed new =
     ⊎ ((deed ≡ quiet None) × (new ≡ moved_to old i moved.lost []))
 
 -- a start: an initiator that wasn't started starts; else nothing is done
-abbrev pub StartsBy : World → ℕ → Option Stage → Deed → World → Type 0
+abbrev pub StartsBy : World → ℕ → Option StageSays → Deed → World → Type 0
 StartsBy old i None deed new = Idles old deed new
 StartsBy old i (Some (stages.Ready own)) deed new = Moves old i (starts own) deed new
 StartsBy old i (Some (stages.Asks xid end)) deed new = Idles old deed new
@@ -44,7 +44,7 @@ StartsBy old i (Some stages.Over) deed new = Idles old deed new
 
 -- a reply: an initiator with a creation call out takes these octets, and if its context stands
 -- then, its first call has this number; else nothing is done
-abbrev pub DeliversBy : World → ℕ → List ℕ → ℕ → Option Stage → Deed → World → Type 0
+abbrev pub DeliversBy : World → ℕ → List ℕ → ℕ → Option StageSays → Deed → World → Type 0
 DeliversBy old i octets first None deed new = Idles old deed new
 DeliversBy old i octets first (Some (stages.Ready own)) deed new = Idles old deed new
 DeliversBy old i octets first (Some (stages.Asks xid end)) deed new =
@@ -59,7 +59,7 @@ CallsWith true old i s procedure args deed new = Moves old i (calls s procedure 
 CallsWith false old i s procedure args deed new = Idles old deed new
 
 -- a call: an initiator whose context stands makes it, if a number is left; else nothing is done
-abbrev pub CallsBy : World → ℕ → ℕ → List ℕ → Option Stage → Deed → World → Type 0
+abbrev pub CallsBy : World → ℕ → ℕ → List ℕ → Option StageSays → Deed → World → Type 0
 CallsBy old i procedure args None deed new = Idles old deed new
 CallsBy old i procedure args (Some (stages.Ready own)) deed new = Idles old deed new
 CallsBy old i procedure args (Some (stages.Asks xid end)) deed new = Idles old deed new
@@ -117,10 +117,10 @@ Run old (event ∷ later) new = (next : Next old event) × Run next.world later 
 -- out, and the book has no entry. Each initiator has one or two credentials, of different
 -- mechanisms, and is one that can be begun
 pub record Begins (w : World) : Type 0 where
-  pub ready : (i : ℕ) (own : InitSetup) → slice_get w.facts i ≡ Some own
+  pub ready : (i : ℕ) (own : PlainSetup) → slice_get w.facts i ≡ Some own
       → (slice_get w.stages i ≡ Some (stages.Ready own)) × (is_own_list own.list ≡ true)
-  pub known : (i : ℕ) (stage : Stage) → slice_get w.stages i ≡ Some stage
-      → (own : InitSetup) × (slice_get w.facts i ≡ Some own) × (stage ≡ stages.Ready own)
+  pub known : (i : ℕ) (stage : StageSays) → slice_get w.stages i ≡ Some stage
+      → (own : PlainSetup) × (slice_get w.facts i ≡ Some own) × (stage ≡ stages.Ready own)
   pub idle : (lane : ℕ) (hand : Option InHand) → slice_get w.lanes lane ≡ Some hand → hand ≡ None
   pub unfixed : w.fixed ≡ []
   pub unmade : w.makings ≡ []

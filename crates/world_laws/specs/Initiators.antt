@@ -7,30 +7,29 @@ use Rattle.krb_tokens.specs.End.{sign_usage}
 use Rattle.krb_tokens.specs.Makings.{mic_making, wrap_making}
 use Rattle.rpc_msgs.specs.Words.{word}
 use Rattle.scram_mech.specs.MechMaking.{MechMaking, typed}
-use Rattle.spnego_core.specs.declared.init_end.InitEnd.{InitEnd}
 use Rattle.spnego_core.specs.declared.outcome.Outcome.{Outcome}
 use Rattle.spnego_core.specs.declared.refusal.NegRefusal.{NegRefusal}
-use Rattle.spnego_core.specs.declared.setup.InitSetup.{InitSetup}
+use Rattle.spnego_core.specs.Ends.{PlainSetup, EndSays}
 use Rattle.spnego_core.specs.Initiating.{Started, Initiated, init_start, init_step}
-use Rattle.gss_client.specs.declared.creation.Created.{Created}
-use Rattle.gss_client.specs.declared.creation.Created.TheVariants as created
 use Rattle.gss_client.specs.declared.refusal.ClientRefusal.{ClientRefusal}
+use Rattle.gss_client.specs.Creation.{CreatedSays}
+use Rattle.gss_client.specs.Creation as created
 use Rattle.rpcsec_bodies.specs.declared.service.Service.TheVariants.{Integrity}
 use Rattle.gss_client.specs.Calling.{creation_call, header_of, data_call, own_end}
 use Rattle.gss_client.specs.Judging.{GrantedValue, granted_in, creation_step}
 use Rattle.gss_client.specs.Session.{SessionState, session_after, xid_after}
 use Rattle.gss_client.specs.Talk.{begun}
-use Rattle.world_laws.specs.declared.stage.Stage.{Stage}
-use Rattle.world_laws.specs.declared.stage.Stage.TheVariants as stages
 use Rattle.world_laws.specs.declared.event.Happened.{Happened}
 use Rattle.world_laws.specs.declared.event.Happened.TheVariants.{Sent, Completed, Refused}
+use Rattle.world_laws.specs.Stages.{StageSays}
+use Rattle.world_laws.specs.Stages as stages
 use Rattle.world_laws.specs.Deeds.{Deed, quiet}
 
 -- where the initiator is then, and where it is if memory is wanted, in which case nothing else is
 -- done; the answer; what is handed out and what was found verified
 pub record Moved : Type 0 where
-  pub stage : Stage
-  pub lost : Stage
+  pub stage : StageSays
+  pub lost : StageSays
   pub answer : Happened
   pub makes : List MechMaking
   pub found : List MechMaking
@@ -59,7 +58,7 @@ started_by (Ok started) = record {
 }
 
 -- what an initiator does that starts with this setup
-abbrev pub starts : InitSetup → Moved
+abbrev pub starts : PlainSetup → Moved
 starts own = started_by (init_start own)
 
 -- ---- it takes a reply to its creation call
@@ -70,12 +69,12 @@ initiated_by (Err refusal) = None
 initiated_by (Ok taken) = Some taken
 
 -- the same by what the reply granted, whose token the end takes
-abbrev pub initiated_with : InitEnd → Result GrantedValue ClientRefusal → Option Initiated
+abbrev pub initiated_with : EndSays → Result GrantedValue ClientRefusal → Option Initiated
 initiated_with end (Err refusal) = None
 initiated_with end (Ok granted) = initiated_by (init_step end granted.result.token)
 
 -- the same by the reply's octets, for the creation call of this transaction number
-abbrev pub initiated : ℕ → InitEnd → List ℕ → Option Initiated
+abbrev pub initiated : ℕ → EndSays → List ℕ → Option Initiated
 initiated xid end octets = initiated_with end (granted_in xid octets)
 
 -- what a step handed out, nothing where there was none
@@ -98,7 +97,7 @@ window_found outcome (Ok granted) =
 -- what it does by what the reply leads to: it has ended, makes the next creation call with the
 -- handle that the reply gave, or its context stands and the MIC over the window was found too; the
 -- session's first call has the number `first`
-abbrev pub created_by : ℕ → ℕ → InitEnd → List ℕ → Result Created ClientRefusal → Moved
+abbrev pub created_by : ℕ → ℕ → EndSays → List ℕ → Result CreatedSays ClientRefusal → Moved
 created_by first xid end octets (Err refusal) = refused
 created_by first xid end octets (Ok (created.Going offer)) = record {
   stage = stages.Asks (xid_after xid) offer.end;
@@ -117,7 +116,7 @@ created_by first xid end octets (Ok (created.Stands outcome handle)) = record {
 
 -- what an initiator does that takes octets as the reply to its call of this transaction number, and
 -- whose session begins with this number of a call
-abbrev pub takes : ℕ → ℕ → InitEnd → List ℕ → Moved
+abbrev pub takes : ℕ → ℕ → EndSays → List ℕ → Moved
 takes first xid end octets = created_by first xid end octets (creation_step end xid octets)
 
 -- ---- it calls, by integrity

@@ -6,15 +6,15 @@ use Rattle.krb_tokens.specs.declared.end.Side.TheVariants.{Acceptor}
 use Rattle.scram_mech.specs.Acceptor.{AcceptModel}
 use Rattle.scram_mech.specs.MechMaking.{AmongMakings, typed}
 use Rattle.spnego_core.specs.declared.outcome.Outcome.{Outcome}
-use Rattle.spnego_core.specs.declared.setup.InitSetup.{InitSetup}
+use Rattle.spnego_core.specs.Ends.{PlainSetup}
 use Rattle.spnego_core.specs.Choice.{is_first}
 use Rattle.spnego_core.specs.Initiating.{own_list}
 use Rattle.spnego_core.specs.InitLaws.{finished_of}
 use Rattle.spnego_core.specs.ListMic.{mic_found}
 use Rattle.gss_client.specs.Session.{SessionState}
 use Rattle.world_laws.specs.declared.event.WorldEvent.{WorldEvent}
-use Rattle.world_laws.specs.declared.stage.Stage.{Stage}
-use Rattle.world_laws.specs.declared.stage.Stage.TheVariants as stages
+use Rattle.world_laws.specs.Stages.{StageSays}
+use Rattle.world_laws.specs.Stages as stages
 use Rattle.world_laws.specs.Deeds.{Deed}
 use Rattle.world_laws.specs.State.{Context, World}
 use Rattle.world_laws.specs.Initiators.{call_makings}
@@ -26,7 +26,7 @@ use Rattle.world_laws.specs.Agreement.{HasInitiator}
 -- ---- what this law alone asks, beside `NoForgery` and `Fresh`
 
 -- the outcome of a mechanism that is done, which may be before the context stands
-abbrev pub outcome_in : Stage → Option Outcome
+abbrev pub outcome_in : StageSays → Option Outcome
 outcome_in (stages.Ready own) = None
 outcome_in (stages.Asks xid end) = finished_of end
 outcome_in (stages.Stands s) = Some s.outcome
@@ -34,9 +34,9 @@ outcome_in (stages.Left s) = Some s.outcome
 outcome_in stages.Over = None
 
 -- the mechanism of the initiator of this place is done, with this outcome
-pub record Finished (w : World) (i : ℕ) (own : InitSetup) (outcome : Outcome) : Type 0 where
+pub record Finished (w : World) (i : ℕ) (own : PlainSetup) (outcome : Outcome) : Type 0 where
   pub there : slice_get w.facts i ≡ Some own
-  pub stage : Stage
+  pub stage : StageSays
   pub stands : slice_get w.stages i ≡ Some stage
   pub finished : outcome_in stage ≡ Some outcome
 
@@ -45,7 +45,7 @@ pub record UnforgedList (marking : Marking) (last old : World) (deed : Deed) (ne
   where
     -- what was found as the MIC over a list, under the key of a context that is built on a guarded
     -- key, wasn't made for a call
-    pub uncalled : (i : ℕ) (own : InitSetup) (s : SessionState) (procedure : ℕ) (args : List ℕ)
+    pub uncalled : (i : ℕ) (own : PlainSetup) (s : SessionState) (procedure : ℕ) (args : List ℕ)
         (outcome : Outcome) (list : List (List ℕ)) (mic : List ℕ)
         → Completed old i own s.outcome → BuiltKey marking old.fixed outcome.key
         → AmongMakings deed.found (mic_found outcome Acceptor list mic)
@@ -53,7 +53,7 @@ pub record UnforgedList (marking : Marking) (last old : World) (deed : Deed) (ne
         (mic_found outcome Acceptor list mic) → ⊥
     -- an initiator whose mechanism is done with the key of a context that is built on a guarded key
     -- is on a guarded key, also before it completes
-    pub untold : (i : ℕ) (own : InitSetup) (outcome : Outcome) → Finished new i own outcome
+    pub untold : (i : ℕ) (own : PlainSetup) (outcome : Outcome) → Finished new i own outcome
         → BuiltKey marking last.fixed outcome.key → OnGuarded marking own outcome.mech
 
 -- the keys of two contexts on proofs differ, where one of them is on a marked user's line

@@ -1,3 +1,4 @@
+pub mod Stages
 pub mod State
 pub mod Deeds
 pub mod Initiators

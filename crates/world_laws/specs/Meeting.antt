@@ -12,9 +12,9 @@ use Rattle.replay_cache.specs.declared.cache.CacheVerdict.TheVariants.{Taken}
 use Rattle.scram_mech.specs.declared.verifiers.Verifier.{Verifier}
 use Rattle.scram_mech.specs.Secrets.{stored_key}
 use Rattle.spnego_core.specs.declared.outcome.Outcome.{Outcome}
-use Rattle.spnego_core.specs.declared.setup.InitSetup.{InitSetup}
 use Rattle.spnego_core.specs.declared.setup.MechCred.{MechCred}
 use Rattle.spnego_core.specs.declared.setup.MechCred.TheVariants as creds
+use Rattle.spnego_core.specs.Ends.{PlainSetup}
 use Rattle.spnego_core.specs.Exchange.{Occasion, HonestPair}
 use Rattle.context_table.specs.Places.{live_of}
 use Rattle.accept_core.specs.declared.entry.Entry.TheVariants.{Call}
@@ -23,7 +23,7 @@ use Rattle.accept_core.specs.History.{Whole, standing, numbers, entry_at, taken_
 use Rattle.accept_book.specs.RecordShown.{handle_of}
 use Rattle.rpcsec_bodies.specs.declared.service.Service.TheVariants.{Integrity}
 use Rattle.gss_client.specs.Talk.{begun}
-use Rattle.world_laws.specs.declared.stage.Stage.TheVariants as stages
+use Rattle.world_laws.specs.Stages as stages
 use Rattle.world_laws.specs.Events.{Run, Begins}
 use Rattle.world_laws.specs.Premises.{Marking, Listed, GuardedBasis, OnGuarded, WasSettled}
 use Rattle.world_laws.specs.Premises.{NoForgery, Fresh, Completed as CompletedWith}
@@ -44,7 +44,7 @@ occasions_at now draws = map (λ octets. record { now = now; drawn = take 66 oct
 
 -- what the acceptor has for a credential beside the facts that fit: for a request by Kerberos, a
 -- place for its mark, which isn't stale; of a user of SCRAM, no line by another password
-abbrev pub ReadyFor : BookOf → InitSetup → ℕ → MechCred → Type 0
+abbrev pub ReadyFor : BookOf → PlainSetup → ℕ → MechCred → Type 0
 ReadyFor book own now (creds.Kerberos credential) = (part : EncTicketPart)
     → cache_verdict book.core.cache.capacity (max book.core.cache.greatest now)
     (taken_of book.core.history)
@@ -56,9 +56,9 @@ ReadyFor book own now (creds.Scram user password) = (line : Verifier)
 -- what it begins with: one initiator, which makes an honest pair with the acceptor by the mechanism
 -- that this chooses, with draws for each token; and there is room: a lane, a place in the book's
 -- table, and in its log four places for one token, and two for each further one
-pub record Meeting (book : BookOf) (initiators : List InitSetup) (lanes now : ℕ)
+pub record Meeting (book : BookOf) (initiators : List PlainSetup) (lanes now : ℕ)
     (draws : List (List ℕ)) : Type 0 where
-  pub own : InitSetup
+  pub own : PlainSetup
   pub one : initiators ≡ own ∷ []
   pub kind : MechKind
   pub pair : HonestPair book.setup own kind (occasions_at now draws)
@@ -78,7 +78,7 @@ pub record IsMet (shown : Shown) : Type 0 where
   pub shows : Shows now shown
   pub unforged : NoForgery marking start shown.events now run
   pub fresh : Fresh marking now
-  pub own : InitSetup
+  pub own : PlainSetup
   pub outcome : Outcome
   pub completed : CompletedWith now 0 own outcome
   pub guarded : OnGuarded marking own outcome.mech
@@ -91,7 +91,7 @@ pub record IsMet (shown : Shown) : Type 0 where
 -- how a world of one initiator stands after an exchange: nothing is in hand, and the initiator's
 -- session stands, whose first call has number 1, on the one context that was fixed, the book's
 -- first; the log has it complete and no call of it, and has a place
-pub record Rests (w : World) (own : InitSetup) (outcome : Outcome) (context : Context) : Type 0
+pub record Rests (w : World) (own : PlainSetup) (outcome : Outcome) (context : Context) : Type 0
   where
     pub facts : w.facts ≡ own ∷ []
     pub xid : ℕ

@@ -3,7 +3,7 @@
 use Rattle.std.specs.Prelude.{◌≡◌, ℕ, List, slice_get, Some}
 use Rattle.gss_base.specs.declared.mech.MechKind.{MechKind}
 use Rattle.spnego_core.specs.declared.outcome.Outcome.{Outcome}
-use Rattle.spnego_core.specs.declared.setup.InitSetup.{InitSetup}
+use Rattle.spnego_core.specs.Ends.{PlainSetup}
 use Rattle.world_laws.specs.declared.event.WorldEvent.{WorldEvent}
 use Rattle.world_laws.specs.State.{Context, World}
 use Rattle.world_laws.specs.Events.{Run, Begins}
@@ -12,7 +12,7 @@ use Rattle.world_laws.specs.Agreement.{Partner, HasPartner, HasInitiator}
 
 -- who completed by this mechanism on a guarded key has a partner of this mechanism, and no second
 -- one
-pub record HasOneBy (marking : Marking) (w : World) (own : InitSetup) (outcome : Outcome) : Type 0
+pub record HasOneBy (marking : Marking) (w : World) (own : PlainSetup) (outcome : Outcome) : Type 0
   where
     pub has : HasPartner w own outcome
     pub only : (other : ℕ) (x : Context) → slice_get w.fixed other ≡ Some x
@@ -20,7 +20,7 @@ pub record HasOneBy (marking : Marking) (w : World) (own : InitSetup) (outcome :
 
 -- agreement by one mechanism alone
 pub record AgreementBy (kind : MechKind) (marking : Marking) (w : World) : Type 0 where
-  pub initiators : (i : ℕ) (own : InitSetup) (outcome : Outcome) → Completed w i own outcome
+  pub initiators : (i : ℕ) (own : PlainSetup) (outcome : Outcome) → Completed w i own outcome
       → outcome.mech ≡ kind → OnGuarded marking own kind → HasOneBy marking w own outcome
   pub contexts : (place : ℕ) (x : Context) → slice_get w.fixed place ≡ Some x
       → x.fixed.outcome.mech ≡ kind → GuardedBasis marking x.fixed.basis → HasInitiator w x

@@ -9,7 +9,7 @@ use Rattle.accept_core.specs.declared.entry.Entry.TheVariants.{Call, Ended}
 use Rattle.accept_core.specs.History.{entry_at}
 use Rattle.world_laws.specs.declared.event.WorldEvent.{WorldEvent}
 use Rattle.world_laws.specs.declared.event.WorldEvent.TheVariants.{CallBy}
-use Rattle.world_laws.specs.declared.stage.Stage.TheVariants.{Stands}
+use Rattle.world_laws.specs.Stages.{Stands}
 use Rattle.world_laws.specs.Deeds.{Deed}
 use Rattle.world_laws.specs.State.{Context, World}
 use Rattle.world_laws.specs.Events.{Run, Begins}

@@ -6,8 +6,8 @@ use Rattle.accept_book.specs.Booking.{BookOf}
 use Rattle.gss_client.specs.Session.{SessionState}
 use Rattle.world_laws.specs.declared.event.Happened.{Happened}
 use Rattle.world_laws.specs.declared.event.Happened.TheVariants.{Nothing}
-use Rattle.world_laws.specs.declared.stage.Stage.{Stage}
-use Rattle.world_laws.specs.declared.stage.Stage.TheVariants as stages
+use Rattle.world_laws.specs.Stages.{StageSays}
+use Rattle.world_laws.specs.Stages as stages
 use Rattle.world_laws.specs.State.{InHand}
 use Rattle.world_laws.specs.Events.{IsBook}
 use Rattle.world_laws.specs.Initiators.{Moved, starts, takes, calls}
@@ -16,7 +16,7 @@ use Rattle.world_laws.specs.Turning.{Turned}
 -- ---- the move of an initiator by its stage, where the event is for it
 
 -- a start, which is for one that wasn't started
-abbrev pub started_from : Stage → Option Moved
+abbrev pub started_from : StageSays → Option Moved
 started_from (stages.Ready own) = Some (starts own)
 started_from (stages.Asks xid end) = None
 started_from (stages.Stands s) = None
@@ -25,7 +25,7 @@ started_from stages.Over = None
 
 -- a reply, which is for one that has a creation call out, and the number of its session's first
 -- call
-abbrev pub taken_from : ℕ → List ℕ → Stage → Option Moved
+abbrev pub taken_from : ℕ → List ℕ → StageSays → Option Moved
 taken_from first octets (stages.Ready own) = None
 taken_from first octets (stages.Asks xid end) = Some (takes first xid end octets)
 taken_from first octets (stages.Stands s) = None
@@ -38,7 +38,7 @@ called_with true s procedure args = Some (calls s procedure args)
 called_with false s procedure args = None
 
 -- a call, which is for one whose context stands
-abbrev pub called_from : ℕ → List ℕ → Stage → Option Moved
+abbrev pub called_from : ℕ → List ℕ → StageSays → Option Moved
 called_from procedure args (stages.Ready own) = None
 called_from procedure args (stages.Asks xid end) = None
 called_from procedure args (stages.Stands s) =
@@ -47,23 +47,23 @@ called_from procedure args (stages.Left s) = None
 called_from procedure args stages.Over = None
 
 -- it moves so, or memory was wanted; without a move nothing happens
-abbrev pub TurnsTo : Option Moved → Option Happened → Stage → Stage → Type 0
+abbrev pub TurnsTo : Option Moved → Option Happened → StageSays → StageSays → Type 0
 TurnsTo None answer old new = (answer ≡ Some Nothing) × (new ≡ old)
 TurnsTo (Some moved) answer old new =
     ((answer ≡ Some moved.answer) × (new ≡ moved.stage)) ⊎ ((answer ≡ None) × (new ≡ moved.lost))
 
 -- the same of a call of a session that stands, by whether a number is left for it
-abbrev pub CallsTo : Bool → SessionState → ℕ → List ℕ → Stage → Option Happened → Type 0
+abbrev pub CallsTo : Bool → SessionState → ℕ → List ℕ → StageSays → Option Happened → Type 0
 CallsTo left s procedure args new answer =
     TurnsTo (called_with left s procedure args) answer (stages.Stands s) new
 
 -- the initiator of a place, where there is one
-abbrev pub of_stage : (Stage → Option Moved) → Option Stage → Option Moved
+abbrev pub of_stage : (StageSays → Option Moved) → Option StageSays → Option Moved
 of_stage move None = None
 of_stage move (Some stage) = move stage
 
 -- the initiator of this place moves so, or memory was wanted; without a move nothing happens
-abbrev pub Turns : Option Moved → ℕ → Option Happened → List Stage → List Stage → Type 0
+abbrev pub Turns : Option Moved → ℕ → Option Happened → List StageSays → List StageSays → Type 0
 Turns None i answer old new = (answer ≡ Some Nothing) × (new ≡ old)
 Turns (Some moved) i answer old new =
     ((answer ≡ Some moved.answer) × (new ≡ slice_set old i moved.stage))

@@ -23,8 +23,8 @@ use Rattle.scram_mech.specs.MechMaking.{proof_making}
 use Rattle.scram_mech.specs.Secrets.{stored_key, server_key, proof_of}
 use Rattle.scram_mech.specs.ThirdText.{Third, third_of}
 use Rattle.spnego_core.specs.declared.outcome.Outcome.{Outcome}
-use Rattle.spnego_core.specs.declared.setup.InitSetup.{InitSetup}
 use Rattle.spnego_core.specs.declared.setup.MechCred.TheVariants as creds
+use Rattle.spnego_core.specs.Ends.{PlainSetup}
 use Rattle.spnego_core.specs.AcceptMech.{Basis, ByRequest, ByProof}
 use Rattle.spnego_core.specs.InitMech.{cred_for}
 use Rattle.spnego_core.specs.Outcome.{token_end}
@@ -33,8 +33,8 @@ use Rattle.accept_core.specs.declared.entry.Entry.TheVariants.{Settled}
 use Rattle.accept_core.specs.History.{entry_at}
 use Rattle.gss_client.specs.Session.{SessionState}
 use Rattle.world_laws.specs.declared.event.WorldEvent.{WorldEvent}
-use Rattle.world_laws.specs.declared.stage.Stage.{Stage}
-use Rattle.world_laws.specs.declared.stage.Stage.TheVariants as stages
+use Rattle.world_laws.specs.Stages.{StageSays}
+use Rattle.world_laws.specs.Stages as stages
 use Rattle.world_laws.specs.Deeds.{Opened, Deed}
 use Rattle.world_laws.specs.State.{Context, World}
 use Rattle.world_laws.specs.Events.{Run}
@@ -115,19 +115,19 @@ Guarded marking fixed (OfPassword key) = GuardedSecret marking key
 
 -- its credential of a mechanism has the session key of a marked ticket, or is a marked user's name
 -- and password
-pub record OnTicket (marking : Marking) (own : InitSetup) : Type 0 where
+pub record OnTicket (marking : Marking) (own : PlainSetup) : Type 0 where
   pub credential : Granted
   pub is_own : cred_for own.list kinds.Kerberos ≡ Some (creds.Kerberos credential)
   pub guarded : GuardedSession marking credential.session
 
 -- the same by SCRAM: its credential is a marked user's name and password
-pub record OnAccount (marking : Marking) (own : InitSetup) : Type 0 where
+pub record OnAccount (marking : Marking) (own : PlainSetup) : Type 0 where
   pub account : Account
   pub marked : Listed marking.accounts account
   pub is_own : cred_for own.list kinds.Scram ≡ Some (creds.Scram account.user account.password)
 
 -- the same by the mechanism: what the initiator has for it is guarded
-abbrev pub OnGuarded : Marking → InitSetup → MechKind → Type 0
+abbrev pub OnGuarded : Marking → PlainSetup → MechKind → Type 0
 OnGuarded marking own kinds.Kerberos = OnTicket marking own
 OnGuarded marking own kinds.Scram = OnAccount marking own
 
@@ -200,17 +200,17 @@ pub record OnProof (context : Context) (end : AcceptModel) (auth : List ℕ) : T
   pub has_auth : HasAuth end text auth
 
 -- the initiator of this place has a Kerberos credential, or SCRAM's
-pub record HasTicket (w : World) (i : ℕ) (own : InitSetup) (credential : Granted) : Type 0 where
+pub record HasTicket (w : World) (i : ℕ) (own : PlainSetup) (credential : Granted) : Type 0 where
   pub there : slice_get w.facts i ≡ Some own
   pub is_own : cred_for own.list kinds.Kerberos ≡ Some (creds.Kerberos credential)
 
 -- the same of SCRAM: it has this user and password
-pub record HasAccount (w : World) (i : ℕ) (own : InitSetup) (user password : List ℕ) : Type 0 where
+pub record HasAccount (w : World) (i : ℕ) (own : PlainSetup) (user password : List ℕ) : Type 0 where
   pub there : slice_get w.facts i ≡ Some own
   pub is_own : cred_for own.list kinds.Scram ≡ Some (creds.Scram user password)
 
 -- the outcome of an initiator that completed, which stays after it ended
-abbrev pub session_in : Stage → Option SessionState
+abbrev pub session_in : StageSays → Option SessionState
 session_in (stages.Ready own) = None
 session_in (stages.Asks xid end) = None
 session_in (stages.Stands s) = Some s
@@ -218,9 +218,9 @@ session_in (stages.Left s) = Some s
 session_in stages.Over = None
 
 -- the initiator of this place completed with this outcome; it may have ended since
-pub record Completed (w : World) (i : ℕ) (own : InitSetup) (outcome : Outcome) : Type 0 where
+pub record Completed (w : World) (i : ℕ) (own : PlainSetup) (outcome : Outcome) : Type 0 where
   pub there : slice_get w.facts i ≡ Some own
-  pub stage : Stage
+  pub stage : StageSays
   pub stands : slice_get w.stages i ≡ Some stage
   pub session : SessionState
   pub in_session : session_in stage ≡ Some session
@@ -228,7 +228,7 @@ pub record Completed (w : World) (i : ℕ) (own : InitSetup) (outcome : Outcome)
 
 -- the initiator handed out a proof over this AuthMessage, which has its name, its nonce and its
 -- binding data
-pub record Proved (w : World) (own : InitSetup) (auth : List ℕ) : Type 0 where
+pub record Proved (w : World) (own : PlainSetup) (auth : List ℕ) : Type 0 where
   pub user : List ℕ
   pub password : List ℕ
   pub is_own : cred_for own.list kinds.Scram ≡ Some (creds.Scram user password)
@@ -245,7 +245,7 @@ pub record Proved (w : World) (own : InitSetup) (auth : List ℕ) : Type 0 where
 -- AuthMessage
 pub record AtInitiator (w : World) (key : Key) (auth : List ℕ) : Type 0 where
   pub i : ℕ
-  pub own : InitSetup
+  pub own : PlainSetup
   pub outcome : Outcome
   pub completed : Completed w i own outcome
   pub by_proof : outcome.mech ≡ kinds.Scram
@@ -256,7 +256,7 @@ pub record AtInitiator (w : World) (key : Key) (auth : List ℕ) : Type 0 where
 -- to be; and no subkey is told to others
 pub record Fresh (marking : Marking) (w : World) : Type 0 where
   -- a credential with an issued ticket's session key names the ticket's client and server
-  pub credential : (i : ℕ) (own : InitSetup) (credential : Granted) (t : Ticket)
+  pub credential : (i : ℕ) (own : PlainSetup) (credential : Granted) (t : Ticket)
       → HasTicket w i own credential → Listed marking.tickets t → t.session ≡ credential.session
       → (t.client ≡ credential.client) × (t.server ≡ credential.server)
   -- and a ticket under a key of the acceptor's own name names the acceptor
@@ -264,14 +264,14 @@ pub record Fresh (marking : Marking) (w : World) : Type 0 where
       → found w.book.setup.keytab w.book.setup.own number etype ≡ Some t.service
       → t.server ≡ w.book.setup.own
   -- two initiators with one session key have different stamps
-  pub stamps : (i j : ℕ) (own other : InitSetup) (c d : Granted) → HasTicket w i own c
+  pub stamps : (i j : ℕ) (own other : PlainSetup) (c d : Granted) → HasTicket w i own c
       → HasTicket w j other d → c.session ≡ d.session → own.stamp ≡ other.stamp → i ≡ j
   -- no two subkeys are equal, of contexts on requests
   pub subkeys : (i j : ℕ) (x y : Context) (a b : Judged)
       → slice_get w.fixed i ≡ Some x → slice_get w.fixed j ≡ Some y → OnRequest x a → OnRequest y b
       → x.fixed.outcome.key ≡ y.fixed.outcome.key → i ≡ j
   -- no two nonces of SCRAM are equal, of initiators and of acceptors
-  pub nonces : (i j : ℕ) (own other : InitSetup) (a p b q : List ℕ) → HasAccount w i own a p
+  pub nonces : (i j : ℕ) (own other : PlainSetup) (a p b q : List ℕ) → HasAccount w i own a p
       → HasAccount w j other b q → drawn_nonce own.draws ≡ drawn_nonce other.draws → i ≡ j
   pub own_nonces : (i j : ℕ) (x y : Context) (end next : AcceptModel) (auth last : List ℕ)
       → slice_get w.fixed i ≡ Some x → slice_get w.fixed j ≡ Some y
@@ -296,6 +296,6 @@ pub record Fresh (marking : Marking) (w : World) : Type 0 where
       → AtInitiator w x.fixed.outcome.key last → ⊥
   -- who completed by Kerberos on the key of a context that is built on a guarded key has a guarded
   -- session key
-  pub untold : (i : ℕ) (own : InitSetup) (c : Granted) (outcome : Outcome) → HasTicket w i own c
+  pub untold : (i : ℕ) (own : PlainSetup) (c : Granted) (outcome : Outcome) → HasTicket w i own c
       → Completed w i own outcome → outcome.mech ≡ kinds.Kerberos
       → BuiltKey marking w.fixed outcome.key → GuardedSession marking c.session

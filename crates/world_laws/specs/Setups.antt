@@ -7,9 +7,9 @@ use Rattle.ap_exchange.specs.Request.{authenticator_of}
 use Rattle.scram_mech.specs.declared.verifiers.Verifier.{Verifier}
 use Rattle.scram_mech.specs.Grammar.{AreOctets}
 use Rattle.scram_mech.specs.VerifierFile.{IsLine}
-use Rattle.spnego_core.specs.declared.setup.InitSetup.{InitSetup}
 use Rattle.spnego_core.specs.declared.setup.MechCred.{MechCred}
 use Rattle.spnego_core.specs.declared.setup.MechCred.TheVariants as creds
+use Rattle.spnego_core.specs.Ends.{PlainSetup}
 use Rattle.spnego_core.specs.InitMech.{cred_for}
 use Rattle.world_laws.specs.State.{World}
 
@@ -20,7 +20,7 @@ IsSpelled (creds.Kerberos credential) stamp draws bindings =
 IsSpelled (creds.Scram user password) stamp draws bindings = Unit {0}
 
 -- an initiator's setup: octets that may be drawn, bindings that may be, a request with a spelling
-pub record IsSetup (own : InitSetup) : Type 0 where
+pub record IsSetup (own : PlainSetup) : Type 0 where
   pub draws : AreOctets 66 66 own.draws
   pub bound : (application : List ℕ) → own.bindings ≡ Some application
       → AreOctets 1 32768 application
@@ -31,6 +31,6 @@ pub record IsSetup (own : InitSetup) : Type 0 where
 
 -- each initiator has such a setup, and each user's line of the acceptor is of its grammar
 pub record Proper (w : World) : Type 0 where
-  pub setups : (i : ℕ) (own : InitSetup) → slice_get w.facts i ≡ Some own → IsSetup own
+  pub setups : (i : ℕ) (own : PlainSetup) → slice_get w.facts i ≡ Some own → IsSetup own
   pub lines : (place : ℕ) (line : Verifier) → slice_get w.book.setup.verifiers place ≡ Some line
       → IsLine line

@@ -1,18 +1,18 @@
 -- What a world shows of itself, and that it came of a run.
 -- It isn't needed to read the headline.
 use Rattle.std.specs.Prelude.{◌≡◌, List, [], ◌∷◌, ◌++◌, Option, Some}
-use Rattle.spnego_core.specs.declared.setup.InitSetup.{InitSetup}
+use Rattle.spnego_core.specs.Ends.{PlainSetup}
 use Rattle.accept_book.specs.Booking.{BookOf}
 use Rattle.world_laws.specs.declared.event.Happened.{Happened}
 use Rattle.world_laws.specs.declared.event.WorldEvent.{WorldEvent}
 use Rattle.world_laws.specs.declared.facts.InitFacts.{InitFacts}
-use Rattle.world_laws.specs.declared.stage.Stage.{Stage}
+use Rattle.world_laws.specs.Stages.{StageSays}
 use Rattle.world_laws.specs.Deeds.{Deed}
 use Rattle.world_laws.specs.Events.{Happens, Run, Begins}
 use Rattle.world_laws.specs.State.{InHand, World}
 
 -- what an initiator with these facts is begun with
-abbrev pub setup_of : InitFacts → InitSetup
+abbrev pub setup_of : InitFacts → PlainSetup
 setup_of facts = record {
   list = facts.list;
   bindings = facts.bindings;
@@ -24,8 +24,8 @@ setup_of facts = record {
 -- all but what was fixed and what was handed out, which no program knows; and the events so far,
 -- the first one first
 pub record Shown : Type 0 where
-  pub facts : List InitSetup
-  pub stages : List Stage
+  pub facts : List PlainSetup
+  pub stages : List StageSays
   pub book : Option BookOf
   pub lanes : List (Option InHand)
   pub events : List WorldEvent

@@ -1,11 +1,14 @@
 //! What initiators do: they start, take replies to their creation calls, and call. Each is judged as `gss_client` judges in a session over a link.
 
 ghost use Rattle.std.specs.Prelude.{◌≡◌, ◌≤◌, true, length};
+ghost use Rattle.spnego_core.specs.Ends.{setup_says, end_says};
 ghost use Rattle.spnego_core.specs.InitMech.{is_own_list};
 ghost use Rattle.gss_client.specs.Calling.{creation_call};
+ghost use Rattle.gss_client.specs.Creation.{offer_says};
 ghost use Rattle.gss_client.specs.Exchanging.{FitsOffer};
 ghost use Rattle.world_laws.specs.Initiators.{starts, takes, calls};
-ghost use Rattle.world_laws.specs.Moving.{Goes, IsLost, IsMove};
+ghost use Rattle.world_laws.specs.Stages as stages;
+ghost use Rattle.world_laws.specs.Moving.{Goes, IsLost, IsMove, moves_says};
 
 use crate::event::Happened;
 use crate::stage::Stage;
@@ -33,7 +36,7 @@ pub(crate) struct Moves {
 
 /// It refused, and has ended.
 fn refused() -> Moves
-    ensures { Goes Stage.Over Happened.Refused Stage.Over result }
+    ensures { Goes stages.Over Happened.Refused stages.Over (moves_says result) }
 {
     Moves {
         stage: Stage::Over,
@@ -43,7 +46,7 @@ fn refused() -> Moves
 
 /// Memory was wanted, and it has ended before its context stood.
 fn lost() -> Moves
-    ensures { IsLost result }
+    ensures { IsLost (moves_says result) }
 {
     Moves {
         stage: Stage::Over,
@@ -53,9 +56,10 @@ fn lost() -> Moves
 
 /// It hands out the creation call of this transaction number, whose reply is due.
 fn ask(alloc: Global, xid: u32, proc: u32, offer: Offer) -> Moves
-    requires { FitsOffer offer }
-    ensures { Goes (Stage.Asks xid offer.end) (Happened.Sent
-        (creation_call Service.Integrity xid proc offer.handle offer.token)) Stage.Over result }
+    requires { FitsOffer (offer_says offer) }
+    ensures { Goes (stages.Asks xid (end_says offer.end)) (Happened.Sent
+        (creation_call Service.Integrity xid proc offer.handle offer.token)) stages.Over
+        (moves_says result) }
 {
     let Offer { end, handle, token } = offer;
     match creation_call(
@@ -76,7 +80,8 @@ fn ask(alloc: Global, xid: u32, proc: u32, offer: Offer) -> Moves
 
 /// Its context stands.
 fn stand(session: Session) -> Moves
-    ensures { Goes (Stage.Stands session) (Happened.Completed session.outcome) Stage.Over result }
+    ensures { Goes (stages.Stands session) (Happened.Completed session.outcome) stages.Over
+        (moves_says result) }
 {
     let outcome = *session.outcome();
     Moves {
@@ -88,7 +93,7 @@ fn stand(session: Session) -> Moves
 /// An initiator that wasn't started hands out its first creation call.
 pub(crate) fn start(alloc: Global, own: InitSetup) -> Moves
     requires { is_own_list own.list ≡ true }
-    ensures { IsMove (starts own) result }
+    ensures { IsMove (starts (setup_says own)) (moves_says result) }
 {
     match InitEnd::start(alloc, own) {
         Ok((end, token)) => {
@@ -104,7 +109,7 @@ pub(crate) fn start(alloc: Global, own: InitSetup) -> Moves
 /// number `first`.
 pub(crate) fn take(alloc: Global, first: u32, xid: u32, end: InitEnd, bytes: &[u8]) -> Moves
     requires { first ≤ 0x80000000 }
-    ensures { IsMove (takes first xid end bytes.now) result }
+    ensures { IsMove (takes first xid (end_says end) bytes.now) (moves_says result) }
 {
     match creation_step(alloc, end, xid, bytes) {
         Ok(Created::Going(offer)) => ask(alloc, xid_after(xid), CONTINUE_INIT, offer),
@@ -121,7 +126,7 @@ pub(crate) fn take(alloc: Global, first: u32, xid: u32, end: InitEnd, bytes: &[u
 pub(crate) fn call(alloc: Global, session: Session, procedure: u32, args: &[u8]) -> Moves
     requires number { session.number ≤ 0x7fffffff }
     requires args { length args.now ≤ 65540 }
-    ensures { IsMove (calls session procedure args.now) result }
+    ensures { IsMove (calls session procedure args.now) (moves_says result) }
 {
     match session.write_call(alloc, procedure, args, &[0; 16]) {
         Ok(record) => Moves {

@@ -1,9 +1,9 @@
 //! What the types of a setup's parts say, as contracts over lists of setups need it.
 
-ghost use Rattle.std.specs.Prelude.{◌≡◌, ℕ, IfOk, slice_get, Option, Some, option_map, List};
+ghost use Rattle.std.specs.Prelude.{◌≡◌, ℕ, IfOk, map, slice_get, Option, Some, option_map, List};
 ghost use Rattle.base64.specs.GeneralPurpose.{IsBytes};
 ghost use Rattle.scram_mech.specs.Grammar.{AreOctets};
-ghost use Rattle.spnego_core.specs.declared.setup.InitSetup.{InitSetup as InitSetupIs};
+ghost use Rattle.spnego_core.specs.Ends.{PlainSetup, setup_says};
 ghost use Rattle.spnego_core.specs.declared.setup.MechCred.{MechCred as MechCredIs};
 ghost use Rattle.world_laws.specs.Setups.{IsSetup, IsSpelled};
 
@@ -76,7 +76,7 @@ fn tell_bindings(bindings: Option<&Bindings>)
 
 /// Does nothing that stays: the setup is one that its types allow.
 fn tell_setup(alloc: Global, own: &InitSetup) -> Result<(), NoMemory>
-    ensures { IfOk result (λ _. IsSetup own.now) }
+    ensures { IfOk result (λ _. IsSetup (setup_says own.now)) }
 {
     tell_draws(&own.draws);
     tell_bindings(own.bindings.as_ref());
@@ -86,7 +86,8 @@ fn tell_setup(alloc: Global, own: &InitSetup) -> Result<(), NoMemory>
 /// Does nothing that stays: each setup is one that its types allow.
 pub(crate) fn tell_setups(alloc: Global, setups: &[InitSetup]) -> Result<(), NoMemory>
     ensures { IfOk result
-        (λ _. (i : ℕ) (own : InitSetupIs) → slice_get setups.now i ≡ Some own → IsSetup own) }
+        (λ _. (i : ℕ) (own : PlainSetup) → slice_get (map setup_says setups.now) i ≡ Some own
+        → IsSetup own) }
 {
     for own in setups {
         tell_setup(alloc, own)?;

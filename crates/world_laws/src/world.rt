@@ -3,9 +3,10 @@
 ghost use Rattle.std.specs.Prelude.{◌≡◌, ◌⊎◌, ◌≤◌, ℕ, [], ◌++◌, ◌∷◌, true, map, length, nat_le};
 ghost use Rattle.std.specs.Prelude.{replicate, slice_get, Option, Some, None, IsSome, IfOk, IsErr};
 ghost use Rattle.std.specs.Prelude.{Ok};
-ghost use Rattle.spnego_core.specs.declared.setup.InitSetup.{InitSetup as InitSetupIs};
+ghost use Rattle.spnego_core.specs.Ends.{PlainSetup, setup_says};
 ghost use Rattle.spnego_core.specs.InitMech.{is_own_list};
 ghost use Rattle.accept_book.specs.Booking.{BookOf};
+ghost use Rattle.world_laws.specs.Stages.{Ready, stage_says};
 ghost use Rattle.world_laws.specs.Events.{IsBook, IsProper};
 ghost use Rattle.world_laws.specs.Carrying.{RulesCalls};
 ghost use Rattle.world_laws.specs.Passing.{started_from, taken_from, called_from, of_stage};
@@ -63,12 +64,13 @@ struct Parts {
 impl Model for World {
     ghost use Rattle.std.specs.Prelude.{map};
     ghost use Rattle.world_laws.specs.Showing.{Shown, setup_of, Ran};
+    ghost use Rattle.world_laws.specs.Stages.{stage_says};
 
     ghost Value = { Shown };
 
     ghost view = { λ w. record {
       facts = map setup_of w.facts.items;
-      stages = w.parts.stages.items;
+      stages = map stage_says w.parts.stages.items;
       book = w.parts.book;
       lanes = w.parts.lanes.items;
       events = w.events.items;
@@ -77,7 +79,7 @@ impl Model for World {
     ghost invariant = { λ w.
         ∥ Ran (record {
           facts = map setup_of w.facts.items;
-          stages = w.parts.stages.items;
+          stages = map stage_says w.parts.stages.items;
           book =
               w.parts.book;
           lanes = w.parts.lanes.items;
@@ -87,8 +89,9 @@ impl Model for World {
 
 /// An initiator starts, if it wasn't started.
 fn start_from(alloc: Global, stage: Stage) -> Moves
-    requires { (own : InitSetupIs) → stage ≡ Stage.Ready own → is_own_list own.list ≡ true }
-    ensures { TurnsTo (started_from stage) (happened_of result.happened) stage result.stage }
+    requires { (own : PlainSetup) → stage_says stage ≡ Ready own → is_own_list own.list ≡ true }
+    ensures { TurnsTo (started_from (stage_says stage)) (happened_of result.happened)
+        (stage_says stage) (stage_says result.stage) }
 {
     match stage {
         Stage::Ready(own) => initiators::start(alloc, own),
@@ -110,8 +113,8 @@ fn stays(stage: Stage) -> Moves
 /// An initiator takes a reply, if a creation call of its own is out.
 fn deliver_from(alloc: Global, stage: Stage, bytes: &[u8], first: u32) -> Moves
     requires { first ≤ 0x80000000 }
-    ensures { TurnsTo (taken_from first bytes.now stage) (happened_of result.happened) stage
-        result.stage }
+    ensures { TurnsTo (taken_from first bytes.now (stage_says stage)) (happened_of result.happened)
+        (stage_says stage) (stage_says result.stage) }
 {
     match stage {
         Stage::Asks { xid, end } => initiators::take(alloc, first, xid, end, bytes),
@@ -122,8 +125,8 @@ fn deliver_from(alloc: Global, stage: Stage, bytes: &[u8], first: u32) -> Moves
 /// The next call of a context, if a number is left.
 fn call_with(alloc: Global, session: Session, procedure: u32, args: &[u8]) -> Moves
     requires { length args.now ≤ 65540 }
-    ensures { CallsTo (nat_le session.number 0x7fffffff) session procedure args.now result.stage
-        (happened_of result.happened) }
+    ensures { CallsTo (nat_le session.number 0x7fffffff) session procedure args.now
+        (stage_says result.stage) (happened_of result.happened) }
 {
     if session.next_number() > 0x7fffffff {
         return stays(Stage::Stands(session));
@@ -134,8 +137,8 @@ fn call_with(alloc: Global, session: Session, procedure: u32, args: &[u8]) -> Mo
 /// An initiator calls, if its context stands and a number is left.
 fn call_from(alloc: Global, stage: Stage, procedure: u32, args: &[u8]) -> Moves
     requires { length args.now ≤ 65540 }
-    ensures { TurnsTo (called_from procedure args.now stage) (happened_of result.happened) stage
-        result.stage }
+    ensures { TurnsTo (called_from procedure args.now (stage_says stage))
+        (happened_of result.happened) (stage_says stage) (stage_says result.stage) }
 {
     match stage {
         Stage::Stands(session) => call_with(alloc, session, procedure, args),
@@ -144,12 +147,13 @@ fn call_from(alloc: Global, stage: Stage, procedure: u32, args: &[u8]) -> Moves
 }
 
 /// The initiator of this place starts.
-#[tactic(auto, using(crate::proofs::Turns::turned, crate::proofs::Turns::unturned))]
+#[tactic(auto, using(crate::proofs::Turns::turned_at, crate::proofs::Turns::unturned_at))]
 fn start(alloc: Global, stages: &mut Vec<Stage>, i: usize) -> Result<Happened, NoMemory>
-    requires { (own : InitSetupIs) → slice_get stages.old.items i ≡ Some (Stage.Ready own)
-        → is_own_list own.list ≡ true }
-    ensures { Turns (of_stage started_from (slice_get stages.old.items i)) i (happened_of result)
-        stages.old.items stages.new.items }
+    requires { (own : PlainSetup) → slice_get (map stage_says stages.old.items) i
+        ≡ Some (Ready own) → is_own_list own.list ≡ true }
+    ensures { Turns (of_stage started_from (slice_get (map stage_says stages.old.items) i)) i
+        (happened_of result) (map stage_says stages.old.items)
+        (map stage_says stages.new.items) }
 {
     if i >= stages.len() {
         return Ok(Happened::Nothing);
@@ -161,7 +165,7 @@ fn start(alloc: Global, stages: &mut Vec<Stage>, i: usize) -> Result<Happened, N
 }
 
 /// The initiator of this place takes a reply.
-#[tactic(auto, using(crate::proofs::Turns::turned, crate::proofs::Turns::unturned))]
+#[tactic(auto, using(crate::proofs::Turns::turned_at, crate::proofs::Turns::unturned_at))]
 fn deliver(
     alloc: Global,
     stages: &mut Vec<Stage>,
@@ -170,8 +174,10 @@ fn deliver(
     first: u32,
 ) -> Result<Happened, NoMemory>
     requires { first ≤ 0x80000000 }
-    ensures { Turns (of_stage (taken_from first bytes.now) (slice_get stages.old.items i)) i
-        (happened_of result) stages.old.items stages.new.items }
+    ensures { Turns
+        (of_stage (taken_from first bytes.now) (slice_get (map stage_says stages.old.items) i)) i
+        (happened_of result) (map stage_says stages.old.items)
+        (map stage_says stages.new.items) }
 {
     if i >= stages.len() {
         return Ok(Happened::Nothing);
@@ -183,7 +189,7 @@ fn deliver(
 }
 
 /// The initiator of this place calls.
-#[tactic(auto, using(crate::proofs::Turns::turned, crate::proofs::Turns::unturned))]
+#[tactic(auto, using(crate::proofs::Turns::turned_at, crate::proofs::Turns::unturned_at))]
 fn call_by(
     alloc: Global,
     stages: &mut Vec<Stage>,
@@ -192,8 +198,10 @@ fn call_by(
     args: &[u8],
 ) -> Result<Happened, NoMemory>
     requires { length args.now ≤ 65540 }
-    ensures { Turns (of_stage (called_from procedure args.now) (slice_get stages.old.items i)) i
-        (happened_of result) stages.old.items stages.new.items }
+    ensures { Turns
+        (of_stage (called_from procedure args.now) (slice_get (map stage_says stages.old.items) i))
+        i (happened_of result) (map stage_says stages.old.items)
+        (map stage_says stages.new.items) }
 {
     if i >= stages.len() {
         return Ok(Happened::Nothing);
@@ -246,7 +254,7 @@ fn go_on(
 
 /// Does nothing that stays: what the calls of this session are answered.
 fn tell_ruled(stage: &Stage)
-    ensures { RulesCalls (Some stage.now) }
+    ensures { RulesCalls (Some (stage_says stage.now)) }
 {
     match stage {
         Stage::Stands(session) => {
@@ -268,8 +276,9 @@ fn tell_book(book: &Option<OwnSeat>)
 /// An event happens.
 fn happen(alloc: Global, parts: &mut Parts, event: WorldEvent) -> Result<Happened, NoMemory>
     requires proper { IsProper event }
-    requires lists { (i : ℕ) (own : InitSetupIs) → slice_get parts.old.stages.items i
-        ≡ Some (Stage.Ready own) → is_own_list own.list ≡ true }
+    requires lists { (i : ℕ) (own : PlainSetup)
+        → slice_get (map stage_says parts.old.stages.items) i ≡ Some (Ready own)
+        → is_own_list own.list ≡ true }
     requires there { IsSome parts.old.book }
     ensures { Passes event (happened_of result) (parts_of parts.old) (parts_of parts.new) }
 {
@@ -382,12 +391,14 @@ impl World {
     /// A world before its first event. The book has no entry, and the facts are those of the initiators' setups, in their order.
     pub fn new(alloc: Global, setup: WorldSetup) -> Result<World, NoMemory>
         requires empty { setup.book.core.history ≡ [] }
-        requires facts { map setup_of setup.facts.items ≡ setup.initiators.items }
-        requires lists { (i : ℕ) (own : InitSetupIs) → slice_get setup.initiators.items i ≡ Some own
+        requires facts { map setup_of setup.facts.items ≡ map setup_says setup.initiators.items }
+        requires lists { (i : ℕ) (own : PlainSetup)
+            → slice_get (map setup_says setup.initiators.items) i ≡ Some own
             → is_own_list own.list ≡ true }
-        ensures facts { IfOk result (λ world. world.facts ≡ setup.initiators.items) }
+        ensures facts { IfOk result
+            (λ world. world.facts ≡ map setup_says setup.initiators.items) }
         ensures stages { IfOk result
-            (λ world. world.stages ≡ map Stage.Ready setup.initiators.items) }
+            (λ world. world.stages ≡ map Ready (map setup_says setup.initiators.items)) }
         ensures book { IfOk result (λ world. world.book ≡ Some setup.book) }
         ensures lanes { IfOk result (λ world. world.lanes ≡ replicate setup.lanes None) }
         ensures events { IfOk result (λ world. world.events ≡ []) }

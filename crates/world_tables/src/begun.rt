@@ -3,6 +3,7 @@
 
 ghost use Rattle.std.specs.Prelude.{◌≡◌, ◌∷◌, [], true, IfOk, IfSome};
 ghost use Rattle.spnego_core.specs.InitMech.{is_own_list};
+ghost use Rattle.spnego_core.specs.Ends.{setup_says};
 ghost use Rattle.world_laws.specs.Showing.{setup_of};
 
 use accept_book::{Limits, OwnSeat};
@@ -75,7 +76,7 @@ pub fn begin(
     draw: u8,
 ) -> Result<Begun, NoMemory>
     requires { is_own_list list ≡ true }
-    ensures same { IfOk result (λ begun. setup_of begun.facts ≡ begun.own) }
+    ensures same { IfOk result (λ begun. setup_of begun.facts ≡ setup_says begun.own) }
     ensures own { IfOk result (λ begun. is_own_list begun.own.list ≡ true) }
 {
     let copy = copies(alloc, list.as_slice())?;
@@ -146,9 +147,9 @@ fn both(alloc: Global, first: Begun, second: Begun) -> Result<Pair, NoMemory>
 /// A world of this book, these initiators and two lanes.
 fn world_of(alloc: Global, book: OwnSeat, first: Begun, second: Begun) -> Result<World, NoMemory>
     requires empty { book.core.history ≡ [] }
-    requires first_same { setup_of first.facts ≡ first.own }
+    requires first_same { setup_of first.facts ≡ setup_says first.own }
     requires first_own { is_own_list first.own.list ≡ true }
-    requires second_same { setup_of second.facts ≡ second.own }
+    requires second_same { setup_of second.facts ≡ setup_says second.own }
     requires second_own { is_own_list second.own.list ≡ true }
 {
     match both(alloc, first, second) {
@@ -167,7 +168,7 @@ fn world_of(alloc: Global, book: OwnSeat, first: Begun, second: Begun) -> Result
 
 /// The initiator of another user.
 fn other(alloc: Global, start: Moment) -> Result<Begun, NoMemory>
-    ensures same { IfOk result (λ begun. setup_of begun.facts ≡ begun.own) }
+    ensures same { IfOk result (λ begun. setup_of begun.facts ≡ setup_says begun.own) }
     ensures own { IfOk result (λ begun. is_own_list begun.own.list ≡ true) }
 {
     let login = login(alloc, "other", "q")?;
@@ -183,9 +184,9 @@ fn begun_by(
     second: Begun,
     start: Moment,
 ) -> Result<World, NoMemory>
-    requires first_same { setup_of first.facts ≡ first.own }
+    requires first_same { setup_of first.facts ≡ setup_says first.own }
     requires first_own { is_own_list first.own.list ≡ true }
-    requires second_same { setup_of second.facts ≡ second.own }
+    requires second_same { setup_of second.facts ≡ setup_says second.own }
     requires second_own { is_own_list second.own.list ≡ true }
 {
     match book(alloc, setup, start) {
@@ -201,7 +202,7 @@ fn begun_beside(
     first: Begun,
     start: Moment,
 ) -> Result<World, NoMemory>
-    requires first_same { setup_of first.facts ≡ first.own }
+    requires first_same { setup_of first.facts ≡ setup_says first.own }
     requires first_own { is_own_list first.own.list ≡ true }
 {
     match other(alloc, start) {

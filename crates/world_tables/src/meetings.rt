@@ -2,6 +2,7 @@
 
 ghost use Rattle.std.specs.Prelude.{◌≡◌, ◌∷◌, [], true, IfOk};
 ghost use Rattle.spnego_core.specs.InitMech.{is_own_list};
+ghost use Rattle.spnego_core.specs.Ends.{setup_says};
 ghost use Rattle.world_laws.specs.Showing.{setup_of};
 
 use crate::begun::{Begun, begin, book, list_of};
@@ -67,7 +68,7 @@ fn carry(
     now: Moment,
 ) -> Result<Carried, NoMemory>
     requires empty { book.core.history ≡ [] }
-    requires same { setup_of begun.facts ≡ begun.own }
+    requires same { setup_of begun.facts ≡ setup_says begun.own }
     requires own { is_own_list begun.own.list ≡ true }
 {
     match (alone(alloc, begun.own), alone(alloc, begun.facts)) {

@@ -9,7 +9,7 @@ use Rattle.gss_client.specs.declared.conversation.Parting.{Parting}
 use Rattle.gss_client.specs.declared.conversation.Parting.TheVariants.{Finished, Spent, Foreign, Refused}
 use Rattle.gss_client.specs.declared.refusal.ClientRefusal.{ClientRefusal}
 use Rattle.gss_client.specs.declared.refusal.ClientRefusal.TheVariants.{LinkFault}
-use Rattle.gss_client.specs.declared.start.Start.{Start}
+use Rattle.gss_client.specs.Start.{StartSays}
 use Rattle.gss_server.specs.declared.answer.Kept.{Kept}
 use Rattle.gate_models.specs.Looping.{Loops}
 use Rattle.pair_laws.specs.Conferring.{DueCall}
@@ -17,7 +17,7 @@ use Rattle.pair_laws.specs.Holding.{TalkedOf}
 use Rattle.drill_command.specs.Held.{early_end, Holds}
 use Rattle.drill_command.proofs.sessions.hold_from.Goals as goal
 
-held : (gained : List Asked → Type 0) (width moment : ℕ) (start : Start) (wanted : List DueCall) (kept : List Kept) (starved : Bool) (outcome : Option Outcome) (results : List (List ℕ)) (ended : Option ClientRefusal) (wire : Wire) (parting : Parting) → TalkedOf false [] [] start wanted (record { taken = []; coming = []; written = [] }) wire outcome results parting → ended ≡ early_end parting → Loops gained width moment wire kept starved → Holds gained width moment start wanted kept starved outcome results ended
+held : (gained : List Asked → Type 0) (width moment : ℕ) (start : StartSays) (wanted : List DueCall) (kept : List Kept) (starved : Bool) (outcome : Option Outcome) (results : List (List ℕ)) (ended : Option ClientRefusal) (wire : Wire) (parting : Parting) → TalkedOf false [] [] start wanted (record { taken = []; coming = []; written = [] }) wire outcome results parting → ended ≡ early_end parting → Loops gained width moment wire kept starved → Holds gained width moment start wanted kept starved outcome results ended
 held gained width moment start wanted kept starved outcome results ended wire parting t e l = record { wire = wire; parting = parting; talked = t; ends = e; looped = l }
 
 pub returns-clause-held : goal.returns-clause-held

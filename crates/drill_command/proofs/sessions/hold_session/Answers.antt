@@ -2,6 +2,7 @@ use Rattle.std.proofs.Common.{subst, List}
 use Rattle.std.proofs.Math.Logic.{∥∥₁_elim, ∥∥₁_map}
 use Rattle.std.proofs.Props.{props}
 use Rattle.std.specs.List.{AllByRecursion}
+use Rattle.gss_client.specs.Start.{start_says}
 use Rattle.gss_server.specs.declared.answer.Kept.{Kept}
 use Rattle.drill_command.specs.Paired.{HasOctets}
 use Rattle.drill_command.proofs.Limits.{looped}
@@ -24,5 +25,5 @@ returns-clause-octets c = subst (λ (ks : List Kept). AllByRecursion HasOctets k
 pub returns-clause-rests : goal.returns-clause-rests
 returns-clause-rests c = λ fed client tokens kind count fits.
     let h = c.in_ok-held.held in
-    ∥∥₁_map c.in_ok-held.ensures.held (λ p. session-rests c.args.book h.book c.args.now c.args.start c.args.calls.now h.kept.items h.starved h.session tokens count kind c.requires.first c.prove_created.ensures c.tell_link.ensures
+    ∥∥₁_map c.in_ok-held.ensures.held (λ p. session-rests c.args.book h.book c.args.now (start_says c.args.start) c.args.calls.now h.kept.items h.starved h.session tokens count kind c.requires.first c.prove_created.ensures c.tell_link.ensures
     (subst (λ (ks : List Kept). AllByRecursion HasOctets ks) c.as_slice.ensures.value c.tell_kept.ensures) c.in_ok-held.ensures.fault fed client fits p)

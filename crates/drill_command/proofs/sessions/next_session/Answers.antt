@@ -1,5 +1,5 @@
 use Rattle.std.proofs.Common.{◌≡◌, ℕ, ap, sym, ◌∙◌}
-use Rattle.gss_client.specs.declared.start.Start.{Start}
+use Rattle.gss_client.specs.Start.{StartSays, start_says}
 use Rattle.drill_plan.specs.Generator.{octets_from}
 use Rattle.drill_plan.specs.Setting.{drill_start}
 use Rattle.drill_command.proofs.Rested.{next-of, pairs-of}
@@ -10,10 +10,10 @@ returns-in-Ok-prove_paired-clause-next c = λ fed client.
     let h = c.in_ok-held.held in
     let e = c.in_ok-held.ensures in
     let now = c.moment_of-now.ensures in
-    let start : Start = c.in-Ok.due.1 in
+    let start : StartSays = start_says c.in-Ok.due.1 in
     let draws = octets_from 66 c.args.generators.now.client.value in
     let begun : start ≡ drill_start c.args.number c.moment_of-now.result draws = c.in-Ok.ensures.start ∙ ap (λ (m : ℕ). drill_start c.args.number m draws) (sym now) in
     next-of c.args.number c.args.count _ c.moment_of-now.result _ start c.as_slice.result.now c.args.book h.book h.kept.items h.session
-    c.requires.number c.requires.limits now (ap (λ (x : Start). x.setup.stamp) begun) (ap (λ (x : Start). x.service) begun) begun (c.as_slice.ensures.value ∙ c.in-Ok.ensures.calls)
+    c.requires.number c.requires.limits now (ap (λ (x : StartSays). x.setup.stamp) begun) (ap (λ (x : StartSays). x.service) begun) begun (c.as_slice.ensures.value ∙ c.in-Ok.ensures.calls)
     (pairs-of c.args.number c.moment_of-now.result _ start c.as_slice-2.result.now h.kept.items now begun e.moments e.octets c.as_slice-2.ensures.value c.in-Ok-prove_paired.ensures)
     (e.rests fed client)
