@@ -101,7 +101,7 @@ fn is_mic_owed(talk: &Talk) -> bool
 }
 
 /// Whether all is complete by the reply that finishes the mechanism, with a MIC or without one.
-fn completes_now(state: Option<NegState>, signed: bool) -> bool
+pub fn completes_now(state: Option<NegState>, signed: bool) -> bool
     ensures { result ≡ completes_now state signed }
 {
     match state {
@@ -111,7 +111,7 @@ fn completes_now(state: Option<NegState>, signed: bool) -> bool
 }
 
 /// Whether all is complete by a reply to the own MIC.
-fn completes_later(state: Option<NegState>) -> bool
+pub fn completes_later(state: Option<NegState>) -> bool
     ensures { result ≡ completes_later state }
 {
     match state {

@@ -22,7 +22,7 @@ pub struct Outcome {
 }
 
 /// The outcome of a finished mechanism.
-pub(crate) fn outcome_of(mech: MechKind, made: &MechDone) -> Outcome
+pub fn outcome_of(mech: MechKind, made: &MechDone) -> Outcome
     ensures { result ≡ outcome_of mech made.now }
 {
     let hash = made.hash;

@@ -1,0 +1,5 @@
+pub mod ShortFirst
+pub mod EndSteps
+pub mod PlainNames
+pub mod PlainStates
+pub mod PlainSteps

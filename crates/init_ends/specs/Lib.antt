@@ -1,0 +1,5 @@
+pub mod Objects
+pub mod Ends
+pub mod Initiating
+pub mod EndLaws
+pub mod Plain

@@ -1,0 +1,12 @@
+//! The initiator's end of a negotiation (SPNEGO, RFC 4178) over mechanisms that are handed in as objects.
+#![tactic(auto)]
+
+mod ends;
+mod laws;
+mod lists;
+mod reply;
+mod start;
+mod step;
+
+pub use ends::{InitEnd, InitSetup, InitStep};
+pub use laws::{prove_end_laws, prove_plain_law};

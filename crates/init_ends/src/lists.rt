@@ -1,0 +1,66 @@
+//! The objects of an initiator as a list.
+
+ghost use Rattle.std.specs.Prelude.{◌≡◌, IfOk, IfSome, map, option_map, true};
+ghost use Rattle.mech_objects.specs.declared.ask.Stage.TheVariants.{Fresh};
+ghost use Rattle.init_ends.specs.Objects.{is_named, oids_of, all_fresh, mech_for, are_oids};
+
+use gss_base::MechKind;
+use mech_objects::Mech;
+use sec_base::{NoMemory, Oid};
+use std::alloc::Global;
+
+/// Whether this identifier names what stands under that one.
+pub fn is_named(oid: &Oid, own: &Oid) -> bool
+    ensures { result ≡ is_named oid.now own.now }
+{
+    *oid == *own
+}
+
+/// The mechanism of one object.
+pub fn kind_at(object: &Box<dyn Mech>) -> MechKind
+    ensures { result ≡ (meaning object.now).kind }
+{
+    object.kind()
+}
+
+/// The identifier of one object.
+pub fn oid_at(object: &Box<dyn Mech>) -> Oid
+    ensures { result ≡ (meaning object.now).oid }
+{
+    object.oid()
+}
+
+/// The identifiers of the objects, as the list is sent.
+pub fn own_list(alloc: Global, list: &[Box<dyn Mech>]) -> Result<Vec<Oid>, NoMemory>
+    ensures { IfOk result (λ v. v.items ≡ oids_of (map meaning list.now)) }
+{
+    let mut found = Vec::new(alloc);
+    for object in list {
+        found.push(oid_at(object))?;
+    }
+    Ok(found)
+}
+
+/// The object that an identifier names; the others are dropped.
+pub fn mech_for(list: Vec<Box<dyn Mech>>, oid: &Oid) -> Option<Box<dyn Mech>>
+    requires { all_fresh (map meaning list.items) ≡ true }
+    ensures fresh { IfSome result (λ b. (meaning b).stage ≡ Fresh) }
+    ensures exact { option_map meaning result ≡ mech_for (map meaning list.items) oid.now }
+{
+    for object in list {
+        let own = oid_at(&object);
+        if is_named(oid, &own) {
+            return Some(object);
+        }
+    }
+    None
+}
+
+/// Does nothing; its contract says that each of these is an object identifier, of at most 32 octets.
+pub fn tell_oids(list: &[Oid])
+    ensures { are_oids list.now ≡ true }
+{
+    for oid in list {
+        let _content = oid.content();
+    }
+}

@@ -1,0 +1,88 @@
+//! The initiator's first token, RFC 4178 sections 3.2 and 4.2.1.
+
+ghost use Rattle.std.specs.Prelude.{◌≡◌, IfOk, true, map};
+ghost use Rattle.sec_base.specs.Answers.{Gives};
+ghost use Rattle.spnego_core.specs.Tokens.{init_octets};
+ghost use Rattle.spnego_core.specs.Sizes.{IsShort, FitsBeside};
+ghost use Rattle.mech_objects.specs.Meaning.{starts, started};
+ghost use Rattle.mech_objects.specs.declared.ask.Stage.TheVariants.{Fresh};
+ghost use Rattle.init_ends.specs.Objects.{is_own_list, is_one_or_two};
+ghost use Rattle.init_ends.specs.Ends.{setup_means, end_means, holds};
+ghost use Rattle.init_ends.specs.Initiating.{first_sent, end_start};
+
+use crate::ends::{InitEnd, InitSetup, Opening};
+use crate::lists::{own_list, tell_oids};
+use mech_objects::{Mech, MechAsk};
+use sec_base::{Items, NoMemory, Octets, Oid};
+use spnego_core::NegRefusal;
+use spnego_core::tokens::init_octets;
+use spnego_msgs::NegInit;
+use std::alloc::Global;
+
+/// An object starts.
+pub fn start_of(
+    alloc: Global,
+    object: &mut Box<dyn Mech>,
+    ask: &MechAsk,
+) -> Result<Octets, NegRefusal>
+    requires { (meaning object.old).stage ≡ Fresh }
+    ensures exact { Gives NegRefusal.NoMemory (λ o. o) result
+        (starts (meaning object.old) ask.now) }
+    ensures after { meaning object.new ≡ started (meaning object.old) ask.now result }
+    ensures short { IfOk result FitsBeside }
+{
+    object.start(alloc, ask)
+}
+
+/// The first token: the own list, which is given back, and the first token of its first mechanism.
+fn first_sent(
+    alloc: Global,
+    list: Items<Oid>,
+    token: Octets,
+) -> Result<(Items<Oid>, Octets), NoMemory>
+    requires { is_one_or_two list ≡ true }
+    ensures list { IfOk result (λ p. p.0 ≡ list) }
+    ensures exact { IfOk result (λ p. p.1 ≡ init_octets (first_sent list token)) }
+    ensures short { FitsBeside token → IfOk result (λ p. IsShort p.1) }
+{
+    tell_oids(list.as_slice());
+    let init = NegInit {
+        list,
+        flags: None,
+        token: Some(token),
+        mic: None,
+    };
+    let octets = init_octets(alloc, &init)?;
+    let NegInit {
+        list,
+        flags: _,
+        token: _,
+        mic: _,
+    } = init;
+    Ok((list, octets))
+}
+
+impl InitEnd {
+    /// The end and its first token.
+    pub fn start(alloc: Global, setup: InitSetup) -> Result<(InitEnd, Octets), NegRefusal>
+        requires { is_own_list (map meaning setup.list.items) ≡ true }
+        ensures exact { Gives NegRefusal.NoMemory (λ p. (end_means meaning p.0, p.1)) result
+            (end_start (setup_means meaning setup)) }
+        ensures held { IfOk result (λ p. holds (end_means meaning p.0) ≡ true) }
+        ensures short { IfOk result (λ p. IsShort p.1) }
+    {
+        let InitSetup { list, ask } = setup;
+        let own = own_list(alloc, list.as_slice())?;
+        let mut others = list;
+        let mut mech = others.remove(0);
+        let token = start_of(alloc, &mut mech, &ask)?;
+        let (list, octets) = first_sent(alloc, Items::of(own), token)?;
+        let opening = Opening {
+            list,
+            ask,
+            mech,
+            others,
+        };
+        Ok((InitEnd::Opens(opening), octets))
+    }
+}

@@ -1,0 +1,2 @@
+pub mod SharedKey
+pub mod Objects

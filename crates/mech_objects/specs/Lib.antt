@@ -1,0 +1,5 @@
+pub mod Meaning
+pub mod Standard
+pub mod States
+pub mod Objects
+pub mod Laws

@@ -1,0 +1,108 @@
+//! The example of RFC 5802 section 5, by an object behind a box. Its header `n,,` is here the channel bindings, and its nonce the last 18 drawn octets.
+
+ghost use Rattle.std.specs.Prelude.{◌≡◌, IfSome};
+ghost use Rattle.gss_base.specs.declared.mech.MechKind.TheVariants.{Scram};
+ghost use Rattle.spnego_core.specs.InitMech.{kind_of};
+ghost use Rattle.mech_objects.specs.declared.ask.Stage.TheVariants.{Fresh, Waiting};
+
+use crate::{Mech, MechAsk, MechMove, ScramMech};
+use gss_base::{Bindings, Label};
+use sec_base::{Moment, Octets, Text};
+use spnego_core::MechCred;
+use std::alloc::{AllocError, Global};
+
+const NONCE: &[u8; 18] =
+    b"\x7f\x29\x28\xf9\xdd\xa5\x6d\xb1\x60\x38\xd4\x6f\xf6\xa9\x31\x75\xac\x0b";
+
+/// The first text in its frame (RFC 2743 section 3.1).
+const FIRST: &[u8; 43] =
+    b"\x60\x29\x06\x06\x2b\x06\x01\x05\x05\x0en=user,r=fyko+d2lbbFgONRv9qkxdawL";
+
+const SECOND: &[u8; 70] = b"r=fyko+d2lbbFgONRv9qkxdawL3rfcNHYJY1ZVvWVs7j,s=QSXCR+Q6sek8bf92,i=4096";
+
+const THIRD: &[u8; 82] =
+    b"c=biws,r=fyko+d2lbbFgONRv9qkxdawL3rfcNHYJY1ZVvWVs7j,p=v0X8v3Bz2T0CJGbJQyF0X+HI4Ts=";
+
+const LAST: &[u8; 30] = b"v=rmF9pqV8S7suAoZWja4dJRkFsKQ=";
+
+/// The example's user and password.
+fn cred(alloc: Global) -> Option<MechCred>
+    ensures { IfSome result (λ c. kind_of c ≡ Scram) }
+{
+    let user = Text::of(alloc, "user").ok()?;
+    let password = Text::of(alloc, "pencil").ok()?;
+    Some(MechCred::Scram { user, password })
+}
+
+/// What the example is begun with.
+fn ask(alloc: Global) -> Option<MechAsk> {
+    let mut draws = [0u8; 66];
+    draws[48..].copy_from_slice(NONCE);
+    let header = Octets::of(alloc, b"n,,").ok()?;
+    Some(MechAsk {
+        stamp: Moment::start(),
+        draws,
+        bindings: Bindings::new(header).ok(),
+    })
+}
+
+/// The first token.
+fn first_of(alloc: Global, object: &mut Box<dyn Mech>, ask: &MechAsk) -> Option<Octets>
+    requires { (meaning object.old).stage ≡ Fresh }
+    ensures { IfSome result (λ _. (meaning object.new).stage ≡ Waiting) }
+{
+    object.start(alloc, ask).ok()
+}
+
+/// A further token.
+fn next_of(alloc: Global, object: &mut Box<dyn Mech>, token: &[u8]) -> Option<Octets>
+    requires { (meaning object.old).stage ≡ Waiting }
+    ensures { IfSome result (λ _. (meaning object.new).stage ≡ Waiting) }
+{
+    match object.take(alloc, token) {
+        Ok(MechMove::Token(token)) => Some(token),
+        Ok(said) => {
+            drop(said);
+            None
+        }
+        Err(_) => None,
+    }
+}
+
+/// Who is named once the mechanism is done.
+fn named_of(alloc: Global, object: &mut Box<dyn Mech>, token: &[u8]) -> Option<Label>
+    requires { (meaning object.old).stage ≡ Waiting }
+{
+    let said = object.take(alloc, token).ok()?;
+    match &said {
+        MechMove::Token(_) => None,
+        MechMove::Done(done) => Some(done.initiator),
+    }
+}
+
+#[test]
+fn example_of_the_standard(rt: HostRuntime) -> Result<(), AllocError> {
+    let alloc = rt.alloc();
+    let Some(cred) = cred(alloc) else {
+        return Err(AllocError);
+    };
+    let Some(ask) = ask(alloc) else {
+        return Err(AllocError);
+    };
+    let mut mech = ScramMech::new(alloc);
+    mech.arm(cred);
+    let mut object: Box<dyn Mech> = Box::new(alloc, mech)?;
+    let Some(first) = first_of(alloc, &mut object, &ask) else {
+        return Err(AllocError);
+    };
+    assert_eq!(rt; first.as_slice(), FIRST.as_slice());
+    let Some(third) = next_of(alloc, &mut object, SECOND) else {
+        return Err(AllocError);
+    };
+    assert_eq!(rt; third.as_slice(), THIRD.as_slice());
+    let Some(user) = named_of(alloc, &mut object, LAST) else {
+        return Err(AllocError);
+    };
+    assert_eq!(rt; user.text(), "user");
+    Ok(())
+}
