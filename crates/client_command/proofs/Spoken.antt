@@ -53,6 +53,28 @@ held {clock} {draw} {moments} {moments'} {given} {mid} {given'} plan creds stamp
   heard = λ parted later. t.heard (unrefused parting parted) later;
 }
 
+-- a session that had no memory to begin: nothing was written, and no octets were drawn behind those of its start
+pub unbegun : {clock draw : Bool} {moments moments' given given' : List ℕ} (plan : Plan) (creds : List MechCred) (stamp : ℕ) (draws : List ℕ) (wire : Wire) {outcome : Option Outcome} {results : List (List ℕ)} {parting : Parting}
+    → (IsTrue clock → moments' ≡ moments ++ stamp ∷ []) → length draws ≡ 66 → (IsTrue draw → given' ≡ given ++ draws)
+    → outcome ≡ None → results ≡ [] → parting ≡ partings.Refused refusals.NoMemory
+    → Spoke clock moments moments' draw given given' plan creds wire wire outcome results (end_of parting)
+unbegun {clock} {draw} {moments} {moments'} {given} {given'} plan creds stamp draws wire moment size octets no_outcome no_results refused = rw no_outcome (rw no_results (rw refused (record {
+  stamp = stamp;
+  draws = draws;
+  confounders = [];
+  drew = record {
+    moment = moment;
+    size = size;
+    octets = λ d. octets d ∙ ap (λ (xs : List ℕ). given ++ xs) (sym (append-nil draws));
+  };
+  took = [];
+  wrote = [];
+  went = record { taken = sym (append-nil wire.taken); coming = ([], append-nil wire.coming); written = sym (append-nil wire.written) };
+  front = λ later. record { written = ((planned plan creds stamp draws later wire.coming).written, refl); outcome_is = inl refl; results_are = ((planned plan creds stamp draws later wire.coming).results, refl) };
+  whole = λ link memory later. absurd (memory refl);
+  heard = λ parted later. let bad : false ≡ true = parted in cc;
+})))
+
 -- what is returned of it
 pub returned : {clock draw : Bool} {moments moments' given given' : List ℕ} {plan : Plan} {creds : List MechCred} {old new : Wire} {outcome outcome' : Option Outcome} {results results' : List (List ℕ)} (parting : Parting) {end : RunEnd}
     → Spoke clock moments moments' draw given given' plan creds old new outcome results (end_of parting) → Reports outcome results parting outcome' results' end

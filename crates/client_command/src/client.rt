@@ -1,18 +1,18 @@
 //! The run of the client.
 
 ghost use Rattle.std.specs.Prelude.{◌≡◌, ◌≢◌, ◌≤◌, ◌⊎◌, [], List, false, true, IsTrue, IsOk, None};
-ghost use Rattle.std.specs.Prelude.{Ok, Err};
+ghost use Rattle.std.specs.Prelude.{Ok, Err, map};
 ghost use Rattle.sec_base.specs.Answers.{Rose};
 ghost use Rattle.spnego_core.specs.InitMech.{is_own_list};
 ghost use Rattle.spnego_core.specs.declared.setup.MechCred.{MechCred};
-ghost use Rattle.gss_client.specs.Start.{start_says};
+ghost use Rattle.init_ends.specs.Arming.{IsBlankPair};
 ghost use Rattle.cli_base.specs.Lines.{SaysLine, Says};
 ghost use Rattle.client_command.specs.Credentials.{creds_from, is_unloaded, Asks};
 ghost use Rattle.client_command.specs.Endings.{end_of, is_begun, status_of, line_of};
 ghost use Rattle.client_command.specs.Lines.{lines};
 ghost use Rattle.client_command.specs.Loading.{RunBegins};
 ghost use Rattle.client_command.specs.Runs.{text_or_none, server_text, names_in, names_of};
-ghost use Rattle.client_command.specs.Runs.{procedure_of, start_of, Reports, Spoke, EndsSo};
+ghost use Rattle.client_command.specs.Runs.{procedure_of, Reports, Spoke, EndsSo};
 ghost use Rattle.client_command.specs.Runs.{HasHeld, HasSpoken, IsSilent};
 ghost use Rattle.client_command.specs.Words.{words_of, IsRanged};
 
@@ -20,10 +20,12 @@ use crate::credential::creds_given;
 use crate::ending::{Names, RunEnd, end_of, say_end};
 use crate::lines::lines;
 use crate::words::{ClientWords, Plan, Sources, WordsRefusal, read_words};
-use gss_base::{Bindings, Label, Principal};
-use gss_client::{ClientRefusal, Parting, Procedure, Service, Session, Start, Talk};
-use sec_base::{Clock, Draw, Items, Link, Moment, Octets, Shelf, Sink, Text};
-use spnego_core::{InitSetup, MechCred, Outcome};
+use gss_base::{Label, Principal};
+use gss_client::{ClientRefusal, Parting, Procedure, Session, Start, Talk};
+use init_ends::InitSetup;
+use mech_objects::Mech;
+use sec_base::{Clock, Draw, Items, Link, Octets, Shelf, Sink, Text};
+use spnego_core::{InitFacts, MechCred, Outcome};
 use std::alloc::Global;
 
 /// What a run came to.
@@ -41,44 +43,21 @@ pub struct ClientEnd {
     pub results: Vec<Octets>,
 }
 
-/// What a session is begun with.
-fn start_of(
-    creds: Items<MechCred>,
-    bindings: Option<Bindings>,
-    service: Service,
-    first: u32,
-    stamp: Moment,
-    draws: [u8; 66],
-) -> Start
-    ensures is { start_says result ≡ record {
-      setup = record {
-        list = creds;
-        bindings = bindings;
-        stamp =
-            stamp;
-        draws = draws;
-      };
-      service = service;
-      first = first;
-    } }
-    ensures list { result.setup.list ≡ creds }
-    ensures first { result.first ≡ first }
+/// What a session came to that had no memory to begin.
+fn unbegun(alloc: Global) -> Talk
+    ensures outcome { result.outcome ≡ None }
+    ensures results { result.results.items ≡ [] }
+    ensures parting { result.parting ≡ Parting.Refused ClientRefusal.NoMemory }
 {
-    let setup = InitSetup {
-        list: creds,
-        bindings,
-        stamp,
-        draws,
-    };
-    Start {
-        setup,
-        service,
-        first,
+    Talk {
+        outcome: None,
+        results: Vec::new(alloc),
+        parting: Parting::Refused(ClientRefusal::NoMemory),
     }
 }
 
 /// Holds the session of a plan: the clock's next moment is its stamp, the next 66 random octets are its own, and those behind them its
-/// calls' confounders.
+/// calls' confounders. Its mechanisms are the objects that got its credentials; where there is no memory to arm them, nothing is written.
 fn speak<L: Link, C: Clock, D: Draw>(
     alloc: Global,
     plan: Plan,
@@ -86,8 +65,10 @@ fn speak<L: Link, C: Clock, D: Draw>(
     link: &mut L,
     clock: &mut C,
     draw: &mut D,
+    mechs: Vec<Box<dyn Mech>>,
 ) -> Talk
     requires unclosed { L.closed link.old ≡ false }
+    requires mechs { IsBlankPair (map meaning mechs.items) }
     requires list { is_own_list creds ≡ true }
     requires range { IsRanged plan }
     ensures told { IsTrue (L.tells link.old)
@@ -111,7 +92,20 @@ fn speak<L: Link, C: Clock, D: Draw>(
         times,
         first,
     } = plan;
-    let start = start_of(creds, bindings, service, first, stamp, draws);
+    let facts = InitFacts {
+        list: creds,
+        bindings,
+        stamp,
+        draws,
+    };
+    let Ok(setup) = InitSetup::armed(alloc, mechs, facts) else {
+        return unbegun(alloc);
+    };
+    let start = Start {
+        setup,
+        service,
+        first,
+    };
     Session::hold(alloc, link, draw, start, procedure, args.as_slice(), times)
 }
 
@@ -224,10 +218,12 @@ fn run_with<F: Shelf, L: Link, C: Clock, D: Draw, O: Sink>(
     link: &mut L,
     clock: &mut C,
     draw: &mut D,
+    mechs: Vec<Box<dyn Mech>>,
     out: &mut O,
     err: &mut O,
 ) -> ClientEnd
     requires unclosed { L.closed link.old ≡ false }
+    requires mechs { IsBlankPair (map meaning mechs.items) }
     requires range { IsRanged words.plan }
     ensures status { result.status ≢ 6 → result.status ≢ 8 → result.status ≡ status_of result.end }
     ensures sink_fault { result.status ≡ 6
@@ -277,7 +273,7 @@ fn run_with<F: Shelf, L: Link, C: Clock, D: Draw, O: Sink>(
     let names = names_in(&sources, &label);
     match creds_given(alloc, shelf, &sources) {
         Ok(creds) => {
-            let talk = speak(alloc, plan, creds, link, clock, draw);
+            let talk = speak(alloc, plan, creds, link, clock, draw, mechs);
             report(alloc, &names, procedure, talk, out, err)
         }
         Err(end) => unspoken(alloc, &names, end, err),
@@ -294,7 +290,8 @@ const UNNAMED: Names<'static> = Names {
 /// Runs the client over a link, and says on `err` how the run ended. The words are
 /// `ADDRESS COMMAND [ARG] [--ccache FILE --server PRINCIPAL] [--user NAME --password FILE] [--mechs LIST] [--bind TEXT] [--service none|integrity|privacy]
 /// [--times N] [--first N]`, where COMMAND is `null`, `echo`, `whoami`, `post` or `count`, `echo` and `post` have an ARG in hexadecimal, and LIST is `krb5`, `scram`
-/// or both with a comma between them. What the session agreed on and was answered is printed on `out`.
+/// or both with a comma between them. `mechs` has one blank object of Kerberos and one of SCRAM, in any order: the session's mechanisms are those of them that
+/// get a credential. What the session agreed on and was answered is printed on `out`.
 pub fn run_client<F: Shelf, L: Link, C: Clock, D: Draw, O: Sink>(
     alloc: Global,
     words: &[Text],
@@ -302,10 +299,12 @@ pub fn run_client<F: Shelf, L: Link, C: Clock, D: Draw, O: Sink>(
     link: &mut L,
     clock: &mut C,
     draw: &mut D,
+    mechs: Vec<Box<dyn Mech>>,
     out: &mut O,
     err: &mut O,
 ) -> ClientEnd
     requires unclosed { L.closed link.old ≡ false }
+    requires mechs { IsBlankPair (map meaning mechs.items) }
     // The status and the line on `err`: those of the end, unless there was no memory for the line, or a sink failed.
     ensures status { result.status ≢ 6 → result.status ≢ 8 → result.status ≡ status_of result.end }
     ensures sink_fault { result.status ≡ 6
@@ -378,7 +377,7 @@ pub fn run_client<F: Shelf, L: Link, C: Clock, D: Draw, O: Sink>(
     ensures faults { L.faults link.old ≤ L.faults link.new }
 {
     match read_words(alloc, words) {
-        Ok(words) => run_with(alloc, words, shelf, link, clock, draw, out, err),
+        Ok(words) => run_with(alloc, words, shelf, link, clock, draw, mechs, out, err),
         Err(WordsRefusal::Usage) => unspoken(alloc, &UNNAMED, RunEnd::Usage, err),
         Err(WordsRefusal::NoMemory) => unspoken(alloc, &UNNAMED, RunEnd::NoMemory, err),
     }

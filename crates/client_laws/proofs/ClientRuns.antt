@@ -14,7 +14,7 @@ use Rattle.spnego_core.specs.declared.outcome.Outcome.{Outcome}
 use Rattle.gss_client.specs.declared.procedure.Procedure.{Procedure}
 use Rattle.gss_client.specs.Start.{StartSays}
 use Rattle.rpcsec_bodies.specs.declared.service.Service.TheVariants as services
-use Rattle.gss_client.specs.Conversation.{Conversed, converses, Talk, talk, by_session, by_creation}
+use Rattle.gss_client.specs.Conversation.{Conversed, converses, Talk, talk, talk_by, by_session, by_creation}
 use Rattle.gss_client.specs.Procedure.{procedure_number}
 use Rattle.gss_client.specs.Session.{SessionState}
 use Rattle.gss_client.specs.Talking.{Said}
@@ -45,7 +45,7 @@ session_of setup width start stream x c = session_on (lease_on (id_in x.books) c
 
 talk-is : (setup : AcceptSetup) (width : ℕ) (start : StartSays) (stream : List ℕ) (x : HonestExchange setup width start stream) (c : Completes setup width start stream x) (times : ℕ) (procedure : Procedure) (args draws : List ℕ)
     → talk start times procedure args draws stream ≡ by_session (flat_map last_fragment x.converses.records) (Some c.outcome) (converses times procedure args (session_of setup width start stream x c) draws x.converses.rest)
-unfolding talk
+unfolding talk_by
 talk-is setup width start stream x c times procedure args draws = ap (λ (q : Said SessionState). by_creation times procedure args draws q.written q.rest q.answer) c.session
 
 planned-so : (plan : Plan) (confounders : List ℕ) (count : ℕ) → IsRanged plan → are_args (procedure_number plan.procedure) plan.args ≡ true → (plan.service ≡ services.None → procedure_number plan.procedure ≡ 0) → IsOctets confounders

@@ -1,10 +1,11 @@
 //! A run of the client against an honest server.
 
-ghost use Rattle.std.specs.Prelude.{◌≡◌, ◌≢◌, ◌⊎◌, List, IsTrue, Option, Some, Ok, false};
+ghost use Rattle.std.specs.Prelude.{◌≡◌, ◌≢◌, ◌⊎◌, List, IsTrue, Option, Some, Ok, false, map};
 ghost use Rattle.sec_base.specs.Answers.{Rose};
 ghost use Rattle.cli_base.specs.Lines.{SaysLine, Says};
 ghost use Rattle.spnego_core.specs.declared.setup.MechCred.{MechCred};
 ghost use Rattle.spnego_core.specs.declared.outcome.Outcome.{Outcome as OutcomeIs};
+ghost use Rattle.init_ends.specs.Arming.{IsBlankPair};
 ghost use Rattle.client_command.specs.Credentials.{creds_from};
 ghost use Rattle.client_command.specs.Endings.{status_of, line_of};
 ghost use Rattle.client_command.specs.Lines.{lines};
@@ -14,6 +15,7 @@ ghost use Rattle.client_command.specs.declared.words.ClientWords.{ClientWords as
 ghost use Rattle.client_laws.specs.ClientRun.{Answers, Completed, OutcomeTold};
 
 use client_command::{ClientEnd, RunEnd, run_client};
+use mech_objects::Mech;
 use pair_laws::{prove_runs, tell_name};
 use sec_base::{Clock, Draw, Link, Shelf, Sink, Text};
 use spnego_core::Outcome;
@@ -38,10 +40,12 @@ pub fn complete_run<F: Shelf, L: Link, C: Clock, D: Draw, O: Sink>(
     link: &mut L,
     clock: &mut C,
     draw: &mut D,
+    mechs: Vec<Box<dyn Mech>>,
     out: &mut O,
     err: &mut O,
 ) -> ClientEnd
     requires unclosed { L.closed link.old ≡ false }
+    requires mechs { IsBlankPair (map meaning mechs.items) }
     ensures completes { (asked : ClientWordsIs) (creds : List MechCred)
         → words_of words.now ≡ Ok asked → IsTrue (F.tells shelf.old)
         → creds_from (F.files shelf.old) asked.sources ≡ Ok creds → IsTrue (L.tells link.old)
@@ -62,7 +66,7 @@ pub fn complete_run<F: Shelf, L: Link, C: Clock, D: Draw, O: Sink>(
     ensures said { IsTrue (O.tells err.old) → Says (O.written err.old) (O.written err.new)
         result.status (line_of (names_of (words_of words.now)) result.end) }
 {
-    let end = run_client(alloc, words, shelf, link, clock, draw, out, err);
+    let end = run_client(alloc, words, shelf, link, clock, draw, mechs, out, err);
     tell_outcome(&end.outcome);
     end
 }

@@ -1,6 +1,10 @@
 //! A run of the client over devices in memory.
 
+ghost use Rattle.std.specs.Prelude.{map};
+ghost use Rattle.init_ends.specs.Arming.{IsBlankPair};
+
 use client_command::run_client;
+use mech_objects::Mech;
 use sec_base::{LoadRefusal, MemLink, Octets, Shelf, Text};
 use std::alloc::Global;
 use table_rows::{Cells, Said};
@@ -35,8 +39,11 @@ fn run<S: Shelf>(
     words: &[Text],
     link: &mut MemLink,
     devices: &mut Devices,
+    mechs: Vec<Box<dyn Mech>>,
     said: &mut Said,
-) {
+)
+    requires { IsBlankPair (map meaning mechs.items) }
+{
     if link.is_closed() {
         return said.starve();
     }
@@ -46,13 +53,15 @@ fn run<S: Shelf>(
         out,
         err,
     } = devices;
-    let end = run_client(alloc, words, shelf, link, clock, draw, out, err);
+    let end = run_client(alloc, words, shelf, link, clock, draw, mechs, out, err);
     said.number(end.status as u64);
     devices.say(said);
 }
 
 /// By the cells of its words and the octets to come, what a run writes; then its status and what it prints.
-pub fn answer(files: &Files, cells: &mut Cells<'_>, said: &mut Said) {
+pub fn answer(files: &Files, mechs: Vec<Box<dyn Mech>>, cells: &mut Cells<'_>, said: &mut Said)
+    requires { IsBlankPair (map meaning mechs.items) }
+{
     let alloc = cells.alloc();
     let line = cells.text();
     let words = words_of(cells, line.as_str(), ' ');
@@ -67,6 +76,7 @@ pub fn answer(files: &Files, cells: &mut Cells<'_>, said: &mut Said) {
         words.as_slice(),
         &mut link,
         &mut devices,
+        mechs,
         &mut ran,
     );
     said.octets(link.written());
@@ -80,23 +90,28 @@ fn run_by(
     words: &[Text],
     link: &mut MemLink,
     devices: &mut Devices,
+    mechs: Vec<Box<dyn Mech>>,
     cells: &mut Cells<'_>,
-) -> Said {
+) -> Said
+    requires { IsBlankPair (map meaning mechs.items) }
+{
     let alloc = cells.alloc();
     let mut ran = Said::new(alloc);
     if failing == "full" {
-        run(alloc, &mut Full, words, link, devices, &mut ran);
+        run(alloc, &mut Full, words, link, devices, mechs, &mut ran);
         return ran;
     }
     let failing = numbers_of(cells, failing);
     let mut shelf = files.shelf(cells, failing);
-    run(alloc, &mut shelf, words, link, devices, &mut ran);
+    run(alloc, &mut shelf, words, link, devices, mechs, &mut ran);
     ran
 }
 
 /// By the cells of its words, the stream, and the numbers of the calls of link, shelf and standard output that fail, how many octets a run
 /// writes; then its status and what it prints.
-pub fn run_trial(files: &Files, cells: &mut Cells<'_>, said: &mut Said) {
+pub fn run_trial(files: &Files, mechs: Vec<Box<dyn Mech>>, cells: &mut Cells<'_>, said: &mut Said)
+    requires { IsBlankPair (map meaning mechs.items) }
+{
     let alloc = cells.alloc();
     let words = words(cells);
     let input = files.octets(cells);
@@ -111,6 +126,7 @@ pub fn run_trial(files: &Files, cells: &mut Cells<'_>, said: &mut Said) {
         words.as_slice(),
         &mut link,
         &mut devices,
+        mechs,
         cells,
     );
     said.number(link.written().len() as u64);

@@ -1,10 +1,15 @@
 //! A session of a client over a stream of replies.
 
-ghost use Rattle.std.specs.Prelude.{◌≡◌, ◌≤◌, IfSome, true};
-ghost use Rattle.spnego_core.specs.InitMech.{is_own_list};
+ghost use Rattle.std.specs.Prelude.{◌≡◌, ◌≤◌, IfSome, true, map};
+ghost use Rattle.init_ends.specs.Arming.{IsBlankPair};
+ghost use Rattle.init_ends.specs.Ends.{setup_means};
+ghost use Rattle.init_ends.specs.Objects.{is_own_list};
+ghost use Rattle.gss_client.specs.Start.{start_means};
 
 use crate::endings::say_ended;
 use gss_client::{Service, Session, Start};
+use init_ends::InitSetup;
+use mech_objects::Mech;
 use sec_base::MemLink;
 use std::alloc::Global;
 use table_rows::{Cells, Said};
@@ -24,8 +29,10 @@ fn service(cells: &mut Cells<'_>) -> Service {
 }
 
 /// What a session is begun with, by the cells of list, service and first number.
-pub fn begin(setting: &Setting, cells: &mut Cells<'_>) -> Option<Start>
-    ensures list { IfSome result (λ start. is_own_list start.setup.list ≡ true) }
+pub fn begin(setting: &Setting, mechs: Vec<Box<dyn Mech>>, cells: &mut Cells<'_>) -> Option<Start>
+    requires { IsBlankPair (map meaning mechs.items) }
+    ensures list { IfSome result (λ start. is_own_list (setup_means meaning start.setup).list
+        ≡ true) }
     ensures first { IfSome result (λ start. 1 ≤ start.first) }
     ensures last { IfSome result (λ start. start.first ≤ 0x7fffffff) }
 {
@@ -35,13 +42,15 @@ pub fn begin(setting: &Setting, cells: &mut Cells<'_>) -> Option<Start>
     if first == 0 || first > 0x7fff_ffff {
         return None;
     }
-    match setting.initiator(cells.alloc(), letters) {
-        Some(setup) => Some(Start {
+    let alloc = cells.alloc();
+    let facts = setting.initiator(alloc, letters)?;
+    match InitSetup::armed(alloc, mechs, facts) {
+        Ok(setup) => Some(Start {
             setup,
             service,
             first,
         }),
-        None => None,
+        Err(_) => None,
     }
 }
 
@@ -156,7 +165,7 @@ fn follow(alloc: Global, link: &mut MemLink, session: Session, calls: &str, said
 
 /// Says the outcome of a session, what its calls answer and its end.
 pub fn talk(alloc: Global, link: &mut MemLink, start: Start, calls: &str, said: &mut Said)
-    requires list { is_own_list start.setup.list ≡ true }
+    requires list { is_own_list (start_means start meaning).setup.list ≡ true }
     requires first { 1 ≤ start.first }
     requires last { start.first ≤ 0x7fffffff }
 {
@@ -173,9 +182,11 @@ pub fn talk(alloc: Global, link: &mut MemLink, start: Start, calls: &str, said: 
 }
 
 /// By the cells list, service, first number, calls and stream, what a session writes; then its outcome, results and end.
-pub fn answer(setting: &Setting, cells: &mut Cells<'_>, said: &mut Said) {
+pub fn answer(setting: &Setting, mechs: Vec<Box<dyn Mech>>, cells: &mut Cells<'_>, said: &mut Said)
+    requires { IsBlankPair (map meaning mechs.items) }
+{
     let alloc = cells.alloc();
-    let start = begin(setting, cells);
+    let start = begin(setting, mechs, cells);
     let (calls, stream) = (cells.word(), cells.word());
     let mut link = link(cells, stream);
     let mut talked = Said::new(alloc);

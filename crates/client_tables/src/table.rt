@@ -1,6 +1,11 @@
 //! The tables, and the comparison of one with what the calls answer.
 
+ghost use Rattle.std.specs.Prelude.{map};
+ghost use Rattle.init_ends.specs.Arming.{IsBlankPair};
+
 use crate::{made_files, runs, sessions, talks};
+use client_command::blank_pair;
+use mech_objects::{KerberosMech, Mech, ScramMech};
 use std::alloc::Global;
 use table_rows::{Cells, Rows, Said};
 use table_setting::{Files, Setting};
@@ -50,22 +55,41 @@ struct Set<'a> {
     files: &'a Files,
 }
 
+impl Set<'_> {
+    /// What a row's calls answer, with objects of Kerberos and SCRAM.
+    fn answer_by(&self, mechs: Vec<Box<dyn Mech>>, cells: &mut Cells<'_>, said: &mut Said)
+        requires { IsBlankPair (map meaning mechs.items) }
+    {
+        let (setting, files) = (self.setting, self.files);
+        match self.table {
+            Table::Sessions => sessions::answer(setting, mechs, cells, said),
+            Table::Runs => runs::answer(files, mechs, cells, said),
+            Table::Creations => talks::create(setting, files, mechs, cells, said),
+            Table::Talks => talks::hold_all(setting, files, mechs, cells, said),
+            Table::Bodies => talks::open_body(files, cells, said),
+            Table::Trials => runs::run_trial(files, mechs, cells, said),
+            Table::MadeFiles => made_files::make(cells, said),
+            Table::ReadBack => made_files::read_back(cells, said),
+        }
+    }
+}
+
 impl Rows for Set<'_> {
     fn are_named(&self) -> bool {
         self.table.is_named()
     }
 
     fn answer(&self, cells: &mut Cells<'_>, said: &mut Said) {
-        let (setting, files) = (self.setting, self.files);
-        match self.table {
-            Table::Sessions => sessions::answer(setting, cells, said),
-            Table::Runs => runs::answer(files, cells, said),
-            Table::Creations => talks::create(setting, files, cells, said),
-            Table::Talks => talks::hold_all(setting, files, cells, said),
-            Table::Bodies => talks::open_body(files, cells, said),
-            Table::Trials => runs::run_trial(files, cells, said),
-            Table::MadeFiles => made_files::make(cells, said),
-            Table::ReadBack => made_files::read_back(cells, said),
+        let alloc = cells.alloc();
+        let Ok(kerberos) = Box::new(alloc, KerberosMech::new(alloc)) else {
+            return said.starve();
+        };
+        let Ok(scram) = Box::new(alloc, ScramMech::new(alloc)) else {
+            return said.starve();
+        };
+        match blank_pair(alloc, kerberos, scram) {
+            Ok(mechs) => self.answer_by(mechs, cells, said),
+            Err(_) => said.starve(),
         }
     }
 }

@@ -1,11 +1,14 @@
 //! A whole session of a client over a link whose calls may fail, and the creation of one.
 
-ghost use Rattle.std.specs.Prelude.{◌≡◌, ◌≤◌, true};
-ghost use Rattle.spnego_core.specs.InitMech.{is_own_list};
+ghost use Rattle.std.specs.Prelude.{◌≡◌, ◌≤◌, true, map};
+ghost use Rattle.init_ends.specs.Arming.{IsBlankPair};
+ghost use Rattle.init_ends.specs.Objects.{is_own_list};
+ghost use Rattle.gss_client.specs.Start.{start_means};
 
 use crate::endings::say_ended;
 use crate::sessions::{begin, talk};
 use gss_client::{Parting, Procedure, Session, Start, Talk, opaque_alone};
+use mech_objects::Mech;
 use sec_base::{MemDraw, MemLink};
 use std::alloc::Global;
 use table_rows::{Cells, Said};
@@ -75,7 +78,7 @@ fn calls_of(files: &Files, cells: &mut Cells<'_>) -> Calls {
 
 /// Says what a whole session comes to.
 fn hold(alloc: Global, link: &mut MemLink, start: Start, calls: &Calls, said: &mut Said)
-    requires list { is_own_list start.setup.list ≡ true }
+    requires list { is_own_list (start_means start meaning).setup.list ≡ true }
     requires first { 1 ≤ start.first }
     requires last { start.first ≤ 0x7fffffff }
 {
@@ -90,8 +93,16 @@ fn hold(alloc: Global, link: &mut MemLink, start: Start, calls: &Calls, said: &m
 }
 
 /// By the cells list, service, first number, procedure, arguments, times, failing calls and stream, what a whole session comes to.
-pub fn hold_all(setting: &Setting, files: &Files, cells: &mut Cells<'_>, said: &mut Said) {
-    let start = begin(setting, cells);
+pub fn hold_all(
+    setting: &Setting,
+    files: &Files,
+    mechs: Vec<Box<dyn Mech>>,
+    cells: &mut Cells<'_>,
+    said: &mut Said,
+)
+    requires { IsBlankPair (map meaning mechs.items) }
+{
+    let start = begin(setting, mechs, cells);
     let calls = calls_of(files, cells);
     let mut link = link_of(files, cells);
     match start {
@@ -101,8 +112,16 @@ pub fn hold_all(setting: &Setting, files: &Files, cells: &mut Cells<'_>, said: &
 }
 
 /// By the cells list, service, first number, failing calls and stream, what a creation comes to.
-pub fn create(setting: &Setting, files: &Files, cells: &mut Cells<'_>, said: &mut Said) {
-    let start = begin(setting, cells);
+pub fn create(
+    setting: &Setting,
+    files: &Files,
+    mechs: Vec<Box<dyn Mech>>,
+    cells: &mut Cells<'_>,
+    said: &mut Said,
+)
+    requires { IsBlankPair (map meaning mechs.items) }
+{
+    let start = begin(setting, mechs, cells);
     let mut link = link_of(files, cells);
     match start {
         Some(start) => talk(cells.alloc(), &mut link, start, "d", said),

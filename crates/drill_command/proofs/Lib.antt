@@ -3,6 +3,7 @@ pub mod Drawing
 pub mod Fitting
 pub mod Joining
 pub mod Limits
+pub mod Objects
 pub mod Rested
 pub mod Stepping
 pub mod Worked

@@ -9,11 +9,14 @@ use Rattle.gss_client.specs.declared.conversation.Parting.TheVariants.{Refused}
 use Rattle.gss_client.specs.declared.refusal.ClientRefusal.{ClientRefusal}
 use Rattle.gss_client.specs.declared.refusal.ClientRefusal.TheVariants.{BadReply}
 use Rattle.gss_client.specs.declared.refusal.ReplyWhy.TheVariants.{Number, Body}
+use Rattle.gss_client.specs.Session.{SessionState}
 use Rattle.gss_client.specs.Start.{StartSays}
+use Rattle.gss_client.specs.Talk.{created_from}
+use Rattle.gss_client.specs.Talking.{Talking}
 use Rattle.gss_server.specs.declared.answer.Kept.{Kept}
 use Rattle.gate_models.specs.Looping.{Loops}
 use Rattle.pair_laws.specs.Conferring.{DueCall}
-use Rattle.pair_laws.specs.Holding.{TalkedOf}
+use Rattle.pair_laws.specs.Holding.{TalkedBehind}
 
 -- why a session ended early that parted so; one whose calls were all answered didn't
 abbrev pub early_end : Parting → Option ClientRefusal
@@ -22,15 +25,23 @@ early_end Spent = Some (BadReply Number)
 early_end Foreign = Some (BadReply Body)
 early_end (Refused refusal) = Some refusal
 
--- the client's talk over some octets, which are those of the link: what it heard are the replies to
--- what it wrote, each by its kept answer, by windows of this width and at this moment; `gained`
--- says what was asked for them, and `starved` whether memory was wanted
-pub record Holds (gained : List Asked → Type 0) (width moment : ℕ) (start : StartSays)
-    (wanted : List DueCall) (kept : List Kept) (starved : Bool) (outcome : Option Outcome)
-    (results : List (List ℕ)) (ended : Option ClientRefusal) : Type 0 where
-  pub wire : Wire
-  pub parting : Parting
-  pub talked : TalkedOf false [] [] start wanted
-      (record { taken = []; coming = []; written = [] }) wire outcome results parting
-  pub ends : ended ≡ early_end parting
-  pub looped : Loops gained width moment wire kept starved
+-- the talk of a client whose context is created so, over some octets, which are those of the link:
+-- what it heard are the replies to what it wrote, each by its kept answer, by windows of this width
+-- and at this moment; `gained` says what was asked for them, and `starved` whether memory was
+-- wanted
+pub record HoldsBehind (gained : List Asked → Type 0) (width moment : ℕ)
+    (creation : Talking SessionState) (wanted : List DueCall) (kept : List Kept) (starved : Bool)
+    (outcome : Option Outcome) (results : List (List ℕ)) (ended : Option ClientRefusal) : Type 0
+  where
+    pub wire : Wire
+    pub parting : Parting
+    pub talked : TalkedBehind false [] [] creation wanted
+        (record { taken = []; coming = []; written = [] }) wire outcome results parting
+    pub ends : ended ≡ early_end parting
+    pub looped : Loops gained width moment wire kept starved
+
+-- the same of a start by plain credentials
+abbrev pub Holds : (List Asked → Type 0) → ℕ → ℕ → StartSays → List DueCall → List Kept → Bool
+    → Option Outcome → List (List ℕ) → Option ClientRefusal → Type 0
+Holds gained width moment start wanted kept starved outcome results ended = HoldsBehind gained width
+    moment (created_from start) wanted kept starved outcome results ended

@@ -1,7 +1,7 @@
 //! The run of a drill.
 
 ghost use Rattle.std.specs.Prelude.{◌≡◌, ◌≢◌, ◌⊎◌, ◌≤◌, ℕ, [], length, Some, None, IfOk};
-ghost use Rattle.std.specs.Prelude.{IsTrue, string_bytes, reverse, vec_len};
+ghost use Rattle.std.specs.Prelude.{IsTrue, string_bytes, reverse, vec_len, map};
 ghost use Rattle.accept_core.specs.Legal.{Legal};
 ghost use Rattle.accept_core.specs.Logs.{no_log};
 ghost use Rattle.sec_base.specs.Answers.{Rose};
@@ -10,13 +10,14 @@ ghost use Rattle.drill_command.specs.Chained.{AreAllHeld};
 ghost use Rattle.drill_command.specs.Drilled.{IsDrilled};
 ghost use Rattle.drill_plan.specs.Lines.{drill_text, served_line, due_line, Prints};
 ghost use Rattle.drill_plan.specs.Limits.{log_limits, drill_limits};
-ghost use Rattle.drill_plan.specs.Sessions.{session_count};
+ghost use Rattle.drill_plan.specs.Sessions.{session_count, blank_objects};
 ghost use Rattle.drill_plan.specs.Words.{plan_of};
 
 use crate::sessions::{Drilled, hold_all};
 use accept_book::Log;
 use cli_base::{OUT_OF_MEMORY, say};
 use drill_plan::{DrillSession, Plan, read_plan, served, summary};
+use mech_objects::Mech;
 use sec_base::{NoMemory, Sink, Text};
 use server_options::USAGE;
 use std::alloc::Global;
@@ -111,8 +112,15 @@ fn report<O: Sink>(alloc: Global, drilled: Drilled, out: &mut O, err: &mut O) ->
 }
 
 /// Holds a drill and prints what it came to.
-fn run_plan<O: Sink>(alloc: Global, plan: Plan, out: &mut O, err: &mut O) -> DrillEnd
-    requires { plan.calls ≤ 100000 }
+fn run_plan<O: Sink>(
+    alloc: Global,
+    plan: Plan,
+    mechs: Vec<Box<dyn Mech>>,
+    out: &mut O,
+    err: &mut O,
+) -> DrillEnd
+    requires calls { plan.calls ≤ 100000 }
+    requires mechs { map meaning mechs.items ≡ blank_objects (session_count plan.calls) }
     ensures status { result.status ≢ 0 → result.status ≢ 6 → result.status ≡ 8 }
     ensures fault { result.status ≡ 6
         → Rose (O.faults out.old) (O.faults out.new) ⊎ Rose (O.faults err.old) (O.faults err.new) }
@@ -128,15 +136,24 @@ fn run_plan<O: Sink>(alloc: Global, plan: Plan, out: &mut O, err: &mut O) -> Dri
     ensures held { result.status ≡ 0
         → AreAllHeld plan.seed plan.calls result.sessions.items result.log.entries }
 {
-    match hold_all(alloc, plan) {
+    match hold_all(alloc, plan, mechs) {
         Ok(drilled) => report(alloc, drilled, out, err),
         Err(_) => unheld(alloc, err, 8, OUT_OF_MEMORY),
     }
 }
 
 /// Holds the drill that the words ask for, `drill SEED CALLS`: sessions of a client with a server, in one thread and with nothing from
-/// outside. Prints on `out` what they came to, and says on `err` what the server served.
-pub fn run_drill<O: Sink>(alloc: Global, words: &[Text], out: &mut O, err: &mut O) -> DrillEnd
+/// outside. Prints on `out` what they came to, and says on `err` what the server served. Each session's mechanism is the next one of `mechs`.
+pub fn run_drill<O: Sink>(
+    alloc: Global,
+    words: &[Text],
+    mechs: Vec<Box<dyn Mech>>,
+    out: &mut O,
+    err: &mut O,
+) -> DrillEnd
+    // There is a blank object for each session, of Kerberos for the first, the third and so on, and of SCRAM for the others.
+    requires { (plan : Plan) → plan_of words.now ≡ Some plan
+        → map meaning mechs.items ≡ blank_objects (session_count plan.calls) }
     // The words are refused exactly where they aren't in the command; else the status is 0, want of memory aside.
     ensures usage { result.status ≡ 2 → plan_of words.now ≡ None }
     ensures always_usage { plan_of words.now ≡ None → result.status ≢ 6 → result.status ≡ 2 }
@@ -167,7 +184,7 @@ pub fn run_drill<O: Sink>(alloc: Global, words: &[Text], out: &mut O, err: &mut 
         → IsDrilled plan.seed plan.calls result.sessions.items result.log.entries }
 {
     match read_plan(words) {
-        Some(plan) => run_plan(alloc, plan, out, err),
+        Some(plan) => run_plan(alloc, plan, mechs, out, err),
         None => unheld(alloc, err, 2, USAGE),
     }
 }

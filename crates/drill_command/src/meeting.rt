@@ -12,9 +12,8 @@ ghost use Rattle.drill_command.specs.Paired.{AreOnTime, IsPaired, drawn_from};
 ghost use Rattle.drill_plan.specs.Sessions.{moment_of, kind_of};
 ghost use Rattle.drill_plan.specs.Setting.{drill_start};
 
-use drill_plan::{Generator, kind_of, moment_of, start_of};
+use drill_plan::{Generator, facts_of, kind_of, moment_of};
 use gss_base::MechKind;
-use gss_client::Start;
 use gss_server::Kept;
 use pair_laws::prove_meeting;
 use sec_base::NoMemory;
@@ -81,9 +80,8 @@ pub fn prove_paired(
 {
     let tokens = tokens_for(kind_of(number));
     let mut draw = draw;
-    let start = start_of(alloc, number, moment_of(number), &mut draw)?;
+    let facts = facts_of(alloc, number, moment_of(number), &mut draw)?;
     let draws = drawn_all(alloc, kept, tokens)?;
-    let Start { setup, .. } = start;
-    prove_meeting(alloc, setup, draws.as_slice())?;
+    prove_meeting(alloc, facts, draws.as_slice())?;
     Ok(())
 }

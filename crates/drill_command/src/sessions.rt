@@ -1,7 +1,7 @@
 //! The sessions of a drill, one after the other over one book.
 
 ghost use Rattle.std.specs.Prelude.{◌≡◌, ◌≢◌, ◌⊎◌, ◌≤◌, ◌<◌, ◌+◌, ◌*◌, ◌%◌, ◌^◌, IfOk, OnOk, true};
-ghost use Rattle.std.specs.Prelude.{false, vec_len, reverse, Some, ℕ, [], ◌∷◌, ◌++◌};
+ghost use Rattle.std.specs.Prelude.{false, vec_len, reverse, Some, ℕ, [], ◌∷◌, ◌++◌, map};
 ghost use Rattle.std.specs.List.{AllByRecursion};
 ghost use Rattle.gss_base.specs.declared.mech.MechKind.{MechKind};
 ghost use Rattle.pair_laws.specs.Creation.{IsAt};
@@ -9,16 +9,19 @@ ghost use Rattle.pair_laws.specs.Linked.{kept_of};
 ghost use Rattle.drill_command.specs.Paired.{HasOctets};
 ghost use Rattle.drill_command.specs.Rested.{IsLinkTold, FitsRest, RestsAgain, IsNext};
 ghost use Rattle.accept_core.specs.Legal.{Legal};
-ghost use Rattle.spnego_core.specs.InitMech.{is_own_list};
-ghost use Rattle.gss_client.specs.Start.{start_says};
+ghost use Rattle.mech_objects.specs.Standard.{blank_of};
+ghost use Rattle.init_ends.specs.Objects.{is_own_list};
+ghost use Rattle.gss_client.specs.Start.{StartSays, objects_start, start_means};
+ghost use Rattle.gss_client.specs.Talk.{created_over};
 ghost use Rattle.gss_server.specs.Asking.{BookAnswers};
 ghost use Rattle.gate_models.specs.Looping.{Since};
 ghost use Rattle.drill_plan.specs.Generator.{octets_from};
-ghost use Rattle.drill_plan.specs.Sessions.{calls_in, session_count, moment_of};
-ghost use Rattle.drill_plan.specs.Setting.{drill_start};
+ghost use Rattle.drill_plan.specs.Sessions.{calls_in, session_count, moment_of, kind_of};
+ghost use Rattle.drill_plan.specs.Sessions.{blank_objects};
+ghost use Rattle.drill_plan.specs.Setting.{drill_start, started_by};
 ghost use Rattle.drill_command.specs.Calls.{calls_from, after_calls};
 ghost use Rattle.drill_command.specs.Chained.{IsAdded, IsFirst, AreAllHeld};
-ghost use Rattle.drill_command.specs.Held.{Holds};
+ghost use Rattle.drill_command.specs.Held.{HoldsBehind, Holds};
 ghost use Rattle.drill_plan.specs.Limits.{book_limits, log_limits, drill_limits};
 
 use crate::calls::draw_calls;
@@ -26,18 +29,16 @@ use crate::ends::early_end;
 use crate::meeting::prove_paired;
 use crate::opening::open_book;
 use accept_book::{Log, OwnSeat};
-use drill_plan::{DrillSession, Generator, Plan, WIDTH, moment_of, start_of};
+use drill_plan::{DrillSession, Generator, Plan, SESSION_CALLS, WIDTH, moment_of, start_of};
 use gate_models::{Beginning, LoopLink};
 use gss_client::{ClientRefusal, Start, Talk};
 use gss_server::Kept;
+use mech_objects::Mech;
 use pair_laws::{DueCall, hold_calls, prove_created, prove_links, tell_kept, tell_name};
 use sec_base::{Moment, NoMemory};
 use spnego_core::Outcome;
 use std::alloc::Global;
 use std::marker::Brand;
-
-/// The most calls of a session.
-const MOST_CALLS: u32 = 1_000;
 
 /// A session that was held, and the book, the server's generator and the kept answers after it.
 #[derive(Drop)]
@@ -73,11 +74,17 @@ fn hold_from<J: Beginning<OwnSeat>>(
     requires begins { J.begins book }
     requires width { J.width ≡ 128 }
     requires moment { now ≡ J.moment }
-    requires list { is_own_list start.setup.list ≡ true }
+    requires list { is_own_list (start_means start meaning).setup.list ≡ true }
     requires first { start.first ≡ 1 }
-    ensures held { IfOk result (λ h. ∥ Holds (λ asked. Since J.begins BookAnswers h.book asked)
-        128 now (start_says start) calls.now h.kept.items h.starved h.session.outcome
-        h.session.results.items h.session.ended ∥₁) }
+    ensures held { IfOk result (λ h. ∥ HoldsBehind
+        (λ asked. Since J.begins BookAnswers h.book asked) 128 now
+        (created_over (start_means start meaning)) calls.now h.kept.items h.starved
+        h.session.outcome h.session.results.items h.session.ended ∥₁) }
+    // By the objects of Kerberos and SCRAM: as by their credentials.
+    ensures plain { (own : StartSays) → start_means start meaning ≡ objects_start own
+        → IfOk result (λ h. ∥ Holds (λ asked. Since J.begins BookAnswers h.book asked) 128 now own
+        calls.now h.kept.items h.starved h.session.outcome h.session.results.items
+        h.session.ended ∥₁) }
     // and a fault of the link is want of memory
     ensures fault { IfOk result
         (λ h. h.session.ended ≡ Some ClientRefusal.LinkFault → h.starved ≡ true) }
@@ -115,22 +122,27 @@ pub fn hold_session(
     start: Start,
     calls: &[DueCall],
 ) -> Result<Held, NoMemory>
-    requires list { is_own_list start.setup.list ≡ true }
+    requires list { is_own_list (start_means start meaning).setup.list ≡ true }
     requires first { start.first ≡ 1 }
-    ensures held { IfOk result (λ h. ∥ Holds
-        (λ asked. Since (λ b. b ≡ book) BookAnswers h.book asked) 128 now (start_says start)
-        calls.now h.kept.items h.starved h.session.outcome h.session.results.items
+    ensures held { IfOk result (λ h. ∥ HoldsBehind
+        (λ asked. Since (λ b. b ≡ book) BookAnswers h.book asked) 128 now
+        (created_over (start_means start meaning)) calls.now h.kept.items h.starved
+        h.session.outcome h.session.results.items h.session.ended ∥₁) }
+    // By the objects of Kerberos and SCRAM: as by their credentials.
+    ensures plain { (own : StartSays) → start_means start meaning ≡ objects_start own
+        → IfOk result (λ h. ∥ Holds (λ asked. Since (λ b. b ≡ book) BookAnswers h.book asked) 128
+        now own calls.now h.kept.items h.starved h.session.outcome h.session.results.items
         h.session.ended ∥₁) }
     ensures limits { IfOk result (λ h. book_limits h.book ≡ book_limits book) }
     ensures moments { IfOk result (λ h. AllByRecursion (IsAt now) (kept_of h.kept.items)) }
     ensures octets { IfOk result (λ h. AllByRecursion HasOctets h.kept.items) }
     // Where no memory was wanted and it fits a book at rest, it is done, and the book rests again.
-    ensures rests { IfOk result (λ h. h.starved ≡ false
+    ensures rests { (own : StartSays) → start_means start meaning ≡ objects_start own
+        → IfOk result (λ h. h.starved ≡ false
         → h.session.ended ≢ Some ClientRefusal.NoMemory
         → (tokens : ℕ) (kind : MechKind) (count : ℕ)
-        → FitsRest tokens kind count now (start_says start) calls.now book h.kept.items
-        → ∥ RestsAgain tokens kind count now (start_says start) calls.now book h.book
-        h.session ∥₁) }
+        → FitsRest tokens kind count now own calls.now book h.kept.items
+        → ∥ RestsAgain tokens kind count now own calls.now book h.book h.session ∥₁) }
 {
     prove_created();
     let held = hold_from::<Brand>(alloc, book, now, server, client, start, calls)?;
@@ -198,21 +210,13 @@ fn is_starved(held: &Held) -> bool
     }
 }
 
-/// How many sessions make so many calls.
-fn session_count(calls: u32) -> u32
-    requires { calls ≤ 100000 }
-    ensures { result ≡ session_count calls }
-{
-    (calls + (MOST_CALLS - 1)) / MOST_CALLS
-}
-
 /// How many of the calls a session makes.
 fn calls_in(calls: u32, number: u32) -> u32
     requires most { calls ≤ 100000 }
     requires number { number < session_count calls }
     ensures { result ≡ calls_in calls number }
 {
-    (calls - number * MOST_CALLS).min(MOST_CALLS)
+    (calls - number * SESSION_CALLS).min(SESSION_CALLS)
 }
 
 /// Adds a session that was held to those before.
@@ -264,25 +268,29 @@ fn add_held(
     })
 }
 
-/// The calls of the next session, and what its client begins with.
+/// The calls of the next session, and what its client begins with, by a blank object of its mechanism.
 fn due_of(
     alloc: Global,
     generators: &mut Generators,
     number: u32,
+    mech: Box<dyn Mech>,
     count: u32,
 ) -> Result<(Vec<DueCall>, Start), NoMemory>
+    requires { meaning mech ≡ blank_of (kind_of number) }
     ensures calls { IfOk result (λ due. due.0.items
         ≡ calls_from count generators.old.calls.value) }
-    ensures start { IfOk result (λ due. start_says due.1 ≡ drill_start number (moment_of number)
-        (octets_from 66 generators.old.client.value)) }
+    ensures start { IfOk result (λ due. started_by meaning due.1 ≡ objects_start
+        (drill_start number (moment_of number) (octets_from 66 generators.old.client.value))) }
     ensures first { IfOk result (λ due. due.1.first ≡ 1) }
-    ensures list { IfOk result (λ due. is_own_list due.1.setup.list ≡ true) }
+    ensures list { IfOk result
+        (λ due. is_own_list (started_by meaning due.1).setup.list ≡ true) }
     ensures place { OnOk result (generators.new.calls.value
         ≡ after_calls count generators.old.calls.value) }
     ensures server { generators.new.server ≡ generators.old.server }
 {
     let calls = draw_calls(alloc, &mut generators.calls, count)?;
-    match start_of(alloc, number, moment_of(number), &mut generators.client) {
+    let stamp = moment_of(number);
+    match start_of(alloc, number, mech, stamp, &mut generators.client) {
         Ok(start) => Ok((calls, start)),
         Err(none) => {
             drop(calls);
@@ -291,15 +299,17 @@ fn due_of(
     }
 }
 
-/// Draws the calls of the next session and holds it.
+/// Draws the calls of the next session and holds it, by a blank object of its mechanism.
 fn next_session(
     alloc: Global,
     book: OwnSeat,
     generators: &mut Generators,
     number: u32,
+    mech: Box<dyn Mech>,
     count: u32,
 ) -> Result<Held, NoMemory>
     requires number { number ≤ 100 }
+    requires blank { meaning mech ≡ blank_of (kind_of number) }
     requires limits { book_limits book ≡ drill_limits }
     ensures limits { IfOk result (λ h. book_limits h.book ≡ book_limits book) }
     ensures next { IfOk result (λ h. h.starved ≡ false
@@ -312,7 +322,7 @@ fn next_session(
     let now = moment_of(number);
     let client = generators.client;
     // (what is large is let go by one call, at each way out)
-    let (calls, start) = match due_of(alloc, generators, number, count) {
+    let (calls, start) = match due_of(alloc, generators, number, mech, count) {
         Ok(due) => due,
         Err(none) => {
             drop(book);
@@ -340,10 +350,17 @@ fn next_session(
     }
 }
 
-/// Holds the next session of a drill.
-fn go_on(alloc: Global, course: Course, number: u32, count: u32) -> Result<Course, NoMemory>
+/// Holds the next session of a drill, by a blank object of its mechanism.
+fn go_on(
+    alloc: Global,
+    course: Course,
+    number: u32,
+    mech: Box<dyn Mech>,
+    count: u32,
+) -> Result<Course, NoMemory>
     requires few { vec_len course.sessions ≤ 100 }
     requires number { number ≤ 100 }
+    requires blank { meaning mech ≡ blank_of (kind_of number) }
     requires limits { book_limits course.book ≡ drill_limits }
     requires records { course.records ≤ vec_len course.sessions * 18446744073709551616 }
     ensures count { IfOk result (λ c. vec_len c.sessions ≡ vec_len course.sessions + 1) }
@@ -362,7 +379,7 @@ fn go_on(alloc: Global, course: Course, number: u32, count: u32) -> Result<Cours
         records,
     } = course;
     let mut generators = generators;
-    let held = next_session(alloc, book, &mut generators, number, count)?;
+    let held = next_session(alloc, book, &mut generators, number, mech, count)?;
     let course = add_held(held, generators, sessions, records)?;
     Ok(course)
 }
@@ -384,9 +401,10 @@ fn begin(alloc: Global, seed: u64) -> Result<Course, NoMemory>
     })
 }
 
-/// Holds all sessions of a drill.
-pub fn hold_all(alloc: Global, plan: Plan) -> Result<Drilled, NoMemory>
-    requires { plan.calls ≤ 100000 }
+/// Holds all sessions of a drill, each by the next one of these objects, which are blank.
+pub fn hold_all(alloc: Global, plan: Plan, mechs: Vec<Box<dyn Mech>>) -> Result<Drilled, NoMemory>
+    requires calls { plan.calls ≤ 100000 }
+    requires mechs { map meaning mechs.items ≡ blank_objects (session_count plan.calls) }
     ensures count { IfOk result (λ d. vec_len d.sessions ≡ session_count plan.calls) }
     ensures legal { IfOk result (λ d. Legal d.log.width (reverse d.log.entries)) }
     ensures limits { IfOk result (λ d. log_limits d.log ≡ drill_limits) }
@@ -394,8 +412,11 @@ pub fn hold_all(alloc: Global, plan: Plan) -> Result<Drilled, NoMemory>
         (λ d. AreAllHeld plan.seed plan.calls d.sessions.items d.log.entries) }
 {
     let mut course = begin(alloc, plan.seed)?;
-    for number in 0..session_count(plan.calls) {
-        course = go_on(alloc, course, number, calls_in(plan.calls, number))?;
+    let mut number = 0;
+    for mech in mechs {
+        let count = calls_in(plan.calls, number);
+        course = go_on(alloc, course, number, mech, count)?;
+        number += 1;
     }
     let Course {
         book,

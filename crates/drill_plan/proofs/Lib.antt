@@ -1,3 +1,5 @@
+pub mod Adding
+pub mod Arming
 pub mod Steps
 pub mod Saying
 pub mod Ticket

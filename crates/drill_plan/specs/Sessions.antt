@@ -1,7 +1,10 @@
 -- The sessions of a drill.
-use Rattle.std.specs.Prelude.{ℕ, ◌+◌, ◌-◌, ◌*◌, ◌/◌, ◌%◌, ◌==◌, nat_lt, if◌then◌else◌, min}
+use Rattle.std.specs.Prelude.{ℕ, zero, suc, ◌+◌, ◌-◌, ◌*◌, ◌/◌, ◌%◌, ◌==◌, nat_lt, min, List, []}
+use Rattle.std.specs.Prelude.{◌∷◌, ◌++◌, if◌then◌else◌}
 use Rattle.gss_base.specs.declared.mech.MechKind.{MechKind}
 use Rattle.gss_base.specs.declared.mech.MechKind.TheVariants as kinds
+use Rattle.mech_objects.specs.Meaning.{MechSays}
+use Rattle.mech_objects.specs.Standard.{blank_of}
 use Rattle.rpcsec_bodies.specs.declared.service.Service.{Service}
 use Rattle.rpcsec_bodies.specs.declared.service.Service.TheVariants as services
 
@@ -24,3 +27,9 @@ kind_of number = if number % 2 == 0 then kinds.Kerberos else kinds.Scram
 -- how the calls of a session are protected
 abbrev pub service_of : ℕ → Service
 service_of number = if nat_lt (number % 4) 2 then services.Integrity else services.Privacy
+
+-- a blank object for each of so many sessions, in their order: that of a session is of its
+-- mechanism
+abbrev pub blank_objects : ℕ → List MechSays
+blank_objects zero = []
+blank_objects (suc number) = blank_objects number ++ blank_of (kind_of number) ∷ []

@@ -1,5 +1,7 @@
 -- What both ends of a drill begin with.
 use Rattle.std.specs.Prelude.{ℕ, List, [], ◌∷◌, codes, replicate, None}
+use Rattle.std.specs.declared.dyn_box.DynBox.{DynBox}
+use Rattle.std.specs.declared.alloc.Global.{Global}
 use Rattle.gss_base.specs.Name.{Name}
 use Rattle.gss_base.specs.declared.mech.MechKind.{MechKind}
 use Rattle.gss_base.specs.declared.mech.MechKind.TheVariants as kinds
@@ -18,7 +20,10 @@ use Rattle.spnego_core.specs.declared.setup.AcceptSetup.{AcceptSetup}
 use Rattle.spnego_core.specs.declared.setup.MechCred.{MechCred}
 use Rattle.spnego_core.specs.declared.setup.MechCred.TheVariants as creds
 use Rattle.spnego_core.specs.Ends.{PlainSetup}
-use Rattle.gss_client.specs.Start.{StartSays}
+use Rattle.mech_objects.specs.Meaning.{MechSays}
+use Rattle.init_ends.specs.Ends.{setup_means}
+use Rattle.gss_client.specs.declared.start.Start.{Start}
+use Rattle.gss_client.specs.Start.{StartSays, StartMeans}
 use Rattle.drill_plan.specs.Sessions.{kind_of, service_of}
 use Rattle.files_command.specs.Making.{TicketOpens}
 
@@ -97,6 +102,15 @@ drill_start number stamp draws = record {
   setup = drill_setup (kind_of number) stamp draws;
   service = service_of number;
   first = 1;
+}
+
+-- what the code's start is, by what its objects are
+abbrev pub started_by : {X : Type 0} → {D : X → Type 0} → (DynBox X Global D → MechSays)
+    → Start X D → StartMeans
+started_by says start = record {
+  setup = setup_means says start.setup;
+  service = start.service;
+  first = start.first;
 }
 
 -- what a credential of a mechanism seals opens again: what the ticket seals, under the server's key

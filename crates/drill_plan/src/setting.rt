@@ -1,29 +1,35 @@
 //! What both ends of a drill begin with.
 
-ghost use Rattle.std.specs.Prelude.{◌≡◌, IfOk, true, [], ◌∷◌};
+ghost use Rattle.std.specs.Prelude.{◌≡◌, IfOk, map, true, [], ◌∷◌};
 ghost use Rattle.gss_base.specs.declared.mech.MechKind.TheVariants as kinds;
 ghost use Rattle.scram_mech.specs.Verifiers.{line_text, line_with};
-ghost use Rattle.spnego_core.specs.InitMech.{is_own_list};
-ghost use Rattle.gss_client.specs.Start.{start_says};
+ghost use Rattle.spnego_core.specs.Ends.{setup_of};
+ghost use Rattle.spnego_core.specs.InitMech as plain_lists;
+ghost use Rattle.mech_objects.specs.Standard.{blank_of};
+ghost use Rattle.init_ends.specs.Objects.{is_own_list};
+ghost use Rattle.init_ends.specs.Plain.{fresh_of};
+ghost use Rattle.gss_client.specs.Start.{objects_start};
 ghost use Rattle.drill_plan.specs.Generator.{octets_from, after_steps};
 ghost use Rattle.drill_plan.specs.Sessions.{moment_of, kind_of, service_of};
 ghost use Rattle.drill_plan.specs.Setting.{server_name, client_name, server_key, drill_keytab};
 ghost use Rattle.drill_plan.specs.Setting.{user_name, user_secret, drill_verifiers, drill_offer};
 ghost use Rattle.drill_plan.specs.Setting.{drill_acceptor, drill_credential, drill_start};
-ghost use Rattle.drill_plan.specs.Setting.{CredOpens};
+ghost use Rattle.drill_plan.specs.Setting.{started_by, CredOpens};
 
 use crate::generator::Generator;
 use accept_book::Limits;
 use files_command::{DRAWS, NoFile, ServiceKey, credential_for, write_keytab};
 use gss_base::{MechKind, NameRefusal, Principal};
 use gss_client::{Service, Start};
+use init_ends::{InitSetup, armed_with};
 use krb_derive::Key;
 use krb_files::{FileRefusal, FileWhy, Keytab, read_keytab};
+use mech_objects::{Mech, MechAsk};
 use scram_mech::{
     ScramRefusal, VerifierRefusal, Verifiers, make_verifier, prove_laws, read_verifiers,
 };
 use sec_base::{Draw, Items, Moment, NoMemory, Octets, Text};
-use spnego_core::{AcceptSetup, InitSetup, MechCred};
+use spnego_core::{AcceptSetup, InitFacts, MechCred};
 use std::alloc::Global;
 
 /// What the server is called, and who calls by Kerberos.
@@ -246,33 +252,77 @@ fn list_of(alloc: Global, kind: MechKind) -> Result<Items<MechCred>, NoMemory>
     Ok(Items::of(list))
 }
 
-/// What the client begins a session with, at the session's moment; it takes 66 random octets.
-pub fn start_of(
+/// The facts of a session's client, at the session's moment; they take 66 random octets.
+pub fn facts_of(
     alloc: Global,
     number: u32,
     stamp: Moment,
     draw: &mut Generator,
-) -> Result<Start, NoMemory>
-    ensures is { IfOk result
-        (λ start. start_says start ≡ drill_start number stamp (octets_from 66 draw.old.value)) }
+) -> Result<InitFacts, NoMemory>
+    ensures is { IfOk result (λ facts. setup_of facts
+        ≡ (drill_start number stamp (octets_from 66 draw.old.value)).setup) }
     ensures place { IfOk result (λ _. draw.new.value ≡ after_steps 66 draw.old.value) }
     ensures opens { IfOk result (λ _. CredOpens (kind_of number)) }
-    ensures list { IfOk result (λ start. is_own_list start.setup.list ≡ true) }
-    ensures service { IfOk result (λ start. start.service ≡ service_of number) }
-    ensures stamp { IfOk result (λ start. start.setup.stamp ≡ stamp) }
-    ensures first { IfOk result (λ start. start.first ≡ 1) }
+    ensures list { IfOk result (λ facts. plain_lists.is_own_list facts.list ≡ true) }
+    ensures stamp { IfOk result (λ facts. facts.stamp ≡ stamp) }
 {
     let list = list_of(alloc, kind_of(number))?;
     let mut draws = [0; 66];
     draw.fill(&mut draws);
-    let setup = InitSetup {
+    Ok(InitFacts {
         list,
         bindings: None,
         stamp,
         draws,
+    })
+}
+
+/// A list of one object, a blank one of this mechanism, armed with the client's credential.
+fn armed_one(
+    alloc: Global,
+    kind: MechKind,
+    mech: Box<dyn Mech>,
+) -> Result<Vec<Box<dyn Mech>>, NoMemory>
+    requires { meaning mech ≡ blank_of kind }
+    ensures is { IfOk result
+        (λ list. map meaning list.items ≡ fresh_of (drill_credential kind) ∷ []) }
+    ensures opens { IfOk result (λ _. CredOpens kind) }
+{
+    let cred = credential(alloc, kind)?;
+    let mut list = Vec::with_capacity(alloc, 1)?;
+    list.push_reserved(armed_with(mech, cred));
+    Ok(list)
+}
+
+/// What the client begins a session with, at the session's moment, by a blank object of the session's mechanism; it takes 66 random octets.
+pub fn start_of(
+    alloc: Global,
+    number: u32,
+    mech: Box<dyn Mech>,
+    stamp: Moment,
+    draw: &mut Generator,
+) -> Result<Start, NoMemory>
+    requires blank { meaning mech ≡ blank_of (kind_of number) }
+    ensures is { IfOk result (λ start. started_by meaning start
+        ≡ objects_start (drill_start number stamp (octets_from 66 draw.old.value))) }
+    ensures place { IfOk result (λ _. draw.new.value ≡ after_steps 66 draw.old.value) }
+    ensures opens { IfOk result (λ _. CredOpens (kind_of number)) }
+    ensures list { IfOk result
+        (λ start. is_own_list (started_by meaning start).setup.list ≡ true) }
+    ensures service { IfOk result (λ start. start.service ≡ service_of number) }
+    ensures stamp { IfOk result (λ start. start.setup.ask.stamp ≡ stamp) }
+    ensures first { IfOk result (λ start. start.first ≡ 1) }
+{
+    let list = armed_one(alloc, kind_of(number), mech)?;
+    let mut draws = [0; 66];
+    draw.fill(&mut draws);
+    let ask = MechAsk {
+        stamp,
+        draws,
+        bindings: None,
     };
     Ok(Start {
-        setup,
+        setup: InitSetup { list, ask },
         service: service_of(number),
         first: 1,
     })

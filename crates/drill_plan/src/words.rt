@@ -1,6 +1,7 @@
 //! The words of a drill.
 
-ghost use Rattle.std.specs.Prelude.{◌≡◌, ◌≤◌, IfSome, Some};
+ghost use Rattle.std.specs.Prelude.{◌≡◌, ◌≤◌, IfSome, Some, option_map};
+ghost use Rattle.drill_plan.specs.Sessions.{session_count};
 ghost use Rattle.drill_plan.specs.Words.{is_drill, plan_by, plan_of};
 
 use crate::numbers::seed_in;
@@ -9,6 +10,9 @@ use sec_base::Text;
 
 /// The most calls of a drill.
 const MOST_CALLS: u32 = 100_000;
+
+/// The most calls of a session.
+pub const SESSION_CALLS: u32 = 1_000;
 
 /// What the words of a drill ask for.
 #[derive(Clone, Copy)]
@@ -60,6 +64,24 @@ pub fn read_plan(words: &[Text]) -> Option<Plan>
             Some(calls) => plan_by(seed, calls),
             None => None,
         },
+        None => None,
+    }
+}
+
+/// How many sessions make so many calls.
+pub fn session_count(calls: u32) -> u32
+    requires { calls ≤ 100000 }
+    ensures { result ≡ session_count calls }
+{
+    (calls + (SESSION_CALLS - 1)) / SESSION_CALLS
+}
+
+/// How many sessions the drill has that the words ask for; None exactly where they ask for none.
+pub fn drill_sessions(words: &[Text]) -> Option<u32>
+    ensures { result ≡ option_map (λ plan. session_count plan.calls) (plan_of words.now) }
+{
+    match read_plan(words) {
+        Some(plan) => Some(session_count(plan.calls)),
         None => None,
     }
 }

@@ -1,10 +1,19 @@
 //! What a drill prints.
 
+ghost use Rattle.std.specs.Prelude.{◌≡◌, Some, map};
+ghost use Rattle.drill_plan.specs.Sessions.{blank_objects, session_count};
+ghost use Rattle.drill_plan.specs.Words.{plan_of};
+
 use drill_command::run_drill;
+use drill_plan::{Plan, add_object, drill_sessions};
+use mech_objects::{KerberosMech, Mech, ScramMech};
 use sec_base::{MemSink, Text};
-use std::alloc::Global;
+use std::alloc::{AllocError, Global};
 use std::str::from_utf8;
 use table_rows::{Cells, Rows, Said};
+
+/// The status at want of memory.
+const OUT_OF_MEMORY: u8 = 8;
 
 /// Adds a word, and answers whether it could.
 fn is_spelled(alloc: Global, words: &mut Vec<Text>, word: &str) -> bool {
@@ -42,6 +51,42 @@ fn say_lines(said: &mut Said, sink: &MemSink) {
     }
 }
 
+/// The status of a drill with these objects.
+fn status_by(
+    alloc: Global,
+    words: &[Text],
+    mechs: Vec<Box<dyn Mech>>,
+    out: &mut MemSink,
+    err: &mut MemSink,
+) -> u8
+    requires { (plan : Plan) → plan_of words.now ≡ Some plan
+        → map meaning mechs.items ≡ blank_objects (session_count plan.calls) }
+{
+    run_drill(alloc, words, mechs, out, err).status
+}
+
+/// The status of a drill, for which a blank object is made for each of its sessions.
+fn status_of(
+    alloc: Global,
+    words: &[Text],
+    out: &mut MemSink,
+    err: &mut MemSink,
+) -> Result<u8, AllocError> {
+    let mut mechs: Vec<Box<dyn Mech>> = Vec::new(alloc);
+    for number in 0..drill_sessions(words).unwrap_or(0) {
+        if number % 2 == 0 {
+            add_object(
+                &mut mechs,
+                number,
+                Box::new(alloc, KerberosMech::new(alloc))?,
+            )?;
+        } else {
+            add_object(&mut mechs, number, Box::new(alloc, ScramMech::new(alloc))?)?;
+        }
+    }
+    Ok(status_by(alloc, words, mechs, out, err))
+}
+
 /// Drills, by their words and by the sink that fails: `out`, `err` or `-`.
 pub struct Drills;
 
@@ -56,8 +101,8 @@ impl Rows for Drills {
         let failing = cells.word();
         let mut out = sink(alloc, failing == "out");
         let mut err = sink(alloc, failing == "err");
-        let end = run_drill(alloc, words.as_slice(), &mut out, &mut err);
-        said.number(end.status as u64);
+        let status = status_of(alloc, words.as_slice(), &mut out, &mut err);
+        said.number(status.unwrap_or(OUT_OF_MEMORY) as u64);
         say_lines(said, &out);
         say_lines(said, &err);
     }

@@ -6,9 +6,12 @@
 
 mod setups;
 
-ghost use Rattle.std.specs.Prelude.{◌≡◌, false};
+ghost use Rattle.std.specs.Prelude.{◌≡◌, false, map};
+ghost use Rattle.init_ends.specs.Arming.{IsBlankPair};
 
 use gss_client::{Parting, Procedure, Service, Session, Start, Talk, opaque_alone};
+use init_ends::InitSetup;
+use mech_objects::{KerberosMech, Mech, ScramMech};
 use sec_base::{Link, MemDraw, Octets};
 use setups::{BookLink, initiator, link_of};
 use spnego_core::Outcome;
@@ -28,14 +31,16 @@ const ARGUMENT: [u8; 16] = *b"\0\0\0\x0bhello world\0";
 /// The most octets of an echo.
 const MOST_OCTETS: u32 = 65_536;
 
-/// Holds the session. Its creation carries the tokens of a negotiation (RFC 2203 section 5.2); its call goes by integrity, so that a MIC covers
-/// the argument and another the result (section 5.3.2.2); then it destroys the context (section 5.4).
-fn hold(alloc: Global, link: &mut BookLink) -> Option<Talk>
+/// Holds the session by the object whose credential the client has. Its creation carries the tokens of a negotiation (RFC 2203 section 5.2);
+/// its call goes by integrity, so that a MIC covers the argument and another the result (section 5.3.2.2); then it destroys the context
+/// (section 5.4).
+fn hold(alloc: Global, link: &mut BookLink, mechs: Vec<Box<dyn Mech>>) -> Option<Talk>
     // a link that is closed isn't written to
-    requires { ⟦<BookLink as Link>⟧.closed link.old ≡ false }
+    requires open { ⟦<BookLink as Link>⟧.closed link.old ≡ false }
+    requires blank { IsBlankPair (map meaning mechs.items) }
 {
     let start = Start {
-        setup: initiator(alloc)?,
+        setup: InitSetup::armed(alloc, mechs, initiator(alloc)?).ok()?,
         service: Service::Integrity,
         first: FIRST_NUMBER,
     };
@@ -76,10 +81,13 @@ fn report(rt: &impl Print, talk: &Talk, answered: usize) -> io::Result<()> {
     }
 }
 
-/// Makes the link, holds the session over it, and says what came of it.
+/// Makes the link and the client's mechanisms, holds the session, and says what came of it.
 fn run(rt: &impl Print, alloc: Global) -> Option<()> {
+    let mut mechs: Vec<Box<dyn Mech>> = Vec::with_capacity(alloc, 2).ok()?;
+    mechs.push_reserved(Box::new(alloc, KerberosMech::new(alloc)).ok()?);
+    mechs.push_reserved(Box::new(alloc, ScramMech::new(alloc)).ok()?);
     let mut link = link_of(alloc)?;
-    let talk = hold(alloc, &mut link);
+    let talk = hold(alloc, &mut link, mechs);
     let answered = link.kept().len();
     drop(link);
     let talk = talk?;

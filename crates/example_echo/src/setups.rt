@@ -9,7 +9,7 @@ use gss_base::{MechKind, Principal};
 use krb_files::read_keytab;
 use scram_mech::{Verifiers, make_verifier, read_verifiers};
 use sec_base::{Items, Link, MemDraw, Moment, Text};
-use spnego_core::{AcceptSetup, InitSetup, MechCred};
+use spnego_core::{AcceptSetup, InitFacts, MechCred};
 use std::alloc::Global;
 
 /// What the type of the link says of the server: nothing of its book, the width of its windows, and that its clock stands at the start of 1970.
@@ -64,13 +64,13 @@ fn login(alloc: Global) -> Option<MechCred> {
     Some(MechCred::Scram { user, password })
 }
 
-/// What the client begins with: one credential, of SCRAM.
-pub fn initiator(alloc: Global) -> Option<InitSetup>
-    ensures { IfSome result (λ setup. is_own_list setup.list ≡ true) }
+/// The client's facts: one credential, of SCRAM.
+pub fn initiator(alloc: Global) -> Option<InitFacts>
+    ensures { IfSome result (λ facts. is_own_list facts.list ≡ true) }
 {
     let mut list = Vec::with_capacity(alloc, 1).ok()?;
     list.push_reserved(login(alloc)?);
-    Some(InitSetup {
+    Some(InitFacts {
         list: Items::of(list),
         bindings: None,
         stamp: Moment::start(),

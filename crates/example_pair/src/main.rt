@@ -1,6 +1,7 @@
 //! Two ends that negotiate a security context, token by token: an initiator that knows a password, and an acceptor with a verifier of it.
 //!
-//! The tokens are those of SPNEGO (RFC 4178 section 4.2), and each carries a message of SCRAM-SHA-1 (RFC 5802 section 7). A step takes its end
+//! The tokens are those of SPNEGO (RFC 4178 section 4.2), and each carries a message of SCRAM-SHA-1 (RFC 5802 section 7). The initiator's
+//! mechanisms are objects behind one trait, `Mech`, which are handed in: Kerberos and SCRAM here, or yours. A step takes its end
 //! by value and gives the next state, so that no end can be asked twice. A step that is refused, or finds no memory, ends the program with status 1.
 //! An end that waits while the other takes a step is zipped to what that step gives: both go on, or neither does.
 #![tactic(auto)]
@@ -8,9 +9,15 @@
 mod outcomes;
 mod setups;
 
+ghost use Rattle.std.specs.Prelude.{◌≡◌, IfSome, map, true};
+ghost use Rattle.init_ends.specs.Arming.{IsBlankPair};
+ghost use Rattle.init_ends.specs.Ends.{end_by, end_means, holds, holds_after, step_by};
+
+use init_ends::{InitEnd, InitSetup, InitStep};
+use mech_objects::{KerberosMech, Mech, ScramMech};
 use sec_base::{Moment, Octets};
 use setups::{DRAWS, acceptor, initiator};
-use spnego_core::{AcceptEnd, AcceptSetup, AcceptStep, InitEnd, InitStep, Outcome};
+use spnego_core::{AcceptEnd, AcceptSetup, AcceptStep, Outcome};
 use std::alloc::Global;
 use std::process::ExitCode;
 
@@ -25,9 +32,14 @@ fn say(rt: &impl Print, message: &str, token: &Octets) {
     let _ = println!(rt; "{message}, in a token of {count} octets");
 }
 
-/// The initiator's first token, a NegTokenInit, lists its mechanisms, here SCRAM alone, and carries a message of the first of them.
-fn open(alloc: Global) -> Option<(InitEnd, Octets)> {
-    InitEnd::start(alloc, initiator(alloc)?).ok()
+/// The initiator's first token, a NegTokenInit, lists its mechanisms, here SCRAM alone, and carries a message of the first of them. The
+/// objects that have a credential are armed with it; the others are dropped.
+fn open(alloc: Global, mechs: Vec<Box<dyn Mech>>) -> Option<(InitEnd, Octets)>
+    requires { IsBlankPair (map meaning mechs.items) }
+    ensures { IfSome result (λ opened. holds (end_means meaning opened.0) ≡ true) }
+{
+    let setup = InitSetup::armed(alloc, mechs, initiator(alloc)?).ok()?;
+    InitEnd::start(alloc, setup).ok()
 }
 
 /// A step of the acceptor, which takes a token of the initiator. None where the token is refused.
@@ -43,7 +55,10 @@ fn accept(
 }
 
 /// A step of the initiator, which takes a token of the acceptor. None where the token is refused.
-fn initiate(alloc: Global, end: InitEnd, token: Octets) -> Option<InitStep> {
+fn initiate(alloc: Global, end: InitEnd, token: Octets) -> Option<InitStep>
+    requires { holds (end_by end meaning) ≡ true }
+    ensures { IfSome result (λ step. holds_after (step_by step meaning) ≡ true) }
+{
     end.step(alloc, token.as_slice()).ok()
 }
 
@@ -59,7 +74,10 @@ fn answer(alloc: Global, host: &AcceptSetup, token: Octets) -> Option<(AcceptEnd
 }
 
 /// The initiator proves that it knows the password.
-fn proceed(alloc: Global, end: InitEnd, token: Octets) -> Option<(InitEnd, Octets)> {
+fn proceed(alloc: Global, end: InitEnd, token: Octets) -> Option<(InitEnd, Octets)>
+    requires { holds (end_by end meaning) ≡ true }
+    ensures { IfSome result (λ further. holds (end_by further.0 meaning) ≡ true) }
+{
     match initiate(alloc, end, token)? {
         InitStep::More(end, reply) => Some((end, reply)),
         InitStep::Done(_) => None,
@@ -83,7 +101,9 @@ fn finish(
 }
 
 /// The initiator checks the signature, by which its context stands too.
-fn conclude(alloc: Global, end: InitEnd, token: Octets) -> Option<Outcome> {
+fn conclude(alloc: Global, end: InitEnd, token: Octets) -> Option<Outcome>
+    requires { holds (end_by end meaning) ≡ true }
+{
     let step = initiate(alloc, end, token)?;
     let outcome = match &step {
         InitStep::Done(outcome) => Some(*outcome),
@@ -101,7 +121,9 @@ fn confirm(
     initiator: InitEnd,
     acceptor: AcceptEnd,
     token: Octets,
-) -> Option<(Outcome, Outcome)> {
+) -> Option<(Outcome, Outcome)>
+    requires { holds (end_by initiator meaning) ≡ true }
+{
     let ((initiator, token), acceptor) = proceed(alloc, initiator, token).zip(Some(acceptor))?;
     say(rt, "initiator: client-final-message", &token);
     let ((accepted, token), initiator) = finish(alloc, host, acceptor, token).zip(Some(initiator))?;
@@ -111,18 +133,29 @@ fn confirm(
 }
 
 /// The negotiation, from the first token on.
-fn negotiate(rt: &impl Print, alloc: Global, host: &AcceptSetup) -> Option<(Outcome, Outcome)> {
-    let (initiator, token) = open(alloc)?;
+fn negotiate(
+    rt: &impl Print,
+    alloc: Global,
+    host: &AcceptSetup,
+    mechs: Vec<Box<dyn Mech>>,
+) -> Option<(Outcome, Outcome)>
+    requires { IsBlankPair (map meaning mechs.items) }
+{
+    let (initiator, token) = open(alloc, mechs)?;
     say(rt, "initiator: client-first-message", &token);
     let ((acceptor, token), initiator) = answer(alloc, host, token).zip(Some(initiator))?;
     say(rt, "acceptor: server-first-message", &token);
     confirm(rt, alloc, host, initiator, acceptor, token)
 }
 
-/// Both ends from their setups on.
+/// Both ends from their setups on. The initiator is handed an object of each mechanism that it may be asked for, as the boxed values of one
+/// trait: it steps them, and knows no more of them than the trait says.
 fn run(rt: &impl Print, alloc: Global) -> Option<()> {
+    let mut mechs: Vec<Box<dyn Mech>> = Vec::with_capacity(alloc, 2).ok()?;
+    mechs.push_reserved(Box::new(alloc, KerberosMech::new(alloc)).ok()?);
+    mechs.push_reserved(Box::new(alloc, ScramMech::new(alloc)).ok()?);
     let host = acceptor(alloc)?;
-    let outcomes = negotiate(rt, alloc, &host);
+    let outcomes = negotiate(rt, alloc, &host, mechs);
     drop(host);
     let (initiated, accepted) = outcomes?;
     outcomes::report(rt, &initiated, &accepted).ok()

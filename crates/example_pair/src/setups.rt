@@ -7,7 +7,7 @@ use gss_base::{Bindings, MechKind, Principal};
 use krb_files::read_keytab;
 use scram_mech::{Verifiers, make_verifier, read_verifiers};
 use sec_base::{Items, Moment, Octets, Text};
-use spnego_core::{AcceptSetup, InitSetup, MechCred};
+use spnego_core::{AcceptSetup, InitFacts, MechCred};
 use std::alloc::Global;
 
 /// The user, whom both ends know, and the password, which the initiator alone knows.
@@ -46,14 +46,14 @@ fn login(alloc: Global) -> Option<MechCred> {
     Some(MechCred::Scram { user, password })
 }
 
-/// What the initiator begins with: one credential, of SCRAM.
-pub fn initiator(alloc: Global) -> Option<InitSetup>
-    ensures { IfSome result (λ setup. is_own_list setup.list ≡ true) }
+/// The initiator's facts: one credential, of SCRAM.
+pub fn initiator(alloc: Global) -> Option<InitFacts>
+    ensures { IfSome result (λ facts. is_own_list facts.list ≡ true) }
 {
     let mut list = Vec::with_capacity(alloc, 1).ok()?;
     let (login, bindings) = login(alloc).zip(bindings(alloc))?;
     list.push_reserved(login);
-    Some(InitSetup {
+    Some(InitFacts {
         list: Items::of(list),
         bindings: Some(bindings),
         stamp: Moment::start(),

@@ -14,11 +14,11 @@ use Rattle.gss_client.specs.Creation.{OfferSays, CreatedSays}
 use Rattle.gss_client.specs.Creation as created
 use Rattle.rpcsec_bodies.specs.declared.service.Service.{Service}
 use Rattle.gss_client.specs.Calling.{creation_call}
-use Rattle.gss_client.specs.Judging.{◌>>=◌, due, GrantedValue, granted_in, negotiated, is_verified, by_step, creation_step}
+use Rattle.gss_client.specs.Judging.{◌>>=◌, due, GrantedValue, granted_in, negotiated, is_verified, by_step, creation_by, creation_step}
 use Rattle.gss_client.specs.Laws.{CountLaw}
 use Rattle.gss_client.specs.Rank.{replies_left, IsNearer}
 use Rattle.gss_client.specs.Session.{SessionState, xid_after}
-use Rattle.gss_client.specs.Talk.{turns, by_turn, creates}
+use Rattle.gss_client.specs.Talk.{turns_by, turns, by_turn, creates_by, creates}
 use Rattle.gss_client.specs.Talking.{Said, Talking, after, goes_on, judges, exchanges}
 use Rattle.gss_client.proofs.Nearer.{nearer}
 
@@ -48,7 +48,7 @@ goes-granted end (Ok g) next e = goes-end (replies_left end) g (step_of (init_st
 goes-granted end (Err refusal) next e = cc
 
 goes-reply : (end : EndSays) (xid : ℕ) (reply : List ℕ) (next : OfferSays) → creation_step end xid reply ≡ Ok (created.Going next) → replies_left next.end < replies_left end
-unfolding creation_step
+unfolding creation_by
 goes-reply end xid reply next e = goes-granted end (granted_in xid reply) next e
 
 goes-heard : (end : EndSays) (xid : ℕ) (written rest : List ℕ) (heard : Result (List ℕ) ClientRefusal) (next : OfferSays) → (goes_on written rest (λ reply. judges (creation_step end xid reply)) heard).answer ≡ Ok (created.Going next) → replies_left next.end < replies_left end
@@ -56,7 +56,7 @@ goes-heard end xid written rest (Ok reply) next e = goes-reply end xid reply nex
 goes-heard end xid written rest (Err refusal) next e = cc
 
 goes-turn : (service : Service) (xid proc : ℕ) (offer next : OfferSays) (stream : List ℕ) → (turns service xid proc offer stream).answer ≡ Ok (created.Going next) → replies_left next.end < replies_left offer.end
-unfolding turns
+unfolding turns_by
 goes-turn service xid proc offer next stream e =
     let one : Said (List ℕ) = exchanges (creation_call service xid proc offer.handle offer.token) stream in
     goes-heard offer.end xid one.written one.rest one.answer next e
@@ -79,7 +79,7 @@ same-after service first xid one two written rest (Ok what) same = ap (λ (s : S
 same-after service first xid one two written rest (Err refusal) same = refl
 
 one-turn : (left : ℕ) (service : Service) (first xid proc : ℕ) (offer : OfferSays) (stream : List ℕ) → creates (suc left) service first xid proc offer stream ≡ goes_on (turns service xid proc offer stream).written (turns service xid proc offer stream).rest (by_turn service first xid (creates left service first (xid_after xid) 2)) (turns service xid proc offer stream).answer
-unfolding creates
+unfolding creates_by
 one-turn left service first xid proc offer stream = refl
 
 any-two : (left other : ℕ) (service : Service) (first xid proc : ℕ) (offer : OfferSays) (stream : List ℕ) → replies_left offer.end ≤ left → replies_left offer.end ≤ other → creates left service first xid proc offer stream ≡ creates other service first xid proc offer stream

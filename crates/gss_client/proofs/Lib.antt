@@ -9,3 +9,5 @@ pub mod AnyCount
 pub mod InConversation
 pub mod Texts
 pub mod WholeTalk
+pub mod PlainReplies
+pub mod PlainTurns

@@ -9,9 +9,8 @@ use Rattle.scram_mech.specs.declared.refusal.ScramRefusal.{ScramRefusal}
 use Rattle.krb_tokens.specs.declared.done.MechDone.{MechDone}
 use Rattle.spnego_msgs.specs.declared.neg_state.NegState.{NegState}
 use Rattle.spnego_msgs.specs.declared.neg_resp.NegResp.{NegResp}
-use Rattle.spnego_core.specs.declared.init_mech.InitMech.{InitMech}
-use Rattle.spnego_core.specs.declared.init_mech.InitMech.TheVariants as mechs
-use Rattle.spnego_core.specs.declared.init_mech.InitAnswer.TheVariants as answers
+use Rattle.spnego_core.specs.MechStates.{InitMech}
+use Rattle.spnego_core.specs.MechStates as mechs
 use Rattle.spnego_core.specs.declared.outcome.Outcome.{Outcome}
 use Rattle.spnego_core.specs.declared.refusal.MechRefusal.{MechRefusal}
 use Rattle.spnego_core.specs.declared.refusal.NegRefusal.{NegRefusal}
@@ -21,7 +20,7 @@ use Rattle.spnego_core.specs.declared.setup.MechCred.{MechCred}
 use Rattle.spnego_core.specs.Ends.{OpeningSays, TalkSays, TalkingSays, SignedSays, EndSays}
 use Rattle.spnego_core.specs.Ends as ends
 use Rattle.spnego_core.specs.EndSteps.{StepSays}
-use Rattle.spnego_core.specs.InitMech.{MechBegun, MechReplied, reply_answered, text_answered, final_answered, init_taken, init_begun, cred_for, kinds_of}
+use Rattle.spnego_core.specs.InitMech.{MechBegun, reply_answered, text_answered, final_answered, init_taken, init_begun, cred_for, kinds_of}
 use Rattle.ap_exchange.specs.Reply.{reply_taken, reply_found}
 use Rattle.spnego_core.specs.Choice.{is_first}
 use Rattle.spnego_core.specs.ListMic.{is_list_mic, mic_found}
@@ -64,7 +63,7 @@ nears-answered : (count : ℕ) (talk : TalkSays) (state : Option NegState) (mic 
 nears-answered count talk state mic found (Ok made) h = nears-behind count [] found _ (nears-looks count talk _ state mic h)
 nears-answered count talk state mic found (Err refusal) h = refused count _
 
-nears-more : (count : ℕ) (talk : TalkSays) (mech : InitMech) (token : List ℕ) (state : Option NegState) (mic : Option (List ℕ)) → taken_by mech + 1 < count → Nears count (told talk state mic (answers.More mech token))
+nears-more : (count : ℕ) (talk : TalkSays) (mech : InitMech) (token : List ℕ) (state : Option NegState) (mic : Option (List ℕ)) → taken_by mech + 1 < count → Nears count (told talk state mic (mechs.More mech token))
 unfolding Nears
 nears-more count talk mech token state mic h = either count (says_completed state) _ _ (refused count (Defective 0)) h
 
@@ -142,3 +141,9 @@ stepped count (Err refusal) step p e = cc
 
 pub nearer : (end : EndSays) (token : List ℕ) (step : StepSays) → step_of (init_step end token) ≡ Ok step → IsNearer (replies_left end) step
 nearer end token step e = stepped (replies_left end) (init_step end token) step (nears end token) e
+
+-- an end takes four replies at most
+pub few-left : (end : EndSays) → replies_left end ≤ 4
+few-left (ends.Opens opening) = omega arith
+few-left (ends.Talks talking) = omega (arith, few-taken talking.mech)
+few-left (ends.Signed signed) = omega arith

@@ -11,13 +11,11 @@ use Rattle.rpcsec_bodies.specs.declared.refusal.BodyRefusal.{BodyRefusal}
 use Rattle.rpcsec_bodies.specs.declared.refusal.BodyRefusal.TheVariants as bodies
 use Rattle.rpcsec_bodies.specs.Opening.{unprotected}
 use Rattle.rpcsec_msgs.specs.InitRes.{init_res_at}
-use Rattle.spnego_core.specs.Initiating.{init_step, step_of}
 use Rattle.spnego_core.specs.Outcome.{token_end}
 use Rattle.rpcsec_msgs.specs.declared.init_res.InitRes.{InitRes}
 use Rattle.spnego_core.specs.declared.outcome.Outcome.{Outcome}
 use Rattle.spnego_core.specs.declared.refusal.NegRefusal.{NegRefusal}
-use Rattle.spnego_core.specs.Ends.{EndSays}
-use Rattle.spnego_core.specs.EndSteps.{StepSays}
+use Rattle.spnego_core.specs.EndSteps.{StepOf}
 use Rattle.spnego_core.specs.EndSteps as steps
 use Rattle.gss_client.specs.declared.refusal.ClientRefusal.{ClientRefusal}
 use Rattle.gss_client.specs.declared.refusal.ClientRefusal.TheVariants.{LinkFault, NoMemory}
@@ -27,9 +25,9 @@ use Rattle.gss_client.specs.declared.refusal.Denial.TheVariants.{Rpc, Auth, Acce
 use Rattle.gss_client.specs.declared.refusal.Denial.{Denial}
 use Rattle.gss_client.specs.declared.refusal.ReplyWhy.{ReplyWhy}
 use Rattle.gss_client.specs.declared.refusal.ReplyWhy.TheVariants.{Form, Xid, Verifier, Steps, Width, Body, Number}
-use Rattle.gss_client.specs.Creation.{CreatedSays}
+use Rattle.gss_client.specs.Creation.{Machine, CreatedOf}
 use Rattle.gss_client.specs.Creation as created
-use Rattle.gss_client.specs.Judging.{AnswerValue, GrantedValue, ◌>>=◌, due, xid_of, place_of, formed, granted, answer_in, is_verified, placed, granted_in, negotiated, by_step, creation_step, verified_in, or_refused, call_result, destroyed_in}
+use Rattle.gss_client.specs.Judging.{AnswerValue, GrantedValue, ◌>>=◌, due, xid_of, place_of, formed, granted, answer_in, is_verified, placed, granted_in, negotiated, by_step, creation_by, verified_in, or_refused, call_result, destroyed_in}
 
 NoFault : {A : Type 0} → Result A ClientRefusal → Type 0
 NoFault (Ok x) = Unit {0}
@@ -84,12 +82,12 @@ unfolding granted_in
 granted_in-clear xid octets =
     follow _ _ (answer-clear xid octets) (λ (answer : AnswerValue). follow _ _ (due-clear (Refused (Accept answer.stat)) (answer.stat == 0) (denied (Accept answer.stat))) (λ success. follow _ _ (placed-clear answer (init_res_at answer.result)) (λ (result : InitRes). follow _ _ (due-clear (Refused (Gss result.major result.minor)) (nat_le result.major 1) (denied (Gss result.major result.minor))) (λ status. fine (record { answer = answer; result = result })))))
 
-negotiated-clear : (r : Result StepSays NegRefusal) → NoFault (negotiated r)
+negotiated-clear : {E : Type 0} (r : Result (StepOf E) NegRefusal) → NoFault (negotiated r)
 unfolding NoFault
 negotiated-clear (Ok step) = tt
 negotiated-clear (Err refusal) = unheard refusal
 
-by_step-clear : (g : GrantedValue) (step : StepSays) → NoFault (by_step g step)
+by_step-clear : {E : Type 0} (g : GrantedValue) (step : StepOf E) → NoFault (by_step g step)
 unfolding by_step
 by_step-clear g (steps.More end token) =
     follow _ _ (due-clear (BadReply Steps) (g.result.major == 1) (bad Steps)) (λ u. fine (created.Going (record { end = end; handle = g.result.context; token = token })))
@@ -98,9 +96,9 @@ by_step-clear g (steps.Done outcome) =
     follow _ _ (due-clear (BadReply Width) (not (g.result.window == 0)) (bad Width)) (λ v.
     follow _ _ (due-clear (BadReply Verifier) (is_verified outcome g.answer g.result.window) (bad Verifier)) (λ w. fine (created.Stands outcome g.result.context))))
 
-creation-clear : (end : EndSays) (xid : ℕ) (octets : List ℕ) → NoFault (creation_step end xid octets)
-unfolding creation_step
-creation-clear end xid octets = follow _ _ (granted_in-clear xid octets) (λ (g : GrantedValue). follow _ _ (negotiated-clear (step_of (init_step end g.result.token))) (λ step. by_step-clear g step))
+creation-clear : {E : Type 0} (machine : Machine E) (end : E) (xid : ℕ) (octets : List ℕ) → NoFault (creation_by machine end xid octets)
+unfolding creation_by
+creation-clear machine end xid octets = follow _ _ (granted_in-clear xid octets) (λ (g : GrantedValue). follow _ _ (negotiated-clear (machine end g.result.token)) (λ step. by_step-clear g step))
 
 verified-clear : (outcome : Outcome) (number xid : ℕ) (octets : List ℕ) → NoFault (verified_in outcome number xid octets)
 unfolding verified_in
@@ -146,5 +144,5 @@ no-destroy-fault outcome number xid octets r g e = none (λ x. x) r (destroyed_i
     same-gives (Ok x) a g = sym g
     same-gives (Err d) a g = λ h. sym g
 
-pub no-creation-fault : {A : Type 0} (view : A → CreatedSays) (end : EndSays) (xid : ℕ) (octets : List ℕ) (r : Result A ClientRefusal) → Gives NoMemory view r (creation_step end xid octets) → IsErrOf r LinkFault → ⊥
-no-creation-fault view end xid octets r g e = none view r (creation_step end xid octets) (creation-clear end xid octets) g e
+pub no-creation-fault : {A E : Type 0} (r : Result A ClientRefusal) (view : A → CreatedOf E) (machine : Machine E) (end : E) (xid : ℕ) (octets : List ℕ) → Gives NoMemory view r (creation_by machine end xid octets) → IsErrOf r LinkFault → ⊥
+no-creation-fault r view machine end xid octets g e = none view r (creation_by machine end xid octets) (creation-clear machine end xid octets) g e

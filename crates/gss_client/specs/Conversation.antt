@@ -13,7 +13,7 @@ use Rattle.gss_client.specs.Start.{StartSays}
 use Rattle.gss_client.specs.Procedure.{procedure_number, is_result}
 use Rattle.gss_client.specs.Session.{SessionState}
 use Rattle.gss_client.specs.Talk.{created_from, calls, destroys}
-use Rattle.gss_client.specs.Talking.{Said}
+use Rattle.gss_client.specs.Talking.{Said, Talking}
 
 -- ---- the calls of a session, and the end of its context
 
@@ -114,8 +114,14 @@ by_creation times procedure args draws written rest (Err refusal) =
       rest = rest;
     }
 
--- the creation of a context from this start, so many calls, and the destruction
-unfoldable pub talk : StartSays → ℕ → Procedure → List ℕ → List ℕ → List ℕ → Talk
-talk start times procedure args draws stream =
-    let said : Said SessionState = created_from start stream in
+-- this creation of a context, so many calls, and the destruction
+unfoldable pub talk_by : Talking SessionState → ℕ → Procedure → List ℕ → List ℕ → List ℕ → Talk
+talk_by creation times procedure args draws stream =
+    let said : Said SessionState = creation stream in
     by_creation times procedure args draws said.written said.rest said.answer
+
+-- the creation of a context from this start, by plain credentials, so many calls, and the
+-- destruction
+abbrev pub talk : StartSays → ℕ → Procedure → List ℕ → List ℕ → List ℕ → Talk
+talk start times procedure args draws stream =
+    talk_by (created_from start) times procedure args draws stream

@@ -8,10 +8,11 @@ use Rattle.gss_client.specs.declared.procedure.Procedure.{Procedure}
 use Rattle.gss_client.specs.declared.refusal.ClientRefusal.{ClientRefusal}
 use Rattle.gss_client.specs.declared.refusal.ClientRefusal.TheVariants.{LinkFault, NoMemory}
 use Rattle.gss_client.specs.Start.{StartSays}
-use Rattle.gss_client.specs.Conversation.{Conversed, converses, Talk, talk}
+use Rattle.gss_client.specs.Conversation.{Conversed, converses, Talk, talk_by}
 use Rattle.gss_client.specs.Exchanging.{Went, Done, Stopped}
 use Rattle.gss_client.specs.Session.{SessionState}
-use Rattle.gss_client.specs.Talk.{destroys}
+use Rattle.gss_client.specs.Talk.{created_from, destroys}
+use Rattle.gss_client.specs.Talking.{Talking}
 
 -- these are the first of those
 abbrev pub IsFront : {A : Type 0} → List A → List A → Type 0
@@ -71,8 +72,8 @@ pub record IsTalkFront (wrote : List ℕ) (outcome : Option Outcome) (results : 
   pub outcome_is : (outcome ≡ None) ⊎ (t.outcome ≡ outcome)
   pub results_are : IsFront results t.results
 
--- the same for the whole talk
-pub record Talked (tells : Bool) (given given' : List ℕ) (start : StartSays)
+-- the same for the whole talk, whose context is created so
+pub record TalkedBy (tells : Bool) (given given' : List ℕ) (creation : Talking SessionState)
     (times : ℕ) (procedure : Procedure) (args : List ℕ) (old new : Wire) (outcome : Option Outcome)
     (results : List (List ℕ)) (parting : Parting) : Type 0 where
   pub took : List ℕ
@@ -81,9 +82,16 @@ pub record Talked (tells : Bool) (given given' : List ℕ) (start : StartSays)
   pub went : Went old new took wrote
   pub draws : IsTrue tells → given' ≡ given ++ drawn
   pub front : (later : List ℕ) → IsTalkFront wrote outcome results
-      (talk start times procedure args (drawn ++ later) (took ++ new.coming))
+      (talk_by creation times procedure args (drawn ++ later) (took ++ new.coming))
   pub whole : parting ≢ Refused LinkFault
       → parting ≢ Refused NoMemory → (later : List ℕ) → IsTalk wrote outcome results parting later
-      (talk start times procedure args (drawn ++ later) (took ++ new.coming))
+      (talk_by creation times procedure args (drawn ++ later) (took ++ new.coming))
   pub heard : ((refusal : ClientRefusal) → parting ≢ Refused refusal) → (later : List ℕ)
-      → (talk start times procedure args (drawn ++ later) (took ++ new.coming)).rest ≡ new.coming
+      → (talk_by creation times procedure args (drawn ++ later) (took ++ new.coming)).rest
+      ≡ new.coming
+
+-- the same of a start by plain credentials
+abbrev pub Talked : Bool → List ℕ → List ℕ → StartSays → ℕ → Procedure → List ℕ → Wire → Wire
+    → Option Outcome → List (List ℕ) → Parting → Type 0
+Talked tells given given' start times procedure args old new outcome results parting = TalkedBy
+    tells given given' (created_from start) times procedure args old new outcome results parting

@@ -3,7 +3,7 @@ use Rattle.std.specs.Prelude.{◌≡◌, ◌≢◌, ◌≤◌, ℕ, List, ◌++�
 use Rattle.sec_base.specs.Link.{Wire}
 use Rattle.gss_client.specs.declared.refusal.ClientRefusal.{ClientRefusal}
 use Rattle.gss_client.specs.declared.refusal.ClientRefusal.TheVariants.{LinkFault, NoMemory}
-use Rattle.gss_client.specs.Creation.{OfferSays, CreatedSays}
+use Rattle.gss_client.specs.Creation.{OfferOf, CreatedOf}
 use Rattle.gss_client.specs.Creation as created
 use Rattle.gss_client.specs.Talking.{Talking, said}
 
@@ -45,11 +45,11 @@ abbrev pub IsHandle : List ℕ → Type 0
 IsHandle handle = length handle ≤ 64
 
 -- a handle and a token for which a creation call has room
-pub record FitsOffer (offer : OfferSays) : Type 0 where
+pub record FitsOffer {E : Type 0} (offer : OfferOf E) : Type 0 where
   pub handle : IsHandle offer.handle
   pub token : length offer.token ≤ 65536
 
 -- the same of what a reply leads to: a further offer, or the handle of a context that stands
-abbrev pub FitsCreated : CreatedSays → Type 0
+abbrev pub FitsCreated : {E : Type 0} → CreatedOf E → Type 0
 FitsCreated (created.Going offer) = FitsOffer offer
 FitsCreated (created.Stands outcome handle) = IsHandle handle

@@ -20,9 +20,8 @@ use Rattle.rpcsec_msgs.specs.declared.init_res.InitRes.{InitRes}
 use Rattle.spnego_core.specs.declared.outcome.Outcome.{Outcome}
 use Rattle.spnego_core.specs.declared.refusal.NegRefusal.{NegRefusal}
 use Rattle.spnego_core.specs.Ends.{EndSays}
-use Rattle.spnego_core.specs.EndSteps.{StepSays}
+use Rattle.spnego_core.specs.EndSteps.{StepOf}
 use Rattle.spnego_core.specs.EndSteps as steps
-use Rattle.spnego_core.specs.Initiating.{init_step, step_of}
 use Rattle.spnego_core.specs.Outcome.{token_end}
 use Rattle.gss_client.specs.declared.answer.Answer.{Answer}
 use Rattle.gss_client.specs.declared.creation.Granted.{Granted}
@@ -32,7 +31,7 @@ use Rattle.gss_client.specs.declared.refusal.ClientRefusal.TheVariants.{BadReply
 use Rattle.gss_client.specs.declared.refusal.Denial.TheVariants.{Rpc, Auth, Accept, Gss}
 use Rattle.gss_client.specs.declared.refusal.ReplyWhy.TheVariants.{Form, Xid, Verifier, Steps}
 use Rattle.gss_client.specs.declared.refusal.ReplyWhy.TheVariants.{Width, Body, Number}
-use Rattle.gss_client.specs.Creation.{CreatedSays}
+use Rattle.gss_client.specs.Creation.{Machine, plain_machine, CreatedOf, CreatedSays}
 use Rattle.gss_client.specs.Creation as created
 use Rattle.gss_client.specs.Session.{SessionState, session_after}
 
@@ -136,7 +135,8 @@ granted_in xid octets = do
   Ok (record { answer = answer; result = result })
 
 -- C8
-abbrev pub negotiated : Result StepSays NegRefusal → Result StepSays ClientRefusal
+abbrev pub negotiated : {E : Type 0} → Result (StepOf E) NegRefusal
+    → Result (StepOf E) ClientRefusal
 negotiated (Ok step) = Ok step
 negotiated (Err refusal) = Err (Negotiation refusal)
 
@@ -148,7 +148,8 @@ done_by g outcome = do
   due (BadReply Verifier) (is_verified outcome g.answer g.result.window)
 
 -- what the end's step leads to
-unfoldable pub by_step : GrantedValue → StepSays → Result CreatedSays ClientRefusal
+unfoldable pub by_step : {E : Type 0} → GrantedValue → StepOf E
+    → Result (CreatedOf E) ClientRefusal
 by_step g (steps.More end token) = do
   -- C9
   unfinished ← due (BadReply Steps) (g.result.major == CONTINUE_NEEDED)
@@ -162,11 +163,16 @@ by_step g (steps.Done outcome) = do
 
 -- C2 to C11: what a record leads to as the reply to a creation call, whose token the end takes
 -- (RFC 2203 section 5.2.3)
-unfoldable pub creation_step : EndSays → ℕ → List ℕ → Result CreatedSays ClientRefusal
-creation_step end xid octets = do
+unfoldable pub creation_by : {E : Type 0} → Machine E → E → ℕ → List ℕ
+    → Result (CreatedOf E) ClientRefusal
+creation_by machine end xid octets = do
   g ← granted_in xid octets
-  step ← negotiated (step_of (init_step end g.result.token))
+  step ← negotiated (machine end g.result.token)
   by_step g step
+
+-- the same of an end over plain credentials
+abbrev pub creation_step : EndSays → ℕ → List ℕ → Result CreatedSays ClientRefusal
+creation_step end xid octets = creation_by plain_machine end xid octets
 
 -- ---- replies to calls
 

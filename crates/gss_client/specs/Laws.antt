@@ -1,5 +1,6 @@
--- What stands behind a result, and how many turns a creation takes.
-use Rattle.std.specs.Prelude.{◌≡◌, ◌≤◌, ℕ, List, Ok}
+-- What stands behind a result, how many turns a creation takes, and that a creation by the objects
+-- of Kerberos and SCRAM is the one by their credentials.
+use Rattle.std.specs.Prelude.{◌≡◌, ◌≤◌, ℕ, List, Result, Ok, Err}
 use Rattle.krb_tokens.specs.declared.end.Side.TheVariants.{Initiator}
 use Rattle.krb_tokens.specs.Mic.{checked_mic}
 use Rattle.rpc_msgs.specs.declared.numbers.TheConstants.{SUCCESS, RPCSEC_GSS}
@@ -8,12 +9,18 @@ use Rattle.rpc_msgs.specs.ReplyReading.{reply_at}
 use Rattle.rpc_msgs.specs.Words.{word}
 use Rattle.rpcsec_bodies.specs.Carried.{IsBody}
 use Rattle.rpcsec_bodies.specs.declared.service.Service.{Service}
+use Rattle.spnego_core.specs.Ends.{EndSays}
 use Rattle.spnego_core.specs.Outcome.{token_end}
-use Rattle.gss_client.specs.Creation.{OfferSays}
-use Rattle.gss_client.specs.Judging.{result_taken}
+use Rattle.init_ends.specs.Ends.{EndMeans}
+use Rattle.init_ends.specs.Initiating.{end_step}
+use Rattle.init_ends.specs.Plain.{StandsAs}
+use Rattle.gss_client.specs.declared.refusal.ClientRefusal.{ClientRefusal}
+use Rattle.gss_client.specs.Creation.{OfferSays, CreatedSays, CreatedMeans, Going, Stands}
+use Rattle.gss_client.specs.Judging.{creation_by, creation_step, result_taken}
 use Rattle.gss_client.specs.Rank.{replies_left}
 use Rattle.gss_client.specs.Session.{SessionState}
-use Rattle.gss_client.specs.Talk.{creates}
+use Rattle.gss_client.specs.Start.{StartSays, objects_start}
+use Rattle.gss_client.specs.Talk.{creates, created_over, created_from}
 
 -- a reply with the call's transaction number and SUCCESS, whose verifier is the acceptor's MIC over
 -- the call's number, with this result in its body
@@ -38,3 +45,31 @@ CountLaw = (left : ℕ) (service : Service) (first xid proc : ℕ) (offer : Offe
     (stream : List ℕ) → replies_left offer.end ≤ left
     → creates left service first xid proc offer stream
     ≡ creates (replies_left offer.end) service first xid proc offer stream
+
+-- ---- objects, and plain credentials
+
+-- both go on with the same handle and token, or both contexts stand with the same outcome and
+-- handle
+abbrev pub LeadsAs : CreatedMeans → CreatedSays → Type 0
+LeadsAs (Going offer) (Going plain) = StandsAs offer.end plain.end
+    × (offer.handle ≡ plain.handle) × (offer.token ≡ plain.token)
+LeadsAs (Going offer) (Stands outcome handle) = ⊥
+LeadsAs (Stands outcome handle) (Going plain) = ⊥
+LeadsAs (Stands outcome handle) (Stands plain own) = (outcome ≡ plain) × (handle ≡ own)
+
+-- the same of what may be refused: both are refused alike
+abbrev pub CreatesAs : Result CreatedMeans ClientRefusal → Result CreatedSays ClientRefusal → Type 0
+CreatesAs (Ok what) (Ok plain) = LeadsAs what plain
+CreatesAs (Ok what) (Err refusal) = ⊥
+CreatesAs (Err refusal) (Ok plain) = ⊥
+CreatesAs (Err refusal) (Err plain) = refusal ≡ plain
+
+-- a creation by the objects of Kerberos and SCRAM is the one by their credentials
+pub record PlainCreation : Type 0 where
+  -- what a reply leads to, at an end that stands where the plain end stands
+  pub replies : (end : EndMeans) (plain : EndSays) (xid : ℕ) (octets : List ℕ)
+      → StandsAs end plain
+      → CreatesAs (creation_by end_step end xid octets) (creation_step plain xid octets)
+  -- the whole creation, whatever is heard
+  pub whole : (start : StartSays) (stream : List ℕ)
+      → created_over (objects_start start) stream ≡ created_from start stream

@@ -1,13 +1,11 @@
 -- How many replies a negotiating end may still take.
 use Rattle.std.specs.Prelude.{ℕ, ◌<◌, ◌+◌}
-use Rattle.spnego_core.specs.declared.init_mech.InitMech.{InitMech}
-use Rattle.spnego_core.specs.declared.init_mech.InitMech.TheVariants as mechs
+use Rattle.spnego_core.specs.MechStates.{InitMech}
+use Rattle.spnego_core.specs.MechStates as mechs
 use Rattle.spnego_core.specs.Ends.{EndSays}
 use Rattle.spnego_core.specs.Ends as ends
 use Rattle.spnego_core.specs.EndSteps.{StepSays}
 use Rattle.spnego_core.specs.EndSteps as steps
-use Rattle.gss_client.specs.Creation.{CreatedSays}
-use Rattle.gss_client.specs.Creation as created
 
 -- how many a mechanism still takes: Kerberos one, SCRAM the acceptor's first text and its signature
 abbrev pub taken_by : InitMech → ℕ
@@ -26,8 +24,3 @@ replies_left (ends.Signed signed) = 1
 abbrev pub IsNearer : ℕ → StepSays → Type 0
 IsNearer count (steps.More end token) = replies_left end < count
 IsNearer count (steps.Done outcome) = Unit {0}
-
--- the same of what a reply leads to
-abbrev pub IsCloser : ℕ → CreatedSays → Type 0
-IsCloser count (created.Going offer) = replies_left offer.end < count
-IsCloser count (created.Stands outcome handle) = Unit {0}

@@ -1,16 +1,33 @@
 -- What a session is begun with, however it lies in memory.
 use Rattle.std.specs.Prelude.{ℕ}
-use Rattle.spnego_core.specs.Ends.{PlainSetup, setup_says}
+use Rattle.spnego_core.specs.Ends.{PlainSetup}
+use Rattle.mech_objects.specs.Meaning.{MechSays}
+use Rattle.init_ends.specs.Ends.{SetupMeans, setup_by}
+use Rattle.init_ends.specs.Plain.{objects_of}
 use Rattle.gss_client.specs.declared.start.Start.{Start}
 use Rattle.rpcsec_bodies.specs.declared.service.Service.{Service}
 
 -- what its initiator is begun with, how its calls are protected, and the number of its first call
-pub record StartSays : Type 0 where
-  pub setup : PlainSetup
+pub record StartOf (S : Type 0) : Type 0 where
+  pub setup : S
   pub service : Service
   pub first : ℕ
 
--- what the code's start is
-abbrev pub start_says : Start → StartSays
-start_says start =
-    record { setup = setup_says start.setup; service = start.service; first = start.first }
+-- by plain credentials
+abbrev pub StartSays : Type 0
+StartSays = StartOf PlainSetup
+
+-- by objects
+abbrev pub StartMeans : Type 0
+StartMeans = StartOf SetupMeans
+
+-- the start over the objects of Kerberos and SCRAM that got a plain start's credentials
+abbrev pub objects_start : StartSays → StartMeans
+objects_start start =
+    record { setup = objects_of start.setup; service = start.service; first = start.first }
+
+-- what the code's start is, by what its objects are
+abbrev pub start_means : {X : Type 0} → {D : X → Type 0} → Start X D
+    → ((x : X) × D x → MechSays) → StartMeans
+start_means start says =
+    record { setup = setup_by start.setup says; service = start.service; first = start.first }

@@ -1,19 +1,23 @@
 -- A client's talk: from its start, its calls and the octets that it hears to what it writes, its
--- outcome, its results and its end.
+-- outcome, its results and its end. A creation is by whichever machine the initiator is.
 use Rattle.std.specs.Prelude.{ℕ, zero, suc, List, [], Result, Ok, Err}
 use Rattle.rpcsec_msgs.specs.declared.numbers.TheConstants.{RPCSEC_GSS_INIT}
 use Rattle.rpcsec_msgs.specs.declared.numbers.TheConstants.{RPCSEC_GSS_CONTINUE_INIT}
 use Rattle.spnego_core.specs.declared.outcome.Outcome.{Outcome}
 use Rattle.spnego_core.specs.declared.refusal.NegRefusal.{NegRefusal}
 use Rattle.spnego_core.specs.Initiating.{Started, init_start}
+use Rattle.init_ends.specs.Ends.{EndMeans}
+use Rattle.init_ends.specs.Initiating.{end_start, end_step}
 use Rattle.gss_client.specs.declared.refusal.ClientRefusal.TheVariants.{Negotiation, BadReply}
 use Rattle.gss_client.specs.declared.refusal.ReplyWhy.TheVariants.{Steps}
-use Rattle.gss_client.specs.Start.{StartSays}
-use Rattle.gss_client.specs.Creation.{OfferSays, CreatedSays}
+use Rattle.gss_client.specs.Start.{StartSays, StartMeans}
+use Rattle.gss_client.specs.Creation.{Machine, plain_machine, OfferOf, CreatedOf, OfferSays}
+use Rattle.gss_client.specs.Creation.{CreatedSays}
 use Rattle.gss_client.specs.Creation as created
 use Rattle.rpcsec_bodies.specs.declared.service.Service.{Service}
 use Rattle.gss_client.specs.Calling.{creation_call, data_call, destroy_call}
-use Rattle.gss_client.specs.Judging.{creation_step, result_taken, destroyed_in}
+use Rattle.gss_client.specs.declared.establish.TheConstants.{MOST_REPLIES}
+use Rattle.gss_client.specs.Judging.{creation_by, result_taken, destroyed_in}
 use Rattle.gss_client.specs.Rank.{replies_left}
 use Rattle.gss_client.specs.Session.{SessionState, xid_after}
 use Rattle.gss_client.specs.Talking.{Talking, ◌>>=◌, judges, exchanges}
@@ -21,10 +25,11 @@ use Rattle.gss_client.specs.Talking.{Talking, ◌>>=◌, judges, exchanges}
 -- ---- creation
 
 -- one turn: a creation call with the offer's token and handle, and what its reply leads to
-unfoldable pub turns : Service → ℕ → ℕ → OfferSays → Talking CreatedSays
-turns service xid proc offer = do
+unfoldable pub turns_by : {E : Type 0} → Machine E → Service → ℕ → ℕ → OfferOf E
+    → Talking (CreatedOf E)
+turns_by machine service xid proc offer = do
   reply ← exchanges (creation_call service xid proc offer.handle offer.token)
-  judges (creation_step offer.end xid reply)
+  judges (creation_by machine offer.end xid reply)
 
 -- the session that begins with this number
 abbrev pub begun : Service → ℕ → ℕ → Outcome → List ℕ → SessionState
@@ -32,20 +37,45 @@ begun service first xid outcome handle =
     record { outcome = outcome; service = service; handle = handle; number = first; xid = xid }
 
 -- what follows a turn: `next` with a further offer, or the session if the context stands
-abbrev pub by_turn : Service → ℕ → ℕ → (OfferSays → Talking SessionState) → CreatedSays
-    → Talking SessionState
+abbrev pub by_turn : {E : Type 0} → Service → ℕ → ℕ → (OfferOf E → Talking SessionState)
+    → CreatedOf E → Talking SessionState
 by_turn service first xid next (created.Going offer) = next offer
 by_turn service first xid next (created.Stands outcome handle) =
     judges (Ok (begun service first (xid_after xid) outcome handle))
 
--- turn after turn, of which so many may still come. It is begun with as many as the end takes
--- replies, and is the same for any greater count, so that there is always one left.
-unfoldable pub creates : ℕ → Service → ℕ → ℕ → ℕ → OfferSays → Talking SessionState
-creates zero service first xid proc offer = judges (Err (BadReply Steps))
-creates (suc left) service first xid proc offer = do
-  what ← turns service xid proc offer
-  by_turn service first xid (creates left service first (xid_after xid) RPCSEC_GSS_CONTINUE_INIT)
-      what
+-- turn after turn, of which so many may still come
+unfoldable pub creates_by : {E : Type 0} → Machine E → ℕ → Service → ℕ → ℕ → ℕ → OfferOf E
+    → Talking SessionState
+creates_by machine zero service first xid proc offer = judges (Err (BadReply Steps))
+creates_by machine (suc left) service first xid proc offer = do
+  what ← turns_by machine service xid proc offer
+  by_turn service first xid
+      (creates_by machine left service first (xid_after xid) RPCSEC_GSS_CONTINUE_INIT) what
+
+-- ---- creation by objects
+
+-- by how the negotiation began: turn after turn, or its refusal. An object needn't ever be done, so
+-- that the count of turns is bounded.
+abbrev pub begins_over : Service → ℕ → Result (EndMeans × List ℕ) NegRefusal → Talking SessionState
+begins_over service first (Err refusal) = judges (Err (Negotiation refusal))
+begins_over service first (Ok started) = creates_by end_step MOST_REPLIES service first 1
+    RPCSEC_GSS_INIT (record { end = started.0; handle = []; token = started.1 })
+
+-- the creation of a session from this start, whose first call then has the start's number
+unfoldable pub created_over : StartMeans → Talking SessionState
+created_over start = begins_over start.service start.first (end_start start.setup)
+
+-- ---- creation by plain credentials
+
+-- one turn
+abbrev pub turns : Service → ℕ → ℕ → OfferSays → Talking CreatedSays
+turns service xid proc offer = turns_by plain_machine service xid proc offer
+
+-- turn after turn. It is begun with as many as the end takes replies, and is the same for any
+-- greater count, so that there is always one left.
+abbrev pub creates : ℕ → Service → ℕ → ℕ → ℕ → OfferSays → Talking SessionState
+creates left service first xid proc offer =
+    creates_by plain_machine left service first xid proc offer
 
 -- the creation by how the negotiation began: turn after turn, or its refusal
 abbrev pub begins : Service → ℕ → Result Started NegRefusal → Talking SessionState

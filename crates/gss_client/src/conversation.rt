@@ -3,9 +3,10 @@
 ghost use Rattle.std.specs.Prelude.{◌≡◌, ◌≢◌, ◌≤◌, ◌+◌, false, true, IsTrue, [], ◌∷◌, ◌++◌, length};
 ghost use Rattle.std.specs.Vec.{vec_len, vec_capacity};
 ghost use Rattle.sec_base.specs.Answers.{Rose};
-ghost use Rattle.spnego_core.specs.InitMech.{is_own_list};
-ghost use Rattle.gss_client.specs.Conversing.{Conferred, Leaves, Talked};
-ghost use Rattle.gss_client.specs.Start.{start_says};
+ghost use Rattle.init_ends.specs.Objects.{is_own_list};
+ghost use Rattle.gss_client.specs.Conversing.{Conferred, Leaves, TalkedBy, Talked};
+ghost use Rattle.gss_client.specs.Start.{StartSays, objects_start, start_means};
+ghost use Rattle.gss_client.specs.Talk.{created_over};
 
 use crate::procedure::Procedure;
 use crate::refusal::ClientRefusal;
@@ -124,13 +125,18 @@ impl Session {
         times: u32,
     ) -> Talk
         requires unclosed { L.closed link.old ≡ false }
-        requires list { is_own_list start.setup.list ≡ true }
+        requires list { is_own_list (start_means start meaning).setup.list ≡ true }
         requires first { 1 ≤ start.first }
         requires last { start.first ≤ 0x7fffffff }
         requires args { length args.now ≤ 65540 }
-        ensures told { IsTrue (L.tells link.old) → Talked (D.tells draw.new) (D.given draw.old)
-            (D.given draw.new) (start_says start) times procedure args.now (L.wire link.old)
-            (L.wire link.new) result.outcome result.results.items result.parting }
+        ensures told { IsTrue (L.tells link.old) → TalkedBy (D.tells draw.new) (D.given draw.old)
+            (D.given draw.new) (created_over (start_means start meaning)) times procedure args.now
+            (L.wire link.old) (L.wire link.new) result.outcome result.results.items result.parting }
+        // By the objects of Kerberos and SCRAM: as by their credentials.
+        ensures plain { (own : StartSays) → start_means start meaning ≡ objects_start own
+            → IsTrue (L.tells link.old) → Talked (D.tells draw.new) (D.given draw.old)
+            (D.given draw.new) own times procedure args.now (L.wire link.old) (L.wire link.new)
+            result.outcome result.results.items result.parting }
         ensures fault { result.parting ≡ Parting.Refused ClientRefusal.LinkFault
             → Rose (L.faults link.old) (L.faults link.new) }
         ensures tells { L.tells link.new ≡ L.tells link.old }

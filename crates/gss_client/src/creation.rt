@@ -1,27 +1,26 @@
 //! The replies to creation calls, RFC 2203 section 5.2.3.
 
-ghost use Rattle.std.specs.Prelude.{◌≡◌, ◌≢◌, ◌==◌, ◌<◌, ◌≤◌, ℕ, IfOk, Ok, Err, if◌then◌else◌};
+ghost use Rattle.std.specs.Prelude.{◌≡◌, ◌≢◌, ◌==◌, ◌≤◌, true, IfOk, Ok, Err, if◌then◌else◌};
 ghost use Rattle.std.specs.Prelude.{length};
 ghost use Rattle.rpc_msgs.specs.declared.xdr_reader.XdrWhy.TheVariants as whys;
 ghost use Rattle.sec_base.specs.Answers.{Gives};
 ghost use Rattle.gss_client.specs.Exchanging.{FitsCreated, IsHandle};
-ghost use Rattle.gss_client.specs.Rank.{replies_left, IsNearer, IsCloser};
 ghost use Rattle.gss_client.specs.Judging.{answer_value, place_of, granted_value, granted_in};
-ghost use Rattle.gss_client.specs.Judging.{done_by, by_step, creation_step};
+ghost use Rattle.gss_client.specs.Judging.{done_by, by_step, creation_by};
 ghost use Rattle.gss_client.specs.Creation as created;
-ghost use Rattle.gss_client.specs.Creation.{created_says, reply_says};
-ghost use Rattle.spnego_core.specs.Sizes.{ShortInit};
-ghost use Rattle.spnego_core.specs.Ends.{end_says};
-ghost use Rattle.spnego_core.specs.EndSteps.{step_says};
+ghost use Rattle.gss_client.specs.Creation.{created_means, reply_means, holds_created};
+ghost use Rattle.init_ends.specs.Ends.{end_by, step_by, holds, holds_after, ShortStep};
+ghost use Rattle.init_ends.specs.Initiating.{end_step};
 
 use crate::answer::{Answer, answer_in, is_verified, place_of, succeeded};
 use crate::refusal::{ClientRefusal, Denial, ReplyWhy, not_negotiated};
 use gss_base::status::{COMPLETE, CONTINUE_NEEDED};
+use init_ends::{InitEnd, InitStep};
 use krb_tokens::KeyCache;
 use rpc_msgs::{XdrRefusal, XdrWhy};
 use rpcsec_msgs::{InitRes, read_init_res};
 use sec_base::Octets;
-use spnego_core::{InitEnd, InitStep, Outcome};
+use spnego_core::Outcome;
 use std::alloc::Global;
 
 /// What the next creation call is made of: as `creation_step` gives it, a handle of at most 64 octets and a token of at most 65,536.
@@ -116,13 +115,14 @@ pub(crate) fn spend(_end: InitEnd, refusal: ClientRefusal) -> Result<Created, Cl
 
 /// What a step leads to behind which a further token is due.
 fn going(major: u32, end: InitEnd, handle: Octets, token: Octets) -> Result<Created, ClientRefusal>
-    ensures value { reply_says result ≡ (if major == CONTINUE_NEEDED
-        then Ok (created.Going (record { end = end_says end; handle = handle; token = token }))
+    ensures value { reply_means result meaning ≡ (if major == CONTINUE_NEEDED
+        then Ok (created.Going
+        (record { end = end_by end meaning; handle = handle; token = token }))
         else Err (ClientRefusal.BadReply ReplyWhy.Steps)) }
-    ensures closer { (count : ℕ) → replies_left (end_says end) < count
-        → IfOk result (λ c. IsCloser count (created_says c)) }
+    ensures held { holds (end_by end meaning) ≡ true
+        → IfOk result (λ c. holds_created (created_means c meaning) ≡ true) }
     ensures fits { IsHandle handle → length token ≤ 65536
-        → IfOk result (λ c. FitsCreated (created_says c)) }
+        → IfOk result (λ c. FitsCreated (created_means c meaning)) }
 {
     if major == CONTINUE_NEEDED {
         Ok(Created::Going(Offer { end, handle, token }))
@@ -135,12 +135,12 @@ fn going(major: u32, end: InitEnd, handle: Octets, token: Octets) -> Result<Crea
 #[tactic(auto, unfolding(crate::specs::Judging::by_step))]
 fn by_step(answer: &Answer<'_>, granted: InitRes, step: InitStep) -> Result<Created, ClientRefusal>
     requires handle { IsHandle granted.context }
-    requires token { ShortInit (step_says step) }
-    ensures exact { reply_says result ≡ by_step
-        (record { answer = answer_value answer.now; result = granted }) (step_says step) }
-    ensures closer { (count : ℕ) → IsNearer count (step_says step)
-        → IfOk result (λ c. IsCloser count (created_says c)) }
-    ensures fits { IfOk result (λ c. FitsCreated (created_says c)) }
+    requires token { ShortStep (step_by step meaning) }
+    ensures exact { reply_means result meaning ≡ by_step
+        (record { answer = answer_value answer.now; result = granted }) (step_by step meaning) }
+    ensures held { holds_after (step_by step meaning) ≡ true
+        → IfOk result (λ c. holds_created (created_means c meaning) ≡ true) }
+    ensures fits { IfOk result (λ c. FitsCreated (created_means c meaning)) }
 {
     match step {
         InitStep::More(end, token) => going(granted.major, end, granted.context, token),
@@ -153,18 +153,18 @@ fn by_step(answer: &Answer<'_>, granted: InitRes, step: InitStep) -> Result<Crea
 
 /// What a record leads to as the reply to the creation call of this transaction number, RFC 2203 section 5.2.3: its result's token is the end's next
 /// one, and the reply that finishes has the acceptor's MIC over the window as its verifier. The end is spent, whatever the answer.
-#[tactic(auto, unfolding(crate::specs::Judging::creation_step))]
+#[tactic(auto, unfolding(crate::specs::Judging::creation_by))]
 pub fn creation_step(
     alloc: Global,
     end: InitEnd,
     xid: u32,
     bytes: &[u8],
 ) -> Result<Created, ClientRefusal>
-    ensures exact { Gives ClientRefusal.NoMemory created_says result
-        (creation_step (end_says end) xid bytes.now) }
-    ensures closer { IfOk result
-        (λ c. IsCloser (replies_left (end_says end)) (created_says c)) }
-    ensures fits { IfOk result (λ c. FitsCreated (created_says c)) }
+    requires { holds (end_by end meaning) ≡ true }
+    ensures exact { Gives ClientRefusal.NoMemory (λ c. created_means c meaning) result
+        (creation_by end_step (end_by end meaning) xid bytes.now) }
+    ensures held { IfOk result (λ c. holds_created (created_means c meaning) ≡ true) }
+    ensures fits { IfOk result (λ c. FitsCreated (created_means c meaning)) }
 {
     let Granted { answer, result } = match granted_in(alloc, xid, bytes) {
         Ok(granted) => granted,

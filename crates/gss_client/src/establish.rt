@@ -4,28 +4,28 @@ ghost use Rattle.std.specs.Prelude.{◌≡◌, ◌≤◌, false, true, IsTrue, I
 ghost use Rattle.sec_base.specs.Answers.{Rose};
 ghost use Rattle.gss_client.specs.Calling.{creation_call};
 ghost use Rattle.gss_client.specs.Exchanging.{Talks, IsHandle, FitsOffer, FitsCreated};
-ghost use Rattle.gss_client.specs.Creation.{offer_says, created_says, reply_says};
-ghost use Rattle.gss_client.specs.Rank.{replies_left, IsCloser};
-ghost use Rattle.gss_client.specs.Start.{start_says};
-ghost use Rattle.gss_client.specs.Talk.{turns, creates, created_from};
+ghost use Rattle.gss_client.specs.Creation.{offer_means, created_means, reply_means, holds_created};
+ghost use Rattle.gss_client.specs.Start.{StartSays, objects_start, start_means};
+ghost use Rattle.gss_client.specs.Talk.{turns_by, creates_by, created_over, created_from};
 ghost use Rattle.gss_client.specs.Talking.{exchanges};
-ghost use Rattle.spnego_core.specs.Ends.{end_says};
-ghost use Rattle.spnego_core.specs.InitMech.{is_own_list};
+ghost use Rattle.init_ends.specs.Ends.{end_by, holds};
+ghost use Rattle.init_ends.specs.Initiating.{end_step};
+ghost use Rattle.init_ends.specs.Objects.{is_own_list};
 
 use crate::calling::creation_call;
 use crate::creation::{Created, Offer, creation_step, spend};
 use crate::exchange::exchange;
-use crate::refusal::{ClientRefusal, not_negotiated};
+use crate::refusal::{ClientRefusal, ReplyWhy, not_negotiated};
 use crate::session::{Session, xid_after};
 use crate::start::Start;
+use init_ends::InitEnd;
 use rpcsec_bodies::Service;
 use rpcsec_msgs::numbers::{RPCSEC_GSS_CONTINUE_INIT, RPCSEC_GSS_INIT};
 use sec_base::{Link, NoMemory, Octets};
-use spnego_core::InitEnd;
 use std::alloc::Global;
 
-/// The most replies that an end takes.
-const MOST_REPLIES: u32 = 4;
+/// The most replies that a creation takes: those of Kerberos and SCRAM take four at most, and another object may never be done.
+pub const MOST_REPLIES: u32 = 16;
 
 /// Writes a creation call, and hears its reply.
 fn call_with<L: Link>(
@@ -72,13 +72,13 @@ fn turn<L: Link>(
     offer: Offer,
 ) -> Result<Created, ClientRefusal>
     requires unclosed { L.closed link.old ≡ false }
-    requires fits { FitsOffer (offer_says offer) }
+    requires fits { FitsOffer (offer_means offer meaning) }
+    requires held { holds (end_by offer.end meaning) ≡ true }
     ensures told { IsTrue (L.tells link.old)
-        → Talks (turns service xid proc (offer_says offer)) (L.wire link.old) (L.wire link.new)
-        (reply_says result) }
-    ensures closer { IfOk result
-        (λ c. IsCloser (replies_left (end_says offer.end)) (created_says c)) }
-    ensures fits { IfOk result (λ c. FitsCreated (created_says c)) }
+        → Talks (turns_by end_step service xid proc (offer_means offer meaning))
+        (L.wire link.old) (L.wire link.new) (reply_means result meaning) }
+    ensures held { IfOk result (λ c. holds_created (created_means c meaning) ≡ true) }
+    ensures fits { IfOk result (λ c. FitsCreated (created_means c meaning)) }
     ensures fault { IsErrOf result ClientRefusal.LinkFault
         → Rose (L.faults link.old) (L.faults link.new) }
     ensures tells { L.tells link.new ≡ L.tells link.old }
@@ -92,7 +92,7 @@ fn turn<L: Link>(
     }
 }
 
-/// Turn after turn up to the context. The end takes at most `left` replies.
+/// Turn after turn up to the context, at most `left` of them.
 fn establish<L: Link>(
     alloc: Global,
     link: &mut L,
@@ -104,12 +104,12 @@ fn establish<L: Link>(
     left: u32,
 ) -> Result<Session, ClientRefusal>
     requires unclosed { L.closed link.old ≡ false }
-    requires fits { FitsOffer (offer_says offer) }
-    requires enough { replies_left (end_says offer.end) ≤ left }
+    requires fits { FitsOffer (offer_means offer meaning) }
+    requires held { holds (end_by offer.end meaning) ≡ true }
     requires last { first ≤ 0x7fffffff }
     ensures told { IsTrue (L.tells link.old)
-        → Talks (creates left service first xid proc (offer_says offer)) (L.wire link.old)
-        (L.wire link.new) result }
+        → Talks (creates_by end_step left service first xid proc (offer_means offer meaning))
+        (L.wire link.old) (L.wire link.new) result }
     ensures fault { IsErrOf result ClientRefusal.LinkFault
         → Rose (L.faults link.old) (L.faults link.new) }
     ensures tells { L.tells link.new ≡ L.tells link.old }
@@ -117,7 +117,7 @@ fn establish<L: Link>(
     ensures faults { L.faults link.old ≤ L.faults link.new }
 {
     if left == 0 {
-        unreachable!();
+        return Err(ClientRefusal::BadReply(ReplyWhy::Steps));
     }
     match turn(alloc, link, service, xid, proc, offer) {
         Ok(Created::Going(next)) => establish(
@@ -149,11 +149,15 @@ impl Session {
         start: Start,
     ) -> Result<Session, ClientRefusal>
         requires unclosed { L.closed link.old ≡ false }
-        requires list { is_own_list start.setup.list ≡ true }
+        requires list { is_own_list (start_means start meaning).setup.list ≡ true }
         requires first { 1 ≤ start.first }
         requires last { start.first ≤ 0x7fffffff }
-        ensures told { IsTrue (L.tells link.old)
-            → Talks (created_from (start_says start)) (L.wire link.old) (L.wire link.new) result }
+        ensures told { IsTrue (L.tells link.old) → Talks (created_over
+            (start_means start meaning)) (L.wire link.old) (L.wire link.new) result }
+        // By the objects of Kerberos and SCRAM: as by their credentials.
+        ensures plain { (own : StartSays) → start_means start meaning ≡ objects_start own
+            → IsTrue (L.tells link.old)
+            → Talks (created_from own) (L.wire link.old) (L.wire link.new) result }
         ensures fault { IsErrOf result ClientRefusal.LinkFault
             → Rose (L.faults link.old) (L.faults link.new) }
         ensures tells { L.tells link.new ≡ L.tells link.old }

@@ -1,6 +1,6 @@
 //! What stands behind a result, and how many turns a creation takes.
 
-ghost use Rattle.gss_client.specs.Laws.{CountLaw, ResultLaw};
+ghost use Rattle.gss_client.specs.Laws.{CountLaw, PlainCreation, ResultLaw};
 
 /// A result stands in a reply with the call's transaction number, whose verifier is the acceptor's MIC over the call's number, and in a
 /// body that verifies or opens under the context's key and has this number, unless the service is none.
@@ -12,4 +12,9 @@ pub fn prove_result_law()
 /// length.
 pub fn prove_count_law()
     ensures { CountLaw }
+{}
+
+/// A creation by the objects of Kerberos and SCRAM is the one by their credentials: each reply leads to the same, and so does the whole.
+pub fn prove_plain_creation()
+    ensures { PlainCreation }
 {}

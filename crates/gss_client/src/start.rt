@@ -1,7 +1,7 @@
 //! What a session is begun with.
 
+use init_ends::InitSetup;
 use rpcsec_bodies::Service;
-use spnego_core::InitSetup;
 
 /// What a session is begun with.
 #[derive(Drop)]

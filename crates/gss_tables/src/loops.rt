@@ -1,7 +1,10 @@
 //! A client and the rules of a record over one book, in one thread.
 
-ghost use Rattle.std.specs.Prelude.{◌≡◌, true, false, IfSome};
-ghost use Rattle.spnego_core.specs.InitMech.{is_own_list};
+ghost use Rattle.std.specs.Prelude.{◌≡◌, true, false, IfSome, map};
+ghost use Rattle.spnego_core.specs.InitMech as plain_lists;
+ghost use Rattle.init_ends.specs.Arming.{IsBlankPair};
+ghost use Rattle.init_ends.specs.Ends.{setup_by};
+ghost use Rattle.init_ends.specs.Objects.{is_own_list};
 
 use crate::connections::book_of;
 use crate::entries;
@@ -10,8 +13,10 @@ use client_command::run_client;
 use gate_models::{Beginning, LoopLink};
 use gss_client::{Service, Session, Start};
 use gss_server::Kept;
-use sec_base::{Link, MemDraw, MemShelf, Moment, Octets, Text};
-use spnego_core::{InitSetup, Outcome};
+use init_ends::InitSetup;
+use mech_objects::{KerberosMech, Mech, ScramMech};
+use sec_base::{Link, MemDraw, MemShelf, Moment, NoMemory, Octets, Text};
+use spnego_core::{InitFacts, Outcome};
 use std::alloc::Global;
 use table_rows::{Cells, Said};
 use table_setting::{Devices, Files, Setting, present, say_list, saying, words};
@@ -95,16 +100,18 @@ fn say_kept(alloc: Global, said: &mut Said, kept: &[Kept], entries: &[Entry]) {
     entries::kinds(said, entries);
 }
 
-/// Says the status of a run over a link and what it prints.
+/// Says the status of a run over a link, by these objects, and what it prints.
 fn run(
     alloc: Global,
     words: &[Text],
     link: &mut BookLink,
     shelf: &mut MemShelf,
     devices: &mut Devices,
+    mechs: Vec<Box<dyn Mech>>,
     said: &mut Said,
 )
-    requires { ⟦<BookLink as Link>⟧.closed link.old ≡ false }
+    requires unclosed { ⟦<BookLink as Link>⟧.closed link.old ≡ false }
+    requires mechs { IsBlankPair (map meaning mechs.items) }
 {
     let Devices {
         clock,
@@ -112,9 +119,27 @@ fn run(
         out,
         err,
     } = devices;
-    let end = run_client(alloc, words, shelf, link, clock, draw, out, err);
+    let end = run_client(alloc, words, shelf, link, clock, draw, mechs, out, err);
     said.number(end.status as u64);
     devices.say(said);
+}
+
+/// The same by an object of Kerberos and one of SCRAM.
+fn run_by_both(
+    alloc: Global,
+    words: &[Text],
+    link: &mut BookLink,
+    shelf: &mut MemShelf,
+    devices: &mut Devices,
+    said: &mut Said,
+) -> Result<(), NoMemory>
+    requires { ⟦<BookLink as Link>⟧.closed link.old ≡ false }
+{
+    let mut mechs: Vec<Box<dyn Mech>> = Vec::with_capacity(alloc, 2)?;
+    mechs.push_reserved(Box::new(alloc, KerberosMech::new(alloc))?);
+    mechs.push_reserved(Box::new(alloc, ScramMech::new(alloc))?);
+    run(alloc, words, link, shelf, devices, mechs, said);
+    Ok(())
 }
 
 /// Octets 07, a thousand of them.
@@ -140,7 +165,7 @@ pub fn run_over(setting: &Setting, files: &Files, cells: &mut Cells<'_>, said: &
     let mut devices = Devices::new(alloc, present(), Vec::new(alloc), Vec::new(alloc));
     match loop_of(alloc, setting, letters, sevens(alloc)) {
         Some(mut link) => {
-            run(
+            let ran = run_by_both(
                 alloc,
                 words.as_slice(),
                 &mut link,
@@ -148,6 +173,9 @@ pub fn run_over(setting: &Setting, files: &Files, cells: &mut Cells<'_>, said: &
                 &mut devices,
                 said,
             );
+            if ran.is_err() {
+                said.starve();
+            }
             say_left(alloc, said, link);
         }
         None => cells.expect(false),
@@ -214,7 +242,7 @@ fn ask(alloc: Global, link: &mut BookLink, session: Session) -> Option<Spoken>
 /// What comes of a session by integrity, which asks who calls and ends its context.
 fn speak(alloc: Global, link: &mut BookLink, setup: InitSetup) -> Option<Spoken>
     requires unclosed { ⟦<BookLink as Link>⟧.closed link.old ≡ false }
-    requires list { is_own_list setup.list ≡ true }
+    requires list { is_own_list (setup_by setup meaning).list ≡ true }
 {
     let start = Start {
         setup,
@@ -255,7 +283,7 @@ fn say_spoken(alloc: Global, said: &mut Said, spoken: &Spoken, link: BookLink) {
 /// Says what comes of a session over a link.
 fn pair(alloc: Global, setup: InitSetup, link: BookLink, said: &mut Said)
     requires unclosed { ⟦<BookLink as Link>⟧.closed link ≡ false }
-    requires list { is_own_list setup.list ≡ true }
+    requires list { is_own_list (setup_by setup meaning).list ≡ true }
 {
     let mut link = link;
     match speak(alloc, &mut link, setup) {
@@ -264,12 +292,34 @@ fn pair(alloc: Global, setup: InitSetup, link: BookLink, said: &mut Said)
     }
 }
 
+/// The same by an object of Kerberos and one of SCRAM.
+fn pair_by_both(
+    alloc: Global,
+    facts: InitFacts,
+    link: BookLink,
+    said: &mut Said,
+) -> Result<(), NoMemory>
+    requires unclosed { ⟦<BookLink as Link>⟧.closed link ≡ false }
+    requires list { plain_lists.is_own_list facts.list ≡ true }
+{
+    let mut mechs: Vec<Box<dyn Mech>> = Vec::with_capacity(alloc, 2)?;
+    mechs.push_reserved(Box::new(alloc, KerberosMech::new(alloc))?);
+    mechs.push_reserved(Box::new(alloc, ScramMech::new(alloc))?);
+    let setup = InitSetup::armed(alloc, mechs, facts)?;
+    pair(alloc, setup, link, said);
+    Ok(())
+}
+
 /// Says what comes of a session over a book of this offer's letters.
-fn pair_over(setting: &Setting, alloc: Global, setup: InitSetup, offer: &str, said: &mut Said)
-    requires { is_own_list setup.list ≡ true }
+fn pair_over(setting: &Setting, alloc: Global, facts: InitFacts, offer: &str, said: &mut Said)
+    requires { plain_lists.is_own_list facts.list ≡ true }
 {
     match loop_of(alloc, setting, offer, Vec::new(alloc)) {
-        Some(link) => pair(alloc, setup, link, said),
+        Some(link) => {
+            if pair_by_both(alloc, facts, link, said).is_err() {
+                said.starve();
+            }
+        }
         None => said.starve(),
     }
 }
@@ -279,7 +329,7 @@ fn pair_over(setting: &Setting, alloc: Global, setup: InitSetup, offer: &str, sa
 pub fn run_pair(setting: &Setting, cells: &mut Cells<'_>, said: &mut Said) {
     let (list, offer) = (cells.word(), cells.word());
     match setting.initiator(cells.alloc(), list) {
-        Some(setup) => pair_over(setting, cells.alloc(), setup, offer, said),
+        Some(facts) => pair_over(setting, cells.alloc(), facts, offer, said),
         None => cells.expect(false),
     }
 }

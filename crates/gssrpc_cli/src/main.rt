@@ -1,7 +1,8 @@
-//! The client's program: makes the real devices and runs the client over them.
+//! The client's program: makes the real devices and the mechanisms' objects, and runs the client over them.
 #![tactic(auto)]
 
-use client_command::{address_of, run_client};
+use client_command::{address_of, blank_pair, run_client};
+use mech_objects::{KerberosMech, ScramMech};
 use sec_base::Text;
 use std::process::ExitCode;
 use system_devices::{
@@ -24,27 +25,30 @@ fn main(rt: HostRuntime) -> ExitCode {
     ExitCode::from(status)
 }
 
-/// Runs the client with these words, over a connection to the address that they name.
+/// Runs the client with these words and the objects of Kerberos and SCRAM, over a connection to the address that they name.
 fn run(rt: HostRuntime, words: &[Text]) -> u8 {
     let Ok(mut draw) = RandDraw::new(&rt) else {
         return NOT_STARTED;
     };
+    let alloc = rt.alloc();
+    let Ok(kerberos) = Box::new(alloc, KerberosMech::new(alloc)) else {
+        return OUT_OF_MEMORY;
+    };
+    let Ok(scram) = Box::new(alloc, ScramMech::new(alloc)) else {
+        return OUT_OF_MEMORY;
+    };
+    let Ok(mechs) = blank_pair(alloc, kerberos, scram) else {
+        return OUT_OF_MEMORY;
+    };
     // a command has an address, and what isn't one needs no connection
     let address = address_of(words).unwrap_or("");
-    let mut link = Buffered::over(rt.alloc(), DialedLink::new(rt, address));
+    let mut link = Buffered::over(alloc, DialedLink::new(rt, address));
     let mut shelf = FileShelf::new(rt);
     let mut clock = SystemClock::new(rt);
     let mut out = StdSink::output(rt.stdout());
     let mut err = StdSink::error(rt.stderr());
     run_client(
-        rt.alloc(),
-        words,
-        &mut shelf,
-        &mut link,
-        &mut clock,
-        &mut draw,
-        &mut out,
-        &mut err,
+        alloc, words, &mut shelf, &mut link, &mut clock, &mut draw, mechs, &mut out, &mut err,
     )
     .status
 }

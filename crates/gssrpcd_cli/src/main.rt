@@ -1,13 +1,16 @@
 //! The server's program: makes the real devices and runs the server over them, or a drill, which needs none but the standard streams.
 #![tactic(auto)]
 
-ghost use Rattle.std.specs.Prelude.{IfOk};
+ghost use Rattle.std.specs.Prelude.{◌≡◌, IfOk, Some, map};
 ghost use Rattle.std.specs.List.{AllByRecursion};
+ghost use Rattle.drill_plan.specs.Sessions.{blank_objects, session_count};
+ghost use Rattle.drill_plan.specs.Words.{plan_of};
 ghost use Rattle.server_desks.specs.Desks.{IsFresh};
 
 use drill_command::run_drill;
-use drill_plan::is_drill;
+use drill_plan::{Plan, add_object, drill_sessions, is_drill};
 use gss_server::{KeepNothing, KeepReceipts};
+use mech_objects::{KerberosMech, Mech, ScramMech};
 use sec_base::{Clock, Port, Text};
 use server_command::run_server;
 use server_desks::Desk;
@@ -163,11 +166,37 @@ where
     }
 }
 
-/// Holds a drill, and prints what it comes to.
-fn drill(rt: HostRuntime, words: &[Text]) -> u8 {
+/// Holds a drill by these objects, and prints what it comes to.
+fn drill_by(rt: HostRuntime, words: &[Text], mechs: Vec<Box<dyn Mech>>) -> u8
+    requires { (plan : Plan) → plan_of words.now ≡ Some plan
+        → map meaning mechs.items ≡ blank_objects (session_count plan.calls) }
+{
     let mut out = StdSink::output(rt.stdout());
     let mut err = StdSink::error(rt.stderr());
-    run_drill(rt.alloc(), words, &mut out, &mut err).status
+    run_drill(rt.alloc(), words, mechs, &mut out, &mut err).status
+}
+
+/// The status of a drill, for which a blank object is made for each of its sessions; an error at want of memory for them.
+fn held(rt: HostRuntime, words: &[Text]) -> Result<u8, AllocError> {
+    let alloc = rt.alloc();
+    let mut mechs: Vec<Box<dyn Mech>> = Vec::new(alloc);
+    for number in 0..drill_sessions(words).unwrap_or(0) {
+        if number % 2 == 0 {
+            add_object(
+                &mut mechs,
+                number,
+                Box::new(alloc, KerberosMech::new(alloc))?,
+            )?;
+        } else {
+            add_object(&mut mechs, number, Box::new(alloc, ScramMech::new(alloc))?)?;
+        }
+    }
+    Ok(drill_by(rt, words, mechs))
+}
+
+/// Holds a drill, and prints what it comes to.
+fn drill(rt: HostRuntime, words: &[Text]) -> u8 {
+    held(rt, words).unwrap_or(OUT_OF_MEMORY)
 }
 
 /// Holds a drill, or runs the server over the devices that the words ask for. The host is the runtime once more, which makes threads and waits for them.

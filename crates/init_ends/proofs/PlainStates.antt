@@ -11,8 +11,8 @@ use Rattle.scram_mech.specs.MechMaking.{MechMaking}
 use Rattle.scram_mech.specs.Initiator.{InitStarted, InitAnswered, InitFinished, init_answered, init_finished}
 use Rattle.spnego_core.specs.declared.setup.MechCred.{MechCred}
 use Rattle.spnego_core.specs.declared.setup.MechCred.TheVariants as creds
-use Rattle.spnego_core.specs.declared.init_mech.InitMech.{InitMech}
-use Rattle.spnego_core.specs.declared.init_mech.InitMech.TheVariants as mechs
+use Rattle.spnego_core.specs.MechStates.{InitMech}
+use Rattle.spnego_core.specs.MechStates as mechs
 use Rattle.spnego_core.specs.Ends.{PlainSetup}
 use Rattle.spnego_core.specs.InitMech.{kind_of, MechBegun, init_begun, request_begun, text_begun}
 use Rattle.mech_objects.specs.declared.ask.MechAsk.{MechAsk}

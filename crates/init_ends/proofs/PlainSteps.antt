@@ -12,9 +12,9 @@ use Rattle.spnego_core.specs.declared.refusal.MechRefusal.{MechRefusal}
 use Rattle.spnego_core.specs.declared.refusal.NegRefusal.{NegRefusal}
 use Rattle.spnego_core.specs.declared.refusal.NegRefusal.TheVariants.{Defective, Rejected, MechNotMine, MicMissing, MicBad, Mech}
 use Rattle.spnego_core.specs.declared.setup.MechCred.{MechCred}
-use Rattle.spnego_core.specs.declared.init_mech.InitMech.{InitMech}
-use Rattle.spnego_core.specs.declared.init_mech.InitAnswer.{InitAnswer}
-use Rattle.spnego_core.specs.declared.init_mech.InitAnswer.TheVariants as answers
+use Rattle.spnego_core.specs.MechStates.{InitMech}
+use Rattle.spnego_core.specs.MechStates.{InitAnswer}
+use Rattle.spnego_core.specs.MechStates as answers
 use Rattle.spnego_core.specs.Choice.{same_kind, is_first}
 use Rattle.spnego_core.specs.Ends.{PlainSetup, OpeningSays, TalkSays, TalkingSays, SignedSays, EndSays}
 use Rattle.spnego_core.specs.Ends as plain_ends
@@ -34,7 +34,7 @@ use Rattle.mech_objects.specs.Meaning.{starts, as_end}
 use Rattle.mech_objects.specs.Standard.{begun, token_begun, Answered, GoesOn, Ends, answered, move_answered, state_answered, state_after, state_of}
 use Rattle.mech_objects.specs.Laws.{outcome_answered}
 use Rattle.mech_objects.proofs.StandardTalks.{standard_laws}
-use Rattle.init_ends.specs.Ends.{SetupMeans, OpeningMeans, EndMeans, StepMeans, More, Done, holds}
+use Rattle.init_ends.specs.Ends.{SetupMeans, OpeningMeans, EndMeans, StepMeans, holds}
 use Rattle.init_ends.specs.Ends as own_ends
 use Rattle.init_ends.specs.Initiating.{opens, starts_first, ended, is_mic_owed, looks, goes_on, ran, run, switched, begins, switches, picks, opened, is_chosen, talked, settles, looks_again, closed, end_step}
 use Rattle.init_ends.specs.Plain.{ask_of, fresh_of, waiting_of, objects_of, named_talk, StandsAs, StartsAs, GoesAs, StepsAs, plain_opening, plain_of, PlainLaw}

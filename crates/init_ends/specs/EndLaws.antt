@@ -4,13 +4,14 @@ use Rattle.gss_base.specs.declared.mech.MechKind.{MechKind}
 use Rattle.krb_tokens.specs.declared.end.Side.TheVariants.{Initiator}
 use Rattle.spnego_msgs.specs.declared.neg_resp.NegResp.{NegResp}
 use Rattle.spnego_core.specs.declared.outcome.Outcome.{Outcome}
+use Rattle.spnego_core.specs.EndSteps.{More, Done}
 use Rattle.spnego_core.specs.ListMic.{is_list_mic}
 use Rattle.spnego_core.specs.Tokens.{resp_read}
 use Rattle.mech_objects.specs.Meaning.{MechSays}
 use Rattle.init_ends.specs.declared.ends.Signed.{Signed as SignedEnd}
 use Rattle.init_ends.specs.Objects.{oids_of, mech_for, is_first_named}
 use Rattle.init_ends.specs.Ends.{SetupMeans, OpeningMeans, TalkingMeans, EndMeans, Opens, Talks}
-use Rattle.init_ends.specs.Ends.{Signed, StepMeans, More, Done}
+use Rattle.init_ends.specs.Ends.{Signed, StepMeans}
 use Rattle.init_ends.specs.Initiating.{end_start, end_step}
 
 -- the identifier names an object of the own list, of this mechanism

@@ -3,7 +3,7 @@
 use Rattle.std.specs.Prelude.{ℕ, Bool, true, ◌&&◌, List, map}
 use Rattle.std.specs.declared.dyn_box.DynBox.{DynBox}
 use Rattle.std.specs.declared.alloc.Global.{Global}
-use Rattle.spnego_core.specs.declared.outcome.Outcome.{Outcome}
+use Rattle.spnego_core.specs.EndSteps.{StepOf, More, Done}
 use Rattle.spnego_core.specs.Sizes.{IsShort}
 use Rattle.mech_objects.specs.declared.ask.MechAsk.{MechAsk}
 use Rattle.mech_objects.specs.Meaning.{MechSays}
@@ -46,10 +46,9 @@ pub data EndMeans : Type 0 where
   -- the own MIC was sent
   Signed : SignedEnd → EndMeans
 
--- a token for the acceptor, whose reply the end takes next; or the context stands
-pub data StepMeans : Type 0 where
-  More : EndMeans → List ℕ → StepMeans
-  Done : Outcome → StepMeans
+-- the step of an end over objects
+abbrev pub StepMeans : Type 0
+StepMeans = StepOf EndMeans
 
 -- ---- the same of the program's own
 
@@ -85,6 +84,28 @@ abbrev pub step_means : {X : Type 0} → {D : X → Type 0} → (DynBox X Global
     → InitStep X D → StepMeans
 step_means says (steps.More end token) = More (end_means says end) token
 step_means says (steps.Done outcome) = Done outcome
+
+-- ---- the same for crates above, where an object is its table and its value
+
+-- what a box is, by what its table and its value are
+abbrev pub boxed : {X : Type 0} → {D : X → Type 0} → ((x : X) × D x → MechSays)
+    → DynBox X Global D → MechSays
+boxed says b = says (b.vtable, b.value)
+
+-- what the code's setup is
+abbrev pub setup_by : {X : Type 0} → {D : X → Type 0} → InitSetup X D
+    → ((x : X) × D x → MechSays) → SetupMeans
+setup_by setup says = setup_means (boxed says) setup
+
+-- what the code's end is
+abbrev pub end_by : {X : Type 0} → {D : X → Type 0} → InitEnd X D → ((x : X) × D x → MechSays)
+    → EndMeans
+end_by end says = end_means (boxed says) end
+
+-- what the code's step comes to
+abbrev pub step_by : {X : Type 0} → {D : X → Type 0} → InitStep X D → ((x : X) × D x → MechSays)
+    → StepMeans
+step_by step says = step_means (boxed says) step
 
 -- ---- how far the objects are
 

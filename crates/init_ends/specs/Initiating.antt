@@ -11,6 +11,7 @@ use Rattle.spnego_core.specs.declared.refusal.NegRefusal.{NegRefusal}
 use Rattle.spnego_core.specs.declared.refusal.NegRefusal.TheVariants.{Defective, Rejected}
 use Rattle.spnego_core.specs.declared.refusal.NegRefusal.TheVariants.{MechNotMine, MicMissing}
 use Rattle.spnego_core.specs.declared.refusal.NegRefusal.TheVariants.{MicBad}
+use Rattle.spnego_core.specs.EndSteps.{More, Done}
 use Rattle.spnego_core.specs.Steps.{◌>>=◌, due, or_refuse}
 use Rattle.spnego_core.specs.Outcome.{outcome_of}
 use Rattle.spnego_core.specs.Tokens.{init_octets, resp_read, last_read, resp_octets, rejects}
@@ -25,7 +26,7 @@ use Rattle.init_ends.specs.declared.ends.Talk.{Talk}
 use Rattle.init_ends.specs.declared.ends.Signed.{Signed as SignedEnd}
 use Rattle.init_ends.specs.Objects.{is_named, oids_of, mech_for, is_first_named}
 use Rattle.init_ends.specs.Ends.{SetupMeans, OpeningMeans, TalkingMeans, EndMeans, Opens, Talks}
-use Rattle.init_ends.specs.Ends.{Signed, StepMeans, More, Done}
+use Rattle.init_ends.specs.Ends.{Signed, StepMeans}
 
 -- ---- the first token
 

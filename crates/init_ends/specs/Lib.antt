@@ -3,3 +3,4 @@ pub mod Ends
 pub mod Initiating
 pub mod EndLaws
 pub mod Plain
+pub mod Arming

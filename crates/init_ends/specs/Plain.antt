@@ -6,25 +6,24 @@ use Rattle.gss_base.specs.declared.mech.MechKind.{MechKind}
 use Rattle.gss_base.specs.Mech.{oid_of, mech_of}
 use Rattle.spnego_core.specs.declared.refusal.NegRefusal.{NegRefusal}
 use Rattle.spnego_core.specs.declared.setup.MechCred.{MechCred}
-use Rattle.spnego_core.specs.declared.init_mech.InitMech.{InitMech}
+use Rattle.spnego_core.specs.MechStates.{InitMech}
 use Rattle.spnego_core.specs.InitMech.{kind_of}
 use Rattle.spnego_core.specs.InitMech as plain_lists
 use Rattle.spnego_core.specs.Ends.{PlainSetup, OpeningSays, TalkSays, TalkingSays, SignedSays}
 use Rattle.spnego_core.specs.Ends.{EndSays}
 use Rattle.spnego_core.specs.Ends as plain_ends
-use Rattle.spnego_core.specs.EndSteps.{StepSays}
-use Rattle.spnego_core.specs.EndSteps as plain_steps
+use Rattle.spnego_core.specs.EndSteps.{StepSays, More, Done}
 use Rattle.spnego_core.specs.Initiating.{own_list, sent_of, step_of, init_start, init_step}
 use Rattle.spnego_core.specs.InitLaws.{own_of}
 use Rattle.mech_objects.specs.declared.ask.MechAsk.{MechAsk}
 use Rattle.mech_objects.specs.declared.ask.Stage.TheVariants.{Waiting}
-use Rattle.mech_objects.specs.Meaning.{MechSays, blank, armed}
-use Rattle.mech_objects.specs.Standard.{standard, state_of, object_state}
+use Rattle.mech_objects.specs.Meaning.{MechSays, armed}
+use Rattle.mech_objects.specs.Standard.{blank_of, state_of, object_state}
 use Rattle.init_ends.specs.declared.ends.Talk.{Talk}
 use Rattle.init_ends.specs.declared.ends.Signed.{Signed as SignedEnd}
 use Rattle.init_ends.specs.Objects.{is_own_list}
 use Rattle.init_ends.specs.Ends.{SetupMeans, EndMeans, Opens, Talks}
-use Rattle.init_ends.specs.Ends.{Signed, StepMeans, More, Done, holds}
+use Rattle.init_ends.specs.Ends.{Signed, StepMeans, holds}
 use Rattle.init_ends.specs.Initiating.{end_start, end_step}
 
 -- ---- the objects of plain credentials
@@ -35,7 +34,7 @@ ask_of own = record { stamp = own.stamp; draws = own.draws; bindings = own.bindi
 
 -- the object of Kerberos or SCRAM that got this credential, and sent nothing
 abbrev pub fresh_of : MechCred → MechSays
-fresh_of cred = armed (blank (kind_of cred) (oid_of (kind_of cred)) standard) cred
+fresh_of cred = armed (blank_of (kind_of cred)) cred
 
 -- the same object once it began so, sent and took these tokens, and waits
 abbrev pub waiting_of : MechCred → MechAsk → List (List ℕ) → List (List ℕ) → MechSays
@@ -104,10 +103,10 @@ StartsAs (Err refusal) (Err plain) = refusal ≡ plain
 
 -- both go on with the same token, or both contexts stand with the same outcome
 abbrev pub GoesAs : StepMeans → StepSays → Type 0
-GoesAs (More end token) (plain_steps.More plain sent) = StandsAs end plain × (token ≡ sent)
-GoesAs (More end token) (plain_steps.Done outcome) = ⊥
-GoesAs (Done outcome) (plain_steps.More plain sent) = ⊥
-GoesAs (Done outcome) (plain_steps.Done plain) = outcome ≡ plain
+GoesAs (More end token) (More plain sent) = StandsAs end plain × (token ≡ sent)
+GoesAs (More end token) (Done outcome) = ⊥
+GoesAs (Done outcome) (More plain sent) = ⊥
+GoesAs (Done outcome) (Done plain) = outcome ≡ plain
 
 -- the same of steps that may be refused: they are refused alike
 abbrev pub StepsAs : Result StepMeans NegRefusal → Result StepSays NegRefusal → Type 0

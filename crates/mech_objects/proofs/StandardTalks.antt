@@ -8,8 +8,8 @@ use Rattle.ap_exchange.specs.Reply.{reply_taken, reply_found}
 use Rattle.scram_mech.specs.declared.refusal.ScramRefusal.{ScramRefusal}
 use Rattle.scram_mech.specs.MechMaking.{MechMaking, typed}
 use Rattle.scram_mech.specs.Initiator.{InitAnswered, InitFinished, init_answered, init_finished}
-use Rattle.spnego_core.specs.declared.init_mech.InitMech.{InitMech}
-use Rattle.spnego_core.specs.declared.init_mech.InitMech.TheVariants as mechs
+use Rattle.spnego_core.specs.MechStates.{InitMech}
+use Rattle.spnego_core.specs.MechStates as mechs
 use Rattle.spnego_core.specs.declared.setup.MechCred.{MechCred}
 use Rattle.spnego_core.specs.InitMech as inits
 use Rattle.spnego_core.specs.InitMech.{init_taken, replied}

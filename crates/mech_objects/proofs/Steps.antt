@@ -1,6 +1,6 @@
 -- The states of Kerberos and SCRAM, token by token.
 use Rattle.std.proofs.Common.{rules, ◌≡◌, List, [], ◌∷◌, ◌++◌, ℕ, Option, Some, None, Result, Ok, Err}
-use Rattle.spnego_core.specs.declared.init_mech.InitMech.{InitMech}
+use Rattle.spnego_core.specs.MechStates.{InitMech}
 use Rattle.spnego_core.specs.declared.refusal.MechRefusal.{MechRefusal}
 use Rattle.spnego_core.specs.declared.setup.MechCred.{MechCred}
 use Rattle.spnego_core.specs.InitMech.{MechBegun, begun_with}

@@ -2,10 +2,9 @@
 use Rattle.std.specs.Prelude.{◌≡◌, ℕ, List, [], ◌∷◌, ◌++◌, Some, Result, Ok, Err}
 use Rattle.gss_base.specs.declared.mech.MechKind.{MechKind}
 use Rattle.gss_base.specs.declared.mech.MechKind.TheVariants as kinds
-use Rattle.spnego_core.specs.declared.init_mech.InitAnswer.{InitAnswer}
-use Rattle.spnego_core.specs.declared.init_mech.InitAnswer.TheVariants as answers
-use Rattle.spnego_core.specs.declared.init_mech.InitMech.{InitMech}
-use Rattle.spnego_core.specs.declared.init_mech.InitMech.TheVariants as mechs
+use Rattle.spnego_core.specs.MechStates.{InitAnswer}
+use Rattle.spnego_core.specs.MechStates as answers
+use Rattle.spnego_core.specs.MechStates.{InitMech}
 use Rattle.spnego_core.specs.declared.refusal.MechRefusal.{MechRefusal}
 use Rattle.spnego_core.specs.declared.refusal.NegRefusal.{NegRefusal}
 use Rattle.spnego_core.specs.declared.refusal.NegRefusal.TheVariants.{Mech}
@@ -21,9 +20,9 @@ use Rattle.mech_objects.specs.Standard.{object_state, standard}
 
 -- the mechanism of a state
 abbrev pub kind_in : InitMech → MechKind
-kind_in (mechs.Kerberos end) = kinds.Kerberos
-kind_in (mechs.Scram end) = kinds.Scram
-kind_in (mechs.Proof end) = kinds.Scram
+kind_in (answers.Kerberos end) = kinds.Kerberos
+kind_in (answers.Scram end) = kinds.Scram
+kind_in (answers.Proof end) = kinds.Scram
 
 -- an answer as the negotiating end gives it: with the outcome of what the exchange gives
 abbrev pub outcome_said : MechKind → Answered → InitAnswer

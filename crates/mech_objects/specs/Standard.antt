@@ -1,6 +1,8 @@
 -- What Kerberos (RFC 4121) and SCRAM (RFC 5802) say as objects: their first token by the credential
 -- and the ask, and their answer to a token by the state that those before it lead to.
 use Rattle.std.specs.Prelude.{ℕ, List, [], ◌∷◌, map, Option, Some, None, Result, Ok, Err}
+use Rattle.gss_base.specs.declared.mech.MechKind.{MechKind}
+use Rattle.gss_base.specs.Mech.{oid_of}
 use Rattle.krb_tokens.specs.declared.done.MechDone.{MechDone}
 use Rattle.ap_exchange.specs.declared.refusal.ApRefusal.{ApRefusal}
 use Rattle.ap_exchange.specs.declared.refusal.ApRefusal.TheVariants.{Kind}
@@ -11,8 +13,8 @@ use Rattle.scram_mech.specs.declared.refusal.ScramRefusal.{ScramRefusal}
 use Rattle.scram_mech.specs.MechMaking.{typed}
 use Rattle.scram_mech.specs.Initiator.{InitAnswered, InitFinished, init_started, init_answered}
 use Rattle.scram_mech.specs.Initiator.{init_finished}
-use Rattle.spnego_core.specs.declared.init_mech.InitMech.{InitMech}
-use Rattle.spnego_core.specs.declared.init_mech.InitMech.TheVariants as mechs
+use Rattle.spnego_core.specs.MechStates.{InitMech}
+use Rattle.spnego_core.specs.MechStates as mechs
 use Rattle.spnego_core.specs.declared.refusal.MechRefusal.{MechRefusal}
 use Rattle.spnego_core.specs.declared.refusal.MechRefusal.TheVariants.{Ap, Scram}
 use Rattle.spnego_core.specs.declared.setup.MechCred.{MechCred}
@@ -21,7 +23,7 @@ use Rattle.spnego_core.specs.InitMech.{MechBegun, request_begun, text_begun}
 use Rattle.mech_objects.specs.declared.ask.MechAsk.{MechAsk}
 use Rattle.mech_objects.specs.declared.ask.MechMove.{MechMove}
 use Rattle.mech_objects.specs.declared.ask.MechMove.TheVariants.{Token, Done}
-use Rattle.mech_objects.specs.Meaning.{MechTalk, MechSays}
+use Rattle.mech_objects.specs.Meaning.{MechTalk, MechSays, blank}
 
 -- ---- the first token
 
@@ -127,3 +129,7 @@ standard cred = record {
   first = λ ask. token_begun (begun cred ask);
   next = λ ask taken token. move_by (state_of cred ask taken) token;
 }
+
+-- an object of Kerberos or SCRAM that has no credential yet
+abbrev pub blank_of : MechKind → MechSays
+blank_of kind = blank kind (oid_of kind) standard

@@ -3,8 +3,8 @@ use Rattle.std.specs.Prelude.{ℕ, List, [], ◌∷◌, ◌++◌, Option}
 use Rattle.gss_base.specs.declared.mech.MechKind.{MechKind}
 use Rattle.gss_base.specs.Mech.{oid_of}
 use Rattle.spnego_core.specs.declared.setup.MechCred.{MechCred}
-use Rattle.spnego_core.specs.declared.init_mech.InitMech.{InitMech}
-use Rattle.spnego_core.specs.declared.init_mech.InitMech.TheVariants as mechs
+use Rattle.spnego_core.specs.MechStates.{InitMech}
+use Rattle.spnego_core.specs.MechStates as mechs
 use Rattle.spnego_core.specs.Sizes.{FitsBeside}
 use Rattle.mech_objects.specs.declared.state.MechState.{MechState}
 use Rattle.mech_objects.specs.declared.state.MechState.TheVariants as states

@@ -1,10 +1,8 @@
 //! The objects of Kerberos and SCRAM.
 
 ghost use Rattle.std.specs.Prelude.{◌≡◌};
-ghost use Rattle.gss_base.specs.Mech.{oid_of};
 ghost use Rattle.gss_base.specs.declared.mech.MechKind.TheVariants.{Kerberos, Scram};
-ghost use Rattle.mech_objects.specs.Meaning.{blank};
-ghost use Rattle.mech_objects.specs.Standard.{standard};
+ghost use Rattle.mech_objects.specs.Standard.{blank_of};
 ghost use Rattle.mech_objects.specs.Objects.{kerberos_of, scram_of};
 
 use crate::ask::{MechAsk, MechMove};
@@ -24,7 +22,7 @@ pub struct KerberosMech {
 impl KerberosMech {
     /// One that has no credential.
     pub fn new(alloc: Global) -> KerberosMech
-        ensures { kerberos_of result ≡ blank Kerberos (oid_of Kerberos) standard }
+        ensures { kerberos_of result ≡ blank_of Kerberos }
     {
         KerberosMech {
             run: MechRun::new(alloc, MechKind::Kerberos),
@@ -67,7 +65,7 @@ pub struct ScramMech {
 impl ScramMech {
     /// One that has no credential.
     pub fn new(alloc: Global) -> ScramMech
-        ensures { scram_of result ≡ blank Scram (oid_of Scram) standard }
+        ensures { scram_of result ≡ blank_of Scram }
     {
         ScramMech {
             run: MechRun::new(alloc, MechKind::Scram),

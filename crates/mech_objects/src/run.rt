@@ -2,10 +2,9 @@
 
 ghost use Rattle.std.specs.Prelude.{◌≡◌, ◌∷◌, ◌++◌, [], Some, Ok, IfOk, IfErr};
 ghost use Rattle.sec_base.specs.Answers.{Gives};
-ghost use Rattle.gss_base.specs.Mech.{oid_of};
 ghost use Rattle.spnego_core.specs.Sizes.{FitsBeside};
-ghost use Rattle.mech_objects.specs.Meaning.{armed, blank, starts, started, takes, took, FitsMove};
-ghost use Rattle.mech_objects.specs.Standard.{standard, state_after, state_by};
+ghost use Rattle.mech_objects.specs.Meaning.{armed, starts, started, takes, took, FitsMove};
+ghost use Rattle.mech_objects.specs.Standard.{blank_of, state_after, state_by};
 ghost use Rattle.mech_objects.specs.States.{finished, goes_on, mech_in, object_of};
 ghost use Rattle.mech_objects.specs.declared.ask.Stage.TheVariants.{Blank, Fresh, Waiting, Over};
 
@@ -55,7 +54,7 @@ impl Model for MechRun {
 impl MechRun {
     /// An object without a credential.
     pub fn new(alloc: Global, kind: MechKind) -> MechRun
-        ensures { object_of result ≡ blank kind (oid_of kind) standard }
+        ensures { object_of result ≡ blank_of kind }
     {
         MechRun {
             kind,

@@ -1,11 +1,9 @@
 //! The state of Kerberos or SCRAM, which an object keeps between two tokens.
 
-ghost use Rattle.std.specs.Prelude.{◌≡◌, ◌≢◌, IfOk, map, option_map};
+ghost use Rattle.std.specs.Prelude.{◌≡◌, IfOk, map, option_map};
 ghost use Rattle.sec_base.specs.Answers.{Gives};
-ghost use Rattle.ap_exchange.specs.declared.refusal.ApRefusal.TheVariants as aps;
 ghost use Rattle.ap_exchange.specs.Draws.{drawn_nonce};
 ghost use Rattle.ap_exchange.specs.Request.{request_of, request_makes};
-ghost use Rattle.scram_mech.specs.declared.refusal.ScramRefusal.TheVariants as scrams;
 ghost use Rattle.scram_mech.specs.MechMaking.{typed};
 ghost use Rattle.scram_mech.specs.Initiator.{init_started, init_answered, init_finished};
 ghost use Rattle.spnego_core.specs.InitMech.{begun_with, request_begun, text_begun};
@@ -15,13 +13,13 @@ ghost use Rattle.mech_objects.specs.Standard.{answered, begun, final_answered, t
 ghost use Rattle.mech_objects.specs.States.{FitsAnswer, answered_in, begun_in, mech_in};
 
 use crate::ask::MechAsk;
-use ap_exchange::{ApInit, ApRefusal, nonce_of};
+use ap_exchange::{ApInit, nonce_of};
 use gss_base::Bindings;
 use krb_files::Credential;
 use krb_tokens::MechDone;
-use scram_mech::{ScramInit, ScramRefusal, ScramWait};
+use scram_mech::{ScramInit, ScramWait};
 use sec_base::{Moment, Octets, Text};
-use spnego_core::{MechCred, MechRefusal, NegRefusal};
+use spnego_core::{MechCred, NegRefusal, ap_refused, scram_refused};
 use std::alloc::Global;
 
 /// A mechanism whose first token was sent.
@@ -42,29 +40,6 @@ pub enum StateAnswer {
     More(MechState, Octets),
     /// It is done.
     Done(MechDone),
-}
-
-/// The refusal of Kerberos's exchange.
-fn ap_refused(refusal: ApRefusal) -> NegRefusal
-    ensures mech { refusal ≢ aps.NoMemory → result ≡ NegRefusal.Mech (MechRefusal.Ap refusal) }
-    ensures memory { refusal ≡ aps.NoMemory → result ≡ NegRefusal.NoMemory }
-{
-    match refusal {
-        ApRefusal::NoMemory => NegRefusal::NoMemory,
-        refusal => NegRefusal::Mech(MechRefusal::Ap(refusal)),
-    }
-}
-
-/// The refusal of SCRAM's exchange.
-fn scram_refused(refusal: ScramRefusal) -> NegRefusal
-    ensures mech { refusal ≢ scrams.NoMemory
-        → result ≡ NegRefusal.Mech (MechRefusal.Scram refusal) }
-    ensures memory { refusal ≡ scrams.NoMemory → result ≡ NegRefusal.NoMemory }
-{
-    match refusal {
-        ScramRefusal::NoMemory => NegRefusal::NoMemory,
-        refusal => NegRefusal::Mech(MechRefusal::Scram(refusal)),
-    }
 }
 
 /// Kerberos begins with this credential.

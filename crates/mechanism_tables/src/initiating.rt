@@ -1,10 +1,15 @@
-//! An initiator's end and the replies to it.
+//! An initiator's end over the objects of Kerberos and SCRAM, and the replies to it.
 
-ghost use Rattle.std.specs.Prelude.{◌≡◌, true};
+ghost use Rattle.std.specs.Prelude.{◌≡◌, IfSome, map, true};
 ghost use Rattle.spnego_core.specs.InitMech.{is_own_list};
+ghost use Rattle.init_ends.specs.Arming.{IsBlankPair};
+ghost use Rattle.init_ends.specs.Ends.{end_by, holds, holds_after, step_by};
 
 use crate::accepting::{say_more, token};
-use spnego_core::{InitEnd, InitSetup, InitStep, Outcome};
+use init_ends::{InitEnd, InitSetup, InitStep};
+use mech_objects::{KerberosMech, Mech, ScramMech};
+use sec_base::NoMemory;
+use spnego_core::{InitFacts, Outcome};
 use table_rows::{Cells, Said};
 use table_setting::{Setting, saying};
 
@@ -16,7 +21,10 @@ fn say_done(said: &mut Said, outcome: &Outcome) {
 }
 
 /// Says what a step says, and gives the end that it leaves.
-fn shown(said: &mut Said, step: InitStep) -> Option<InitEnd> {
+fn shown(said: &mut Said, step: InitStep) -> Option<InitEnd>
+    requires { holds_after (step_by step meaning) ≡ true }
+    ensures { IfSome result (λ end. holds (end_by end meaning) ≡ true) }
+{
     match step {
         InitStep::More(end, token) => {
             say_more(said, token.as_slice());
@@ -30,7 +38,10 @@ fn shown(said: &mut Said, step: InitStep) -> Option<InitEnd> {
 }
 
 /// Says what an end says to a reply, and gives the end that it leaves.
-fn taken(cells: &mut Cells<'_>, said: &mut Said, end: InitEnd, reply: &[u8]) -> Option<InitEnd> {
+fn taken(cells: &mut Cells<'_>, said: &mut Said, end: InitEnd, reply: &[u8]) -> Option<InitEnd>
+    requires { holds (end_by end meaning) ≡ true }
+    ensures { IfSome result (λ next. holds (end_by next meaning) ≡ true) }
+{
     match end.step(cells.alloc(), reply) {
         Ok(step) => shown(said, step),
         Err(refusal) => {
@@ -46,7 +57,10 @@ fn stepped(
     said: &mut Said,
     end: Option<InitEnd>,
     part: &str,
-) -> Option<InitEnd> {
+) -> Option<InitEnd>
+    requires { IfSome end (λ e. holds (end_by e meaning) ≡ true) }
+    ensures { IfSome result (λ next. holds (end_by next meaning) ≡ true) }
+{
     let reply = token(cells, part);
     match end {
         None => None,
@@ -59,7 +73,9 @@ fn stepped(
 }
 
 /// Says `reply=verdict` for each reply that is left of a row behind the first token.
-fn followed(cells: &mut Cells<'_>, said: &mut Said, end: InitEnd) {
+fn followed(cells: &mut Cells<'_>, said: &mut Said, end: InitEnd)
+    requires { holds (end_by end meaning) ≡ true }
+{
     let mut parts = cells.rest().unwrap_or("").split(' ');
     let _first = parts.next();
     let mut next = Some(end);
@@ -69,10 +85,17 @@ fn followed(cells: &mut Cells<'_>, said: &mut Said, end: InitEnd) {
     drop(next);
 }
 
-/// Says the first token, and `reply=verdict` for each reply that is left of a row behind the first token.
-pub fn talk(cells: &mut Cells<'_>, said: &mut Said, setup: InitSetup)
-    requires { is_own_list setup.list ≡ true }
+/// Says the first token by these objects, and `reply=verdict` for each reply that is left of a row behind the first token.
+fn talk_over(
+    cells: &mut Cells<'_>,
+    said: &mut Said,
+    mechs: Vec<Box<dyn Mech>>,
+    facts: InitFacts,
+) -> Result<(), NoMemory>
+    requires blank { IsBlankPair (map meaning mechs.items) }
+    requires list { is_own_list facts.list ≡ true }
 {
+    let setup = InitSetup::armed(cells.alloc(), mechs, facts)?;
     match InitEnd::start(cells.alloc(), setup) {
         Err(refusal) => saying::refusal(said, refusal),
         Ok((end, first)) => {
@@ -80,13 +103,34 @@ pub fn talk(cells: &mut Cells<'_>, said: &mut Said, setup: InitSetup)
             followed(cells, said, end);
         }
     }
+    Ok(())
+}
+
+/// The same by an object of Kerberos and one of SCRAM.
+fn talk_by_both(cells: &mut Cells<'_>, said: &mut Said, facts: InitFacts) -> Result<(), NoMemory>
+    requires { is_own_list facts.list ≡ true }
+{
+    let alloc = cells.alloc();
+    let mut mechs: Vec<Box<dyn Mech>> = Vec::with_capacity(alloc, 2)?;
+    mechs.push_reserved(Box::new(alloc, KerberosMech::new(alloc))?);
+    mechs.push_reserved(Box::new(alloc, ScramMech::new(alloc))?);
+    talk_over(cells, said, mechs, facts)
+}
+
+/// Says the first token of an initiator with these facts, and `reply=verdict` for each reply that is left of a row behind the first token.
+pub fn talk(cells: &mut Cells<'_>, said: &mut Said, facts: InitFacts)
+    requires { is_own_list facts.list ≡ true }
+{
+    if talk_by_both(cells, said, facts).is_err() {
+        said.starve();
+    }
 }
 
 /// What the setting's initiator says at first and to each reply of a row, which begins with the letters of the list.
 pub fn answer(setting: &Setting, cells: &mut Cells<'_>, said: &mut Said) {
     let letters = cells.word();
     match setting.initiator(cells.alloc(), letters) {
-        Some(setup) => talk(cells, said, setup),
+        Some(facts) => talk(cells, said, facts),
         None => cells.expect(false),
     }
 }
@@ -96,7 +140,7 @@ pub fn first(setting: &Setting, cells: &mut Cells<'_>, said: &mut Said) {
     let letters = cells.word();
     let draws = cells.exactly();
     match setting.initiator_with(cells.alloc(), letters, draws) {
-        Some(setup) => talk(cells, said, setup),
+        Some(facts) => talk(cells, said, facts),
         None => cells.expect(false),
     }
 }

@@ -10,6 +10,7 @@ mod scram_initiator;
 mod scram_texts;
 mod stamps;
 mod table;
+mod third;
 mod tickets;
 mod verifiers;
 
@@ -17,7 +18,7 @@ use std::{fs, io};
 use table::{Table, compared};
 use table_setting::Setting;
 
-const TABLES: [Table; 15] = [
+const TABLES: [Table; 16] = [
     Table::Requests,
     Table::Replies,
     Table::Faults,
@@ -29,6 +30,7 @@ const TABLES: [Table; 15] = [
     Table::Verifiers,
     Table::MadeVerifiers,
     Table::Initiating,
+    Table::Third,
     Table::Accepting,
     Table::FirstTokens,
     Table::PeerReplies,

@@ -41,7 +41,7 @@ pub fn begun(cells: &mut Cells<'_>, said: &mut Said) {
 /// The same with this credential at this moment.
 fn begun_with(cells: &mut Cells<'_>, said: &mut Said, own: Credential, stamp: Moment) {
     match initiator(cells.alloc(), own, stamp) {
-        Some(setup) => initiating::talk(cells, said, setup),
+        Some(facts) => initiating::talk(cells, said, facts),
         None => said.starve(),
     }
 }

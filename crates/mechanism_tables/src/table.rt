@@ -2,7 +2,7 @@
 
 use crate::{
     accepting, initiating, kerberos, peers, scram_exchanges, scram_initiator, scram_texts, stamps,
-    tickets, verifiers,
+    third, tickets, verifiers,
 };
 use std::alloc::Global;
 use table_rows::{Cells, Rows, Said};
@@ -22,6 +22,7 @@ pub enum Table {
     Verifiers,
     MadeVerifiers,
     Initiating,
+    Third,
     Accepting,
     FirstTokens,
     PeerReplies,
@@ -43,6 +44,7 @@ impl Table {
             Table::Verifiers => "verifiers.txt",
             Table::MadeVerifiers => "made_verifiers.txt",
             Table::Initiating => "initiating.txt",
+            Table::Third => "third.txt",
             Table::Accepting => "accepting.txt",
             Table::FirstTokens => "first_tokens.txt",
             Table::PeerReplies => "peer_replies.txt",
@@ -58,6 +60,7 @@ impl Table {
                 | Table::Tickets
                 | Table::Stamps
                 | Table::ScramInitiator
+                | Table::Third
                 | Table::FirstTokens
         )
     }
@@ -75,6 +78,7 @@ impl Table {
             Table::Verifiers => verifiers::read(cells, said),
             Table::MadeVerifiers => verifiers::made(cells, said),
             Table::Initiating => initiating::answer(setting, cells, said),
+            Table::Third => third::answer(setting, cells, said),
             Table::Accepting => accepting::answer(setting, cells, said),
             Table::FirstTokens => initiating::first(setting, cells, said),
             Table::PeerReplies => peers::begun(cells, said),

@@ -10,10 +10,10 @@ use Rattle.gss_client.specs.Creation as created
 use Rattle.rpcsec_bodies.specs.declared.service.Service.{Service}
 use Rattle.gss_client.specs.Calling.{creation_call}
 use Rattle.gss_client.specs.Hearing.{whole, next_of}
-use Rattle.gss_client.specs.Judging.{creation_step}
+use Rattle.gss_client.specs.Judging.{creation_by, creation_step}
 use Rattle.gss_client.specs.Rank.{replies_left}
 use Rattle.gss_client.specs.Session.{xid_after}
-use Rattle.gss_client.specs.Talk.{turns, begun, by_turn, creates, created_from}
+use Rattle.gss_client.specs.Talk.{turns, turns_by, begun, by_turn, creates, creates_by, created_from}
 use Rattle.gss_client.specs.Talking.{Said, Talking, said, after, goes_on, judges, by_heard, listens, exchanges}
 use Rattle.gss_client.proofs.NextRecord.{of-frame}
 
@@ -40,14 +40,14 @@ unfolding exchanges
 exchange-front call stream = record { more = (listens stream).written; same = refl }
 
 turn-front : (service : Service) (xid proc : ℕ) (offer : OfferSays) (stream : List ℕ) → Fronts (last_fragment (creation_call service xid proc offer.handle offer.token)) (turns service xid proc offer stream)
-unfolding turns
+unfolding turns_by
 turn-front service xid proc offer stream =
     let call : List ℕ = creation_call service xid proc offer.handle offer.token in
     let f = exchange-front call stream in
     goes-front (last_fragment call) (exchanges call stream).written (exchanges call stream).rest (λ octets. judges (creation_step offer.end xid octets)) (exchanges call stream).answer f.more f.same
 
 pub creates-front : (left : ℕ) (service : Service) (first xid proc : ℕ) (offer : OfferSays) (stream : List ℕ) → Fronts (last_fragment (creation_call service xid proc offer.handle offer.token)) (creates (suc left) service first xid proc offer stream)
-unfolding creates
+unfolding creates_by
 creates-front left service first xid proc offer stream =
     let f = turn-front service xid proc offer stream in
     goes-front (last_fragment (creation_call service xid proc offer.handle offer.token)) (turns service xid proc offer stream).written (turns service xid proc offer stream).rest (by_turn service first xid (creates left service first (xid_after xid) 2)) (turns service xid proc offer stream).answer f.more f.same
@@ -63,18 +63,18 @@ unfolding exchanges
 exchanged call reply rest few = rw (listens-first reply rest few, append-nil (last_fragment call)) refl
 
 turned : (service : Service) (xid proc : ℕ) (offer : OfferSays) (reply rest : List ℕ) (what : CreatedSays) → length reply ≤ 131072 → creation_step offer.end xid reply ≡ Ok what → turns service xid proc offer (last_fragment reply ++ rest) ≡ said (last_fragment (creation_call service xid proc offer.handle offer.token)) (Ok what) rest
-unfolding turns
+unfolding turns_by
 turned service xid proc offer reply rest what few judged =
     rw (exchanged (creation_call service xid proc offer.handle offer.token) reply rest few, judged, append-nil (last_fragment (creation_call service xid proc offer.handle offer.token))) refl
 
 pub established : (left : ℕ) (service : Service) (first xid proc : ℕ) (offer : OfferSays) (reply rest : List ℕ) (outcome : Outcome) (handle : List ℕ) → length reply ≤ 131072 → creation_step offer.end xid reply ≡ Ok (created.Stands outcome handle)
     → creates (suc left) service first xid proc offer (last_fragment reply ++ rest) ≡ said (last_fragment (creation_call service xid proc offer.handle offer.token)) (Ok (begun service first (xid_after xid) outcome handle)) rest
-unfolding creates
+unfolding creates_by
 established left service first xid proc offer reply rest outcome handle few judged =
     rw (turned service xid proc offer reply rest (created.Stands outcome handle) few judged, append-nil (last_fragment (creation_call service xid proc offer.handle offer.token))) refl
 
 -- a turn before the others
 pub continued : (left : ℕ) (service : Service) (first xid proc : ℕ) (offer next : OfferSays) (reply rest : List ℕ) → length reply ≤ 131072 → creation_step offer.end xid reply ≡ Ok (created.Going next)
     → creates (suc left) service first xid proc offer (last_fragment reply ++ rest) ≡ after (last_fragment (creation_call service xid proc offer.handle offer.token)) (creates left service first (xid_after xid) 2 next rest)
-unfolding creates
+unfolding creates_by
 continued left service first xid proc offer next reply rest few judged = rw (turned service xid proc offer reply rest (created.Going next) few judged) refl

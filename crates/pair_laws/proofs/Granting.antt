@@ -20,7 +20,7 @@ use Rattle.spnego_core.specs.Outcome.{token_end}
 use Rattle.rpcsec_bodies.proofs.Lengths.{mic-size}
 use Rattle.accept_book.specs.RecordShown.{handle_of}
 use Rattle.gss_client.specs.Creation as created
-use Rattle.gss_client.specs.Judging.{answer_in, granted_in, GrantedValue, by_step, creation_step}
+use Rattle.gss_client.specs.Judging.{answer_in, granted_in, GrantedValue, by_step, creation_by, creation_step}
 use Rattle.gss_server.proofs.BodyLengths.{init-fits}
 use Rattle.gss_server.proofs.ReplyLengths.{accepted-fits}
 
@@ -66,7 +66,7 @@ window_mic outcome width = mic_of (token_end outcome Acceptor) 1 (word width)
 abbrev pub granting : ℕ → Outcome → ℕ → ℕ → List ℕ → ReplyValue
 granting xid outcome id width token = reply_with xid 6 (window_mic outcome width) (result_with id width token)
 
-stands : (xid : ℕ) (outcome : Outcome) (id width : ℕ) (token : List ℕ) → 0 < width → by_step (granted_with xid 6 (window_mic outcome width) (result_with id width token)) (steps.Done outcome) ≡ Ok (created.Stands outcome (handle_of id))
+stands : (xid : ℕ) (outcome : Outcome) (id width : ℕ) (token : List ℕ) → 0 < width → by_step {E = EndSays} (granted_with xid 6 (window_mic outcome width) (result_with id width token)) (steps.Done outcome) ≡ Ok (created.Stands outcome (handle_of id))
 unfolding by_step
 stands xid outcome id width token some =
     let wide : (width == 0) ≡ false = grind (arith, nat_tests) in
@@ -75,7 +75,7 @@ stands xid outcome id width token some =
 
 pub creation-stands : (xid : ℕ) (end : EndSays) (outcome : Outcome) (id width : ℕ) (token : List ℕ) → xid < 2 ^ 32 → 0 < width → width < 2 ^ 32 → length token ≤ 65536 → step_of (init_step end token) ≡ Ok (steps.Done outcome)
     → creation_step end xid (reply_octets (granting xid outcome id width token)) ≡ Ok (created.Stands outcome (handle_of id))
-unfolding creation_step
+unfolding creation_by
 creation-stands xid end outcome id width token fits some wide few takes =
     let is : IsInitRes (result_with id width token) = record { context = omega (arith, handle-length id); major = lit< tt; minor = lit< tt; window = wide; token = few } in
     rw (grants xid 6 (window_mic outcome width) (result_with id width token) fits (lit< tt) (omega (arith, mic-size (token_end outcome Acceptor) 1 (word width))) is (lit≤ tt)) (rw takes (stands xid outcome id width token some))
@@ -95,7 +95,7 @@ going xid id token = reply_with xid 0 [] (result_on id token)
 
 pub creation-goes : (xid : ℕ) (end after : EndSays) (id : ℕ) (token further : List ℕ) → xid < 2 ^ 32 → length token ≤ 65536 → step_of (init_step end token) ≡ Ok (steps.More after further)
     → creation_step end xid (reply_octets (going xid id token)) ≡ Ok (created.Going (record { end = after; handle = handle_of id; token = further }))
-unfolding creation_step by_step
+unfolding creation_by by_step
 creation-goes xid end after id token further fits few takes =
     let is : IsInitRes (result_on id token) = record { context = omega (arith, handle-length id); major = lit< tt; minor = lit< tt; window = lit< tt; token = few } in
     rw (grants xid 0 [] (result_on id token) fits (lit< tt) (lit≤ tt) is (lit≤ tt)) (rw takes refl)

@@ -23,7 +23,7 @@ use Rattle.gss_client.specs.Talking.{Said}
 use Rattle.gss_client.specs.declared.refusal.ClientRefusal.{ClientRefusal}
 use Rattle.gss_client.specs.Start.{StartSays}
 use Rattle.gss_server.specs.declared.answer.Kept.{Kept}
-use Rattle.pair_laws.specs.Conferring.{DueCall, confers, by_opening, talk_of}
+use Rattle.pair_laws.specs.Conferring.{DueCall, confers, by_opening, talk_of, talk_behind}
 use Rattle.pair_laws.specs.Creation.{IsAt, CreatesOn, IsCreation, Enters, padded}
 use Rattle.pair_laws.specs.Honest.{occasion_of}
 use Rattle.pair_laws.specs.Linked.{kept_of, IsServed, CreatedLaw, IsLinked, LinkedDone}
@@ -47,7 +47,7 @@ opening-more due draws written rest (Ok s) = record { more = (confers due s draw
 opening-more due draws written rest (Err refusal) = record { more = []; is = sym (append-nil written) }
 
 talk-more : (due : List DueCall) (start : StartSays) (draws stream : List ℕ) → After (created_from start stream).written (talk_of start due draws stream).written
-unfolding talk_of
+unfolding talk_behind
 talk-more due start draws stream = let made : Said SessionState = created_from start stream in opening-more due draws made.written made.rest made.answer
 
 same-answers : (turns : List Turn) → length (answers_of turns) ≡ length turns
@@ -189,7 +189,7 @@ served-creates width lasts tokens start kind count moment due draws stream old n
 
 -- a talk behind a creation that came to a session tells its outcome
 told-on : (due : List DueCall) (start : StartSays) (draws stream : List ℕ) (agreed : Outcome) → CreatesOn (created_from start stream) agreed → (talk_of start due draws stream).outcome ≡ Some agreed
-unfolding talk_of
+unfolding talk_behind
 told-on due start draws stream agreed c =
     let made : Said SessionState = created_from start stream in
     ap (λ (answer : Result SessionState ClientRefusal). (by_opening due draws made.written made.rest answer).outcome) c.answer ∙ ap (λ (o : Outcome). Some o) c.outcome

@@ -1,5 +1,5 @@
 -- An initiator and an acceptor that meet are an honest pair.
-use Rattle.std.proofs.Common.{◌≡◌, ◌⊎◌, inl, inr, ℕ, zero, suc, ◌+◌, ◌<◌, ◌≤◌, Bool, true, false, refl, ap, sym, subst, ◌∙◌, arith, List, [], ◌∷◌, length, Option, Some, Result, Ok, Err, is_ok, slice_get, IfOk}
+use Rattle.std.proofs.Common.{◌≡◌, ◌⊎◌, inl, inr, ℕ, zero, suc, ◌+◌, ◌<◌, ◌≤◌, Bool, true, false, refl, ap, sym, subst, ◌∙◌, arith, List, [], ◌∷◌, length, map, Option, Some, Result, Ok, Err, is_ok, slice_get, IfOk}
 use Rattle.std.specs.Prelude.{if◌then◌else◌}
 use Rattle.std.specs.List.{AllByRecursion}
 use Rattle.std.proofs.Math.Nat.{eq-or-lt_of_le}
@@ -11,22 +11,30 @@ use Rattle.krb_files.specs.Granted.{Granted}
 use Rattle.krb_msgs.specs.Ticket.{ticket}
 use Rattle.krb_msgs.specs.declared.ticket.Ticket.{Ticket}
 use Rattle.ap_exchange.specs.Draws.{drawn_nonce}
-use Rattle.ap_exchange.specs.Request.{request_of, request_token, waiting, RequestFits}
+use Rattle.ap_exchange.specs.declared.refusal.ApRefusal.{ApRefusal}
+use Rattle.ap_exchange.specs.declared.request.ApInit.{ApInit}
+use Rattle.ap_exchange.specs.Request.{request_of, request_token, request_makes, waiting, RequestFits}
+use Rattle.scram_mech.specs.declared.refusal.ScramRefusal.{ScramRefusal}
+use Rattle.scram_mech.specs.Initiator.{InitStarted, init_started}
+use Rattle.scram_mech.specs.MechMaking.{MechMaking, typed}
 use Rattle.spnego_core.specs.declared.setup.AcceptSetup.{AcceptSetup}
 use Rattle.spnego_core.specs.declared.setup.MechCred.{MechCred}
 use Rattle.spnego_core.specs.declared.setup.MechCred.TheVariants as creds
 use Rattle.spnego_core.specs.declared.refusal.NegRefusal.{NegRefusal}
+use Rattle.spnego_core.specs.declared.refusal.MechRefusal.{MechRefusal}
 use Rattle.spnego_core.specs.Ends.{PlainSetup}
+use Rattle.spnego_core.specs.Ends as ends
+use Rattle.spnego_core.specs.MechStates as inits
 use Rattle.spnego_core.specs.Choice.{is_first, is_mic_due, same_kind}
 use Rattle.spnego_core.specs.Exchange.{Occasion, TicketFits, UserFits, Fitting, rounds_of, tokens_of}
-use Rattle.spnego_core.specs.InitMech.{kind_of, kinds_of, is_own_list, cred_for, MechBegun, init_begun}
-use Rattle.spnego_core.specs.Initiating.{Started, own_list, init_start, token_sent}
-use Rattle.spnego_core.specs.Sizes.{IsShort}
-use Rattle.spnego_core.specs.Tokens.{resp_octets}
+use Rattle.spnego_core.specs.InitMech.{kind_of, kinds_of, is_own_list, cred_for, MechBegun, request_begun, text_begun, init_begun}
+use Rattle.spnego_core.specs.Initiating.{Started, own_list, init_start, starts, opens, first_sent, token_sent}
+use Rattle.spnego_core.specs.Sizes.{IsShort, FitsBeside}
+use Rattle.spnego_core.specs.Tokens.{init_octets, resp_octets}
 use Rattle.spnego_core.proofs.MechRounds.{request_begins, request-begins, text_begins, text-begins, pairs}
-use Rattle.spnego_core.proofs.ShortInit.{request_fits, token_short}
+use Rattle.spnego_core.proofs.ShortInit.{request_fits, first_short, token_short}
 use Rattle.spnego_core.proofs.ShortTexts.{nonce_length, started_short}
-use Rattle.pair_laws.specs.Meeting.{CredMeets, drawn_on, MeetLaw, AnswerTold, TicketTold, CredTold, IsDrawn, SetupTold}
+use Rattle.pair_laws.specs.Meeting.{CredMeets, drawn_on, MeetLaw, AnswerTold, TicketTold, UserTold, CredTold, IsDrawn, SetupTold}
 
 -- ---- where something is
 
@@ -40,6 +48,12 @@ ok-value (Err refusal) e = absurd cc
 
 some-is : {A : Type 0} (x y : A) → Some x ≡ Some y → x ≡ y
 some-is x y e = cc
+
+abbrev given : {A E : Type 0} → A → Result A E
+given x = Ok x
+
+ok-is : {A E : Type 0} (x y : A) → given {A = A} {E = E} x ≡ Ok y → x ≡ y
+ok-is x y e = cc
 
 told-for : (own : PlainSetup) (draws : List (List ℕ)) (list : List MechCred) (kind : MechKind) (cred : MechCred) → cred_for list kind ≡ Some cred → ((i : ℕ) (c : MechCred) → slice_get list i ≡ Some c → CredTold own draws c) → CredTold own draws cred
 told-for own draws [] kind cred e told = absurd cc
@@ -119,6 +133,40 @@ begins-some : (setup : AcceptSetup) (own : PlainSetup) (draws : List (List ℕ))
 begins-some setup own draws kind cred [] counted size told fit = absurd (omega (arith, counted, one-token (is_first (kinds_of own.list) kind) (is_mic_due setup.offer (own_list own) kind) kind))
 begins-some setup own draws kind cred (occasion ∷ occasions) counted size told fit = begins-on setup own draws cred occasion size told fit.0
 
+-- ---- the first token
+
+request-fits : (own : PlainSetup) (draws : List (List ℕ)) (credential : Granted) (makes : List MechMaking) (r : Result (ApInit × List ℕ) ApRefusal) (begun : MechBegun) → request_of credential own.stamp own.draws own.bindings ≡ r → IsDrawn own.draws → TicketTold own draws credential → request_begun makes r ≡ Ok begun → FitsBeside begun.token
+request-fits own draws credential makes (Ok sent) begun same size told e =
+    let is : record { mech = inits.Kerberos sent.0; token = sent.1; makes = makes } ≡ begun = ok-is _ begun e in
+    subst (λ (b : MechBegun). FitsBeside b.token) is
+    (request_fits credential own.stamp own.draws own.bindings sent.0 sent.1 same size told.ticket told.named (told.request (ap is_ok same)))
+request-fits own draws credential makes (Err refusal) begun same size told e = absurd cc
+
+text-fits : (own : PlainSetup) (user password : List ℕ) (r : Result InitStarted ScramRefusal) (begun : MechBegun) → init_started user password (drawn_nonce own.draws) own.bindings ≡ r → IsDrawn own.draws → UserTold own user password → text_begun r ≡ Ok begun → FitsBeside begun.token
+text-fits own user password (Ok started) begun same size told e =
+    let is : record { mech = inits.Scram started.end; token = started.token; makes = [] } ≡ begun = ok-is _ begun e in
+    subst (λ (b : MechBegun). FitsBeside b.token) is
+    (started_short user password (drawn_nonce own.draws) own.bindings started (told.few (ap is_ok same)) (nonce_length own.draws size) same)
+text-fits own user password (Err refusal) begun same size told e = absurd cc
+
+begun-fits : (own : PlainSetup) (draws : List (List ℕ)) (cred : MechCred) (begun : MechBegun) → IsDrawn own.draws → CredTold own draws cred → init_begun own cred ≡ Ok begun → FitsBeside begun.token
+unfolding init_begun
+begun-fits own draws (creds.Kerberos credential) begun size told e =
+    request-fits own draws credential (map typed (request_makes credential own.stamp own.draws own.bindings)) (request_of credential own.stamp own.draws own.bindings) begun refl size told e
+begun-fits own draws (creds.Scram user password) begun size told e =
+    text-fits own user password (init_started user password (drawn_nonce own.draws) own.bindings) begun refl size told e
+
+opens-short : (own : PlainSetup) (r : Result MechBegun MechRefusal) (started : Started) → is_own_list own.list ≡ true → ((begun : MechBegun) → r ≡ Ok begun → FitsBeside begun.token) → opens own r ≡ Ok started → IsShort started.token
+opens-short own (Ok begun) started list fits e =
+    let is : record { end = ends.Opens (record { own = own; mech = begun.mech }); token = init_octets (first_sent own begun.token); makes = begun.makes } ≡ started = ok-is _ started e in
+    subst (λ (s : Started). IsShort s.token) is (first_short own begun.token list (fits begun refl))
+opens-short own (Err refusal) started list fits e = absurd cc
+
+starts-short : (own : PlainSetup) (draws : List (List ℕ)) (list : List MechCred) (started : Started) → is_own_list own.list ≡ true → IsDrawn own.draws → ((i : ℕ) (cred : MechCred) → slice_get list i ≡ Some cred → CredTold own draws cred) → starts own list ≡ Ok started → IsShort started.token
+starts-short own draws [] started is_list size told e = absurd cc
+starts-short own draws (first ∷ rest) started is_list size told e =
+    opens-short own (init_begun own first) started is_list (λ begun b. begun-fits own draws first begun size (told zero first refl) b) e
+
 -- ---- the pair
 
 pub meeting : (own : PlainSetup) (draws : List (List ℕ)) → SetupTold own draws → MeetLaw own draws
@@ -134,7 +182,7 @@ meeting own draws told setup kind occasions same m =
       draws = told.drawn;
       started = s.0;
       starts = s.1;
-      short = told.short s.0 s.1;
+      short = starts-short own draws own.list s.0 told.list told.drawn told.creds s.1;
       begun = b.begun;
       begins = b.begins;
       begun_short = b.short;
@@ -143,7 +191,7 @@ meeting own draws told setup kind occasions same m =
     }
 
 -- what a call tells that may want memory
-pub if-told : {E : Type 0} (own : PlainSetup) (draws : List (List ℕ)) (result : Result (Unit {0}) E) → is_own_list own.list ≡ true → IsDrawn own.draws → Each IsDrawn draws → ((i : ℕ) (cred : MechCred) → slice_get own.list i ≡ Some cred → CredTold own draws cred)
-    → IfOk result (λ _. (started : Started) → init_start own ≡ Ok started → IsShort started.token) → IfOk result (λ _. MeetLaw own draws)
-if-told own draws (Ok done) list drawn all_drawn creds short = meeting own draws (record { list = list; drawn = drawn; all_drawn = all_drawn; short = short; creds = creds })
-if-told own draws (Err refusal) list drawn all_drawn creds short = tt
+pub if-told : {E : Type 0} (own : PlainSetup) (draws : List (List ℕ)) (result : Result (Unit {0}) E) → is_own_list own.list ≡ true → IsDrawn own.draws → Each IsDrawn draws → IfOk result (λ _. (i : ℕ) (cred : MechCred) → slice_get own.list i ≡ Some cred → CredTold own draws cred)
+    → IfOk result (λ _. MeetLaw own draws)
+if-told own draws (Ok done) list drawn all_drawn creds = meeting own draws (record { list = list; drawn = drawn; all_drawn = all_drawn; creds = creds })
+if-told own draws (Err refusal) list drawn all_drawn creds = tt

@@ -15,13 +15,13 @@ use Rattle.gss_client.specs.declared.procedure.Procedure.{Procedure}
 use Rattle.gss_client.specs.declared.refusal.ClientRefusal.{ClientRefusal}
 use Rattle.gss_client.specs.Start.{StartSays}
 use Rattle.rpcsec_bodies.specs.declared.service.Service.{Service}
-use Rattle.gss_client.specs.Conversation.{Conversed, conversed, behind, leaves, goes_on, converses, talk, by_session, by_creation}
+use Rattle.gss_client.specs.Conversation.{Conversed, conversed, behind, leaves, goes_on, converses, talk, talk_by, by_session, by_creation}
 use Rattle.gss_client.specs.Procedure.{procedure_number, is_result}
 use Rattle.gss_client.specs.Session.{SessionState}
 use Rattle.gss_client.specs.Talk.{created_from, calls, destroys}
 use Rattle.gss_client.specs.Talking.{Said}
 use Rattle.pair_laws.specs.Booked.{id_in}
-use Rattle.pair_laws.specs.Conferring.{DueCall, confers, by_opening, talk_of}
+use Rattle.pair_laws.specs.Conferring.{DueCall, confers, by_opening, talk_of, talk_behind}
 use Rattle.pair_laws.specs.Honest.{HonestExchange}
 use Rattle.pair_laws.specs.HonestCalls.{session_on}
 use Rattle.pair_laws.specs.Laws.{Completes}
@@ -51,7 +51,7 @@ same-opening times call draws written rest (Ok s) = ap (λ (c : Conversed). by_s
 same-opening times call draws written rest (Err refusal) = refl
 
 pub equal-session : (start : StartSays) (times : ℕ) (call : DueCall) (draws stream : List ℕ) → talk start times call.procedure call.args draws stream ≡ talk_of start (replicate times call) draws stream
-unfolding talk talk_of
+unfolding talk_by talk_behind
 equal-session start times call draws stream =
     let made : Said SessionState = created_from start stream in same-opening times call draws made.written made.rest made.answer
 

@@ -49,7 +49,7 @@ use Rattle.pair_laws.proofs.CallTurns.{call-turn}
 use Rattle.pair_laws.proofs.Completing.{framed-some, same-behind, few-answers}
 use Rattle.pair_laws.proofs.Ended.{ended, end-turn, end-fits}
 use Rattle.accept_book.specs.Booking.{NotesMoment}
-use Rattle.pair_laws.specs.Conferring.{DueCall, confers, by_opening, talk_of}
+use Rattle.pair_laws.specs.Conferring.{DueCall, confers, by_opening, talk_behind}
 use Rattle.pair_laws.specs.Sessions.{IsProper, ArePlanned, HonestSession, made_of, results_in, AreLogged, SessionRuns}
 use Rattle.pair_laws.proofs.SessionParts.{word-octets, result-octets, result-fits, low, below-spent, is-spent, none-made, none-due, spent-made, spent-due, more-made, more-due, data-fits, calls-first, destroys-first, on-first, first-is, none-left, live-before}
 
@@ -285,7 +285,7 @@ by-each width lease = record { served = λ left core turn turns w. w.0; later = 
 
 pub session-runs : (keys keys' : SealKeys) (setup : AcceptSetup) (width : ℕ) (start : StartSays) (stream : List ℕ) (x : HonestExchange setup width start stream) (c : Completes setup width start stream x) (due : List DueCall) (draws : List ℕ) → ForSealing keys c.outcome.key 22 → ForSealing keys' c.outcome.key 24
     → (r : HonestSession setup width start stream x c due draws) → SessionRuns setup width start stream x c due draws r
-unfolding talk_of
+unfolding talk_behind
 session-runs keys keys' setup width start stream x c due draws for for' r =
     let lease : Lease = lease_on (id_in x.books) c.outcome c.lasts in
     let a = run-all keys keys' width lease (λ left core turns. Serves width lease core turns) (by-each width lease) start.service for for' x.number r.name due start.first (1 + length x.answers) draws x.converses.rest c.core r.turns r.rest r.planned (omega (arith, few-answers setup width start stream x)) r.served c.whole r.unused r.written r.heard in

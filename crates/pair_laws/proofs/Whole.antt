@@ -25,7 +25,7 @@ use Rattle.gss_client.specs.Conversation.{Talk}
 use Rattle.gss_client.specs.declared.refusal.ClientRefusal.{ClientRefusal}
 use Rattle.gss_client.specs.Start.{StartSays}
 use Rattle.pair_laws.specs.Booked.{Around, id_in}
-use Rattle.pair_laws.specs.Conferring.{DueCall, confers, by_opening, talk_of}
+use Rattle.pair_laws.specs.Conferring.{DueCall, confers, by_opening, talk_of, talk_behind}
 use Rattle.pair_laws.specs.Creation.{around_of, Enters, history_with}
 use Rattle.pair_laws.specs.HonestCalls.{session_on}
 use Rattle.pair_laws.specs.Laws.{IsBehind}
@@ -131,7 +131,7 @@ long-after id number (call ∷ later) h = omega (arith, long-after id (number + 
 
 pub whole-done : (keys keys' : SealKeys) (key : Key) → ForSealing keys key 22 → ForSealing keys' key 24 → (width lasts : ℕ) (start : StartSays) (kind : MechKind) (count moment : ℕ) (due : List DueCall) (draws stream : List ℕ) (old new : BookOf) (front back : List Turn) (rest : List ℕ) (outcome : Outcome)
     → IsSession key width lasts start kind count moment due draws stream old new front back rest outcome → SessionDone width start kind count moment due draws stream old new front back rest outcome
-unfolding talk_of
+unfolding talk_behind
 whole-done keys keys' key for for' width lasts start kind count moment due draws stream old new front back rest outcome s =
     let r = creation-runs width lasts start kind count moment stream s.more old new front back s.records s.tail rest s.creation in
     let x = r.exchange in

@@ -8,35 +8,33 @@ use Rattle.gss_client.specs.declared.conversation.Parting.{Parting}
 use Rattle.gss_client.specs.declared.conversation.Parting.TheVariants.{Refused}
 use Rattle.gss_client.specs.declared.refusal.ClientRefusal.{ClientRefusal}
 use Rattle.gss_client.specs.declared.refusal.ClientRefusal.TheVariants.{LinkFault, NoMemory}
-use Rattle.gss_client.specs.Start.{StartSays}
 use Rattle.gss_client.specs.Conversation.{Talk, by_session}
 use Rattle.gss_client.specs.Conversing.{IsFront}
 use Rattle.gss_client.specs.Exchanging.{Done, Stopped}
 use Rattle.gss_client.specs.Session.{SessionState}
-use Rattle.gss_client.specs.Talk.{created_from}
-use Rattle.gss_client.specs.Talking.{Said}
+use Rattle.gss_client.specs.Talking.{Said, Talking}
 use Rattle.gss_client.proofs.Parts.{went-again}
-use Rattle.pair_laws.specs.Conferring.{DueCall, confers, by_opening, talk_of}
-use Rattle.pair_laws.specs.Holding.{ConferredOf, TalkedOf}
+use Rattle.pair_laws.specs.Conferring.{DueCall, confers, by_opening, talk_behind}
+use Rattle.pair_laws.specs.Holding.{ConferredOf, TalkedBehind}
 
 -- what the talk says of the creation
 abbrev by_said : List DueCall → List ℕ → Said SessionState → Talk
 by_said every draws one = by_opening every draws one.written one.rest one.answer
 
-talk-is : (start : StartSays) (every : List DueCall) (draws stream : List ℕ) → talk_of start every draws stream ≡ by_said every draws (created_from start stream)
-unfolding talk_of
-talk-is start every draws stream = refl
+talk-is : (creation : Talking SessionState) (every : List DueCall) (draws stream : List ℕ) → talk_behind creation every draws stream ≡ by_said every draws (creation stream)
+unfolding talk_behind
+talk-is creation every draws stream = refl
 
-conversed-then : (tells : Bool) (given given' : List ℕ) (start : StartSays) (every : List DueCall) (a b c : Wire) (s : SessionState) (results : List (List ℕ)) (parting : Parting) (later : List ℕ) (d : Done (created_from start) a b s) (f : ConferredOf tells given given' every s b c results parting)
-    → talk_of start every (f.drawn ++ later) ((d.took ++ f.took) ++ c.coming) ≡ by_session d.wrote (Some s.outcome) (confers every s (f.drawn ++ later) (f.took ++ c.coming))
-conversed-then tells given given' start every a b c s results parting later d f =
-    talk-is start every (f.drawn ++ later) ((d.took ++ f.took) ++ c.coming)
-    ∙ ap (by_said every (f.drawn ++ later)) (ap (created_from start) (append_assoc d.took f.took c.coming) ∙ d.whole (f.took ++ c.coming))
+conversed-then : (tells : Bool) (given given' : List ℕ) (creation : Talking SessionState) (every : List DueCall) (a b c : Wire) (s : SessionState) (results : List (List ℕ)) (parting : Parting) (later : List ℕ) (d : Done creation a b s) (f : ConferredOf tells given given' every s b c results parting)
+    → talk_behind creation every (f.drawn ++ later) ((d.took ++ f.took) ++ c.coming) ≡ by_session d.wrote (Some s.outcome) (confers every s (f.drawn ++ later) (f.took ++ c.coming))
+conversed-then tells given given' creation every a b c s results parting later d f =
+    talk-is creation every (f.drawn ++ later) ((d.took ++ f.took) ++ c.coming)
+    ∙ ap (by_said every (f.drawn ++ later)) (ap creation (append_assoc d.took f.took c.coming) ∙ d.whole (f.took ++ c.coming))
 
-held : (tells : Bool) (given given' : List ℕ) (start : StartSays) (every : List DueCall) (a b c : Wire) (s : SessionState) (results : List (List ℕ)) (parting : Parting) → Done (created_from start) a b s → ConferredOf tells given given' every s b c results parting → TalkedOf tells given given' start every a c (Some s.outcome) results parting
-held tells given given' start every a b c s results parting d f =
-    let all : (later : List ℕ) → talk_of start every (f.drawn ++ later) ((d.took ++ f.took) ++ c.coming) ≡ by_session d.wrote (Some s.outcome) (confers every s (f.drawn ++ later) (f.took ++ c.coming)) =
-    λ later. conversed-then tells given given' start every a b c s results parting later d f in
+held : (tells : Bool) (given given' : List ℕ) (creation : Talking SessionState) (every : List DueCall) (a b c : Wire) (s : SessionState) (results : List (List ℕ)) (parting : Parting) → Done creation a b s → ConferredOf tells given given' every s b c results parting → TalkedBehind tells given given' creation every a c (Some s.outcome) results parting
+held tells given given' creation every a b c s results parting d f =
+    let all : (later : List ℕ) → talk_behind creation every (f.drawn ++ later) ((d.took ++ f.took) ++ c.coming) ≡ by_session d.wrote (Some s.outcome) (confers every s (f.drawn ++ later) (f.took ++ c.coming)) =
+    λ later. conversed-then tells given given' creation every a b c s results parting later d f in
     record {
       took = d.took ++ f.took;
       wrote = d.wrote ++ f.wrote;
@@ -59,21 +57,21 @@ held tells given given' start every a b c s results parting d f =
       heard = λ unrefused later. ap (λ (t : Talk). t.rest) (all later) ∙ f.heard unrefused later;
     }
 
-pub talked : (tells : Bool) (given given' : List ℕ) (start : StartSays) (every : List DueCall) (a b c : Wire) (s : SessionState) (outcome : Outcome) → outcome ≡ s.outcome → (results : List (List ℕ)) (parting : Parting) → Done (created_from start) a b s → ConferredOf tells given given' every s b c results parting → TalkedOf tells given given' start every a c (Some outcome) results parting
-talked tells given given' start every a b c s outcome is results parting d f =
-    subst (λ (o : Outcome). TalkedOf tells given given' start every a c (Some o) results parting) (sym is) (held tells given given' start every a b c s results parting d f)
+pub talked : (tells : Bool) (given given' : List ℕ) (creation : Talking SessionState) (every : List DueCall) (a b c : Wire) (s : SessionState) (outcome : Outcome) → outcome ≡ s.outcome → (results : List (List ℕ)) (parting : Parting) → Done creation a b s → ConferredOf tells given given' every s b c results parting → TalkedBehind tells given given' creation every a c (Some outcome) results parting
+talked tells given given' creation every a b c s outcome is results parting d f =
+    subst (λ (o : Outcome). TalkedBehind tells given given' creation every a c (Some o) results parting) (sym is) (held tells given given' creation every a b c s results parting d f)
 
 -- what the creation wrote is a front of what the talk writes
 further : (every : List DueCall) (draws written rest : List ℕ) (answer : Result SessionState ClientRefusal) → IsFront written (by_opening every draws written rest answer).written
 further every draws written rest (Ok s) = ((confers every s draws rest).written, refl)
 further every draws written rest (Err refusal) = ([], sym (append-nil written))
 
-unheld : (tells : Bool) (given : List ℕ) (start : StartSays) (every : List DueCall) (a c : Wire) (refusal : ClientRefusal) → Stopped (created_from start) a c refusal → TalkedOf tells given given start every a c None [] (Refused refusal)
-unheld tells given start every a c refusal d =
-    let one : Said SessionState = created_from start (d.took ++ c.coming) in
-    let all : (later : List ℕ) → talk_of start every later (d.took ++ c.coming) ≡ by_said every later one =
-    λ later. talk-is start every later (d.took ++ c.coming) in
-    let none : (refusal ≢ LinkFault) → (refusal ≢ NoMemory) → (later : List ℕ) → talk_of start every later (d.took ++ c.coming) ≡ record { written = one.written; outcome = None; results = []; parting = Refused refusal; undrawn = later; rest = one.rest } =
+unheld : (tells : Bool) (given : List ℕ) (creation : Talking SessionState) (every : List DueCall) (a c : Wire) (refusal : ClientRefusal) → Stopped creation a c refusal → TalkedBehind tells given given creation every a c None [] (Refused refusal)
+unheld tells given creation every a c refusal d =
+    let one : Said SessionState = creation (d.took ++ c.coming) in
+    let all : (later : List ℕ) → talk_behind creation every later (d.took ++ c.coming) ≡ by_said every later one =
+    λ later. talk-is creation every later (d.took ++ c.coming) in
+    let none : (refusal ≢ LinkFault) → (refusal ≢ NoMemory) → (later : List ℕ) → talk_behind creation every later (d.took ++ c.coming) ≡ record { written = one.written; outcome = None; results = []; parting = Refused refusal; undrawn = later; rest = one.rest } =
     λ fault memory later. all later ∙ ap (by_opening every later one.written one.rest) (d.cause fault memory) in
     record {
       took = d.took;
@@ -87,7 +85,7 @@ unheld tells given start every a c refusal d =
           record {
             written = (d.front.0 ++ f.0, ap (λ (t : Talk). t.written) (all later) ∙ (f.1 ∙ (ap (λ (zs : List ℕ). zs ++ f.0) d.front.1 ∙ append_assoc d.wrote d.front.0 f.0)));
             outcome_is = inl refl;
-            results_are = ((talk_of start every later (d.took ++ c.coming)).results, refl);
+            results_are = ((talk_behind creation every later (d.took ++ c.coming)).results, refl);
           };
       whole = λ fault memory later.
           let lf : refusal ≢ LinkFault = λ is. fault (ap Refused is) in
@@ -102,5 +100,5 @@ unheld tells given start every a c refusal d =
       heard = λ unrefused. absurd (unrefused refusal refl);
     }
 
-pub untalked : (tells : Bool) (given : List ℕ) (start : StartSays) (every : List DueCall) (a c : Wire) (refusal : ClientRefusal) (results : List (List ℕ)) → results ≡ [] → Stopped (created_from start) a c refusal → TalkedOf tells given given start every a c None results (Refused refusal)
-untalked tells given start every a c refusal results none d = subst (λ (rs : List (List ℕ)). TalkedOf tells given given start every a c None rs (Refused refusal)) (sym none) (unheld tells given start every a c refusal d)
+pub untalked : (tells : Bool) (given : List ℕ) (creation : Talking SessionState) (every : List DueCall) (a c : Wire) (refusal : ClientRefusal) (results : List (List ℕ)) → results ≡ [] → Stopped creation a c refusal → TalkedBehind tells given given creation every a c None results (Refused refusal)
+untalked tells given creation every a c refusal results none d = subst (λ (rs : List (List ℕ)). TalkedBehind tells given given creation every a c None rs (Refused refusal)) (sym none) (unheld tells given creation every a c refusal d)

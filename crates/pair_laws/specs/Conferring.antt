@@ -1,5 +1,6 @@
 -- A client's talk over calls that may differ: each in its order, the end of the context, and the
--- creation before them. `converses` and `talk` are its case of a list that repeats one call.
+-- creation before them, by whichever machine the initiator is. `converses` and `talk` are its case
+-- of a list that repeats one call.
 use Rattle.std.specs.Prelude.{◌≡◌, ℕ, ◌==◌, if◌then◌else◌, List, [], ◌∷◌, take, drop, replicate}
 use Rattle.std.specs.Prelude.{Some, None, Result, Ok, Err}
 use Rattle.gss_client.specs.declared.conversation.Parting.TheVariants.{Finished, Spent, Refused}
@@ -11,7 +12,7 @@ use Rattle.gss_client.specs.Conversation.{talk}
 use Rattle.gss_client.specs.Procedure.{procedure_number}
 use Rattle.gss_client.specs.Session.{SessionState}
 use Rattle.gss_client.specs.Talk.{created_from, calls, destroys}
-use Rattle.gss_client.specs.Talking.{Said}
+use Rattle.gss_client.specs.Talking.{Said, Talking}
 
 -- a call that is due: a procedure, and its arguments
 pub record DueCall : Type 0 where
@@ -46,11 +47,16 @@ by_opening due draws written rest (Err refusal) = record {
   rest = rest;
 }
 
--- the creation of a context from this start, these calls, and the destruction
-unfoldable pub talk_of : StartSays → List DueCall → List ℕ → List ℕ → Talk
-talk_of start due draws stream =
-    let said : Said SessionState = created_from start stream in
+-- this creation of a context, these calls, and the destruction
+unfoldable pub talk_behind : Talking SessionState → List DueCall → List ℕ → List ℕ → Talk
+talk_behind creation due draws stream =
+    let said : Said SessionState = creation stream in
     by_opening due draws said.written said.rest said.answer
+
+-- the creation of a context from this start, by plain credentials, these calls, and the
+-- destruction
+abbrev pub talk_of : StartSays → List DueCall → List ℕ → List ℕ → Talk
+talk_of start due draws stream = talk_behind (created_from start) due draws stream
 
 -- ---- equal calls
 

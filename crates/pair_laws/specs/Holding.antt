@@ -11,7 +11,9 @@ use Rattle.gss_client.specs.Start.{StartSays}
 use Rattle.gss_client.specs.Conversing.{IsFront, IsConversed, IsTalk, IsTalkFront}
 use Rattle.gss_client.specs.Exchanging.{Went}
 use Rattle.gss_client.specs.Session.{SessionState}
-use Rattle.pair_laws.specs.Conferring.{DueCall, confers, talk_of}
+use Rattle.gss_client.specs.Talk.{created_from}
+use Rattle.gss_client.specs.Talking.{Talking}
+use Rattle.pair_laws.specs.Conferring.{DueCall, confers, talk_behind}
 
 -- the calls and the end are those of the octets that were drawn, whatever follows them, and of
 -- those that were taken and are to come. After a fault of the link or want of memory a front of
@@ -33,10 +35,10 @@ pub record ConferredOf (tells : Bool) (given given' : List ℕ) (due : List DueC
   pub heard : ((refusal : ClientRefusal) → parting ≢ Refused refusal) → (later : List ℕ)
       → (confers due s (drawn ++ later) (took ++ new.coming)).rest ≡ new.coming
 
--- the same for the whole talk
-pub record TalkedOf (tells : Bool) (given given' : List ℕ) (start : StartSays) (due : List DueCall)
-    (old new : Wire) (outcome : Option Outcome) (results : List (List ℕ)) (parting : Parting)
-    : Type 0 where
+-- the same for the whole talk, whose context is created so
+pub record TalkedBehind (tells : Bool) (given given' : List ℕ) (creation : Talking SessionState)
+    (due : List DueCall) (old new : Wire) (outcome : Option Outcome) (results : List (List ℕ))
+    (parting : Parting) : Type 0 where
   pub took : List ℕ
   pub wrote : List ℕ
   pub drawn : List ℕ
@@ -44,9 +46,15 @@ pub record TalkedOf (tells : Bool) (given given' : List ℕ) (start : StartSays)
   pub went : Went old new took wrote
   pub draws : IsTrue tells → given' ≡ given ++ drawn
   pub front : (later : List ℕ) → IsTalkFront wrote outcome results
-      (talk_of start due (drawn ++ later) (took ++ new.coming))
+      (talk_behind creation due (drawn ++ later) (took ++ new.coming))
   pub whole : parting ≢ Refused LinkFault
       → parting ≢ Refused NoMemory → (later : List ℕ) → IsTalk wrote outcome results parting later
-      (talk_of start due (drawn ++ later) (took ++ new.coming))
+      (talk_behind creation due (drawn ++ later) (took ++ new.coming))
   pub heard : ((refusal : ClientRefusal) → parting ≢ Refused refusal) → (later : List ℕ)
-      → (talk_of start due (drawn ++ later) (took ++ new.coming)).rest ≡ new.coming
+      → (talk_behind creation due (drawn ++ later) (took ++ new.coming)).rest ≡ new.coming
+
+-- the same of a start by plain credentials
+abbrev pub TalkedOf : Bool → List ℕ → List ℕ → StartSays → List DueCall → Wire → Wire
+    → Option Outcome → List (List ℕ) → Parting → Type 0
+TalkedOf tells given given' start due old new outcome results parting = TalkedBehind tells given
+    given' (created_from start) due old new outcome results parting

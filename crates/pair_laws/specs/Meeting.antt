@@ -1,15 +1,17 @@
 -- An honest pair by its facts alone: all else that `HonestPair` asks for is found out of the types
 -- of an initiator's parts, and of what an acceptor draws.
 use Rattle.std.specs.Prelude.{◌≡◌, ℕ, ◌≤◌, true, is_ok, List, length, map, slice_get, Option}
-use Rattle.std.specs.Prelude.{Some, Ok}
+use Rattle.std.specs.Prelude.{Some}
 use Rattle.std.specs.List.{AllByRecursion}
 use Rattle.gss_base.specs.declared.mech.MechKind.{MechKind}
 use Rattle.gss_base.specs.Principal.{is_named}
 use Rattle.krb_files.specs.Granted.{Granted}
 use Rattle.krb_msgs.specs.declared.enc_ticket_part.EncTicketPart.{EncTicketPart}
+use Rattle.ap_exchange.specs.Draws.{drawn_nonce}
 use Rattle.ap_exchange.specs.Request.{request_of, RequestFits}
 use Rattle.ap_exchange.specs.Answer.{AnswerFits}
 use Rattle.ap_exchange.specs.Laws.{Fits, honest_judged}
+use Rattle.scram_mech.specs.Initiator.{init_started}
 use Rattle.spnego_core.specs.declared.setup.AcceptSetup.{AcceptSetup}
 use Rattle.spnego_core.specs.declared.setup.MechCred.{MechCred}
 use Rattle.spnego_core.specs.declared.setup.MechCred.TheVariants as creds
@@ -17,8 +19,7 @@ use Rattle.spnego_core.specs.Ends.{PlainSetup}
 use Rattle.spnego_core.specs.Choice.{best}
 use Rattle.spnego_core.specs.Exchange.{Occasion, UserFits, HonestPair, tokens_of}
 use Rattle.spnego_core.specs.InitMech.{is_own_list, cred_for}
-use Rattle.spnego_core.specs.Initiating.{Started, own_list, init_start}
-use Rattle.spnego_core.specs.Sizes.{IsShort}
+use Rattle.spnego_core.specs.Initiating.{own_list, init_start}
 
 -- ---- the facts
 
@@ -69,21 +70,25 @@ pub record TicketTold (own : PlainSetup) (draws : List (List ℕ)) (credential :
     pub answers : (i : ℕ) (drawn : List ℕ) → slice_get draws i ≡ Some drawn
         → AnswerTold own.stamp credential drawn
 
--- the same of a credential of Kerberos; of SCRAM's nothing is to be told
+-- a user of SCRAM whose exchange begins has at most 255 octets
+pub record UserTold (own : PlainSetup) (user password : List ℕ) : Type 0 where
+  pub few : is_ok (init_started user password (drawn_nonce own.draws) own.bindings) ≡ true
+      → length user ≤ 255
+
+-- what a credential tells, by its mechanism
 abbrev pub CredTold : PlainSetup → List (List ℕ) → MechCred → Type 0
 CredTold own draws (creds.Kerberos credential) = TicketTold own draws credential
-CredTold own draws (creds.Scram user password) = Unit {0}
+CredTold own draws (creds.Scram user password) = UserTold own user password
 
 -- 66 octets
 abbrev pub IsDrawn : List ℕ → Type 0
 IsDrawn octets = length octets ≡ 66
 
--- an initiator's setup, and what an acceptor draws: how many octets were drawn, that a first token
--- has at most 65,536 octets, and what each credential tells
+-- an initiator's setup, and what an acceptor draws: how many octets were drawn, and what each
+-- credential tells
 pub record SetupTold (own : PlainSetup) (draws : List (List ℕ)) : Type 0 where
   pub list : is_own_list own.list ≡ true
   pub drawn : IsDrawn own.draws
   pub all_drawn : (i : ℕ) (drawn : List ℕ) → slice_get draws i ≡ Some drawn → IsDrawn drawn
-  pub short : (started : Started) → init_start own ≡ Ok started → IsShort started.token
   pub creds : (i : ℕ) (cred : MechCred) → slice_get own.list i ≡ Some cred
       → CredTold own draws cred

@@ -3,10 +3,11 @@
 ghost use Rattle.std.specs.Prelude.{◌≡◌, ◌≢◌, ◌≤◌, ◌+◌, false, true, IsTrue, [], ◌∷◌, ◌++◌, length};
 ghost use Rattle.std.specs.Vec.{vec_len, vec_capacity};
 ghost use Rattle.sec_base.specs.Answers.{Rose};
-ghost use Rattle.spnego_core.specs.InitMech.{is_own_list};
+ghost use Rattle.init_ends.specs.Objects.{is_own_list};
 ghost use Rattle.gss_client.specs.Conversing.{Leaves};
-ghost use Rattle.gss_client.specs.Start.{start_says};
-ghost use Rattle.pair_laws.specs.Holding.{ConferredOf, TalkedOf};
+ghost use Rattle.gss_client.specs.Start.{StartSays, objects_start, start_means};
+ghost use Rattle.gss_client.specs.Talk.{created_over};
+ghost use Rattle.pair_laws.specs.Holding.{ConferredOf, TalkedBehind, TalkedOf};
 
 use crate::told::tell_octets;
 use gss_client::{ClientRefusal, Conversation, Parting, Procedure, Session, Start, Talk};
@@ -149,12 +150,17 @@ pub fn hold_calls<L: Link, D: Draw>(
     due: &[DueCall],
 ) -> Talk
     requires unclosed { L.closed link.old ≡ false }
-    requires list { is_own_list start.setup.list ≡ true }
+    requires list { is_own_list (start_means start meaning).setup.list ≡ true }
     requires first { 1 ≤ start.first }
     requires last { start.first ≤ 0x7fffffff }
-    ensures told { IsTrue (L.tells link.old) → TalkedOf (D.tells draw.new) (D.given draw.old)
-        (D.given draw.new) (start_says start) due.now (L.wire link.old) (L.wire link.new)
-        result.outcome result.results.items result.parting }
+    ensures told { IsTrue (L.tells link.old) → TalkedBehind (D.tells draw.new) (D.given draw.old)
+        (D.given draw.new) (created_over (start_means start meaning)) due.now (L.wire link.old)
+        (L.wire link.new) result.outcome result.results.items result.parting }
+    // By the objects of Kerberos and SCRAM: as by their credentials.
+    ensures plain { (own : StartSays) → start_means start meaning ≡ objects_start own
+        → IsTrue (L.tells link.old) → TalkedOf (D.tells draw.new) (D.given draw.old)
+        (D.given draw.new) own due.now (L.wire link.old) (L.wire link.new) result.outcome
+        result.results.items result.parting }
     ensures fault { result.parting ≡ Parting.Refused ClientRefusal.LinkFault
         → Rose (L.faults link.old) (L.faults link.new) }
     ensures tells { L.tells link.new ≡ L.tells link.old }

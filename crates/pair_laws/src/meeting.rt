@@ -4,18 +4,18 @@ ghost use Rattle.std.specs.Prelude.{◌≡◌, ℕ, ◌≤◌, true, is_ok, leng
 ghost use Rattle.std.specs.Prelude.{slice_get, option_map};
 ghost use Rattle.gss_base.specs.Principal.{is_named};
 ghost use Rattle.ap_exchange.specs.Request.{request_of, RequestFits};
-ghost use Rattle.spnego_core.specs.Ends.{setup_says};
+ghost use Rattle.spnego_core.specs.Ends.{setup_of};
 ghost use Rattle.spnego_core.specs.InitMech.{is_own_list};
-ghost use Rattle.spnego_core.specs.Initiating.{Started, init_start};
-ghost use Rattle.spnego_core.specs.Sizes.{IsShort};
 ghost use Rattle.spnego_core.specs.declared.setup.MechCred.{MechCred as MechCredIs};
 ghost use Rattle.pair_laws.specs.Meeting.{AnswerTold, CredTold, IsDrawn, MeetLaw, TicketTold};
+ghost use Rattle.pair_laws.specs.Meeting.{UserTold};
 
-use ap_exchange::{ApInit, ApRefusal, Judged};
+use ap_exchange::{ApInit, ApRefusal, Judged, nonce_of};
 use gss_base::Bindings;
 use krb_files::Credential;
-use sec_base::{Moment, NoMemory};
-use spnego_core::{InitEnd, InitSetup, MechCred, NegRefusal};
+use scram_mech::{ScramInit, ScramRefusal};
+use sec_base::{Moment, NoMemory, Text};
+use spnego_core::{InitFacts, MechCred};
 use std::alloc::Global;
 
 /// Does nothing that stays: a request with this credential fits, where its ticket is one.
@@ -102,11 +102,11 @@ fn tell_names(credential: &Credential)
 /// Does nothing that stays: what a credential of Kerberos tells.
 fn tell_ticket(
     alloc: Global,
-    own: &InitSetup,
+    own: &InitFacts,
     credential: &Credential,
     draws: &[[u8; 66]],
 ) -> Result<(), NoMemory>
-    ensures { IfOk result (λ _. TicketTold (setup_says own.now) draws.now credential.now) }
+    ensures { IfOk result (λ _. TicketTold (setup_of own.now) draws.now credential.now) }
 {
     tell_request(
         alloc,
@@ -120,25 +120,38 @@ fn tell_ticket(
     Ok(())
 }
 
+/// Does nothing that stays: what a credential of SCRAM tells.
+fn tell_user(alloc: Global, own: &InitFacts, user: &Text, password: &Text) -> Result<(), NoMemory>
+    ensures { IfOk result (λ _. UserTold (setup_of own.now) user.now password.now) }
+{
+    let (user, password) = (user.as_str(), password.as_str());
+    let nonce = nonce_of(&own.draws);
+    match ScramInit::start(alloc, user, password, &nonce, own.bindings.as_ref()) {
+        Ok(_) => Ok(()),
+        Err(ScramRefusal::NoMemory) => Err(NoMemory),
+        Err(_) => Ok(()),
+    }
+}
+
 /// Does nothing that stays: what a credential tells.
 fn tell_cred(
     alloc: Global,
-    own: &InitSetup,
+    own: &InitFacts,
     cred: &MechCred,
     draws: &[[u8; 66]],
 ) -> Result<(), NoMemory>
-    ensures { IfOk result (λ _. CredTold (setup_says own.now) draws.now cred.now) }
+    ensures { IfOk result (λ _. CredTold (setup_of own.now) draws.now cred.now) }
 {
     match cred {
         MechCred::Kerberos(credential) => tell_ticket(alloc, own, credential, draws),
-        MechCred::Scram { .. } => Ok(()),
+        MechCred::Scram { user, password } => tell_user(alloc, own, user, password),
     }
 }
 
 /// Does nothing that stays: what each credential tells.
-fn tell_creds(alloc: Global, own: &InitSetup, draws: &[[u8; 66]]) -> Result<(), NoMemory>
+fn tell_creds(alloc: Global, own: &InitFacts, draws: &[[u8; 66]]) -> Result<(), NoMemory>
     ensures { IfOk result (λ _. (i : ℕ) (cred : MechCredIs)
-        → slice_get own.now.list i ≡ Some cred → CredTold (setup_says own.now) draws.now cred) }
+        → slice_get own.now.list i ≡ Some cred → CredTold (setup_of own.now) draws.now cred) }
 {
     for cred in own.list.as_slice() {
         tell_cred(alloc, own, cred, draws)?;
@@ -146,27 +159,13 @@ fn tell_creds(alloc: Global, own: &InitSetup, draws: &[[u8; 66]]) -> Result<(), 
     Ok(())
 }
 
-/// Does nothing that stays: a first token has at most 65,536 octets.
-fn tell_start(alloc: Global, own: InitSetup) -> Result<(), NoMemory>
-    requires { is_own_list own.list ≡ true }
-    ensures { IfOk result (λ _. (started : Started) → init_start (setup_says own) ≡ Ok started
-        → IsShort started.token) }
-{
-    match InitEnd::start(alloc, own) {
-        Ok(_) => Ok(()),
-        Err(NegRefusal::NoMemory) => Err(NoMemory),
-        Err(_) => Ok(()),
-    }
-}
-
-/// Does nothing that stays; its contract says, where there was memory, that an initiator with this setup and an acceptor that draws these octets are
+/// Does nothing that stays; its contract says, where there was memory, that an initiator with these facts and an acceptor that draws these octets are
 /// an honest pair if their facts fit: what has a spelling, and how long tokens are, is found out here.
-pub fn prove_meeting(alloc: Global, own: InitSetup, draws: &[[u8; 66]]) -> Result<(), NoMemory>
+pub fn prove_meeting(alloc: Global, own: InitFacts, draws: &[[u8; 66]]) -> Result<(), NoMemory>
     requires { is_own_list own.list ≡ true }
-    ensures { IfOk result (λ _. MeetLaw (setup_says own) draws.now) }
+    ensures { IfOk result (λ _. MeetLaw (setup_of own) draws.now) }
 {
     tell_size(&own.draws);
     tell_sizes(draws);
-    tell_creds(alloc, &own, draws)?;
-    tell_start(alloc, own)
+    tell_creds(alloc, &own, draws)
 }

@@ -1,5 +1,5 @@
 -- What an acceptor's step shows, part by part.
-use Rattle.std.proofs.Common.{◌≡◌, ◌⊎◌, ℕ, Bool, true, false, not, ◌&&◌, if◌then◌else◌, refl, sym, ap, ◌∙◌, subst, inl, inr, List, [], ◌∷◌, ◌++◌, length, map, Option, Some, None, Result, Ok, Err}
+use Rattle.std.proofs.Common.{◌≡◌, ◌⊎◌, ℕ, Bool, true, false, not, if◌then◌else◌, refl, sym, ap, ◌∙◌, subst, inl, inr, List, [], ◌∷◌, ◌++◌, length, map, Option, Some, None, Result, Ok, Err}
 use Rattle.gss_base.specs.declared.mech.MechKind.{MechKind}
 use Rattle.gss_base.specs.declared.mech.MechKind.TheVariants as kinds
 use Rattle.krb_tokens.specs.declared.end.Side.TheVariants.{Acceptor}
@@ -9,7 +9,7 @@ use Rattle.ap_exchange.specs.declared.refusal.ApRefusal.{ApRefusal}
 use Rattle.ap_exchange.specs.declared.judged.Judged.{Judged}
 use Rattle.ap_exchange.specs.Exchange.{judge_found}
 use Rattle.ap_exchange.specs.Judging.{judged, judged_mark}
-use Rattle.ap_exchange.specs.Answer.{answer_done, answer_token, answer_making, answer_makes}
+use Rattle.ap_exchange.specs.Answer.{answer_done, answer_token, answer_making}
 use Rattle.ap_exchange.specs.Draws.{drawn_nonce}
 use Rattle.scram_mech.specs.declared.verifiers.Verifier.{Verifier}
 use Rattle.scram_mech.specs.declared.refusal.ScramRefusal.{ScramRefusal}
@@ -32,15 +32,14 @@ use Rattle.spnego_core.specs.declared.accept_end.AcceptEnd.{AcceptEnd}
 use Rattle.spnego_core.specs.declared.accept_end.AcceptEnd.TheVariants as ends
 use Rattle.spnego_core.specs.declared.accept_end.Answered.{Answered}
 use Rattle.spnego_core.specs.declared.accept_end.Answered.TheVariants as afters
-use Rattle.spnego_core.specs.declared.accept_end.AcceptStep.TheVariants as steps
 use Rattle.spnego_core.specs.Outcome.{outcome_of}
 use Rattle.spnego_core.specs.Steps.{◌>>=◌, due, or_refuse}
 use Rattle.spnego_core.specs.Tokens.{init_read, resp_read, rejects}
-use Rattle.spnego_core.specs.ListMic.{is_list_mic, mic_making, mic_found}
-use Rattle.spnego_core.specs.Choice.{is_first_named, best, is_mic_due}
+use Rattle.spnego_core.specs.ListMic.{is_list_mic, mic_making}
+use Rattle.spnego_core.specs.Choice.{is_first_named, best}
 use Rattle.spnego_core.specs.AcceptMech.{accept_begun, request_answered, request_taken, text_taken, proof_answered, proof_taken, accept_taken}
 use Rattle.spnego_core.specs.Accepting.{Fixed, Accepted, finished, gone_on, mic_made, ran_with, run, begun, token_for, started, chose, begins, proceeds, settled, closes, accept_step}
-use Rattle.spnego_core.specs.AcceptLaws.{received_of, settled_of, proof_due, waits_for_proof, kind_of_accept, IsOfLine, GoodMech, GoodChosen, GoodRunning, GoodOwing, GoodAccept, GoesOn, IsUndue, TakesMic, AfterAnswered, AfterStep, outcome_after, Fixes, AcceptLaw}
+use Rattle.spnego_core.specs.AcceptLaws.{received_of, settled_of, proof_due, waits_for_proof, kind_of_accept, IsOfLine, GoodMech, GoodChosen, GoodRunning, GoodAccept, AfterAnswered, AfterStep, outcome_after, Fixes, AcceptLaw}
 
 -- a fact of a step that was taken
 abbrev pub On : (Accepted → Type 0) → Result Accepted NegRefusal → Type 0

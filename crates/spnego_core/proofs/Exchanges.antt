@@ -16,7 +16,7 @@ use Rattle.spnego_core.specs.declared.accept_end.AcceptEnd.TheVariants as accept
 use Rattle.spnego_core.specs.declared.accept_end.Turn.{Turn}
 use Rattle.spnego_core.specs.declared.accept_end.Turn.TheVariants.{First, Later}
 use Rattle.spnego_core.specs.declared.accept_mech.AcceptMech.TheVariants as mechs
-use Rattle.spnego_core.specs.declared.init_mech.InitMech.TheVariants as own_mechs
+use Rattle.spnego_core.specs.MechStates as own_mechs
 use Rattle.spnego_core.specs.Ends.{PlainSetup}
 use Rattle.spnego_core.specs.Ends as inits
 use Rattle.spnego_core.specs.Outcome.{outcome_of}

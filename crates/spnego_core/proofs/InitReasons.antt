@@ -6,9 +6,9 @@ use Rattle.krb_tokens.specs.declared.end.Side.TheVariants.{Initiator}
 use Rattle.scram_mech.specs.MechMaking.{MechMaking}
 use Rattle.spnego_msgs.specs.declared.neg_resp.NegResp.{NegResp}
 use Rattle.spnego_msgs.specs.declared.neg_state.NegState.{NegState}
-use Rattle.spnego_core.specs.declared.init_mech.InitAnswer.{InitAnswer}
-use Rattle.spnego_core.specs.declared.init_mech.InitAnswer.TheVariants as answers
-use Rattle.spnego_core.specs.declared.init_mech.InitMech.{InitMech}
+use Rattle.spnego_core.specs.MechStates.{InitAnswer}
+use Rattle.spnego_core.specs.MechStates as answers
+use Rattle.spnego_core.specs.MechStates.{InitMech}
 use Rattle.spnego_core.specs.declared.outcome.Outcome.{Outcome}
 use Rattle.spnego_core.specs.declared.refusal.MechRefusal.{MechRefusal}
 use Rattle.spnego_core.specs.declared.refusal.NegRefusal.{NegRefusal}

@@ -10,7 +10,7 @@ use Rattle.spnego_msgs.specs.declared.neg_state.NegState.{NegState}
 use Rattle.spnego_msgs.specs.declared.neg_resp.NegResp.{NegResp}
 use Rattle.ap_exchange.specs.declared.refusal.ApRefusal.{ApRefusal}
 use Rattle.ap_exchange.specs.declared.request.ApInit.{ApInit}
-use Rattle.ap_exchange.specs.Request.{waiting, request_of, request_making, request_makes}
+use Rattle.ap_exchange.specs.Request.{request_of, request_makes}
 use Rattle.ap_exchange.specs.Reply.{reply_taken, reply_found}
 use Rattle.ap_exchange.specs.Draws.{drawn_nonce}
 use Rattle.scram_mech.specs.declared.refusal.ScramRefusal.{ScramRefusal}
@@ -18,14 +18,12 @@ use Rattle.scram_mech.specs.MechMaking.{MechMaking, AmongMakings, typed}
 use Rattle.scram_mech.specs.Initiator.{InitModel, WaitModel, InitStarted, InitAnswered, InitFinished, init_started, init_answered, init_finished}
 use Rattle.spnego_core.specs.declared.outcome.Outcome.{Outcome}
 use Rattle.spnego_core.specs.declared.refusal.NegRefusal.{NegRefusal}
-use Rattle.spnego_core.specs.declared.refusal.NegRefusal.TheVariants.{Defective, Rejected, MechNotMine, MicMissing, MicBad, Mech}
-use Rattle.spnego_core.specs.declared.refusal.MechRefusal.{MechRefusal}
+use Rattle.spnego_core.specs.declared.refusal.NegRefusal.TheVariants.{Defective, Rejected, MechNotMine, MicMissing, MicBad}
 use Rattle.spnego_core.specs.declared.setup.MechCred.{MechCred}
 use Rattle.spnego_core.specs.declared.setup.MechCred.TheVariants as creds
-use Rattle.spnego_core.specs.declared.init_mech.InitMech.{InitMech}
-use Rattle.spnego_core.specs.declared.init_mech.InitMech.TheVariants as mechs
-use Rattle.spnego_core.specs.declared.init_mech.InitAnswer.{InitAnswer}
-use Rattle.spnego_core.specs.declared.init_mech.InitAnswer.TheVariants as answers
+use Rattle.spnego_core.specs.MechStates.{InitMech}
+use Rattle.spnego_core.specs.MechStates as mechs
+use Rattle.spnego_core.specs.MechStates.{InitAnswer}
 use Rattle.spnego_core.specs.Ends.{PlainSetup, OpeningSays, TalkSays, TalkingSays, SignedSays, EndSays}
 use Rattle.spnego_core.specs.Ends as ends
 use Rattle.spnego_core.specs.EndSteps.{StepSays}
@@ -35,9 +33,9 @@ use Rattle.spnego_core.specs.Steps.{◌>>=◌, due, or_refuse}
 use Rattle.spnego_core.specs.Tokens.{rejects, says_completed, resp_read, last_read, resp_octets}
 use Rattle.spnego_core.specs.ListMic.{is_list_mic, mic_making, mic_found}
 use Rattle.spnego_core.specs.Choice.{is_first, same_kind}
-use Rattle.spnego_core.specs.InitMech.{kind_of, kinds_of, cred_for, MechBegun, request_begun, text_begun, init_begun, MechReplied, reply_answered, text_answered, final_answered, init_taken}
-use Rattle.spnego_core.specs.Initiating.{Initiated, Started, opens, starts, init_start, opened, talked, closed, init_step, behind, own_list, ended, is_mic_owed, is_chosen, completes_now, completes_later, looks, token_sent, told, ran, run, begins_other, switched, switches, talk_with, talk_after, picks, own_kind, settles, looks_again}
-use Rattle.spnego_core.specs.InitLaws.{own_of, chosen_of, listed_of, finished_of, finished_in, answering, answers_next, answers_in, IsWaiting, IsFirstText, IsProved, IsMechOf, kind_of_mech, Covered, GoodInit, GoesOn, After, IsRequest, IsProof, IsOwnMic, ByReply, BySignature, IsFinish, SeesMic, InitLaw, StartLaw}
+use Rattle.spnego_core.specs.InitMech.{kind_of, kinds_of, cred_for, request_begun, text_begun, init_begun, reply_answered, text_answered, final_answered, init_taken}
+use Rattle.spnego_core.specs.Initiating.{Initiated, Started, opens, starts, init_start, opened, talked, closed, init_step, behind, own_list, ended, is_mic_owed, is_chosen, completes_now, completes_later, looks, token_sent, ran, run, begins_other, switched, switches, talk_with, talk_after, picks, own_kind, settles, looks_again}
+use Rattle.spnego_core.specs.InitLaws.{own_of, chosen_of, finished_of, finished_in, answering, answers_next, answers_in, IsWaiting, IsFirstText, IsProved, IsMechOf, kind_of_mech, Covered, GoodInit, After, IsRequest, IsProof, IsOwnMic, IsFinish, SeesMic, InitLaw, StartLaw}
 use Rattle.spnego_core.proofs.Makings.{among_front, among_back, among_split}
 use Rattle.spnego_core.proofs.Requests.{request-waits}
 

@@ -41,8 +41,7 @@ use Rattle.scram_mech.proofs.Lengths.{answer_short, final_short}
 use Rattle.spnego_core.specs.declared.outcome.Outcome.{Outcome}
 use Rattle.spnego_core.specs.declared.setup.AcceptSetup.{AcceptSetup}
 use Rattle.spnego_core.specs.declared.setup.MechCred.TheVariants as creds
-use Rattle.spnego_core.specs.declared.init_mech.InitMech.TheVariants as inits
-use Rattle.spnego_core.specs.declared.init_mech.InitAnswer.TheVariants as tells
+use Rattle.spnego_core.specs.MechStates as inits
 use Rattle.spnego_core.specs.declared.accept_mech.AcceptMech.TheVariants as mechs
 use Rattle.spnego_core.specs.declared.accept_mech.AcceptAnswer.TheVariants as answers
 use Rattle.spnego_core.specs.declared.accept_end.Answered.{Answered}
@@ -98,12 +97,12 @@ request-ends setup own credential occasion draws drawn h =
       passes = λ turn chosen. refl;
       size = omega (arith, (answer_within j occasion.drawn drawn).most);
       replied = record {
-        answer = tells.Done (outcome_of kinds.Kerberos taken.0);
+        answer = inits.Done (outcome_of kinds.Kerberos taken.0);
         makes = [];
         found = map typed (reply_found (waiting credential own.stamp own.draws own.bindings) (answer_token j occasion.drawn));
       };
       replies = rw taken.1 refl;
-      done = ap (λ (o : Outcome). tells.Done o) (one_outcome taken.0 (answer_done j occasion.drawn) taken.2);
+      done = ap (λ (o : Outcome). inits.Done o) (one_outcome taken.0 (answer_done j occasion.drawn) taken.2);
     }
 
 -- ---- SCRAM
@@ -201,7 +200,7 @@ texts-go setup own user password first second h p = record {
   text = p.taken.token;
   says = refl;
   size = text_size user password (drawn_nonce own.draws) (drawn_nonce first.drawn) own.bindings setup.verifiers h.salt h.rounds p.started p.taken h.honest p.starts p.takes;
-  replied = record { answer = tells.More (inits.Proof p.proved.end) p.proved.token; makes = p.proved.makes; found = [] };
+  replied = record { answer = inits.More (inits.Proof p.proved.end) p.proved.token; makes = p.proved.makes; found = [] };
   replies = rw p.proves refl;
   answer = refl;
   short = proof-short setup own user password first second h p;
@@ -218,9 +217,9 @@ proof-ends setup own user password first second p = record {
   last = p.accepted.token;
   passes = λ turn chosen. gone_passed (accepting.finished turn chosen (outcome_of kinds.Scram p.accepted.done) p.accepted.done.ends p.accepted.token);
   size = omega (arith, final_short p.taken.end p.proved.token setup.bindings second.now p.accepted p.accepts);
-  replied = record { answer = tells.Done (outcome_of kinds.Scram p.finished.done); makes = []; found = p.finished.found };
+  replied = record { answer = inits.Done (outcome_of kinds.Scram p.finished.done); makes = []; found = p.finished.found };
   replies = rw p.finishes refl;
-  done = ap (λ (o : Outcome). tells.Done o) (λ i. record {
+  done = ap (λ (o : Outcome). inits.Done o) (λ i. record {
     mech = kinds.Scram;
     initiator = p.initiator i;
     acceptor = p.acceptor i;

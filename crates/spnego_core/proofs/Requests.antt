@@ -1,5 +1,5 @@
 -- A request that was sent leaves the end that waits for its reply.
-use Rattle.std.proofs.Common.{◌≡◌, ℕ, List, Option, Result, Ok, Err, refl}
+use Rattle.std.proofs.Common.{◌≡◌, ℕ, List, Option, Result, Ok, Err}
 use Rattle.der_core.specs.Format.{all_of}
 use Rattle.krb_files.specs.Granted.{Granted}
 use Rattle.krb_msgs.specs.declared.ticket.Ticket.{Ticket}

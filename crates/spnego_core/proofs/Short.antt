@@ -1,36 +1,26 @@
 -- The tokens of both ends are short.
-use Rattle.std.proofs.Common.{◌≡◌, ℕ, ◌+◌, ◌≤◌, Bool, true, false, not, if◌then◌else◌, refl, sym, subst, arith, List, [], ◌∷◌, ◌++◌, length, Option, Some, None, Result, Ok, Err}
+use Rattle.std.proofs.Common.{◌≡◌, ℕ, ◌+◌, ◌≤◌, Bool, refl, sym, subst, arith, List, [], ◌∷◌, length, Option, Some, None, Result, Ok, Err}
 use Rattle.gss_base.specs.declared.mech.MechKind.{MechKind}
 use Rattle.gss_base.specs.declared.mech.MechKind.TheVariants as kinds
 use Rattle.gss_base.specs.Mech.{oid_of}
 use Rattle.krb_tokens.specs.declared.end.Side.{Side}
-use Rattle.krb_tokens.specs.declared.end.Side.TheVariants.{Initiator, Acceptor}
-use Rattle.der_core.specs.Header.{tlv}
 use Rattle.der_core.specs.Format.{Format}
 use Rattle.der_core.specs.Fields.{optional_spelling}
 use Rattle.der_core.specs.Element.{octet_string, explicit}
 use Rattle.der_core.specs.Values.{object_identifier}
 use Rattle.spnego_msgs.specs.declared.neg_state.NegState.{NegState}
-use Rattle.spnego_msgs.specs.declared.neg_init.NegInit.{NegInit}
 use Rattle.spnego_msgs.specs.declared.neg_resp.NegResp.{NegResp}
 use Rattle.spnego_msgs.specs.Lists.{list_octets}
 use Rattle.spnego_msgs.specs.NegResp.{state_number, neg_state, neg_resp}
 use Rattle.ap_exchange.specs.declared.judged.Judged.{Judged}
-use Rattle.ap_exchange.specs.Answer.{answer_done, answer_token}
 use Rattle.spnego_core.specs.declared.outcome.Outcome.{Outcome}
-use Rattle.spnego_core.specs.declared.accept_mech.AcceptMech.{AcceptMech}
 use Rattle.spnego_core.specs.declared.accept_mech.AcceptAnswer.{AcceptAnswer}
-use Rattle.spnego_core.specs.declared.accept_mech.AcceptAnswer.TheVariants as tellings
 use Rattle.spnego_core.specs.declared.accept_end.Turn.{Turn}
 use Rattle.spnego_core.specs.declared.accept_end.Turn.TheVariants.{First, Later}
-use Rattle.spnego_core.specs.declared.accept_end.Chosen.{Chosen}
-use Rattle.spnego_core.specs.declared.accept_end.Answered.{Answered}
-use Rattle.spnego_core.specs.declared.accept_end.Answered.TheVariants as afters
-use Rattle.spnego_core.specs.declared.accept_end.AcceptStep.{AcceptStep}
 use Rattle.std.specs.Prelude.{IfOk, IfSome}
-use Rattle.spnego_core.specs.Outcome.{outcome_of, token_end}
-use Rattle.spnego_core.specs.Tokens.{init_read, resp_read, resp_octets, rejects}
-use Rattle.spnego_core.specs.ListMic.{list_mic, is_list_mic}
+use Rattle.spnego_core.specs.Outcome.{token_end}
+use Rattle.spnego_core.specs.Tokens.{resp_octets}
+use Rattle.spnego_core.specs.ListMic.{list_mic}
 use Rattle.spnego_core.specs.AcceptMech.{request_answered}
 use Rattle.spnego_core.specs.Accepting.{state_said, mech_said, reply_with, reply}
 use Rattle.spnego_core.specs.Sizes.{IsShort, FitsBeside, IsMicSized, ShortTold}

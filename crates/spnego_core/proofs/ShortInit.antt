@@ -1,17 +1,14 @@
 -- The tokens of an initiator are short.
-use Rattle.std.proofs.Common.{◌≡◌, ℕ, ◌+◌, ◌≤◌, Bool, true, false, not, if◌then◌else◌, refl, sym, subst, arith, List, [], ◌∷◌, ◌++◌, length, map, Option, Some, None, Result, Ok, Err}
-use Rattle.gss_base.specs.declared.mech.MechKind.{MechKind}
+use Rattle.std.proofs.Common.{◌≡◌, ℕ, ◌≤◌, true, sym, subst, arith, List, [], ◌∷◌, length, map, Option, Result, Ok, Err}
 use Rattle.gss_base.specs.declared.mech.MechKind.TheVariants as kinds
 use Rattle.gss_base.specs.Mech.{oid_of}
 use Rattle.gss_base.specs.Principal.{is_named}
 use Rattle.krb_tokens.specs.declared.end.Side.TheVariants.{Initiator}
 use Rattle.krb_files.specs.Granted.{Granted}
-use Rattle.der_core.specs.Element.{explicit, octet_string}
 use Rattle.der_core.specs.Values.{object_identifier}
 use Rattle.der_core.specs.Fields.{many_spelling}
-use Rattle.spnego_msgs.specs.declared.neg_init.NegInit.{NegInit}
 use Rattle.spnego_msgs.specs.Lists.{mech_types}
-use Rattle.spnego_msgs.specs.NegInit.{spnego_identifier, req_flags, neg_init}
+use Rattle.spnego_msgs.specs.NegInit.{spnego_identifier, neg_init}
 use Rattle.ap_exchange.specs.declared.request.ApInit.{ApInit}
 use Rattle.ap_exchange.specs.Request.{request_token, request_of, RequestFits}
 use Rattle.spnego_core.specs.declared.outcome.Outcome.{Outcome}
@@ -21,7 +18,7 @@ use Rattle.spnego_core.specs.Ends.{PlainSetup}
 use Rattle.spnego_core.specs.Tokens.{init_octets, resp_octets}
 use Rattle.spnego_core.specs.ListMic.{list_mic}
 use Rattle.spnego_core.specs.InitMech.{kind_of, is_own_list}
-use Rattle.spnego_core.specs.Initiating.{own_list, first_sent, token_sent, mic_sent, own_mic}
+use Rattle.spnego_core.specs.Initiating.{first_sent, token_sent, mic_sent}
 use Rattle.std.specs.Prelude.{IfOk}
 use Rattle.spnego_core.specs.Sizes.{IsShort, FitsBeside}
 use Rattle.spnego_core.proofs.Requests.{request-token}
@@ -70,10 +67,6 @@ first_short own token list h =
 pub if_short : {E : Type 0} (r : Result (List ℕ) E) (token : List ℕ) → IfOk r (λ o. o ≡ token) → IsShort token → IfOk r IsShort
 if_short (Ok o) token e h = subst IsShort (sym e) h
 if_short (Err refusal) token e h = tt
-
-pub if_first : {E : Type 0} (own : PlainSetup) (token : List ℕ) (list : List (List ℕ)) (r : Result (List ℕ) E) → list ≡ own_list own → IfOk r (λ o. o ≡ init_octets (record { list = list; flags = None; token = Some token; mic = None })) → is_own_list own.list ≡ true → FitsBeside token → IfOk r IsShort
-if_first own token list r e g l h =
-    if_short r (init_octets (first_sent own token)) (subst (λ (x : List (List ℕ)). IfOk r (λ o. o ≡ init_octets (record { list = x; flags = None; token = Some token; mic = None }))) e g) (first_short own token l h)
 
 pub if_mic : {E : Type 0} (outcome : Outcome) (list : List (List ℕ)) (mic : List ℕ) (r : Result (List ℕ) E) → mic ≡ list_mic outcome Initiator list → IfOk r (λ o. o ≡ resp_octets (mic_sent mic)) → IfOk r IsShort
 if_mic outcome list mic r e h =

@@ -1,16 +1,15 @@
 -- How many octets the tokens have at most.
-use Rattle.std.proofs.Common.{◌≡◌, ℕ, ◌+◌, ◌*◌, ◌/◌, ◌≤◌, ◌<◌, ◌&&◌, Bool, true, false, ltb, leb, if◌then◌else◌, refl, sym, ap, subst, arith, List, [], ◌∷◌, ◌++◌, length, take, drop, ℤ, pos, negsuc, Option, Some, None, Result, Ok, Err}
+use Rattle.std.proofs.Common.{◌≡◌, ℕ, ◌+◌, ◌*◌, ◌/◌, ◌≤◌, ◌&&◌, Bool, true, false, ltb, leb, if◌then◌else◌, refl, sym, arith, List, [], ◌∷◌, ◌++◌, length, take, drop, ℤ, pos, negsuc, Option, Some, None, Ok, Err}
 use Rattle.std.proofs.lemmas.List.{length-append, length-take-le, length-take, length-drop}
 use Rattle.std.proofs.lemmas.Bool.{leb-true}
 use Rattle.gss_base.specs.declared.principal.NameRefusal.TheVariants.{PartCount, TooLong}
 use Rattle.aes_cts.specs.Stealing.{cts_encrypted}
 use Rattle.aes_cts.proofs.Restored.{length-cts_encrypted}
-use Rattle.gss_base.specs.declared.mech.MechKind.{MechKind}
-use Rattle.gss_base.specs.declared.mech.MechKind.TheVariants.{Kerberos, Scram}
+use Rattle.gss_base.specs.declared.mech.MechKind.TheVariants.{Kerberos}
 use Rattle.gss_base.specs.Mech.{oid_of}
 use Rattle.gss_base.specs.Name.{Name}
 use Rattle.gss_base.specs.Bindings.{hash_of}
-use Rattle.gss_base.specs.Principal.{is_mark, quoted, further, joined, text_form, is_count, is_found, name_within, name_unless_zero, name_judged, zero_from, is_named}
+use Rattle.gss_base.specs.Principal.{is_mark, quoted, further, joined, text_form, is_count, is_found, name_unless_zero, zero_from, is_named}
 use Rattle.der_core.specs.Header.{length_octets, tlv}
 use Rattle.der_core.specs.Integer.{least, signed_octets, natural, int32}
 use Rattle.der_core.specs.Number.{flipped}
@@ -22,21 +21,19 @@ use Rattle.krb_derive.specs.declared.key.Etype.{Etype}
 use Rattle.krb_derive.specs.declared.key.Etype.TheVariants as types
 use Rattle.krb_derive.specs.declared.key.Key.{Key}
 use Rattle.krb_derive.specs.declared.derivation.Part.TheVariants.{Encrypt, Integrity, Check}
-use Rattle.krb_derive.specs.Key.{number_of_etype, type_of_key, key_octets, key_length, key_with}
+use Rattle.krb_derive.specs.Key.{number_of_etype, type_of_key, key_octets}
 use Rattle.krb_derive.specs.Derivation.{derived}
 use Rattle.krb_derive.specs.Sealing.{tag_of, checksum_of, seal_of}
 use Rattle.krb_derive.proofs.Opened.{length-tag_of}
 use Rattle.krb_msgs.specs.declared.encryption_key.EncryptionKey.{EncryptionKey}
-use Rattle.krb_msgs.specs.declared.encrypted_data.EncryptedData.{EncryptedData}
 use Rattle.krb_msgs.specs.declared.checksum.Checksum.{Checksum}
-use Rattle.krb_msgs.specs.declared.principal_name.PrincipalName.{PrincipalName}
 use Rattle.krb_msgs.specs.EncryptionKey.{encryption_key}
 use Rattle.krb_msgs.specs.EncryptedData.{encrypted_data}
 use Rattle.krb_msgs.specs.Checksum.{checksum}
 use Rattle.krb_msgs.specs.PrincipalName.{name_parts, principal_name}
-use Rattle.krb_msgs.specs.Authenticator.{authenticator_element, authenticator}
+use Rattle.krb_msgs.specs.Authenticator.{authenticator_element}
 use Rattle.krb_msgs.specs.ApReq.{ap_req_element, ap_req}
-use Rattle.krb_msgs.specs.EncApRepPart.{enc_ap_rep_part_element, enc_ap_rep_part}
+use Rattle.krb_msgs.specs.EncApRepPart.{enc_ap_rep_part_element}
 use Rattle.krb_msgs.specs.ApRep.{ap_rep_element, ap_rep}
 use Rattle.krb_tokens.specs.declared.end.TokenEnd.{TokenEnd}
 use Rattle.krb_tokens.specs.End.{sign_usage}
@@ -47,8 +44,8 @@ use Rattle.der_core.specs.Frame.{framed}
 use Rattle.ap_exchange.specs.Tokens.{token_of}
 use Rattle.ap_exchange.specs.Keys.{key_value, sealed_data}
 use Rattle.ap_exchange.specs.Draws.{drawn_subkey, drawn_confounder}
-use Rattle.ap_exchange.specs.Request.{seconds_of, micros_of, name_value, checksum_for, own_subkey, authenticator_of, authenticator_octets, ap_req_of, request_token}
-use Rattle.ap_exchange.specs.Answer.{acceptor_subkey, reply_part_of, reply_octets, ap_rep_of, answer_token}
+use Rattle.ap_exchange.specs.Request.{seconds_of, micros_of, name_value, checksum_for, own_subkey, authenticator_octets, ap_req_of, request_token}
+use Rattle.ap_exchange.specs.Answer.{acceptor_subkey, reply_octets, ap_rep_of, answer_token}
 
 -- at most so many octets
 pub record Within (octets : List ℕ) (n : ℕ) : Type 0 where

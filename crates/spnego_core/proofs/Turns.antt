@@ -7,8 +7,8 @@ use Rattle.krb_tokens.specs.declared.end.Side.TheVariants.{Initiator, Acceptor}
 use Rattle.spnego_core.specs.declared.outcome.Outcome.{Outcome}
 use Rattle.spnego_core.specs.declared.setup.AcceptSetup.{AcceptSetup}
 use Rattle.spnego_core.specs.declared.setup.MechCred.{MechCred}
-use Rattle.spnego_core.specs.declared.init_mech.InitMech.{InitMech}
-use Rattle.spnego_core.specs.declared.init_mech.InitAnswer.TheVariants as tells
+use Rattle.spnego_core.specs.MechStates.{InitMech}
+use Rattle.spnego_core.specs.MechStates as tells
 use Rattle.spnego_core.specs.declared.accept_mech.AcceptMech.{AcceptMech}
 use Rattle.spnego_core.specs.declared.accept_mech.AcceptAnswer.TheVariants as answers
 use Rattle.spnego_core.specs.declared.accept_end.Turn.{Turn}

@@ -1,16 +1,13 @@
--- What comes of an initiator's step.
+-- What comes of an initiator's step, whatever its end is.
 use Rattle.std.specs.Prelude.{ℕ, List}
 use Rattle.spnego_core.specs.declared.outcome.Outcome.{Outcome}
-use Rattle.spnego_core.specs.declared.init_end.InitStep.{InitStep}
-use Rattle.spnego_core.specs.declared.init_end.InitStep.TheVariants as steps
-use Rattle.spnego_core.specs.Ends.{EndSays, end_says}
+use Rattle.spnego_core.specs.Ends.{EndSays}
 
 -- a token for the acceptor, whose reply the end takes next; or the context stands
-pub data StepSays : Type 0 where
-  More : EndSays → List ℕ → StepSays
-  Done : Outcome → StepSays
+pub data StepOf (E : Type 0) : Type 0 where
+  More : E → List ℕ → StepOf E
+  Done : Outcome → StepOf E
 
--- what the code's step comes to
-abbrev pub step_says : InitStep → StepSays
-step_says (steps.More end token) = More (end_says end) token
-step_says (steps.Done outcome) = Done outcome
+-- the step of an end over plain credentials
+abbrev pub StepSays : Type 0
+StepSays = StepOf EndSays

@@ -1,16 +1,11 @@
--- What an initiator is begun with, and what its end is, however both lie in memory.
+-- What an initiator is begun with, and what its end is, by plain values: its mechanisms are those of
+-- its credentials.
 use Rattle.std.specs.Prelude.{ℕ, Bool, List, Option}
 use Rattle.gss_base.specs.declared.mech.MechKind.{MechKind}
 use Rattle.spnego_core.specs.declared.outcome.Outcome.{Outcome}
 use Rattle.spnego_core.specs.declared.setup.MechCred.{MechCred}
-use Rattle.spnego_core.specs.declared.setup.InitSetup.{InitSetup}
-use Rattle.spnego_core.specs.declared.init_mech.InitMech.{InitMech}
-use Rattle.spnego_core.specs.declared.init_end.Opening.{Opening}
-use Rattle.spnego_core.specs.declared.init_end.Talk.{Talk}
-use Rattle.spnego_core.specs.declared.init_end.Talking.{Talking}
-use Rattle.spnego_core.specs.declared.init_end.Signed.{Signed as SignedEnd}
-use Rattle.spnego_core.specs.declared.init_end.InitEnd.{InitEnd}
-use Rattle.spnego_core.specs.declared.init_end.InitEnd.TheVariants as ends
+use Rattle.spnego_core.specs.declared.setup.InitFacts.{InitFacts}
+use Rattle.spnego_core.specs.MechStates.{InitMech}
 
 -- what an initiator is begun with: its credentials, the preferred first; the channel bindings; the
 -- moment of its request, which no other request of its client has; random octets, used once
@@ -54,30 +49,12 @@ pub data EndSays : Type 0 where
 
 -- ---- the same of the program's own
 
--- what the code's setup is
-abbrev pub setup_says : InitSetup → PlainSetup
-setup_says own =
-    record { list = own.list; bindings = own.bindings; stamp = own.stamp; draws = own.draws }
-
--- what the code's end is that sent its first token
-abbrev pub opening_says : Opening → OpeningSays
-opening_says opening = record { own = setup_says opening.own; mech = opening.mech }
-
--- what the code knows once the acceptor chose
-abbrev pub talk_says : Talk → TalkSays
-talk_says talk = record { own = setup_says talk.own; chosen = talk.chosen; asked = talk.asked }
-
--- what the code's end is whose mechanism isn't done
-abbrev pub talking_says : Talking → TalkingSays
-talking_says talking = record { talk = talk_says talking.talk; mech = talking.mech }
-
--- what the code's end is that sent its MIC
-abbrev pub signed_says : SignedEnd → SignedSays
-signed_says signed =
-    record { talk = talk_says signed.talk; outcome = signed.outcome; listed = signed.listed }
-
--- what the code's end is
-abbrev pub end_says : InitEnd → EndSays
-end_says (ends.Opens opening) = Opens (opening_says opening)
-end_says (ends.Talks talking) = Talks (talking_says talking)
-end_says (ends.Signed signed) = Signed (signed_says signed)
+-- what an initiator with these facts is begun with
+abbrev pub setup_of : InitFacts → PlainSetup
+setup_of facts = record {
+  list = facts.list;
+  bindings = facts.bindings;
+  stamp = facts.stamp;
+  draws =
+      facts.draws;
+}

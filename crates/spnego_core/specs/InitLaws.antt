@@ -16,8 +16,8 @@ use Rattle.scram_mech.specs.Initiator.{InitFinished, init_started, init_answered
 use Rattle.spnego_core.specs.declared.outcome.Outcome.{Outcome}
 use Rattle.spnego_core.specs.declared.refusal.NegRefusal.{NegRefusal}
 use Rattle.spnego_core.specs.declared.setup.MechCred.TheVariants as creds
-use Rattle.spnego_core.specs.declared.init_mech.InitMech.{InitMech}
-use Rattle.spnego_core.specs.declared.init_mech.InitMech.TheVariants as mechs
+use Rattle.spnego_core.specs.MechStates.{InitMech}
+use Rattle.spnego_core.specs.MechStates as mechs
 use Rattle.spnego_core.specs.Ends.{PlainSetup, OpeningSays, TalkingSays, SignedSays, EndSays}
 use Rattle.spnego_core.specs.Ends as ends
 use Rattle.spnego_core.specs.EndSteps.{StepSays}

@@ -1,7 +1,7 @@
 -- The initiator's machine, RFC 4178 sections 3.2, 4.2.2 and 5. Each part gives the step, which
 -- mechanism is chosen and whether the acceptor's MIC over the own list was verified, what is handed
 -- out with the step's token, and what was found verified.
-use Rattle.std.specs.Prelude.{◌≡◌, ℕ, Bool, true, false, not, ◌||◌, if◌then◌else◌, List, [], ◌∷◌}
+use Rattle.std.specs.Prelude.{ℕ, Bool, true, false, not, ◌||◌, if◌then◌else◌, List, [], ◌∷◌}
 use Rattle.std.specs.Prelude.{◌++◌, length, map, Option, Some, None, Result, Ok, Err}
 use Rattle.gss_base.specs.declared.mech.MechKind.{MechKind}
 use Rattle.gss_base.specs.Mech.{oid_of, mech_of}
@@ -18,9 +18,9 @@ use Rattle.spnego_core.specs.declared.refusal.NegRefusal.TheVariants.{MechNotMin
 use Rattle.spnego_core.specs.declared.refusal.NegRefusal.TheVariants.{MicBad, Mech}
 use Rattle.spnego_core.specs.declared.refusal.MechRefusal.{MechRefusal}
 use Rattle.spnego_core.specs.declared.setup.MechCred.{MechCred}
-use Rattle.spnego_core.specs.declared.init_mech.InitMech.{InitMech}
-use Rattle.spnego_core.specs.declared.init_mech.InitAnswer.{InitAnswer}
-use Rattle.spnego_core.specs.declared.init_mech.InitAnswer.TheVariants as answers
+use Rattle.spnego_core.specs.MechStates.{InitMech}
+use Rattle.spnego_core.specs.MechStates.{InitAnswer}
+use Rattle.spnego_core.specs.MechStates as answers
 use Rattle.spnego_core.specs.Ends.{PlainSetup, OpeningSays, TalkSays, TalkingSays, SignedSays}
 use Rattle.spnego_core.specs.Ends.{EndSays}
 use Rattle.spnego_core.specs.Ends as ends

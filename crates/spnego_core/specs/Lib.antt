@@ -5,6 +5,7 @@ pub mod ListMic
 pub mod Choice
 pub mod AcceptMech
 pub mod Accepting
+pub mod MechStates
 pub mod Ends
 pub mod EndSteps
 pub mod InitMech

@@ -14,7 +14,7 @@ use Rattle.ap_exchange.specs.Laws.{Fits, honest_judged}
 use Rattle.spnego_core.specs.declared.outcome.Outcome.{Outcome}
 use Rattle.spnego_core.specs.declared.setup.AcceptSetup.{AcceptSetup}
 use Rattle.spnego_core.specs.declared.setup.MechCred.TheVariants as creds
-use Rattle.spnego_core.specs.declared.init_mech.InitMech.TheVariants as mechs
+use Rattle.spnego_core.specs.MechStates as mechs
 use Rattle.spnego_core.specs.declared.accept_end.AcceptEnd.{AcceptEnd}
 use Rattle.spnego_core.specs.declared.accept_end.AcceptEnd.TheVariants as accepts
 use Rattle.spnego_core.specs.declared.accept_end.AcceptPause.{AcceptPause}

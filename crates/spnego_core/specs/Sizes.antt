@@ -6,10 +6,6 @@ use Rattle.spnego_core.specs.declared.accept_end.Answered.{Answered}
 use Rattle.spnego_core.specs.declared.accept_end.Answered.TheVariants as afters
 use Rattle.spnego_core.specs.declared.accept_end.AcceptStep.{AcceptStep}
 use Rattle.spnego_core.specs.declared.accept_end.AcceptStep.TheVariants as steps
-use Rattle.spnego_core.specs.declared.init_mech.InitAnswer.{InitAnswer}
-use Rattle.spnego_core.specs.declared.init_mech.InitAnswer.TheVariants as answers
-use Rattle.spnego_core.specs.EndSteps.{StepSays}
-use Rattle.spnego_core.specs.EndSteps as turns
 
 -- the token has at most 65,536 octets
 abbrev pub IsShort : List ℕ → Type 0
@@ -26,11 +22,6 @@ ShortAccept (steps.More end token) = IsShort token
 ShortAccept (steps.Done outcome lasts token) = IsShort token
 ShortAccept (steps.WantsAuth pause) = ShortAnswered pause.after
 
--- the token of an initiator's step is short, where it has one
-abbrev pub ShortInit : StepSays → Type 0
-ShortInit (turns.More end token) = IsShort token
-ShortInit (turns.Done outcome) = Unit {0}
-
 -- a mechanism's own token leaves room for the negotiation's
 abbrev pub FitsBeside : List ℕ → Type 0
 FitsBeside token = length token ≤ 61040
@@ -38,11 +29,6 @@ FitsBeside token = length token ≤ 61040
 -- a MIC token
 abbrev pub IsMicSized : List ℕ → Type 0
 IsMicSized mic = length mic ≤ 28
-
--- a mechanism's token at the initiator leaves that room, where it has one
-abbrev pub ShortAnswer : InitAnswer → Type 0
-ShortAnswer (answers.More mech token) = FitsBeside token
-ShortAnswer (answers.Done outcome) = Unit {0}
 
 -- a mechanism's token at the acceptor leaves that room
 abbrev pub ShortTold : AcceptAnswer → Type 0

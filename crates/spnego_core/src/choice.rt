@@ -7,6 +7,7 @@ ghost use Rattle.spnego_core.specs.Choice.{offered, best, is_mic_due};
 use gss_base::MechKind;
 use sec_base::Oid;
 
+/// Whether both are one mechanism.
 pub fn same_kind(a: MechKind, b: MechKind) -> bool
     ensures { result ≡ same_kind a b }
 {

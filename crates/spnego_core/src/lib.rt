@@ -1,4 +1,5 @@
-//! Both ends of a negotiation (SPNEGO, RFC 4178): each is a machine whose states are types that a step consumes.
+//! The acceptor's end of a negotiation (SPNEGO, RFC 4178), a machine whose states are types that a step consumes; the tokens of both ends; and both
+//! machines as definitions, with their laws. The initiator's end steps objects, in a crate above.
 #![tactic(auto)]
 
 mod accept_end;
@@ -7,11 +8,7 @@ mod accept_reply;
 mod accept_step;
 mod choice;
 mod exchange_laws;
-mod init_end;
-mod init_mech;
 mod init_reply;
-mod init_start;
-mod init_step;
 mod laws;
 pub mod list_mic;
 mod outcome;
@@ -21,11 +18,11 @@ mod setup;
 pub mod tokens;
 
 pub use accept_end::{AcceptEnd, AcceptPause, AcceptStep};
+pub use choice::same_kind;
 pub use exchange_laws::prove_exchange;
-pub use init_end::{InitEnd, InitStep};
 pub use init_reply::{completes_later, completes_now, token_sent};
 pub use laws::{prove_accept_laws, prove_init_laws};
 pub use outcome::{Outcome, outcome_of};
 pub use pair_laws::prove_pair_laws;
-pub use refusal::{MechRefusal, NegRefusal};
-pub use setup::{AcceptSetup, InitSetup, MechCred};
+pub use refusal::{MechRefusal, NegRefusal, ap_refused, scram_refused};
+pub use setup::{AcceptSetup, InitFacts, MechCred};

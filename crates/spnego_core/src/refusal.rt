@@ -84,7 +84,7 @@ pub(crate) fn unread(refusal: DerRefusal) -> NegRefusal
 }
 
 /// The refusal of Kerberos's exchange.
-pub(crate) fn ap_refused(refusal: ApRefusal) -> NegRefusal
+pub fn ap_refused(refusal: ApRefusal) -> NegRefusal
     ensures mech { refusal ≢ aps.NoMemory → result ≡ NegRefusal.Mech (MechRefusal.Ap refusal) }
     ensures memory { refusal ≡ aps.NoMemory → result ≡ NegRefusal.NoMemory }
 {
@@ -95,7 +95,7 @@ pub(crate) fn ap_refused(refusal: ApRefusal) -> NegRefusal
 }
 
 /// The refusal of SCRAM's exchange.
-pub(crate) fn scram_refused(refusal: ScramRefusal) -> NegRefusal
+pub fn scram_refused(refusal: ScramRefusal) -> NegRefusal
     ensures mech { refusal ≢ scrams.NoMemory
         → result ≡ NegRefusal.Mech (MechRefusal.Scram refusal) }
     ensures memory { refusal ≡ scrams.NoMemory → result ≡ NegRefusal.NoMemory }

@@ -17,7 +17,8 @@ pub enum MechCred {
 }
 
 impl MechCred {
-    pub(crate) fn kind(&self) -> MechKind
+    /// Its mechanism.
+    pub fn kind(&self) -> MechKind
         ensures { result ≡ kind_of self.now }
     {
         match self {
@@ -27,9 +28,9 @@ impl MechCred {
     }
 }
 
-/// What an initiator is begun with. Each call that takes one asks for one or two credentials, of different mechanisms.
+/// What an initiator is begun with, by plain values.
 #[derive(Drop)]
-pub struct InitSetup {
+pub struct InitFacts {
     /// The mechanisms, the preferred first.
     pub list: Items<MechCred>,
     pub bindings: Option<Bindings>,

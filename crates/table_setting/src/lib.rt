@@ -11,4 +11,4 @@ pub use devices::{
     Devices, Files, clock, link, numbers, numbers_of, present, say_list, words, words_of,
 };
 pub use names::{named, octets_by_name};
-pub use setting::{Setting, acceptor, credential, draws, initiator};
+pub use setting::{Setting, acceptor, credential, draws, initiator, own_draws};

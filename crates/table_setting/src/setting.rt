@@ -11,7 +11,7 @@ use krb_derive::{Etype, Key};
 use krb_files::{Credential, read_keytab};
 use scram_mech::read_verifiers;
 use sec_base::{Items, Moment, Octets, Text};
-use spnego_core::{AcceptSetup, InitSetup, MechCred};
+use spnego_core::{AcceptSetup, InitFacts, MechCred};
 use std::alloc::Global;
 use table_rows::Cells;
 
@@ -94,10 +94,10 @@ pub fn credential(
 }
 
 /// What an initiator with this list begins with, without bindings.
-fn setup_of(list: Vec<MechCred>, stamp: Moment, draws: [u8; 66]) -> InitSetup
+fn setup_of(list: Vec<MechCred>, stamp: Moment, draws: [u8; 66]) -> InitFacts
     ensures { result.list ≡ list.items }
 {
-    InitSetup {
+    InitFacts {
         list: Items::of(list),
         bindings: None,
         stamp,
@@ -106,7 +106,7 @@ fn setup_of(list: Vec<MechCred>, stamp: Moment, draws: [u8; 66]) -> InitSetup
 }
 
 /// What an initiator begins with: this credential of Kerberos alone, without bindings, at this moment.
-pub fn initiator(alloc: Global, credential: Credential, stamp: Moment) -> Option<InitSetup>
+pub fn initiator(alloc: Global, credential: Credential, stamp: Moment) -> Option<InitFacts>
     ensures { IfSome result (λ own. is_own_list own.list ≡ true) }
 {
     match one(alloc, MechCred::Kerberos(credential)) {
@@ -264,7 +264,7 @@ impl Setting {
     }
 
     /// What an initiator begins with, by the letters of its list and its random octets, at 1,000,000 seconds.
-    pub fn initiator_with(&self, alloc: Global, letters: &str, draws: [u8; 66]) -> Option<InitSetup>
+    pub fn initiator_with(&self, alloc: Global, letters: &str, draws: [u8; 66]) -> Option<InitFacts>
         ensures { IfSome result (λ own. is_own_list own.list ≡ true) }
     {
         let stamp = Moment::new(1_000_000, 0)?;
@@ -275,7 +275,7 @@ impl Setting {
     }
 
     /// The same with the random octets 00 to 41.
-    pub fn initiator(&self, alloc: Global, letters: &str) -> Option<InitSetup>
+    pub fn initiator(&self, alloc: Global, letters: &str) -> Option<InitFacts>
         ensures { IfSome result (λ own. is_own_list own.list ≡ true) }
     {
         self.initiator_with(alloc, letters, own_draws())

@@ -62,17 +62,6 @@ begins setups book lanes empty is_book lines lists each = record {
   proper = record { setups = each; lines = line-in book.setup.verifiers lines };
 }
 
--- initiators that weren't started, each by its setup
-ready-each : {A B : Type 0} (says : A → PlainSetup) (shows : B → StageSays) (make : A → B) → ((own : A) → shows (make own) ≡ Ready (says own)) → (setups : List A)
-    → map shows (map make setups) ≡ map (λ setup. Ready setup) (map says setups)
-ready-each says shows make same [] = refl
-ready-each says shows make same (own ∷ rest) =
-    ap (λ stage. stage ∷ map shows (map make rest)) (same own) ∙ ap (λ stages. Ready (says own) ∷ stages) (ready-each says shows make same rest)
-
-pub ready-says : {A B : Type 0} (says : A → PlainSetup) (shows : B → StageSays) (make : A → B) → ((own : A) → shows (make own) ≡ Ready (says own)) → (stages : List B) (setups : List A)
-    → stages ≡ map make setups → map shows stages ≡ map (λ setup. Ready setup) (map says setups)
-ready-says says shows make same stages setups is = ap (map shows) is ∙ ready-each says shows make same setups
-
 pub ran-new : (facts setups : List PlainSetup) (stages : List StageSays) (book : BookOf) (count : ℕ) (lanes : List (Option InHand)) (events : List WorldEvent)
     → facts ≡ setups → stages ≡ map (λ setup. Ready setup) setups → lanes ≡ replicate count None → events ≡ [] → book.core.history ≡ [] → IsBook book → AreLines book.setup.verifiers
     → ((i : ℕ) (own : PlainSetup) → slice_get setups i ≡ Some own → is_own_list own.list ≡ true) → ((i : ℕ) (own : PlainSetup) → slice_get setups i ≡ Some own → IsSetup own)

@@ -11,7 +11,7 @@ use Rattle.gss_client.specs.declared.refusal.ClientRefusal.TheVariants.{BadReply
 use Rattle.gss_client.specs.declared.refusal.ReplyWhy.TheVariants.{Verifier, Steps, Width}
 use Rattle.gss_client.specs.Creation.{CreatedSays}
 use Rattle.gss_client.specs.Creation as created
-use Rattle.gss_client.specs.Judging.{◌>>=◌, due, GrantedValue, granted_in, negotiated, is_verified, by_step, creation_step}
+use Rattle.gss_client.specs.Judging.{◌>>=◌, due, GrantedValue, granted_in, negotiated, is_verified, by_step, creation_by, creation_step}
 use Rattle.world_laws.specs.Initiators.{initiated_by, initiated_with, initiated}
 
 -- the end took this step
@@ -60,5 +60,5 @@ behind-granted xid end octets (Err refusal) e = tt
 behind-granted xid end octets (Ok g) e = behind-taken xid end octets g (init_step end g.result.token) e refl
 
 pub behind : (xid : ℕ) (end : EndSays) (octets : List ℕ) → Behind xid end octets (creation_step end xid octets)
-unfolding creation_step
+unfolding creation_by
 behind xid end octets = behind-granted xid end octets (granted_in xid octets) refl

@@ -96,3 +96,5 @@ pub mod MetWhole
 pub mod Told
 pub mod Beginning
 pub mod Stepping
+pub mod AsCredentials
+pub mod AllAsCredentials

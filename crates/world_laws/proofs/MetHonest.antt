@@ -15,7 +15,7 @@ use Rattle.scram_mech.specs.Secrets.{stored_key}
 use Rattle.scram_mech.proofs.Masks.{length-proof}
 use Rattle.spnego_core.specs.declared.setup.AcceptSetup.{AcceptSetup}
 use Rattle.spnego_core.specs.declared.setup.MechCred.TheVariants as creds
-use Rattle.spnego_core.specs.declared.init_mech.InitMech.TheVariants as own_mechs
+use Rattle.spnego_core.specs.MechStates as own_mechs
 use Rattle.spnego_core.specs.declared.accept_mech.AcceptMech.TheVariants as mechs
 use Rattle.spnego_core.specs.declared.accept_end.AcceptEnd.{AcceptEnd}
 use Rattle.spnego_core.specs.declared.accept_end.AcceptEnd.TheVariants as accepts

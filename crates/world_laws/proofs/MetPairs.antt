@@ -25,7 +25,7 @@ use Rattle.spnego_core.specs.declared.refusal.NegRefusal.{NegRefusal}
 use Rattle.spnego_core.specs.declared.setup.AcceptSetup.{AcceptSetup}
 use Rattle.spnego_core.specs.declared.setup.MechCred.{MechCred}
 use Rattle.spnego_core.specs.declared.setup.MechCred.TheVariants as creds
-use Rattle.spnego_core.specs.declared.init_mech.InitMech.TheVariants as own_mechs
+use Rattle.spnego_core.specs.MechStates as own_mechs
 use Rattle.spnego_core.specs.declared.accept_mech.AcceptMech.TheVariants as mechs
 use Rattle.spnego_core.specs.declared.accept_end.AcceptEnd.{AcceptEnd}
 use Rattle.spnego_core.specs.declared.accept_end.AcceptEnd.TheVariants as accepts

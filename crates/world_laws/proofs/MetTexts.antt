@@ -34,8 +34,7 @@ use Rattle.spnego_core.specs.declared.outcome.Outcome.{Outcome}
 use Rattle.spnego_core.specs.declared.refusal.MechRefusal.{MechRefusal}
 use Rattle.spnego_core.specs.declared.setup.AcceptSetup.{AcceptSetup}
 use Rattle.spnego_core.specs.declared.setup.MechCred.TheVariants as creds
-use Rattle.spnego_core.specs.declared.init_mech.InitAnswer.TheVariants as tells
-use Rattle.spnego_core.specs.declared.init_mech.InitMech.TheVariants as mechs
+use Rattle.spnego_core.specs.MechStates as tells
 use Rattle.spnego_core.specs.declared.accept_mech.AcceptMech.{AcceptMech}
 use Rattle.spnego_core.specs.declared.accept_mech.AcceptMech.TheVariants as accepts
 use Rattle.spnego_core.specs.declared.accept_mech.AcceptAnswer.TheVariants as answers
@@ -203,7 +202,7 @@ finishes-so u now = rw (final-so u now, same_self (signature_of (server_key (sec
 -- ---- the same as mechanisms
 
 abbrev pub begun_with : Users → MechBegun
-begun_with u = record { mech = mechs.Scram (init_end u); token = one_token u; makes = [] }
+begun_with u = record { mech = tells.Scram (init_end u); token = one_token u; makes = [] }
 
 pub text-begun : (u : Users) → init_begun u.own (creds.Scram u.user u.password) ≡ Ok (begun_with u)
 unfolding init_begun
@@ -217,9 +216,9 @@ unfolding accept_taken
 text-taken u = rw (takes-so u) refl
 
 abbrev pub text_replied : Users → MechReplied
-text_replied u = record { answer = tells.More (mechs.Proof (proved u).end) (proved u).token; makes = (proved u).makes; found = [] }
+text_replied u = record { answer = tells.More (tells.Proof (proved u).end) (proved u).token; makes = (proved u).makes; found = [] }
 
-pub text-replied : (u : Users) → init_taken (mechs.Scram (init_end u)) (two_text u) ≡ Ok (text_replied u)
+pub text-replied : (u : Users) → init_taken (tells.Scram (init_end u)) (two_text u) ≡ Ok (text_replied u)
 unfolding init_taken
 text-replied u = rw (proves-so u) refl
 
@@ -246,7 +245,7 @@ one-outcome u now = λ i. record {
   hash = ap hash_of (sym u.fits.honest.carries) i;
 }
 
-pub proof-replied : (u : Users) (now : ℕ) → init_taken (mechs.Proof (proved u).end) (accepted u now).token ≡ Ok (proof_replied u now)
+pub proof-replied : (u : Users) (now : ℕ) → init_taken (tells.Proof (proved u).end) (accepted u now).token ≡ Ok (proof_replied u now)
 unfolding init_taken
 proof-replied u now = rw (finishes-so u now) (ap (λ (o : Outcome). Ok (record { answer = tells.Done o; makes = []; found = (finished u).found })) (one-outcome u now))
 

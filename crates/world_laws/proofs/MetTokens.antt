@@ -30,8 +30,7 @@ use Rattle.ap_exchange.proofs.Passed.{same_own}
 use Rattle.scram_mech.specs.MechMaking.{MechMaking, typed}
 use Rattle.spnego_core.specs.declared.outcome.Outcome.{Outcome}
 use Rattle.spnego_core.specs.declared.setup.AcceptSetup.{AcceptSetup}
-use Rattle.spnego_core.specs.declared.init_mech.InitAnswer.TheVariants as tells
-use Rattle.spnego_core.specs.declared.init_mech.InitMech.TheVariants as mechs
+use Rattle.spnego_core.specs.MechStates as tells
 use Rattle.spnego_core.specs.declared.accept_mech.AcceptMech.TheVariants as accepts
 use Rattle.spnego_core.specs.Ends.{PlainSetup}
 use Rattle.spnego_core.specs.Outcome.{outcome_of}
@@ -137,7 +136,7 @@ abbrev pub replied_with : Judged → List ℕ → MechReplied
 replied_with j drawn = record { answer = tells.Done (outcome_with j drawn); makes = []; found = typed (answer_making j drawn) ∷ [] }
 
 pub reply-taken : (setup : AcceptSetup) (own : PlainSetup) (credential : Granted) (occasion : Occasion) → length occasion.drawn ≡ 66 → (fits : TicketFits setup own credential occasion)
-    → init_taken (mechs.Kerberos (waiting credential own.stamp own.draws own.bindings)) (answer_token (judged_on setup own credential occasion fits) occasion.drawn)
+    → init_taken (tells.Kerberos (waiting credential own.stamp own.draws own.bindings)) (answer_token (judged_on setup own credential occasion fits) occasion.drawn)
     ≡ Ok (replied_with (judged_on setup own credential occasion fits) occasion.drawn)
 unfolding init_taken
 reply-taken setup own credential occasion drawn fits =

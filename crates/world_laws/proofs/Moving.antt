@@ -13,7 +13,7 @@ use Rattle.gss_client.specs.declared.refusal.ReplyWhy.TheVariants.{Verifier, Ste
 use Rattle.gss_client.specs.Creation.{OfferSays, CreatedSays}
 use Rattle.gss_client.specs.Creation as creations
 use Rattle.rpcsec_bodies.specs.declared.service.Service.TheVariants.{Integrity}
-use Rattle.gss_client.specs.Judging.{◌>>=◌, due, is_verified, GrantedValue, granted_in, negotiated, by_step, creation_step}
+use Rattle.gss_client.specs.Judging.{◌>>=◌, due, is_verified, GrantedValue, granted_in, negotiated, by_step, creation_by, creation_step}
 use Rattle.gss_client.specs.Session.{xid_after}
 use Rattle.gss_client.specs.Talk.{begun}
 use Rattle.world_laws.specs.Stages as stages
@@ -89,7 +89,7 @@ grant-by end xid octets what (Err refusal) granted e = absurd cc
 grant-by end xid octets what (Ok g) granted e = step-by end xid octets what g (init_step end g.result.token) granted refl e
 
 pub stepped-by : (end : EndSays) (xid : ℕ) (octets : List ℕ) (what : CreatedSays) → creation_step end xid octets ≡ Ok what → SteppedBy end xid octets what
-unfolding creation_step
+unfolding creation_by
 stepped-by end xid octets what e = grant-by end xid octets what (granted_in xid octets) refl e
 
 -- it goes on

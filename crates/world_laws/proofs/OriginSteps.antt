@@ -25,10 +25,9 @@ use Rattle.spnego_core.specs.declared.refusal.NegRefusal.TheVariants.{Defective,
 use Rattle.spnego_core.specs.declared.refusal.MechRefusal.{MechRefusal}
 use Rattle.spnego_core.specs.declared.setup.MechCred.{MechCred}
 use Rattle.spnego_core.specs.declared.setup.MechCred.TheVariants as creds
-use Rattle.spnego_core.specs.declared.init_mech.InitMech.{InitMech}
-use Rattle.spnego_core.specs.declared.init_mech.InitMech.TheVariants as mechs
-use Rattle.spnego_core.specs.declared.init_mech.InitAnswer.{InitAnswer}
-use Rattle.spnego_core.specs.declared.init_mech.InitAnswer.TheVariants as answers
+use Rattle.spnego_core.specs.MechStates.{InitMech}
+use Rattle.spnego_core.specs.MechStates as mechs
+use Rattle.spnego_core.specs.MechStates.{InitAnswer}
 use Rattle.spnego_core.specs.Ends.{PlainSetup, OpeningSays, TalkSays, TalkingSays, SignedSays, EndSays}
 use Rattle.spnego_core.specs.Ends as ends
 use Rattle.spnego_core.specs.EndSteps.{StepSays}
@@ -104,12 +103,12 @@ looks-proving Ready talk outcome state (Some mic) ready = either (Proving Ready)
 
 -- what it made of a token
 abbrev Answering : (Outcome → Type 0) → List MechMaking → InitAnswer → Type 0
-Answering Ready makes (answers.More mech token) = (wait : WaitModel) → proof_end mech ≡ Some wait → HasProof makes
-Answering Ready makes (answers.Done outcome) = outcome.mech ≡ kinds.Scram → Ready outcome
+Answering Ready makes (mechs.More mech token) = (wait : WaitModel) → proof_end mech ≡ Some wait → HasProof makes
+Answering Ready makes (mechs.Done outcome) = outcome.mech ≡ kinds.Scram → Ready outcome
 
 told-proving : (Ready : Outcome → Type 0) (talk : TalkSays) (state : Option NegState) (mic : Option (List ℕ)) (makes found : List MechMaking) (answer : InitAnswer) → Answering Ready makes answer
     → On (Proving Ready) (behind makes found (told talk state mic answer))
-told-proving Ready talk state mic makes found (answers.More mech token) a = more (says_completed state)
+told-proving Ready talk state mic makes found (mechs.More mech token) a = more (says_completed state)
   where
     more : (b : Bool) → On (Proving Ready) (behind makes found (if b then Err (Defective 0) else Ok (record { step = steps.More (ends.Talks (record { talk = talk; mech = mech })) (resp_octets (token_sent token)); chosen = Some talk.chosen; listed = false; makes = []; found = [] })))
     more true = tt
@@ -117,7 +116,7 @@ told-proving Ready talk state mic makes found (answers.More mech token) a = more
       proves = λ wait e. (let h = a wait e in record { making = h.making; among = among_front makes [] h.making h.among; is_proof = h.is_proof });
       finishes = λ outcome e scram. absurd (none-some outcome e);
     }
-told-proving Ready talk state mic makes found (answers.Done outcome) a = behind-proving Ready makes found (looks talk outcome state mic) (looks-proving Ready talk outcome state mic a)
+told-proving Ready talk state mic makes found (mechs.Done outcome) a = behind-proving Ready makes found (looks talk outcome state mic) (looks-proving Ready talk outcome state mic a)
 
 -- it waited for the signature
 abbrev pub Waited : Option WaitModel → Outcome → Type 0
@@ -127,7 +126,7 @@ no-scram : kinds.Kerberos ≡ kinds.Scram → ⊥
 no-scram e = cc
 
 replied : (talk : TalkSays) (state : Option NegState) (mic : Option (List ℕ)) (end : ApInit) (found : List MechMaking) (r : Result MechDone ApRefusal) → On (Proving (Waited None)) (ran talk state mic (reply_answered found r))
-replied talk state mic end found (Ok made) = told-proving (Waited None) talk state mic [] found (answers.Done _) (λ e. absurd (no-scram e))
+replied talk state mic end found (Ok made) = told-proving (Waited None) talk state mic [] found (mechs.Done _) (λ e. absurd (no-scram e))
 replied talk state mic end found (Err refusal) = tt
 
 one-proof : (scram : ScramLaws) (end : InitModel) (token : List ℕ) (answered : InitAnswered) → init_answered end token ≡ Ok answered → HasProof answered.makes
@@ -137,11 +136,11 @@ one-proof scram end token answered e =
 
 answered-text : (scram : ScramLaws) (talk : TalkSays) (state : Option NegState) (mic : Option (List ℕ)) (end : InitModel) (token : List ℕ) (r : Result InitAnswered ScramRefusal) → init_answered end token ≡ r
     → On (Proving (Waited None)) (ran talk state mic (text_answered r))
-answered-text scram talk state mic end token (Ok answered) e = told-proving (Waited None) talk state mic answered.makes [] (answers.More (mechs.Proof answered.end) answered.token) (λ wait f. one-proof scram end token answered e)
+answered-text scram talk state mic end token (Ok answered) e = told-proving (Waited None) talk state mic answered.makes [] (mechs.More (mechs.Proof answered.end) answered.token) (λ wait f. one-proof scram end token answered e)
 answered-text scram talk state mic end token (Err refusal) e = tt
 
 answered-final : (talk : TalkSays) (state : Option NegState) (mic : Option (List ℕ)) (end : WaitModel) (r : Result InitFinished ScramRefusal) → On (Proving (Waited (Some end))) (ran talk state mic (final_answered r))
-answered-final talk state mic end (Ok finished) = told-proving (Waited (Some end)) talk state mic [] finished.found (answers.Done _) (λ e. (end, refl))
+answered-final talk state mic end (Ok finished) = told-proving (Waited (Some end)) talk state mic [] finished.found (mechs.Done _) (λ e. (end, refl))
 answered-final talk state mic end (Err refusal) = tt
 
 ran-proving : (scram : ScramLaws) (talk : TalkSays) (state : Option NegState) (mic : Option (List ℕ)) (mech : InitMech) (token : List ℕ) → On (Proving (Waited (proof_end mech))) (ran talk state mic (init_taken mech token))

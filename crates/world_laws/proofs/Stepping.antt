@@ -216,9 +216,12 @@ run-known laws a (event ∷ later) b run known =
 
 -- ---- what a world that came of a run shows
 
+pub ran-known : (laws : Below) (shown : Shown) (r : Ran shown) → Known r.now
+ran-known laws shown r = run-known laws r.start shown.events r.now r.run (known-start r.start r.begins)
+
 pub ran-lists : (laws : Below) (shown : Shown) → Ran shown → (i : ℕ) (own : PlainSetup) → slice_get shown.stages i ≡ Some (stages.Ready own) → is_own_list own.list ≡ true
 ran-lists laws shown r i own there =
-    let known : Known r.now = run-known laws r.start shown.events r.now r.run (known-start r.start r.begins) in
+    let known : Known r.now = ran-known laws shown r in
     known.sized i own (known.ready i own (ap (λ xs. slice_get xs i) (sym r.shows.stages) ∙ there))
 
 pub ran-book : (shown : Shown) → Ran shown → IsSome shown.book
@@ -260,6 +263,3 @@ told-err event (Ok happened) old new steps is = absurd old new is
     absurd : (old new : Shown) → false ≡ true → (new ≡ old) ⊎ Steps event None old new
     absurd old new e = grind (arith, e)
 told-err event (Err refusal) old new steps is = inr steps
-
-pub steps-from : (event : WorldEvent) (answer : Option Happened) (inside old new : Shown) → inside ≡ old → Steps event answer inside new → Steps event answer old new
-steps-from event answer inside old new e steps = subst (λ s. Steps event answer s new) e steps

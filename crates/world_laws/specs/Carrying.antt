@@ -10,11 +10,18 @@ use Rattle.world_laws.specs.declared.event.Happened.TheVariants.{Nothing}
 use Rattle.world_laws.specs.declared.event.WorldEvent.TheVariants.{Deliver, Lane}
 use Rattle.world_laws.specs.Stages.{StageSays}
 use Rattle.world_laws.specs.Stages as stages
+use Rattle.world_laws.specs.Objects.{StageMeans}
+use Rattle.world_laws.specs.Objects as objects
 use Rattle.world_laws.specs.Showing.{Shown, Steps}
 
 -- the calls of a session whose key is this are answered as the law of honest calls says
 abbrev pub RulesCalls : Option StageSays → Type 0
 RulesCalls stage = (s : SessionState) (lease : Lease) → stage ≡ Some (stages.Stands s)
+    → lease.outcome.key ≡ s.outcome.key → HonestLaw lease
+
+-- the same of an initiator over objects whose context stands
+abbrev pub RulesAt : StageMeans → Type 0
+RulesAt stage = (s : SessionState) (lease : Lease) → stage ≡ objects.Stands s
     → lease.outcome.key ≡ s.outcome.key → HonestLaw lease
 
 -- ---- what an event handed out

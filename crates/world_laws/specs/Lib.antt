@@ -1,4 +1,6 @@
 pub mod Stages
+pub mod Objects
+pub mod ObjectMoves
 pub mod State
 pub mod Deeds
 pub mod Initiators
@@ -16,6 +18,7 @@ pub mod Turning
 pub mod Passing
 pub mod Showing
 pub mod Parting
+pub mod Worlds
 pub mod Below
 pub mod Promised
 pub mod Meeting

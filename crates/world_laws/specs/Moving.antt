@@ -2,33 +2,37 @@
 -- It isn't needed to read the headline.
 use Rattle.std.specs.Prelude.{◌≡◌, Result, Ok, Err}
 use Rattle.sec_base.specs.declared.memory.NoMemory.{NoMemory}
+use Rattle.mech_objects.specs.Meaning.{MechSays}
 use Rattle.world_laws.specs.declared.event.Happened.{Happened}
 use Rattle.world_laws.specs.declared.initiators.Moves.{Moves}
-use Rattle.world_laws.specs.Stages.{StageSays, Over, stage_says}
-use Rattle.world_laws.specs.Initiators.{Moved}
+use Rattle.world_laws.specs.Objects.{StageMeans, Over, stage_means}
+use Rattle.world_laws.specs.ObjectMoves.{MovedMeans}
 
 -- where it is then, and what came of it, unless memory was wanted
-pub record MovesSays : Type 0 where
-  pub stage : StageSays
+pub record MovesMeans : Type 0 where
+  pub stage : StageMeans
   pub happened : Result Happened NoMemory
 
--- what the code's initiator did
-abbrev pub moves_says : Moves → MovesSays
-moves_says moves = record { stage = stage_says moves.stage; happened = moves.happened }
+-- what the code's initiator did, by what its objects are
+abbrev pub moves_means : {X : Type 0} → {D : X → Type 0} → Moves X D
+    → ((x : X) × D x → MechSays) → MovesMeans
+moves_means moves says =
+    record { stage = stage_means moves.stage says; happened = moves.happened }
 
 -- it answered this and is in this stage; or memory was wanted, and it is in the other
-abbrev pub GoesTo : StageSays → Happened → StageSays → StageSays → Result Happened NoMemory → Type 0
+abbrev pub GoesTo : StageMeans → Happened → StageMeans → StageMeans → Result Happened NoMemory
+    → Type 0
 GoesTo stage answer lost left (Ok happened) = (left ≡ stage) × (happened ≡ answer)
 GoesTo stage answer lost left (Err memory) = left ≡ lost
 
 -- the same of what it did: `lost` is where it is if memory was wanted
-abbrev pub Goes : StageSays → Happened → StageSays → MovesSays → Type 0
+abbrev pub Goes : StageMeans → Happened → StageMeans → MovesMeans → Type 0
 Goes stage answer lost moves = GoesTo stage answer lost moves.stage moves.happened
 
 -- memory was wanted, and it has ended, whatever it would have done
-abbrev pub IsLost : MovesSays → Type 0
-IsLost moves = (stage : StageSays) (answer : Happened) → Goes stage answer Over moves
+abbrev pub IsLost : MovesMeans → Type 0
+IsLost moves = (stage : StageMeans) (answer : Happened) → Goes stage answer Over moves
 
 -- so it moved
-abbrev pub IsMove : Moved → MovesSays → Type 0
+abbrev pub IsMove : MovedMeans → MovesMeans → Type 0
 IsMove moved moves = Goes moved.stage moved.answer moved.lost moves

@@ -1,11 +1,10 @@
--- What an event makes of all the parts of a world that a program holds.
+-- What an event makes of all the parts of a world that it shows.
 -- It isn't needed to read the headline.
-use Rattle.std.specs.Prelude.{◌≡◌, List, map, slice_get, Option, None}
+use Rattle.std.specs.Prelude.{◌≡◌, List, slice_get, Option, None}
 use Rattle.world_laws.specs.declared.event.Happened.{Happened}
 use Rattle.world_laws.specs.declared.event.WorldEvent.{WorldEvent}
 use Rattle.world_laws.specs.declared.event.WorldEvent.TheVariants.{Start, Deliver, Lane, CallBy}
-use Rattle.world_laws.specs.declared.world.Parts.{Parts}
-use Rattle.world_laws.specs.Stages.{StageSays, stage_says}
+use Rattle.world_laws.specs.Stages.{StageSays}
 use Rattle.world_laws.specs.Lanes.{in_hand}
 use Rattle.world_laws.specs.Passing.{started_from, taken_from, called_from, of_stage, Turns, Desk}
 use Rattle.world_laws.specs.Passing.{LaneTurns}
@@ -14,13 +13,6 @@ use Rattle.world_laws.specs.Passing.{LaneTurns}
 pub record HeldParts : Type 0 where
   pub stages : List StageSays
   pub desk : Desk
-
--- these parts, as the program's `Parts` has them
-abbrev pub parts_of : Parts → HeldParts
-parts_of p = record {
-  stages = map stage_says p.stages.items;
-  desk = record { book = p.book; lanes = p.lanes.items };
-}
 
 -- an event moves one initiator and leaves the desk, or moves one lane and leaves the initiators
 abbrev pub Passes : WorldEvent → Option Happened → HeldParts → HeldParts → Type 0

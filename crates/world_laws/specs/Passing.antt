@@ -1,4 +1,4 @@
--- What an event makes of the parts of a world that a program holds.
+-- What an event makes of the parts of a world that it shows.
 -- It isn't needed to read the headline.
 use Rattle.std.specs.Prelude.{◌≡◌, ◌⊎◌, ℕ, Bool, true, false, nat_le, List, slice_set, Option, Some}
 use Rattle.std.specs.Prelude.{None}
@@ -45,17 +45,6 @@ called_from procedure args (stages.Stands s) =
     called_with (nat_le s.number 0x7fffffff) s procedure args
 called_from procedure args (stages.Left s) = None
 called_from procedure args stages.Over = None
-
--- it moves so, or memory was wanted; without a move nothing happens
-abbrev pub TurnsTo : Option Moved → Option Happened → StageSays → StageSays → Type 0
-TurnsTo None answer old new = (answer ≡ Some Nothing) × (new ≡ old)
-TurnsTo (Some moved) answer old new =
-    ((answer ≡ Some moved.answer) × (new ≡ moved.stage)) ⊎ ((answer ≡ None) × (new ≡ moved.lost))
-
--- the same of a call of a session that stands, by whether a number is left for it
-abbrev pub CallsTo : Bool → SessionState → ℕ → List ℕ → StageSays → Option Happened → Type 0
-CallsTo left s procedure args new answer =
-    TurnsTo (called_with left s procedure args) answer (stages.Stands s) new
 
 -- the initiator of a place, where there is one
 abbrev pub of_stage : (StageSays → Option Moved) → Option StageSays → Option Moved

@@ -5,21 +5,10 @@ use Rattle.spnego_core.specs.Ends.{PlainSetup}
 use Rattle.accept_book.specs.Booking.{BookOf}
 use Rattle.world_laws.specs.declared.event.Happened.{Happened}
 use Rattle.world_laws.specs.declared.event.WorldEvent.{WorldEvent}
-use Rattle.world_laws.specs.declared.facts.InitFacts.{InitFacts}
 use Rattle.world_laws.specs.Stages.{StageSays}
 use Rattle.world_laws.specs.Deeds.{Deed}
 use Rattle.world_laws.specs.Events.{Happens, Run, Begins}
 use Rattle.world_laws.specs.State.{InHand, World}
-
--- what an initiator with these facts is begun with
-abbrev pub setup_of : InitFacts → PlainSetup
-setup_of facts = record {
-  list = facts.list;
-  bindings = facts.bindings;
-  stamp = facts.stamp;
-  draws =
-      facts.draws;
-}
 
 -- all but what was fixed and what was handed out, which no program knows; and the events so far,
 -- the first one first

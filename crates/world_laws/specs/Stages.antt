@@ -1,9 +1,7 @@
--- Where an initiator is, however it lies in memory.
+-- Where an initiator is, by its credentials.
 use Rattle.std.specs.Prelude.{ℕ}
-use Rattle.spnego_core.specs.Ends.{PlainSetup, EndSays, setup_says, end_says}
+use Rattle.spnego_core.specs.Ends.{PlainSetup, EndSays}
 use Rattle.gss_client.specs.Session.{SessionState}
-use Rattle.world_laws.specs.declared.stage.Stage.{Stage}
-use Rattle.world_laws.specs.declared.stage.Stage.TheVariants as stages
 
 -- where an initiator is
 pub data StageSays : Type 0 where
@@ -17,11 +15,3 @@ pub data StageSays : Type 0 where
   Left : SessionState → StageSays
   -- it ended before its context stood
   Over : StageSays
-
--- where the code's initiator is
-abbrev pub stage_says : Stage → StageSays
-stage_says (stages.Ready own) = Ready (setup_says own)
-stage_says (stages.Asks xid end) = Asks xid (end_says end)
-stage_says (stages.Stands session) = Stands session
-stage_says (stages.Left session) = Left session
-stage_says stages.Over = Over

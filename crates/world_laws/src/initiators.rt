@@ -1,22 +1,23 @@
 //! What initiators do: they start, take replies to their creation calls, and call. Each is judged as `gss_client` judges in a session over a link.
 
 ghost use Rattle.std.specs.Prelude.{◌≡◌, ◌≤◌, true, length};
-ghost use Rattle.spnego_core.specs.Ends.{setup_says, end_says};
-ghost use Rattle.spnego_core.specs.InitMech.{is_own_list};
+ghost use Rattle.init_ends.specs.Ends.{setup_by, end_by, holds};
+ghost use Rattle.init_ends.specs.Objects.{is_own_list};
 ghost use Rattle.gss_client.specs.Calling.{creation_call};
-ghost use Rattle.gss_client.specs.Creation.{offer_says};
+ghost use Rattle.gss_client.specs.Creation.{offer_means};
 ghost use Rattle.gss_client.specs.Exchanging.{FitsOffer};
-ghost use Rattle.world_laws.specs.Initiators.{starts, takes, calls};
-ghost use Rattle.world_laws.specs.Stages as stages;
-ghost use Rattle.world_laws.specs.Moving.{Goes, IsLost, IsMove, moves_says};
+ghost use Rattle.world_laws.specs.Objects as stages;
+ghost use Rattle.world_laws.specs.ObjectMoves.{starts, takes, calls};
+ghost use Rattle.world_laws.specs.Moving.{Goes, IsLost, IsMove, moves_means};
 
 use crate::event::Happened;
 use crate::stage::Stage;
 use gss_client::{
     ClientRefusal, Created, Offer, Service, Session, creation_call, creation_step, xid_after,
 };
+use init_ends::{InitEnd, InitSetup};
 use sec_base::{NoMemory, Octets};
-use spnego_core::{InitEnd, InitSetup, NegRefusal};
+use spnego_core::NegRefusal;
 use std::alloc::Global;
 
 /// The procedure of a first creation call.
@@ -36,7 +37,7 @@ pub(crate) struct Moves {
 
 /// It refused, and has ended.
 fn refused() -> Moves
-    ensures { Goes stages.Over Happened.Refused stages.Over (moves_says result) }
+    ensures { Goes stages.Over Happened.Refused stages.Over (moves_means result meaning) }
 {
     Moves {
         stage: Stage::Over,
@@ -46,7 +47,7 @@ fn refused() -> Moves
 
 /// Memory was wanted, and it has ended before its context stood.
 fn lost() -> Moves
-    ensures { IsLost (moves_says result) }
+    ensures { IsLost (moves_means result meaning) }
 {
     Moves {
         stage: Stage::Over,
@@ -56,10 +57,10 @@ fn lost() -> Moves
 
 /// It hands out the creation call of this transaction number, whose reply is due.
 fn ask(alloc: Global, xid: u32, proc: u32, offer: Offer) -> Moves
-    requires { FitsOffer (offer_says offer) }
-    ensures { Goes (stages.Asks xid (end_says offer.end)) (Happened.Sent
+    requires { FitsOffer (offer_means offer meaning) }
+    ensures { Goes (stages.Asks xid (end_by offer.end meaning)) (Happened.Sent
         (creation_call Service.Integrity xid proc offer.handle offer.token)) stages.Over
-        (moves_says result) }
+        (moves_means result meaning) }
 {
     let Offer { end, handle, token } = offer;
     match creation_call(
@@ -81,7 +82,7 @@ fn ask(alloc: Global, xid: u32, proc: u32, offer: Offer) -> Moves
 /// Its context stands.
 fn stand(session: Session) -> Moves
     ensures { Goes (stages.Stands session) (Happened.Completed session.outcome) stages.Over
-        (moves_says result) }
+        (moves_means result meaning) }
 {
     let outcome = *session.outcome();
     Moves {
@@ -92,8 +93,8 @@ fn stand(session: Session) -> Moves
 
 /// An initiator that wasn't started hands out its first creation call.
 pub(crate) fn start(alloc: Global, own: InitSetup) -> Moves
-    requires { is_own_list own.list ≡ true }
-    ensures { IsMove (starts (setup_says own)) (moves_says result) }
+    requires { is_own_list (setup_by own meaning).list ≡ true }
+    ensures { IsMove (starts (setup_by own meaning)) (moves_means result meaning) }
 {
     match InitEnd::start(alloc, own) {
         Ok((end, token)) => {
@@ -108,8 +109,9 @@ pub(crate) fn start(alloc: Global, own: InitSetup) -> Moves
 /// An initiator takes a record as the reply to its creation call of this transaction number. Its end is spent. A session begins with the
 /// number `first`.
 pub(crate) fn take(alloc: Global, first: u32, xid: u32, end: InitEnd, bytes: &[u8]) -> Moves
-    requires { first ≤ 0x80000000 }
-    ensures { IsMove (takes first xid (end_says end) bytes.now) (moves_says result) }
+    requires first { first ≤ 0x80000000 }
+    requires held { holds (end_by end meaning) ≡ true }
+    ensures { IsMove (takes first xid (end_by end meaning) bytes.now) (moves_means result meaning) }
 {
     match creation_step(alloc, end, xid, bytes) {
         Ok(Created::Going(offer)) => ask(alloc, xid_after(xid), CONTINUE_INIT, offer),
@@ -126,7 +128,7 @@ pub(crate) fn take(alloc: Global, first: u32, xid: u32, end: InitEnd, bytes: &[u
 pub(crate) fn call(alloc: Global, session: Session, procedure: u32, args: &[u8]) -> Moves
     requires number { session.number ≤ 0x7fffffff }
     requires args { length args.now ≤ 65540 }
-    ensures { IsMove (calls session procedure args.now) (moves_says result) }
+    ensures { IsMove (calls session procedure args.now) (moves_means result meaning) }
 {
     match session.write_call(alloc, procedure, args, &[0; 16]) {
         Ok(record) => Moves {

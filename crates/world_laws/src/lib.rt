@@ -2,7 +2,6 @@
 #![tactic(auto)]
 
 mod event;
-mod facts;
 mod initiators;
 mod lanes;
 mod laws;
@@ -13,7 +12,7 @@ mod turn;
 mod world;
 
 pub use event::{Happened, WorldEvent};
-pub use facts::InitFacts;
 pub use laws::{prove_agreement, prove_headline, prove_known_list, prove_origin};
 pub use meeting::{call_once, meet};
+pub use spnego_core::InitFacts;
 pub use world::{World, WorldSetup};

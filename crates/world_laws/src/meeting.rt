@@ -6,6 +6,7 @@ ghost use Rattle.accept_book.specs.Booking.{BookOf};
 ghost use Rattle.accept_book.specs.Served.{are_args};
 ghost use Rattle.world_laws.specs.Meeting.{AtStart, Meeting, IsCarried, InTime, IsCalled};
 ghost use Rattle.world_laws.specs.Carrying.{sent_in, completed_in, IsTurn};
+ghost use Rattle.world_laws.specs.Worlds.{world_means, shown, IsWorld};
 
 use crate::event::{Happened, WorldEvent};
 use crate::laws::tell_below;
@@ -61,8 +62,11 @@ fn turn(
     now: Moment,
     draws: &[u8; 82],
 ) -> Result<Happened, NoMemory>
-    ensures { IfOk result (λ happened. (octets : List ℕ) → sent_in last ≡ Some octets
-        → IsTurn octets now draws.now happened world.old world.new) }
+    requires { IsWorld (world_means world.old meaning) }
+    ensures world { IsWorld (world_means world.new meaning) }
+    ensures turn { IfOk result (λ happened. (octets : List ℕ) → sent_in last ≡ Some octets
+        → IsTurn octets now draws.now happened (shown world.old meaning)
+        (shown world.new meaning)) }
 {
     let record = match sent(last) {
         Some(record) => record,
@@ -102,9 +106,12 @@ pub fn meet(
     now: Moment,
     draws: &[[u8; 82]],
 ) -> Result<bool, NoMemory>
-    ensures { IfOk result (λ met. (book : BookOf) (lanes : ℕ) → AtStart world.old book lanes
-        → (meeting : Meeting book world.old.facts lanes now draws.now)
-        → (met ≡ true) × ∥ IsCarried world.new meeting.kind ∥₁) }
+    requires { IsWorld (world_means world.old meaning) }
+    ensures world { IsWorld (world_means world.new meaning) }
+    ensures met { IfOk result (λ met. (book : BookOf) (lanes : ℕ)
+        → AtStart (shown world.old meaning) book lanes
+        → (meeting : Meeting book (shown world.old meaning).facts lanes now draws.now)
+        → (met ≡ true) × ∥ IsCarried (shown world.new meaning) meeting.kind ∥₁) }
 {
     let _events = world.events();
     let mut last = world.step(alloc, WorldEvent::Start { initiator: 0 })?;
@@ -129,8 +136,12 @@ pub fn call_once(
     requires served { procedure ≤ 4 }
     requires proper { are_args procedure args ≡ true }
     requires size { length args ≤ 65540 }
-    ensures { IfOk result (λ called. (kind : MechKind) → ∥ IsCarried world.old kind ∥₁
-        → InTime world.old now → (called ≡ true) × ∥ IsCalled world.new procedure args ∥₁) }
+    requires world { IsWorld (world_means world.old meaning) }
+    ensures world { IsWorld (world_means world.new meaning) }
+    ensures called { IfOk result (λ called. (kind : MechKind)
+        → ∥ IsCarried (shown world.old meaning) kind ∥₁
+        → InTime (shown world.old meaning) now → (called ≡ true)
+        × ∥ IsCalled (shown world.new meaning) procedure args ∥₁) }
 {
     tell_below();
     world.tell_calls();

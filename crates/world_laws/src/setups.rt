@@ -1,16 +1,16 @@
-//! What the types of a setup's parts say, as contracts over lists of setups need it.
+//! What the types of an initiator's facts say, as contracts over lists of facts need it.
 
 ghost use Rattle.std.specs.Prelude.{◌≡◌, ℕ, IfOk, map, slice_get, Option, Some, option_map, List};
 ghost use Rattle.base64.specs.GeneralPurpose.{IsBytes};
 ghost use Rattle.scram_mech.specs.Grammar.{AreOctets};
-ghost use Rattle.spnego_core.specs.Ends.{PlainSetup, setup_says};
+ghost use Rattle.spnego_core.specs.Ends.{PlainSetup, setup_of};
 ghost use Rattle.spnego_core.specs.declared.setup.MechCred.{MechCred as MechCredIs};
 ghost use Rattle.world_laws.specs.Setups.{IsSetup, IsSpelled};
 
 use ap_exchange::ApInit;
 use gss_base::Bindings;
 use sec_base::{Moment, NoMemory};
-use spnego_core::{InitSetup, MechCred};
+use spnego_core::{InitFacts, MechCred};
 use std::alloc::Global;
 
 /// Does nothing that stays: a request with this credential has a spelling.
@@ -33,7 +33,7 @@ fn tell_credential(
 }
 
 /// Does nothing that stays: requests with these credentials have a spelling.
-fn tell_credentials(alloc: Global, own: &InitSetup) -> Result<(), NoMemory>
+fn tell_credentials(alloc: Global, own: &InitFacts) -> Result<(), NoMemory>
     ensures { IfOk result (λ _. (i : ℕ) (cred : MechCredIs) → slice_get own.now.list i ≡ Some cred
         → IsSpelled cred own.now.stamp own.now.draws own.now.bindings) }
 {
@@ -74,22 +74,22 @@ fn tell_bindings(bindings: Option<&Bindings>)
     }
 }
 
-/// Does nothing that stays: the setup is one that its types allow.
-fn tell_setup(alloc: Global, own: &InitSetup) -> Result<(), NoMemory>
-    ensures { IfOk result (λ _. IsSetup (setup_says own.now)) }
+/// Does nothing that stays: the setup of these facts is one that their types allow.
+fn tell_setup(alloc: Global, own: &InitFacts) -> Result<(), NoMemory>
+    ensures { IfOk result (λ _. IsSetup (setup_of own.now)) }
 {
     tell_draws(&own.draws);
     tell_bindings(own.bindings.as_ref());
     tell_credentials(alloc, own)
 }
 
-/// Does nothing that stays: each setup is one that its types allow.
-pub(crate) fn tell_setups(alloc: Global, setups: &[InitSetup]) -> Result<(), NoMemory>
+/// Does nothing that stays: each setup of these facts is one that their types allow.
+pub(crate) fn tell_setups(alloc: Global, facts: &[InitFacts]) -> Result<(), NoMemory>
     ensures { IfOk result
-        (λ _. (i : ℕ) (own : PlainSetup) → slice_get (map setup_says setups.now) i ≡ Some own
+        (λ _. (i : ℕ) (own : PlainSetup) → slice_get (map setup_of facts.now) i ≡ Some own
         → IsSetup own) }
 {
-    for own in setups {
+    for own in facts {
         tell_setup(alloc, own)?;
     }
     Ok(())

@@ -1,7 +1,7 @@
 //! Where an initiator is.
 
 use gss_client::Session;
-use spnego_core::{InitEnd, InitSetup};
+use init_ends::{InitEnd, InitSetup};
 
 /// Where an initiator is.
 #[derive(Drop)]

@@ -3,31 +3,35 @@
 ghost use Rattle.std.specs.Prelude.{◌≡◌, ◌⊎◌, ◌≤◌, ℕ, [], ◌++◌, ◌∷◌, true, map, length, nat_le};
 ghost use Rattle.std.specs.Prelude.{replicate, slice_get, Option, Some, None, IsSome, IfOk, IsErr};
 ghost use Rattle.std.specs.Prelude.{Ok};
-ghost use Rattle.spnego_core.specs.Ends.{PlainSetup, setup_says};
+ghost use Rattle.spnego_core.specs.Ends.{PlainSetup, setup_of};
 ghost use Rattle.spnego_core.specs.InitMech.{is_own_list};
+ghost use Rattle.init_ends.specs.Ends.{setup_by};
+ghost use Rattle.init_ends.specs.Plain.{objects_of};
 ghost use Rattle.accept_book.specs.Booking.{BookOf};
-ghost use Rattle.world_laws.specs.Stages.{Ready, stage_says};
+ghost use Rattle.world_laws.specs.Stages.{Ready};
+ghost use Rattle.world_laws.specs.Objects as objects;
+ghost use Rattle.world_laws.specs.Objects.{StageMeans, stage_means, may_go};
+ghost use Rattle.world_laws.specs.ObjectMoves.{started_from, taken_from, called_from, of_stage};
+ghost use Rattle.world_laws.specs.ObjectMoves.{TurnsTo, CallsTo, Turns};
 ghost use Rattle.world_laws.specs.Events.{IsBook, IsProper};
-ghost use Rattle.world_laws.specs.Carrying.{RulesCalls};
-ghost use Rattle.world_laws.specs.Passing.{started_from, taken_from, called_from, of_stage};
-ghost use Rattle.world_laws.specs.Passing.{TurnsTo, CallsTo, Turns, hand_or, LaneTurns};
-ghost use Rattle.world_laws.specs.Parting.{parts_of, Passes};
+ghost use Rattle.world_laws.specs.Carrying.{RulesCalls, RulesAt};
+ghost use Rattle.world_laws.specs.Passing.{hand_or, LaneTurns};
+ghost use Rattle.world_laws.specs.Worlds.{parts_means, PassesBy, world_means, shown, IsWorld};
 ghost use Rattle.world_laws.specs.Turning.{happened_of};
 
 use crate::event::{Happened, WorldEvent};
-use crate::facts::InitFacts;
 use crate::initiators::{self, Moves};
 use crate::lanes::{self, InHand};
 use crate::laws::{prove_agreement, prove_origin, tell_below};
 use crate::setups::tell_setups;
 use crate::stage::Stage;
 use accept_book::OwnSeat;
-use gss_client::Session;
+use gss_client::{Session, prove_plain_creation};
+use init_ends::{InitSetup, prove_plain_law};
 use krb_derive::SealKeys;
 use sec_base::{Moment, NoMemory, Octets};
-use spnego_core::InitSetup;
+use spnego_core::InitFacts;
 use std::alloc::Global;
-use std::marker::Model;
 use std::mem;
 
 /// What a world is begun with.
@@ -35,8 +39,9 @@ use std::mem;
 pub struct WorldSetup {
     /// A book without entries.
     pub book: OwnSeat,
+    /// Initiators over the objects of Kerberos and SCRAM.
     pub initiators: Vec<InitSetup>,
-    /// The same as the initiators' setups, in their order.
+    /// What their objects are armed with, and what they are begun with, in their order.
     pub facts: Vec<InitFacts>,
     /// How many lanes there are.
     pub lanes: usize,
@@ -44,7 +49,7 @@ pub struct WorldSetup {
 
 /// Initiators, an acceptor's book, and lanes by which records come to it.
 ///
-/// Contracts see what it shows (`Shown`); each came of a run of events.
+/// Contracts see what it shows (`Shown`). Each world came of a run of events (`IsWorld`): so begins one, and so each event leaves it.
 #[derive(Drop)]
 pub struct World {
     facts: Vec<InitFacts>,
@@ -61,37 +66,11 @@ struct Parts {
     lanes: Vec<Option<InHand>>,
 }
 
-impl Model for World {
-    ghost use Rattle.std.specs.Prelude.{map};
-    ghost use Rattle.world_laws.specs.Showing.{Shown, setup_of, Ran};
-    ghost use Rattle.world_laws.specs.Stages.{stage_says};
-
-    ghost Value = { Shown };
-
-    ghost view = { λ w. record {
-      facts = map setup_of w.facts.items;
-      stages = map stage_says w.parts.stages.items;
-      book = w.parts.book;
-      lanes = w.parts.lanes.items;
-      events = w.events.items;
-    } };
-
-    ghost invariant = { λ w.
-        ∥ Ran (record {
-          facts = map setup_of w.facts.items;
-          stages = map stage_says w.parts.stages.items;
-          book =
-              w.parts.book;
-          lanes = w.parts.lanes.items;
-          events = w.events.items;
-        }) ∥₁ };
-}
-
 /// An initiator starts, if it wasn't started.
 fn start_from(alloc: Global, stage: Stage) -> Moves
-    requires { (own : PlainSetup) → stage_says stage ≡ Ready own → is_own_list own.list ≡ true }
-    ensures { TurnsTo (started_from (stage_says stage)) (happened_of result.happened)
-        (stage_says stage) (stage_says result.stage) }
+    requires { may_go (stage_means stage meaning) ≡ true }
+    ensures { TurnsTo (started_from (stage_means stage meaning)) (happened_of result.happened)
+        (stage_means stage meaning) (stage_means result.stage meaning) }
 {
     match stage {
         Stage::Ready(own) => initiators::start(alloc, own),
@@ -101,7 +80,7 @@ fn start_from(alloc: Global, stage: Stage) -> Moves
 
 /// There is nothing to be done.
 fn stays(stage: Stage) -> Moves
-    ensures stage { result.stage ≡ stage }
+    ensures stage { stage_means result.stage meaning ≡ stage_means stage meaning }
     ensures happened { result.happened ≡ Ok Happened.Nothing }
 {
     Moves {
@@ -112,9 +91,11 @@ fn stays(stage: Stage) -> Moves
 
 /// An initiator takes a reply, if a creation call of its own is out.
 fn deliver_from(alloc: Global, stage: Stage, bytes: &[u8], first: u32) -> Moves
-    requires { first ≤ 0x80000000 }
-    ensures { TurnsTo (taken_from first bytes.now (stage_says stage)) (happened_of result.happened)
-        (stage_says stage) (stage_says result.stage) }
+    requires first { first ≤ 0x80000000 }
+    requires ready { may_go (stage_means stage meaning) ≡ true }
+    ensures { TurnsTo (taken_from first bytes.now (stage_means stage meaning))
+        (happened_of result.happened) (stage_means stage meaning)
+        (stage_means result.stage meaning) }
 {
     match stage {
         Stage::Asks { xid, end } => initiators::take(alloc, first, xid, end, bytes),
@@ -126,7 +107,7 @@ fn deliver_from(alloc: Global, stage: Stage, bytes: &[u8], first: u32) -> Moves
 fn call_with(alloc: Global, session: Session, procedure: u32, args: &[u8]) -> Moves
     requires { length args.now ≤ 65540 }
     ensures { CallsTo (nat_le session.number 0x7fffffff) session procedure args.now
-        (stage_says result.stage) (happened_of result.happened) }
+        (stage_means result.stage meaning) (happened_of result.happened) }
 {
     if session.next_number() > 0x7fffffff {
         return stays(Stage::Stands(session));
@@ -137,8 +118,9 @@ fn call_with(alloc: Global, session: Session, procedure: u32, args: &[u8]) -> Mo
 /// An initiator calls, if its context stands and a number is left.
 fn call_from(alloc: Global, stage: Stage, procedure: u32, args: &[u8]) -> Moves
     requires { length args.now ≤ 65540 }
-    ensures { TurnsTo (called_from procedure args.now (stage_says stage))
-        (happened_of result.happened) (stage_says stage) (stage_says result.stage) }
+    ensures { TurnsTo (called_from procedure args.now (stage_means stage meaning))
+        (happened_of result.happened) (stage_means stage meaning)
+        (stage_means result.stage meaning) }
 {
     match stage {
         Stage::Stands(session) => call_with(alloc, session, procedure, args),
@@ -149,11 +131,13 @@ fn call_from(alloc: Global, stage: Stage, procedure: u32, args: &[u8]) -> Moves
 /// The initiator of this place starts.
 #[tactic(auto, using(crate::proofs::Turns::turned_at, crate::proofs::Turns::unturned_at))]
 fn start(alloc: Global, stages: &mut Vec<Stage>, i: usize) -> Result<Happened, NoMemory>
-    requires { (own : PlainSetup) → slice_get (map stage_says stages.old.items) i
-        ≡ Some (Ready own) → is_own_list own.list ≡ true }
-    ensures { Turns (of_stage started_from (slice_get (map stage_says stages.old.items) i)) i
-        (happened_of result) (map stage_says stages.old.items)
-        (map stage_says stages.new.items) }
+    requires { (stage : StageMeans)
+        → slice_get (map (λ s. stage_means s meaning) stages.old.items) i ≡ Some stage
+        → may_go stage ≡ true }
+    ensures { Turns (of_stage started_from
+        (slice_get (map (λ s. stage_means s meaning) stages.old.items) i)) i (happened_of result)
+        (map (λ s. stage_means s meaning) stages.old.items)
+        (map (λ s. stage_means s meaning) stages.new.items) }
 {
     if i >= stages.len() {
         return Ok(Happened::Nothing);
@@ -173,11 +157,14 @@ fn deliver(
     bytes: &[u8],
     first: u32,
 ) -> Result<Happened, NoMemory>
-    requires { first ≤ 0x80000000 }
-    ensures { Turns
-        (of_stage (taken_from first bytes.now) (slice_get (map stage_says stages.old.items) i)) i
-        (happened_of result) (map stage_says stages.old.items)
-        (map stage_says stages.new.items) }
+    requires first { first ≤ 0x80000000 }
+    requires ready { (stage : StageMeans)
+        → slice_get (map (λ s. stage_means s meaning) stages.old.items) i ≡ Some stage
+        → may_go stage ≡ true }
+    ensures { Turns (of_stage (taken_from first bytes.now)
+        (slice_get (map (λ s. stage_means s meaning) stages.old.items) i)) i (happened_of result)
+        (map (λ s. stage_means s meaning) stages.old.items)
+        (map (λ s. stage_means s meaning) stages.new.items) }
 {
     if i >= stages.len() {
         return Ok(Happened::Nothing);
@@ -198,10 +185,10 @@ fn call_by(
     args: &[u8],
 ) -> Result<Happened, NoMemory>
     requires { length args.now ≤ 65540 }
-    ensures { Turns
-        (of_stage (called_from procedure args.now) (slice_get (map stage_says stages.old.items) i))
-        i (happened_of result) (map stage_says stages.old.items)
-        (map stage_says stages.new.items) }
+    ensures { Turns (of_stage (called_from procedure args.now)
+        (slice_get (map (λ s. stage_means s meaning) stages.old.items) i)) i (happened_of result)
+        (map (λ s. stage_means s meaning) stages.old.items)
+        (map (λ s. stage_means s meaning) stages.new.items) }
 {
     if i >= stages.len() {
         return Ok(Happened::Nothing);
@@ -254,7 +241,7 @@ fn go_on(
 
 /// Does nothing that stays: what the calls of this session are answered.
 fn tell_ruled(stage: &Stage)
-    ensures { RulesCalls (Some (stage_says stage.now)) }
+    ensures { RulesAt (stage_means stage.now meaning) }
 {
     match stage {
         Stage::Stands(session) => {
@@ -276,11 +263,12 @@ fn tell_book(book: &Option<OwnSeat>)
 /// An event happens.
 fn happen(alloc: Global, parts: &mut Parts, event: WorldEvent) -> Result<Happened, NoMemory>
     requires proper { IsProper event }
-    requires lists { (i : ℕ) (own : PlainSetup)
-        → slice_get (map stage_says parts.old.stages.items) i ≡ Some (Ready own)
-        → is_own_list own.list ≡ true }
+    requires ready { (i : ℕ) (stage : StageMeans)
+        → slice_get (parts_means parts.old meaning).stages i ≡ Some stage
+        → may_go stage ≡ true }
     requires there { IsSome parts.old.book }
-    ensures { Passes event (happened_of result) (parts_of parts.old) (parts_of parts.new) }
+    ensures { PassesBy event (happened_of result) (parts_means parts.old meaning)
+        (parts_means parts.new meaning) }
 {
     match event {
         WorldEvent::Start { initiator } => start(alloc, &mut parts.stages, initiator),
@@ -361,14 +349,14 @@ impl WorldEvent {
 
 /// Stages of initiators that weren't started.
 fn ready(alloc: Global, initiators: Vec<InitSetup>) -> Result<Vec<Stage>, NoMemory>
-    ensures { IfOk result (λ stages. stages.items ≡ map Stage.Ready initiators.items) }
+    ensures { IfOk result (λ stages. map (λ s. stage_means s meaning) stages.items
+        ≡ map objects.Ready (map (λ own. setup_by own meaning) initiators.items)) }
 {
-    Ok(
-        initiators
-            .into_iter()
-            .map(|own| Stage::Ready(own))
-            .collect(alloc)?,
-    )
+    let mut stages = Vec::with_capacity(alloc, initiators.len())?;
+    for own in initiators {
+        stages.push(Stage::Ready(own))?;
+    }
+    Ok(stages)
 }
 
 /// So many lanes without a record.
@@ -386,22 +374,26 @@ impl World {
     ghost use Rattle.world_laws.specs.Events.{IsProper};
     ghost use Rattle.world_laws.specs.Setups.{IsSetup};
     ghost use Rattle.world_laws.specs.Promised.{Promised};
-    ghost use Rattle.world_laws.specs.Showing.{setup_of, Ran, Steps};
+    ghost use Rattle.world_laws.specs.Showing.{Ran, Steps};
 
-    /// A world before its first event. The book has no entry, and the facts are those of the initiators' setups, in their order.
+    /// A world before its first event. The book has no entry. Each initiator has the objects of Kerberos and SCRAM that are armed with the
+    /// credentials of the facts at its place, and the facts' bindings, moment and draws.
     pub fn new(alloc: Global, setup: WorldSetup) -> Result<World, NoMemory>
         requires empty { setup.book.core.history ≡ [] }
-        requires facts { map setup_of setup.facts.items ≡ map setup_says setup.initiators.items }
+        requires objects { map (λ own. setup_by own meaning) setup.initiators.items
+            ≡ map objects_of (map setup_of setup.facts.items) }
         requires lists { (i : ℕ) (own : PlainSetup)
-            → slice_get (map setup_says setup.initiators.items) i ≡ Some own
+            → slice_get (map setup_of setup.facts.items) i ≡ Some own
             → is_own_list own.list ≡ true }
+        ensures world { IfOk result (λ world. IsWorld (world_means world meaning)) }
         ensures facts { IfOk result
-            (λ world. world.facts ≡ map setup_says setup.initiators.items) }
-        ensures stages { IfOk result
-            (λ world. world.stages ≡ map Ready (map setup_says setup.initiators.items)) }
-        ensures book { IfOk result (λ world. world.book ≡ Some setup.book) }
-        ensures lanes { IfOk result (λ world. world.lanes ≡ replicate setup.lanes None) }
-        ensures events { IfOk result (λ world. world.events ≡ []) }
+            (λ world. (shown world meaning).facts ≡ map setup_of setup.facts.items) }
+        ensures stages { IfOk result (λ world. (shown world meaning).stages
+            ≡ map Ready (map setup_of setup.facts.items)) }
+        ensures book { IfOk result (λ world. (shown world meaning).book ≡ Some setup.book) }
+        ensures lanes { IfOk result
+            (λ world. (shown world meaning).lanes ≡ replicate setup.lanes None) }
+        ensures events { IfOk result (λ world. (shown world meaning).events ≡ []) }
     {
         let WorldSetup {
             book,
@@ -409,7 +401,7 @@ impl World {
             facts,
             lanes,
         } = setup;
-        tell_setups(alloc, initiators.as_slice())?;
+        tell_setups(alloc, facts.as_slice())?;
         book.setup().verifiers.told_lines();
         let _log = book.log();
         let stages = ready(alloc, initiators)?;
@@ -428,15 +420,17 @@ impl World {
 
     /// The events so far, the first one first. They made a run, from a world before its first event to one that shows this.
     pub fn events(&self) -> &[WorldEvent]
-        ensures events { result.now ≡ self.now.events }
-        ensures ran { ∥ Ran self.now ∥₁ }
+        requires { IsWorld (world_means self.now meaning) }
+        ensures events { result.now ≡ (shown self.now meaning).events }
+        ensures ran { ∥ Ran (shown self.now meaning) ∥₁ }
     {
         self.events.as_slice()
     }
 
     /// Does nothing that stays: what the calls of the first initiator's session are answered.
     pub(crate) fn tell_calls(&self)
-        ensures { RulesCalls (slice_get self.now.stages 0) }
+        requires { IsWorld (world_means self.now meaning) }
+        ensures { RulesCalls (slice_get (shown self.now meaning).stages 0) }
     {
         if let Some(stage) = self.parts.stages.get(0) {
             tell_ruled(stage);
@@ -448,13 +442,19 @@ impl World {
     /// Of every run that the events so far can have been, agreement and origin hold.
     pub fn step(&mut self, alloc: Global, event: WorldEvent) -> Result<Happened, NoMemory>
         requires proper { IsProper event }
-        ensures happened { IfOk result (λ happened. Steps event (Some happened) self.old self.new) }
-        ensures memory { IsErr result → (self.new ≡ self.old) ⊎ Steps event None self.old self.new }
-        ensures promised { Promised self.new }
+        requires world { IsWorld (world_means self.old meaning) }
+        ensures world { IsWorld (world_means self.new meaning) }
+        ensures happened { IfOk result (λ happened. Steps event (Some happened)
+            (shown self.old meaning) (shown self.new meaning)) }
+        ensures memory { IsErr result → (shown self.new meaning ≡ shown self.old meaning)
+            ⊎ Steps event None (shown self.old meaning) (shown self.new meaning) }
+        ensures promised { Promised (shown self.new meaning) }
     {
         prove_agreement();
         prove_origin();
         tell_below();
+        prove_plain_law();
+        prove_plain_creation();
         if self.events.reserve(1).is_err() {
             return Err(NoMemory);
         }

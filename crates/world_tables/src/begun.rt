@@ -1,14 +1,19 @@
 //! What a world of the tables is begun with: an acceptor that offers both mechanisms, an initiator whose list a row says, and a user by
 //! another password.
 
-ghost use Rattle.std.specs.Prelude.{◌≡◌, ◌∷◌, [], true, IfOk, IfSome};
+ghost use Rattle.std.specs.Prelude.{◌≡◌, ◌∷◌, [], true, map, replicate, IfOk, IfSome, None};
 ghost use Rattle.spnego_core.specs.InitMech.{is_own_list};
-ghost use Rattle.spnego_core.specs.Ends.{setup_says};
-ghost use Rattle.world_laws.specs.Showing.{setup_of};
+ghost use Rattle.spnego_core.specs.Ends.{setup_of};
+ghost use Rattle.init_ends.specs.Arming.{IsBlankPair};
+ghost use Rattle.init_ends.specs.Ends.{setup_means, setup_by};
+ghost use Rattle.init_ends.specs.Plain.{objects_of};
+ghost use Rattle.world_laws.specs.Worlds.{world_means, IsWorld};
 
 use accept_book::{Limits, OwnSeat};
+use init_ends::InitSetup;
+use mech_objects::Mech;
 use sec_base::{Items, Moment, NoMemory, Text};
-use spnego_core::{AcceptSetup, InitSetup, MechCred};
+use spnego_core::{AcceptSetup, MechCred};
 use std::alloc::Global;
 use table_setting::Setting;
 use world_laws::{InitFacts, World, WorldSetup};
@@ -61,39 +66,48 @@ fn login(alloc: Global, user: &str, password: &str) -> Result<MechCred, NoMemory
     }
 }
 
-/// What an initiator is begun with, and the same as the world remembers it.
+/// What an initiator is begun with, and what its objects are armed with, as the world remembers it.
 #[derive(Drop)]
 pub struct Begun {
     pub own: InitSetup,
     pub facts: InitFacts,
 }
 
-/// An initiator with this list at this moment, whose random octets are all this one.
+/// What an initiator with this list has at this moment, whose random octets are all this one.
+fn facts_of(list: Items<MechCred>, stamp: Moment, draw: u8) -> InitFacts
+    ensures { result ≡ record {
+      list = list;
+      bindings = None;
+      stamp = stamp;
+      draws = replicate 66 draw;
+    } }
+{
+    InitFacts {
+        list,
+        bindings: None,
+        stamp,
+        draws: [draw; 66],
+    }
+}
+
+/// An initiator with this list at this moment, whose random octets are all this one. `mechs` has one blank object of Kerberos and one of SCRAM.
 pub fn begin(
     alloc: Global,
+    mechs: Vec<Box<dyn Mech>>,
     list: Items<MechCred>,
     stamp: Moment,
     draw: u8,
 ) -> Result<Begun, NoMemory>
-    requires { is_own_list list ≡ true }
-    ensures same { IfOk result (λ begun. setup_of begun.facts ≡ setup_says begun.own) }
-    ensures own { IfOk result (λ begun. is_own_list begun.own.list ≡ true) }
+    requires blank { IsBlankPair (map meaning mechs.items) }
+    requires list { is_own_list list ≡ true }
+    ensures same { IfOk result
+        (λ begun. setup_means meaning begun.own ≡ objects_of (setup_of begun.facts)) }
+    ensures own { IfOk result (λ begun. is_own_list begun.facts.list ≡ true) }
 {
     let copy = copies(alloc, list.as_slice())?;
-    Ok(Begun {
-        own: InitSetup {
-            list,
-            bindings: None,
-            stamp,
-            draws: [draw; 66],
-        },
-        facts: InitFacts {
-            list: copy,
-            bindings: None,
-            stamp,
-            draws: [draw; 66],
-        },
-    })
+    let own = InitSetup::armed(alloc, mechs, facts_of(list, stamp, draw))?;
+    let facts = facts_of(copy, stamp, draw);
+    Ok(Begun { own, facts })
 }
 
 /// A book without contexts, of this acceptor.
@@ -109,7 +123,7 @@ pub fn book(alloc: Global, setup: AcceptSetup, start: Moment) -> Result<OwnSeat,
     OwnSeat::open(alloc, setup, limits, start)
 }
 
-/// What two initiators are begun with, and the same as the world remembers it.
+/// What two initiators are begun with, and what their objects are armed with.
 #[derive(Drop)]
 struct Pair {
     own: Vec<InitSetup>,
@@ -147,10 +161,11 @@ fn both(alloc: Global, first: Begun, second: Begun) -> Result<Pair, NoMemory>
 /// A world of this book, these initiators and two lanes.
 fn world_of(alloc: Global, book: OwnSeat, first: Begun, second: Begun) -> Result<World, NoMemory>
     requires empty { book.core.history ≡ [] }
-    requires first_same { setup_of first.facts ≡ setup_says first.own }
-    requires first_own { is_own_list first.own.list ≡ true }
-    requires second_same { setup_of second.facts ≡ setup_says second.own }
-    requires second_own { is_own_list second.own.list ≡ true }
+    requires first_same { setup_by first.own meaning ≡ objects_of (setup_of first.facts) }
+    requires first_own { is_own_list first.facts.list ≡ true }
+    requires second_same { setup_by second.own meaning ≡ objects_of (setup_of second.facts) }
+    requires second_own { is_own_list second.facts.list ≡ true }
+    ensures { IfOk result (λ world. IsWorld (world_means world meaning)) }
 {
     match both(alloc, first, second) {
         Ok(pair) => {
@@ -166,62 +181,34 @@ fn world_of(alloc: Global, book: OwnSeat, first: Begun, second: Begun) -> Result
     }
 }
 
-/// The initiator of another user.
-fn other(alloc: Global, start: Moment) -> Result<Begun, NoMemory>
-    ensures same { IfOk result (λ begun. setup_of begun.facts ≡ setup_says begun.own) }
-    ensures own { IfOk result (λ begun. is_own_list begun.own.list ≡ true) }
+/// The initiator of another user, by another password. `mechs` has one blank object of Kerberos and one of SCRAM.
+pub fn other(alloc: Global, mechs: Vec<Box<dyn Mech>>, start: Moment) -> Result<Begun, NoMemory>
+    requires { IsBlankPair (map meaning mechs.items) }
+    ensures same { IfOk result
+        (λ begun. setup_means meaning begun.own ≡ objects_of (setup_of begun.facts)) }
+    ensures own { IfOk result (λ begun. is_own_list begun.facts.list ≡ true) }
 {
     let login = login(alloc, "other", "q")?;
     let list = one(alloc, login)?;
-    begin(alloc, list, start, 9)
+    begin(alloc, mechs, list, start, 9)
 }
 
 /// A world of this acceptor and both initiators.
-fn begun_by(
+pub fn begun_by(
     alloc: Global,
     setup: AcceptSetup,
     first: Begun,
     second: Begun,
     start: Moment,
 ) -> Result<World, NoMemory>
-    requires first_same { setup_of first.facts ≡ setup_says first.own }
-    requires first_own { is_own_list first.own.list ≡ true }
-    requires second_same { setup_of second.facts ≡ setup_says second.own }
-    requires second_own { is_own_list second.own.list ≡ true }
+    requires first_same { setup_by first.own meaning ≡ objects_of (setup_of first.facts) }
+    requires first_own { is_own_list first.facts.list ≡ true }
+    requires second_same { setup_by second.own meaning ≡ objects_of (setup_of second.facts) }
+    requires second_own { is_own_list second.facts.list ≡ true }
+    ensures { IfOk result (λ world. IsWorld (world_means world meaning)) }
 {
     match book(alloc, setup, start) {
         Ok(book) => world_of(alloc, book, first, second),
-        Err(no_memory) => Err(no_memory),
-    }
-}
-
-/// A world of this acceptor, an initiator, and `other`.
-fn begun_beside(
-    alloc: Global,
-    setup: AcceptSetup,
-    first: Begun,
-    start: Moment,
-) -> Result<World, NoMemory>
-    requires first_same { setup_of first.facts ≡ setup_says first.own }
-    requires first_own { is_own_list first.own.list ≡ true }
-{
-    match other(alloc, start) {
-        Ok(second) => begun_by(alloc, setup, first, second, start),
-        Err(no_memory) => Err(no_memory),
-    }
-}
-
-/// A world of this acceptor, an initiator with this list, and `other`.
-fn begun_over(
-    alloc: Global,
-    setup: AcceptSetup,
-    list: Items<MechCred>,
-    start: Moment,
-) -> Result<World, NoMemory>
-    requires { is_own_list list ≡ true }
-{
-    match begin(alloc, list, start, 7) {
-        Ok(first) => begun_beside(alloc, setup, first, start),
         Err(no_memory) => Err(no_memory),
     }
 }
@@ -236,22 +223,20 @@ pub fn list_of(alloc: Global, setting: &Setting, letters: &str) -> Option<Items<
     }
 }
 
-/// A world at 1,000,000 seconds of this acceptor, whose initiator 0 has this list.
-fn world_with(alloc: Global, setup: AcceptSetup, list: Items<MechCred>) -> Option<World>
-    requires { is_own_list list ≡ true }
-{
-    match Moment::new(1_000_000, 0) {
-        Some(start) => begun_over(alloc, setup, list, start).ok(),
-        None => None,
-    }
+/// What a world is begun with beside its objects: the list of initiator 0, an acceptor, and the moment.
+#[derive(Drop)]
+pub struct Given {
+    pub list: Items<MechCred>,
+    pub setup: AcceptSetup,
+    pub start: Moment,
 }
 
-/// A world at 1,000,000 seconds whose initiator 0 has the credentials of a list's letters, and whose initiator 1 is the user by another
-/// password.
-pub fn world(alloc: Global, setting: &Setting, letters: &str) -> Option<World> {
+/// The same at 1,000,000 seconds, by the letters of the list; the acceptor offers both mechanisms.
+pub fn given_by(alloc: Global, setting: &Setting, letters: &str) -> Option<Given>
+    ensures { IfSome result (λ given. is_own_list given.list ≡ true) }
+{
     let list = list_of(alloc, setting, letters)?;
-    match setting.acceptor(alloc, "ks") {
-        Some(setup) => world_with(alloc, setup, list),
-        None => None,
-    }
+    let setup = setting.acceptor(alloc, "ks")?;
+    let start = Moment::new(1_000_000, 0)?;
+    Some(Given { list, setup, start })
 }

@@ -2,11 +2,14 @@
 
 ghost use Rattle.std.specs.Prelude.{◌≡◌, ◌∷◌, [], true, IfOk};
 ghost use Rattle.spnego_core.specs.InitMech.{is_own_list};
-ghost use Rattle.spnego_core.specs.Ends.{setup_says};
-ghost use Rattle.world_laws.specs.Showing.{setup_of};
+ghost use Rattle.spnego_core.specs.Ends.{setup_of};
+ghost use Rattle.init_ends.specs.Ends.{setup_by};
+ghost use Rattle.init_ends.specs.Plain.{objects_of};
+ghost use Rattle.world_laws.specs.Worlds.{world_means, IsWorld};
 
 use crate::begun::{Begun, begin, book, list_of};
 use accept_book::OwnSeat;
+use mech_objects::{KerberosMech, Mech, ScramMech};
 use sec_base::{Items, Moment, NoMemory, Octets};
 use spnego_core::{AcceptSetup, MechCred};
 use std::alloc::Global;
@@ -51,7 +54,9 @@ fn carry_over(
     world: &mut World,
     count: u64,
     now: Moment,
-) -> Result<Carried, NoMemory> {
+) -> Result<Carried, NoMemory>
+    requires { IsWorld (world_means world.old meaning) }
+{
     let draws = draws_of(alloc, count)?;
     let met = meet(alloc, world, now, draws.as_slice())?;
     let none = Octets::from_vec(Vec::new(alloc));
@@ -68,8 +73,8 @@ fn carry(
     now: Moment,
 ) -> Result<Carried, NoMemory>
     requires empty { book.core.history ≡ [] }
-    requires same { setup_of begun.facts ≡ setup_says begun.own }
-    requires own { is_own_list begun.own.list ≡ true }
+    requires same { setup_by begun.own meaning ≡ objects_of (setup_of begun.facts) }
+    requires own { is_own_list begun.facts.list ≡ true }
 {
     match (alone(alloc, begun.own), alone(alloc, begun.facts)) {
         (Ok(initiators), Ok(facts)) => {
@@ -88,7 +93,7 @@ fn carry(
     }
 }
 
-/// The same of an initiator with this list and of this acceptor, which begin at this moment.
+/// The same of an initiator with this list, by objects of its own, and of this acceptor, which begin at this moment.
 fn carry_between(
     alloc: Global,
     setup: AcceptSetup,
@@ -98,10 +103,12 @@ fn carry_between(
 ) -> Result<Carried, NoMemory>
     requires { is_own_list list ≡ true }
 {
-    match (book(alloc, setup, now), begin(alloc, list, now, 7)) {
-        (Ok(book), Ok(begun)) => carry(alloc, book, begun, count, now),
-        _ => Err(NoMemory),
-    }
+    let mut mechs: Vec<Box<dyn Mech>> = Vec::with_capacity(alloc, 2)?;
+    mechs.push_reserved(Box::new(alloc, KerberosMech::new(alloc))?);
+    mechs.push_reserved(Box::new(alloc, ScramMech::new(alloc))?);
+    let book = book(alloc, setup, now)?;
+    let begun = begin(alloc, mechs, list, now, 7)?;
+    carry(alloc, book, begun, count, now)
 }
 
 /// The same at 1,000,000 seconds, by the letters of the initiator's list and of the acceptor's offer.

@@ -1,12 +1,15 @@
 //! What happens in a world, one event after the other.
 
 ghost use Rattle.std.specs.Prelude.{◌≡◌, ◌≤◌, true, length};
+ghost use Rattle.spnego_core.specs.InitMech.{is_own_list};
 ghost use Rattle.accept_book.specs.Served.{are_args};
 ghost use Rattle.world_laws.specs.Events.{IsProper};
+ghost use Rattle.world_laws.specs.Worlds.{world_means, IsWorld};
 
-use crate::begun::world;
+use crate::begun::{Given, begin, begun_by, given_by, other};
+use mech_objects::{KerberosMech, Mech, ScramMech};
 use rpc_msgs::{Reply, read_reply};
-use sec_base::{Moment, Octets};
+use sec_base::{Moment, NoMemory, Octets};
 use std::alloc::Global;
 use table_rows::{Cells, Said};
 use table_setting::{Setting, octets_by_name, saying};
@@ -103,7 +106,9 @@ impl Run {
     }
 
     /// Says what came of an event; a record that was handed out is kept.
-    fn keep(&mut self, said: &mut Said, happened: Happened) {
+    fn keep(&mut self, said: &mut Said, happened: Happened)
+        ensures { self.new.world ≡ self.old.world }
+    {
         match happened {
             Happened::Sent(record) => match self.records.push(record) {
                 Ok(()) => said.word("Sent"),
@@ -126,7 +131,9 @@ impl Run {
 
     /// An event, and what came of it.
     fn step(&mut self, alloc: Global, said: &mut Said, event: WorldEvent)
-        requires { IsProper event }
+        requires proper { IsProper event }
+        requires world { IsWorld (world_means self.old.world meaning) }
+        ensures { IsWorld (world_means self.new.world meaning) }
     {
         self.steps = self.steps.saturating_add(1);
         match self.world.step(alloc, event) {
@@ -147,6 +154,8 @@ impl Run {
         requires served { procedure ≤ 4 }
         requires own { are_args procedure args.now ≡ true }
         requires fits { length args.now ≤ 65540 }
+        requires world { IsWorld (world_means self.old.world meaning) }
+        ensures { IsWorld (world_means self.new.world meaning) }
     {
         match Octets::of(alloc, args) {
             Ok(args) => {
@@ -162,17 +171,26 @@ impl Run {
     }
 
     /// A call of ECHO with `hi`.
-    fn echo(&mut self, alloc: Global, said: &mut Said, initiator: usize) {
+    fn echo(&mut self, alloc: Global, said: &mut Said, initiator: usize)
+        requires { IsWorld (world_means self.old.world meaning) }
+        ensures { IsWorld (world_means self.new.world meaning) }
+    {
         self.call(alloc, said, initiator, 1, b"\x00\x00\x00\x02hi\x00\x00");
     }
 
     /// A call of POST with `a`.
-    fn post(&mut self, alloc: Global, said: &mut Said, initiator: usize) {
+    fn post(&mut self, alloc: Global, said: &mut Said, initiator: usize)
+        requires { IsWorld (world_means self.old.world meaning) }
+        ensures { IsWorld (world_means self.new.world meaning) }
+    {
         self.call(alloc, said, initiator, 3, b"\x00\x00\x00\x01a\x00\x00\x00");
     }
 
     /// A call of an initiator, by its procedure's name.
-    fn named_call(&mut self, asked: &mut Cells<'_>, said: &mut Said, name: &str) {
+    fn named_call(&mut self, asked: &mut Cells<'_>, said: &mut Said, name: &str)
+        requires { IsWorld (world_means self.old.world meaning) }
+        ensures { IsWorld (world_means self.new.world meaning) }
+    {
         let (alloc, initiator) = (asked.alloc(), place(asked));
         match name {
             "null" => self.call(alloc, said, initiator, 0, &[]),
@@ -184,7 +202,10 @@ impl Run {
     }
 
     /// Octets that come to an initiator, `initiator:octets`.
-    fn deliver(&mut self, asked: &mut Cells<'_>, said: &mut Said, names: &str) {
+    fn deliver(&mut self, asked: &mut Cells<'_>, said: &mut Said, names: &str)
+        requires { IsWorld (world_means self.old.world meaning) }
+        ensures { IsWorld (world_means self.new.world meaning) }
+    {
         let initiator = place(asked);
         let bytes = self.carried(asked, names);
         self.step(
@@ -199,7 +220,10 @@ impl Run {
     }
 
     /// Octets that come to a lane, `lane:octets`; its random octets are all the number of the event.
-    fn lane(&mut self, asked: &mut Cells<'_>, said: &mut Said, names: &str) {
+    fn lane(&mut self, asked: &mut Cells<'_>, said: &mut Said, names: &str)
+        requires { IsWorld (world_means self.old.world meaning) }
+        ensures { IsWorld (world_means self.new.world meaning) }
+    {
         let lane = place(asked);
         let event = WorldEvent::Lane {
             lane,
@@ -211,7 +235,10 @@ impl Run {
     }
 
     /// An initiator starts.
-    fn start(&mut self, asked: &mut Cells<'_>, said: &mut Said) {
+    fn start(&mut self, asked: &mut Cells<'_>, said: &mut Said)
+        requires { IsWorld (world_means self.old.world meaning) }
+        ensures { IsWorld (world_means self.new.world meaning) }
+    {
         let initiator = place(asked);
         self.step(asked.alloc(), said, WorldEvent::Start { initiator });
     }
@@ -234,14 +261,19 @@ impl Run {
     }
 
     /// How many events the world has, and how many were made.
-    fn events(&self, said: &mut Said) {
+    fn events(&self, said: &mut Said)
+        requires { IsWorld (world_means self.now.world meaning) }
+    {
         said.number(self.world.events().len() as u64);
         said.join(":");
         said.number(self.steps as u64);
     }
 
     /// What comes of a step, which is an event or a look at what there is.
-    fn go(&mut self, asked: &mut Cells<'_>, said: &mut Said, names: &str) {
+    fn go(&mut self, asked: &mut Cells<'_>, said: &mut Said, names: &str)
+        requires { IsWorld (world_means self.old.world meaning) }
+        ensures { IsWorld (world_means self.new.world meaning) }
+    {
         match asked.word() {
             "events" => self.events(said),
             "start" => self.start(asked, said),
@@ -254,7 +286,10 @@ impl Run {
     }
 
     /// Says `step=answer` for a step that stands before its answer.
-    fn answer(&mut self, cells: &mut Cells<'_>, said: &mut Said, names: &str, part: &str) {
+    fn answer(&mut self, cells: &mut Cells<'_>, said: &mut Said, names: &str, part: &str)
+        requires { IsWorld (world_means self.old.world meaning) }
+        ensures { IsWorld (world_means self.new.world meaning) }
+    {
         let mut halves = Cells::new(cells.alloc(), part, '=');
         let step = halves.word();
         said.word(step);
@@ -266,7 +301,9 @@ impl Run {
 }
 
 /// Says `step=answer` for each step that is left of a row, in this world whose network has this record of its own.
-fn go_through(cells: &mut Cells<'_>, said: &mut Said, names: &str, world: World, own: Octets) {
+fn go_through(cells: &mut Cells<'_>, said: &mut Said, names: &str, world: World, own: Octets)
+    requires { IsWorld (world_means world meaning) }
+{
     let mut run = Run {
         world,
         steps: 0,
@@ -281,12 +318,41 @@ fn go_through(cells: &mut Cells<'_>, said: &mut Said, names: &str, world: World,
     }
 }
 
+/// The same in a world of this acceptor and two initiators: one with this list, and the user by another password, each over objects of its own.
+fn go_over(
+    names: &str,
+    cells: &mut Cells<'_>,
+    said: &mut Said,
+    given: Given,
+    own: Octets,
+) -> Result<(), NoMemory>
+    requires { is_own_list given.list ≡ true }
+{
+    let alloc = cells.alloc();
+    let mut mechs: Vec<Box<dyn Mech>> = Vec::with_capacity(alloc, 2)?;
+    mechs.push_reserved(Box::new(alloc, KerberosMech::new(alloc))?);
+    mechs.push_reserved(Box::new(alloc, ScramMech::new(alloc))?);
+    let mut others: Vec<Box<dyn Mech>> = Vec::with_capacity(alloc, 2)?;
+    others.push_reserved(Box::new(alloc, KerberosMech::new(alloc))?);
+    others.push_reserved(Box::new(alloc, ScramMech::new(alloc))?);
+    let Given { list, setup, start } = given;
+    let first = begin(alloc, mechs, list, start, 7)?;
+    let second = other(alloc, others, start)?;
+    let world = begun_by(alloc, setup, first, second, start)?;
+    go_through(cells, said, names, world, own);
+    Ok(())
+}
+
 /// Says `step=answer` for each step of a row, which begins with the letters of initiator 0's list and a record of the network's own.
 pub fn answer(setting: &Setting, names: &str, cells: &mut Cells<'_>, said: &mut Said) {
     let letters = cells.word();
     let own = Octets::from_vec(octets_by_name(cells, names));
-    match world(cells.alloc(), setting, letters) {
-        Some(world) => go_through(cells, said, names, world, own),
+    match given_by(cells.alloc(), setting, letters) {
+        Some(given) => {
+            if go_over(names, cells, said, given, own).is_err() {
+                said.starve();
+            }
+        }
         None => cells.expect(false),
     }
 }

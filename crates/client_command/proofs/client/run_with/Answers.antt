@@ -43,16 +43,16 @@ returns-in-Ok-clause-begins g c = record {
   ends = reported-begun c.speak-talk.result.parting c.report.ensures.kept;
 }
 
-pub returns-clause-begins : goal.returns-clause-begins
-returns-clause-begins g c = record {
+pub returns-in-Err-clause-begins : goal.returns-in-Err-clause-begins
+returns-in-Err-clause-begins g c = record {
   creds = Err c.in-Err.end;
   given = c.in-Err.ensures.read;
   ends = c.unspoken.ensures.end;
 }
 
-pub returns-clause-sink_fault : goal.returns-clause-sink_fault
-returns-clause-sink_fault g c = λ e. inr (c.unspoken.ensures.sink_fault e)
+pub returns-in-Err-clause-sink_fault : goal.returns-in-Err-clause-sink_fault
+returns-in-Err-clause-sink_fault g c = λ e. inr (c.unspoken.ensures.sink_fault e)
 
-pub returns-clause-ends : goal.returns-clause-ends
-returns-clause-ends g c = λ creds parting told due t so steady calm other.
+pub returns-in-Err-clause-ends : goal.returns-in-Err-clause-ends
+returns-in-Err-clause-ends g c = λ creds parting told due t so steady calm other.
     absurd (stops-never (c.in-Err.ensures.found told) due (λ u. steady (c.in-Err.ensures.fault u)) (λ e. other (c.unspoken.ensures.end ∙ e)))

@@ -1,4 +1,4 @@
-use Rattle.std.proofs.Common.{◌≡◌, ◌∙◌, ap, arith, Option, Some, None}
+use Rattle.std.proofs.Common.{◌≡◌, ◌∙◌, ap, sym, arith, Option, Some, None}
 use Rattle.drill_plan.specs.declared.words.Plan.{Plan}
 use Rattle.drill_plan.specs.Sessions.{session_count}
 use Rattle.drill_command.proofs.Chained.{held-by}
@@ -10,6 +10,9 @@ same-plan here there = cc
 
 none-some : {read : Option Plan} {one : Plan} → Some one ≡ read → read ≡ None → ⊥
 none-some here there = cc
+
+pub run_plan-requires-clause-mechs : goal.run_plan-requires-clause-mechs
+run_plan-requires-clause-mechs g c = c.requires c.in-Some.plan (sym c.in-Some.ensures.value)
 
 pub returns-in-Some-clause-usage : goal.returns-in-Some-clause-usage
 returns-in-Some-clause-usage g c = λ e. absurd (let is : c.run_plan.result.status ≡ 8 = c.run_plan.ensures.status (λ z. omega (arith, e)) (λ z. omega (arith, e)) in omega (arith, e, is))

@@ -1,8 +1,9 @@
 use Rattle.std.proofs.Common.{ℕ, ap, ◌∙◌}
+use Rattle.gss_client.specs.Start.{objects_start}
 use Rattle.drill_plan.specs.Generator.{octets_from}
 use Rattle.drill_plan.specs.Setting.{drill_start}
 use Rattle.drill_command.proofs.sessions.due_of.Goals as goal
 
 pub returns-in-Ok-clause-start : goal.returns-in-Ok-clause-start
-returns-in-Ok-clause-start c =
-    c.in-Ok.ensures.is ∙ ap (λ (m : ℕ). drill_start c.args.number m (octets_from 66 c.args.generators.now.client.value)) c.moment_of.ensures
+returns-in-Ok-clause-start g c =
+    c.in-Ok.ensures.is ∙ ap (λ (m : ℕ). objects_start (drill_start c.args.number m (octets_from 66 c.args.generators.now.client.value))) c.moment_of-stamp.ensures

@@ -1,31 +1,67 @@
-use Rattle.std.proofs.Common.{refl, arith, ◌∙◌, ap}
+use Rattle.std.proofs.Common.{◌∙◌, ◌≡◌, ◌+◌, ap, refl, arith, List, ◌∷◌, length, map}
+use Rattle.drill_plan.specs.Sessions.{session_count}
 use Rattle.drill_command.proofs.Chained.{held-more, value-more, all-held}
+use Rattle.drill_command.proofs.Objects.{objects_from, counted, first-objects, next-object, later-objects}
 use Rattle.drill_command.proofs.sessions.hold_all.Goals as goal
 
-pub loop-number-init : goal.loop-number-init
-loop-number-init c = record {
-  count = c.in_ok-course.ensures.count;
-  records = omega (arith, c.in_ok-course.ensures.records);
-  limits = c.in_ok-course.ensures.first.limits;
-  place = c.in_ok-course.ensures.place;
-  held = (c.in_ok-course.course.book, c.in_ok-course.ensures.first, (refl, c.in_ok-course.ensures.sessions));
-}
+pub loop-mech-init : goal.loop-mech-init
+loop-mech-init g c =
+    let rest = c.into_iter-mech-iterator.result.rest.items in
+    let all = ap (map (λ b. (goal.Mech-dyn g (b.vtable, b.value)).meaning b.value)) c.into_iter-mech-iterator.ensures.into_iter_gives.0 ∙ c.requires.mechs in
+    let many : length rest ≡ session_count c.args.plan.calls = counted (λ b. (goal.Mech-dyn g (b.vtable, b.value)).meaning b.value) rest (session_count c.args.plan.calls) all in
+    record {
+      can = tt;
+      ends = tt;
+      objects = first-objects (λ b. (goal.Mech-dyn g (b.vtable, b.value)).meaning b.value) rest (session_count c.args.plan.calls) all;
+      all = omega (arith, many);
+      count = c.in_ok-course.ensures.count;
+      records = omega (arith, c.in_ok-course.ensures.records);
+      limits = c.in_ok-course.ensures.first.limits;
+      place = c.in_ok-course.ensures.place;
+      held = (c.in_ok-course.course.book, c.in_ok-course.ensures.first, (refl, c.in_ok-course.ensures.sessions));
+    }
 
-pub loop-number-preserved : goal.loop-number-preserved
-loop-number-preserved c =
-    let i = c.loop-number.invariant in
-    let g = c.in_ok-course-2 in record {
-      count = omega (arith, g.ensures.count, i.count);
-      records = g.ensures.records;
-      limits = g.ensures.limits ∙ i.limits;
-      place = value-more c.args.plan.seed c.args.plan.calls c.loop-number.number _ _ _ c.calls_in.ensures i.place g.ensures.place;
-      held = (i.held.0, i.held.1, held-more c.args.plan.seed c.args.plan.calls c.loop-number.number _ _ _ i.held.0 _ _ _ _ c.calls_in.ensures i.place i.held.2 g.ensures.added);
+pub calls_in-count-requires-clause-number : goal.calls_in-count-requires-clause-number
+calls_in-count-requires-clause-number g c =
+    let many : length c.loop-mech.mech-iterator.rest.items ≡ length (c.in-Some.mech ∷ c.next.new.self.rest.items) = ap length c.in-Some.ensures.steps.0 in
+    omega (arith, many, c.loop-mech.invariant.all)
+
+pub go_on-requires-clause-few : goal.go_on-requires-clause-few
+go_on-requires-clause-few g c =
+    let many : length c.loop-mech.mech-iterator.rest.items ≡ length (c.in-Some.mech ∷ c.next.new.self.rest.items) = ap length c.in-Some.ensures.steps.0 in
+    omega (arith, many, c.loop-mech.invariant.count, c.loop-mech.invariant.all, c.requires.calls)
+
+pub go_on-requires-clause-number : goal.go_on-requires-clause-number
+go_on-requires-clause-number g c =
+    let many : length c.loop-mech.mech-iterator.rest.items ≡ length (c.in-Some.mech ∷ c.next.new.self.rest.items) = ap length c.in-Some.ensures.steps.0 in
+    omega (arith, many, c.loop-mech.invariant.all, c.requires.calls)
+
+pub go_on-requires-clause-blank : goal.go_on-requires-clause-blank
+go_on-requires-clause-blank g c =
+    next-object (λ b. (goal.Mech-dyn g (b.vtable, b.value)).meaning b.value) c.in-Some.mech c.next.new.self.rest.items c.loop-mech.number c.loop-mech.mech-iterator.rest.items c.in-Some.ensures.steps.0 c.loop-mech.invariant.objects
+
+pub loop-mech-preserved : goal.loop-mech-preserved
+loop-mech-preserved g c =
+    let i = c.loop-mech.invariant in
+    let made = c.in_ok-course-2 in
+    let many : length c.loop-mech.mech-iterator.rest.items ≡ length (c.in-Some.mech ∷ c.next.new.self.rest.items) = ap length c.in-Some.ensures.steps.0 in
+    record {
+      can = tt;
+      ends = tt;
+      objects = later-objects (λ b. (goal.Mech-dyn g (b.vtable, b.value)).meaning b.value) c.in-Some.mech c.next.new.self.rest.items c.loop-mech.number c.loop-mech.mech-iterator.rest.items c.in-Some.ensures.steps.0 i.objects;
+      all = omega (arith, many, i.all);
+      count = omega (arith, made.ensures.count, i.count);
+      records = made.ensures.records;
+      limits = made.ensures.limits ∙ i.limits;
+      place = value-more c.args.plan.seed c.args.plan.calls c.loop-mech.number _ _ _ c.calls_in-count.ensures i.place made.ensures.place;
+      held = (i.held.0, i.held.1, held-more c.args.plan.seed c.args.plan.calls c.loop-mech.number _ _ _ i.held.0 _ _ _ _ c.calls_in-count.ensures i.place i.held.2 made.ensures.added);
     }
 
 pub returns-clause-limits : goal.returns-clause-limits
-returns-clause-limits c = rw (c.into_log.ensures.width, c.into_log.ensures.limit, c.into_log.ensures.contexts, c.into_log.ensures.marks) c.loop-number.invariant.limits
+returns-clause-limits g c = rw (c.into_log.ensures.width, c.into_log.ensures.limit, c.into_log.ensures.contexts, c.into_log.ensures.marks) c.loop-mech.invariant.limits
 
 pub returns-clause-held : goal.returns-clause-held
-returns-clause-held c =
-    let i = c.loop-number.invariant in
-    all-held c.args.plan.seed c.args.plan.calls c.loop-number.number i.held.0 _ _ _ c.requires (omega (arith, c.loop-number-test.false)) i.held.1 i.held.2 c.into_log.ensures.entries
+returns-clause-held g c =
+    let i = c.loop-mech.invariant in
+    let done : c.loop-mech.number ≡ session_count c.args.plan.calls = omega (arith, i.all, c.in-None.ensures.steps.0) in
+    all-held c.args.plan.seed c.args.plan.calls c.loop-mech.number i.held.0 _ _ _ c.requires.calls done i.held.1 i.held.2 c.into_log.ensures.entries

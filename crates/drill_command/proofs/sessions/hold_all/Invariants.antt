@@ -1,12 +1,18 @@
-use Rattle.std.proofs.Common.{◌≡◌, ◌≤◌, ◌*◌, vec_len}
+use Rattle.std.proofs.Common.{◌≡◌, ◌≤◌, ◌+◌, ◌*◌, vec_len, length, map}
 use Rattle.accept_book.specs.Booking.{BookOf}
 use Rattle.drill_command.specs.Chained.{IsFirst, AreHeld}
 use Rattle.drill_command.specs.Drilled.{value_before}
 use Rattle.drill_plan.specs.Limits.{book_limits, drill_limits}
+use Rattle.drill_plan.specs.Sessions.{session_count}
+use Rattle.drill_command.proofs.Objects.{objects_from}
 use Rattle.drill_command.proofs.sessions.hold_all.Given as goal
 
-abbrev pub invariant-loop-number : goal.invariant-loop-number
-invariant-loop-number l = record {
+abbrev pub invariant-loop-mech : goal.invariant-loop-mech
+invariant-loop-mech g l = record {
+  can : (goal.iterator-loop-mech g).can_next l.mech-iterator;
+  ends : (goal.iterator-loop-mech g).is_finite l.mech-iterator;
+  objects : map (λ b. (goal.Mech-dyn g (b.vtable, b.value)).meaning b.value) l.mech-iterator.rest.items ≡ objects_from l.number (length l.mech-iterator.rest.items);
+  all : l.number + length l.mech-iterator.rest.items ≡ session_count l.fn.plan.calls;
   count : vec_len l.course.sessions ≡ l.number;
   records : l.course.records ≤ vec_len l.course.sessions * 18446744073709551616;
   limits : book_limits l.course.book ≡ drill_limits;

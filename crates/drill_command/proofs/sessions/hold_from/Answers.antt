@@ -9,19 +9,24 @@ use Rattle.gss_client.specs.declared.conversation.Parting.{Parting}
 use Rattle.gss_client.specs.declared.conversation.Parting.TheVariants.{Finished, Spent, Foreign, Refused}
 use Rattle.gss_client.specs.declared.refusal.ClientRefusal.{ClientRefusal}
 use Rattle.gss_client.specs.declared.refusal.ClientRefusal.TheVariants.{LinkFault}
-use Rattle.gss_client.specs.Start.{StartSays}
+use Rattle.gss_client.specs.Session.{SessionState}
+use Rattle.gss_client.specs.Talk.{created_from}
+use Rattle.gss_client.specs.Talking.{Talking}
 use Rattle.gss_server.specs.declared.answer.Kept.{Kept}
 use Rattle.gate_models.specs.Looping.{Loops}
 use Rattle.pair_laws.specs.Conferring.{DueCall}
-use Rattle.pair_laws.specs.Holding.{TalkedOf}
-use Rattle.drill_command.specs.Held.{early_end, Holds}
+use Rattle.pair_laws.specs.Holding.{TalkedBehind}
+use Rattle.drill_command.specs.Held.{early_end, HoldsBehind}
 use Rattle.drill_command.proofs.sessions.hold_from.Goals as goal
 
-held : (gained : List Asked → Type 0) (width moment : ℕ) (start : StartSays) (wanted : List DueCall) (kept : List Kept) (starved : Bool) (outcome : Option Outcome) (results : List (List ℕ)) (ended : Option ClientRefusal) (wire : Wire) (parting : Parting) → TalkedOf false [] [] start wanted (record { taken = []; coming = []; written = [] }) wire outcome results parting → ended ≡ early_end parting → Loops gained width moment wire kept starved → Holds gained width moment start wanted kept starved outcome results ended
-held gained width moment start wanted kept starved outcome results ended wire parting t e l = record { wire = wire; parting = parting; talked = t; ends = e; looped = l }
+held : (gained : List Asked → Type 0) (width moment : ℕ) (creation : Talking SessionState) (wanted : List DueCall) (kept : List Kept) (starved : Bool) (outcome : Option Outcome) (results : List (List ℕ)) (ended : Option ClientRefusal) (wire : Wire) (parting : Parting) → TalkedBehind false [] [] creation wanted (record { taken = []; coming = []; written = [] }) wire outcome results parting → ended ≡ early_end parting → Loops gained width moment wire kept starved → HoldsBehind gained width moment creation wanted kept starved outcome results ended
+held gained width moment creation wanted kept starved outcome results ended wire parting t e l = record { wire = wire; parting = parting; talked = t; ends = e; looped = l }
 
 pub returns-clause-held : goal.returns-clause-held
 returns-clause-held g c = ∥∥₁_map c.into_parts-book.ensures.looped (λ p. held _ _ _ _ _ _ _ _ _ _ _ _ (rw c.in_ok-link.ensures.wire at c.hold_calls-talk.ensures.told refl) c.early_end-ended.ensures (rw (c.requires.width, ← c.requires.moment, ← c.starved-starved.ensures) at p))
+
+pub returns-clause-plain : goal.returns-clause-plain
+returns-clause-plain g c = λ own same. ∥∥₁_map c.into_parts-book.ensures.looped (λ p. held _ _ _ (created_from own) _ _ _ _ _ _ _ _ (rw c.in_ok-link.ensures.wire at c.hold_calls-talk.ensures.plain own same refl) c.early_end-ended.ensures (rw (c.requires.width, ← c.requires.moment, ← c.starved-starved.ensures) at p))
 
 -- a session that a fault ended parted by it
 same-refusal : (one other : ClientRefusal) → Some one ≡ Some other → one ≡ other

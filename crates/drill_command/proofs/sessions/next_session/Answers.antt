@@ -1,19 +1,19 @@
-use Rattle.std.proofs.Common.{◌≡◌, ℕ, ap, sym, ◌∙◌}
-use Rattle.gss_client.specs.Start.{StartSays, start_says}
+use Rattle.std.proofs.Common.{◌≡◌, ℕ, ap, refl, sym, ◌∙◌}
+use Rattle.gss_client.specs.Start.{StartSays, objects_start}
 use Rattle.drill_plan.specs.Generator.{octets_from}
 use Rattle.drill_plan.specs.Setting.{drill_start}
 use Rattle.drill_command.proofs.Rested.{next-of, pairs-of}
 use Rattle.drill_command.proofs.sessions.next_session.Goals as goal
 
 pub returns-in-Ok-prove_paired-clause-next : goal.returns-in-Ok-prove_paired-clause-next
-returns-in-Ok-prove_paired-clause-next c = λ fed client.
+returns-in-Ok-prove_paired-clause-next g c = λ fed client.
     let h = c.in_ok-held.held in
     let e = c.in_ok-held.ensures in
     let now = c.moment_of-now.ensures in
-    let start : StartSays = start_says c.in-Ok.due.1 in
     let draws = octets_from 66 c.args.generators.now.client.value in
-    let begun : start ≡ drill_start c.args.number c.moment_of-now.result draws = c.in-Ok.ensures.start ∙ ap (λ (m : ℕ). drill_start c.args.number m draws) (sym now) in
+    let start : StartSays = drill_start c.args.number c.moment_of-now.result draws in
+    let same = c.in-Ok.ensures.start ∙ ap (λ (m : ℕ). objects_start (drill_start c.args.number m draws)) (sym now) in
     next-of c.args.number c.args.count _ c.moment_of-now.result _ start c.as_slice.result.now c.args.book h.book h.kept.items h.session
-    c.requires.number c.requires.limits now (ap (λ (x : StartSays). x.setup.stamp) begun) (ap (λ (x : StartSays). x.service) begun) begun (c.as_slice.ensures.value ∙ c.in-Ok.ensures.calls)
-    (pairs-of c.args.number c.moment_of-now.result _ start c.as_slice-2.result.now h.kept.items now begun e.moments e.octets c.as_slice-2.ensures.value c.in-Ok-prove_paired.ensures)
-    (e.rests fed client)
+    c.requires.number c.requires.limits now refl refl refl (c.as_slice.ensures.value ∙ c.in-Ok.ensures.calls)
+    (pairs-of c.args.number c.moment_of-now.result _ start c.as_slice-2.result.now h.kept.items now refl e.moments e.octets c.as_slice-2.ensures.value c.in-Ok-prove_paired.ensures)
+    (e.rests start same fed client)

@@ -2,25 +2,32 @@ use Rattle.std.proofs.Common.{arith, ◌∙◌, subst, List, ℕ}
 use Rattle.std.proofs.Math.Logic.{∥∥₁_elim, ∥∥₁_map}
 use Rattle.std.proofs.Props.{props}
 use Rattle.std.proofs.lemmas.Option.{slice_get-get_or}
+use Rattle.world_laws.specs.Worlds.{shown}
 use Rattle.world_laws.proofs.MetWhole.{Carrying, starts, turned, drop-one, drop-whole, is-completed, is-carried}
 use Rattle.world_laws.proofs.meeting.meet.Goals as goal
 
 pub loop-drawn-init : goal.loop-drawn-init
-loop-drawn-init c = λ book lanes start m. ∥∥₁_map c.events-events.ensures.ran (λ ran.
-    starts c.args.world.now c.step.new.self book lanes c.args.now c.args.draws.now start m ran c.in_ok-last.last c.in_ok-last.ensures.happened)
+loop-drawn-init g c = (
+  c.step.ensures.world,
+  λ book lanes start m. ∥∥₁_map c.events-events.ensures.ran (λ ran.
+      starts (shown c.args.world.now (λ b. (goal.Mech-dyn g b).meaning b.1)) (shown c.step.new.self (λ b. (goal.Mech-dyn g b).meaning b.1)) book lanes c.args.now c.args.draws.now start m ran c.in_ok-last.last c.in_ok-last.ensures.happened),
+)
 
 pub loop-drawn-preserved : goal.loop-drawn-preserved
-loop-drawn-preserved c = λ book lanes start m. ∥∥₁_map (c.loop-drawn.invariant book lanes start m) (λ k.
-    turned m.kind c.args.now _ _ c.loop-drawn.last c.in_ok-last-2.last c.loop-drawn.world c.turn.new.world
-    (subst (λ (rest : List (List ℕ)). Carrying m.kind c.args.now rest c.loop-drawn.last c.loop-drawn.world)
-    (drop-one c.args.draws.now c.loop-drawn.drawn-index _ (slice_get-get_or c.args.draws.now c.loop-drawn.drawn-index _ c.loop-drawn-test.true)) k)
-    c.in_ok-last-2.ensures)
+loop-drawn-preserved g c = (
+  c.turn.ensures.world,
+  λ book lanes start m. ∥∥₁_map (c.loop-drawn.invariant.1 book lanes start m) (λ k.
+      turned m.kind c.args.now _ _ c.loop-drawn.last c.in_ok-last-2.last (shown c.loop-drawn.world (λ b. (goal.Mech-dyn g b).meaning b.1)) (shown c.turn.new.world (λ b. (goal.Mech-dyn g b).meaning b.1))
+      (subst (λ (rest : List (List ℕ)). Carrying m.kind c.args.now rest c.loop-drawn.last (shown c.loop-drawn.world (λ b. (goal.Mech-dyn g b).meaning b.1)))
+      (drop-one c.args.draws.now c.loop-drawn.drawn-index _ (slice_get-get_or c.args.draws.now c.loop-drawn.drawn-index _ c.loop-drawn-test.true)) k)
+      c.in_ok-last-2.ensures.turn),
+)
 
-pub returns : goal.returns
-returns c = λ book lanes start m.
+pub returns-clause-met : goal.returns-clause-met
+returns-clause-met g c = λ book lanes start m.
     let whole = drop-whole c.args.draws.now c.loop-drawn.drawn-index (omega (arith, c.loop-drawn-test.false, c.loop-drawn.auto.drawn-index-end)) in (
-      ∥∥₁_elim (c.loop-drawn.invariant book lanes start m) (search props) (λ k.
-          c.is_completed.ensures ∙ is-completed m.kind c.args.now c.loop-drawn.last c.loop-drawn.world (subst (λ (rest : List (List ℕ)). Carrying m.kind c.args.now rest c.loop-drawn.last c.loop-drawn.world) whole k)),
-      ∥∥₁_map (c.loop-drawn.invariant book lanes start m) (λ k.
-          is-carried m.kind c.args.now c.loop-drawn.last c.loop-drawn.world (subst (λ (rest : List (List ℕ)). Carrying m.kind c.args.now rest c.loop-drawn.last c.loop-drawn.world) whole k)),
+      ∥∥₁_elim (c.loop-drawn.invariant.1 book lanes start m) (search props) (λ k.
+          c.is_completed.ensures ∙ is-completed m.kind c.args.now c.loop-drawn.last (shown c.loop-drawn.world (λ b. (goal.Mech-dyn g b).meaning b.1)) (subst (λ (rest : List (List ℕ)). Carrying m.kind c.args.now rest c.loop-drawn.last (shown c.loop-drawn.world (λ b. (goal.Mech-dyn g b).meaning b.1))) whole k)),
+      ∥∥₁_map (c.loop-drawn.invariant.1 book lanes start m) (λ k.
+          is-carried m.kind c.args.now c.loop-drawn.last (shown c.loop-drawn.world (λ b. (goal.Mech-dyn g b).meaning b.1)) (subst (λ (rest : List (List ℕ)). Carrying m.kind c.args.now rest c.loop-drawn.last (shown c.loop-drawn.world (λ b. (goal.Mech-dyn g b).meaning b.1))) whole k)),
     )

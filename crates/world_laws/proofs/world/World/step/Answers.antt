@@ -1,37 +1,37 @@
 use Rattle.std.proofs.Common.{map}
-use Rattle.std.proofs.Props.{props}
-use Rattle.std.proofs.Math.Logic.{∥∥₁_elim, ∥∥₁_map}
-use Rattle.world_laws.specs.Showing.{setup_of}
-use Rattle.world_laws.specs.Parting.{parts_of}
+use Rattle.spnego_core.specs.Ends.{setup_of}
 use Rattle.world_laws.specs.Turning.{happened_of}
-use Rattle.world_laws.proofs.Stepping.{shown-with, ran-lists, ran-book, ran-more, steps-of, steps-from, more-items, told-ok, told-err}
+use Rattle.world_laws.specs.Worlds.{parts_means, world_means, shown, shown_by}
+use Rattle.world_laws.proofs.AllAsCredentials.{world-with, stepped, may-all}
+use Rattle.world_laws.proofs.Stepping.{ran-book, more-items, told-ok, told-err}
 use Rattle.world_laws.proofs.world.World.step.Goals as goal
 
 pub happen-happened-requires : goal.happen-happened-requires
-happen-happened-requires c = record {
+happen-happened-requires g c = record {
   proper = c.requires.proper;
-  lists = λ i own there. ∥∥₁_elim c.self.invariant (search props) (λ ran. ran-lists c.tell_below.ensures (shown-with (map setup_of c.self.inside.facts.items) (parts_of c.self.inside.parts) c.self.inside.events.items) ran i own there);
-  there = ∥∥₁_elim c.self.invariant (search props) (λ ran. ran-book (shown-with (map setup_of c.self.inside.facts.items) (parts_of c.self.inside.parts) c.self.inside.events.items) ran);
+  ready = may-all c.tell_below.ensures c.prove_plain_law.ensures (world_means c.args.self.now (λ b. (goal.Mech-dyn g b).meaning b.1)) c.requires.world;
+  there = ran-book (shown c.args.self.now (λ b. (goal.Mech-dyn g b).meaning b.1)) c.requires.world.ran;
 }
 
-pub invariant_of-self-2 : goal.invariant_of-self-2
-invariant_of-self-2 c = ∥∥₁_map c.self.invariant (λ ran.
-    ran-more c.args.event (happened_of c.happen-happened.result) (shown-with (map setup_of c.self.inside.facts.items) (parts_of c.self.inside.parts) c.self.inside.events.items) (shown-with (map setup_of c.self.inside.facts.items) (parts_of c.happen-happened.new.parts) c.push_reserved.new.self.items)
-    (steps-of c.args.event (happened_of c.happen-happened.result) (map setup_of c.self.inside.facts.items) (parts_of c.self.inside.parts) (parts_of c.happen-happened.new.parts)
-    c.self.inside.events.items c.push_reserved.new.self.items c.requires.proper c.tell_book.ensures c.happen-happened.ensures
-    (more-items c.push_reserved.new.self.items c.reserve.new.self.items c.self.inside.events.items c.in_ok-kept.kept c.args.event c.push_reserved.ensures.items c.reserve.ensures.items c.in_ok-kept.ensures))
-    ran)
+pub returns-clause-world : goal.returns-clause-world
+returns-clause-world g c =
+    (stepped c.tell_below.ensures c.prove_plain_law.ensures c.prove_plain_creation.ensures c.args.event (happened_of c.happen-happened.result) (map setup_of c.args.self.now.facts.items)
+    (parts_means c.args.self.now.parts (λ b. (goal.Mech-dyn g b).meaning b.1)) (parts_means c.happen-happened.new.parts (λ b. (goal.Mech-dyn g b).meaning b.1)) c.args.self.now.events.items c.push_reserved.new.self.items
+    c.requires.proper c.tell_book.ensures c.requires.world c.happen-happened.ensures
+    (more-items c.push_reserved.new.self.items c.reserve.new.self.items c.args.self.now.events.items c.in_ok-kept.kept c.args.event c.push_reserved.ensures.items c.reserve.ensures.items c.in_ok-kept.ensures)).world
 
 pub returns-clause-happened : goal.returns-clause-happened
-returns-clause-happened c = told-ok c.args.event c.happen-happened.result c.args.self.now (shown-with (map setup_of c.self.inside.facts.items) (parts_of c.happen-happened.new.parts) c.push_reserved.new.self.items)
-    (steps-from c.args.event (happened_of c.happen-happened.result) (shown-with (map setup_of c.self.inside.facts.items) (parts_of c.self.inside.parts) c.self.inside.events.items) c.args.self.now (shown-with (map setup_of c.self.inside.facts.items) (parts_of c.happen-happened.new.parts) c.push_reserved.new.self.items) c.self.view_is
-    (steps-of c.args.event (happened_of c.happen-happened.result) (map setup_of c.self.inside.facts.items) (parts_of c.self.inside.parts) (parts_of c.happen-happened.new.parts)
-    c.self.inside.events.items c.push_reserved.new.self.items c.requires.proper c.tell_book.ensures c.happen-happened.ensures
-    (more-items c.push_reserved.new.self.items c.reserve.new.self.items c.self.inside.events.items c.in_ok-kept.kept c.args.event c.push_reserved.ensures.items c.reserve.ensures.items c.in_ok-kept.ensures)))
+returns-clause-happened g c = told-ok c.args.event c.happen-happened.result (shown c.args.self.now (λ b. (goal.Mech-dyn g b).meaning b.1))
+    (shown_by (world-with (map setup_of c.args.self.now.facts.items) (parts_means c.happen-happened.new.parts (λ b. (goal.Mech-dyn g b).meaning b.1)) c.push_reserved.new.self.items))
+    (stepped c.tell_below.ensures c.prove_plain_law.ensures c.prove_plain_creation.ensures c.args.event (happened_of c.happen-happened.result) (map setup_of c.args.self.now.facts.items)
+    (parts_means c.args.self.now.parts (λ b. (goal.Mech-dyn g b).meaning b.1)) (parts_means c.happen-happened.new.parts (λ b. (goal.Mech-dyn g b).meaning b.1)) c.args.self.now.events.items c.push_reserved.new.self.items
+    c.requires.proper c.tell_book.ensures c.requires.world c.happen-happened.ensures
+    (more-items c.push_reserved.new.self.items c.reserve.new.self.items c.args.self.now.events.items c.in_ok-kept.kept c.args.event c.push_reserved.ensures.items c.reserve.ensures.items c.in_ok-kept.ensures)).steps
 
 pub returns-clause-memory : goal.returns-clause-memory
-returns-clause-memory c = told-err c.args.event c.happen-happened.result c.args.self.now (shown-with (map setup_of c.self.inside.facts.items) (parts_of c.happen-happened.new.parts) c.push_reserved.new.self.items)
-    (steps-from c.args.event (happened_of c.happen-happened.result) (shown-with (map setup_of c.self.inside.facts.items) (parts_of c.self.inside.parts) c.self.inside.events.items) c.args.self.now (shown-with (map setup_of c.self.inside.facts.items) (parts_of c.happen-happened.new.parts) c.push_reserved.new.self.items) c.self.view_is
-    (steps-of c.args.event (happened_of c.happen-happened.result) (map setup_of c.self.inside.facts.items) (parts_of c.self.inside.parts) (parts_of c.happen-happened.new.parts)
-    c.self.inside.events.items c.push_reserved.new.self.items c.requires.proper c.tell_book.ensures c.happen-happened.ensures
-    (more-items c.push_reserved.new.self.items c.reserve.new.self.items c.self.inside.events.items c.in_ok-kept.kept c.args.event c.push_reserved.ensures.items c.reserve.ensures.items c.in_ok-kept.ensures)))
+returns-clause-memory g c = told-err c.args.event c.happen-happened.result (shown c.args.self.now (λ b. (goal.Mech-dyn g b).meaning b.1))
+    (shown_by (world-with (map setup_of c.args.self.now.facts.items) (parts_means c.happen-happened.new.parts (λ b. (goal.Mech-dyn g b).meaning b.1)) c.push_reserved.new.self.items))
+    (stepped c.tell_below.ensures c.prove_plain_law.ensures c.prove_plain_creation.ensures c.args.event (happened_of c.happen-happened.result) (map setup_of c.args.self.now.facts.items)
+    (parts_means c.args.self.now.parts (λ b. (goal.Mech-dyn g b).meaning b.1)) (parts_means c.happen-happened.new.parts (λ b. (goal.Mech-dyn g b).meaning b.1)) c.args.self.now.events.items c.push_reserved.new.self.items
+    c.requires.proper c.tell_book.ensures c.requires.world c.happen-happened.ensures
+    (more-items c.push_reserved.new.self.items c.reserve.new.self.items c.args.self.now.events.items c.in_ok-kept.kept c.args.event c.push_reserved.ensures.items c.reserve.ensures.items c.in_ok-kept.ensures)).steps
