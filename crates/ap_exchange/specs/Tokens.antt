@@ -1,5 +1,6 @@
--- Context tokens of Kerberos, RFC 4121 section 4.1: the frame of RFC 2743 section 3.1 with
--- Kerberos's object identifier, and in it two octets that tell what the token is, then the message.
+-- Context tokens of Kerberos, RFC 4121 section 4.1: the frame of RFC 2743 section 3.1 with one of
+-- Kerberos's two object identifiers, and in it two octets that tell what the token is, then the
+-- message. What we write has Kerberos's own.
 use Rattle.std.specs.Prelude.{ℕ, ◌-◌, Bool, false, ◌==◌, ◌&&◌, if◌then◌else◌, List, [], ◌∷◌, length}
 use Rattle.std.specs.Prelude.{drop, Option, Some, None, Result, Ok, Err}
 use Rattle.gss_base.specs.declared.mech.MechKind.{MechKind}
@@ -18,7 +19,7 @@ abbrev pub is_kerberos_kind : Option MechKind → Bool
 is_kerberos_kind None = false
 is_kerberos_kind (Some kind) = is_kerberos kind
 
--- whether an object identifier's content names Kerberos
+-- whether an object identifier's content names Kerberos, under either of its names
 abbrev pub names_kerberos : List ℕ → Bool
 names_kerberos content = is_kerberos_kind (mech_of content)
 

@@ -23,7 +23,7 @@ pub const AP_REP: u8 = 2;
 /// The first octet of what stands in the frame of an error.
 pub const ERROR: u8 = 3;
 
-/// Whether an object identifier is Kerberos's.
+/// Whether an object identifier is one of Kerberos's two.
 fn names_kerberos(oid: &Oid) -> bool
     ensures { result ≡ names_kerberos oid.now }
 {

@@ -1,8 +1,8 @@
 -- What both commands have, each found by computation.
-use Rattle.std.proofs.Common.{◌≡◌, ℕ, true, false, List, [], ◌∷◌, Some, None, refl, arith, codes}
+use Rattle.std.proofs.Common.{◌≡◌, true, false, List, [], refl, arith, codes}
 use Rattle.std.specs.List.{list_all}
 use Rattle.clap.specs.Walk.{Row, Rule}
-use Rattle.clap.specs.Simple.{App, built, is_simple, names_of}
+use Rattle.clap.specs.Simple.{built, is_simple, names_of}
 use Rattle.clap.specs.Takes.{default_passes, is_valid}
 use Rattle.clap.proofs.OnLiterals.{clap_on_literals}
 use Rattle.cli_words.specs.Line.{IsLine, server_names, client_names}
@@ -36,14 +36,17 @@ server-options = (
       (
         record { name = codes "bind"; some = refl; spelled = refl; by_long = refl; by_id = refl },
         (
-          record { name = codes "window"; some = refl; spelled = refl; by_long = refl; by_id = refl },
+          record { name = codes "offer"; some = refl; spelled = refl; by_long = refl; by_id = refl },
           (
-            record { name = codes "connections"; some = refl; spelled = refl; by_long = refl; by_id = refl },
+            record { name = codes "window"; some = refl; spelled = refl; by_long = refl; by_id = refl },
             (
-              record { name = codes "contexts"; some = refl; spelled = refl; by_long = refl; by_id = refl },
+              record { name = codes "connections"; some = refl; spelled = refl; by_long = refl; by_id = refl },
               (
-                record { name = codes "marks"; some = refl; spelled = refl; by_long = refl; by_id = refl },
-                (record { name = codes "log"; some = refl; spelled = refl; by_long = refl; by_id = refl }, tt),
+                record { name = codes "contexts"; some = refl; spelled = refl; by_long = refl; by_id = refl },
+                (
+                  record { name = codes "marks"; some = refl; spelled = refl; by_long = refl; by_id = refl },
+                  (record { name = codes "log"; some = refl; spelled = refl; by_long = refl; by_id = refl }, tt),
+                ),
               ),
             ),
           ),
@@ -59,7 +62,7 @@ server-address = record { by_index = refl; by_id = refl; next = refl }
 
 server-defaults : Each (λ (r : Rule). r.defaults ≡ []) (built server_app).top.rules
 unfolding clap_on_literals
-server-defaults = (refl, (refl, (refl, (refl, (refl, (refl, (refl, (refl, (refl, (refl, (refl, tt)))))))))))
+server-defaults = (refl, (refl, (refl, (refl, (refl, (refl, (refl, (refl, (refl, (refl, (refl, (refl, tt))))))))))))
 
 server-passing : list_all default_passes (built server_app).top.rules ≡ true
 unfolding clap_on_literals

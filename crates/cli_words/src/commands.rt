@@ -46,6 +46,7 @@ fn command_of_server<'a>(alloc: Global) -> Result<Command<'a>, NoMemory>
     let command = with_option(alloc, command, "--verifiers", "verifiers")?;
     let command = with_option(alloc, command, "--name", "name")?;
     let command = with_option(alloc, command, "--bind", "bind")?;
+    let command = with_option(alloc, command, "--offer", "offer")?;
     let command = with_option(alloc, command, "--window", "window")?;
     let command = with_option(alloc, command, "--connections", "connections")?;
     let command = with_option(alloc, command, "--contexts", "contexts")?;

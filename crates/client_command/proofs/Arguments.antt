@@ -8,7 +8,8 @@ use Rattle.cli_base.specs.Words.{value_of, plain_of}
 use Rattle.rpc_msgs.specs.Words.{opaque}
 use Rattle.gss_client.specs.declared.procedure.Procedure.{Procedure}
 use Rattle.gss_client.specs.declared.procedure.Procedure.TheVariants.{Null, Echo, Whoami, Post, Count}
-use Rattle.client_command.specs.Words.{same, data_by, bare, with_data, asked_by, asked_in, is_command, service_given, plan_of, sources_of, words_of, IsData, IsArgument}
+use Rattle.client_command.specs.Mechs.{same}
+use Rattle.client_command.specs.Words.{data_by, bare, with_data, asked_by, asked_in, is_command, service_given, plan_of, sources_of, words_of, IsData, IsArgument}
 use Rattle.client_command.specs.declared.words.Asked.{Asked}
 use Rattle.client_command.specs.declared.words.ClientWords.{ClientWords}
 use Rattle.client_command.specs.declared.words.Plan.{Plan}

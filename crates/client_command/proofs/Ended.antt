@@ -1,7 +1,6 @@
 -- How the end of a session is the end of its run.
-use Rattle.std.proofs.Common.{◌≡◌, ◌≢◌, ◌⊎◌, inl, inr, ℕ, Bool, true, false, List, [], Option, None, Result, Ok, Err, refl, sym, ap, ◌∙◌}
+use Rattle.std.proofs.Common.{◌≡◌, ◌≢◌, inl, inr, ℕ, true, false, List, Option, Result, Ok, Err, refl, sym, ap, ◌∙◌}
 use Rattle.std.proofs.lemmas.Bool.{false_from_ne_true}
-use Rattle.sec_base.specs.Answers.{Rose}
 use Rattle.spnego_core.specs.declared.setup.MechCred.{MechCred}
 use Rattle.spnego_core.specs.declared.outcome.Outcome.{Outcome}
 use Rattle.gss_client.specs.declared.conversation.Parting.{Parting}
@@ -12,7 +11,7 @@ use Rattle.client_command.specs.Credentials.{Finds, is_unloaded}
 use Rattle.client_command.specs.Endings.{end_of, end_of_refusal, is_begun}
 use Rattle.client_command.specs.Runs.{Reports}
 use Rattle.client_command.specs.declared.ending.RunEnd.{RunEnd}
-use Rattle.client_command.specs.declared.ending.RunEnd.TheVariants.{Usage, CannotLoad, Bad, NoCredential, NoMemory, LinkFault, PeerEnded, Refused, Negotiation, BadReply, Foreign, Spent, Finished}
+use Rattle.client_command.specs.declared.ending.RunEnd.TheVariants.{NoMemory, LinkFault}
 
 begun-refusal : (refusal : ClientRefusal) → end_of_refusal refusal ≢ NoMemory → is_begun (end_of_refusal refusal) ≡ true
 begun-refusal refusals.LinkFault other = refl

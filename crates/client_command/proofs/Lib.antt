@@ -1,6 +1,7 @@
 pub mod Refused
 pub mod Asking
 pub mod Ended
+pub mod Listing
 pub mod Loading
 pub mod Password
 pub mod Saying

@@ -1,7 +1,10 @@
 -- Words with a plain word too many are refused, and the words that are left are a line of the command.
-use Rattle.std.proofs.Common.{◌≡◌, ◌∙◌, ◌&&◌, ◌<◌, ◌≤◌, ℕ, Bool, true, false, refl, sym, ap, subst, true≢false, arith, codes, List, length, slice_get, nat_le, nat_eq, is_some, Option, Some, None, Result, Ok, Err, if◌then◌else◌}
+use Rattle.std.proofs.Common.{◌≡◌, ◌&&◌, ◌<◌, ◌≤◌, ℕ, Bool, true, false, refl, sym, ap, true≢false, arith, codes, List, [], ◌∷◌, length, slice_get, nat_le, nat_eq, is_some, Option, Some, None, Result, Ok, Err, if◌then◌else◌}
 use Rattle.std.proofs.lemmas.Bool.Decides.{nat_tests}
 use Rattle.gss_base.specs.Name.{Name}
+use Rattle.gss_base.specs.declared.mech.KerberosName.TheVariants.{Standard, Microsoft}
+use Rattle.gss_base.specs.declared.mech.MechName.{MechName}
+use Rattle.gss_base.specs.declared.mech.MechName.TheVariants as names
 use Rattle.gss_base.specs.Signs.{parsed}
 use Rattle.gss_base.specs.declared.principal.NameRefusal.{NameRefusal}
 use Rattle.gss_client.specs.declared.procedure.Procedure.{Procedure}
@@ -9,12 +12,9 @@ use Rattle.gss_client.specs.declared.procedure.Procedure.TheVariants.{Null, Echo
 use Rattle.cli_base.specs.Given.{◌>>=◌, or_usage, demanded}
 use Rattle.cli_base.specs.Words.{are_words, first_word, value_of, plain_of}
 use Rattle.cli_words.specs.Line.{IsLine, client_names}
-use Rattle.client_command.specs.Words.{same, bare, with_data, asked_by, asked_in, is_command, is_line, name_by, server_given, mechs_by, are_equipped, equipped, usual, mechs_given, has_krb5, has_scram, plan_of, sources_of, words_of}
-use Rattle.client_command.specs.declared.words.Asked.{Asked}
+use Rattle.client_command.specs.Mechs.{same, words_in, mech_named, mechs_named, is_list, mechs_by, are_equipped, equipped, usual, mechs_given}
+use Rattle.client_command.specs.Words.{bare, with_data, asked_by, asked_in, is_command, is_line, name_by, server_given, has_krb5, has_scram, plan_of, sources_of, words_of}
 use Rattle.client_command.specs.declared.words.ClientWords.{ClientWords}
-use Rattle.client_command.specs.declared.words.Mechs.{Mechs}
-use Rattle.client_command.specs.declared.words.Mechs.TheVariants as mechs
-use Rattle.client_command.specs.declared.words.Plan.{Plan}
 use Rattle.client_command.specs.declared.words.Sources.{Sources}
 use Rattle.cli_base.specs.declared.given.WordsRefusal.{WordsRefusal}
 use Rattle.cli_base.specs.declared.given.WordsRefusal.TheVariants.{Usage}
@@ -81,16 +81,34 @@ server-only : (text : Option (List ℕ)) → Only (server_given text)
 server-only None = tt
 server-only (Some text) = name-only (parsed text)
 
-list-only : (text : List ℕ) → Only (mechs_by text)
-list-only text =
-    only-if (same text (codes "krb5")) (Ok mechs.Kerberos) _ tt
-    (only-if (same text (codes "scram")) (Ok mechs.Scram) _ tt
-    (only-if (same text (codes "krb5,scram")) (Ok mechs.KerberosScram) _ tt
-    (only-if (same text (codes "scram,krb5")) (Ok mechs.ScramKerberos) (Err Usage) tt refl)))
+mech-only : (word : List ℕ) → Only (mech_named word)
+mech-only word =
+    only-if (same word (codes "krb5")) (Ok (names.Kerberos Standard)) _ tt
+    (only-if (same word (codes "ms-krb5")) (Ok (names.Kerberos Microsoft)) _ tt
+    (only-if (same word (codes "scram")) (Ok names.Scram) (Err Usage) tt refl))
 
-equipped-only : (krb5 scram : Bool) (r : Result Mechs WordsRefusal) → Only r → Only (equipped krb5 scram r)
-equipped-only krb5 scram (Ok list) p = only-if (are_equipped krb5 scram list) (Ok list) (Err Usage) tt refl
-equipped-only krb5 scram (Err refusal) p = p
+more-only : (one : Result MechName WordsRefusal) (rest : Result (List MechName) WordsRefusal) → Only one → Only rest → Only (one >>= λ name. rest >>= λ list. Ok (name ∷ list))
+more-only (Ok name) (Ok list) p q = tt
+more-only (Ok name) (Err refusal) p q = q
+more-only (Err refusal) rest p q = p
+
+list-only : (words : List (List ℕ)) → Only (mechs_named words)
+list-only [] = tt
+list-only (word ∷ words) = more-only (mech_named word) (mechs_named words) (mech-only word) (list-only words)
+
+demand-only : (holds : Bool) → Only (demanded holds)
+demand-only true = tt
+demand-only false = refl
+
+by-only : (text : List ℕ) → Only (mechs_by text)
+unfolding mechs_by
+by-only text =
+    only-then (mechs_named (words_in text)) _ (list-only (words_in text)) (λ list. only-then (demanded (is_list list)) _ (demand-only (is_list list)) (λ few. tt))
+
+equipped-only : (krb5 scram : Bool) (text : List ℕ) → Only (equipped krb5 scram text)
+unfolding equipped
+equipped-only krb5 scram text =
+    only-then (mechs_by text) _ (by-only text) (λ list. only-then (demanded (are_equipped krb5 scram list)) _ (demand-only (are_equipped krb5 scram list)) (λ options. tt))
 
 usual-only : (krb5 scram : Bool) → Only (usual krb5 scram)
 usual-only true true = tt
@@ -100,7 +118,7 @@ usual-only false false = refl
 
 mechs-only : (krb5 scram : Bool) (text : Option (List ℕ)) → Only (mechs_given krb5 scram text)
 mechs-only krb5 scram None = usual-only krb5 scram
-mechs-only krb5 scram (Some text) = equipped-only krb5 scram (mechs_by text) (list-only text)
+mechs-only krb5 scram (Some text) = equipped-only krb5 scram text
 
 sources-only : (words : List (List ℕ)) → Only (sources_of words)
 unfolding sources_of

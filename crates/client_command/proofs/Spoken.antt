@@ -1,16 +1,16 @@
 -- A session that was held is the talk of its plan.
-use Rattle.std.proofs.Common.{◌≡◌, ◌≢◌, ◌⊎◌, inl, inr, ℕ, Bool, true, false, IsTrue, List, [], ◌∷◌, ◌++◌, append_assoc, length, Option, None, refl, sym, ap, ◌∙◌}
+use Rattle.std.proofs.Common.{◌≡◌, ◌≢◌, inl, inr, ℕ, Bool, true, false, IsTrue, List, [], ◌∷◌, ◌++◌, append_assoc, length, Option, None, refl, sym, ap, ◌∙◌}
 use Rattle.std.proofs.lemmas.List.{append-nil}
 use Rattle.sec_base.specs.Link.{Wire}
 use Rattle.spnego_core.specs.declared.setup.MechCred.{MechCred}
 use Rattle.spnego_core.specs.declared.outcome.Outcome.{Outcome}
-use Rattle.gss_client.specs.Conversing.{Talked, IsTalkFront}
+use Rattle.gss_client.specs.Conversing.{Talked}
 use Rattle.gss_client.specs.declared.conversation.Parting.{Parting}
 use Rattle.gss_client.specs.declared.conversation.Parting.TheVariants as partings
 use Rattle.gss_client.specs.declared.refusal.ClientRefusal.{ClientRefusal}
 use Rattle.gss_client.specs.declared.refusal.ClientRefusal.TheVariants as refusals
 use Rattle.client_command.specs.Endings.{end_of, end_of_refusal, is_parted}
-use Rattle.client_command.specs.Runs.{start_of, planned, IsWhole, Drew, Spoke, EndsSo, Reports}
+use Rattle.client_command.specs.Runs.{start_of, planned, Spoke, EndsSo, Reports}
 use Rattle.client_command.specs.declared.ending.RunEnd.{RunEnd}
 use Rattle.client_command.specs.declared.ending.RunEnd.TheVariants.{LinkFault, NoMemory}
 use Rattle.client_command.specs.declared.words.Plan.{Plan}

@@ -4,6 +4,9 @@ use Rattle.std.specs.Prelude.{Option, Some, None, Result, Ok, Err, if◌then◌e
 use Rattle.std.specs.Str.{is_utf8}
 use Rattle.std.specs.Str.Lossy.{utf8_valid_len}
 use Rattle.gss_base.specs.Name.{Name}
+use Rattle.gss_base.specs.declared.mech.KerberosName.{KerberosName}
+use Rattle.gss_base.specs.declared.mech.MechName.{MechName}
+use Rattle.gss_base.specs.declared.mech.MechName.TheVariants as names
 use Rattle.krb_files.specs.Ccache.{ccache_of, granted_for}
 use Rattle.krb_files.specs.Granted.{Granted, Cache}
 use Rattle.krb_files.specs.declared.refusal.FileRefusal.{FileRefusal}
@@ -21,8 +24,6 @@ use Rattle.client_command.specs.declared.ending.RunEnd.TheVariants.{Negotiation,
 use Rattle.client_command.specs.declared.ending.RunEnd.TheVariants.{Spent, Finished}
 use Rattle.client_command.specs.declared.ending.WordFile.{WordFile}
 use Rattle.client_command.specs.declared.ending.WordFile.TheVariants.{Ccache, Password}
-use Rattle.client_command.specs.declared.words.Mechs.{Mechs}
-use Rattle.client_command.specs.declared.words.Mechs.TheVariants as mechs
 use Rattle.client_command.specs.declared.words.Sources.{Sources}
 
 -- the rest of a reading, unless the run ends before
@@ -84,16 +85,16 @@ password_from files = if_named (λ name. password_in (file_in files name))
 
 -- ---- credentials
 
--- Kerberos's credential, without which the run ends
-abbrev pub or_none : Option Granted → Result MechCred RunEnd
-or_none None = Err NoCredential
-or_none (Some granted) = Ok (creds.Kerberos granted)
+-- Kerberos's credential under this name, without which the run ends
+abbrev pub or_none : KerberosName → Option Granted → Result MechCred RunEnd
+or_none name None = Err NoCredential
+or_none name (Some granted) = Ok (creds.Kerberos name granted)
 
--- Kerberos: the first credential for the server in the cache
-abbrev pub ticket_for : Option Cache → Option Name → Result MechCred RunEnd
-ticket_for (Some cache) (Some server) = or_none (granted_for server cache.credentials)
-ticket_for (Some cache) None = Err NoCredential
-ticket_for None server = Err NoCredential
+-- Kerberos: the first credential for the server in the cache, whichever name the list has
+abbrev pub ticket_for : KerberosName → Option Cache → Option Name → Result MechCred RunEnd
+ticket_for name (Some cache) (Some server) = or_none name (granted_for server cache.credentials)
+ticket_for name (Some cache) None = Err NoCredential
+ticket_for name None server = Err NoCredential
 
 -- SCRAM: the user and the password
 abbrev pub login_of : Option (List ℕ) → Option (List ℕ) → Result MechCred RunEnd
@@ -101,21 +102,22 @@ login_of (Some user) (Some password) = Ok (creds.Scram user password)
 login_of (Some user) None = Err NoCredential
 login_of None password = Err NoCredential
 
--- the credentials of the mechanisms that are listed, in their order; that of Kerberos is looked for
--- first
-abbrev pub listed : Mechs → Result MechCred RunEnd → Result MechCred RunEnd
+-- the credential of a mechanism that is listed under this name
+abbrev pub cred_for : Sources → Option Cache → Option (List ℕ) → MechName → Result MechCred RunEnd
+cred_for sources cache password (names.Kerberos name) = ticket_for name cache sources.server
+cred_for sources cache password names.Scram = login_of sources.user password
+
+-- the credentials of the names that are listed, in their order; if one of them has none, the run
+-- ends
+abbrev pub listed : (MechName → Result MechCred RunEnd) → List MechName
     → Result (List MechCred) RunEnd
-listed mechs.Kerberos ticket login = ticket >>= λ krb5. Ok (krb5 ∷ [])
-listed mechs.Scram ticket login = login >>= λ scram. Ok (scram ∷ [])
-listed mechs.KerberosScram ticket login =
-    ticket >>= λ krb5. login >>= λ scram. Ok (krb5 ∷ scram ∷ [])
-listed mechs.ScramKerberos ticket login =
-    ticket >>= λ krb5. login >>= λ scram. Ok (scram ∷ krb5 ∷ [])
+listed found [] = Ok []
+listed found (name ∷ names) =
+    found name >>= λ cred. listed found names >>= λ creds. Ok (cred ∷ creds)
 
 -- the credentials that the words ask for, by the cache and the password that were read
 abbrev pub creds_with : Sources → Option Cache → Option (List ℕ) → Result (List MechCred) RunEnd
-creds_with sources cache password =
-    listed sources.mechs (ticket_for cache sources.server) (login_of sources.user password)
+creds_with sources cache password = listed (cred_for sources cache password) sources.mechs
 
 -- the credentials of a run by the files of a shelf, or how the run ends without them. The cache is
 -- read before the password's file is loaded, and the credential is looked for behind both.

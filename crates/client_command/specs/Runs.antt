@@ -8,7 +8,7 @@ use Rattle.gss_base.specs.Name.{Name}
 use Rattle.spnego_core.specs.declared.outcome.Outcome.{Outcome}
 use Rattle.spnego_core.specs.declared.setup.MechCred.{MechCred}
 use Rattle.gss_client.specs.Conversation.{Talk, talk}
-use Rattle.gss_client.specs.Conversing.{IsFront, IsTalkFront}
+use Rattle.gss_client.specs.Conversing.{IsTalkFront}
 use Rattle.gss_client.specs.Exchanging.{Went}
 use Rattle.gss_client.specs.declared.conversation.Parting.{Parting}
 use Rattle.gss_client.specs.declared.procedure.Procedure.{Procedure}

@@ -1,9 +1,8 @@
 -- The words of the client, `ADDRESS COMMAND [ARG] [options]`: which are in its command, and what
 -- they ask for.
-use Rattle.std.specs.Prelude.{◌≡◌, ℕ, ◌<◌, ◌≤◌, Bool, true, false, ◌&&◌, nat_eq, nat_lt, nat_le}
-use Rattle.std.specs.Prelude.{List, [], ◌∷◌, length, slice_get, slice_index, codes, Option, Some}
+use Rattle.std.specs.Prelude.{◌≡◌, ℕ, ◌<◌, ◌≤◌, Bool, ◌&&◌, nat_eq, nat_lt, nat_le}
+use Rattle.std.specs.Prelude.{List, [], length, slice_get, slice_index, codes, Option, Some}
 use Rattle.std.specs.Prelude.{None, is_some, Result, Ok, Err, if◌then◌else◌}
-use lib.Pointwise.{pointwise}
 use Rattle.gss_base.specs.Name.{Name}
 use Rattle.gss_base.specs.Signs.{parsed}
 use Rattle.gss_base.specs.declared.principal.NameRefusal.{NameRefusal}
@@ -20,16 +19,11 @@ use Rattle.cli_words.specs.Line.{client_names}
 use Rattle.hex.specs.Hex.{decode_of}
 use Rattle.hex.specs.declared.error.FromHexError.{FromHexError}
 use Rattle.rpc_msgs.specs.Words.{opaque}
+use Rattle.client_command.specs.Mechs.{same, mechs_given}
 use Rattle.client_command.specs.declared.words.Asked.{Asked}
 use Rattle.client_command.specs.declared.words.ClientWords.{ClientWords}
-use Rattle.client_command.specs.declared.words.Mechs.{Mechs}
-use Rattle.client_command.specs.declared.words.Mechs.TheVariants as mechs
 use Rattle.client_command.specs.declared.words.Plan.{Plan}
 use Rattle.client_command.specs.declared.words.Sources.{Sources}
-
--- two words are the same
-abbrev pub same : List ℕ → List ℕ → Bool
-same = pointwise nat_eq
 
 -- ---- the command and its argument
 
@@ -124,39 +118,6 @@ plan_of words = do
   })
 
 -- ---- the mechanisms
-
--- a list of mechanisms by its word, the preferred one first
-abbrev pub mechs_by : List ℕ → Result Mechs WordsRefusal
-mechs_by text =
-    if same text (codes "krb5") then Ok mechs.Kerberos
-    else if same text (codes "scram") then Ok mechs.Scram
-    else if same text (codes "krb5,scram") then Ok mechs.KerberosScram
-    else if same text (codes "scram,krb5") then Ok mechs.ScramKerberos
-    else Err Usage
-
--- each that is listed has its two options; which mechanisms have them is said before
-abbrev pub are_equipped : Bool → Bool → Mechs → Bool
-are_equipped krb5 scram mechs.Kerberos = krb5
-are_equipped krb5 scram mechs.Scram = scram
-are_equipped krb5 scram mechs.KerberosScram = krb5 && scram
-are_equipped krb5 scram mechs.ScramKerberos = krb5 && scram
-
--- each mechanism of a list that was read has its options, or the words are refused
-abbrev pub equipped : Bool → Bool → Result Mechs WordsRefusal → Result Mechs WordsRefusal
-equipped krb5 scram (Ok list) = if are_equipped krb5 scram list then Ok list else Err Usage
-equipped krb5 scram (Err refusal) = Err refusal
-
--- without a list, those that have their two options, Kerberos first; there is one
-abbrev pub usual : Bool → Bool → Result Mechs WordsRefusal
-usual true true = Ok mechs.KerberosScram
-usual true false = Ok mechs.Kerberos
-usual false true = Ok mechs.Scram
-usual false false = Err Usage
-
--- the mechanisms by the option, or the usual ones without it
-abbrev pub mechs_given : Bool → Bool → Option (List ℕ) → Result Mechs WordsRefusal
-mechs_given krb5 scram None = usual krb5 scram
-mechs_given krb5 scram (Some text) = equipped krb5 scram (mechs_by text)
 
 -- Kerberos's two options are the credential cache and the server, SCRAM's the user and the
 -- password's file

@@ -5,12 +5,13 @@ ghost use Rattle.std.specs.Prelude.{Ok, Err, map};
 ghost use Rattle.sec_base.specs.Answers.{Rose};
 ghost use Rattle.spnego_core.specs.InitMech.{is_own_list};
 ghost use Rattle.spnego_core.specs.declared.setup.MechCred.{MechCred};
-ghost use Rattle.init_ends.specs.Arming.{IsBlankPair};
+ghost use Rattle.init_ends.specs.Arming.{AreStandard};
 ghost use Rattle.cli_base.specs.Lines.{SaysLine, Says};
 ghost use Rattle.client_command.specs.Credentials.{creds_from, is_unloaded, Asks};
 ghost use Rattle.client_command.specs.Endings.{end_of, is_begun, status_of, line_of};
 ghost use Rattle.client_command.specs.Lines.{lines};
 ghost use Rattle.client_command.specs.Loading.{RunBegins};
+ghost use Rattle.client_command.specs.Mechs.{is_list};
 ghost use Rattle.client_command.specs.Runs.{text_or_none, server_text, names_in, names_of};
 ghost use Rattle.client_command.specs.Runs.{procedure_of, Reports, Spoke, EndsSo};
 ghost use Rattle.client_command.specs.Runs.{HasHeld, HasSpoken, IsSilent};
@@ -68,7 +69,7 @@ fn speak<L: Link, C: Clock, D: Draw>(
     mechs: Vec<Box<dyn Mech>>,
 ) -> Talk
     requires unclosed { L.closed link.old ≡ false }
-    requires mechs { IsBlankPair (map meaning mechs.items) }
+    requires mechs { AreStandard (map meaning mechs.items) }
     requires list { is_own_list creds ≡ true }
     requires range { IsRanged plan }
     ensures told { IsTrue (L.tells link.old)
@@ -223,8 +224,9 @@ fn run_with<F: Shelf, L: Link, C: Clock, D: Draw, O: Sink>(
     err: &mut O,
 ) -> ClientEnd
     requires unclosed { L.closed link.old ≡ false }
-    requires mechs { IsBlankPair (map meaning mechs.items) }
+    requires mechs { AreStandard (map meaning mechs.items) }
     requires range { IsRanged words.plan }
+    requires list { is_list words.sources.mechs ≡ true }
     ensures status { result.status ≢ 6 → result.status ≢ 8 → result.status ≡ status_of result.end }
     ensures sink_fault { result.status ≡ 6
         → Rose (O.faults out.old) (O.faults out.new) ⊎ Rose (O.faults err.old) (O.faults err.new) }
@@ -289,9 +291,10 @@ const UNNAMED: Names<'static> = Names {
 
 /// Runs the client over a link, and says on `err` how the run ended. The words are
 /// `ADDRESS COMMAND [ARG] [--ccache FILE --server PRINCIPAL] [--user NAME --password FILE] [--mechs LIST] [--bind TEXT] [--service none|integrity|privacy]
-/// [--times N] [--first N]`, where COMMAND is `null`, `echo`, `whoami`, `post` or `count`, `echo` and `post` have an ARG in hexadecimal, and LIST is `krb5`, `scram`
-/// or both with a comma between them. `mechs` has one blank object of Kerberos and one of SCRAM, in any order: the session's mechanisms are those of them that
-/// get a credential. What the session agreed on and was answered is printed on `out`.
+/// [--times N] [--first N]`, where COMMAND is `null`, `echo`, `whoami`, `post` or `count`, and `echo` and `post` have an ARG in hexadecimal. LIST has
+/// one to three of the words `krb5`, `ms-krb5` and `scram`, each at most once and in any order, with commas between them; `ms-krb5` is Kerberos under Microsoft's object
+/// identifier. `mechs` has blank objects in any order, at least one under each name: Kerberos's own, Microsoft's, and SCRAM's. The session's mechanisms are those of them
+/// that get a credential. What the session agreed on and was answered is printed on `out`.
 pub fn run_client<F: Shelf, L: Link, C: Clock, D: Draw, O: Sink>(
     alloc: Global,
     words: &[Text],
@@ -304,7 +307,7 @@ pub fn run_client<F: Shelf, L: Link, C: Clock, D: Draw, O: Sink>(
     err: &mut O,
 ) -> ClientEnd
     requires unclosed { L.closed link.old ≡ false }
-    requires mechs { IsBlankPair (map meaning mechs.items) }
+    requires mechs { AreStandard (map meaning mechs.items) }
     // The status and the line on `err`: those of the end, unless there was no memory for the line, or a sink failed.
     ensures status { result.status ≢ 6 → result.status ≢ 8 → result.status ≡ status_of result.end }
     ensures sink_fault { result.status ≡ 6

@@ -1,52 +1,56 @@
 //! The credentials of a run's mechanisms.
 
-ghost use Rattle.std.specs.Prelude.{◌≡◌, ◌≢◌, ◌∷◌, [], IsTrue, IfOk, IfErr, true, false};
+ghost use Rattle.std.specs.Prelude.{◌≡◌, ◌≢◌, ◌∷◌, ◌++◌, [], IsTrue, IfOk, IfErr, true, false};
 ghost use Rattle.sec_base.specs.Answers.{Gives, Rose};
-ghost use Rattle.gss_base.specs.declared.mech.MechKind.TheVariants as kinds;
-ghost use Rattle.spnego_core.specs.InitMech.{kind_of, is_own_list};
-ghost use Rattle.client_command.specs.Credentials.{ticket_for, login_of, creds_with, creds_from};
-ghost use Rattle.client_command.specs.Credentials.{is_unloaded, Finds, AsksFor};
+ghost use Rattle.spnego_core.specs.InitMech.{is_own_list};
+ghost use Rattle.client_command.specs.Credentials.{ticket_for, login_of, cred_for, creds_with};
+ghost use Rattle.client_command.specs.Credentials.{creds_from, is_unloaded, Finds, AsksFor};
 ghost use Rattle.client_command.specs.Endings.{is_begun};
 ghost use Rattle.client_command.specs.Loading.{CredsFrom};
+ghost use Rattle.client_command.specs.Mechs.{is_list};
 
 use crate::ending::RunEnd;
 use crate::files::{cache_given, password_given};
-use crate::words::{Mechs, Sources};
-use gss_base::Principal;
+use crate::words::Sources;
+use gss_base::{KerberosName, MechName, Principal};
 use krb_files::Ccache;
 use sec_base::{Items, NoMemory, Shelf, Text};
 use spnego_core::MechCred;
 use std::alloc::Global;
 
-/// Kerberos's credential for this server in a cache.
-fn ticket_in(alloc: Global, cache: &Ccache, server: &Principal) -> Result<MechCred, RunEnd>
+/// Kerberos's credential for this server in a cache, under a name of the mechanism.
+fn ticket_in(
+    alloc: Global,
+    name: KerberosName,
+    cache: &Ccache,
+    server: &Principal,
+) -> Result<MechCred, RunEnd>
     ensures value { Gives RunEnd.NoMemory (λ c. c) result
-        (ticket_for (Some cache.now) (Some server.now)) }
-    ensures kind { IfOk result (λ c. kind_of c ≡ kinds.Kerberos) }
+        (ticket_for name (Some cache.now) (Some server.now)) }
     ensures stop { IfErr result (λ end. end ≢ RunEnd.NoMemory → end ≡ RunEnd.NoCredential) }
 {
     match cache.find(server) {
         Some(credential) => match credential.copied(alloc) {
-            Ok(copy) => Ok(MechCred::Kerberos(copy)),
+            Ok(credential) => Ok(MechCred::Kerberos { name, credential }),
             Err(NoMemory) => Err(RunEnd::NoMemory),
         },
         None => Err(RunEnd::NoCredential),
     }
 }
 
-/// Kerberos's credential.
+/// Kerberos's credential, under a name of the mechanism.
 fn ticket_for(
     alloc: Global,
+    name: KerberosName,
     cache: &Option<Ccache>,
     server: &Option<Principal>,
 ) -> Result<MechCred, RunEnd>
-    ensures value { Gives RunEnd.NoMemory (λ c. c) result (ticket_for cache.now server.now) }
-    ensures kind { IfOk result (λ c. kind_of c ≡ kinds.Kerberos) }
+    ensures value { Gives RunEnd.NoMemory (λ c. c) result (ticket_for name cache.now server.now) }
     ensures stop { IfErr result (λ end. end ≢ RunEnd.NoMemory → end ≡ RunEnd.NoCredential) }
 {
     match cache {
         Some(cache) => match server {
-            Some(server) => ticket_in(alloc, cache, server),
+            Some(server) => ticket_in(alloc, name, cache, server),
             None => Err(RunEnd::NoCredential),
         },
         None => Err(RunEnd::NoCredential),
@@ -65,7 +69,6 @@ fn login(alloc: Global, user: &Text, password: &Text) -> Result<MechCred, NoMemo
 /// SCRAM's credential.
 fn login_of(alloc: Global, user: &Option<Text>, password: &Option<Text>) -> Result<MechCred, RunEnd>
     ensures value { Gives RunEnd.NoMemory (λ c. c) result (login_of user.now password.now) }
-    ensures kind { IfOk result (λ c. kind_of c ≡ kinds.Scram) }
     ensures stop { IfErr result (λ end. end ≢ RunEnd.NoMemory → end ≡ RunEnd.NoCredential) }
 {
     match user {
@@ -80,29 +83,32 @@ fn login_of(alloc: Global, user: &Option<Text>, password: &Option<Text>) -> Resu
     }
 }
 
-/// A list of one credential.
-fn one(alloc: Global, only: MechCred) -> Result<Items<MechCred>, RunEnd>
-    ensures value { IfOk result (λ list. list ≡ only ∷ []) }
-    ensures stop { IfErr result (λ end. end ≡ RunEnd.NoMemory) }
+/// The credential of a mechanism that is listed under this name.
+fn cred_for(
+    alloc: Global,
+    sources: &Sources,
+    cache: &Option<Ccache>,
+    password: &Option<Text>,
+    name: MechName,
+) -> Result<MechCred, RunEnd>
+    ensures value { Gives RunEnd.NoMemory (λ c. c) result
+        (cred_for sources.now cache.now password.now name) }
+    ensures stop { IfErr result (λ end. end ≢ RunEnd.NoMemory → end ≡ RunEnd.NoCredential) }
 {
-    let mut list = Vec::new(alloc);
-    match list.push(only) {
-        Ok(()) => Ok(Items::of(list)),
-        Err(_) => Err(RunEnd::NoMemory),
+    match name {
+        MechName::Kerberos(name) => ticket_for(alloc, name, cache, &sources.server),
+        MechName::Scram => login_of(alloc, &sources.user, password),
     }
 }
 
-/// A list of two credentials.
-fn two(alloc: Global, first: MechCred, second: MechCred) -> Result<Items<MechCred>, RunEnd>
-    ensures value { IfOk result (λ list. list ≡ first ∷ second ∷ []) }
+/// A list with one more credential.
+fn with_last(list: Vec<MechCred>, cred: MechCred) -> Result<Vec<MechCred>, RunEnd>
+    ensures items { IfOk result (λ longer. longer.items ≡ list.items ++ cred ∷ []) }
     ensures stop { IfErr result (λ end. end ≡ RunEnd.NoMemory) }
 {
-    let mut list = Vec::new(alloc);
-    if list.push(first).is_err() {
-        return Err(RunEnd::NoMemory);
-    }
-    match list.push(second) {
-        Ok(()) => Ok(Items::of(list)),
+    let mut list = list;
+    match list.push(cred) {
+        Ok(()) => Ok(list),
         Err(_) => Err(RunEnd::NoMemory),
     }
 }
@@ -116,23 +122,14 @@ fn creds_with(
 ) -> Result<Items<MechCred>, RunEnd>
     ensures value { Gives RunEnd.NoMemory (λ list. list) result
         (creds_with sources.now cache.now password.now) }
-    ensures own { IfOk result (λ list. is_own_list list ≡ true) }
     ensures stop { IfErr result (λ end. end ≢ RunEnd.NoMemory → end ≡ RunEnd.NoCredential) }
 {
-    match sources.mechs {
-        Mechs::Kerberos => one(alloc, ticket_for(alloc, cache, &sources.server)?),
-        Mechs::Scram => one(alloc, login_of(alloc, &sources.user, password)?),
-        Mechs::KerberosScram => {
-            let ticket = ticket_for(alloc, cache, &sources.server)?;
-            let login = login_of(alloc, &sources.user, password)?;
-            two(alloc, ticket, login)
-        }
-        Mechs::ScramKerberos => {
-            let ticket = ticket_for(alloc, cache, &sources.server)?;
-            let login = login_of(alloc, &sources.user, password)?;
-            two(alloc, login, ticket)
-        }
+    let mut list = Vec::new(alloc);
+    for name in sources.mechs.as_slice() {
+        let cred = cred_for(alloc, sources, cache, password, *name)?;
+        list = with_last(list, cred)?;
     }
+    Ok(Items::of(list))
 }
 
 /// The credentials of a run.
@@ -141,6 +138,7 @@ pub fn creds_given<F: Shelf>(
     shelf: &mut F,
     sources: &Sources,
 ) -> Result<Items<MechCred>, RunEnd>
+    requires { is_list sources.now.mechs ≡ true }
     ensures read { CredsFrom F.Shelf shelf.old shelf.new sources.now result }
     ensures found { IsTrue (F.tells shelf.old)
         → Finds (creds_from (F.files shelf.old) sources.now) result }

@@ -6,10 +6,9 @@ mod credential;
 mod ending;
 mod files;
 mod lines;
-mod objects;
+mod mechs;
 mod words;
 
 pub use client::{ClientEnd, run_client};
 pub use ending::{RunEnd, WordFile};
-pub use objects::blank_pair;
-pub use words::{ClientWords, Mechs, Plan, Sources, WordsRefusal, address_of, read_words};
+pub use words::{ClientWords, Plan, Sources, WordsRefusal, address_of, read_words};

@@ -8,19 +8,20 @@ ghost use Rattle.rpc_msgs.specs.Words.{opaque};
 ghost use Rattle.cli_base.specs.Words.{is_dashed, value_of, plain_of};
 ghost use Rattle.client_command.specs.Words.{is_command, is_line, bare, with_data, data_by};
 ghost use Rattle.client_command.specs.Words.{asked_by, asked_in};
-ghost use Rattle.client_command.specs.Words.{name_by, server_given, mechs_by, are_equipped};
-ghost use Rattle.client_command.specs.Words.{equipped, usual, mechs_given, is_given, has_krb5};
-ghost use Rattle.client_command.specs.Words.{has_scram, sources_of, service_by, service_given};
-ghost use Rattle.client_command.specs.Words.{plan_of, words_of, AreOctets, IsRanged};
+ghost use Rattle.client_command.specs.Mechs.{is_list, mechs_given};
+ghost use Rattle.client_command.specs.Words.{name_by, server_given, is_given, has_krb5, has_scram};
+ghost use Rattle.client_command.specs.Words.{sources_of, service_by, service_given, plan_of};
+ghost use Rattle.client_command.specs.Words.{words_of, AreOctets, IsRanged};
 
+use crate::mechs::mechs_given;
 pub use cli_base::{WordsRefusal, address_of};
 use cli_base::{are_words, count_plain, demand, first_word};
 use cli_words::{Line, bindings_given, client_line, number_given, texts_of};
-use gss_base::{Bindings, NameRefusal, Principal};
+use gss_base::{Bindings, MechName, NameRefusal, Principal};
 use gss_client::{Procedure, Service};
 use hex::FromHexError;
 use rpc_msgs::XdrWriter;
-use sec_base::{NoMemory, Octets, Text};
+use sec_base::{Items, NoMemory, Octets, Text};
 use std::alloc::Global;
 
 /// The most octets of an argument.
@@ -43,15 +44,6 @@ pub struct Plan {
     pub first: u32,
 }
 
-/// The mechanisms by which a context may be created, the preferred first.
-#[derive(Clone, Copy, Debug, PartialEq, Eq)]
-pub enum Mechs {
-    Kerberos,
-    Scram,
-    KerberosScram,
-    ScramKerberos,
-}
-
 /// Where the credentials come from.
 #[derive(Debug, Drop)]
 pub struct Sources {
@@ -63,7 +55,8 @@ pub struct Sources {
     pub user: Option<Text>,
     /// The file of the user's password.
     pub password: Option<Text>,
-    pub mechs: Mechs,
+    /// The mechanisms by which a context may be created, the preferred first: one to three names, no two of which are alike.
+    pub mechs: Items<MechName>,
 }
 
 /// What the words of the client ask for.
@@ -240,61 +233,6 @@ fn server_given(alloc: Global, line: &Line<'_>) -> Result<Option<Principal>, Wor
     }
 }
 
-/// The mechanisms of this list.
-fn mechs_by(text: &str) -> Result<Mechs, WordsRefusal>
-    ensures { result ≡ mechs_by text.now }
-{
-    if text == "krb5" {
-        return Ok(Mechs::Kerberos);
-    }
-    if text == "scram" {
-        return Ok(Mechs::Scram);
-    }
-    if text == "krb5,scram" {
-        return Ok(Mechs::KerberosScram);
-    }
-    if text == "scram,krb5" {
-        return Ok(Mechs::ScramKerberos);
-    }
-    Err(WordsRefusal::Usage)
-}
-
-/// Whether each mechanism of a list has its two options.
-fn are_equipped(krb5: bool, scram: bool, mechs: Mechs) -> bool
-    ensures { result ≡ are_equipped krb5 scram mechs }
-{
-    match mechs {
-        Mechs::Kerberos => krb5,
-        Mechs::Scram => scram,
-        Mechs::KerberosScram => krb5 && scram,
-        Mechs::ScramKerberos => krb5 && scram,
-    }
-}
-
-/// The list itself, where each of its mechanisms has its two options.
-fn equipped(krb5: bool, scram: bool, text: &str) -> Result<Mechs, WordsRefusal>
-    ensures { result ≡ equipped krb5 scram (mechs_by text.now) }
-{
-    let mechs = mechs_by(text)?;
-    if are_equipped(krb5, scram, mechs) {
-        Ok(mechs)
-    } else {
-        Err(WordsRefusal::Usage)
-    }
-}
-
-/// The mechanisms that have their two options, Kerberos first.
-fn usual(krb5: bool, scram: bool) -> Result<Mechs, WordsRefusal>
-    ensures { result ≡ usual krb5 scram }
-{
-    match (krb5, scram) {
-        (true, true) => Ok(Mechs::KerberosScram),
-        (true, false) => Ok(Mechs::Kerberos),
-        (false, true) => Ok(Mechs::Scram),
-        (false, false) => Err(WordsRefusal::Usage),
-    }
-}
-
 /// Whether the words have the option `name`.
 fn is_given(line: &Line<'_>, name: &str) -> bool
     requires { is_dashed name.now ≡ true }
@@ -304,25 +242,25 @@ fn is_given(line: &Line<'_>, name: &str) -> bool
 }
 
 /// The mechanisms that the words ask for.
-fn mechs_given(line: &Line<'_>) -> Result<Mechs, WordsRefusal>
-    ensures { result ≡ mechs_given (has_krb5 line.now) (has_scram line.now)
-        (value_of (codes "--mechs") line.now) }
+fn mechs_in(alloc: Global, line: &Line<'_>) -> Result<Items<MechName>, WordsRefusal>
+    ensures value { Gives WordsRefusal.NoMemory (λ list. list) result
+        (mechs_given (has_krb5 line.now) (has_scram line.now)
+        (value_of (codes "--mechs") line.now)) }
+    ensures list { IfOk result (λ list. is_list list ≡ true) }
 {
     let krb5 = is_given(line, "--ccache") && is_given(line, "--server");
     let scram = is_given(line, "--user") && is_given(line, "--password");
-    match line.value("--mechs") {
-        None => usual(krb5, scram),
-        Some(text) => equipped(krb5, scram, text),
-    }
+    mechs_given(alloc, krb5, scram, line.value("--mechs"))
 }
 
 /// Where the credentials come from.
 #[tactic(auto, unfolding(crate::specs::Words::sources_of))]
 fn sources_of(alloc: Global, line: &Line<'_>) -> Result<Sources, WordsRefusal>
-    ensures { Gives WordsRefusal.NoMemory (λ s. s) result (sources_of line.now) }
+    ensures value { Gives WordsRefusal.NoMemory (λ s. s) result (sources_of line.now) }
+    ensures list { IfOk result (λ s. is_list s.mechs ≡ true) }
 {
     let server = server_given(alloc, line)?;
-    let mechs = mechs_given(line)?;
+    let mechs = mechs_in(alloc, line)?;
     let ccache = text_given(alloc, line, "--ccache")?;
     let user = text_given(alloc, line, "--user")?;
     let password = text_given(alloc, line, "--password")?;
@@ -396,6 +334,7 @@ fn read_line(alloc: Global, line: &Line<'_>) -> Result<ClientWords, WordsRefusal
     requires { is_command line.now ≡ true }
     ensures value { Gives WordsRefusal.NoMemory (λ w. w) result (words_of line.now) }
     ensures range { IfOk result (λ w. IsRanged w.plan) }
+    ensures list { IfOk result (λ w. is_list w.sources.mechs ≡ true) }
 {
     let sources = sources_of(alloc, line)?;
     let plan = plan_of(alloc, line)?;
@@ -407,6 +346,7 @@ fn read_form(alloc: Global, words: &[Text]) -> Result<ClientWords, WordsRefusal>
     requires { is_line words.now ≡ true }
     ensures value { Gives WordsRefusal.NoMemory (λ w. w) result (words_of words.now) }
     ensures range { IfOk result (λ w. IsRanged w.plan) }
+    ensures list { IfOk result (λ w. is_list w.sources.mechs ≡ true) }
 {
     let texts = texts_of(alloc, words)?;
     let line = client_line(alloc, texts.as_slice())?;
@@ -417,6 +357,7 @@ fn read_form(alloc: Global, words: &[Text]) -> Result<ClientWords, WordsRefusal>
 pub fn read_words(alloc: Global, words: &[Text]) -> Result<ClientWords, WordsRefusal>
     ensures value { Gives WordsRefusal.NoMemory (λ w. w) result (words_of words.now) }
     ensures range { IfOk result (λ w. IsRanged w.plan) }
+    ensures list { IfOk result (λ w. is_list w.sources.mechs ≡ true) }
 {
     if is_line(words) {
         read_form(alloc, words)

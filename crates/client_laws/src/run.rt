@@ -5,7 +5,7 @@ ghost use Rattle.sec_base.specs.Answers.{Rose};
 ghost use Rattle.cli_base.specs.Lines.{SaysLine, Says};
 ghost use Rattle.spnego_core.specs.declared.setup.MechCred.{MechCred};
 ghost use Rattle.spnego_core.specs.declared.outcome.Outcome.{Outcome as OutcomeIs};
-ghost use Rattle.init_ends.specs.Arming.{IsBlankPair};
+ghost use Rattle.init_ends.specs.Arming.{AreStandard};
 ghost use Rattle.client_command.specs.Credentials.{creds_from};
 ghost use Rattle.client_command.specs.Endings.{status_of, line_of};
 ghost use Rattle.client_command.specs.Lines.{lines};
@@ -45,7 +45,7 @@ pub fn complete_run<F: Shelf, L: Link, C: Clock, D: Draw, O: Sink>(
     err: &mut O,
 ) -> ClientEnd
     requires unclosed { L.closed link.old ≡ false }
-    requires mechs { IsBlankPair (map meaning mechs.items) }
+    requires mechs { AreStandard (map meaning mechs.items) }
     ensures completes { (asked : ClientWordsIs) (creds : List MechCred)
         → words_of words.now ≡ Ok asked → IsTrue (F.tells shelf.old)
         → creds_from (F.files shelf.old) asked.sources ≡ Ok creds → IsTrue (L.tells link.old)

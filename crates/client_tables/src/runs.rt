@@ -1,7 +1,7 @@
 //! A run of the client over devices in memory.
 
 ghost use Rattle.std.specs.Prelude.{map};
-ghost use Rattle.init_ends.specs.Arming.{IsBlankPair};
+ghost use Rattle.init_ends.specs.Arming.{AreStandard};
 
 use client_command::run_client;
 use mech_objects::Mech;
@@ -42,7 +42,7 @@ fn run<S: Shelf>(
     mechs: Vec<Box<dyn Mech>>,
     said: &mut Said,
 )
-    requires { IsBlankPair (map meaning mechs.items) }
+    requires { AreStandard (map meaning mechs.items) }
 {
     if link.is_closed() {
         return said.starve();
@@ -60,7 +60,7 @@ fn run<S: Shelf>(
 
 /// By the cells of its words and the octets to come, what a run writes; then its status and what it prints.
 pub fn answer(files: &Files, mechs: Vec<Box<dyn Mech>>, cells: &mut Cells<'_>, said: &mut Said)
-    requires { IsBlankPair (map meaning mechs.items) }
+    requires { AreStandard (map meaning mechs.items) }
 {
     let alloc = cells.alloc();
     let line = cells.text();
@@ -93,7 +93,7 @@ fn run_by(
     mechs: Vec<Box<dyn Mech>>,
     cells: &mut Cells<'_>,
 ) -> Said
-    requires { IsBlankPair (map meaning mechs.items) }
+    requires { AreStandard (map meaning mechs.items) }
 {
     let alloc = cells.alloc();
     let mut ran = Said::new(alloc);
@@ -110,7 +110,7 @@ fn run_by(
 /// By the cells of its words, the stream, and the numbers of the calls of link, shelf and standard output that fail, how many octets a run
 /// writes; then its status and what it prints.
 pub fn run_trial(files: &Files, mechs: Vec<Box<dyn Mech>>, cells: &mut Cells<'_>, said: &mut Said)
-    requires { IsBlankPair (map meaning mechs.items) }
+    requires { AreStandard (map meaning mechs.items) }
 {
     let alloc = cells.alloc();
     let words = words(cells);

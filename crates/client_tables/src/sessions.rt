@@ -1,7 +1,7 @@
 //! A session of a client over a stream of replies.
 
 ghost use Rattle.std.specs.Prelude.{◌≡◌, ◌≤◌, IfSome, true, map};
-ghost use Rattle.init_ends.specs.Arming.{IsBlankPair};
+ghost use Rattle.init_ends.specs.Arming.{AreStandard};
 ghost use Rattle.init_ends.specs.Ends.{setup_means};
 ghost use Rattle.init_ends.specs.Objects.{is_own_list};
 ghost use Rattle.gss_client.specs.Start.{start_means};
@@ -30,7 +30,7 @@ fn service(cells: &mut Cells<'_>) -> Service {
 
 /// What a session is begun with, by the cells of list, service and first number.
 pub fn begin(setting: &Setting, mechs: Vec<Box<dyn Mech>>, cells: &mut Cells<'_>) -> Option<Start>
-    requires { IsBlankPair (map meaning mechs.items) }
+    requires { AreStandard (map meaning mechs.items) }
     ensures list { IfSome result (λ start. is_own_list (setup_means meaning start.setup).list
         ≡ true) }
     ensures first { IfSome result (λ start. 1 ≤ start.first) }
@@ -183,7 +183,7 @@ pub fn talk(alloc: Global, link: &mut MemLink, start: Start, calls: &str, said: 
 
 /// By the cells list, service, first number, calls and stream, what a session writes; then its outcome, results and end.
 pub fn answer(setting: &Setting, mechs: Vec<Box<dyn Mech>>, cells: &mut Cells<'_>, said: &mut Said)
-    requires { IsBlankPair (map meaning mechs.items) }
+    requires { AreStandard (map meaning mechs.items) }
 {
     let alloc = cells.alloc();
     let start = begin(setting, mechs, cells);

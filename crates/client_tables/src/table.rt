@@ -1,10 +1,10 @@
 //! The tables, and the comparison of one with what the calls answer.
 
 ghost use Rattle.std.specs.Prelude.{map};
-ghost use Rattle.init_ends.specs.Arming.{IsBlankPair};
+ghost use Rattle.init_ends.specs.Arming.{AreStandard};
 
 use crate::{made_files, runs, sessions, talks};
-use client_command::blank_pair;
+use init_ends::standard_mechs;
 use mech_objects::{KerberosMech, Mech, ScramMech};
 use std::alloc::Global;
 use table_rows::{Cells, Rows, Said};
@@ -56,9 +56,9 @@ struct Set<'a> {
 }
 
 impl Set<'_> {
-    /// What a row's calls answer, with objects of Kerberos and SCRAM.
+    /// What a row's calls answer, with objects of Kerberos under both its names, and of SCRAM.
     fn answer_by(&self, mechs: Vec<Box<dyn Mech>>, cells: &mut Cells<'_>, said: &mut Said)
-        requires { IsBlankPair (map meaning mechs.items) }
+        requires { AreStandard (map meaning mechs.items) }
     {
         let (setting, files) = (self.setting, self.files);
         match self.table {
@@ -84,10 +84,13 @@ impl Rows for Set<'_> {
         let Ok(kerberos) = Box::new(alloc, KerberosMech::new(alloc)) else {
             return said.starve();
         };
+        let Ok(microsoft) = Box::new(alloc, KerberosMech::new_ms(alloc)) else {
+            return said.starve();
+        };
         let Ok(scram) = Box::new(alloc, ScramMech::new(alloc)) else {
             return said.starve();
         };
-        match blank_pair(alloc, kerberos, scram) {
+        match standard_mechs(alloc, kerberos, microsoft, scram) {
             Ok(mechs) => self.answer_by(mechs, cells, said),
             Err(_) => said.starve(),
         }

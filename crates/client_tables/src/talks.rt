@@ -1,7 +1,7 @@
 //! A whole session of a client over a link whose calls may fail, and the creation of one.
 
 ghost use Rattle.std.specs.Prelude.{◌≡◌, ◌≤◌, true, map};
-ghost use Rattle.init_ends.specs.Arming.{IsBlankPair};
+ghost use Rattle.init_ends.specs.Arming.{AreStandard};
 ghost use Rattle.init_ends.specs.Objects.{is_own_list};
 ghost use Rattle.gss_client.specs.Start.{start_means};
 
@@ -100,7 +100,7 @@ pub fn hold_all(
     cells: &mut Cells<'_>,
     said: &mut Said,
 )
-    requires { IsBlankPair (map meaning mechs.items) }
+    requires { AreStandard (map meaning mechs.items) }
 {
     let start = begin(setting, mechs, cells);
     let calls = calls_of(files, cells);
@@ -119,7 +119,7 @@ pub fn create(
     cells: &mut Cells<'_>,
     said: &mut Said,
 )
-    requires { IsBlankPair (map meaning mechs.items) }
+    requires { AreStandard (map meaning mechs.items) }
 {
     let start = begin(setting, mechs, cells);
     let mut link = link_of(files, cells);

@@ -1,5 +1,5 @@
 -- The facts of a drill's two ends fit.
-use Rattle.std.proofs.Common.{◌≡◌, ℕ, zero, suc, ◌+◌, ◌*◌, ◌/◌, ◌%◌, ◌^◌, ◌≤◌, ◌<◌, ◌&&◌, lit≤, Bool, true, false, refl, ap, subst, ◌∙◌, arith, List, [], ◌∷◌, ◌++◌, length, take, drop, Option, Some, None, Result, Ok, is_ok, codes, nat_lt}
+use Rattle.std.proofs.Common.{◌≡◌, ℕ, zero, suc, ◌+◌, ◌*◌, ◌/◌, ◌%◌, ◌^◌, ◌≤◌, ◌<◌, ◌&&◌, lit≤, Bool, true, refl, ap, arith, List, [], ◌∷◌, ◌++◌, length, take, drop, Some, None, Ok, is_ok, codes, nat_lt}
 use Rattle.std.specs.Prelude.{pos}
 use Rattle.std.specs.List.{AllByRecursion}
 use Rattle.std.proofs.lemmas.Bool.{le-leb}
@@ -23,12 +23,10 @@ use Rattle.krb_msgs.specs.EncryptedData.{encrypted_data}
 use Rattle.krb_msgs.specs.EncryptionKey.{encryption_key}
 use Rattle.krb_msgs.specs.TransitedEncoding.{transited_encoding}
 use Rattle.krb_msgs.specs.EncTicketPart.{enc_ticket_part, enc_ticket_part_element}
-use Rattle.krb_msgs.specs.declared.enc_ticket_part.EncTicketPart.{EncTicketPart}
 use Rattle.krb_msgs.specs.declared.ticket.Ticket.{Ticket}
 use Rattle.krb_msgs.specs.Ticket.{ticket, ticket_element}
 use Rattle.krb_msgs.proofs.MessageLaws.{ticket_law, enc_ticket_part_law}
-use Rattle.ap_exchange.specs.Draws.{drawn_confounder, drawn_nonce}
-use Rattle.ap_exchange.specs.Keys.{ticket_usage}
+use Rattle.ap_exchange.specs.Draws.{drawn_confounder}
 use Rattle.ap_exchange.specs.Laws.{Fits}
 use Rattle.ap_exchange.specs.Request.{name_value, request_of}
 use Rattle.ap_exchange.specs.SealedTicket.{sealed_ticket}
@@ -36,16 +34,17 @@ use Rattle.scram_mech.specs.Initiator.{init_started}
 use Rattle.scram_mech.specs.Judging.{judged}
 use Rattle.scram_mech.specs.Formats.{pieces, pieces_of}
 use Rattle.scram_mech.specs.Values.{value_at, progress}
-use Rattle.files_command.specs.Making.{ticket_for, ticket_part, whole_second}
+use Rattle.files_command.specs.Making.{ticket_for}
+use Rattle.gss_base.specs.declared.mech.KerberosName.TheVariants.{Standard}
 use Rattle.spnego_core.specs.declared.setup.MechCred.TheVariants as creds
 use Rattle.spnego_core.specs.Exchange.{Occasion, UserFits}
 use Rattle.spnego_core.specs.InitMech.{init_begun}
 use Rattle.spnego_core.specs.Initiating.{init_start}
 use Rattle.spnego_core.proofs.ShortTexts.{nonce_length}
 use Rattle.pair_laws.specs.Meeting.{CredMeets, Meets}
-use Rattle.drill_plan.specs.Generator.{stepped, top_of, octets_from}
+use Rattle.drill_plan.specs.Generator.{stepped, octets_from}
 use Rattle.drill_plan.specs.Sessions.{moment_of, kind_of}
-use Rattle.drill_plan.specs.Setting.{client_name, server_name, server_key, ticket_draws, drill_ticket, drill_keytab, drill_acceptor, drill_setup, user_name, drill_verifiers}
+use Rattle.drill_plan.specs.Setting.{server_name, server_key, ticket_draws, drill_ticket, drill_keytab, drill_acceptor, drill_setup, user_name}
 use Rattle.drill_command.specs.Fitting.{IsGiven, tokens_for, FitLaw}
 use Rattle.drill_plan.specs.Setting.{CredOpens}
 use Rattle.drill_plan.proofs.Ticket.{spelled-few, drill_part, drill_cipher}
@@ -174,7 +173,7 @@ ticket-fits number day opens = record {
 }
 
 tickets-meet : (number : ℕ) (draws : List ℕ) → number < 86400 → CredOpens kinds.Kerberos → (occasions : List Occasion) → AllByRecursion (IsGiven number) occasions
-    → AllByRecursion (CredMeets drill_acceptor (drill_setup kinds.Kerberos (moment_of number) draws) (creds.Kerberos drill_ticket)) occasions
+    → AllByRecursion (CredMeets drill_acceptor (drill_setup kinds.Kerberos (moment_of number) draws) (creds.Kerberos Standard drill_ticket)) occasions
 tickets-meet number draws day opens [] given = tt
 tickets-meet number draws day opens (occasion ∷ occasions) given =
     (rw given.0.now (ticket-fits number day opens), tickets-meet number draws day opens occasions given.1)
@@ -230,7 +229,7 @@ meets-by : (kind : MechKind) (number : ℕ) (draws : List ℕ) → length draws 
 meets-by kinds.Kerberos number draws long bytes day opens occasions counted given = record {
   begins = request-begins (moment_of number) draws;
   chosen = refl;
-  cred = creds.Kerberos drill_ticket;
+  cred = creds.Kerberos Standard drill_ticket;
   is_cred = refl;
   counted = counted;
   facts = tickets-meet number draws day opens occasions given;

@@ -16,7 +16,7 @@ ghost use Rattle.gss_client.specs.Talk.{created_over};
 ghost use Rattle.gss_server.specs.Asking.{BookAnswers};
 ghost use Rattle.gate_models.specs.Looping.{Since};
 ghost use Rattle.drill_plan.specs.Generator.{octets_from};
-ghost use Rattle.drill_plan.specs.Sessions.{calls_in, session_count, moment_of, kind_of};
+ghost use Rattle.drill_plan.specs.Sessions.{calls_in, session_count, moment_of, kind_of, own_name};
 ghost use Rattle.drill_plan.specs.Sessions.{blank_objects};
 ghost use Rattle.drill_plan.specs.Setting.{drill_start, started_by};
 ghost use Rattle.drill_command.specs.Calls.{calls_from, after_calls};
@@ -276,7 +276,7 @@ fn due_of(
     mech: Box<dyn Mech>,
     count: u32,
 ) -> Result<(Vec<DueCall>, Start), NoMemory>
-    requires { meaning mech ≡ blank_of (kind_of number) }
+    requires { meaning mech ≡ blank_of (own_name (kind_of number)) }
     ensures calls { IfOk result (λ due. due.0.items
         ≡ calls_from count generators.old.calls.value) }
     ensures start { IfOk result (λ due. started_by meaning due.1 ≡ objects_start
@@ -309,7 +309,7 @@ fn next_session(
     count: u32,
 ) -> Result<Held, NoMemory>
     requires number { number ≤ 100 }
-    requires blank { meaning mech ≡ blank_of (kind_of number) }
+    requires blank { meaning mech ≡ blank_of (own_name (kind_of number)) }
     requires limits { book_limits book ≡ drill_limits }
     ensures limits { IfOk result (λ h. book_limits h.book ≡ book_limits book) }
     ensures next { IfOk result (λ h. h.starved ≡ false
@@ -360,7 +360,7 @@ fn go_on(
 ) -> Result<Course, NoMemory>
     requires few { vec_len course.sessions ≤ 100 }
     requires number { number ≤ 100 }
-    requires blank { meaning mech ≡ blank_of (kind_of number) }
+    requires blank { meaning mech ≡ blank_of (own_name (kind_of number)) }
     requires limits { book_limits course.book ≡ drill_limits }
     requires records { course.records ≤ vec_len course.sessions * 18446744073709551616 }
     ensures count { IfOk result (λ c. vec_len c.sessions ≡ vec_len course.sessions + 1) }

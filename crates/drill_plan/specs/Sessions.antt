@@ -3,6 +3,9 @@ use Rattle.std.specs.Prelude.{ℕ, zero, suc, ◌+◌, ◌-◌, ◌*◌, ◌/◌
 use Rattle.std.specs.Prelude.{◌∷◌, ◌++◌, if◌then◌else◌}
 use Rattle.gss_base.specs.declared.mech.MechKind.{MechKind}
 use Rattle.gss_base.specs.declared.mech.MechKind.TheVariants as kinds
+use Rattle.gss_base.specs.declared.mech.KerberosName.TheVariants.{Standard}
+use Rattle.gss_base.specs.declared.mech.MechName.{MechName}
+use Rattle.gss_base.specs.declared.mech.MechName.TheVariants as names
 use Rattle.mech_objects.specs.Meaning.{MechSays}
 use Rattle.mech_objects.specs.Standard.{blank_of}
 use Rattle.rpcsec_bodies.specs.declared.service.Service.{Service}
@@ -24,6 +27,11 @@ moment_of number = (1000000 + number) * 1000000
 abbrev pub kind_of : ℕ → MechKind
 kind_of number = if number % 2 == 0 then kinds.Kerberos else kinds.Scram
 
+-- the name under which a mechanism stands in a session: Kerberos's own, and never Microsoft's
+abbrev pub own_name : MechKind → MechName
+own_name kinds.Kerberos = names.Kerberos Standard
+own_name kinds.Scram = names.Scram
+
 -- how the calls of a session are protected
 abbrev pub service_of : ℕ → Service
 service_of number = if nat_lt (number % 4) 2 then services.Integrity else services.Privacy
@@ -32,4 +40,4 @@ service_of number = if nat_lt (number % 4) 2 then services.Integrity else servic
 -- mechanism
 abbrev pub blank_objects : ℕ → List MechSays
 blank_objects zero = []
-blank_objects (suc number) = blank_objects number ++ blank_of (kind_of number) ∷ []
+blank_objects (suc number) = blank_objects number ++ blank_of (own_name (kind_of number)) ∷ []

@@ -17,6 +17,7 @@ use Rattle.files_command.specs.declared.keytab_file.ServiceKey.{ServiceKey}
 use Rattle.files_command.specs.KeytabFile.{entry_of}
 use Rattle.files_command.specs.Making.{granted_with}
 use Rattle.spnego_core.specs.declared.setup.AcceptSetup.{AcceptSetup}
+use Rattle.gss_base.specs.declared.mech.KerberosName.TheVariants.{Standard}
 use Rattle.spnego_core.specs.declared.setup.MechCred.{MechCred}
 use Rattle.spnego_core.specs.declared.setup.MechCred.TheVariants as creds
 use Rattle.spnego_core.specs.Ends.{PlainSetup}
@@ -82,9 +83,9 @@ abbrev pub drill_ticket : Granted
 drill_ticket = granted_with client_name server_key (drawn_subkey (type_of_key server_key.key)
     ticket_draws) 1000000 1086400 (drawn_confounder ticket_draws)
 
--- the client's credential of a mechanism
+-- the client's credential of a mechanism, under its own name
 abbrev pub drill_credential : MechKind → MechCred
-drill_credential kinds.Kerberos = creds.Kerberos drill_ticket
+drill_credential kinds.Kerberos = creds.Kerberos Standard drill_ticket
 drill_credential kinds.Scram = creds.Scram user_name user_name
 
 -- what the client is begun with by a mechanism, at a moment, with 66 drawn octets

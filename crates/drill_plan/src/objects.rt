@@ -2,7 +2,7 @@
 
 ghost use Rattle.std.specs.Prelude.{◌≡◌, ◌+◌, OnOk, map};
 ghost use Rattle.mech_objects.specs.Standard.{blank_of};
-ghost use Rattle.drill_plan.specs.Sessions.{kind_of, blank_objects};
+ghost use Rattle.drill_plan.specs.Sessions.{kind_of, own_name, blank_objects};
 
 use mech_objects::Mech;
 use std::alloc::AllocError;
@@ -14,7 +14,7 @@ pub fn add_object(
     mech: Box<dyn Mech>,
 ) -> Result<(), AllocError>
     requires before { map meaning mechs.old.items ≡ blank_objects number }
-    requires blank { meaning mech ≡ blank_of (kind_of number) }
+    requires blank { meaning mech ≡ blank_of (own_name (kind_of number)) }
     ensures { OnOk result (map meaning mechs.new.items ≡ blank_objects (number + 1)) }
 {
     mechs.push(mech)?;

@@ -10,7 +10,7 @@ ghost use Rattle.init_ends.specs.Objects.{is_own_list};
 ghost use Rattle.init_ends.specs.Plain.{fresh_of};
 ghost use Rattle.gss_client.specs.Start.{objects_start};
 ghost use Rattle.drill_plan.specs.Generator.{octets_from, after_steps};
-ghost use Rattle.drill_plan.specs.Sessions.{moment_of, kind_of, service_of};
+ghost use Rattle.drill_plan.specs.Sessions.{moment_of, kind_of, own_name, service_of};
 ghost use Rattle.drill_plan.specs.Setting.{server_name, client_name, server_key, drill_keytab};
 ghost use Rattle.drill_plan.specs.Setting.{user_name, user_secret, drill_verifiers, drill_offer};
 ghost use Rattle.drill_plan.specs.Setting.{drill_acceptor, drill_credential, drill_start};
@@ -19,7 +19,7 @@ ghost use Rattle.drill_plan.specs.Setting.{started_by, CredOpens};
 use crate::generator::Generator;
 use accept_book::Limits;
 use files_command::{DRAWS, NoFile, ServiceKey, credential_for, write_keytab};
-use gss_base::{MechKind, NameRefusal, Principal};
+use gss_base::{KerberosName, MechKind, NameRefusal, Principal};
 use gss_client::{Service, Start};
 use init_ends::{InitSetup, armed_with};
 use krb_derive::Key;
@@ -215,7 +215,10 @@ fn ticket(alloc: Global) -> Result<MechCred, NoMemory>
     let client = client_name(alloc)?;
     let key = server_key(alloc)?;
     match credential_for(alloc, client, key, SINCE, UNTIL, &TICKET_DRAWS) {
-        Ok(granted) => Ok(MechCred::Kerberos(granted)),
+        Ok(granted) => Ok(MechCred::Kerberos {
+            name: KerberosName::Standard,
+            credential: granted,
+        }),
         Err(NoFile::NoMemory) => Err(NoMemory),
         Err(NoFile::Usage) => unreachable!(),
     }
@@ -277,13 +280,13 @@ pub fn facts_of(
     })
 }
 
-/// A list of one object, a blank one of this mechanism, armed with the client's credential.
+/// A list of one object, a blank one of this mechanism under its own name, armed with the client's credential.
 fn armed_one(
     alloc: Global,
     kind: MechKind,
     mech: Box<dyn Mech>,
 ) -> Result<Vec<Box<dyn Mech>>, NoMemory>
-    requires { meaning mech ≡ blank_of kind }
+    requires { meaning mech ≡ blank_of (own_name kind) }
     ensures is { IfOk result
         (λ list. map meaning list.items ≡ fresh_of (drill_credential kind) ∷ []) }
     ensures opens { IfOk result (λ _. CredOpens kind) }
@@ -294,7 +297,7 @@ fn armed_one(
     Ok(list)
 }
 
-/// What the client begins a session with, at the session's moment, by a blank object of the session's mechanism; it takes 66 random octets.
+/// What the client begins a session with, at the session's moment, by a blank object of the session's mechanism under its own name; it takes 66 random octets.
 pub fn start_of(
     alloc: Global,
     number: u32,
@@ -302,7 +305,7 @@ pub fn start_of(
     stamp: Moment,
     draw: &mut Generator,
 ) -> Result<Start, NoMemory>
-    requires blank { meaning mech ≡ blank_of (kind_of number) }
+    requires blank { meaning mech ≡ blank_of (own_name (kind_of number)) }
     ensures is { IfOk result (λ start. started_by meaning start
         ≡ objects_start (drill_start number stamp (octets_from 66 draw.old.value))) }
     ensures place { IfOk result (λ _. draw.new.value ≡ after_steps 66 draw.old.value) }

@@ -7,10 +7,10 @@
 mod setups;
 
 ghost use Rattle.std.specs.Prelude.{◌≡◌, false, map};
-ghost use Rattle.init_ends.specs.Arming.{IsBlankPair};
+ghost use Rattle.init_ends.specs.Arming.{AreStandard};
 
 use gss_client::{Parting, Procedure, Service, Session, Start, Talk, opaque_alone};
-use init_ends::InitSetup;
+use init_ends::{InitSetup, standard_mechs};
 use mech_objects::{KerberosMech, Mech, ScramMech};
 use sec_base::{Link, MemDraw, Octets};
 use setups::{BookLink, initiator, link_of};
@@ -37,7 +37,7 @@ const MOST_OCTETS: u32 = 65_536;
 fn hold(alloc: Global, link: &mut BookLink, mechs: Vec<Box<dyn Mech>>) -> Option<Talk>
     // a link that is closed isn't written to
     requires open { ⟦<BookLink as Link>⟧.closed link.old ≡ false }
-    requires blank { IsBlankPair (map meaning mechs.items) }
+    requires blank { AreStandard (map meaning mechs.items) }
 {
     let start = Start {
         setup: InitSetup::armed(alloc, mechs, initiator(alloc)?).ok()?,
@@ -83,9 +83,10 @@ fn report(rt: &impl Print, talk: &Talk, answered: usize) -> io::Result<()> {
 
 /// Makes the link and the client's mechanisms, holds the session, and says what came of it.
 fn run(rt: &impl Print, alloc: Global) -> Option<()> {
-    let mut mechs: Vec<Box<dyn Mech>> = Vec::with_capacity(alloc, 2).ok()?;
-    mechs.push_reserved(Box::new(alloc, KerberosMech::new(alloc)).ok()?);
-    mechs.push_reserved(Box::new(alloc, ScramMech::new(alloc)).ok()?);
+    let kerberos: Box<dyn Mech> = Box::new(alloc, KerberosMech::new(alloc)).ok()?;
+    let microsoft: Box<dyn Mech> = Box::new(alloc, KerberosMech::new_ms(alloc)).ok()?;
+    let scram: Box<dyn Mech> = Box::new(alloc, ScramMech::new(alloc)).ok()?;
+    let mechs = standard_mechs(alloc, kerberos, microsoft, scram).ok()?;
     let mut link = link_of(alloc)?;
     let talk = hold(alloc, &mut link, mechs);
     let answered = link.kept().len();

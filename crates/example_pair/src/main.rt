@@ -10,10 +10,10 @@ mod outcomes;
 mod setups;
 
 ghost use Rattle.std.specs.Prelude.{◌≡◌, IfSome, map, true};
-ghost use Rattle.init_ends.specs.Arming.{IsBlankPair};
+ghost use Rattle.init_ends.specs.Arming.{AreStandard};
 ghost use Rattle.init_ends.specs.Ends.{end_by, end_means, holds, holds_after, step_by};
 
-use init_ends::{InitEnd, InitSetup, InitStep};
+use init_ends::{InitEnd, InitSetup, InitStep, standard_mechs};
 use mech_objects::{KerberosMech, Mech, ScramMech};
 use sec_base::{Moment, Octets};
 use setups::{DRAWS, acceptor, initiator};
@@ -35,11 +35,13 @@ fn say(rt: &impl Print, message: &str, token: &Octets) {
 /// The initiator's first token, a NegTokenInit, lists its mechanisms, here SCRAM alone, and carries a message of the first of them. The
 /// objects that have a credential are armed with it; the others are dropped.
 fn open(alloc: Global, mechs: Vec<Box<dyn Mech>>) -> Option<(InitEnd, Octets)>
-    requires { IsBlankPair (map meaning mechs.items) }
+    requires { AreStandard (map meaning mechs.items) }
     ensures { IfSome result (λ opened. holds (end_means meaning opened.0) ≡ true) }
 {
-    let setup = InitSetup::armed(alloc, mechs, initiator(alloc)?).ok()?;
-    InitEnd::start(alloc, setup).ok()
+    match InitSetup::armed(alloc, mechs, initiator(alloc)?) {
+        Ok(setup) => InitEnd::start(alloc, setup).ok(),
+        Err(_) => None,
+    }
 }
 
 /// A step of the acceptor, which takes a token of the initiator. None where the token is refused.
@@ -139,7 +141,7 @@ fn negotiate(
     host: &AcceptSetup,
     mechs: Vec<Box<dyn Mech>>,
 ) -> Option<(Outcome, Outcome)>
-    requires { IsBlankPair (map meaning mechs.items) }
+    requires { AreStandard (map meaning mechs.items) }
 {
     let (initiator, token) = open(alloc, mechs)?;
     say(rt, "initiator: client-first-message", &token);
@@ -148,12 +150,13 @@ fn negotiate(
     confirm(rt, alloc, host, initiator, acceptor, token)
 }
 
-/// Both ends from their setups on. The initiator is handed an object of each mechanism that it may be asked for, as the boxed values of one
+/// Both ends from their setups on. The initiator is handed an object under each name that it may be asked for, as the boxed values of one
 /// trait: it steps them, and knows no more of them than the trait says.
 fn run(rt: &impl Print, alloc: Global) -> Option<()> {
-    let mut mechs: Vec<Box<dyn Mech>> = Vec::with_capacity(alloc, 2).ok()?;
-    mechs.push_reserved(Box::new(alloc, KerberosMech::new(alloc)).ok()?);
-    mechs.push_reserved(Box::new(alloc, ScramMech::new(alloc)).ok()?);
+    let kerberos: Box<dyn Mech> = Box::new(alloc, KerberosMech::new(alloc)).ok()?;
+    let microsoft: Box<dyn Mech> = Box::new(alloc, KerberosMech::new_ms(alloc)).ok()?;
+    let scram: Box<dyn Mech> = Box::new(alloc, ScramMech::new(alloc)).ok()?;
+    let mechs = standard_mechs(alloc, kerberos, microsoft, scram).ok()?;
     let host = acceptor(alloc)?;
     let outcomes = negotiate(rt, alloc, &host, mechs);
     drop(host);

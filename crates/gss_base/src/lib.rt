@@ -11,5 +11,5 @@ pub mod status;
 pub use bindings::{Bindings, EmptyBindings, binding_hash};
 pub use label::Label;
 pub use mark::{Mark, mark_of};
-pub use mech::MechKind;
+pub use mech::{KerberosName, MechKind, MechName};
 pub use principal::{NameRefusal, Principal};

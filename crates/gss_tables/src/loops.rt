@@ -2,7 +2,7 @@
 
 ghost use Rattle.std.specs.Prelude.{◌≡◌, true, false, IfSome, map};
 ghost use Rattle.spnego_core.specs.InitMech as plain_lists;
-ghost use Rattle.init_ends.specs.Arming.{IsBlankPair};
+ghost use Rattle.init_ends.specs.Arming.{AreStandard};
 ghost use Rattle.init_ends.specs.Ends.{setup_by};
 ghost use Rattle.init_ends.specs.Objects.{is_own_list};
 
@@ -13,7 +13,7 @@ use client_command::run_client;
 use gate_models::{Beginning, LoopLink};
 use gss_client::{Service, Session, Start};
 use gss_server::Kept;
-use init_ends::InitSetup;
+use init_ends::{InitSetup, standard_mechs};
 use mech_objects::{KerberosMech, Mech, ScramMech};
 use sec_base::{Link, MemDraw, MemShelf, Moment, NoMemory, Octets, Text};
 use spnego_core::{InitFacts, Outcome};
@@ -111,7 +111,7 @@ fn run(
     said: &mut Said,
 )
     requires unclosed { ⟦<BookLink as Link>⟧.closed link.old ≡ false }
-    requires mechs { IsBlankPair (map meaning mechs.items) }
+    requires mechs { AreStandard (map meaning mechs.items) }
 {
     let Devices {
         clock,
@@ -124,8 +124,8 @@ fn run(
     devices.say(said);
 }
 
-/// The same by an object of Kerberos and one of SCRAM.
-fn run_by_both(
+/// The same by objects of Kerberos under both its names, and of SCRAM.
+fn run_by_all(
     alloc: Global,
     words: &[Text],
     link: &mut BookLink,
@@ -135,9 +135,10 @@ fn run_by_both(
 ) -> Result<(), NoMemory>
     requires { ⟦<BookLink as Link>⟧.closed link.old ≡ false }
 {
-    let mut mechs: Vec<Box<dyn Mech>> = Vec::with_capacity(alloc, 2)?;
-    mechs.push_reserved(Box::new(alloc, KerberosMech::new(alloc))?);
-    mechs.push_reserved(Box::new(alloc, ScramMech::new(alloc))?);
+    let kerberos = Box::new(alloc, KerberosMech::new(alloc))?;
+    let microsoft = Box::new(alloc, KerberosMech::new_ms(alloc))?;
+    let scram = Box::new(alloc, ScramMech::new(alloc))?;
+    let mechs = standard_mechs(alloc, kerberos, microsoft, scram)?;
     run(alloc, words, link, shelf, devices, mechs, said);
     Ok(())
 }
@@ -165,7 +166,7 @@ pub fn run_over(setting: &Setting, files: &Files, cells: &mut Cells<'_>, said: &
     let mut devices = Devices::new(alloc, present(), Vec::new(alloc), Vec::new(alloc));
     match loop_of(alloc, setting, letters, sevens(alloc)) {
         Some(mut link) => {
-            let ran = run_by_both(
+            let ran = run_by_all(
                 alloc,
                 words.as_slice(),
                 &mut link,
@@ -292,8 +293,8 @@ fn pair(alloc: Global, setup: InitSetup, link: BookLink, said: &mut Said)
     }
 }
 
-/// The same by an object of Kerberos and one of SCRAM.
-fn pair_by_both(
+/// The same by objects of Kerberos under both its names, and of SCRAM.
+fn pair_by_all(
     alloc: Global,
     facts: InitFacts,
     link: BookLink,
@@ -302,9 +303,10 @@ fn pair_by_both(
     requires unclosed { ⟦<BookLink as Link>⟧.closed link ≡ false }
     requires list { plain_lists.is_own_list facts.list ≡ true }
 {
-    let mut mechs: Vec<Box<dyn Mech>> = Vec::with_capacity(alloc, 2)?;
-    mechs.push_reserved(Box::new(alloc, KerberosMech::new(alloc))?);
-    mechs.push_reserved(Box::new(alloc, ScramMech::new(alloc))?);
+    let kerberos = Box::new(alloc, KerberosMech::new(alloc))?;
+    let microsoft = Box::new(alloc, KerberosMech::new_ms(alloc))?;
+    let scram = Box::new(alloc, ScramMech::new(alloc))?;
+    let mechs = standard_mechs(alloc, kerberos, microsoft, scram)?;
     let setup = InitSetup::armed(alloc, mechs, facts)?;
     pair(alloc, setup, link, said);
     Ok(())
@@ -316,7 +318,7 @@ fn pair_over(setting: &Setting, alloc: Global, facts: InitFacts, offer: &str, sa
 {
     match loop_of(alloc, setting, offer, Vec::new(alloc)) {
         Some(link) => {
-            if pair_by_both(alloc, facts, link, said).is_err() {
+            if pair_by_all(alloc, facts, link, said).is_err() {
                 said.starve();
             }
         }

@@ -1,7 +1,8 @@
 //! The client's program: makes the real devices and the mechanisms' objects, and runs the client over them.
 #![tactic(auto)]
 
-use client_command::{address_of, blank_pair, run_client};
+use client_command::{address_of, run_client};
+use init_ends::standard_mechs;
 use mech_objects::{KerberosMech, ScramMech};
 use sec_base::Text;
 use std::process::ExitCode;
@@ -25,7 +26,7 @@ fn main(rt: HostRuntime) -> ExitCode {
     ExitCode::from(status)
 }
 
-/// Runs the client with these words and the objects of Kerberos and SCRAM, over a connection to the address that they name.
+/// Runs the client with these words and the objects of Kerberos under both its names and of SCRAM, over a connection to the address that they name.
 fn run(rt: HostRuntime, words: &[Text]) -> u8 {
     let Ok(mut draw) = RandDraw::new(&rt) else {
         return NOT_STARTED;
@@ -34,10 +35,13 @@ fn run(rt: HostRuntime, words: &[Text]) -> u8 {
     let Ok(kerberos) = Box::new(alloc, KerberosMech::new(alloc)) else {
         return OUT_OF_MEMORY;
     };
+    let Ok(microsoft) = Box::new(alloc, KerberosMech::new_ms(alloc)) else {
+        return OUT_OF_MEMORY;
+    };
     let Ok(scram) = Box::new(alloc, ScramMech::new(alloc)) else {
         return OUT_OF_MEMORY;
     };
-    let Ok(mechs) = blank_pair(alloc, kerberos, scram) else {
+    let Ok(mechs) = standard_mechs(alloc, kerberos, microsoft, scram) else {
         return OUT_OF_MEMORY;
     };
     // a command has an address, and what isn't one needs no connection

@@ -3,4 +3,4 @@ pub mod EndSteps
 pub mod PlainNames
 pub mod PlainStates
 pub mod PlainSteps
-pub mod SameKinds
+pub mod Taking

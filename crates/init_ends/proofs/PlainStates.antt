@@ -24,7 +24,7 @@ use Rattle.init_ends.specs.Plain.{ask_of, waiting_of}
 -- the own mechanism begins as its object does
 pub begun-own : (own : PlainSetup) (cred : MechCred) → init_begun own cred ≡ begun cred (ask_of own)
 unfolding init_begun begun
-begun-own own (creds.Kerberos credential) = refl
+begun-own own (creds.Kerberos name credential) = refl
 begun-own own (creds.Scram user password) = refl
 
 -- the state of an object that began
@@ -53,7 +53,7 @@ by-text (Err refusal) = tt
 
 kind-begun : (cred : MechCred) (ask : MechAsk) → IsOf (kind_of cred) (state_begun (begun cred ask))
 unfolding begun
-kind-begun (creds.Kerberos credential) ask = by-request _ _
+kind-begun (creds.Kerberos name credential) ask = by-request _ _
 kind-begun (creds.Scram user password) ask = by-text _
 
 after-reply : (made : Result MechDone ApRefusal) → IsOf kinds.Kerberos (state_answered (reply_answered made))

@@ -1,16 +1,23 @@
 -- The objects of an initiator as a list.
-use Rattle.std.specs.Prelude.{ℕ, Bool, true, false, not, ◌&&◌, if◌then◌else◌, nat_eq, List, [], ◌∷◌}
+use Rattle.std.specs.Prelude.{ℕ, Bool, true, false, ◌&&◌, ◌||◌, if◌then◌else◌, List, [], ◌∷◌}
 use Rattle.std.specs.Prelude.{map, Option, Some, None}
-use Rattle.std.specs.Cmp.Lexicographic.{pointwise}
 use Rattle.sec_base.specs.Oid.{is_oid}
-use Rattle.spnego_core.specs.Choice.{same_kind}
+use Rattle.gss_base.specs.declared.mech.MechKind.{MechKind}
+use Rattle.gss_base.specs.Mech.{mech_of}
+use Rattle.spnego_core.specs.Choice.{is_kind, is_same_oid, are_few}
 use Rattle.mech_objects.specs.Meaning.{MechSays}
 use Rattle.mech_objects.specs.declared.ask.Stage.{Stage}
 use Rattle.mech_objects.specs.declared.ask.Stage.TheVariants.{Blank, Fresh, Waiting, Over}
 
--- an identifier names what stands under that one
+-- both are one mechanism, where there is one
+abbrev pub are_one : Option MechKind → Option MechKind → Bool
+are_one named None = false
+are_one named (Some own) = is_kind named own
+
+-- an identifier names what stands under that one: it is the same, or another of the same mechanism,
+-- as Kerberos has two. One of no mechanism that is known here is only named by itself
 abbrev pub is_named : List ℕ → List ℕ → Bool
-is_named oid own = pointwise nat_eq oid own
+is_named oid own = is_same_oid oid own || are_one (mech_of oid) (mech_of own)
 
 -- the identifiers of the objects, in their order
 abbrev pub oids_of : List MechSays → List (List ℕ)
@@ -30,24 +37,17 @@ is_waiting Fresh = false
 is_waiting Waiting = true
 is_waiting Over = false
 
--- they stand under different identifiers, and are of different mechanisms
-abbrev pub differ : MechSays → MechSays → Bool
-differ first second = not (is_named first.oid second.oid) && not (same_kind first.kind second.kind)
-
--- one or two fresh objects, with different identifiers and of different mechanisms
-abbrev pub is_own_list : List MechSays → Bool
-is_own_list [] = false
-is_own_list (only ∷ []) = is_fresh only.stage
-is_own_list (first ∷ second ∷ []) =
-    is_fresh first.stage && (is_fresh second.stage && differ first second)
-is_own_list (first ∷ second ∷ third ∷ rest) = false
-
 -- each of them is fresh
 abbrev pub all_fresh : List MechSays → Bool
 all_fresh [] = true
 all_fresh (m ∷ rest) = is_fresh m.stage && all_fresh rest
 
--- the object that an identifier names
+-- one to three fresh objects with different identifiers; two may be of one mechanism, under its two
+-- names
+abbrev pub is_own_list : List MechSays → Bool
+is_own_list list = are_few (oids_of list) && all_fresh list
+
+-- the first object that an identifier names
 abbrev pub mech_for : List MechSays → List ℕ → Option MechSays
 mech_for [] oid = None
 mech_for (m ∷ rest) oid = if is_named oid m.oid then Some m else mech_for rest oid
@@ -56,13 +56,6 @@ mech_for (m ∷ rest) oid = if is_named oid m.oid then Some m else mech_for rest
 abbrev pub is_first_named : List (List ℕ) → List ℕ → Bool
 is_first_named [] oid = false
 is_first_named (first ∷ rest) oid = is_named oid first
-
--- one or two identifiers
-abbrev pub is_one_or_two : List (List ℕ) → Bool
-is_one_or_two [] = false
-is_one_or_two (only ∷ []) = true
-is_one_or_two (first ∷ second ∷ []) = true
-is_one_or_two (first ∷ second ∷ third ∷ rest) = false
 
 -- each is an object identifier of at most 32 octets
 abbrev pub are_oids : List (List ℕ) → Bool

@@ -3,11 +3,11 @@
 use Rattle.std.specs.Prelude.{◌≡◌, ℕ, Bool, true, List, [], ◌∷◌, map, Option, Some, None, Result}
 use Rattle.std.specs.Prelude.{Ok, Err}
 use Rattle.gss_base.specs.declared.mech.MechKind.{MechKind}
-use Rattle.gss_base.specs.Mech.{oid_of, mech_of}
+use Rattle.gss_base.specs.Mech.{mech_of}
 use Rattle.spnego_core.specs.declared.refusal.NegRefusal.{NegRefusal}
 use Rattle.spnego_core.specs.declared.setup.MechCred.{MechCred}
 use Rattle.spnego_core.specs.MechStates.{InitMech}
-use Rattle.spnego_core.specs.InitMech.{kind_of}
+use Rattle.spnego_core.specs.InitMech.{kind_of, name_of}
 use Rattle.spnego_core.specs.InitMech as plain_lists
 use Rattle.spnego_core.specs.Ends.{PlainSetup, OpeningSays, TalkSays, TalkingSays, SignedSays}
 use Rattle.spnego_core.specs.Ends.{EndSays}
@@ -34,7 +34,7 @@ ask_of own = record { stamp = own.stamp; draws = own.draws; bindings = own.bindi
 
 -- the object of Kerberos or SCRAM that got this credential, and sent nothing
 abbrev pub fresh_of : MechCred → MechSays
-fresh_of cred = armed (blank_of (kind_of cred)) cred
+fresh_of cred = armed (blank_of (name_of cred)) cred
 
 -- the same object once it began so, sent and took these tokens, and waits
 abbrev pub waiting_of : MechCred → MechAsk → List (List ℕ) → List (List ℕ) → MechSays
@@ -45,10 +45,10 @@ waiting_of cred ask sent taken =
 abbrev pub objects_of : PlainSetup → SetupMeans
 objects_of own = record { list = map fresh_of own.list; ask = ask_of own }
 
--- the talk over objects: mechanisms are named by their identifiers
-abbrev pub named_talk : TalkSays → Talk
-named_talk talk =
-    record { list = own_list talk.own; chosen = oid_of talk.chosen; asked = talk.asked }
+-- the talk over objects: the chosen mechanism is named by the identifier by which the acceptor
+-- chose it
+abbrev pub named_talk : TalkSays → List ℕ → Talk
+named_talk talk oid = record { list = own_list talk.own; chosen = oid; asked = talk.asked }
 
 -- ---- an end over objects, and a plain one
 
@@ -72,17 +72,21 @@ pub record TalksAs (end : EndMeans) (plain : TalkingSays) : Type 0 where
   pub cred : MechCred
   pub sent : List (List ℕ)
   pub taken : List (List ℕ)
+  pub oid : List ℕ
+  pub oid_is : mech_of oid ≡ Some plain.talk.chosen
   pub chosen : kind_of cred ≡ plain.talk.chosen
   pub state : state_of cred (ask_of plain.talk.own) taken ≡ Some plain.mech
   pub end_is : end ≡ Talks (record {
-    talk = named_talk plain.talk;
+    talk = named_talk plain.talk oid;
     mech = waiting_of cred (ask_of plain.talk.own) sent taken;
   })
 
 -- the own MIC was sent
 pub record SignsAs (end : EndMeans) (plain : SignedSays) : Type 0 where
+  pub oid : List ℕ
+  pub oid_is : mech_of oid ≡ Some plain.talk.chosen
   pub end_is : end ≡ Signed (record {
-    talk = named_talk plain.talk;
+    talk = named_talk plain.talk oid;
     outcome = plain.outcome;
     listed = plain.listed;
   })
@@ -154,7 +158,7 @@ plain_of own (Signed signed) = plain_signed own signed (mech_of signed.talk.chos
 
 -- an initiator over the objects of Kerberos and SCRAM does what one over their credentials does
 pub record PlainLaw : Type 0 where
-  -- both setups are of one or two mechanisms, or neither is
+  -- both setups are of one to three mechanisms with different identifiers, or neither is
   pub lists : (own : PlainSetup)
       → is_own_list (objects_of own).list ≡ plain_lists.is_own_list own.list
   pub starts : (own : PlainSetup) → StartsAs (end_start (objects_of own)) (sent_of (init_start own))

@@ -1,26 +1,44 @@
 //! Objects that are handed in blank, armed and put in the order of their credentials.
 
-ghost use Rattle.std.specs.Prelude.{◌≡◌, ◌∷◌, [], IfOk, Option, map, true, false};
-ghost use Rattle.spnego_core.specs.Choice.{same_kind};
+ghost use Rattle.std.specs.Prelude.{◌≡◌, IfOk, map, true};
 ghost use Rattle.spnego_core.specs.Ends.{setup_of};
 ghost use Rattle.spnego_core.specs.InitMech as plain_lists;
-ghost use Rattle.spnego_core.specs.InitMech.{kind_of};
-ghost use Rattle.spnego_core.specs.declared.setup.MechCred.{MechCred as MechCredIs};
+ghost use Rattle.spnego_core.specs.InitMech.{kind_of, name_of, oid_listed};
 ghost use Rattle.mech_objects.specs.Meaning.{armed};
+ghost use Rattle.gss_base.specs.declared.mech.KerberosName.TheVariants.{Standard, Microsoft};
+ghost use Rattle.gss_base.specs.declared.mech.MechName.TheVariants.{Kerberos, Scram};
 ghost use Rattle.mech_objects.specs.Standard.{blank_of};
 ghost use Rattle.mech_objects.specs.declared.ask.Stage.TheVariants.{Blank};
-ghost use Rattle.init_ends.specs.Arming.{IsBlankPair, with_second};
+ghost use Rattle.init_ends.specs.Arming.{AreBlank, AreStandard, has_oid, place_of, without};
 ghost use Rattle.init_ends.specs.Ends.{setup_means};
 ghost use Rattle.init_ends.specs.Objects.{is_own_list};
 ghost use Rattle.init_ends.specs.Plain.{fresh_of, objects_of};
 
 use crate::ends::InitSetup;
-use crate::lists::kind_at;
-use gss_base::MechKind;
+use crate::lists::oid_at;
 use mech_objects::{Mech, MechAsk};
-use sec_base::{Items, NoMemory};
-use spnego_core::{InitFacts, MechCred, same_kind};
+use sec_base::{Items, NoMemory, Oid};
+use spnego_core::{InitFacts, MechCred};
 use std::alloc::Global;
+
+/// The blank objects of Kerberos under its own identifier, of Kerberos under Microsoft's, and of SCRAM, as `InitSetup::armed` takes them.
+pub fn standard_mechs(
+    alloc: Global,
+    kerberos: Box<dyn Mech>,
+    microsoft: Box<dyn Mech>,
+    scram: Box<dyn Mech>,
+) -> Result<Vec<Box<dyn Mech>>, NoMemory>
+    requires kerberos { meaning kerberos ≡ blank_of (Kerberos Standard) }
+    requires microsoft { meaning microsoft ≡ blank_of (Kerberos Microsoft) }
+    requires scram { meaning scram ≡ blank_of Scram }
+    ensures { IfOk result (λ v. AreStandard (map meaning v.items)) }
+{
+    let mut list = Vec::new(alloc);
+    list.push(kerberos)?;
+    list.push(microsoft)?;
+    list.push(scram)?;
+    Ok(list)
+}
 
 /// A blank object, armed with a credential of its mechanism.
 pub fn armed_with(object: Box<dyn Mech>, cred: MechCred) -> Box<dyn Mech>
@@ -33,100 +51,73 @@ pub fn armed_with(object: Box<dyn Mech>, cred: MechCred) -> Box<dyn Mech>
     object
 }
 
-/// Whether an object is of this mechanism.
-fn is_of(object: &Box<dyn Mech>, kind: MechKind) -> bool
-    ensures { result ≡ same_kind (meaning object.now).kind kind }
+/// Where the first object under an identifier stands; there is one.
+fn place_of(mechs: &[Box<dyn Mech>], oid: &Oid) -> usize
+    requires { has_oid (map meaning mechs.now) oid.now ≡ true }
+    ensures { result ≡ place_of (map meaning mechs.now) oid.now }
 {
-    same_kind(kind_at(object), kind)
-}
-
-/// A list of one object.
-fn one(alloc: Global, only: Box<dyn Mech>) -> Result<Vec<Box<dyn Mech>>, NoMemory>
-    ensures { IfOk result (λ v. map meaning v.items ≡ meaning only ∷ []) }
-{
-    let mut list = Vec::new(alloc);
-    list.push(only)?;
-    Ok(list)
-}
-
-/// A list of two objects.
-fn two(
-    alloc: Global,
-    first: Box<dyn Mech>,
-    second: Box<dyn Mech>,
-) -> Result<Vec<Box<dyn Mech>>, NoMemory>
-    ensures { IfOk result (λ v. map meaning v.items ≡ meaning first ∷ meaning second ∷ []) }
-{
-    let mut list = Vec::new(alloc);
-    list.push(first)?;
-    list.push(second)?;
-    Ok(list)
-}
-
-/// The two objects, armed with these credentials; `first` is of the first one's mechanism.
-fn armed_both(
-    alloc: Global,
-    first: Box<dyn Mech>,
-    second: Box<dyn Mech>,
-    cred: MechCred,
-    other: Option<MechCred>,
-) -> Result<Vec<Box<dyn Mech>>, NoMemory>
-    requires list { plain_lists.is_own_list (with_second cred other) ≡ true }
-    requires first { meaning first ≡ blank_of (kind_of cred) }
-    requires second { (meaning second ≡ blank_of (meaning second).kind)
-        × (same_kind (meaning second).kind (kind_of cred) ≡ false) }
-    ensures { IfOk result (λ v. map meaning v.items ≡ map fresh_of (with_second cred other)) }
-{
-    let first = armed_with(first, cred);
-    match other {
-        None => one(alloc, first),
-        Some(other) => two(alloc, first, armed_with(second, other)),
+    for (place, object) in mechs.iter().enumerate() {
+        if oid_at(object) == *oid {
+            return place;
+        }
     }
+    unreachable!()
 }
 
-/// The first credential of one or two, and the second, where there is one.
-fn pair_of(creds: Items<MechCred>) -> (MechCred, Option<MechCred>)
-    requires { plain_lists.is_own_list creds ≡ true }
-    ensures { with_second result.0 result.1 ≡ creds }
+/// The first object under a credential's identifier, and the others; there is one.
+fn taken(mechs: Vec<Box<dyn Mech>>, cred: &MechCred) -> (Box<dyn Mech>, Vec<Box<dyn Mech>>)
+    requires blank { AreBlank (map meaning mechs.items) }
+    requires there { has_oid (map meaning mechs.items) (oid_listed cred.now) ≡ true }
+    ensures object { meaning result.0 ≡ blank_of (name_of cred.now) }
+    ensures others { map meaning result.1.items
+        ≡ without (map meaning mechs.items) (oid_listed cred.now) }
 {
-    let mut creds = creds.into_vec();
-    let first = creds.remove(0);
-    (first, creds.pop())
+    let place = place_of(mechs.as_slice(), &cred.name().oid());
+    let mut mechs = mechs;
+    let object = mechs.remove(place);
+    (object, mechs)
 }
 
-/// The objects of these credentials, armed, in their order; one that gets no credential is dropped. `mechs` has one blank object of Kerberos and one of
-/// SCRAM, in any order.
-#[tactic(auto, using(crate::proofs::SameKinds::same_is, crate::proofs::SameKinds::same_turns, crate::proofs::SameKinds::same_swaps))]
+/// The blank object under a credential's identifier, armed with it.
+#[tactic(auto, using(crate::proofs::Taking::named_kind))]
+fn armed_for(object: Box<dyn Mech>, cred: MechCred) -> Box<dyn Mech>
+    requires { meaning object ≡ blank_of (name_of cred) }
+    ensures { meaning result ≡ fresh_of cred }
+{
+    armed_with(object, cred)
+}
+
+/// The objects of these credentials, armed, in their order: each under the identifier of its credential. One that gets no credential is
+/// dropped. `mechs` has blank objects in any order, and at least one under each name.
 pub fn armed_list(
     alloc: Global,
     mechs: Vec<Box<dyn Mech>>,
     creds: Items<MechCred>,
 ) -> Result<Vec<Box<dyn Mech>>, NoMemory>
-    requires blank { IsBlankPair (map meaning mechs.items) }
+    requires blank { AreStandard (map meaning mechs.items) }
     requires list { plain_lists.is_own_list creds ≡ true }
     ensures { IfOk result (λ v. map meaning v.items ≡ map fresh_of creds) }
 {
-    let (cred, other) = pair_of(creds);
     let mut mechs = mechs;
-    let first = mechs.remove(0);
-    let second = mechs.remove(0);
-    if is_of(&first, cred.kind()) {
-        armed_both(alloc, first, second, cred, other)
-    } else {
-        armed_both(alloc, second, first, cred, other)
+    let mut list = Vec::new(alloc);
+    for cred in creds.into_vec() {
+        let (object, others) = taken(mechs, &cred);
+        mechs = others;
+        list.push(armed_for(object, cred))?;
     }
+    Ok(list)
 }
 
 impl InitSetup {
-    /// The setup over the objects of these facts' credentials, in their order. `mechs` has one blank object of Kerberos and one of SCRAM, in any
-    /// order.
-    #[tactic(auto, using(crate::proofs::SameKinds::own_objects))]
+    /// The setup over the objects of these facts' credentials, in their order. `mechs` has blank objects in any order, and at least one under
+    /// each name.
+    #[tactic(auto, using(crate::proofs::PlainNames::own_objects))]
     pub fn armed(
         alloc: Global,
         mechs: Vec<Box<dyn Mech>>,
         facts: InitFacts,
     ) -> Result<InitSetup, NoMemory>
-        requires blank { IsBlankPair (map meaning mechs.items) }
+        requires blank { AreStandard (map meaning mechs.items) }
         requires list { plain_lists.is_own_list facts.list ≡ true }
         ensures objects { IfOk result (λ s. setup_means meaning s ≡ objects_of (setup_of facts)) }
         ensures own { IfOk result (λ s. is_own_list (setup_means meaning s).list ≡ true) }

@@ -4,8 +4,8 @@ use mech_objects::{Mech, MechAsk};
 use sec_base::{Items, Octets, Oid};
 use spnego_core::Outcome;
 
-/// What an initiator is begun with. Each call that takes one asks for one or two fresh objects, with different object identifiers and of
-/// different mechanisms.
+/// What an initiator is begun with. Each call that takes one asks for one to three fresh objects with different object identifiers; two of
+/// them may be of one mechanism, under its two names.
 #[derive(Drop)]
 pub struct InitSetup {
     /// The mechanisms, the preferred first.
@@ -31,7 +31,7 @@ pub struct Opening {
 pub struct Talk {
     /// The own list as it was sent.
     pub(crate) list: Items<Oid>,
-    /// The mechanism that the acceptor chose.
+    /// The identifier by which the acceptor chose a mechanism.
     pub(crate) chosen: Oid,
     /// Some reply said request-mic.
     pub(crate) asked: bool,

@@ -9,6 +9,6 @@ mod reply;
 mod start;
 mod step;
 
-pub use arming::{armed_list, armed_with};
+pub use arming::{armed_list, armed_with, standard_mechs};
 pub use ends::{InitEnd, InitSetup, InitStep};
 pub use laws::{prove_end_laws, prove_plain_law};

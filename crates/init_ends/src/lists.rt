@@ -2,18 +2,33 @@
 
 ghost use Rattle.std.specs.Prelude.{◌≡◌, IfOk, IfSome, map, option_map, true};
 ghost use Rattle.mech_objects.specs.declared.ask.Stage.TheVariants.{Fresh};
-ghost use Rattle.init_ends.specs.Objects.{is_named, oids_of, all_fresh, mech_for, are_oids};
+ghost use Rattle.init_ends.specs.Objects.{are_one, is_named, oids_of, all_fresh, mech_for};
+ghost use Rattle.init_ends.specs.Objects.{are_oids};
 
 use gss_base::MechKind;
 use mech_objects::Mech;
 use sec_base::{NoMemory, Oid};
+use spnego_core::same_kind;
 use std::alloc::Global;
 
-/// Whether this identifier names what stands under that one.
+/// Whether both are one mechanism, where there is one.
+fn are_one(named: Option<MechKind>, own: Option<MechKind>) -> bool
+    ensures { result ≡ are_one named own }
+{
+    match own {
+        None => false,
+        Some(own) => match named {
+            None => false,
+            Some(named) => same_kind(named, own),
+        },
+    }
+}
+
+/// Whether this identifier names what stands under that one: it is the same, or another of the same mechanism (RFC 4178 section 4.2.2).
 pub fn is_named(oid: &Oid, own: &Oid) -> bool
     ensures { result ≡ is_named oid.now own.now }
 {
-    *oid == *own
+    *oid == *own || are_one(MechKind::of(oid), MechKind::of(own))
 }
 
 /// The mechanism of one object.
@@ -41,7 +56,7 @@ pub fn own_list(alloc: Global, list: &[Box<dyn Mech>]) -> Result<Vec<Oid>, NoMem
     Ok(found)
 }
 
-/// The object that an identifier names; the others are dropped.
+/// The first object that an identifier names; the others are dropped.
 pub fn mech_for(list: Vec<Box<dyn Mech>>, oid: &Oid) -> Option<Box<dyn Mech>>
     requires { all_fresh (map meaning list.items) ≡ true }
     ensures fresh { IfSome result (λ b. (meaning b).stage ≡ Fresh) }

@@ -6,7 +6,8 @@ ghost use Rattle.spnego_core.specs.Tokens.{init_octets};
 ghost use Rattle.spnego_core.specs.Sizes.{IsShort, FitsBeside};
 ghost use Rattle.mech_objects.specs.Meaning.{starts, started};
 ghost use Rattle.mech_objects.specs.declared.ask.Stage.TheVariants.{Fresh};
-ghost use Rattle.init_ends.specs.Objects.{is_own_list, is_one_or_two};
+ghost use Rattle.spnego_core.specs.Choice.{are_few};
+ghost use Rattle.init_ends.specs.Objects.{is_own_list};
 ghost use Rattle.init_ends.specs.Ends.{setup_means, end_means, holds};
 ghost use Rattle.init_ends.specs.Initiating.{first_sent, end_start};
 
@@ -40,7 +41,7 @@ fn first_sent(
     list: Items<Oid>,
     token: Octets,
 ) -> Result<(Items<Oid>, Octets), NoMemory>
-    requires { is_one_or_two list ≡ true }
+    requires { are_few list ≡ true }
     ensures list { IfOk result (λ p. p.0 ≡ list) }
     ensures exact { IfOk result (λ p. p.1 ≡ init_octets (first_sent list token)) }
     ensures short { FitsBeside token → IfOk result (λ p. IsShort p.1) }

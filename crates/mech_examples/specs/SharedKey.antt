@@ -47,13 +47,13 @@ for_name user value = if nat_le (length user) 255 then Ok value else Err (Scram 
 
 -- the first token, by the credential: one of Kerberos has no user
 abbrev pub first_said : MechCred → MechAsk → Result (List ℕ) MechRefusal
-first_said (creds.Kerberos credential) ask = Err (Scram NoUser)
+first_said (creds.Kerberos name credential) ask = Err (Scram NoUser)
 first_said (creds.Scram user password) ask = for_name user (message_of user password ask.draws)
 
 -- what is made of a token: an empty one is the acceptor's consent, and any other is refused
 abbrev pub consented : MechCred → MechAsk → List ℕ → Result MechMove MechRefusal
 consented cred ask (octet ∷ rest) = Err (Scram (Text 0))
-consented (creds.Kerberos credential) ask [] = Err (Scram NoUser)
+consented (creds.Kerberos name credential) ask [] = Err (Scram NoUser)
 consented (creds.Scram user password) ask [] =
     for_name user (Done (done_of user password ask.draws))
 

@@ -122,7 +122,9 @@ fn first_said(alloc: Global, cred: &MechCred, ask: &MechAsk) -> Result<Octets, N
     ensures short { IfOk result FitsBeside }
 {
     match cred {
-        MechCred::Kerberos(_) => Err(NegRefusal::Mech(MechRefusal::Scram(ScramRefusal::NoUser))),
+        MechCred::Kerberos { .. } => Err(NegRefusal::Mech(MechRefusal::Scram(
+            ScramRefusal::NoUser,
+        ))),
         MechCred::Scram { user, password } => {
             let _name = named(user)?;
             let message = message_of(alloc, user, password, &ask.draws)?;
@@ -141,7 +143,9 @@ fn consented(cred: &MechCred, ask: &MechAsk, token: &[u8]) -> Result<MechMove, N
         return Err(NegRefusal::Mech(MechRefusal::Scram(ScramRefusal::Text { at: 0 })));
     }
     match cred {
-        MechCred::Kerberos(_) => Err(NegRefusal::Mech(MechRefusal::Scram(ScramRefusal::NoUser))),
+        MechCred::Kerberos { .. } => Err(NegRefusal::Mech(MechRefusal::Scram(
+            ScramRefusal::NoUser,
+        ))),
         MechCred::Scram { user, password } => {
             let label = named(user)?;
             Ok(MechMove::Done(done_of(label, user, password, &ask.draws)))

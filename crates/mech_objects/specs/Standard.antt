@@ -1,8 +1,8 @@
 -- What Kerberos (RFC 4121) and SCRAM (RFC 5802) say as objects: their first token by the credential
 -- and the ask, and their answer to a token by the state that those before it lead to.
 use Rattle.std.specs.Prelude.{ℕ, List, [], ◌∷◌, map, Option, Some, None, Result, Ok, Err}
-use Rattle.gss_base.specs.declared.mech.MechKind.{MechKind}
-use Rattle.gss_base.specs.Mech.{oid_of}
+use Rattle.gss_base.specs.declared.mech.MechName.{MechName}
+use Rattle.gss_base.specs.Mech.{oid_named, kind_named}
 use Rattle.krb_tokens.specs.declared.done.MechDone.{MechDone}
 use Rattle.ap_exchange.specs.declared.refusal.ApRefusal.{ApRefusal}
 use Rattle.ap_exchange.specs.declared.refusal.ApRefusal.TheVariants.{Kind}
@@ -30,7 +30,7 @@ use Rattle.mech_objects.specs.Meaning.{MechTalk, MechSays, blank}
 -- Kerberos begins with its request (RFC 4121 section 4.1), SCRAM with the client-first-message
 -- (RFC 5802 section 5), by the credential
 unfoldable pub begun : MechCred → MechAsk → Result MechBegun MechRefusal
-begun (creds.Kerberos credential) ask =
+begun (creds.Kerberos name credential) ask =
     request_begun (map typed (request_makes credential ask.stamp ask.draws ask.bindings))
     (request_of credential ask.stamp ask.draws ask.bindings)
 begun (creds.Scram user password) ask =
@@ -130,6 +130,6 @@ standard cred = record {
   next = λ ask taken token. move_by (state_of cred ask taken) token;
 }
 
--- an object of Kerberos or SCRAM that has no credential yet
-abbrev pub blank_of : MechKind → MechSays
-blank_of kind = blank kind (oid_of kind) standard
+-- an object of Kerberos or SCRAM that has no credential yet, under a name of its mechanism
+abbrev pub blank_of : MechName → MechSays
+blank_of name = blank (kind_named name) (oid_named name) standard

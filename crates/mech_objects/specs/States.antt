@@ -1,7 +1,7 @@
 -- What the objects of Kerberos and SCRAM keep in memory, as the definitions say it.
 use Rattle.std.specs.Prelude.{ℕ, List, [], ◌∷◌, ◌++◌, Option}
-use Rattle.gss_base.specs.declared.mech.MechKind.{MechKind}
-use Rattle.gss_base.specs.Mech.{oid_of}
+use Rattle.gss_base.specs.declared.mech.MechName.{MechName}
+use Rattle.gss_base.specs.Mech.{oid_named, kind_named}
 use Rattle.spnego_core.specs.declared.setup.MechCred.{MechCred}
 use Rattle.spnego_core.specs.MechStates.{InitMech}
 use Rattle.spnego_core.specs.MechStates as mechs
@@ -36,10 +36,10 @@ abbrev pub FitsAnswer : StateAnswer → Type 0
 FitsAnswer (answers.More state token) = FitsBeside token
 FitsAnswer (answers.Done done) = Unit {0}
 
--- what an object of Kerberos or SCRAM keeps: all of what it is but its identifier and what it says,
--- which its mechanism gives
+-- what an object of Kerberos or SCRAM keeps: all of what it is but its mechanism and identifier,
+-- which its name gives, and what it says, which the credential gives
 pub record Kept : Type 0 where
-  pub kind : MechKind
+  pub name : MechName
   pub cred : Option MechCred
   pub ask : Option MechAsk
   pub sent : List (List ℕ)
@@ -49,8 +49,8 @@ pub record Kept : Type 0 where
 -- the object
 abbrev pub object_of : Kept → MechSays
 object_of k = record {
-  kind = k.kind;
-  oid = oid_of k.kind;
+  kind = kind_named k.name;
+  oid = oid_named k.name;
   says = standard;
   cred = k.cred;
   ask = k.ask;

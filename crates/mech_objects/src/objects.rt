@@ -1,31 +1,41 @@
 //! The objects of Kerberos and SCRAM.
 
 ghost use Rattle.std.specs.Prelude.{◌≡◌};
-ghost use Rattle.gss_base.specs.declared.mech.MechKind.TheVariants.{Kerberos, Scram};
+ghost use Rattle.gss_base.specs.declared.mech.KerberosName.TheVariants.{Standard, Microsoft};
+ghost use Rattle.gss_base.specs.declared.mech.MechName.TheVariants.{Kerberos, Scram};
 ghost use Rattle.mech_objects.specs.Standard.{blank_of};
 ghost use Rattle.mech_objects.specs.Objects.{kerberos_of, scram_of};
 
 use crate::ask::{MechAsk, MechMove};
 use crate::mech::Mech;
 use crate::run::MechRun;
-use gss_base::MechKind;
+use gss_base::{KerberosName, MechKind, MechName};
 use sec_base::{Octets, Oid};
 use spnego_core::{MechCred, NegRefusal};
 use std::alloc::Global;
 
-/// Kerberos V5 at the initiator (RFC 4121).
+/// Kerberos V5 at the initiator (RFC 4121), under one of its two names.
 #[derive(Drop)]
 pub struct KerberosMech {
     run: MechRun,
 }
 
 impl KerberosMech {
-    /// One that has no credential.
+    /// One that has no credential, under Kerberos's own object identifier.
     pub fn new(alloc: Global) -> KerberosMech
-        ensures { kerberos_of result ≡ blank_of Kerberos }
+        ensures { kerberos_of result ≡ blank_of (Kerberos Standard) }
     {
         KerberosMech {
-            run: MechRun::new(alloc, MechKind::Kerberos),
+            run: MechRun::new(alloc, MechName::Kerberos(KerberosName::Standard)),
+        }
+    }
+
+    /// One that has no credential, under Microsoft's object identifier of Kerberos (MS-SPNG section 1.9).
+    pub fn new_ms(alloc: Global) -> KerberosMech
+        ensures { kerberos_of result ≡ blank_of (Kerberos Microsoft) }
+    {
+        KerberosMech {
+            run: MechRun::new(alloc, MechName::Kerberos(KerberosName::Microsoft)),
         }
     }
 }
@@ -68,7 +78,7 @@ impl ScramMech {
         ensures { scram_of result ≡ blank_of Scram }
     {
         ScramMech {
-            run: MechRun::new(alloc, MechKind::Scram),
+            run: MechRun::new(alloc, MechName::Scram),
         }
     }
 }

@@ -10,7 +10,7 @@ ghost use Rattle.mech_objects.specs.declared.ask.Stage.TheVariants.{Blank, Fresh
 
 use crate::ask::{MechAsk, MechMove, Stage};
 use crate::state::{MechState, StateAnswer};
-use gss_base::MechKind;
+use gss_base::{MechKind, MechName};
 use sec_base::{NoMemory, Octets, Oid};
 use spnego_core::{MechCred, NegRefusal};
 use std::alloc::Global;
@@ -21,7 +21,7 @@ use std::marker::Model;
 /// What an object is names what it was asked with and each token that it sent and took, so copies of these are kept.
 #[derive(Drop)]
 pub struct MechRun {
-    kind: MechKind,
+    name: MechName,
     cred: Option<MechCred>,
     ask: Option<MechAsk>,
     sent: Vec<Octets>,
@@ -39,7 +39,7 @@ impl Model for MechRun {
     ghost Value = { Kept };
 
     ghost view = { λ r. record {
-      kind = r.kind;
+      name = r.name;
       cred = r.cred;
       ask = r.ask;
       sent = r.sent.items;
@@ -52,12 +52,12 @@ impl Model for MechRun {
 }
 
 impl MechRun {
-    /// An object without a credential.
-    pub fn new(alloc: Global, kind: MechKind) -> MechRun
-        ensures { object_of result ≡ blank_of kind }
+    /// An object without a credential, under this name.
+    pub fn new(alloc: Global, name: MechName) -> MechRun
+        ensures { object_of result ≡ blank_of name }
     {
         MechRun {
-            kind,
+            name,
             cred: None,
             ask: None,
             sent: Vec::new(alloc),
@@ -69,16 +69,16 @@ impl MechRun {
 
     /// Which mechanism it is.
     pub fn kind(&self) -> MechKind
-        ensures { result ≡ self.now.kind }
+        ensures { result ≡ (object_of self.now).kind }
     {
-        self.kind
+        self.name.kind()
     }
 
-    /// The object identifier of its mechanism.
+    /// The object identifier that its mechanism has under its name.
     pub fn oid(&self) -> Oid
         ensures { result ≡ (object_of self.now).oid }
     {
-        self.kind.oid()
+        self.name.oid()
     }
 
     /// Takes the credential.

@@ -122,7 +122,7 @@ impl MechState {
     {
         let bindings = ask.bindings.as_ref();
         match cred {
-            MechCred::Kerberos(credential) => {
+            MechCred::Kerberos { credential, .. } => {
                 request_begun(alloc, credential, ask.stamp, &ask.draws, bindings)
             }
             MechCred::Scram { user, password } => {

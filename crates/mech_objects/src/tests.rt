@@ -1,12 +1,13 @@
 //! The example of RFC 5802 section 5, by an object behind a box. Its header `n,,` is here the channel bindings, and its nonce the last 18 drawn octets.
+//! Then the identifiers under which the objects stand.
 
 ghost use Rattle.std.specs.Prelude.{◌≡◌, IfSome};
 ghost use Rattle.gss_base.specs.declared.mech.MechKind.TheVariants.{Scram};
 ghost use Rattle.spnego_core.specs.InitMech.{kind_of};
 ghost use Rattle.mech_objects.specs.declared.ask.Stage.TheVariants.{Fresh, Waiting};
 
-use crate::{Mech, MechAsk, MechMove, ScramMech};
-use gss_base::{Bindings, Label};
+use crate::{KerberosMech, Mech, MechAsk, MechMove, ScramMech};
+use gss_base::{Bindings, Label, MechKind};
 use sec_base::{Moment, Octets, Text};
 use spnego_core::MechCred;
 use std::alloc::{AllocError, Global};
@@ -105,4 +106,27 @@ fn example_of_the_standard(rt: HostRuntime) -> Result<(), AllocError> {
     };
     assert_eq!(rt; user.text(), "user");
     Ok(())
+}
+
+/// Kerberos's own object identifier, 1.2.840.113554.1.2.2 (RFC 4121 section 1).
+const KERBEROS: &[u8; 9] = b"\x2a\x86\x48\x86\xf7\x12\x01\x02\x02";
+
+/// Microsoft's of it, 1.2.840.48018.1.2.2 (MS-SPNG section 1.9).
+const MS_KERBEROS: &[u8; 9] = b"\x2a\x86\x48\x82\xf7\x12\x01\x02\x02";
+
+/// That of SCRAM-SHA-1, 1.3.6.1.5.5.14 (RFC 5802 section 8).
+const SCRAM: &[u8; 6] = b"\x2b\x06\x01\x05\x05\x0e";
+
+#[test]
+fn identifiers_of_the_objects(rt: HostRuntime) {
+    let alloc = rt.alloc();
+    let own = KerberosMech::new(alloc);
+    assert_eq!(rt; own.oid().content(), KERBEROS.as_slice());
+    assert!(rt; own.kind() == MechKind::Kerberos);
+    let microsoft = KerberosMech::new_ms(alloc);
+    assert_eq!(rt; microsoft.oid().content(), MS_KERBEROS.as_slice());
+    assert!(rt; microsoft.kind() == MechKind::Kerberos);
+    let scram = ScramMech::new(alloc);
+    assert_eq!(rt; scram.oid().content(), SCRAM.as_slice());
+    assert!(rt; scram.kind() == MechKind::Scram);
 }

@@ -2,11 +2,11 @@
 
 ghost use Rattle.std.specs.Prelude.{◌≡◌, IfSome, map, true};
 ghost use Rattle.spnego_core.specs.InitMech.{is_own_list};
-ghost use Rattle.init_ends.specs.Arming.{IsBlankPair};
+ghost use Rattle.init_ends.specs.Arming.{AreStandard};
 ghost use Rattle.init_ends.specs.Ends.{end_by, holds, holds_after, step_by};
 
 use crate::accepting::{say_more, token};
-use init_ends::{InitEnd, InitSetup, InitStep};
+use init_ends::{InitEnd, InitSetup, InitStep, standard_mechs};
 use mech_objects::{KerberosMech, Mech, ScramMech};
 use sec_base::NoMemory;
 use spnego_core::{InitFacts, Outcome};
@@ -92,7 +92,7 @@ fn talk_over(
     mechs: Vec<Box<dyn Mech>>,
     facts: InitFacts,
 ) -> Result<(), NoMemory>
-    requires blank { IsBlankPair (map meaning mechs.items) }
+    requires blank { AreStandard (map meaning mechs.items) }
     requires list { is_own_list facts.list ≡ true }
 {
     let setup = InitSetup::armed(cells.alloc(), mechs, facts)?;
@@ -106,14 +106,15 @@ fn talk_over(
     Ok(())
 }
 
-/// The same by an object of Kerberos and one of SCRAM.
-fn talk_by_both(cells: &mut Cells<'_>, said: &mut Said, facts: InitFacts) -> Result<(), NoMemory>
+/// The same by objects of Kerberos under both its names, and of SCRAM.
+fn talk_by_all(cells: &mut Cells<'_>, said: &mut Said, facts: InitFacts) -> Result<(), NoMemory>
     requires { is_own_list facts.list ≡ true }
 {
     let alloc = cells.alloc();
-    let mut mechs: Vec<Box<dyn Mech>> = Vec::with_capacity(alloc, 2)?;
-    mechs.push_reserved(Box::new(alloc, KerberosMech::new(alloc))?);
-    mechs.push_reserved(Box::new(alloc, ScramMech::new(alloc))?);
+    let kerberos = Box::new(alloc, KerberosMech::new(alloc))?;
+    let microsoft = Box::new(alloc, KerberosMech::new_ms(alloc))?;
+    let scram = Box::new(alloc, ScramMech::new(alloc))?;
+    let mechs = standard_mechs(alloc, kerberos, microsoft, scram)?;
     talk_over(cells, said, mechs, facts)
 }
 
@@ -121,7 +122,7 @@ fn talk_by_both(cells: &mut Cells<'_>, said: &mut Said, facts: InitFacts) -> Res
 pub fn talk(cells: &mut Cells<'_>, said: &mut Said, facts: InitFacts)
     requires { is_own_list facts.list ≡ true }
 {
-    if talk_by_both(cells, said, facts).is_err() {
+    if talk_by_all(cells, said, facts).is_err() {
         said.starve();
     }
 }

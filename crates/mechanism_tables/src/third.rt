@@ -2,13 +2,16 @@
 //! object then begins.
 
 ghost use Rattle.std.specs.Prelude.{◌≡◌, IfOk, IfSome, map, true};
+ghost use Rattle.gss_base.specs.declared.mech.KerberosName.TheVariants.{Standard};
 ghost use Rattle.gss_base.specs.declared.mech.MechKind.TheVariants as kinds;
+ghost use Rattle.gss_base.specs.declared.mech.MechName.TheVariants as names;
 ghost use Rattle.spnego_core.specs.InitMech.{is_own_list, kind_of};
 ghost use Rattle.mech_objects.specs.Standard.{blank_of};
 ghost use Rattle.mech_objects.specs.Meaning.{blank};
 ghost use Rattle.mech_examples.specs.SharedKey.{example_oid, shared_key};
 ghost use Rattle.init_ends.specs.Ends.{end_by, holds};
 
+use gss_base::KerberosName;
 use init_ends::{InitEnd, InitSetup, InitStep, armed_with};
 use mech_examples::SharedKeyMech;
 use mech_objects::{KerberosMech, Mech, MechAsk};
@@ -110,7 +113,7 @@ fn talk_over(
     creds: (MechCred, MechCred),
 ) -> Result<(), NoMemory>
     requires shared { meaning objects.0 ≡ blank kinds.Scram example_oid shared_key }
-    requires kerberos { meaning objects.1 ≡ blank_of kinds.Kerberos }
+    requires kerberos { meaning objects.1 ≡ blank_of (names.Kerberos Standard) }
     requires login { kind_of creds.0 ≡ kinds.Scram }
     requires ticket { kind_of creds.1 ≡ kinds.Kerberos }
 {
@@ -156,7 +159,11 @@ fn creds(setting: &Setting, alloc: Global) -> Option<(MechCred, MechCred)>
     let (user, password) = user.zip(Text::of(alloc, "p").ok())?;
     let login = MechCred::Scram { user, password };
     let (ticket, login) = setting.credential(alloc).zip(Some(login))?;
-    Some((login, MechCred::Kerberos(ticket)))
+    let ticket = MechCred::Kerberos {
+        name: KerberosName::Standard,
+        credential: ticket,
+    };
+    Some((login, ticket))
 }
 
 /// What both ends come to, by the cell letters of the offer: the acceptor's outcome and the initiator's, or a refusal.

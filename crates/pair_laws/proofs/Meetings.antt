@@ -6,6 +6,7 @@ use Rattle.std.proofs.Math.Nat.{eq-or-lt_of_le}
 use Rattle.std.proofs.lemmas.Option.{slice_get_within}
 use Rattle.gss_base.specs.declared.mech.MechKind.{MechKind}
 use Rattle.gss_base.specs.declared.mech.MechKind.TheVariants as kinds
+use Rattle.gss_base.specs.declared.mech.KerberosName.{KerberosName}
 use Rattle.der_core.specs.Format.{all_of}
 use Rattle.krb_files.specs.Granted.{Granted}
 use Rattle.krb_msgs.specs.Ticket.{ticket}
@@ -82,15 +83,15 @@ request-goes : (credential : Granted) (stamp : ℕ) (draws : List ℕ) (bindings
 unfolding request_of
 request-goes credential stamp draws bindings granted e = rw e refl
 
-request-told : (setup : AcceptSetup) (own : PlainSetup) (draws : List (List ℕ)) (credential : Granted) (occasion : Occasion) → TicketTold own draws credential → CredMeets setup own (creds.Kerberos credential) occasion → RequestFits credential own.stamp own.draws own.bindings
-request-told setup own draws credential occasion told m = told.request (ap is_ok (request-goes credential own.stamp own.draws own.bindings m.granted m.is_ticket))
+request-told : (setup : AcceptSetup) (own : PlainSetup) (draws : List (List ℕ)) (name : KerberosName) (credential : Granted) (occasion : Occasion) → TicketTold own draws credential → CredMeets setup own (creds.Kerberos name credential) occasion → RequestFits credential own.stamp own.draws own.bindings
+request-told setup own draws name credential occasion told m = told.request (ap is_ok (request-goes credential own.stamp own.draws own.bindings m.granted m.is_ticket))
 
-tickets-fit : (setup : AcceptSetup) (own : PlainSetup) (draws : List (List ℕ)) (credential : Granted) → TicketTold own draws credential → (occasions : List Occasion) → Each IsDrawn (drawn_on occasions) → Each (AnswerTold own.stamp credential) (drawn_on occasions)
-    → AllByRecursion (CredMeets setup own (creds.Kerberos credential)) occasions → AllByRecursion (Fitting setup own (creds.Kerberos credential)) occasions
-tickets-fit setup own draws credential told [] sizes answers meets = tt
-tickets-fit setup own draws credential told (occasion ∷ occasions) sizes answers meets = (
-  record { drawn = sizes zero occasion.drawn refl; facts = record { fit = meets.0; request = request-told setup own draws credential occasion told meets.0; answer = (answers zero occasion.drawn refl).fits own.bindings meets.0.part } },
-  tickets-fit setup own draws credential told occasions (λ i drawn e. sizes (suc i) drawn e) (λ i drawn e. answers (suc i) drawn e) meets.1,
+tickets-fit : (setup : AcceptSetup) (own : PlainSetup) (draws : List (List ℕ)) (name : KerberosName) (credential : Granted) → TicketTold own draws credential → (occasions : List Occasion) → Each IsDrawn (drawn_on occasions) → Each (AnswerTold own.stamp credential) (drawn_on occasions)
+    → AllByRecursion (CredMeets setup own (creds.Kerberos name credential)) occasions → AllByRecursion (Fitting setup own (creds.Kerberos name credential)) occasions
+tickets-fit setup own draws name credential told [] sizes answers meets = tt
+tickets-fit setup own draws name credential told (occasion ∷ occasions) sizes answers meets = (
+  record { drawn = sizes zero occasion.drawn refl; facts = record { fit = meets.0; request = request-told setup own draws name credential occasion told meets.0; answer = (answers zero occasion.drawn refl).fits own.bindings meets.0.part } },
+  tickets-fit setup own draws name credential told occasions (λ i drawn e. sizes (suc i) drawn e) (λ i drawn e. answers (suc i) drawn e) meets.1,
 )
 
 users-fit : (setup : AcceptSetup) (own : PlainSetup) (user password : List ℕ) (occasions : List Occasion) → Each IsDrawn (drawn_on occasions) → AllByRecursion (CredMeets setup own (creds.Scram user password)) occasions → AllByRecursion (Fitting setup own (creds.Scram user password)) occasions
@@ -98,7 +99,7 @@ users-fit setup own user password [] sizes meets = tt
 users-fit setup own user password (occasion ∷ occasions) sizes meets = (record { drawn = sizes zero occasion.drawn refl; facts = meets.0 }, users-fit setup own user password occasions (λ i drawn e. sizes (suc i) drawn e) meets.1)
 
 all-fit : (setup : AcceptSetup) (own : PlainSetup) (cred : MechCred) (occasions : List Occasion) → Each IsDrawn (drawn_on occasions) → CredTold own (drawn_on occasions) cred → AllByRecursion (CredMeets setup own cred) occasions → AllByRecursion (Fitting setup own cred) occasions
-all-fit setup own (creds.Kerberos credential) occasions sizes told meets = tickets-fit setup own (drawn_on occasions) credential told occasions sizes told.answers meets
+all-fit setup own (creds.Kerberos name credential) occasions sizes told meets = tickets-fit setup own (drawn_on occasions) name credential told occasions sizes told.answers meets
 all-fit setup own (creds.Scram user password) occasions sizes told meets = users-fit setup own user password occasions sizes meets
 
 -- ---- how the chosen mechanism begins
@@ -109,11 +110,11 @@ record Begins (own : PlainSetup) (cred : MechCred) : Type 0 where
   short : IsShort (resp_octets (token_sent begun.token))
 
 begins-on : (setup : AcceptSetup) (own : PlainSetup) (draws : List (List ℕ)) (cred : MechCred) (occasion : Occasion) → IsDrawn own.draws → CredTold own draws cred → Fitting setup own cred occasion → Begins own cred
-begins-on setup own draws (creds.Kerberos credential) occasion size told f =
+begins-on setup own draws (creds.Kerberos name credential) occasion size told f =
     let h : TicketFits setup own credential occasion = f.facts in
     let token : List ℕ = request_token credential own.stamp own.draws own.bindings in record {
       begun = request_begins own credential;
-      begins = request-begins setup own credential occasion h;
+      begins = request-begins setup own name credential occasion h;
       short = token_short token
           (request_fits credential own.stamp own.draws own.bindings (waiting credential own.stamp own.draws own.bindings) token (request-goes credential own.stamp own.draws own.bindings h.fit.granted h.fit.is_ticket) size told.ticket told.named h.request);
     }
@@ -151,7 +152,7 @@ text-fits own user password (Err refusal) begun same size told e = absurd cc
 
 begun-fits : (own : PlainSetup) (draws : List (List ℕ)) (cred : MechCred) (begun : MechBegun) → IsDrawn own.draws → CredTold own draws cred → init_begun own cred ≡ Ok begun → FitsBeside begun.token
 unfolding init_begun
-begun-fits own draws (creds.Kerberos credential) begun size told e =
+begun-fits own draws (creds.Kerberos name credential) begun size told e =
     request-fits own draws credential (map typed (request_makes credential own.stamp own.draws own.bindings)) (request_of credential own.stamp own.draws own.bindings) begun refl size told e
 begun-fits own draws (creds.Scram user password) begun size told e =
     text-fits own user password (init_started user password (drawn_nonce own.draws) own.bindings) begun refl size told e

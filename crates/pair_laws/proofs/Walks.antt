@@ -7,7 +7,8 @@ use Rattle.std.proofs.lemmas.Bool.Decides.{nat_tests}
 use Rattle.sec_base.specs.Moment.{greatest_moment}
 use Rattle.gss_base.specs.declared.mech.MechKind.{MechKind}
 use Rattle.gss_base.specs.declared.mech.MechKind.TheVariants as kinds
-use Rattle.gss_base.specs.Mech.{oid_of}
+use Rattle.gss_base.specs.declared.mech.KerberosName.{KerberosName}
+use Rattle.gss_base.specs.declared.mech.KerberosName.TheVariants.{Standard, Microsoft}
 use Rattle.krb_tokens.specs.declared.end.Side.TheVariants.{Acceptor}
 use Rattle.krb_files.specs.Granted.{Granted}
 use Rattle.ap_exchange.specs.declared.judged.Judged.{Judged}
@@ -59,16 +60,17 @@ use Rattle.spnego_core.specs.ListMic.{list_mic, is_list_mic}
 use Rattle.spnego_core.specs.Choice.{same_kind, is_first, is_first_named, best}
 use Rattle.spnego_core.specs.Tokens.{init_octets, resp_read, resp_octets, rejects}
 use Rattle.spnego_core.specs.AcceptMech.{accept_begun, accept_taken, proof_taken}
-use Rattle.spnego_core.specs.InitMech.{kind_of, kinds_of, is_own, is_own_list, cred_for, MechBegun, init_begun}
+use Rattle.spnego_core.specs.InitMech.{kind_of, kinds_of, oid_listed, is_own, is_own_list, cred_for, MechBegun, init_begun}
 use Rattle.spnego_core.specs.Sizes.{IsShort}
 use Rattle.spnego_core.specs.Accepting as accepting
 use Rattle.spnego_core.specs.Initiating as initiating
 use Rattle.spnego_core.specs.Exchange.{Occasion, passed, passed_of, Completes, TicketFits, UserFits, Fitting, HonestPair}
 use Rattle.spnego_core.proofs.InitSteps.{cred_for-kind}
 use Rattle.spnego_core.proofs.Sizes.{Within, answer_within}
-use Rattle.spnego_core.proofs.Short.{some-is, none-is, list_mic_within, resp_within}
+use Rattle.spnego_core.proofs.Listed.{listed-few}
+use Rattle.spnego_core.proofs.Short.{named_within, some-is, none-is, list_mic_within, resp_within}
 use Rattle.spnego_core.proofs.Spelled.{init_reads}
-use Rattle.spnego_core.proofs.Turns.{end_at, chosen_on, Hears, hears_first, hears_later, switches}
+use Rattle.spnego_core.proofs.Turns.{oid_on, end_at, chosen_on, Hears, hears_first, hears_later, switches}
 use Rattle.spnego_core.proofs.MechRounds.{request_begins, request-begins, text_begins, text-begins, pairs, texts-go}
 use Rattle.spnego_core.proofs.Exchanges.{Opened, opened_from, exchanges}
 use Rattle.pair_laws.specs.Walking.{Walks, HasNames, Walked}
@@ -77,7 +79,7 @@ use Rattle.pair_laws.specs.Walking.{Walks, HasNames, Walked}
 
 -- the credential is a user's, of this name
 abbrev IsUser : MechCred → List ℕ → Type 0
-IsUser (creds.Kerberos credential) name = ⊥
+IsUser (creds.Kerberos alias credential) name = ⊥
 IsUser (creds.Scram user password) name = name ≡ user
 
 -- a mechanism waits for the proof of the credential's user
@@ -141,14 +143,10 @@ bind-fine stamp moment cred (Err refusal) next f = tt
 
 -- ---- the replies are short
 
-named-within : (turn : Turn) (kind : MechKind) (v : List ℕ) → accepting.mech_said turn kind ≡ Some v → Within v 9
-named-within First kinds.Kerberos v e = some-is (oid_of kinds.Kerberos) v 9 (record { most = omega arith }) e
-named-within First kinds.Scram v e = some-is (oid_of kinds.Scram) v 9 (record { most = omega arith }) e
-named-within Later kind v e = none-is v 9 e
-
-reply-fits : (turn : Turn) (kind : MechKind) (owes finished : Bool) (token mic : Option (List ℕ)) → ((v : List ℕ) → token ≡ Some v → Within v 65000) → ((v : List ℕ) → mic ≡ Some v → Within v 28) → IsShort (accepting.reply turn kind owes finished token mic)
-reply-fits turn kind owes finished token mic t m =
-    omega (arith, (resp_within (accepting.reply_with turn kind owes finished token mic) 65000 (named-within turn kind) t m).most)
+reply-fits : (turn : Turn) (chosen : Chosen) (owes finished : Bool) (token mic : Option (List ℕ)) → ((v : List ℕ) → token ≡ Some v → Within v 65000) → ((v : List ℕ) → mic ≡ Some v → Within v 28) → IsShort (accepting.reply turn (accepting.oid_chosen chosen) owes finished token mic)
+reply-fits turn chosen owes finished token mic t m =
+    let few : length (accepting.oid_chosen chosen) ≤ 32 = omega (arith, listed-few chosen.received chosen.kind) in
+    omega (arith, (resp_within (accepting.reply_with turn (accepting.oid_chosen chosen) owes finished token mic) 65000 (λ v e. named_within turn (accepting.oid_chosen chosen) v few e) t m).most)
 
 token-within : (token : List ℕ) → length token ≤ 65000 → (v : List ℕ) → Some token ≡ Some v → Within v 65000
 token-within token few v e = some-is token v 65000 (record { most = few }) e
@@ -156,18 +154,18 @@ token-within token few v e = some-is token v 65000 (record { most = few }) e
 -- the mechanism is done
 finished-fine : (moment : ℕ) (cred : MechCred) (is_due : Bool) (turn : Turn) (chosen : Chosen) (outcome : Outcome) (lasts : ℕ) (token : List ℕ) → Lasts moment cred outcome lasts → length token ≤ 65000
     → FineAfter moment cred (if is_due
-    then afters.More (ends.Owes (record { received = chosen.received; outcome = outcome; lasts = lasts })) (accepting.reply turn chosen.kind true true (Some token) (Some (list_mic outcome Acceptor chosen.received)))
-    else afters.Done outcome lasts (accepting.reply turn chosen.kind false true (Some token) None))
+    then afters.More (ends.Owes (record { received = chosen.received; outcome = outcome; lasts = lasts })) (accepting.reply turn (accepting.oid_chosen chosen) true true (Some token) (Some (list_mic outcome Acceptor chosen.received)))
+    else afters.Done outcome lasts (accepting.reply turn (accepting.oid_chosen chosen) false true (Some token) None))
 finished-fine moment cred true turn chosen outcome lasts token l few =
     let mic : List ℕ = list_mic outcome Acceptor chosen.received in
-    (reply-fits turn chosen.kind true true (Some token) (Some mic) (token-within token few) (λ v e. some-is mic v 28 (list_mic_within outcome Acceptor chosen.received) e), l)
+    (reply-fits turn chosen true true (Some token) (Some mic) (token-within token few) (λ v e. some-is mic v 28 (list_mic_within outcome Acceptor chosen.received) e), l)
 finished-fine moment cred false turn chosen outcome lasts token l few =
-    (reply-fits turn chosen.kind false true (Some token) None (token-within token few) (λ v e. none-is v 28 e), l)
+    (reply-fits turn chosen false true (Some token) None (token-within token few) (λ v e. none-is v 28 e), l)
 
 -- ---- the steps of an end that holds
 
 user-named : (cred : MechCred) (name : List ℕ) (outcome : Outcome) → IsUser cred name → outcome.initiator ≡ name → outcome.acceptor ≡ [] → HasNames cred outcome
-user-named (creds.Kerberos credential) name outcome is e f = absurd is
+user-named (creds.Kerberos alias credential) name outcome is e f = absurd is
 user-named (creds.Scram user password) name outcome is e f = (e ∙ is, f)
 
 -- the proof came
@@ -252,16 +250,16 @@ at-most : (a b : ℕ) → nat_le a b ≡ true → a ≤ b
 at-most a b e = grind (arith, nat_tests)
 
 -- Kerberos: its mark is of the stamp
-request-fine : (setup : AcceptSetup) (own : PlainSetup) (credential : Granted) (occasion : Occasion) (moment : ℕ) (turn : Turn) (chosen : Chosen) → length own.draws ≡ 66 → length occasion.drawn ≡ 66 → TicketFits setup own credential occasion → moment ≤ greatest_moment → occasion.now ≡ moment
-    → FineOf own.stamp moment (creds.Kerberos credential) (accepting.step_of (accepting.run turn chosen (accept_taken setup mechs.Kerberos (request_token credential own.stamp own.draws own.bindings) occasion.now occasion.drawn)))
+request-fine : (setup : AcceptSetup) (own : PlainSetup) (name : KerberosName) (credential : Granted) (occasion : Occasion) (moment : ℕ) (turn : Turn) (chosen : Chosen) → length own.draws ≡ 66 → length occasion.drawn ≡ 66 → TicketFits setup own credential occasion → moment ≤ greatest_moment → occasion.now ≡ moment
+    → FineOf own.stamp moment (creds.Kerberos name credential) (accepting.step_of (accepting.run turn chosen (accept_taken setup mechs.Kerberos (request_token credential own.stamp own.draws own.bindings) occasion.now occasion.drawn)))
 unfolding accept_taken
-request-fine setup own credential occasion moment turn chosen draws drawn h known at =
+request-fine setup own name credential occasion moment turn chosen draws drawn h known at =
     let j : Judged = ap_laws.honest_judged credential own.stamp own.bindings h.fit.part in
     let outcome : Outcome = outcome_of kinds.Kerberos (answer_done j occasion.drawn) in
     let below : occasion.now ≤ h.fit.part.endtime + judging.skew = at-most occasion.now (h.fit.part.endtime + judging.skew) h.fit.lasting in
     let few : length (answer_token j occasion.drawn) ≤ 400 = (answer_within j occasion.drawn drawn).most in
     rw (honest_request setup.keytab setup.own occasion.now setup.bindings credential own.stamp own.draws own.bindings draws h.request h.fit)
-    (refl, finished-fine moment (creds.Kerberos credential) chosen.due turn chosen outcome j.ends (answer_token j occasion.drawn) (record { lasting = omega (arith, below, known, at); names = (refl, refl) }) (omega (arith, few)))
+    (refl, finished-fine moment (creds.Kerberos name credential) chosen.due turn chosen outcome j.ends (answer_token j occasion.drawn) (record { lasting = omega (arith, below, known, at); names = (refl, refl) }) (omega (arith, few)))
 
 started-user : (user password draw : List ℕ) (bindings : Option (List ℕ)) (started : InitStarted) → init_started user password draw bindings ≡ given started → started.end.user ≡ user
 unfolding init_started
@@ -288,7 +286,7 @@ text-fine : (setup : AcceptSetup) (own : PlainSetup) (user password : List ℕ) 
 text-fine setup own user password occasion moment turn chosen h p =
     let r = texts-go setup own user password occasion occasion h p in
     rw (r.accepts, r.says)
-    (reply-fits turn chosen.kind chosen.due false (Some r.text) None (token-within r.text r.size) (λ v e. none-is v 28 e), line-user setup own user password occasion occasion p)
+    (reply-fits turn chosen chosen.due false (Some r.text) None (token-within r.text r.size) (λ v e. none-is v 28 e), line-user setup own user password occasion occasion p)
 
 begun-is : (a b : MechBegun) (r : Result MechBegun MechRefusal) → r ≡ Ok a → r ≡ Ok b → a ≡ b
 begun-is a b r e f = let both : Ok a ≡ Ok b = sym e ∙ f in cc
@@ -296,10 +294,10 @@ begun-is a b r e f = let both : Ok a ≡ Ok b = sym e ∙ f in cc
 -- by the credential
 chosen-fine : (setup : AcceptSetup) (own : PlainSetup) (cred : MechCred) (occasion : Occasion) (moment : ℕ) (turn : Turn) (end : AcceptEnd) (octets : List ℕ) (chosen : Chosen) (begun : MechBegun) → length own.draws ≡ 66 → Hears setup end octets turn chosen (accept_begun (kind_of cred)) begun.token → init_begun own cred ≡ Ok begun
     → Fitting setup own cred occasion → moment ≤ greatest_moment → occasion.now ≡ moment → FineOf own.stamp moment cred (accepting.step_of (accepting.accept_step setup end octets occasion.now occasion.drawn))
-chosen-fine setup own (creds.Kerberos credential) occasion moment turn end octets chosen begun draws hears begins fits known at =
-    let same : begun ≡ request_begins own credential = begun-is begun (request_begins own credential) (init_begun own (creds.Kerberos credential)) begins (request-begins setup own credential occasion fits.facts) in
+chosen-fine setup own (creds.Kerberos name credential) occasion moment turn end octets chosen begun draws hears begins fits known at =
+    let same : begun ≡ request_begins own credential = begun-is begun (request_begins own credential) (init_begun own (creds.Kerberos name credential)) begins (request-begins setup own name credential occasion fits.facts) in
     let heard : Hears setup end octets turn chosen mechs.Kerberos (request_begins own credential).token = subst (λ (b : MechBegun). Hears setup end octets turn chosen mechs.Kerberos b.token) same hears in
-    rw (heard occasion.now occasion.drawn) (request-fine setup own credential occasion moment turn chosen draws fits.drawn fits.facts known at)
+    rw (heard occasion.now occasion.drawn) (request-fine setup own name credential occasion moment turn chosen draws fits.drawn fits.facts known at)
 chosen-fine setup own (creds.Scram user password) occasion moment turn end octets chosen begun draws hears begins fits known at =
     let p = pairs setup own user password occasion occasion fits.facts in
     let same : begun ≡ text_begins p.started = begun-is begun (text_begins p.started) (init_begun own (creds.Scram user password)) begins (text-begins own user password p.started p.starts) in
@@ -308,9 +306,10 @@ chosen-fine setup own (creds.Scram user password) occasion moment turn end octet
 
 -- ---- the chosen mechanism is the own first one
 
-first-named : (own : PlainSetup) (list : List MechCred) (kind : MechKind) → is_first_named (map (λ cred. oid_of (kind_of cred)) list) kind ≡ is_first (kinds_of list) kind
+first-named : (own : PlainSetup) (list : List MechCred) (kind : MechKind) → is_first_named (map oid_listed list) kind ≡ is_first (kinds_of list) kind
 first-named own [] kind = refl
-first-named own (creds.Kerberos credential ∷ rest) kind = refl
+first-named own (creds.Kerberos Standard credential ∷ rest) kind = refl
+first-named own (creds.Kerberos Microsoft credential ∷ rest) kind = refl
 first-named own (creds.Scram user password ∷ rest) kind = refl
 
 first-chosen : (first cred : MechCred) (rest : List MechCred) (kind : MechKind) → same_kind (kind_of first) kind ≡ true → cred_for (first ∷ rest) kind ≡ Some cred → first ≡ cred
@@ -340,11 +339,11 @@ abbrev waiting : PlainSetup → MechKind → AcceptEnd
 waiting own kind = ends.Runs (record { chosen = chosen_on own kind true; mech = accept_begun kind })
 
 -- and its reply names that
-abbrev asked : MechKind → List ℕ
-asked kind = accepting.reply First kind true false None None
+abbrev asked : PlainSetup → MechKind → List ℕ
+asked own kind = accepting.reply First (oid_on own kind) true false None None
 
 passes-over : (setup : AcceptSetup) (own : PlainSetup) (kind : MechKind) (token : List ℕ) (occasion : Occasion) → is_own_list own.list ≡ true → IsShort (init_octets (initiating.first_sent own token)) → best setup.offer (initiating.own_list own) ≡ Some kind → is_first_named (initiating.own_list own) kind ≡ false
-    → accepting.step_of (accepting.accept_step setup ends.New (init_octets (initiating.first_sent own token)) occasion.now occasion.drawn) ≡ Ok (steps.More (waiting own kind) (asked kind))
+    → accepting.step_of (accepting.accept_step setup ends.New (init_octets (initiating.first_sent own token)) occasion.now occasion.drawn) ≡ Ok (steps.More (waiting own kind) (asked own kind))
 unfolding accepting.begins
 passes-over setup own kind token occasion list short chosen other = rw (init_reads own token list short, chosen, other) refl
 
@@ -377,19 +376,19 @@ same-sent end other token another r e f = let both : Ok (initiated.More end toke
 
 -- once the acceptor passed the first token over
 walks-over : (setup : AcceptSetup) (own : PlainSetup) (cred : MechCred) (moment : ℕ) (occasion : Occasion) (rest : List Occasion) (started : initiating.Started) (mech : InitMech) (begun : MechBegun)
-    → started.end ≡ inits.Opens (record { own = own; mech = mech }) → accepting.step_of (accepting.accept_step setup ends.New started.token occasion.now occasion.drawn) ≡ Ok (steps.More (waiting own (kind_of cred)) (asked (kind_of cred)))
+    → started.end ≡ inits.Opens (record { own = own; mech = mech }) → accepting.step_of (accepting.accept_step setup ends.New started.token occasion.now occasion.drawn) ≡ Ok (steps.More (waiting own (kind_of cred)) (asked own (kind_of cred)))
     → cred_for own.list (kind_of cred) ≡ Some cred → length own.draws ≡ 66 → init_begun own cred ≡ Ok begun → IsShort (resp_octets (initiating.token_sent begun.token)) → AllByRecursion (Fitting setup own cred) rest → is_first (kinds_of own.list) (kind_of cred) ≡ false
     → moment ≤ greatest_moment → AllByRecursion (IsNow moment) rest → (outcome : Outcome) (c : Completes setup (occasion ∷ rest) ends.New started.end started.token outcome) → WalksOn setup own.stamp moment cred (occasion ∷ rest) ends.New started.end started.token outcome c
 walks-over setup own cred moment occasion [] started mech begun end_is over is_cred draws begins begun_short fits other known at outcome c =
-    absurd (no-end (waiting own (kind_of cred)) (asked (kind_of cred)) c.reply outcome c.lasts (passed_of (accepting.step_of (accepting.accept_step setup ends.New started.token occasion.now occasion.drawn))) (ap passed_of over) c.accepts)
+    absurd (no-end (waiting own (kind_of cred)) (asked own (kind_of cred)) c.reply outcome c.lasts (passed_of (accepting.step_of (accepting.accept_step setup ends.New started.token occasion.now occasion.drawn))) (ap passed_of over) c.accepts)
 walks-over setup own cred moment occasion (next ∷ later) started mech begun end_is over is_cred draws begins begun_short fits other known at outcome c =
     let kind : MechKind = kind_of cred in
     let step : Result AcceptStep NegRefusal = accepting.step_of (accepting.accept_step setup ends.New started.token occasion.now occasion.drawn) in
-    let same = same-more (waiting own kind) c.0.acceptor_after (asked kind) c.0.reply (passed_of step) (ap passed_of over) c.0.accepts in
+    let same = same-more (waiting own kind) c.0.acceptor_after (asked own kind) c.0.reply (passed_of step) (ap passed_of over) c.0.accepts in
     let sent : List ℕ = resp_octets (initiating.token_sent begun.token) in
     let after : EndSays = end_at Later own kind true begun.mech in
-    let goes : initiating.step_of (initiating.init_step (inits.Opens (record { own = own; mech = mech })) (asked kind)) ≡ Ok (initiated.More after sent) = switches own kind mech cred begun (cred-own own.list kind cred is_cred) other is_cred begins in
-    let there : initiating.step_of (initiating.init_step started.end (asked kind)) ≡ Ok (initiated.More after sent) = subst (λ (e : EndSays). initiating.step_of (initiating.init_step e (asked kind)) ≡ Ok (initiated.More after sent)) (sym end_is) goes in
+    let goes : initiating.step_of (initiating.init_step (inits.Opens (record { own = own; mech = mech })) (asked own kind)) ≡ Ok (initiated.More after sent) = switches own kind mech cred begun (cred-own own.list kind cred is_cred) other is_cred begins in
+    let there : initiating.step_of (initiating.init_step started.end (asked own kind)) ≡ Ok (initiated.More after sent) = subst (λ (e : EndSays). initiating.step_of (initiating.init_step e (asked own kind)) ≡ Ok (initiated.More after sent)) (sym end_is) goes in
     let heard_so : initiating.step_of (initiating.init_step started.end c.0.reply) ≡ Ok (initiated.More after sent) = subst (λ (t : List ℕ). initiating.step_of (initiating.init_step started.end t) ≡ Ok (initiated.More after sent)) same.token_is there in
     let further : sent ≡ c.0.further = same-sent after c.0.initiator_after sent c.0.further (initiating.step_of (initiating.init_step started.end c.0.reply)) heard_so c.0.initiates in
     let heard : Hears setup (waiting own kind) sent Later (chosen_on own kind true) (accept_begun kind) begun.token = hears_later setup (chosen_on own kind true) (accept_begun kind) begun.token begun_short in
@@ -397,8 +396,8 @@ walks-over setup own cred moment occasion (next ∷ later) started mech begun en
     let fine_sent = subst (λ (t : List ℕ). FineOf own.stamp moment cred (accepting.step_of (accepting.accept_step setup (waiting own kind) t next.now next.drawn))) further fine in
     let fine_after = subst (λ (e : AcceptEnd). FineOf own.stamp moment cred (accepting.step_of (accepting.accept_step setup e c.0.further next.now next.drawn))) same.end_is fine_sent in
     let w = walks-from setup own.stamp moment cred next later c.0.acceptor_after c.0.initiator_after c.0.further outcome known at.1 fine_after c.1 in
-    let short : IsShort (asked kind) = reply-fits First kind true false None None (λ v e. none-is v 65000 e) (λ v e. none-is v 28 e) in
-    record { walks = (no-mark own.stamp (waiting own kind) (asked kind) step over, subst IsShort same.token_is short, w.walks); names = w.names }
+    let short : IsShort (asked own kind) = reply-fits First (chosen_on own kind true) true false None None (λ v e. none-is v 65000 e) (λ v e. none-is v 28 e) in
+    record { walks = (no-mark own.stamp (waiting own kind) (asked own kind) step over, subst IsShort same.token_is short, w.walks); names = w.names }
 
 with-other : (setup : AcceptSetup) (own : PlainSetup) (cred : MechCred) (moment : ℕ) (occasions : List Occasion) (started : initiating.Started) (o : Opened own started) (begun : MechBegun)
     → is_own_list own.list ≡ true → best setup.offer (initiating.own_list own) ≡ Some (kind_of cred) → cred_for own.list (kind_of cred) ≡ Some cred → length own.draws ≡ 66 → IsShort started.token → init_begun own cred ≡ Ok begun → IsShort (resp_octets (initiating.token_sent begun.token))
@@ -408,8 +407,8 @@ with-other setup own cred moment [] started o begun list chosen is_cred draws sh
 with-other setup own cred moment (occasion ∷ rest) started o begun list chosen is_cred draws short begins begun_short fits other known at outcome c =
     let kind : MechKind = kind_of cred in
     let first = passes-over setup own kind o.begun.token occasion list (subst IsShort o.token short) chosen (first-named own own.list kind ∙ other) in
-    let over : accepting.step_of (accepting.accept_step setup ends.New started.token occasion.now occasion.drawn) ≡ Ok (steps.More (waiting own kind) (asked kind)) =
-    subst (λ (t : List ℕ). accepting.step_of (accepting.accept_step setup ends.New t occasion.now occasion.drawn) ≡ Ok (steps.More (waiting own kind) (asked kind))) (sym o.token) first in
+    let over : accepting.step_of (accepting.accept_step setup ends.New started.token occasion.now occasion.drawn) ≡ Ok (steps.More (waiting own kind) (asked own kind)) =
+    subst (λ (t : List ℕ). accepting.step_of (accepting.accept_step setup ends.New t occasion.now occasion.drawn) ≡ Ok (steps.More (waiting own kind) (asked own kind))) (sym o.token) first in
     walks-over setup own cred moment occasion rest started o.begun.mech begun o.end over is_cred draws begins begun_short fits.1 other known at.1 outcome c
 
 -- ---- an honest pair

@@ -26,8 +26,8 @@ use Rattle.spnego_core.specs.Initiating.{own_list, init_start}
 -- Kerberos: the ticket, the names, the moment, the stamp and the bindings fit. SCRAM: the user and
 -- the password meet a line of the verifiers, and the acceptor has no bindings or the same ones
 abbrev pub CredMeets : AcceptSetup → PlainSetup → MechCred → Occasion → Type 0
-CredMeets setup own (creds.Kerberos credential) occasion = Fits setup.keytab setup.own occasion.now
-    setup.bindings credential own.stamp own.bindings
+CredMeets setup own (creds.Kerberos name credential) occasion =
+    Fits setup.keytab setup.own occasion.now setup.bindings credential own.stamp own.bindings
 CredMeets setup own (creds.Scram user password) occasion = UserFits setup own user password occasion
 
 -- the first mechanism of the initiator's list begins, the two lists have a mechanism in common,
@@ -77,7 +77,7 @@ pub record UserTold (own : PlainSetup) (user password : List ℕ) : Type 0 where
 
 -- what a credential tells, by its mechanism
 abbrev pub CredTold : PlainSetup → List (List ℕ) → MechCred → Type 0
-CredTold own draws (creds.Kerberos credential) = TicketTold own draws credential
+CredTold own draws (creds.Kerberos name credential) = TicketTold own draws credential
 CredTold own draws (creds.Scram user password) = UserTold own user password
 
 -- 66 octets

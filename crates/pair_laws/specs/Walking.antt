@@ -40,7 +40,7 @@ Walks setup stamp moment (occasion ∷ next ∷ later) acceptor initiator token 
 -- an outcome has the names of a credential: the ticket's client and server, or the user and no
 -- acceptor
 abbrev pub HasNames : MechCred → Outcome → Type 0
-HasNames (creds.Kerberos credential) outcome = (outcome.initiator ≡ label_of credential.client)
+HasNames (creds.Kerberos name credential) outcome = (outcome.initiator ≡ label_of credential.client)
     × (outcome.acceptor ≡ label_of credential.server)
 HasNames (creds.Scram user password) outcome = (outcome.initiator ≡ user) × (outcome.acceptor ≡ [])
 

@@ -143,7 +143,7 @@ fn tell_cred(
     ensures { IfOk result (λ _. CredTold (setup_of own.now) draws.now cred.now) }
 {
     match cred {
-        MechCred::Kerberos(credential) => tell_ticket(alloc, own, credential, draws),
+        MechCred::Kerberos { credential, .. } => tell_ticket(alloc, own, credential, draws),
         MechCred::Scram { user, password } => tell_user(alloc, own, user, password),
     }
 }

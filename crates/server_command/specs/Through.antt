@@ -1,20 +1,19 @@
 -- The book that a run of the server opens, and that its desks ask.
-use Rattle.std.specs.Prelude.{◌≡◌, ℕ, List, [], ◌∷◌, reverse}
-use Rattle.gss_base.specs.declared.mech.MechKind.TheVariants.{Kerberos, Scram}
+use Rattle.std.specs.Prelude.{◌≡◌, ℕ, List, [], reverse}
 use Rattle.accept_book.specs.Booking.{BookOf}
 use Rattle.accept_core.specs.Logs.{LogOf, no_log}
 use Rattle.server_desks.specs.declared.desk.Desk.{Desk}
 use Rattle.server_options.specs.declared.keys.Keys.{Keys}
 use Rattle.server_options.specs.declared.options.Options.{Options}
 
--- a book as it is opened: for the own name, with these keys and the bindings of the options, to
--- both mechanisms, under the options' limits, without contexts
+-- a book as it is opened: for the own name, with these keys and the bindings of the options,
+-- offering the options' mechanisms in their order, under the options' limits, without contexts
 pub record IsOpened (options : Options) (keys : Keys) (start : ℕ) (book : BookOf) : Type 0 where
   pub own : book.setup.own ≡ options.name
   pub keytab : book.setup.keytab ≡ keys.keytab
   pub verifiers : book.setup.verifiers ≡ keys.verifiers
   pub bindings : book.setup.bindings ≡ options.bindings
-  pub offer : book.setup.offer ≡ Kerberos ∷ Scram ∷ []
+  pub offer : book.setup.offer ≡ options.offer
   pub history : book.core.history ≡ []
   pub limit : book.core.limit ≡ options.log
   pub width : book.core.width ≡ options.window

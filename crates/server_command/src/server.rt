@@ -1,6 +1,6 @@
 //! The run of the server.
 
-ghost use Rattle.std.specs.Prelude.{◌≡◌, ◌≢◌, ◌⊎◌, ◌<◌, ◌≤◌, ◌++◌, ◌∷◌, ℕ, [], true};
+ghost use Rattle.std.specs.Prelude.{◌≡◌, ◌≢◌, ◌⊎◌, ◌<◌, ◌≤◌, ◌++◌, ℕ, true};
 ghost use Rattle.std.specs.Prelude.{false, IsTrue, IfOk, Some, Ok, Err, length, vec_len, reverse};
 ghost use Rattle.std.specs.Prelude.{slice_get};
 ghost use Rattle.std.specs.List.{AllByRecursion};
@@ -8,7 +8,6 @@ ghost use Rattle.sec_base.specs.Answers.{Rose};
 ghost use Rattle.cli_base.specs.Lines.{Says};
 ghost use Rattle.accept_core.specs.Logs.{no_log};
 ghost use Rattle.accept_core.specs.Legal.{Legal};
-ghost use Rattle.gss_base.specs.declared.mech.MechKind.TheVariants as kinds;
 ghost use Rattle.gss_base.specs.Principal.{text_form};
 ghost use Rattle.server_desks.specs.Desks.{IsFresh, IsSmall, NamesADesk};
 ghost use Rattle.server_options.specs.Lines.{Named, is_begun, status_of, line_of};
@@ -22,9 +21,9 @@ ghost use Rattle.server_options.specs.Keys.{KeysFrom};
 
 use crate::seating::{Course, run_book, starved};
 use accept_book::{Limits, Log, OwnSeat};
-use gss_base::{Label, MechKind, Principal};
+use gss_base::{Label, Principal};
 use gss_server::{Keeper, Kept, Served};
-use sec_base::{Clock, Draw, Items, Moment, NoMemory, Port, Shelf, Sink, Text};
+use sec_base::{Clock, Draw, Moment, NoMemory, Port, Shelf, Sink, Text};
 use server_desks::{Desk, count_connections, count_records};
 use server_options::{
     Counts, Files, Keys, Names, Options, RunEnd, WordsRefusal, keys_from, read_options, say_end,
@@ -71,16 +70,6 @@ fn names_in<'a>(files: &'a Files, label: &'a Label) -> Names<'a>
     }
 }
 
-/// The mechanisms that are offered, the preferred first.
-fn offered(alloc: Global) -> Result<Items<MechKind>, NoMemory>
-    ensures { IfOk result (λ offer. offer ≡ kinds.Kerberos ∷ kinds.Scram ∷ []) }
-{
-    let mut offer = Vec::new(alloc);
-    offer.push(MechKind::Kerberos)?;
-    offer.push(MechKind::Scram)?;
-    Ok(Items::of(offer))
-}
-
 /// The book of a run.
 fn open_book(
     alloc: Global,
@@ -91,7 +80,6 @@ fn open_book(
     requires { IsRanged options }
     ensures opened { IfOk result (λ book. IsOpened options keys start book) }
 {
-    let offer = offered(alloc)?;
     let limits = Limits {
         contexts: options.contexts as usize,
         marks: options.marks as usize,
@@ -103,7 +91,7 @@ fn open_book(
         keytab: keys.keytab,
         verifiers: keys.verifiers,
         bindings: options.bindings,
-        offer,
+        offer: options.offer,
     };
     OwnSeat::open(alloc, setup, limits, start)
 }
@@ -281,7 +269,8 @@ where
 }
 
 /// Runs the server over its desks, side by side where threads can be made, and says on `err` how it ended. The words are
-/// `ADDRESS --keytab FILE --verifiers FILE --name PRINCIPAL [--bind TEXT] [--window N] [--connections N] [--contexts N] [--marks N] [--log N]`.
+/// `ADDRESS --keytab FILE --verifiers FILE --name PRINCIPAL [--bind TEXT] [--offer LIST] [--window N] [--connections N] [--contexts N] [--marks N]
+/// [--log N]`.
 pub fn run_server<
     R: Threads + Wait + Sync,
     F: Shelf,
@@ -340,9 +329,9 @@ where
     ensures limits { (options : Options) → options_of words.now ≡ Ok options
         → is_begun result.end ≡ true → HasLimits options result.log }
     // One book, of the setup that words, keytab and verifiers give, gave all answers to the desks, in one order, from its opening to the log that is
-    // returned: of each desk the questions of its connections, in the desk's order, and no others. Each desk served the first links of its port, in
-    // order; where it is done, all of them or as many as the words say. Or no book was opened: then the desks are as they were, and the log is empty
-    // and has no limits.
+    // returned: of each desk the questions of its connections, in the desk's order, and no others. Its offer is that of the words, in their order. Each
+    // desk served the first links of its port, in order; where it is done, all of them or as many as the words say. Or no book was opened: then the
+    // desks are as they were, and the log is empty and has no limits.
     ensures booked { (options : Options) → options_of words.now ≡ Ok options
         → ((is_begun result.end ≡ false) × NoBook desks.old.items desks.new.items result.log)
         ⊎ ((keys : Keys)

@@ -5,7 +5,6 @@ use Rattle.sec_base.specs.declared.port.Port as ports
 use Rattle.sec_base.specs.declared.link.Link as links
 use Rattle.sec_base.specs.declared.clock.Clock as clocks
 use Rattle.sec_base.specs.declared.draw.Draw as draws
-use Rattle.gss_base.specs.declared.mech.MechKind.TheVariants.{Kerberos, Scram}
 use Rattle.rpc_msgs.specs.Records.{Fragments}
 use Rattle.accept_book.specs.Booking.{BookOf}
 use Rattle.accept_core.specs.Legal.{Legal}
@@ -40,7 +39,7 @@ opened_book options keys start = record {
     keytab = keys.keytab;
     verifiers = keys.verifiers;
     bindings = options.bindings;
-    offer = Kerberos ∷ Scram ∷ [];
+    offer = options.offer;
   };
   core = record {
     history = [];

@@ -5,6 +5,8 @@ use Rattle.std.specs.Prelude.{if◌then◌else◌}
 use lib.Pointwise.{pointwise}
 use Rattle.gss_base.specs.Name.{Name}
 use Rattle.gss_base.specs.Signs.{parsed}
+use Rattle.gss_base.specs.declared.mech.MechKind.{MechKind}
+use Rattle.gss_base.specs.declared.mech.MechKind.TheVariants.{Kerberos, Scram}
 use Rattle.gss_base.specs.declared.principal.NameRefusal.{NameRefusal}
 use Rattle.cli_base.specs.Given.{◌>>=◌, demanded, number_given, data_given}
 use Rattle.cli_base.specs.Words.{are_words, value_of, first_word, plain_of}
@@ -16,13 +18,18 @@ use Rattle.server_options.specs.declared.options.Options.{Options}
 
 -- the names of the options
 abbrev pub names : List (List ℕ)
-names = codes "--keytab" ∷ codes "--verifiers" ∷ codes "--name" ∷ codes "--bind" ∷ codes "--window"
-    ∷ codes "--connections" ∷ codes "--contexts" ∷ codes "--marks" ∷ codes "--log" ∷ []
+names = codes "--keytab" ∷ codes "--verifiers" ∷ codes "--name" ∷ codes "--bind" ∷ codes "--offer"
+    ∷ codes "--window" ∷ codes "--connections" ∷ codes "--contexts" ∷ codes "--marks"
+    ∷ codes "--log" ∷ []
+
+-- two words are the same
+abbrev pub same : List ℕ → List ℕ → Bool
+same = pointwise nat_eq
 
 -- an address stands first; `drill` is none
 abbrev pub is_address : Option (List ℕ) → Bool
 is_address None = false
-is_address (Some word) = not (pointwise nat_eq word (codes "drill"))
+is_address (Some word) = not (same word (codes "drill"))
 
 -- the address, then options: each of these names, once, with its value
 abbrev pub is_command : List (List ℕ) → Bool
@@ -50,6 +57,22 @@ abbrev pub name_given : Option (List ℕ) → Result Name WordsRefusal
 name_given None = Err Usage
 name_given (Some text) = name_by (parsed text)
 
+-- the mechanisms of a list, the preferred first. They are mechanisms and not object identifiers: if
+-- single identifiers were offered, an altered list and an altered supportedMech could complete a
+-- mechanism that isn't the best one
+abbrev pub offer_by : List ℕ → Result (List MechKind) WordsRefusal
+offer_by text =
+    if same text (codes "krb5") then Ok (Kerberos ∷ [])
+    else if same text (codes "scram") then Ok (Scram ∷ [])
+    else if same text (codes "krb5,scram") then Ok (Kerberos ∷ Scram ∷ [])
+    else if same text (codes "scram,krb5") then Ok (Scram ∷ Kerberos ∷ [])
+    else Err Usage
+
+-- the mechanisms that are offered, by the option, or both without it, Kerberos first
+abbrev pub offer_given : Option (List ℕ) → Result (List MechKind) WordsRefusal
+offer_given None = Ok (Kerberos ∷ Scram ∷ [])
+offer_given (Some text) = offer_by text
+
 -- the numbers of the options
 abbrev pub numbers_given : List (List ℕ) → Result Numbers WordsRefusal
 numbers_given words = do
@@ -67,6 +90,7 @@ options_in words = do
   files ← files_given (value_of (codes "--keytab") words) (value_of (codes "--verifiers") words)
   name ← name_given (value_of (codes "--name") words)
   bound ← data_given (value_of (codes "--bind") words)
+  offer ← offer_given (value_of (codes "--offer") words)
   window ← number_given 1 1024 128 (value_of (codes "--window") words)
   connections ← number_given 1 1000000 1000 (value_of (codes "--connections") words)
   contexts ← number_given 1 65536 1024 (value_of (codes "--contexts") words)
@@ -76,9 +100,10 @@ options_in words = do
     files = files;
     name = name;
     bindings = bound;
-    window = window;
-    connections =
-        connections;
+    offer = offer;
+    window =
+        window;
+    connections = connections;
     contexts = contexts;
     marks = marks;
     log = log;

@@ -1,18 +1,19 @@
 //! The words of the server.
 
-ghost use Rattle.std.specs.Prelude.{◌≡◌, IfOk, codes};
+ghost use Rattle.std.specs.Prelude.{◌≡◌, ◌∷◌, [], IfOk, codes};
 ghost use Rattle.sec_base.specs.Answers.{Gives};
 ghost use Rattle.cli_base.specs.Words.{value_of};
 ghost use Rattle.server_options.specs.Options.{is_command, formed, name_by, files_given};
-ghost use Rattle.server_options.specs.Options.{name_given, numbers_given, options_in, options_of};
+ghost use Rattle.server_options.specs.Options.{name_given, offer_by, offer_given};
+ghost use Rattle.server_options.specs.Options.{numbers_given, options_in, options_of};
 ghost use Rattle.server_options.specs.Options.{AreRanged, IsRanged};
 ghost use Rattle.gss_base.specs.Signs.{parsed};
 
 pub use cli_base::{WordsRefusal, address_of};
 use cli_base::{are_words, count_plain, demand, first_word};
 use cli_words::{Line, bindings_given, number_given, server_line, texts_of};
-use gss_base::{Bindings, NameRefusal, Principal};
-use sec_base::Text;
+use gss_base::{Bindings, MechKind, NameRefusal, Principal};
+use sec_base::{Items, NoMemory, Text};
 use std::alloc::Global;
 
 /// The files of the server's keys.
@@ -30,6 +31,9 @@ pub struct Options {
     /// The own name.
     pub name: Principal,
     pub bindings: Option<Bindings>,
+    /// The mechanisms that are offered, the preferred first. They are mechanisms and not object identifiers: if single identifiers were offered,
+    /// an altered list and an altered `supportedMech` could complete a mechanism that isn't the best one.
+    pub offer: Items<MechKind>,
     /// The width of the windows, in numbers.
     pub window: u32,
     /// How many connections a desk serves.
@@ -59,6 +63,7 @@ fn is_command(words: &[Text]) -> bool
                 "--verifiers",
                 "--name",
                 "--bind",
+                "--offer",
                 "--window",
                 "--connections",
                 "--contexts",
@@ -115,6 +120,55 @@ fn name_given(alloc: Global, line: &Line<'_>) -> Result<Principal, WordsRefusal>
     }
 }
 
+/// A list of one mechanism.
+fn alone(alloc: Global, kind: MechKind) -> Result<Items<MechKind>, NoMemory>
+    ensures { IfOk result (λ offer. offer ≡ kind ∷ []) }
+{
+    let mut list = Vec::with_capacity(alloc, 1)?;
+    list.push_reserved(kind);
+    Ok(Items::of(list))
+}
+
+/// A list of two mechanisms.
+fn ranked(alloc: Global, first: MechKind, second: MechKind) -> Result<Items<MechKind>, NoMemory>
+    ensures { IfOk result (λ offer. offer ≡ first ∷ second ∷ []) }
+{
+    let mut list = Vec::with_capacity(alloc, 2)?;
+    list.push_reserved(first);
+    list.push_reserved(second);
+    Ok(Items::of(list))
+}
+
+/// The mechanisms of this list, the preferred first.
+fn offer_by(alloc: Global, text: &str) -> Result<Items<MechKind>, WordsRefusal>
+    ensures { Gives WordsRefusal.NoMemory (λ offer. offer) result (offer_by text.now) }
+{
+    if text == "krb5" {
+        return Ok(alone(alloc, MechKind::Kerberos)?);
+    }
+    if text == "scram" {
+        return Ok(alone(alloc, MechKind::Scram)?);
+    }
+    if text == "krb5,scram" {
+        return Ok(ranked(alloc, MechKind::Kerberos, MechKind::Scram)?);
+    }
+    if text == "scram,krb5" {
+        return Ok(ranked(alloc, MechKind::Scram, MechKind::Kerberos)?);
+    }
+    Err(WordsRefusal::Usage)
+}
+
+/// The mechanisms that are offered: those of the list, or both without it, Kerberos first.
+fn offer_given(alloc: Global, line: &Line<'_>) -> Result<Items<MechKind>, WordsRefusal>
+    ensures { Gives WordsRefusal.NoMemory (λ offer. offer) result
+        (offer_given (value_of (codes "--offer") line.now)) }
+{
+    match line.value("--offer") {
+        None => Ok(ranked(alloc, MechKind::Kerberos, MechKind::Scram)?),
+        Some(text) => offer_by(alloc, text),
+    }
+}
+
 /// The numbers of the options.
 #[derive(Clone, Copy)]
 struct Numbers {
@@ -153,11 +207,13 @@ fn options_in(alloc: Global, line: &Line<'_>) -> Result<Options, WordsRefusal>
     let files = files_given(alloc, line)?;
     let name = name_given(alloc, line)?;
     let bindings = bindings_given(alloc, line)?;
+    let offer = offer_given(alloc, line)?;
     match numbers_given(line) {
         Ok(numbers) => Ok(Options {
             files,
             name,
             bindings,
+            offer,
             window: numbers.window,
             connections: numbers.connections,
             contexts: numbers.contexts,

@@ -4,7 +4,8 @@ use Rattle.std.specs.List.{AllByRecursion}
 use Rattle.std.proofs.lemmas.Bool.{cases_Bool}
 use Rattle.gss_base.specs.declared.mech.MechKind.{MechKind}
 use Rattle.gss_base.specs.declared.mech.MechKind.TheVariants as kinds
-use Rattle.gss_base.specs.Mech.{oid_of}
+use Rattle.gss_base.specs.declared.mech.KerberosName.{KerberosName}
+use Rattle.gss_base.specs.declared.mech.KerberosName.TheVariants.{Standard, Microsoft}
 use Rattle.krb_files.specs.Granted.{Granted}
 use Rattle.spnego_core.specs.declared.outcome.Outcome.{Outcome}
 use Rattle.spnego_core.specs.declared.refusal.MechRefusal.{MechRefusal}
@@ -23,14 +24,14 @@ use Rattle.spnego_core.specs.Outcome.{outcome_of}
 use Rattle.spnego_core.specs.Choice.{same_kind, is_first, is_first_named, is_mic_due, best}
 use Rattle.spnego_core.specs.Tokens.{init_octets, resp_octets}
 use Rattle.spnego_core.specs.AcceptMech.{accept_begun}
-use Rattle.spnego_core.specs.InitMech.{kind_of, kinds_of, is_own, is_own_list, cred_for, MechBegun, init_begun}
+use Rattle.spnego_core.specs.InitMech.{kind_of, kinds_of, oid_listed, is_own, is_own_list, cred_for, MechBegun, init_begun}
 use Rattle.spnego_core.specs.Sizes.{IsShort}
 use Rattle.spnego_core.specs.Accepting as accepting
 use Rattle.spnego_core.specs.Initiating as initiating
 use Rattle.spnego_core.specs.Exchange.{Occasion, Completes, TicketFits, UserFits, Fitting, rounds_of, tokens_of, HonestPair, Agrees}
 use Rattle.spnego_core.proofs.InitSteps.{cred_for-kind}
 use Rattle.spnego_core.proofs.Spelled.{token_short}
-use Rattle.spnego_core.proofs.Turns.{MayCome, end_at, chosen_on, Hears, hears_first, hears_later, waits, switches, texts, ends_all}
+use Rattle.spnego_core.proofs.Turns.{MayCome, oid_on, end_at, chosen_on, Hears, hears_first, hears_later, waits, switches, texts, ends_all}
 use Rattle.spnego_core.proofs.MechRounds.{request_begins, request-begins, request-ends, text_begins, text-begins, pairs, texts-go, proof-short, proof-ends}
 
 begun_is : (a b : MechBegun) (r : Result MechBegun MechRefusal) → r ≡ Ok a → r ≡ Ok b → a ≡ b
@@ -47,12 +48,12 @@ record Runs (setup : AcceptSetup) (own : PlainSetup) (kind : MechKind) (due : Bo
 abbrev rounds_due : MechKind → Bool → ℕ
 rounds_due kind due = rounds_of kind + (if due then 1 else 0)
 
-request_runs : (setup : AcceptSetup) (own : PlainSetup) (credential : Granted) (due : Bool) (turn : Turn) (end : AcceptEnd) (octets : List ℕ) (begun : MechBegun) (occasion : Occasion) (rest : List Occasion)
-    → (due ≡ false → is_first (kinds_of own.list) kinds.Kerberos ≡ true) → is_own own.list kinds.Kerberos ≡ true → MayCome turn own kinds.Kerberos → length own.draws ≡ 66 → init_begun own (creds.Kerberos credential) ≡ Ok begun
+request_runs : (setup : AcceptSetup) (own : PlainSetup) (name : KerberosName) (credential : Granted) (due : Bool) (turn : Turn) (end : AcceptEnd) (octets : List ℕ) (begun : MechBegun) (occasion : Occasion) (rest : List Occasion)
+    → (due ≡ false → is_first (kinds_of own.list) kinds.Kerberos ≡ true) → is_own own.list kinds.Kerberos ≡ true → MayCome turn own kinds.Kerberos → length own.draws ≡ 66 → init_begun own (creds.Kerberos name credential) ≡ Ok begun
     → Hears setup end octets turn (chosen_on own kinds.Kerberos due) mechs.Kerberos begun.token → length occasion.drawn ≡ 66 → TicketFits setup own credential occasion → length rest ≡ (if due then 1 else 0)
     → Runs setup own kinds.Kerberos due turn end octets begun (occasion ∷ rest)
-request_runs setup own credential due turn end octets begun occasion rest first is may draws begins hears drawn fits count =
-    let same : begun ≡ request_begins own credential = begun_is begun (request_begins own credential) (init_begun own (creds.Kerberos credential)) begins (request-begins setup own credential occasion fits) in
+request_runs setup own name credential due turn end octets begun occasion rest first is may draws begins hears drawn fits count =
+    let same : begun ≡ request_begins own credential = begun_is begun (request_begins own credential) (init_begun own (creds.Kerberos name credential)) begins (request-begins setup own name credential occasion fits) in
     let heard : Hears setup end octets turn (chosen_on own kinds.Kerberos due) mechs.Kerberos (request_begins own credential).token = subst (λ (b : MechBegun). Hears setup end octets turn (chosen_on own kinds.Kerberos due) mechs.Kerberos b.token) same hears in
     let r = request-ends setup own credential occasion draws drawn fits in
     subst (λ (b : MechBegun). Runs setup own kinds.Kerberos due turn end octets b (occasion ∷ rest)) (sym same) (record {
@@ -87,9 +88,9 @@ runs : (setup : AcceptSetup) (own : PlainSetup) (cred : MechCred) (due : Bool) (
     → (due ≡ false → is_first (kinds_of own.list) (kind_of cred) ≡ true) → is_own own.list (kind_of cred) ≡ true → MayCome turn own (kind_of cred) → length own.draws ≡ 66 → init_begun own cred ≡ Ok begun
     → Hears setup end octets turn (chosen_on own (kind_of cred) due) (accept_begun (kind_of cred)) begun.token → AllByRecursion (Fitting setup own cred) occasions → length occasions ≡ rounds_due (kind_of cred) due
     → Runs setup own (kind_of cred) due turn end octets begun occasions
-runs setup own (creds.Kerberos credential) due turn end octets begun [] first is may draws begins hears fits count = absurd (omega (arith, count))
-runs setup own (creds.Kerberos credential) due turn end octets begun (occasion ∷ rest) first is may draws begins hears fits count =
-    request_runs setup own credential due turn end octets begun occasion rest first is may draws begins hears fits.0.drawn fits.0.facts (omega (arith, count))
+runs setup own (creds.Kerberos name credential) due turn end octets begun [] first is may draws begins hears fits count = absurd (omega (arith, count))
+runs setup own (creds.Kerberos name credential) due turn end octets begun (occasion ∷ rest) first is may draws begins hears fits count =
+    request_runs setup own name credential due turn end octets begun occasion rest first is may draws begins hears fits.0.drawn fits.0.facts (omega (arith, count))
 runs setup own (creds.Scram user password) due turn end octets begun [] first is may draws begins hears fits count = absurd (omega (arith, count))
 runs setup own (creds.Scram user password) due turn end octets begun (only ∷ []) first is may draws begins hears fits count = absurd (omega (arith, count))
 runs setup own (creds.Scram user password) due turn end octets begun (occasion ∷ next ∷ rest) first is may draws begins hears fits count =
@@ -110,9 +111,10 @@ cred_for-own [] kind cred e = cc
 cred_for-own (first ∷ rest) kind cred e = own_by (same_kind (kind_of first) kind) true rest kind first cred refl (λ f. cred_for-own rest kind cred f) e
 
 -- the first mechanism of the own list is that of its first identifier
-first_named-is : (own : PlainSetup) (list : List MechCred) (kind : MechKind) → is_first_named (map (λ cred. oid_of (kind_of cred)) list) kind ≡ is_first (kinds_of list) kind
+first_named-is : (own : PlainSetup) (list : List MechCred) (kind : MechKind) → is_first_named (map oid_listed list) kind ≡ is_first (kinds_of list) kind
 first_named-is own [] kind = refl
-first_named-is own (creds.Kerberos credential ∷ rest) kind = refl
+first_named-is own (creds.Kerberos Standard credential ∷ rest) kind = refl
+first_named-is own (creds.Kerberos Microsoft credential ∷ rest) kind = refl
 first_named-is own (creds.Scram user password ∷ rest) kind = refl
 
 -- an end that sent its first token
@@ -191,7 +193,7 @@ switch_before : (setup : AcceptSetup) (own : PlainSetup) (cred : MechCred) (occa
 switch_before setup own cred occasion [] first begun outcome list chosen is_cred short begins begun_short other c = absurd c
 switch_before setup own cred occasion (next ∷ later) first begun outcome list chosen is_cred short begins begun_short other c = (
   record {
-    reply = accepting.reply First (kind_of cred) true false None None;
+    reply = accepting.reply First (oid_on own (kind_of cred)) true false None None;
     acceptor_after = accepts.Runs (record { chosen = chosen_on own (kind_of cred) true; mech = accept_begun (kind_of cred) });
     accepts = waits setup own (kind_of cred) first.token occasion list short chosen (first_named-is own own.list (kind_of cred) ∙ other);
     initiator_after = end_at Later own (kind_of cred) true begun.mech;

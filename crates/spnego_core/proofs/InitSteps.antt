@@ -1,5 +1,6 @@
 -- What an initiator's step shows, part by part.
 use Rattle.std.proofs.Common.{◌≡◌, ◌⊎◌, ℕ, Bool, true, false, not, ◌||◌, if◌then◌else◌, refl, sym, ap, ◌∙◌, subst, inl, inr, List, [], ◌∷◌, ◌++◌, length, map, Option, Some, None, Result, Ok, Err}
+use Rattle.gss_base.specs.declared.mech.KerberosName.{KerberosName}
 use Rattle.gss_base.specs.declared.mech.MechKind.{MechKind}
 use Rattle.gss_base.specs.declared.mech.MechKind.TheVariants as kinds
 use Rattle.gss_base.specs.Mech.{mech_of}
@@ -23,7 +24,6 @@ use Rattle.spnego_core.specs.declared.setup.MechCred.{MechCred}
 use Rattle.spnego_core.specs.declared.setup.MechCred.TheVariants as creds
 use Rattle.spnego_core.specs.MechStates.{InitMech}
 use Rattle.spnego_core.specs.MechStates as mechs
-use Rattle.spnego_core.specs.MechStates.{InitAnswer}
 use Rattle.spnego_core.specs.Ends.{PlainSetup, OpeningSays, TalkSays, TalkingSays, SignedSays, EndSays}
 use Rattle.spnego_core.specs.Ends as ends
 use Rattle.spnego_core.specs.EndSteps.{StepSays}
@@ -33,7 +33,7 @@ use Rattle.spnego_core.specs.Steps.{◌>>=◌, due, or_refuse}
 use Rattle.spnego_core.specs.Tokens.{rejects, says_completed, resp_read, last_read, resp_octets}
 use Rattle.spnego_core.specs.ListMic.{is_list_mic, mic_making, mic_found}
 use Rattle.spnego_core.specs.Choice.{is_first, same_kind}
-use Rattle.spnego_core.specs.InitMech.{kind_of, kinds_of, cred_for, request_begun, text_begun, init_begun, reply_answered, text_answered, final_answered, init_taken}
+use Rattle.spnego_core.specs.InitMech.{kind_of, kinds_of, cred_for, ticket_for, request_begun, text_begun, init_begun, reply_answered, text_answered, final_answered, init_taken}
 use Rattle.spnego_core.specs.Initiating.{Initiated, Started, opens, starts, init_start, opened, talked, closed, init_step, behind, own_list, ended, is_mic_owed, is_chosen, completes_now, completes_later, looks, token_sent, ran, run, begins_other, switched, switches, talk_with, talk_after, picks, own_kind, settles, looks_again}
 use Rattle.spnego_core.specs.InitLaws.{own_of, chosen_of, finished_of, finished_in, answering, answers_next, answers_in, IsWaiting, IsFirstText, IsProved, IsMechOf, kind_of_mech, Covered, GoodInit, After, IsRequest, IsProof, IsOwnMic, IsFinish, SeesMic, InitLaw, StartLaw}
 use Rattle.spnego_core.proofs.Makings.{among_front, among_back, among_split}
@@ -238,7 +238,7 @@ cred_for-kind [] kind cred e = cc
 cred_for-kind (first ∷ rest) kind cred e =
     by_test (same_kind (kind_of first) kind) kind first cred (cred_for rest kind) (λ f. same_kind-is (kind_of first) kind f) (λ f. cred_for-kind rest kind cred f) e
 
-request-begun : (talk : TalkSays) (next : Option InitModel) (credential : Granted) (result : Result (ApInit × List ℕ) ApRefusal) → kinds.Kerberos ≡ talk.chosen → cred_for talk.own.list kinds.Kerberos ≡ Some (creds.Kerberos credential) → request_of credential talk.own.stamp talk.own.draws talk.own.bindings ≡ result → On (Ran talk.own None next talk.chosen) (switched talk (request_begun (map typed (request_makes credential talk.own.stamp talk.own.draws talk.own.bindings)) result))
+request-begun : (talk : TalkSays) (next : Option InitModel) (credential : Granted) (result : Result (ApInit × List ℕ) ApRefusal) → kinds.Kerberos ≡ talk.chosen → ticket_for talk.own.list ≡ Some credential → request_of credential talk.own.stamp talk.own.draws talk.own.bindings ≡ result → On (Ran talk.own None next talk.chosen) (switched talk (request_begun (map typed (request_makes credential talk.own.stamp talk.own.draws talk.own.bindings)) result))
 request-begun talk next credential (Err refusal) kind is_own sends = tt
 request-begun talk next credential (Ok sent) kind is_own sends = record {
   after = record {
@@ -282,9 +282,10 @@ text-begun talk next user password (Ok started) kind is_own starts = record {
 
 switched-law : (talk : TalkSays) (next : Option InitModel) (cred : MechCred) → cred_for talk.own.list talk.chosen ≡ Some cred → On (Ran talk.own None next talk.chosen) (switched talk (init_begun talk.own cred))
 unfolding init_begun
-switched-law talk next (creds.Kerberos credential) e =
-    let kind : kinds.Kerberos ≡ talk.chosen = cred_for-kind talk.own.list talk.chosen (creds.Kerberos credential) e in
-    request-begun talk next credential (request_of credential talk.own.stamp talk.own.draws talk.own.bindings) kind (rw kind e) refl
+switched-law talk next (creds.Kerberos name credential) e =
+    let kind : kinds.Kerberos ≡ talk.chosen = cred_for-kind talk.own.list talk.chosen (creds.Kerberos name credential) e in
+    let found : cred_for talk.own.list kinds.Kerberos ≡ Some (creds.Kerberos name credential) = rw kind e in
+    request-begun talk next credential (request_of credential talk.own.stamp talk.own.draws talk.own.bindings) kind (rw found refl) refl
 switched-law talk next (creds.Scram user password) e =
     let kind : kinds.Scram ≡ talk.chosen = cred_for-kind talk.own.list talk.chosen (creds.Scram user password) e in
     text-begun talk next user password (init_started user password (drawn_nonce talk.own.draws) talk.own.bindings) kind (rw kind e) refl
@@ -419,11 +420,11 @@ OnStarted : (Started → Type 0) → Result Started NegRefusal → Type 0
 OnStarted P (Ok started) = P started
 OnStarted P (Err refusal) = Unit {0}
 
-request-opens : (own : PlainSetup) (credential : Granted) (rest : List MechCred) (result : Result (ApInit × List ℕ) ApRefusal) → own.list ≡ creds.Kerberos credential ∷ rest → request_of credential own.stamp own.draws own.bindings ≡ result → OnStarted (StartLaw own) (opens own (request_begun (map typed (request_makes credential own.stamp own.draws own.bindings)) result))
+request-opens : (own : PlainSetup) (name : KerberosName) (credential : Granted) (rest : List MechCred) (result : Result (ApInit × List ℕ) ApRefusal) → own.list ≡ creds.Kerberos name credential ∷ rest → request_of credential own.stamp own.draws own.bindings ≡ result → OnStarted (StartLaw own) (opens own (request_begun (map typed (request_makes credential own.stamp own.draws own.bindings)) result))
 unfolding OnStarted
-request-opens own credential rest (Err refusal) list sends = tt
-request-opens own credential rest (Ok sent) list sends =
-    let is_own : cred_for own.list kinds.Kerberos ≡ Some (creds.Kerberos credential) = rw list refl in
+request-opens own name credential rest (Err refusal) list sends = tt
+request-opens own name credential rest (Ok sent) list sends =
+    let is_own : ticket_for own.list ≡ Some credential = rw list refl in
     record {
       own_is = refl;
       good = record {
@@ -452,7 +453,7 @@ text-opens own user password rest (Ok started) list starts =
 starts-law : (own : PlainSetup) (list : List MechCred) → own.list ≡ list → OnStarted (StartLaw own) (starts own list)
 unfolding OnStarted init_begun
 starts-law own [] e = tt
-starts-law own (creds.Kerberos credential ∷ rest) e = request-opens own credential rest (request_of credential own.stamp own.draws own.bindings) e refl
+starts-law own (creds.Kerberos name credential ∷ rest) e = request-opens own name credential rest (request_of credential own.stamp own.draws own.bindings) e refl
 starts-law own (creds.Scram user password ∷ rest) e = text-opens own user password rest (init_started user password (drawn_nonce own.draws) own.bindings) e refl
 
 pub init_starts : (own : PlainSetup) (started : Started) → init_start own ≡ Ok started → StartLaw own started

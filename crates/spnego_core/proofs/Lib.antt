@@ -2,6 +2,7 @@ pub mod Makings
 pub mod Requests
 pub mod InitSteps
 pub mod AcceptSteps
+pub mod Listed
 pub mod Sizes
 pub mod Short
 pub mod ShortInit

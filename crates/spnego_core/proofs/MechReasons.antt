@@ -76,7 +76,7 @@ text_begun-reasoned (Err e) h = h e refl
 
 pub init_begun-reasoned : (own : PlainSetup) (cred : MechCred) → MechReasoned (init_begun own cred)
 unfolding init_begun
-init_begun-reasoned own (creds.Kerberos credential) =
+init_begun-reasoned own (creds.Kerberos name credential) =
     request_begun-reasoned _ (request_of credential own.stamp own.draws own.bindings) (request-reasons credential own.stamp own.draws own.bindings)
 init_begun-reasoned own (creds.Scram user password) =
     text_begun-reasoned (init_started user password (drawn_nonce own.draws) own.bindings) (step-reasons.started user password (drawn_nonce own.draws) own.bindings)

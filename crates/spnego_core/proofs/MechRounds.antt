@@ -6,6 +6,7 @@ use Rattle.std.proofs.lemmas.List.{length-append}
 use Rattle.std.proofs.lemmas.Bool.Decides.{nat_tests}
 use Rattle.gss_base.specs.declared.mech.MechKind.TheVariants as kinds
 use Rattle.gss_base.specs.declared.mech.MechKind.TheVariants.{Scram}
+use Rattle.gss_base.specs.declared.mech.KerberosName.{KerberosName}
 use Rattle.gss_base.specs.Mech.{oid_of}
 use Rattle.der_core.specs.Frame.{framed}
 use Rattle.krb_tokens.specs.declared.done.MechDone.{MechDone}
@@ -70,9 +71,9 @@ request_begins own credential = record {
   makes = map typed (request_makes credential own.stamp own.draws own.bindings);
 }
 
-pub request-begins : (setup : AcceptSetup) (own : PlainSetup) (credential : Granted) (occasion : Occasion) → TicketFits setup own credential occasion → init_begun own (creds.Kerberos credential) ≡ Ok (request_begins own credential)
+pub request-begins : (setup : AcceptSetup) (own : PlainSetup) (name : KerberosName) (credential : Granted) (occasion : Occasion) → TicketFits setup own credential occasion → init_begun own (creds.Kerberos name credential) ≡ Ok (request_begins own credential)
 unfolding init_begun request_of
-request-begins setup own credential occasion h = rw h.fit.is_ticket refl
+request-begins setup own name credential occasion h = rw h.fit.is_ticket refl
 
 -- ends that agree have one outcome
 one_outcome : (a b : MechDone) → ap_laws.Agrees a b → outcome_of kinds.Kerberos a ≡ outcome_of kinds.Kerberos b

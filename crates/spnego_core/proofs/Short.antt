@@ -1,8 +1,7 @@
 -- The tokens of both ends are short.
-use Rattle.std.proofs.Common.{◌≡◌, ℕ, ◌+◌, ◌≤◌, Bool, refl, sym, subst, arith, List, [], ◌∷◌, length, Option, Some, None, Result, Ok, Err}
-use Rattle.gss_base.specs.declared.mech.MechKind.{MechKind}
-use Rattle.gss_base.specs.declared.mech.MechKind.TheVariants as kinds
-use Rattle.gss_base.specs.Mech.{oid_of}
+use Rattle.std.proofs.Common.{◌≡◌, ℕ, ◌+◌, ◌≤◌, ◌&&◌, Bool, true, false, nat_le, refl, sym, subst, arith, List, [], ◌∷◌, length, Option, Some, None, Result, Ok, Err}
+use Rattle.std.proofs.lemmas.Bool.{leb-true}
+use Rattle.sec_base.specs.Oid.{are_arcs, is_oid}
 use Rattle.krb_tokens.specs.declared.end.Side.{Side}
 use Rattle.der_core.specs.Format.{Format}
 use Rattle.der_core.specs.Fields.{optional_spelling}
@@ -37,12 +36,12 @@ state_within state = element_within 0x0a one
     one : Within (state_number state ∷ []) 1
     one = record { most = omega arith }
 
-pub resp_within : (resp : NegResp) (n : ℕ) → ((v : List ℕ) → resp.mech ≡ Some v → Within v 9) → ((v : List ℕ) → resp.token ≡ Some v → Within v n) → ((v : List ℕ) → resp.mic ≡ Some v → Within v 28) → Within (resp_octets resp) (n + 98)
+pub resp_within : (resp : NegResp) (n : ℕ) → ((v : List ℕ) → resp.mech ≡ Some v → Within v 32) → ((v : List ℕ) → resp.token ≡ Some v → Within v n) → ((v : List ℕ) → resp.mic ≡ Some v → Within v 28) → Within (resp_octets resp) (n + 121)
 unfolding resp_octets neg_resp
 resp_within resp n mech token mic =
-    more (n + 98) (omega arith) (element_within 0xa1 (element_within 0x30
+    more (n + 121) (omega arith) (element_within 0xa1 (element_within 0x30
     (both (optional_within (explicit 0xa0 neg_state) resp.state 13 (λ v e. element_within 0xa0 (state_within v)))
-    (both (optional_within (explicit 0xa1 object_identifier) resp.mech 21 (λ v e. element_within 0xa1 (oid_within v (mech v e))))
+    (both (optional_within (explicit 0xa1 object_identifier) resp.mech 44 (λ v e. element_within 0xa1 (oid_within v (mech v e))))
     (both (optional_within (explicit 0xa2 octet_string) resp.token (n + 12) (λ v e. more (n + 12) (omega arith) (element_within 0xa2 (string_within v (token v e)))))
     (both (optional_within (explicit 0xa3 octet_string) resp.mic 40 (λ v e. element_within 0xa3 (string_within v (mic v e))))
     none))))))
@@ -59,31 +58,40 @@ list_mic_within outcome side list = mic_within (token_end outcome side) 0 (list_
 
 -- ---- the acceptor
 
-named_within : (turn : Turn) (kind : MechKind) (v : List ℕ) → mech_said turn kind ≡ Some v → Within v 9
-named_within First kinds.Kerberos v e = some-is (oid_of kinds.Kerberos) v 9 (record { most = omega arith }) e
-named_within First kinds.Scram v e = some-is (oid_of kinds.Scram) v 9 (record { most = omega arith }) e
-named_within Later kind v e = none-is v 9 e
+and_last : (a b : Bool) → (a && b) ≡ true → b ≡ true
+and_last true b e = e
+and_last false b e = cc
 
-reply_within : (turn : Turn) (kind : MechKind) (owes finished : Bool) (token mic : Option (List ℕ)) → ((v : List ℕ) → token ≡ Some v → Within v 61040) → ((v : List ℕ) → mic ≡ Some v → Within v 28) → IsShort (reply turn kind owes finished token mic)
-reply_within turn kind owes finished token mic t m =
-    omega (arith, (resp_within (reply_with turn kind owes finished token mic) 61040 (named_within turn kind) t m).most)
+-- an object identifier's content has at most 32 octets
+pub few_oid : (oid : List ℕ) → is_oid oid ≡ true → length oid ≤ 32
+few_oid oid e =
+    leb-true (length oid) 32
+    (and_last (nat_le 1 (length oid)) (nat_le (length oid) 32) (and_last (are_arcs true oid) (nat_le 1 (length oid) && nat_le (length oid) 32) e))
+
+pub named_within : (turn : Turn) (oid : List ℕ) (v : List ℕ) → length oid ≤ 32 → mech_said turn oid ≡ Some v → Within v 32
+named_within First oid v few e = some-is oid v 32 (record { most = few }) e
+named_within Later oid v few e = none-is v 32 e
+
+reply_within : (turn : Turn) (oid : List ℕ) (owes finished : Bool) (token mic : Option (List ℕ)) → length oid ≤ 32 → ((v : List ℕ) → token ≡ Some v → Within v 61040) → ((v : List ℕ) → mic ≡ Some v → Within v 28) → IsShort (reply turn oid owes finished token mic)
+reply_within turn oid owes finished token mic few t m =
+    omega (arith, (resp_within (reply_with turn oid owes finished token mic) 61040 (λ v e. named_within turn oid v few e) t m).most)
 
 if_within : {P : List ℕ → Type 0} (o : Option (List ℕ)) (n : ℕ) → ((v : List ℕ) → P v → length v ≤ n) → IfSome o P → (v : List ℕ) → o ≡ Some v → Within v n
 if_within None n f h v e = none-is v n e
 if_within (Some x) n f h v e = some-is x v n (record { most = f x h }) e
 
-pub reply_short : (turn : Turn) (kind : MechKind) (owes finished : Bool) (token mic : Option (List ℕ)) → IfSome token FitsBeside → IfSome mic IsMicSized → IsShort (reply turn kind owes finished token mic)
-reply_short turn kind owes finished token mic t m =
-    reply_within turn kind owes finished token mic (if_within token 61040 (λ v h. h) t) (if_within mic 28 (λ v h. h) m)
+pub reply_short : (turn : Turn) (oid : List ℕ) (owes finished : Bool) (token mic : Option (List ℕ)) → length oid ≤ 32 → IfSome token FitsBeside → IfSome mic IsMicSized → IsShort (reply turn oid owes finished token mic)
+reply_short turn oid owes finished token mic few t m =
+    reply_within turn oid owes finished token mic few (if_within token 61040 (λ v h. h) t) (if_within mic 28 (λ v h. h) m)
 
 -- a reply's octets, by what it says of the negotiation and the mechanism that it names
-pub if_reply : {E : Type 0} (turn : Turn) (kind : MechKind) (owes finished : Bool) (state : NegState) (mech token mic : Option (List ℕ)) (r : Result (List ℕ) E) → state ≡ state_said turn owes finished → mech ≡ mech_said turn kind
+pub if_reply : {E : Type 0} (turn : Turn) (oid : List ℕ) (owes finished : Bool) (state : NegState) (mech token mic : Option (List ℕ)) (r : Result (List ℕ) E) → length oid ≤ 32 → state ≡ state_said turn owes finished → mech ≡ mech_said turn oid
     → IfOk r (λ o. o ≡ resp_octets (record { state = Some state; mech = mech; token = token; mic = mic })) → IfSome token FitsBeside → IfSome mic IsMicSized → IfOk r IsShort
-if_reply turn kind owes finished state mech token mic (Ok o) s m h t k =
+if_reply turn oid owes finished state mech token mic (Ok o) few s m h t k =
     let stated : o ≡ resp_octets (record { state = Some (state_said turn owes finished); mech = mech; token = token; mic = mic }) = subst (λ (x : NegState). o ≡ resp_octets (record { state = Some x; mech = mech; token = token; mic = mic })) s h in
-    let named : o ≡ reply turn kind owes finished token mic = subst (λ (x : Option (List ℕ)). o ≡ resp_octets (record { state = Some (state_said turn owes finished); mech = x; token = token; mic = mic })) m stated in
-    subst IsShort (sym named) (reply_short turn kind owes finished token mic t k)
-if_reply turn kind owes finished state mech token mic (Err refusal) s m h t k = tt
+    let named : o ≡ reply turn oid owes finished token mic = subst (λ (x : Option (List ℕ)). o ≡ resp_octets (record { state = Some (state_said turn owes finished); mech = x; token = token; mic = mic })) m stated in
+    subst IsShort (sym named) (reply_short turn oid owes finished token mic few t k)
+if_reply turn oid owes finished state mech token mic (Err refusal) few s m h t k = tt
 
 -- the answer to a request
 pub request_short : (request : Judged) (draws : List ℕ) (answer : AcceptAnswer) → length draws ≡ 66 → answer ≡ (request_answered draws [] request).answer → ShortTold answer

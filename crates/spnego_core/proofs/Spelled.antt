@@ -1,11 +1,13 @@
 -- Tokens that have not too many octets have a spelling that is read back.
-use Rattle.std.proofs.Common.{◌≡◌, ℕ, ◌≤◌, ◌<◌, ◌^◌, ◌&&◌, Bool, true, refl, subst, arith, List, [], ◌∷◌, ◌++◌, length, map, Option, Some, None, Ok, nat_lt}
+use Rattle.std.proofs.Common.{◌≡◌, ℕ, ◌≤◌, ◌<◌, ◌^◌, ◌&&◌, Bool, true, refl, sym, subst, arith, List, [], ◌∷◌, ◌++◌, length, map, Option, Some, None, Ok, nat_lt}
 use Rattle.std.proofs.lemmas.List.{length-append}
 use Rattle.std.proofs.lemmas.Bool.Decides.{nat_tests}
 use Rattle.sec_base.specs.Oid.{is_oid}
 use Rattle.gss_base.specs.declared.mech.MechKind.{MechKind}
-use Rattle.gss_base.specs.declared.mech.MechKind.TheVariants as kinds
-use Rattle.gss_base.specs.Mech.{oid_of}
+use Rattle.gss_base.specs.declared.mech.KerberosName.TheVariants.{Standard, Microsoft}
+use Rattle.gss_base.specs.declared.mech.MechName.{MechName}
+use Rattle.gss_base.specs.declared.mech.MechName.TheVariants as names
+use Rattle.gss_base.specs.Mech.{oid_named}
 use Rattle.der_core.specs.Header.{length_octets, tlv}
 use Rattle.der_core.specs.Format.{Format}
 use Rattle.der_core.specs.Element.{octet_string, explicit}
@@ -22,11 +24,13 @@ use Rattle.spnego_core.specs.declared.accept_end.Turn.TheVariants.{First, Later}
 use Rattle.spnego_core.specs.Ends.{PlainSetup}
 use Rattle.spnego_core.specs.Sizes.{IsShort}
 use Rattle.spnego_core.specs.Tokens.{init_read, init_octets, resp_read, resp_octets}
-use Rattle.spnego_core.specs.InitMech.{kind_of, is_own_list}
+use Rattle.spnego_core.specs.Choice.{listed_as}
+use Rattle.spnego_core.specs.InitMech.{name_of, oid_listed, is_own_list}
 use Rattle.spnego_core.specs.Accepting.{mech_said, reply_with, reply}
 use Rattle.spnego_core.specs.Initiating.{own_list, first_sent, token_sent, mic_sent}
 use Rattle.spnego_core.proofs.Sizes.{Within}
-use Rattle.spnego_core.proofs.Short.{resp_within, some-is, none-is}
+use Rattle.spnego_core.proofs.Listed.{listed-named, listed-few}
+use Rattle.spnego_core.proofs.Short.{resp_within, named_within, some-is, none-is}
 use Rattle.spnego_core.proofs.Pairs.{init_again, resp_again}
 
 -- what the octets spell fits, unless they are too many
@@ -89,28 +93,27 @@ resp_sized resp mech =
     (both_sized (optional_sized (explicit 0xa3 octet_string) resp.mic (λ v e. element_sized 0xa3 (string_sized v)))
     any_sized)))))
 
-named_oid : (kind : MechKind) → is_oid (oid_of kind) ≡ true
-named_oid kinds.Kerberos = refl
-named_oid kinds.Scram = refl
+named_oid : (name : MechName) → is_oid (oid_named name) ≡ true
+named_oid (names.Kerberos Standard) = refl
+named_oid (names.Kerberos Microsoft) = refl
+named_oid names.Scram = refl
 
-said_oid : (turn : Turn) (kind : MechKind) (v : List ℕ) → mech_said turn kind ≡ Some v → is_oid v ≡ true
-said_oid First kind v e = let same : oid_of kind ≡ v = cc in subst (λ (oid : List ℕ). is_oid oid ≡ true) same (named_oid kind)
-said_oid Later kind v e = absurd (let f : None ≡ Some v = e in cc)
+said_oid : (turn : Turn) (list : List (List ℕ)) (kind : MechKind) (v : List ℕ) → mech_said turn (listed_as list kind) ≡ Some v → is_oid v ≡ true
+said_oid First list kind v e = let same : listed_as list kind ≡ v = cc in subst (λ (oid : List ℕ). is_oid oid ≡ true) same (subst (λ (oid : List ℕ). is_oid oid ≡ true) (sym (listed-named list kind).is) (named_oid (listed-named list kind).name))
+said_oid Later list kind v e = absurd (let f : None ≡ Some v = e in cc)
 
 no_mech : (v : List ℕ) → None ≡ Some v → is_oid v ≡ true
 no_mech v e = absurd (let f : None ≡ Some v = e in cc)
 
-said_within : (turn : Turn) (kind : MechKind) (v : List ℕ) → mech_said turn kind ≡ Some v → Within v 9
-said_within First kinds.Kerberos v e = some-is (oid_of kinds.Kerberos) v 9 (record { most = omega arith }) e
-said_within First kinds.Scram v e = some-is (oid_of kinds.Scram) v 9 (record { most = omega arith }) e
-said_within Later kind v e = none-is v 9 e
+said_within : (turn : Turn) (list : List (List ℕ)) (kind : MechKind) (v : List ℕ) → mech_said turn (listed_as list kind) ≡ Some v → Within v 32
+said_within turn list kind v e = named_within turn (listed_as list kind) v (omega (arith, listed-few list kind)) e
 
 -- a reply of an acceptor is read
-pub reply_reads : (turn : Turn) (kind : MechKind) (owes finished : Bool) (token mic : Option (List ℕ)) → ((v : List ℕ) → token ≡ Some v → Within v 65000) → ((v : List ℕ) → mic ≡ Some v → Within v 28)
-    → resp_read (reply turn kind owes finished token mic) ≡ Ok (reply_with turn kind owes finished token mic)
-reply_reads turn kind owes finished token mic t m =
-    let resp : NegResp = reply_with turn kind owes finished token mic in
-    resp_again resp ((resp_sized resp (said_oid turn kind)).holds (omega (arith, (resp_within resp 65000 (said_within turn kind) t m).most)))
+pub reply_reads : (turn : Turn) (list : List (List ℕ)) (kind : MechKind) (owes finished : Bool) (token mic : Option (List ℕ)) → ((v : List ℕ) → token ≡ Some v → Within v 65000) → ((v : List ℕ) → mic ≡ Some v → Within v 28)
+    → resp_read (reply turn (listed_as list kind) owes finished token mic) ≡ Ok (reply_with turn (listed_as list kind) owes finished token mic)
+reply_reads turn list kind owes finished token mic t m =
+    let resp : NegResp = reply_with turn (listed_as list kind) owes finished token mic in
+    resp_again resp ((resp_sized resp (said_oid turn list kind)).holds (omega (arith, (resp_within resp 65000 (said_within turn list kind) t m).most)))
 
 -- so is a token of an initiator
 pub token_reads : (token : List ℕ) → IsShort (resp_octets (token_sent token)) → resp_read (resp_octets (token_sent token)) ≡ Ok (token_sent token)
@@ -119,27 +122,28 @@ token_reads token h = resp_again (token_sent token) ((resp_sized (token_sent tok
 pub token_short : (token : List ℕ) → length token ≤ 65000 → IsShort (resp_octets (token_sent token))
 token_short token h =
     let own : Within token 65000 = record { most = h } in
-    omega (arith, (resp_within (token_sent token) 65000 (λ v e. none-is v 9 e) (λ v e. some-is token v 65000 own e) (λ v e. none-is v 28 e)).most)
+    omega (arith, (resp_within (token_sent token) 65000 (λ v e. none-is v 32 e) (λ v e. some-is token v 65000 own e) (λ v e. none-is v 28 e)).most)
 
 -- and one with its MIC
 pub mic_reads : (mic : List ℕ) → Within mic 28 → resp_read (resp_octets (mic_sent mic)) ≡ Ok (mic_sent mic)
 mic_reads mic own =
-    resp_again (mic_sent mic) ((resp_sized (mic_sent mic) no_mech).holds (omega (arith, (resp_within (mic_sent mic) 0 (λ v e. none-is v 9 e) (λ v e. none-is v 0 e) (λ v e. some-is mic v 28 own e)).most)))
+    resp_again (mic_sent mic) ((resp_sized (mic_sent mic) no_mech).holds (omega (arith, (resp_within (mic_sent mic) 0 (λ v e. none-is v 32 e) (λ v e. none-is v 0 e) (λ v e. some-is mic v 28 own e)).most)))
 
 pub mic_short : (mic : List ℕ) → Within mic 28 → IsShort (resp_octets (mic_sent mic))
-mic_short mic own = omega (arith, (resp_within (mic_sent mic) 0 (λ v e. none-is v 9 e) (λ v e. none-is v 0 e) (λ v e. some-is mic v 28 own e)).most)
+mic_short mic own = omega (arith, (resp_within (mic_sent mic) 0 (λ v e. none-is v 32 e) (λ v e. none-is v 0 e) (λ v e. some-is mic v 28 own e)).most)
 
 -- ---- the first token
 
-list_sized : (list : List MechCred) → Sized (many_spelling object_identifier (map (λ cred. oid_of (kind_of cred)) list)) (many_fit object_identifier (map (λ cred. oid_of (kind_of cred)) list))
+list_sized : (list : List MechCred) → Sized (many_spelling object_identifier (map oid_listed list)) (many_fit object_identifier (map oid_listed list))
 list_sized [] = any_sized
-list_sized (cred ∷ list) = both_sized (oid_sized (oid_of (kind_of cred)) (named_oid (kind_of cred))) (list_sized list)
+list_sized (cred ∷ list) = both_sized (oid_sized (oid_listed cred) (named_oid (name_of cred))) (list_sized list)
 
-list_counted : (list : List MechCred) → is_own_list list ≡ true → is_count (map (λ cred. oid_of (kind_of cred)) list) ≡ true
+list_counted : (list : List MechCred) → is_own_list list ≡ true → is_count (map oid_listed list) ≡ true
 list_counted [] e = cc
 list_counted (only ∷ []) e = refl
 list_counted (first ∷ second ∷ []) e = refl
-list_counted (first ∷ second ∷ third ∷ rest) e = cc
+list_counted (first ∷ second ∷ third ∷ []) e = refl
+list_counted (first ∷ second ∷ third ∷ fourth ∷ rest) e = cc
 
 types_sized : (own : PlainSetup) → is_own_list own.list ≡ true → Sized (mech_types.spell (own_list own)) (mech_types.fits (own_list own))
 unfolding mech_types

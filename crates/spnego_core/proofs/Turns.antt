@@ -1,8 +1,6 @@
 -- Single messages of an honest exchange.
 use Rattle.std.proofs.Common.{◌≡◌, ℕ, ◌≤◌, Bool, true, false, if◌then◌else◌, refl, ap, arith, List, [], ◌∷◌, length, Option, Some, None, Ok}
 use Rattle.gss_base.specs.declared.mech.MechKind.{MechKind}
-use Rattle.gss_base.specs.declared.mech.MechKind.TheVariants as kinds
-use Rattle.gss_base.specs.Mech.{oid_of, mech_of}
 use Rattle.krb_tokens.specs.declared.end.Side.TheVariants.{Initiator, Acceptor}
 use Rattle.spnego_core.specs.declared.outcome.Outcome.{Outcome}
 use Rattle.spnego_core.specs.declared.setup.AcceptSetup.{AcceptSetup}
@@ -22,7 +20,7 @@ use Rattle.spnego_core.specs.Ends.{PlainSetup, TalkSays, EndSays}
 use Rattle.spnego_core.specs.Ends as inits
 use Rattle.spnego_core.specs.EndSteps as initiated
 use Rattle.spnego_core.specs.ListMic.{list_mic}
-use Rattle.spnego_core.specs.Choice.{is_first, is_first_named, best}
+use Rattle.spnego_core.specs.Choice.{is_first, is_first_named, best, listed_as}
 use Rattle.spnego_core.specs.Tokens.{init_octets, resp_octets}
 use Rattle.spnego_core.specs.AcceptMech.{MechTaken, accept_begun, accept_taken}
 use Rattle.spnego_core.specs.InitMech.{kinds_of, is_own, is_own_list, cred_for, MechBegun, init_begun, MechReplied, init_taken}
@@ -30,6 +28,7 @@ use Rattle.spnego_core.specs.Sizes.{IsShort}
 use Rattle.spnego_core.specs.Accepting as accepting
 use Rattle.spnego_core.specs.Initiating as initiating
 use Rattle.spnego_core.specs.Exchange.{Occasion, passed, answered_on, IsDone, Completes}
+use Rattle.spnego_core.proofs.Listed.{listed-back}
 use Rattle.spnego_core.proofs.Sizes.{Within}
 use Rattle.spnego_core.proofs.Short.{some-is, none-is, list_mic_within}
 use Rattle.spnego_core.proofs.Pairs.{acceptors_mic, initiators_mic}
@@ -52,9 +51,9 @@ abbrev pub MayCome : Turn → PlainSetup → MechKind → Type 0
 MayCome First own kind = is_first (kinds_of own.list) kind ≡ true
 MayCome Later own kind = Unit {0}
 
-named_back : (kind : MechKind) → mech_of (oid_of kind) ≡ Some kind
-named_back kinds.Kerberos = refl
-named_back kinds.Scram = refl
+-- the mechanism as the acceptor names it: as the own list has it
+abbrev pub oid_on : PlainSetup → MechKind → List ℕ
+oid_on own kind = listed_as (initiating.own_list own) kind
 
 one_within : (octets : List ℕ) (n : ℕ) → length octets ≤ n → (v : List ℕ) → Some octets ≡ Some v → Within v n
 one_within octets n h v e = some-is octets v n (record { most = h }) e
@@ -62,26 +61,26 @@ one_within octets n h v e = some-is octets v n (record { most = h }) e
 -- ---- the initiator takes a reply
 
 takes_first : (own : PlainSetup) (kind : MechKind) (due finished : Bool) (mech : InitMech) (token : List ℕ) (mic : Option (List ℕ)) → is_own own.list kind ≡ true → is_first (kinds_of own.list) kind ≡ true → length token ≤ 65000 → ((v : List ℕ) → mic ≡ Some v → Within v 28)
-    → initiating.init_step (inits.Opens (record { own = own; mech = mech })) (accepting.reply First kind due finished (Some token) mic)
+    → initiating.init_step (inits.Opens (record { own = own; mech = mech })) (accepting.reply First (oid_on own kind) due finished (Some token) mic)
     ≡ initiating.ran (talk_on own kind due) (Some (accepting.state_said First due finished)) mic (init_taken mech token)
 unfolding initiating.opened initiating.picks initiating.run
 takes_first own kind true finished mech token mic is first few m =
-    rw (reply_reads First kind true finished (Some token) mic (one_within token 65000 few) m, named_back kind, is, first) refl
+    rw (reply_reads First (initiating.own_list own) kind true finished (Some token) mic (one_within token 65000 few) m, listed-back (initiating.own_list own) kind, is, first) refl
 takes_first own kind false true mech token mic is first few m =
-    rw (reply_reads First kind false true (Some token) mic (one_within token 65000 few) m, named_back kind, is, first) refl
+    rw (reply_reads First (initiating.own_list own) kind false true (Some token) mic (one_within token 65000 few) m, listed-back (initiating.own_list own) kind, is, first) refl
 takes_first own kind false false mech token mic is first few m =
-    rw (reply_reads First kind false false (Some token) mic (one_within token 65000 few) m, named_back kind, is, first) refl
+    rw (reply_reads First (initiating.own_list own) kind false false (Some token) mic (one_within token 65000 few) m, listed-back (initiating.own_list own) kind, is, first) refl
 
 takes_later : (own : PlainSetup) (kind : MechKind) (due finished : Bool) (mech : InitMech) (token : List ℕ) (mic : Option (List ℕ)) → length token ≤ 65000 → ((v : List ℕ) → mic ≡ Some v → Within v 28)
-    → initiating.init_step (inits.Talks (record { talk = talk_on own kind due; mech = mech })) (accepting.reply Later kind due finished (Some token) mic)
+    → initiating.init_step (inits.Talks (record { talk = talk_on own kind due; mech = mech })) (accepting.reply Later (oid_on own kind) due finished (Some token) mic)
     ≡ initiating.ran (talk_on own kind due) (Some (accepting.state_said Later due finished)) mic (init_taken mech token)
 unfolding initiating.talked initiating.run
-takes_later own kind true finished mech token mic few m = rw (reply_reads Later kind true finished (Some token) mic (one_within token 65000 few) m) refl
-takes_later own kind false true mech token mic few m = rw (reply_reads Later kind false true (Some token) mic (one_within token 65000 few) m) refl
-takes_later own kind false false mech token mic few m = rw (reply_reads Later kind false false (Some token) mic (one_within token 65000 few) m) refl
+takes_later own kind true finished mech token mic few m = rw (reply_reads Later (initiating.own_list own) kind true finished (Some token) mic (one_within token 65000 few) m) refl
+takes_later own kind false true mech token mic few m = rw (reply_reads Later (initiating.own_list own) kind false true (Some token) mic (one_within token 65000 few) m) refl
+takes_later own kind false false mech token mic few m = rw (reply_reads Later (initiating.own_list own) kind false false (Some token) mic (one_within token 65000 few) m) refl
 
 takes : (turn : Turn) (own : PlainSetup) (kind : MechKind) (due finished : Bool) (mech : InitMech) (token : List ℕ) (mic : Option (List ℕ)) → is_own own.list kind ≡ true → MayCome turn own kind → length token ≤ 65000 → ((v : List ℕ) → mic ≡ Some v → Within v 28)
-    → initiating.init_step (end_at turn own kind due mech) (accepting.reply turn kind due finished (Some token) mic)
+    → initiating.init_step (end_at turn own kind due mech) (accepting.reply turn (oid_on own kind) due finished (Some token) mic)
     ≡ initiating.ran (talk_on own kind due) (Some (accepting.state_said turn due finished)) mic (init_taken mech token)
 takes First own kind due finished mech token mic is may few m = takes_first own kind due finished mech token mic is may few m
 takes Later own kind due finished mech token mic is may few m = takes_later own kind due finished mech token mic few m
@@ -117,11 +116,11 @@ ends_signed Later own kind taken outcome e = rw (e, acceptors_mic outcome (initi
 
 -- another mechanism than the own first was chosen
 pub switches : (own : PlainSetup) (kind : MechKind) (mech : InitMech) (cred : MechCred) (begun : MechBegun) → is_own own.list kind ≡ true → is_first (kinds_of own.list) kind ≡ false → cred_for own.list kind ≡ Some cred → init_begun own cred ≡ Ok begun
-    → initiating.step_of (initiating.init_step (inits.Opens (record { own = own; mech = mech })) (accepting.reply First kind true false None None))
+    → initiating.step_of (initiating.init_step (inits.Opens (record { own = own; mech = mech })) (accepting.reply First (oid_on own kind) true false None None))
     ≡ Ok (initiated.More (end_at Later own kind true begun.mech) (resp_octets (initiating.token_sent begun.token)))
 unfolding initiating.opened initiating.picks
 switches own kind mech cred begun is other cred_is begins =
-    rw (reply_reads First kind true false None None (λ v e. none-is v 65000 e) (λ v e. none-is v 28 e), named_back kind, is, other, cred_is, begins) refl
+    rw (reply_reads First (initiating.own_list own) kind true false None None (λ v e. none-is v 65000 e) (λ v e. none-is v 28 e), listed-back (initiating.own_list own) kind, is, other, cred_is, begins) refl
 
 -- ---- the acceptor hears a token
 
@@ -145,7 +144,7 @@ hears_later setup chosen mech token short now drawn = rw (token_reads token shor
 -- the first token, for another mechanism than the chosen one, which waits
 pub waits : (setup : AcceptSetup) (own : PlainSetup) (kind : MechKind) (token : List ℕ) (occasion : Occasion) → is_own_list own.list ≡ true → IsShort (init_octets (initiating.first_sent own token)) → best setup.offer (initiating.own_list own) ≡ Some kind → is_first_named (initiating.own_list own) kind ≡ false
     → answered_on setup occasion accepts.New (init_octets (initiating.first_sent own token))
-    ≡ Ok (accepted.More (accepts.Runs (record { chosen = chosen_on own kind true; mech = accept_begun kind })) (accepting.reply First kind true false None None))
+    ≡ Ok (accepted.More (accepts.Runs (record { chosen = chosen_on own kind true; mech = accept_begun kind })) (accepting.reply First (oid_on own kind) true false None None))
 unfolding accepting.begins
 waits setup own kind token occasion list short chosen other = rw (init_reads own token list short, chosen, other) refl
 
@@ -198,7 +197,7 @@ last_answered setup end octets turn chosen mech token own outcome occasion hears
 
 -- and where it goes on
 text_answered : (setup : AcceptSetup) (end : AcceptEnd) (octets : List ℕ) (turn : Turn) (chosen : Chosen) (mech : AcceptMech) (token : List ℕ) (own : InitMech) (mech_after : AcceptMech) (own_after : InitMech) (further : List ℕ) (occasion : Occasion) → Hears setup end octets turn chosen mech token → (r : TextRound setup occasion mech own token mech_after own_after further)
-    → answered_on setup occasion end octets ≡ Ok (accepted.More (accepts.Runs (record { chosen = chosen; mech = mech_after })) (accepting.reply turn chosen.kind chosen.due false (Some r.text) None))
+    → answered_on setup occasion end octets ≡ Ok (accepted.More (accepts.Runs (record { chosen = chosen; mech = mech_after })) (accepting.reply turn (accepting.oid_chosen chosen) chosen.due false (Some r.text) None))
 text_answered setup end octets turn chosen mech token own mech_after own_after further occasion hears r = rw (hears occasion.now occasion.drawn, r.accepts, r.says) refl
 
 -- a round of texts, before the others
@@ -208,7 +207,7 @@ pub texts : (setup : AcceptSetup) (own : PlainSetup) (kind : MechKind) (due : Bo
     → Completes setup (occasion ∷ next ∷ later) end (end_at turn own kind due own_mech) octets outcome
 texts setup own kind due turn end octets mech own_mech token mech_after own_after further outcome occasion next later is may hears r others = (
   record {
-    reply = accepting.reply turn kind due false (Some r.text) None;
+    reply = accepting.reply turn (oid_on own kind) due false (Some r.text) None;
     acceptor_after = accepts.Runs (record { chosen = chosen_on own kind due; mech = mech_after });
     accepts = text_answered setup end octets turn (chosen_on own kind due) mech token own_mech mech_after own_after further occasion hears r;
     initiator_after = end_at Later own kind due own_after;
@@ -226,7 +225,7 @@ pub ends_all : (setup : AcceptSetup) (own : PlainSetup) (kind : MechKind) (due :
     → (due ≡ false → is_first (kinds_of own.list) kind ≡ true) → is_own own.list kind ≡ true → MayCome turn own kind → Hears setup end octets turn (chosen_on own kind due) mech token → LastRound setup occasion mech own_mech token outcome → length rest ≡ (if due then 1 else 0)
     → Completes setup (occasion ∷ rest) end (end_at turn own kind due own_mech) octets outcome
 ends_all setup own kind false turn end octets mech own_mech token outcome occasion [] first is may hears r count = record {
-  reply = accepting.reply turn kind false true (Some r.last) None;
+  reply = accepting.reply turn (oid_on own kind) false true (Some r.last) None;
   lasts = r.lasts;
   accepts = last_answered setup end octets turn (chosen_on own kind false) mech token own_mech outcome occasion hears r;
   initiates =
@@ -238,7 +237,7 @@ ends_all setup own kind true turn end octets mech own_mech token outcome occasio
 ends_all setup own kind true turn end octets mech own_mech token outcome occasion (last ∷ []) first is may hears r count =
     let mic : List ℕ = list_mic outcome Acceptor (initiating.own_list own) in (
       record {
-        reply = accepting.reply turn kind true true (Some r.last) (Some mic);
+        reply = accepting.reply turn (oid_on own kind) true true (Some r.last) (Some mic);
         acceptor_after = accepts.Owes (record { received = initiating.own_list own; outcome = outcome; lasts = r.lasts });
         accepts = last_answered setup end octets turn (chosen_on own kind true) mech token own_mech outcome occasion hears r;
         initiator_after = signed_on own kind outcome;

@@ -4,7 +4,6 @@ use Rattle.std.specs.Prelude.{ℕ, Bool, true, false, not, if◌then◌else◌, 
 use Rattle.std.specs.Prelude.{◌++◌, length, Option, Some, None, option_map, Result, Ok, Err}
 use Rattle.gss_base.specs.declared.mech.MechKind.{MechKind}
 use Rattle.gss_base.specs.declared.mark.Mark.{Mark}
-use Rattle.gss_base.specs.Mech.{oid_of}
 use Rattle.krb_tokens.specs.declared.end.Side.TheVariants.{Acceptor}
 use Rattle.spnego_msgs.specs.declared.neg_state.NegState.{NegState}
 use Rattle.spnego_msgs.specs.declared.neg_state.NegState.TheVariants.{Completed, Incomplete}
@@ -37,7 +36,7 @@ use Rattle.spnego_core.specs.declared.accept_end.AcceptStep.TheVariants as steps
 use Rattle.spnego_core.specs.Steps.{◌>>=◌, due, or_refuse}
 use Rattle.spnego_core.specs.Tokens.{init_read, resp_read, resp_octets, rejects}
 use Rattle.spnego_core.specs.ListMic.{list_mic, is_list_mic, mic_making, mic_found}
-use Rattle.spnego_core.specs.Choice.{is_first_named, best, is_mic_due}
+use Rattle.spnego_core.specs.Choice.{is_first_named, best, listed_as, is_mic_due}
 use Rattle.spnego_core.specs.AcceptMech.{Basis, Built, MechTaken, accept_begun, accept_taken}
 
 -- a context that was fixed: the list that came, the outcome, when it ends, and what it was built on
@@ -69,26 +68,30 @@ state_said First owes finished =
 state_said Later owes finished =
     if owes then Incomplete else if finished then Completed else Incomplete
 
--- the first reply names the mechanism
-abbrev pub mech_said : Turn → MechKind → Option (List ℕ)
-mech_said First kind = Some (oid_of kind)
-mech_said Later kind = None
+-- the first reply names the mechanism, by this identifier
+abbrev pub mech_said : Turn → List ℕ → Option (List ℕ)
+mech_said First oid = Some oid
+mech_said Later oid = None
 
--- the reply: the turn, the mechanism, whether the MIC is due, whether the mechanism is done, its
--- token, the own MIC
-abbrev pub reply_with : Turn → MechKind → Bool → Bool → Option (List ℕ) → Option (List ℕ) → NegResp
-reply_with turn kind owes finished token mic =
+-- the reply: the turn, the mechanism's identifier, whether the MIC is due, whether the mechanism is
+-- done, its token, the own MIC
+abbrev pub reply_with : Turn → List ℕ → Bool → Bool → Option (List ℕ) → Option (List ℕ) → NegResp
+reply_with turn oid owes finished token mic =
     record {
       state = Some (state_said turn owes finished);
-      mech = mech_said turn kind;
+      mech = mech_said turn oid;
       token =
           token;
       mic = mic;
     }
 
 -- the octets of that reply
-abbrev pub reply : Turn → MechKind → Bool → Bool → Option (List ℕ) → Option (List ℕ) → List ℕ
-reply turn kind owes finished token mic = resp_octets (reply_with turn kind owes finished token mic)
+abbrev pub reply : Turn → List ℕ → Bool → Bool → Option (List ℕ) → Option (List ℕ) → List ℕ
+reply turn oid owes finished token mic = resp_octets (reply_with turn oid owes finished token mic)
+
+-- the chosen mechanism is named as the initiator's list has it
+abbrev pub oid_chosen : Chosen → List ℕ
+oid_chosen chosen = listed_as chosen.received chosen.kind
 
 -- ---- the mechanism
 
@@ -99,9 +102,9 @@ finished turn chosen outcome lasts token =
     if chosen.due
     then afters.More
     (ends.Owes (record { received = chosen.received; outcome = outcome; lasts = lasts }))
-    (reply turn chosen.kind true true (Some token)
+    (reply turn (oid_chosen chosen) true true (Some token)
     (Some (list_mic outcome Acceptor chosen.received)))
-    else afters.Done outcome lasts (reply turn chosen.kind false true (Some token) None)
+    else afters.Done outcome lasts (reply turn (oid_chosen chosen) false true (Some token) None)
 
 -- the step that follows once nothing is to be asked
 abbrev pub gone_on : Answered → AcceptStep
@@ -112,7 +115,7 @@ gone_on (afters.Done outcome lasts token) = steps.Done outcome lasts token
 abbrev pub going : Turn → Chosen → AcceptMech → Option (List ℕ) → AcceptStep
 going turn chosen mech token = steps.More
     (ends.Runs (record { chosen = chosen; mech = mech }))
-    (reply turn chosen.kind chosen.due false token None)
+    (reply turn (oid_chosen chosen) chosen.due false token None)
 
 -- the step by the mechanism's answer
 abbrev pub told : Turn → Chosen → AcceptAnswer → AcceptStep

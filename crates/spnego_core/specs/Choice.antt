@@ -1,11 +1,12 @@
 -- Which mechanism is chosen, and whether the list's MIC must come: RFC 4178 sections 4.2.2 and 5.
--- Mechanisms are compared and never their object identifiers, of which one may have several.
+-- Mechanisms are compared and never their object identifiers, of which Kerberos has two.
 use Rattle.std.specs.Prelude.{ℕ, Bool, true, false, not, ◌&&◌, if◌then◌else◌, List, [], ◌∷◌, Option}
-use Rattle.std.specs.Prelude.{Some, None}
+use Rattle.std.specs.Prelude.{Some, None, nat_eq}
+use Rattle.std.specs.Cmp.Lexicographic.{pointwise}
 use Rattle.std.specs.List.{list_any}
 use Rattle.gss_base.specs.declared.mech.MechKind.{MechKind}
 use Rattle.gss_base.specs.declared.mech.MechKind.TheVariants.{Kerberos, Scram}
-use Rattle.gss_base.specs.Mech.{mech_of}
+use Rattle.gss_base.specs.Mech.{oid_of, mech_of}
 
 -- both are the same mechanism
 abbrev pub same_kind : MechKind → MechKind → Bool
@@ -47,6 +48,24 @@ or_next None next = next
 abbrev pub best : List MechKind → List (List ℕ) → Option MechKind
 best offer [] = None
 best offer (oid ∷ oids) = or_next (offered offer (mech_of oid)) (best offer oids)
+
+-- the chosen mechanism as the initiator's list has it: the first of its identifiers there
+abbrev pub listed_as : List (List ℕ) → MechKind → List ℕ
+listed_as [] kind = oid_of kind
+listed_as (oid ∷ oids) kind = if is_kind (mech_of oid) kind then oid else listed_as oids kind
+
+-- both are one identifier
+abbrev pub is_same_oid : List ℕ → List ℕ → Bool
+is_same_oid a b = pointwise nat_eq a b
+
+-- one to three identifiers, no two of which are one
+abbrev pub are_few : List (List ℕ) → Bool
+are_few [] = false
+are_few (only ∷ []) = true
+are_few (first ∷ second ∷ []) = not (is_same_oid first second)
+are_few (first ∷ second ∷ third ∷ []) = not (is_same_oid first second)
+    && (not (is_same_oid first third) && not (is_same_oid second third))
+are_few (first ∷ second ∷ third ∷ fourth ∷ rest) = false
 
 -- the MIC must come unless the chosen mechanism is the first choice of both
 abbrev pub is_mic_due : List MechKind → List (List ℕ) → MechKind → Bool

@@ -1,5 +1,5 @@
--- What an initiator is begun with, and what its end is, by plain values: its mechanisms are those of
--- its credentials.
+-- What an initiator is begun with, and what its end is, by plain values: its mechanisms are those
+-- of its credentials.
 use Rattle.std.specs.Prelude.{ℕ, Bool, List, Option}
 use Rattle.gss_base.specs.declared.mech.MechKind.{MechKind}
 use Rattle.spnego_core.specs.declared.outcome.Outcome.{Outcome}

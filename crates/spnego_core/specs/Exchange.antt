@@ -107,7 +107,8 @@ pub record UserFits (setup : AcceptSetup) (own : PlainSetup) (user password : Li
 
 -- the facts of a credential fit on an occasion, by its mechanism
 abbrev pub CredFits : AcceptSetup → PlainSetup → MechCred → Occasion → Type 0
-CredFits setup own (creds.Kerberos credential) occasion = TicketFits setup own credential occasion
+CredFits setup own (creds.Kerberos name credential) occasion =
+    TicketFits setup own credential occasion
 CredFits setup own (creds.Scram user password) occasion = UserFits setup own user password occasion
 
 -- the facts fit on an occasion, and the acceptor draws its 66 octets

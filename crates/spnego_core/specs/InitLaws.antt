@@ -25,7 +25,7 @@ use Rattle.spnego_core.specs.EndSteps as steps
 use Rattle.spnego_core.specs.Outcome.{outcome_of}
 use Rattle.spnego_core.specs.ListMic.{is_list_mic, mic_making, mic_found}
 use Rattle.spnego_core.specs.Choice.{is_first}
-use Rattle.spnego_core.specs.InitMech.{kinds_of, cred_for}
+use Rattle.spnego_core.specs.InitMech.{kinds_of, cred_for, ticket_for}
 use Rattle.spnego_core.specs.Reasons.{neg_wants_memory}
 use Rattle.spnego_core.specs.Initiating.{Started, Initiated, own_list, init_start, init_step}
 
@@ -82,7 +82,7 @@ answers_in (steps.Done outcome) = None
 -- a Kerberos end that waits for the reply to a request by the own credential
 pub record IsWaiting (own : PlainSetup) (end : ApInit) : Type 0 where
   pub credential : Granted
-  pub is_own : cred_for own.list kinds.Kerberos ≡ Some (creds.Kerberos credential)
+  pub is_own : ticket_for own.list ≡ Some credential
   pub waits : end ≡ waiting credential own.stamp own.draws own.bindings
 
 -- a SCRAM end whose first text has the own user and nonce
@@ -161,7 +161,7 @@ After own chosen listed (steps.Done outcome) = Unit {0}
 pub record IsRequest (own : PlainSetup) (chosen : Option MechKind) (making : MechMaking) : Type 0
   where
     pub credential : Granted
-    pub is_own : cred_for own.list kinds.Kerberos ≡ Some (creds.Kerberos credential)
+    pub is_own : ticket_for own.list ≡ Some credential
     pub made : making ≡ typed (request_making credential own.stamp own.draws own.bindings)
     pub now : chosen ≡ Some kinds.Kerberos
 
@@ -253,7 +253,7 @@ pub record StartLaw (own : PlainSetup) (started : Started) : Type 0 where
   pub good : GoodInit started.end
   pub unchosen : chosen_of started.end ≡ None
   pub made : (making : MechMaking) → AmongMakings started.makes making → (credential : Granted)
-      × (cred_for own.list kinds.Kerberos ≡ Some (creds.Kerberos credential))
+      × (ticket_for own.list ≡ Some credential)
       × (making ≡ typed (request_making credential own.stamp own.draws own.bindings))
 
 -- the laws of each start, and of each step that the machine takes from a good end

@@ -1,9 +1,13 @@
 -- What a mechanism makes of a reply at the initiator, and how it begins.
-use Rattle.std.specs.Prelude.{ℕ, Bool, true, false, not, if◌then◌else◌, List, [], ◌∷◌, map}
+use Rattle.std.specs.Prelude.{ℕ, Bool, if◌then◌else◌, List, [], ◌∷◌, map}
 use Rattle.std.specs.Prelude.{Option, Some, None, Result, Ok, Err}
 use Rattle.std.specs.List.{list_any}
 use Rattle.gss_base.specs.declared.mech.MechKind.{MechKind}
 use Rattle.gss_base.specs.declared.mech.MechKind.TheVariants as kinds
+use Rattle.gss_base.specs.declared.mech.MechName.{MechName}
+use Rattle.gss_base.specs.declared.mech.MechName.TheVariants as names
+use Rattle.gss_base.specs.Mech.{oid_named}
+use Rattle.krb_files.specs.Granted.{Granted}
 use Rattle.krb_tokens.specs.declared.done.MechDone.{MechDone}
 use Rattle.ap_exchange.specs.declared.refusal.ApRefusal.{ApRefusal}
 use Rattle.ap_exchange.specs.declared.request.ApInit.{ApInit}
@@ -26,35 +30,51 @@ use Rattle.spnego_core.specs.MechStates.{InitAnswer}
 use Rattle.spnego_core.specs.MechStates.{More, Done}
 use Rattle.spnego_core.specs.Ends.{PlainSetup}
 use Rattle.spnego_core.specs.Outcome.{outcome_of}
-use Rattle.spnego_core.specs.Choice.{same_kind}
+use Rattle.spnego_core.specs.Choice.{same_kind, are_few}
 
 -- ---- credentials
 
 -- the mechanism of a credential
 abbrev pub kind_of : MechCred → MechKind
-kind_of (creds.Kerberos credential) = kinds.Kerberos
+kind_of (creds.Kerberos name credential) = kinds.Kerberos
 kind_of (creds.Scram user password) = kinds.Scram
+
+-- the name under which it stands in the list
+abbrev pub name_of : MechCred → MechName
+name_of (creds.Kerberos name credential) = names.Kerberos name
+name_of (creds.Scram user password) = names.Scram
+
+-- the object identifier under which it stands there
+abbrev pub oid_listed : MechCred → List ℕ
+oid_listed cred = oid_named (name_of cred)
 
 -- the mechanisms of an initiator, in its order
 abbrev pub kinds_of : List MechCred → List MechKind
 kinds_of list = map kind_of list
 
--- one or two credentials, of different mechanisms
+-- one to three credentials, with different object identifiers
 abbrev pub is_own_list : List MechCred → Bool
-is_own_list [] = false
-is_own_list (only ∷ []) = true
-is_own_list (first ∷ second ∷ []) = not (same_kind (kind_of first) (kind_of second))
-is_own_list (first ∷ second ∷ third ∷ rest) = false
+is_own_list list = are_few (map oid_listed list)
 
 -- there is a credential of this mechanism
 abbrev pub is_own : List MechCred → MechKind → Bool
 is_own list kind = list_any (λ cred. same_kind (kind_of cred) kind) list
 
--- the credential of a mechanism
+-- the credential by which a mechanism begins: the first one of it
 abbrev pub cred_for : List MechCred → MechKind → Option MechCred
 cred_for [] kind = None
 cred_for (cred ∷ rest) kind =
     if same_kind (kind_of cred) kind then Some cred else cred_for rest kind
+
+-- the ticket of a credential, where there is one of Kerberos
+abbrev pub ticket_of : Option MechCred → Option Granted
+ticket_of None = None
+ticket_of (Some (creds.Kerberos name credential)) = Some credential
+ticket_of (Some (creds.Scram user password)) = None
+
+-- the ticket by which Kerberos begins: of the first of its credentials
+abbrev pub ticket_for : List MechCred → Option Granted
+ticket_for list = ticket_of (cred_for list kinds.Kerberos)
 
 -- ---- a mechanism begins
 
@@ -79,7 +99,7 @@ text_begun (Err refusal) = Err (Scram refusal)
 
 -- a mechanism begins, by its credential
 unfoldable pub init_begun : PlainSetup → MechCred → Result MechBegun MechRefusal
-init_begun own (creds.Kerberos credential) =
+init_begun own (creds.Kerberos name credential) =
     request_begun (map typed (request_makes credential own.stamp own.draws own.bindings))
     (request_of credential own.stamp own.draws own.bindings)
 init_begun own (creds.Scram user password) =

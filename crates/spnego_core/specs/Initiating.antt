@@ -4,7 +4,7 @@
 use Rattle.std.specs.Prelude.{ℕ, Bool, true, false, not, ◌||◌, if◌then◌else◌, List, [], ◌∷◌}
 use Rattle.std.specs.Prelude.{◌++◌, length, map, Option, Some, None, Result, Ok, Err}
 use Rattle.gss_base.specs.declared.mech.MechKind.{MechKind}
-use Rattle.gss_base.specs.Mech.{oid_of, mech_of}
+use Rattle.gss_base.specs.Mech.{mech_of}
 use Rattle.krb_tokens.specs.declared.end.Side.TheVariants.{Initiator}
 use Rattle.spnego_msgs.specs.declared.neg_state.NegState.{NegState}
 use Rattle.spnego_msgs.specs.declared.neg_state.NegState.TheVariants.{Completed}
@@ -31,7 +31,8 @@ use Rattle.spnego_core.specs.Tokens.{init_octets, resp_read, last_read, resp_oct
 use Rattle.spnego_core.specs.Tokens.{says_completed, asks_mic}
 use Rattle.spnego_core.specs.ListMic.{list_mic, is_list_mic, mic_making, mic_found}
 use Rattle.spnego_core.specs.Choice.{is_first, is_kind}
-use Rattle.spnego_core.specs.InitMech.{kind_of, kinds_of, is_own, cred_for, MechBegun, init_begun}
+use Rattle.spnego_core.specs.InitMech.{kinds_of, oid_listed, is_own, cred_for, MechBegun}
+use Rattle.spnego_core.specs.InitMech.{init_begun}
 use Rattle.spnego_core.specs.InitMech.{MechReplied, init_taken}
 
 -- a step that was taken
@@ -63,7 +64,7 @@ behind makes found (Ok taken) = Ok (record {
 
 -- the list as it was sent
 abbrev pub own_list : PlainSetup → List (List ℕ)
-own_list own = map (λ cred. oid_of (kind_of cred)) own.list
+own_list own = map oid_listed own.list
 
 -- ---- the first token
 

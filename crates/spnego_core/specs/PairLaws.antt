@@ -2,6 +2,8 @@
 -- alone or beside others, in any order.
 use Rattle.std.specs.Prelude.{◌≡◌, ℕ, true, false, List, [], ◌∷◌, length, Option, Some, None, Ok}
 use Rattle.gss_base.specs.declared.mech.MechKind.TheVariants.{Kerberos}
+use Rattle.gss_base.specs.declared.mech.KerberosName.TheVariants.{Standard}
+use Rattle.gss_base.specs.Mech.{oid_of}
 use Rattle.krb_tokens.specs.declared.end.Side.TheVariants.{Initiator, Acceptor}
 use Rattle.krb_files.specs.Granted.{Granted}
 use Rattle.spnego_msgs.specs.declared.neg_resp.NegResp.{NegResp}
@@ -30,11 +32,11 @@ use Rattle.spnego_core.specs.Tokens.{init_octets}
 use Rattle.spnego_core.specs.Accepting as accepting
 use Rattle.spnego_core.specs.Initiating as initiating
 
--- the setup of an initiator with this credential alone
+-- the setup of an initiator with this credential alone, under Kerberos's own name
 abbrev pub setup_with : Granted → ℕ → List ℕ → Option (List ℕ) → PlainSetup
 setup_with credential stamp draws bindings =
     record {
-      list = creds.Kerberos credential ∷ [];
+      list = creds.Kerberos Standard credential ∷ [];
       bindings = bindings;
       stamp = stamp;
       draws =
@@ -71,12 +73,12 @@ pair_outcome j drawn = outcome_of Kerberos (answer_done j drawn)
 -- the acceptor's answer, without the MIC of the list or with it
 abbrev pub plain_reply : Judged → List ℕ → NegResp
 plain_reply j drawn =
-    accepting.reply_with First Kerberos false true (Some (answer_token j drawn)) None
+    accepting.reply_with First (oid_of Kerberos) false true (Some (answer_token j drawn)) None
 
 -- the same with the MIC of the list, after which the initiator's is due
 abbrev pub signed_reply : Judged → List ℕ → List (List ℕ) → NegResp
 signed_reply j drawn list =
-    accepting.reply_with First Kerberos true true (Some (answer_token j drawn))
+    accepting.reply_with First (oid_of Kerberos) true true (Some (answer_token j drawn))
     (Some (list_mic (pair_outcome j drawn) Acceptor list))
 
 -- both are done with the acceptor's one answer

@@ -12,10 +12,10 @@ use crate::accept_end::{
     AcceptEnd, AcceptPause, AcceptStep, Answered, Chosen, Owing, Running, Turn, gone_on,
 };
 use crate::accept_mech::{AcceptAnswer, AcceptMech};
+use crate::choice::listed_as;
 use crate::list_mic::list_mic;
 use crate::outcome::Outcome;
 use crate::tokens::resp_octets;
-use gss_base::MechKind;
 use krb_tokens::Side;
 use sec_base::{Moment, NoMemory, Octets, Oid};
 use spnego_msgs::{NegResp, NegState};
@@ -47,12 +47,12 @@ fn state_said(turn: Turn, owes: bool, finished: bool) -> NegState
     }
 }
 
-/// The mechanism as the first reply names it.
-fn mech_said(turn: Turn, kind: MechKind) -> Option<Oid>
-    ensures { result ≡ mech_said turn kind }
+/// The mechanism as the first reply names it, by this identifier.
+fn mech_said(turn: Turn, oid: Oid) -> Option<Oid>
+    ensures { result ≡ mech_said turn oid }
 {
     match turn {
-        Turn::First => Some(kind.oid()),
+        Turn::First => Some(oid),
         Turn::Later => None,
     }
 }
@@ -61,18 +61,19 @@ fn mech_said(turn: Turn, kind: MechKind) -> Option<Oid>
 fn reply(
     alloc: Global,
     turn: Turn,
-    kind: MechKind,
+    oid: Oid,
     owes: bool,
     finished: bool,
     token: Option<Octets>,
     mic: Option<Octets>,
 ) -> Result<Octets, NoMemory>
-    ensures exact { IfOk result (λ o. o ≡ reply turn kind owes finished token mic) }
+    ensures exact { IfOk result (λ o. o ≡ reply turn oid owes finished token mic) }
     ensures short { IfSome token FitsBeside → IfSome mic IsMicSized → IfOk result IsShort }
 {
+    let _content = oid.content();
     let resp = NegResp {
         state: Some(state_said(turn, owes, finished)),
-        mech: mech_said(turn, kind),
+        mech: mech_said(turn, oid),
         token,
         mic,
     };
@@ -96,12 +97,13 @@ fn finished(
         kind,
         due,
     } = chosen;
+    let oid = listed_as(received.as_slice(), kind);
     if !due {
-        let octets = reply(alloc, turn, kind, false, true, Some(token), None)?;
+        let octets = reply(alloc, turn, oid, false, true, Some(token), None)?;
         return Ok(Answered::Done(outcome, lasts, octets));
     }
     let mic = list_mic(alloc, &outcome, Side::Acceptor, received.as_slice())?;
-    let octets = reply(alloc, turn, kind, true, true, Some(token), Some(mic))?;
+    let octets = reply(alloc, turn, oid, true, true, Some(token), Some(mic))?;
     let owing = Owing {
         received,
         outcome,
@@ -121,7 +123,8 @@ pub fn going(
     ensures exact { IfOk result (λ s. s ≡ going turn chosen mech token) }
     ensures short { IfSome token FitsBeside → IfOk result ShortAccept }
 {
-    let octets = reply(alloc, turn, chosen.kind, chosen.due, false, token, None)?;
+    let oid = listed_as(chosen.received.as_slice(), chosen.kind);
+    let octets = reply(alloc, turn, oid, chosen.due, false, token, None)?;
     let running = Running { chosen, mech };
     Ok(AcceptStep::More(AcceptEnd::Runs(running), octets))
 }

@@ -2,7 +2,7 @@
 
 ghost use Rattle.std.specs.Prelude.{◌≡◌};
 ghost use Rattle.spnego_core.specs.Choice.{same_kind, is_among, is_first, is_kind, is_first_named};
-ghost use Rattle.spnego_core.specs.Choice.{offered, best, is_mic_due};
+ghost use Rattle.spnego_core.specs.Choice.{offered, best, listed_as, is_mic_due};
 
 use gss_base::MechKind;
 use sec_base::Oid;
@@ -80,6 +80,18 @@ pub fn best(offer: &[MechKind], list: &[Oid]) -> Option<MechKind>
         }
     }
     None
+}
+
+/// The chosen mechanism as the initiator's list has it: the first of its identifiers there.
+pub fn listed_as(list: &[Oid], kind: MechKind) -> Oid
+    ensures { result ≡ listed_as list.now kind }
+{
+    for oid in list {
+        if is_kind(MechKind::of(oid), kind) {
+            return *oid;
+        }
+    }
+    kind.oid()
 }
 
 /// Whether the MIC must come: unless the chosen mechanism is the first choice of both.

@@ -1,19 +1,26 @@
 //! What an end is begun with.
 
 ghost use Rattle.std.specs.Prelude.{◌≡◌};
-ghost use Rattle.spnego_core.specs.InitMech.{kind_of};
+ghost use Rattle.spnego_core.specs.InitMech.{kind_of, name_of};
 
-use gss_base::{Bindings, MechKind, Principal};
+use gss_base::{Bindings, KerberosName, MechKind, MechName, Principal};
 use krb_files::{Credential, Keytab};
 use scram_mech::Verifiers;
 use sec_base::{Items, Moment, Text};
 
-/// A credential of a mechanism.
+/// A credential of a mechanism, and the name under which that stands in the list.
 #[derive(Drop)]
 pub enum MechCred {
-    Kerberos(Credential),
+    /// A ticket of Kerberos, and which of its two names the list has.
+    Kerberos {
+        name: KerberosName,
+        credential: Credential,
+    },
     /// A user of SCRAM and its password.
-    Scram { user: Text, password: Text },
+    Scram {
+        user: Text,
+        password: Text,
+    },
 }
 
 impl MechCred {
@@ -22,8 +29,18 @@ impl MechCred {
         ensures { result ≡ kind_of self.now }
     {
         match self {
-            MechCred::Kerberos(_) => MechKind::Kerberos,
+            MechCred::Kerberos { .. } => MechKind::Kerberos,
             MechCred::Scram { .. } => MechKind::Scram,
+        }
+    }
+
+    /// The name under which its mechanism stands in the list.
+    pub fn name(&self) -> MechName
+        ensures { result ≡ name_of self.now }
+    {
+        match self {
+            MechCred::Kerberos { name, .. } => MechName::Kerberos(*name),
+            MechCred::Scram { .. } => MechName::Scram,
         }
     }
 }
@@ -31,7 +48,7 @@ impl MechCred {
 /// What an initiator is begun with, by plain values.
 #[derive(Drop)]
 pub struct InitFacts {
-    /// The mechanisms, the preferred first.
+    /// The mechanisms, the preferred first: one to three, with different object identifiers.
     pub list: Items<MechCred>,
     pub bindings: Option<Bindings>,
     /// The moment of the request, which no other request of this client may have.

@@ -1,12 +1,12 @@
 //! What the tables rest on: the keytab, the ticket and the session key of `alice@R` at `rpc/host@R`, the user of SCRAM and the verifier
 //! file, and the random octets of both ends.
 
-ghost use Rattle.std.specs.Prelude.{◌≡◌, ◌≤◌, ◌∷◌, [], length, IfSome, true};
-ghost use Rattle.gss_base.specs.declared.mech.MechKind.TheVariants as kinds;
-ghost use Rattle.spnego_core.specs.InitMech.{kind_of, is_own_list};
+ghost use Rattle.std.specs.Prelude.{◌≡◌, ◌≤◌, ◌∷◌, [], length, IfSome, true, not};
+ghost use Rattle.spnego_core.specs.Choice.{is_same_oid};
+ghost use Rattle.spnego_core.specs.InitMech.{oid_listed, is_own_list};
 
 use crate::names::{named, octets_by_name};
-use gss_base::{MechKind, Principal};
+use gss_base::{KerberosName, MechKind, Principal};
 use krb_derive::{Etype, Key};
 use krb_files::{Credential, read_keytab};
 use scram_mech::read_verifiers;
@@ -109,7 +109,8 @@ fn setup_of(list: Vec<MechCred>, stamp: Moment, draws: [u8; 66]) -> InitFacts
 pub fn initiator(alloc: Global, credential: Credential, stamp: Moment) -> Option<InitFacts>
     ensures { IfSome result (λ own. is_own_list own.list ≡ true) }
 {
-    match one(alloc, MechCred::Kerberos(credential)) {
+    let name = KerberosName::Standard;
+    match one(alloc, MechCred::Kerberos { name, credential }) {
         Some(list) => Some(setup_of(list, stamp, own_draws())),
         None => None,
     }
@@ -128,35 +129,22 @@ fn one<T: Drop>(alloc: Global, only: T) -> Option<Vec<T>>
     }
 }
 
-/// A list of two.
-fn two<T: Drop>(alloc: Global, first: T, second: T) -> Option<Vec<T>>
-    ensures { IfSome result (λ list. list.items ≡ first ∷ second ∷ []) }
+/// Whether two credentials stand in a list under different object identifiers.
+fn differ(a: &MechCred, b: &MechCred) -> bool
+    ensures { result ≡ not (is_same_oid (oid_listed a.now) (oid_listed b.now)) }
 {
-    match Vec::with_capacity(alloc, 2) {
-        Ok(mut list) => {
-            list.push_reserved(first);
-            list.push_reserved(second);
-            Some(list)
-        }
-        Err(_) => None,
-    }
+    a.name().oid() != b.name().oid()
 }
 
-/// A list of a credential of Kerberos and one of SCRAM, in this order.
-fn in_order(
-    alloc: Global,
-    ticket: MechCred,
-    login: MechCred,
-    is_ticket_first: bool,
-) -> Option<Vec<MechCred>>
-    requires ticket { kind_of ticket ≡ kinds.Kerberos }
-    requires login { kind_of login ≡ kinds.Scram }
-    ensures { IfSome result (λ list. is_own_list list.items ≡ true) }
+/// Whether these are one to three credentials with different object identifiers.
+fn is_own_list(list: &[MechCred]) -> bool
+    ensures { result ≡ is_own_list list.now }
 {
-    if is_ticket_first {
-        two(alloc, ticket, login)
-    } else {
-        two(alloc, login, ticket)
+    match list {
+        [_] => true,
+        [a, b] => differ(a, b),
+        [a, b, c] => differ(a, b) && (differ(a, c) && differ(b, c)),
+        _ => false,
     }
 }
 
@@ -224,42 +212,48 @@ impl Setting {
     }
 
     /// The user `user`, whose password is `p`.
-    fn login(&self, alloc: Global) -> Option<MechCred>
-        ensures { IfSome result (λ cred. kind_of cred ≡ kinds.Scram) }
-    {
+    fn login(&self, alloc: Global) -> Option<MechCred> {
         let user = Text::of(alloc, "user").ok();
         let (user, password) = user.zip(Text::of(alloc, "p").ok())?;
         Some(MechCred::Scram { user, password })
     }
 
-    /// The credential of `alice@R` for a list.
-    fn ticket(&self, alloc: Global) -> Option<MechCred>
-        ensures { IfSome result (λ cred. kind_of cred ≡ kinds.Kerberos) }
-    {
+    /// The credential of `alice@R` for a list, under a name of Kerberos.
+    fn ticket(&self, alloc: Global, name: KerberosName) -> Option<MechCred> {
         match self.credential(alloc) {
-            Some(credential) => Some(MechCred::Kerberos(credential)),
+            Some(credential) => Some(MechCred::Kerberos { name, credential }),
             None => None,
         }
     }
 
-    /// Both credentials, in this order.
-    fn both(&self, alloc: Global, is_ticket_first: bool) -> Option<Vec<MechCred>>
-        ensures { IfSome result (λ list. is_own_list list.items ≡ true) }
-    {
-        let (ticket, login) = self.ticket(alloc).zip(self.login(alloc))?;
-        in_order(alloc, ticket, login, is_ticket_first)
+    /// The credential that a letter names: `k` Kerberos, `m` the same under Microsoft's name, `s` SCRAM.
+    fn named(&self, alloc: Global, letter: char) -> Option<MechCred> {
+        match letter {
+            'k' => self.ticket(alloc, KerberosName::Standard),
+            'm' => self.ticket(alloc, KerberosName::Microsoft),
+            's' => self.login(alloc),
+            _ => None,
+        }
     }
 
-    /// The credentials of a list's letters: `k` Kerberos, `s` SCRAM.
+    /// The credentials that letters name, in their order.
+    fn all_named(&self, alloc: Global, letters: &str) -> Option<Vec<MechCred>> {
+        let mut list = Vec::new(alloc);
+        for letter in letters.chars() {
+            list.push(self.named(alloc, letter)?).ok()?;
+        }
+        Some(list)
+    }
+
+    /// The credentials of a list's letters, no two of which are alike.
     fn list_of(&self, alloc: Global, letters: &str) -> Option<Vec<MechCred>>
         ensures { IfSome result (λ list. is_own_list list.items ≡ true) }
     {
-        match letters {
-            "k" => one(alloc, self.ticket(alloc)?),
-            "s" => one(alloc, self.login(alloc)?),
-            "ks" => self.both(alloc, true),
-            "sk" => self.both(alloc, false),
-            _ => None,
+        let list = self.all_named(alloc, letters)?;
+        if is_own_list(list.as_slice()) {
+            Some(list)
+        } else {
+            None
         }
     }
 

@@ -1,19 +1,15 @@
 -- What an acceptor signs of a list of the own mechanisms is nothing that it signs of a result or a word, and says the list.
-use Rattle.std.proofs.Common.{◌≡◌, ℕ, ◌-◌, ◌%◌, ◌<◌, ◌==◌, Bool, true, false, if◌then◌else◌, refl, sym, ap, ◌∙◌, arith, List, [], ◌∷◌, ◌++◌, map, length, replicate, length-append}
-use Rattle.std.proofs.lemmas.List.{length-replicate}
-use Rattle.gss_base.specs.declared.mech.MechKind.TheVariants as kinds
-use Rattle.gss_base.specs.Mech.{oid_of}
-use Rattle.der_core.specs.Header.{length_octets, tlv}
-use Rattle.der_core.specs.Values.{object_identifier}
+use Rattle.std.proofs.Common.{◌≡◌, inl, inr, ℕ, ◌-◌, ◌%◌, ◌<◌, ◌==◌, Bool, true, false, if◌then◌else◌, refl, sym, ap, ◌∙◌, arith, List, [], ◌∷◌, ◌++◌, length, take, drop, replicate, length-append}
+use Rattle.std.proofs.lemmas.List.{length-take-le, length-drop, take-append-drop}
 use Rattle.rpc_msgs.specs.Words.{word, opaque}
-use Rattle.rpc_msgs.specs.Xdr.{octets_at, word_at, opaque_at}
 use Rattle.spnego_msgs.specs.Lists.{list_octets}
-use Rattle.spnego_core.specs.declared.setup.MechCred.{MechCred}
-use Rattle.spnego_core.specs.declared.setup.MechCred.TheVariants as creds
 use Rattle.spnego_core.specs.Ends.{PlainSetup}
-use Rattle.spnego_core.specs.InitMech.{kind_of, is_own_list}
+use Rattle.spnego_core.specs.InitMech.{is_own_list}
 use Rattle.spnego_core.specs.Initiating.{own_list}
 use Rattle.accept_book.specs.Served.{is_one_opaque, are_args, result_of}
+use Rattle.world_laws.proofs.OriginReading.{word_of}
+use Rattle.world_laws.proofs.OriginWords.{AreShort, args-short, number-first}
+use Rattle.world_laws.proofs.ListOctets.{IsHigh, high-list}
 
 -- ---- two fronts, and two backs, of one length
 
@@ -41,27 +37,31 @@ length-word : (n : ℕ) → length (word n) ≡ 4
 unfolding word
 length-word n = refl
 
-length-opaque : (octets : List ℕ) → length (opaque octets) % 4 ≡ 0
-unfolding opaque
-length-opaque octets =
-    let pad : ℕ = (4 - length octets % 4) % 4 in
-    let filler : List ℕ = replicate pad 0 in
-    let zeros : length filler ≡ pad = length-replicate pad 0 in
-    omega (arith, length-append (word (length octets)) (octets ++ filler), length-append octets filler, length-word (length octets), zeros)
-
--- octets that are no multiple of four, and no opaque, are no result
+-- octets of which the first word is high are no result
 pub record NoResult (octets : List ℕ) : Type 0 where
-  pub odd : length octets % 4 ≡ 0 → ⊥
-  pub no_opaque : is_one_opaque octets ≡ false
+  pub long : 4 < length octets
+  pub high : 65536 < word_of 0 octets
+  pub short : length octets < 100
+
+short-low : (octets : List ℕ) → NoResult octets → AreShort octets → ⊥
+short-low octets n (inl none) = omega (arith, none, n.long)
+short-low octets n (inr (size, is, low, all)) = omega (arith, is, low, n.high)
+
+opaque-low : (octets name : List ℕ) → NoResult octets → octets ≡ opaque name → ⊥
+unfolding opaque
+opaque-low octets name n e =
+    let filler : List ℕ = replicate ((4 - length name % 4) % 4) 0 in
+    let whole : length octets ≡ length (word (length name) ++ (name ++ filler)) = ap length e in
+    let few : length name < 100 = omega (arith, whole, n.short, length-append (word (length name)) (name ++ filler), length-append name filler) in
+    let says : word_of 0 octets ≡ length name = ap (word_of 0) e ∙ number-first (length name) (name ++ filler) (omega (arith, few)) in
+    omega (arith, says, few, n.high)
 
 not-result : (p0 p1 p2 rest : Bool) (args name octets : List ℕ) (posts : ℕ) → NoResult octets → (if p1 then is_one_opaque args else rest) ≡ true
     → octets ≡ (if p0 then [] else if p1 then args else if p2 then opaque name else word posts) → ⊥
-not-result true p1 p2 rest args name octets posts no_result proper e = no_result.odd (rw e refl)
-not-result false true p2 rest args name octets posts no_result proper e =
-    let is : is_one_opaque octets ≡ true = rw e proper in
-    let clash : false ≡ true = sym no_result.no_opaque ∙ is in absurd cc
-not-result false false true rest args name octets posts no_result proper e = no_result.odd (rw e (length-opaque name))
-not-result false false false rest args name octets posts no_result proper e = no_result.odd (rw e (rw (length-word posts) refl))
+not-result true p1 p2 rest args name octets posts n proper e = let size : length octets ≡ 0 = ap length e in omega (arith, size, n.long)
+not-result false true p2 rest args name octets posts n proper e = short-low octets n (args-short 1 octets (rw e proper))
+not-result false false true rest args name octets posts n proper e = opaque-low octets name n e
+not-result false false false rest args name octets posts n proper e = let size : length octets ≡ 4 = ap length e ∙ length-word posts in omega (arith, size, n.long)
 
 -- a list's octets are four and no result
 pub record OfList (octets : List ℕ) : Type 0 where
@@ -80,36 +80,21 @@ list-result octets args name seq procedure posts o proper e =
 pub list-word : (octets said : List ℕ) → OfList octets → length said ≡ 4 → octets ≡ said → ⊥
 list-word octets said o four e =
     let size : length (o.front ++ o.back) ≡ 4 = ap length (sym o.parts ∙ e) ∙ four in
-    let none : length o.back ≡ 0 = omega (arith, length-append o.front o.back, o.four) in
-    o.no_result.odd (rw none refl)
+    omega (arith, size, length-append o.front o.back, o.four, o.no_result.long)
 
 -- ---- the own lists
 
-kerberos-alone : OfList (list_octets (oid_of kinds.Kerberos ∷ []))
-unfolding tlv length_octets object_identifier octets_at word_at opaque_at
-kerberos-alone = record { front = 0x30 ∷ 11 ∷ 6 ∷ 9 ∷ []; back = oid_of kinds.Kerberos; four = refl; parts = refl; no_result = record { odd = λ e. absurd (omega arith); no_opaque = refl }; short = omega arith }
-
-scram-alone : OfList (list_octets (oid_of kinds.Scram ∷ []))
-unfolding tlv length_octets object_identifier octets_at word_at opaque_at
-scram-alone = record { front = 0x30 ∷ 8 ∷ 6 ∷ 6 ∷ []; back = oid_of kinds.Scram; four = refl; parts = refl; no_result = record { odd = λ e. absurd (omega arith); no_opaque = refl }; short = omega arith }
-
-kerberos-first : OfList (list_octets (oid_of kinds.Kerberos ∷ oid_of kinds.Scram ∷ []))
-unfolding tlv length_octets object_identifier octets_at word_at opaque_at
-kerberos-first = record { front = 0x30 ∷ 19 ∷ 6 ∷ 9 ∷ []; back = oid_of kinds.Kerberos ++ 6 ∷ 6 ∷ oid_of kinds.Scram; four = refl; parts = refl; no_result = record { odd = λ e. absurd (omega arith); no_opaque = refl }; short = omega arith }
-
-scram-first : OfList (list_octets (oid_of kinds.Scram ∷ oid_of kinds.Kerberos ∷ []))
-unfolding tlv length_octets object_identifier octets_at word_at opaque_at
-scram-first = record { front = 0x30 ∷ 19 ∷ 6 ∷ 6 ∷ []; back = oid_of kinds.Scram ++ 6 ∷ 9 ∷ oid_of kinds.Kerberos; four = refl; parts = refl; no_result = record { odd = λ e. absurd (omega arith); no_opaque = refl }; short = omega arith }
-
-own-octets : (list : List MechCred) → is_own_list list ≡ true → OfList (list_octets (map (λ (cred : MechCred). oid_of (kind_of cred)) list))
-own-octets [] e = absurd cc
-own-octets (creds.Kerberos a ∷ []) e = kerberos-alone
-own-octets (creds.Scram u p ∷ []) e = scram-alone
-own-octets (creds.Kerberos a ∷ creds.Kerberos b ∷ []) e = absurd cc
-own-octets (creds.Kerberos a ∷ creds.Scram u p ∷ []) e = kerberos-first
-own-octets (creds.Scram u p ∷ creds.Kerberos a ∷ []) e = scram-first
-own-octets (creds.Scram u p ∷ creds.Scram v q ∷ []) e = absurd cc
-own-octets (a ∷ b ∷ c ∷ rest) e = absurd cc
+list-of : (octets : List ℕ) → IsHigh octets → OfList octets
+list-of octets h =
+    let four : length (take 4 octets) ≡ 4 = length-take-le 4 octets (omega (arith, h.long)) in
+    let back : length (drop 4 octets) ≡ length octets - 4 = length-drop 4 octets in record {
+      front = take 4 octets;
+      back = drop 4 octets;
+      four = four;
+      parts = sym (take-append-drop 4 octets);
+      no_result = record { long = omega (arith, back, h.long); high = h.high; short = omega (arith, back, h.short) };
+      short = h.short;
+    }
 
 pub own-list : (own : PlainSetup) → is_own_list own.list ≡ true → OfList (list_octets (own_list own))
-own-list own e = own-octets own.list e
+own-list own e = list-of (list_octets (own_list own)) (high-list own.list e)

@@ -2,20 +2,22 @@
 use Rattle.std.proofs.Common.{◌≡◌, ℕ, Bool, true, false, if◌then◌else◌, refl, subst, List, [], ◌∷◌, map, Option, Some, None}
 use Rattle.gss_base.specs.declared.mech.MechKind.{MechKind}
 use Rattle.gss_base.specs.declared.mech.MechKind.TheVariants as kinds
-use Rattle.gss_base.specs.Mech.{oid_of, mech_of}
+use Rattle.gss_base.specs.declared.mech.KerberosName.TheVariants.{Standard, Microsoft}
+use Rattle.gss_base.specs.Mech.{mech_of}
 use Rattle.spnego_core.specs.declared.setup.MechCred.{MechCred}
 use Rattle.spnego_core.specs.declared.setup.MechCred.TheVariants as creds
 use Rattle.spnego_core.specs.Choice.{is_among, is_first, offered, or_next, best}
-use Rattle.spnego_core.specs.InitMech.{kind_of, kinds_of}
+use Rattle.spnego_core.specs.InitMech.{kinds_of, oid_listed}
 
 abbrev own_oids : List MechCred → List (List ℕ)
-own_oids list = map (λ (cred : MechCred). oid_of (kind_of cred)) list
+own_oids list = map oid_listed list
 
 -- the own first mechanism is the best where it is offered
 pub best-first : (offer : List MechKind) (list : List MechCred) (kind : MechKind) → is_first (kinds_of list) kind ≡ true → is_among offer kind ≡ true → best offer (own_oids list) ≡ Some kind
 best-first offer [] kind first among = absurd cc
-best-first offer (creds.Kerberos c ∷ rest) kinds.Kerberos first among = rw among refl
-best-first offer (creds.Kerberos c ∷ rest) kinds.Scram first among = absurd cc
+best-first offer (creds.Kerberos Standard c ∷ rest) kinds.Kerberos first among = rw among refl
+best-first offer (creds.Kerberos Microsoft c ∷ rest) kinds.Kerberos first among = rw among refl
+best-first offer (creds.Kerberos name c ∷ rest) kinds.Scram first among = absurd cc
 best-first offer (creds.Scram u p ∷ rest) kinds.Kerberos first among = absurd cc
 best-first offer (creds.Scram u p ∷ rest) kinds.Scram first among = rw among refl
 

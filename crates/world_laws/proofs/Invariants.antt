@@ -19,12 +19,11 @@ use Rattle.scram_mech.specs.Acceptor.{AcceptModel, AcceptFinished, accept_finish
 use Rattle.scram_mech.specs.Initiator.{InitModel, WaitModel, InitAnswered, InitFinished, init_answered, init_finished}
 use Rattle.scram_mech.specs.MechMaking.{MechMaking, AmongMakings, typed}
 use Rattle.spnego_core.specs.declared.outcome.Outcome.{Outcome}
-use Rattle.spnego_core.specs.declared.setup.MechCred.TheVariants as creds
 use Rattle.spnego_core.specs.AcceptLaws.{IsOfLine}
 use Rattle.spnego_core.specs.AcceptMech.{ByRequest, ByProof}
 use Rattle.spnego_core.specs.Choice.{best, is_first}
 use Rattle.spnego_core.specs.InitLaws.{own_of, chosen_of, listed_of, finished_of, answers_next, GoodInit, IsWaiting, IsFirstText, IsProved, Covered}
-use Rattle.spnego_core.specs.InitMech.{kinds_of, is_own_list, cred_for}
+use Rattle.spnego_core.specs.InitMech.{kinds_of, is_own_list, ticket_for}
 use Rattle.spnego_core.specs.Initiating.{own_list}
 use Rattle.spnego_core.specs.ListMic.{is_list_mic, mic_making, mic_found}
 use Rattle.spnego_core.specs.Outcome.{outcome_of}
@@ -85,7 +84,7 @@ pub record Held (w : World) : Type 0 where
 
 pub record MadeRequest (own : PlainSetup) (making : MechMaking) : Type 0 where
   pub credential : Granted
-  pub is_own : cred_for own.list kinds.Kerberos ≡ Some (creds.Kerberos credential)
+  pub is_own : ticket_for own.list ≡ Some credential
   pub made : making ≡ typed (request_making credential own.stamp own.draws own.bindings)
 
 pub record MadeProof (own : PlainSetup) (making : MechMaking) : Type 0 where

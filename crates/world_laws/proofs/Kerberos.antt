@@ -20,10 +20,9 @@ use Rattle.scram_mech.specs.Acceptor.{AcceptModel}
 use Rattle.scram_mech.specs.Laws.{Laws as ScramLaws}
 use Rattle.scram_mech.specs.MechMaking.{OfType, MechMaking, AmongMakings, typed}
 use Rattle.spnego_core.specs.declared.outcome.Outcome.{Outcome}
-use Rattle.spnego_core.specs.declared.setup.MechCred.TheVariants as creds
 use Rattle.spnego_core.specs.Ends.{PlainSetup}
 use Rattle.spnego_core.specs.AcceptMech.{Basis, ByRequest, ByProof}
-use Rattle.spnego_core.specs.InitMech.{cred_for}
+use Rattle.spnego_core.specs.InitMech.{ticket_for}
 use Rattle.spnego_core.specs.Outcome.{outcome_of}
 use Rattle.accept_core.specs.declared.entry.Entry.{Entry}
 use Rattle.accept_core.specs.declared.entry.Entry.TheVariants.{Auth}
@@ -39,7 +38,7 @@ use Rattle.world_laws.proofs.Spelled.{Heard, Answered, heard, answered}
 
 -- ---- small facts
 
-pub same-cred : (own : PlainSetup) (c d : Granted) → cred_for own.list kinds.Kerberos ≡ Some (creds.Kerberos c) → cred_for own.list kinds.Kerberos ≡ Some (creds.Kerberos d) → c ≡ d
+pub same-cred : (own : PlainSetup) (c d : Granted) → ticket_for own.list ≡ Some c → ticket_for own.list ≡ Some d → c ≡ d
 same-cred own c d e f = cc
 
 pub same-own : (w : World) (i : ℕ) (a b : PlainSetup) → slice_get w.facts i ≡ Some a → slice_get w.facts i ≡ Some b → a ≡ b
@@ -169,8 +168,8 @@ asker marking w fresh i own credential has request a session stamp = fresh.stamp
 asker-own : (w : World) (i : ℕ) (own : PlainSetup) → slice_get w.facts i ≡ Some own → (request : Judged) (a : Asked w request) → a.i ≡ i → a.own ≡ own
 asker-own w i own there request a same = same-own w i a.own own (subst (λ (k : ℕ). slice_get w.facts k ≡ Some a.own) same a.has.there) there
 
-asker-cred : (w : World) (own : PlainSetup) (credential : Granted) → cred_for own.list kinds.Kerberos ≡ Some (creds.Kerberos credential) → (request : Judged) (a : Asked w request) → a.own ≡ own → a.credential ≡ credential
-asker-cred w own credential is request a same = same-cred own a.credential credential (subst (λ (o : PlainSetup). cred_for o.list kinds.Kerberos ≡ Some (creds.Kerberos a.credential)) same a.has.is_own) is
+asker-cred : (w : World) (own : PlainSetup) (credential : Granted) → ticket_for own.list ≡ Some credential → (request : Judged) (a : Asked w request) → a.own ≡ own → a.credential ≡ credential
+asker-cred w own credential is request a same = same-cred own a.credential credential (subst (λ (o : PlainSetup). ticket_for o.list ≡ Some a.credential) same a.has.is_own) is
 
 answers-by : (marking : Marking) (w : World) → Fresh marking w → (i : ℕ) (own : PlainSetup) (credential : Granted) → HasTicket w i own credential → (end : ApInit) (token : List ℕ) (done : MechDone) (outcome : Outcome) → Waits own credential end
     → (t : TakesBy end token done) → outcome ≡ outcome_of kinds.Kerberos done → (place : ℕ) (x : Context) → slice_get w.fixed place ≡ Some x
@@ -217,7 +216,7 @@ krb-built marking w own outcome on a = record {
 
 -- ---- a partner
 
-pub krb-partner : (w : World) (own : PlainSetup) (credential : Granted) (outcome : Outcome) → cred_for own.list kinds.Kerberos ≡ Some (creds.Kerberos credential) → Answers w own credential outcome → HasPartner w own outcome
+pub krb-partner : (w : World) (own : PlainSetup) (credential : Granted) (outcome : Outcome) → ticket_for own.list ≡ Some credential → Answers w own credential outcome → HasPartner w own outcome
 krb-partner w own credential outcome is a = record {
   place = a.place;
   context = a.context;

@@ -44,6 +44,7 @@ pub mod OnceOwners
 pub mod Spelled
 pub mod Kerberos
 pub mod KerberosAgrees
+pub mod ListOctets
 pub mod Apart
 pub mod OneList
 pub mod TakenTexts

@@ -22,7 +22,7 @@ use Rattle.spnego_core.specs.ListMic.{list_mic, mic_making, mic_found}
 use Rattle.spnego_core.proofs.Makings.{among_front, among_back, among_split}
 use Rattle.spnego_core.proofs.Short.{list_mic_within}
 use Rattle.spnego_core.proofs.Spelled.{mic_short}
-use Rattle.spnego_core.proofs.Turns.{MayCome, chosen_on, end_at, signed_on, last_mic, Hears}
+use Rattle.spnego_core.proofs.Turns.{MayCome, oid_on, chosen_on, end_at, signed_on, last_mic, Hears}
 use Rattle.accept_book.specs.Booking.{mark_of}
 use Rattle.world_laws.specs.Deeds.{Opened}
 use Rattle.world_laws.specs.Lanes.{opened_in, request_of}
@@ -125,9 +125,9 @@ plain-ends : (x : Setting) (kind : MechKind) (turn : Turn) (end : AcceptEnd) (oc
 plain-ends x kind turn end octets drawn mech own_mech token made outcome first is may hears issues r = record {
   heard = heard-so x kind false turn end octets drawn mech own_mech token made outcome hears issues r;
   lasts = r.lasts;
-  reply = reply turn kind false true (Some r.last) None;
+  reply = reply turn (oid_on x.own kind) false true (Some r.last) None;
   done = r.passes turn (chosen_on x.own kind false);
-  size = reply-short turn kind false true (Some r.last) None (token-holds r.last r.size) (none-holds 28);
+  size = reply-short turn x.own kind false true (Some r.last) None (token-holds r.last r.size) (none-holds 28);
   took = record {
     initiated = ended_plain kind r.replied outcome;
     initiates = takes-plain turn x.own kind own_mech r.last r.replied outcome is may first r.size r.replies r.done;
@@ -157,9 +157,9 @@ abbrev signed-goes : (x : Setting) (kind : MechKind) (turn : Turn) (end : Accept
 signed-goes x kind turn end octets drawn mech own_mech token made outcome is may hears issues r = record {
   heard = heard-so x kind true turn end octets drawn mech own_mech token made outcome hears issues r;
   after = owes x.own outcome r.lasts;
-  reply = reply turn kind true true (Some r.last) (Some (list_mic outcome Acceptor (own_list x.own)));
+  reply = reply turn (oid_on x.own kind) true true (Some r.last) (Some (list_mic outcome Acceptor (own_list x.own)));
   goes = r.passes turn (chosen_on x.own kind true);
-  size = reply-short turn kind true true (Some r.last) (Some (list_mic outcome Acceptor (own_list x.own))) (token-holds r.last r.size) (mic-holds outcome (own_list x.own));
+  size = reply-short turn x.own kind true true (Some r.last) (Some (list_mic outcome Acceptor (own_list x.own))) (token-holds r.last r.size) (mic-holds outcome (own_list x.own));
   took = record {
     initiated = ended_signed x.own kind r.replied outcome;
     initiates = takes-signed turn x.own kind own_mech r.last r.replied outcome is may r.size r.replies r.done;

@@ -29,7 +29,7 @@ use Rattle.spnego_core.specs.declared.accept_end.Answered.TheVariants as afters
 use Rattle.spnego_core.specs.Ends.{PlainSetup}
 use Rattle.spnego_core.specs.Choice.{is_first_named, best}
 use Rattle.spnego_core.specs.Exchange.{Occasion, passed, TicketFits, UserFits}
-use Rattle.spnego_core.specs.InitMech.{is_own, is_own_list, cred_for}
+use Rattle.spnego_core.specs.InitMech.{is_own, is_own_list, cred_for, ticket_for}
 use Rattle.spnego_core.specs.Initiating.{own_list, first_sent, token_sent}
 use Rattle.spnego_core.specs.Sizes.{IsShort}
 use Rattle.spnego_core.specs.Tokens.{init_octets, resp_octets}
@@ -37,7 +37,7 @@ use Rattle.spnego_core.proofs.Makings.{among_front, among_back, among_split}
 use Rattle.spnego_core.proofs.MechRounds.{request_begins}
 use Rattle.spnego_core.proofs.Sizes.{answer_within}
 use Rattle.spnego_core.proofs.Spelled.{init_reads, token_reads, token_short}
-use Rattle.spnego_core.proofs.Turns.{MayCome, chosen_on, end_at, Hears}
+use Rattle.spnego_core.proofs.Turns.{MayCome, oid_on, chosen_on, end_at, Hears}
 use Rattle.accept_book.specs.Booking.{BookOf, mark_of}
 use Rattle.world_laws.specs.Deeds.{Opened}
 use Rattle.world_laws.specs.Lanes.{opened_in, opened_of, request_of}
@@ -74,7 +74,7 @@ only x y (suc place) e = absurd (none-some y e)
 no-listed : {A B : Type 0} (value : A) → Listed [] value → B
 no-listed value listed = absurd (none-some value listed.there)
 
-pub ticket-marked : (book : BookOf) (own : PlainSetup) (now : ℕ) (credential : Granted) (drawn : List ℕ) → (fits : TicketFits book.setup own credential (record { now = now; drawn = drawn })) → cred_for own.list kinds.Kerberos ≡ Some (creds.Kerberos credential)
+pub ticket-marked : (book : BookOf) (own : PlainSetup) (now : ℕ) (credential : Granted) (drawn : List ℕ) → (fits : TicketFits book.setup own credential (record { now = now; drawn = drawn })) → ticket_for own.list ≡ Some credential
     → Marked (by_ticket book own now credential drawn fits)
 ticket-marked book own now credential drawn fits is_own = record {
   tickets = λ c t has listed.
@@ -139,7 +139,7 @@ guarded-session : (book : BookOf) (own : PlainSetup) (now : ℕ) (credential : G
 guarded-session book own now credential drawn fits = record { ticket = ticket_of book.setup own credential (record { now = now; drawn = drawn }) fits; issued = record { place = 0; there = refl }; marked = refl; session = refl }
 
 pub request-round : (book : BookOf) (own : PlainSetup) (now : ℕ) (credential : Granted) (drawn : List ℕ) (made : List MechMaking) → length own.draws ≡ 66 → length drawn ≡ 66 → (fits : TicketFits book.setup own credential (record { now = now; drawn = drawn }))
-    → cred_for own.list kinds.Kerberos ≡ Some (creds.Kerberos credential) → IsNew (by_ticket book own now credential drawn fits) (judged_mark (tickets.judged_on book.setup own credential (record { now = now; drawn = drawn }) fits))
+    → ticket_for own.list ≡ Some credential → IsNew (by_ticket book own now credential drawn fits) (judged_mark (tickets.judged_on book.setup own credential (record { now = now; drawn = drawn }) fits))
     → AmongMakings made (tickets.asking own credential)
     → LastRound (by_ticket book own now credential drawn fits) drawn mechs.Kerberos (request_begins own credential).mech (request_begins own credential).token made
     (tickets.outcome_with (tickets.judged_on book.setup own credential (record { now = now; drawn = drawn }) fits) drawn)
@@ -272,9 +272,9 @@ text-round book own now user password drawn before due turn end octets fits is m
     unmarked = λ none. refl;
   };
   after = accepts.Runs (record { chosen = chosen_on own kinds.Scram due; mech = mechs.Proof (texts.accept_end (user_on book own now user password drawn fits)) });
-  reply = reply turn kinds.Scram due false (Some (texts.two_text (user_on book own now user password drawn fits))) None;
+  reply = reply turn (oid_on own kinds.Scram) due false (Some (texts.two_text (user_on book own now user password drawn fits))) None;
   goes = refl;
-  size = reply-short turn kinds.Scram due false (Some (texts.two_text (user_on book own now user password drawn fits))) None (token-holds (texts.two_text (user_on book own now user password drawn fits)) (texts.text-short (user_on book own now user password drawn fits))) (none-holds 28);
+  size = reply-short turn own kinds.Scram due false (Some (texts.two_text (user_on book own now user password drawn fits))) None (token-holds (texts.two_text (user_on book own now user password drawn fits)) (texts.text-short (user_on book own now user password drawn fits))) (none-holds 28);
   took = record {
     initiated = init_gone_on own kinds.Scram due (texts.text_replied (user_on book own now user password drawn fits)) (own_mechs.Proof (texts.proved (user_on book own now user password drawn fits)).end) (texts.proved (user_on book own now user password drawn fits)).token;
     initiates = takes-more turn own kinds.Scram due (own_mechs.Scram (texts.init_end (user_on book own now user password drawn fits))) (texts.two_text (user_on book own now user password drawn fits)) (texts.text_replied (user_on book own now user password drawn fits))

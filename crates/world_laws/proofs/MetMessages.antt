@@ -1,8 +1,6 @@
 -- Single messages of an honest negotiation: what each end makes of the other's, hands out and finds.
 use Rattle.std.proofs.Common.{◌≡◌, ℕ, ◌≤◌, Bool, true, false, refl, ap, ◌∙◌, arith, List, [], ◌∷◌, ◌++◌, length, Option, Some, None, Ok}
 use Rattle.gss_base.specs.declared.mech.MechKind.{MechKind}
-use Rattle.gss_base.specs.declared.mech.MechKind.TheVariants as kinds
-use Rattle.gss_base.specs.Mech.{oid_of, mech_of}
 use Rattle.krb_tokens.specs.declared.end.Side.TheVariants.{Initiator, Acceptor}
 use Rattle.krb_tokens.specs.Mic.{mic_header, mic_of}
 use Rattle.spnego_core.specs.declared.outcome.Outcome.{Outcome}
@@ -27,16 +25,13 @@ use Rattle.spnego_core.specs.InitMech.{kinds_of, is_own, is_own_list, cred_for, 
 use Rattle.spnego_core.specs.Initiating as initiating
 use Rattle.spnego_core.specs.Sizes.{IsShort}
 use Rattle.spnego_core.proofs.Pairs.{acceptors_mic, initiators_mic}
-use Rattle.spnego_core.proofs.Short.{some-is, none-is, resp_within, list_mic_within}
+use Rattle.spnego_core.proofs.Listed.{listed-back, listed-few}
+use Rattle.spnego_core.proofs.Short.{some-is, none-is, named_within, resp_within, list_mic_within}
 use Rattle.spnego_core.proofs.Sizes.{Within}
 use Rattle.spnego_core.proofs.Spelled.{reply_reads, mic_reads, init_reads}
-use Rattle.spnego_core.proofs.Turns.{MayCome, talk_on, chosen_on, end_at, signed_on, last_mic}
+use Rattle.spnego_core.proofs.Turns.{MayCome, oid_on, talk_on, chosen_on, end_at, signed_on, last_mic}
 
 -- ---- replies
-
-named-back : (kind : MechKind) → mech_of (oid_of kind) ≡ Some kind
-named-back kinds.Kerberos = refl
-named-back kinds.Scram = refl
 
 one-within : (octets : List ℕ) (n : ℕ) → length octets ≤ n → (v : List ℕ) → Some octets ≡ Some v → Within v n
 one-within octets n h v e = some-is octets v n (record { most = h }) e
@@ -45,18 +40,11 @@ one-within octets n h v e = some-is octets v n (record { most = h }) e
 abbrev Holds : Option (List ℕ) → ℕ → Type 0
 Holds found n = (v : List ℕ) → found ≡ Some v → Within v n
 
-oid-within : (kind : MechKind) (v : List ℕ) → Some (oid_of kind) ≡ Some v → Within v 9
-oid-within kinds.Kerberos v e = some-is (oid_of kinds.Kerberos) v 9 (record { most = omega arith }) e
-oid-within kinds.Scram v e = some-is (oid_of kinds.Scram) v 9 (record { most = omega arith }) e
-
-mech-within : (turn : Turn) (kind : MechKind) → Holds (accepting.mech_said turn kind) 9
-mech-within First kind v e = oid-within kind v e
-mech-within Later kind v e = none-is v 9 e
-
 -- a reply is short
-pub reply-short : (turn : Turn) (kind : MechKind) (owes finished : Bool) (token mic : Option (List ℕ)) → Holds token 65000 → Holds mic 28 → length (accepting.reply turn kind owes finished token mic) ≤ 65536
-reply-short turn kind owes finished token mic t m =
-    omega (arith, (resp_within (accepting.reply_with turn kind owes finished token mic) 65000 (λ v e. mech-within turn kind v e) (λ v e. t v e) (λ v e. m v e)).most)
+pub reply-short : (turn : Turn) (own : PlainSetup) (kind : MechKind) (owes finished : Bool) (token mic : Option (List ℕ)) → Holds token 65000 → Holds mic 28 → length (accepting.reply turn (oid_on own kind) owes finished token mic) ≤ 65536
+reply-short turn own kind owes finished token mic t m =
+    let few : length (oid_on own kind) ≤ 32 = omega (arith, listed-few (initiating.own_list own) kind) in
+    omega (arith, (resp_within (accepting.reply_with turn (oid_on own kind) owes finished token mic) 65000 (λ v e. named_within turn (oid_on own kind) v few e) (λ v e. t v e) (λ v e. m v e)).most)
 
 pub token-holds : (token : List ℕ) → length token ≤ 65000 → Holds (Some token) 65000
 token-holds token few = λ v e. one-within token 65000 few v e
@@ -70,26 +58,26 @@ mic-holds outcome list = λ v e. some-is (list_mic outcome Acceptor list) v 28 (
 -- ---- the initiator takes a reply
 
 takes-first : (own : PlainSetup) (kind : MechKind) (due finished : Bool) (mech : InitMech) (token : List ℕ) (mic : Option (List ℕ)) → is_own own.list kind ≡ true → is_first (kinds_of own.list) kind ≡ true → length token ≤ 65000 → Holds mic 28
-    → initiating.init_step (inits.Opens (record { own = own; mech = mech })) (accepting.reply First kind due finished (Some token) mic)
+    → initiating.init_step (inits.Opens (record { own = own; mech = mech })) (accepting.reply First (oid_on own kind) due finished (Some token) mic)
     ≡ initiating.ran (talk_on own kind due) (Some (accepting.state_said First due finished)) mic (init_taken mech token)
 unfolding initiating.opened initiating.picks initiating.run
 takes-first own kind true finished mech token mic is first few m =
-    rw (reply_reads First kind true finished (Some token) mic (one-within token 65000 few) m, named-back kind, is, first) refl
+    rw (reply_reads First (initiating.own_list own) kind true finished (Some token) mic (one-within token 65000 few) m, listed-back (initiating.own_list own) kind, is, first) refl
 takes-first own kind false true mech token mic is first few m =
-    rw (reply_reads First kind false true (Some token) mic (one-within token 65000 few) m, named-back kind, is, first) refl
+    rw (reply_reads First (initiating.own_list own) kind false true (Some token) mic (one-within token 65000 few) m, listed-back (initiating.own_list own) kind, is, first) refl
 takes-first own kind false false mech token mic is first few m =
-    rw (reply_reads First kind false false (Some token) mic (one-within token 65000 few) m, named-back kind, is, first) refl
+    rw (reply_reads First (initiating.own_list own) kind false false (Some token) mic (one-within token 65000 few) m, listed-back (initiating.own_list own) kind, is, first) refl
 
 takes-later : (own : PlainSetup) (kind : MechKind) (due finished : Bool) (mech : InitMech) (token : List ℕ) (mic : Option (List ℕ)) → length token ≤ 65000 → Holds mic 28
-    → initiating.init_step (inits.Talks (record { talk = talk_on own kind due; mech = mech })) (accepting.reply Later kind due finished (Some token) mic)
+    → initiating.init_step (inits.Talks (record { talk = talk_on own kind due; mech = mech })) (accepting.reply Later (oid_on own kind) due finished (Some token) mic)
     ≡ initiating.ran (talk_on own kind due) (Some (accepting.state_said Later due finished)) mic (init_taken mech token)
 unfolding initiating.talked initiating.run
-takes-later own kind true finished mech token mic few m = rw (reply_reads Later kind true finished (Some token) mic (one-within token 65000 few) m) refl
-takes-later own kind false true mech token mic few m = rw (reply_reads Later kind false true (Some token) mic (one-within token 65000 few) m) refl
-takes-later own kind false false mech token mic few m = rw (reply_reads Later kind false false (Some token) mic (one-within token 65000 few) m) refl
+takes-later own kind true finished mech token mic few m = rw (reply_reads Later (initiating.own_list own) kind true finished (Some token) mic (one-within token 65000 few) m) refl
+takes-later own kind false true mech token mic few m = rw (reply_reads Later (initiating.own_list own) kind false true (Some token) mic (one-within token 65000 few) m) refl
+takes-later own kind false false mech token mic few m = rw (reply_reads Later (initiating.own_list own) kind false false (Some token) mic (one-within token 65000 few) m) refl
 
 takes : (turn : Turn) (own : PlainSetup) (kind : MechKind) (due finished : Bool) (mech : InitMech) (token : List ℕ) (mic : Option (List ℕ)) → is_own own.list kind ≡ true → MayCome turn own kind → length token ≤ 65000 → Holds mic 28
-    → initiating.init_step (end_at turn own kind due mech) (accepting.reply turn kind due finished (Some token) mic)
+    → initiating.init_step (end_at turn own kind due mech) (accepting.reply turn (oid_on own kind) due finished (Some token) mic)
     ≡ initiating.ran (talk_on own kind due) (Some (accepting.state_said turn due finished)) mic (init_taken mech token)
 takes First own kind due finished mech token mic is may few m = takes-first own kind due finished mech token mic is may few m
 takes Later own kind due finished mech token mic is may few m = takes-later own kind due finished mech token mic few m
@@ -113,7 +101,7 @@ more-by Later own kind false replied next further e = rw e refl
 
 pub takes-more : (turn : Turn) (own : PlainSetup) (kind : MechKind) (due : Bool) (mech : InitMech) (token : List ℕ) (replied : MechReplied) (next : InitMech) (further : List ℕ) → is_own own.list kind ≡ true → MayCome turn own kind → length token ≤ 65000
     → init_taken mech token ≡ Ok replied → replied.answer ≡ tells.More next further
-    → initiating.init_step (end_at turn own kind due mech) (accepting.reply turn kind due false (Some token) None) ≡ Ok (gone_on own kind due replied next further)
+    → initiating.init_step (end_at turn own kind due mech) (accepting.reply turn (oid_on own kind) due false (Some token) None) ≡ Ok (gone_on own kind due replied next further)
 takes-more turn own kind due mech token replied next further is may few e more =
     takes turn own kind due false mech token None is may few (none-holds 28)
     ∙ (ap (initiating.ran (talk_on own kind due) (Some (accepting.state_said turn due false)) None) e ∙ more-by turn own kind due replied next further more)
@@ -129,7 +117,7 @@ plain-by Later own kind replied outcome first e = rw (e, first) refl
 
 pub takes-plain : (turn : Turn) (own : PlainSetup) (kind : MechKind) (mech : InitMech) (token : List ℕ) (replied : MechReplied) (outcome : Outcome) → is_own own.list kind ≡ true → MayCome turn own kind → is_first (kinds_of own.list) kind ≡ true → length token ≤ 65000
     → init_taken mech token ≡ Ok replied → replied.answer ≡ tells.Done outcome
-    → initiating.init_step (end_at turn own kind false mech) (accepting.reply turn kind false true (Some token) None) ≡ Ok (ended_plain kind replied outcome)
+    → initiating.init_step (end_at turn own kind false mech) (accepting.reply turn (oid_on own kind) false true (Some token) None) ≡ Ok (ended_plain kind replied outcome)
 takes-plain turn own kind mech token replied outcome is may first few e done =
     takes turn own kind false true mech token None is may few (none-holds 28)
     ∙ (ap (initiating.ran (talk_on own kind false) (Some (accepting.state_said turn false true)) None) e ∙ plain-by turn own kind replied outcome first done)
@@ -151,7 +139,7 @@ signed-by Later own kind replied outcome e = rw (e, acceptors_mic outcome (initi
 
 pub takes-signed : (turn : Turn) (own : PlainSetup) (kind : MechKind) (mech : InitMech) (token : List ℕ) (replied : MechReplied) (outcome : Outcome) → is_own own.list kind ≡ true → MayCome turn own kind → length token ≤ 65000
     → init_taken mech token ≡ Ok replied → replied.answer ≡ tells.Done outcome
-    → initiating.init_step (end_at turn own kind true mech) (accepting.reply turn kind true true (Some token) (Some (list_mic outcome Acceptor (initiating.own_list own)))) ≡ Ok (ended_signed own kind replied outcome)
+    → initiating.init_step (end_at turn own kind true mech) (accepting.reply turn (oid_on own kind) true true (Some token) (Some (list_mic outcome Acceptor (initiating.own_list own)))) ≡ Ok (ended_signed own kind replied outcome)
 takes-signed turn own kind mech token replied outcome is may few e done =
     takes turn own kind true true mech token (Some (list_mic outcome Acceptor (initiating.own_list own))) is may few (mic-holds outcome (initiating.own_list own))
     ∙ (ap (initiating.ran (talk_on own kind true) (Some (accepting.state_said turn true true)) (Some (list_mic outcome Acceptor (initiating.own_list own)))) e ∙ signed-by turn own kind replied outcome done)
@@ -167,10 +155,10 @@ switched own kind begun = record {
 }
 
 pub switches : (own : PlainSetup) (kind : MechKind) (mech : InitMech) (cred : MechCred) (begun : MechBegun) → is_own own.list kind ≡ true → is_first (kinds_of own.list) kind ≡ false → cred_for own.list kind ≡ Some cred → init_begun own cred ≡ Ok begun
-    → initiating.init_step (inits.Opens (record { own = own; mech = mech })) (accepting.reply First kind true false None None) ≡ Ok (switched own kind begun)
+    → initiating.init_step (inits.Opens (record { own = own; mech = mech })) (accepting.reply First (oid_on own kind) true false None None) ≡ Ok (switched own kind begun)
 unfolding initiating.opened initiating.picks
 switches own kind mech cred begun is other cred_is begins =
-    rw (reply_reads First kind true false None None (λ v e. none-is v 65000 e) (λ v e. none-is v 28 e), named-back kind, is, other, cred_is, begins) refl
+    rw (reply_reads First (initiating.own_list own) kind true false None None (λ v e. none-is v 65000 e) (λ v e. none-is v 28 e), listed-back (initiating.own_list own) kind, is, other, cred_is, begins) refl
 
 -- its MIC was taken
 abbrev pub closed_with : MechKind → Outcome → initiating.Initiated
@@ -185,7 +173,7 @@ closes own kind outcome = refl
 -- the first token, for another mechanism than the chosen one, which waits
 abbrev pub waiting : PlainSetup → MechKind → accepting.Accepted
 waiting own kind = record {
-  step = accepted.More (accepts.Runs (record { chosen = chosen_on own kind true; mech = accept_begun kind })) (accepting.reply First kind true false None None);
+  step = accepted.More (accepts.Runs (record { chosen = chosen_on own kind true; mech = accept_begun kind })) (accepting.reply First (oid_on own kind) true false None None);
   makes = [];
   found = [];
   fixes = None;

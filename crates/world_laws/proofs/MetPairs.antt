@@ -5,7 +5,8 @@ use Rattle.std.proofs.lemmas.Bool.{cases_Bool}
 use Rattle.std.proofs.lemmas.Option.{none-some}
 use Rattle.gss_base.specs.declared.mech.MechKind.{MechKind}
 use Rattle.gss_base.specs.declared.mech.MechKind.TheVariants as kinds
-use Rattle.gss_base.specs.Mech.{oid_of}
+use Rattle.gss_base.specs.declared.mech.KerberosName.{KerberosName}
+use Rattle.gss_base.specs.declared.mech.KerberosName.TheVariants.{Standard, Microsoft}
 use Rattle.krb_derive.specs.Making.{Making}
 use Rattle.krb_files.specs.Granted.{Granted}
 use Rattle.ap_exchange.specs.declared.refusal.ApRefusal.{ApRefusal}
@@ -37,7 +38,7 @@ use Rattle.spnego_core.specs.AcceptMech.{accept_begun}
 use Rattle.spnego_core.specs.Accepting.{reply}
 use Rattle.spnego_core.specs.Choice.{same_kind, is_first, is_first_named, is_mic_due, best}
 use Rattle.spnego_core.specs.Exchange.{TicketFits, UserFits, Fitting, rounds_of, tokens_of, HonestPair}
-use Rattle.spnego_core.specs.InitMech.{kind_of, kinds_of, is_own, is_own_list, cred_for, MechBegun, request_begun, text_begun, init_begun}
+use Rattle.spnego_core.specs.InitMech.{kind_of, kinds_of, oid_listed, is_own, is_own_list, cred_for, ticket_for, MechBegun, request_begun, text_begun, init_begun}
 use Rattle.spnego_core.specs.Initiating.{Started, own_list, first_sent, token_sent, starts, opens}
 use Rattle.spnego_core.specs.Sizes.{IsShort}
 use Rattle.spnego_core.specs.Tokens.{init_octets, resp_octets}
@@ -45,7 +46,7 @@ use Rattle.spnego_core.proofs.InitSteps.{cred_for-kind}
 use Rattle.spnego_core.proofs.Makings.{among_back, among_split}
 use Rattle.spnego_core.proofs.MechRounds.{request_begins, request-begins}
 use Rattle.spnego_core.proofs.Spelled.{token_short}
-use Rattle.spnego_core.proofs.Turns.{MayCome, chosen_on, end_at, Hears, hears_first, hears_later}
+use Rattle.spnego_core.proofs.Turns.{MayCome, oid_on, chosen_on, end_at, Hears, hears_first, hears_later}
 use Rattle.accept_book.specs.Booking.{BookOf}
 use Rattle.accept_core.specs.History.{taken_of}
 use Rattle.world_laws.specs.Lanes.{request_of}
@@ -82,7 +83,7 @@ text-typed (Err refusal) begun e m among = absurd cc
 
 begun-typed : (own : PlainSetup) (cred : MechCred) (begun : MechBegun) → init_begun own cred ≡ Ok begun → (m : MechMaking) → AmongMakings begun.makes m → IsTyped m
 unfolding init_begun
-begun-typed own (creds.Kerberos credential) begun e m among = request-typed (request_makes credential own.stamp own.draws own.bindings) (kerberos_request credential own.stamp own.draws own.bindings) begun e m among
+begun-typed own (creds.Kerberos name credential) begun e m among = request-typed (request_makes credential own.stamp own.draws own.bindings) (kerberos_request credential own.stamp own.draws own.bindings) begun e m among
 begun-typed own (creds.Scram user password) begun e m among = text-typed (init_started user password (drawn_nonce own.draws) own.bindings) begun e m among
 
 -- ---- the chosen mechanism runs
@@ -120,21 +121,25 @@ record AtHand (book : BookOf) (own : PlainSetup) (cred : MechCred) (now : ℕ) (
   ready : ReadyFor book own now cred
   untaken : taken_of book.core.history ≡ []
 
-request-runs : (book : BookOf) (own : PlainSetup) (credential : Granted) (now : ℕ) (due : Bool) (turn : Turn) (end : AcceptEnd) (octets : List ℕ) (begun : MechBegun) (made : List MechMaking) (draws : List ℕ) (rest : List (List ℕ))
-    → AtHand book own (creds.Kerberos credential) now due turn end octets begun made → length (take 66 draws) ≡ 66 → TicketFits book.setup own credential (record { now = now; drawn = take 66 draws }) → length rest ≡ (if due then 1 else 0)
+-- the credential of Kerberos is its ticket
+ticket-of : (own : PlainSetup) (name : KerberosName) (credential : Granted) → cred_for own.list kinds.Kerberos ≡ Some (creds.Kerberos name credential) → ticket_for own.list ≡ Some credential
+ticket-of own name credential e = rw e refl
+
+request-runs : (book : BookOf) (own : PlainSetup) (name : KerberosName) (credential : Granted) (now : ℕ) (due : Bool) (turn : Turn) (end : AcceptEnd) (octets : List ℕ) (begun : MechBegun) (made : List MechMaking) (draws : List ℕ) (rest : List (List ℕ))
+    → AtHand book own (creds.Kerberos name credential) now due turn end octets begun made → length (take 66 draws) ≡ 66 → TicketFits book.setup own credential (record { now = now; drawn = take 66 draws }) → length rest ≡ (if due then 1 else 0)
     → Runs book own kinds.Kerberos now due turn end octets begun made (draws ∷ rest)
-request-runs book own credential now due turn end octets begun made draws rest a long fits count =
-    let same : begun ≡ request_begins own credential = ok-begun begun (request_begins own credential) (sym a.begins ∙ request-begins book.setup own credential (record { now = now; drawn = take 66 draws }) fits) in
+request-runs book own name credential now due turn end octets begun made draws rest a long fits count =
+    let same : begun ≡ request_begins own credential = ok-begun begun (request_begins own credential) (sym a.begins ∙ request-begins book.setup own name credential (record { now = now; drawn = take 66 draws }) fits) in
     let hears : Hears book.setup end octets turn (chosen_on own kinds.Kerberos due) mechs.Kerberos (request_begins own credential).token =
     subst (λ (b : MechBegun). Hears book.setup end octets turn (chosen_on own kinds.Kerberos due) mechs.Kerberos b.token) same a.hears in
     let new : cache_verdict book.core.cache.capacity (max book.core.cache.greatest now) [] (judged_mark (tickets.judged_on book.setup own credential (record { now = now; drawn = take 66 draws }) fits)) ≡ Taken =
     subst (λ (t : List TakenMark). cache_verdict book.core.cache.capacity (max book.core.cache.greatest now) t (judged_mark (tickets.judged_on book.setup own credential (record { now = now; drawn = take 66 draws }) fits)) ≡ Taken) a.untaken (a.ready fits.fit.part) in
-    let r = request-round book own now credential (take 66 draws) made a.own_draws long fits a.is_cred new
+    let r = request-round book own now credential (take 66 draws) made a.own_draws long fits (ticket-of own name credential a.is_cred) new
     (a.handed_out (tickets.asking own credential) (subst (λ (b : MechBegun). AmongMakings b.makes (tickets.asking own credential)) (sym same) (inl refl))) in
     let opens : request_of book.setup end octets ≡ Some (tickets.request_by own credential) = a.opens ∙ ap (λ (b : MechBegun). Some b.token) same in
     subst (λ (b : MechBegun). Runs book own kinds.Kerberos now due turn end octets b made (draws ∷ rest)) (sym same) (record {
       marking = (by_ticket book own now credential (take 66 draws) fits).marking;
-      marked = ticket-marked book own now credential (take 66 draws) fits a.is_cred;
+      marked = ticket-marked book own now credential (take 66 draws) fits (ticket-of own name credential a.is_cred);
       outcome = tickets.outcome_with (tickets.judged_on book.setup own credential (record { now = now; drawn = take 66 draws }) fits) (take 66 draws);
       mech = refl;
       rounds = finishes (by_ticket book own now credential (take 66 draws) fits) kinds.Kerberos due turn end octets mechs.Kerberos (request_begins own credential).mech (request_begins own credential).token made
@@ -170,9 +175,9 @@ texts-run book own user password now due turn end octets begun made draws next r
 runs : (book : BookOf) (own : PlainSetup) (cred : MechCred) (now : ℕ) (due : Bool) (turn : Turn) (end : AcceptEnd) (octets : List ℕ) (begun : MechBegun) (made : List MechMaking) (draws : List (List ℕ))
     → AtHand book own cred now due turn end octets begun made → AllByRecursion (Fitting book.setup own cred) (occasions_at now draws) → length draws ≡ rounds_due (kind_of cred) due
     → Runs book own (kind_of cred) now due turn end octets begun made draws
-runs book own (creds.Kerberos credential) now due turn end octets begun made [] a fits count = absurd (omega (arith, count))
-runs book own (creds.Kerberos credential) now due turn end octets begun made (draws ∷ rest) a fits count =
-    request-runs book own credential now due turn end octets begun made draws rest a fits.0.drawn fits.0.facts (omega (arith, count))
+runs book own (creds.Kerberos name credential) now due turn end octets begun made [] a fits count = absurd (omega (arith, count))
+runs book own (creds.Kerberos name credential) now due turn end octets begun made (draws ∷ rest) a fits count =
+    request-runs book own name credential now due turn end octets begun made draws rest a fits.0.drawn fits.0.facts (omega (arith, count))
 runs book own (creds.Scram user password) now due turn end octets begun made [] a fits count = absurd (omega (arith, count))
 runs book own (creds.Scram user password) now due turn end octets begun made (draws ∷ []) a fits count = absurd (omega (arith, count))
 runs book own (creds.Scram user password) now due turn end octets begun made (draws ∷ next ∷ rest) a fits count =
@@ -217,9 +222,10 @@ first-chosen : (first cred : MechCred) (rest : List MechCred) (kind : MechKind) 
 first-chosen first cred rest kind same e = let is : Some first ≡ Some cred = sym (rw same refl) ∙ e in cc
 
 -- the first mechanism of the own list is that of its first identifier
-first-named : (list : List MechCred) (kind : MechKind) → is_first_named (map (λ cred. oid_of (kind_of cred)) list) kind ≡ is_first (kinds_of list) kind
+first-named : (list : List MechCred) (kind : MechKind) → is_first_named (map oid_listed list) kind ≡ is_first (kinds_of list) kind
 first-named [] kind = refl
-first-named (creds.Kerberos credential ∷ rest) kind = refl
+first-named (creds.Kerberos Standard credential ∷ rest) kind = refl
+first-named (creds.Kerberos Microsoft credential ∷ rest) kind = refl
 first-named (creds.Scram user password ∷ rest) kind = refl
 
 own-by : (b : Bool) (list : List MechCred) (kind : MechKind) (first cred : MechCred) → same_kind (kind_of first) kind ≡ b → (cred_for list kind ≡ Some cred → is_own list kind ≡ true) → (if b then Some first else cred_for list kind) ≡ Some cred → is_own (first ∷ list) kind ≡ true
@@ -306,9 +312,9 @@ waits-goes x kind drawn cred first begun list chosen named other short is is_cre
     unmarked = λ none. refl;
   };
   after = accepts.Runs (record { chosen = chosen_on x.own kind true; mech = accept_begun kind });
-  reply = reply First kind true false None None;
+  reply = reply First (oid_on x.own kind) true false None None;
   goes = refl;
-  size = reply-short First kind true false None None (none-holds 65000) (none-holds 28);
+  size = reply-short First x.own kind true false None None (none-holds 65000) (none-holds 28);
   took = record {
     initiated = switched x.own kind begun;
     initiates = switches x.own kind first.mech cred begun is other is_cred begins;

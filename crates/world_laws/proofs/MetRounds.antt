@@ -13,7 +13,6 @@ use Rattle.scram_mech.specs.MechMaking.{OfType, MechMaking, AmongMakings, proof_
 use Rattle.scram_mech.specs.Secrets.{stored_key}
 use Rattle.spnego_core.specs.declared.outcome.Outcome.{Outcome}
 use Rattle.spnego_core.specs.declared.setup.AcceptSetup.{AcceptSetup}
-use Rattle.spnego_core.specs.declared.setup.MechCred.TheVariants as creds
 use Rattle.spnego_core.specs.declared.accept_end.AcceptEnd.{AcceptEnd}
 use Rattle.spnego_core.specs.declared.accept_end.AcceptStep.TheVariants as accept_steps
 use Rattle.spnego_core.specs.Ends.{PlainSetup, EndSays}
@@ -21,7 +20,7 @@ use Rattle.spnego_core.specs.EndSteps as init_steps
 use Rattle.spnego_core.specs.AcceptMech.{Basis, ByRequest, ByProof}
 use Rattle.spnego_core.specs.Accepting.{Fixed, Accepted, accept_step}
 use Rattle.spnego_core.specs.Exchange.{passed}
-use Rattle.spnego_core.specs.InitMech.{cred_for}
+use Rattle.spnego_core.specs.InitMech.{ticket_for}
 use Rattle.spnego_core.specs.Initiating.{Initiated, init_step}
 use Rattle.spnego_core.specs.Sizes.{IsShort}
 use Rattle.accept_book.specs.Booking.{BookOf, mark_of}
@@ -41,7 +40,7 @@ setup_in x = x.book.setup
 
 -- what is marked is what both ends have: tickets of the initiator for the acceptor, and users whose lines are of their passwords
 pub record Marked (x : Setting) : Type 0 where
-  pub tickets : (c : Granted) (t : Ticket) → cred_for x.own.list kinds.Kerberos ≡ Some (creds.Kerberos c) → Listed x.marking.tickets t → (t.client ≡ c.client) × (t.server ≡ c.server)
+  pub tickets : (c : Granted) (t : Ticket) → ticket_for x.own.list ≡ Some c → Listed x.marking.tickets t → (t.client ≡ c.client) × (t.server ≡ c.server)
   pub servers : (t : Ticket) → Listed x.marking.tickets t → t.server ≡ (setup_in x).own
   pub lines : (account : Account) (line : Verifier) → Listed x.marking.accounts account → Listed (setup_in x).verifiers line → line.name ≡ account.user
       → line.stored ≡ stored_key (record { password = account.password; salt = line.salt; rounds = line.rounds })

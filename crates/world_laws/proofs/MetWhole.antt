@@ -14,13 +14,12 @@ use Rattle.spnego_core.specs.declared.accept_end.AcceptEnd.TheVariants as ends
 use Rattle.spnego_core.specs.declared.accept_end.AcceptStep.TheVariants as accept_steps
 use Rattle.spnego_core.specs.declared.outcome.Outcome.{Outcome}
 use Rattle.spnego_core.specs.declared.setup.AcceptSetup.{AcceptSetup}
-use Rattle.spnego_core.specs.declared.setup.MechCred.TheVariants as creds
 use Rattle.spnego_core.specs.Ends.{PlainSetup, EndSays}
 use Rattle.spnego_core.specs.EndSteps as init_steps
 use Rattle.spnego_core.specs.Accepting.{Fixed}
 use Rattle.spnego_core.specs.Choice.{is_first, is_mic_due}
 use Rattle.spnego_core.specs.Exchange.{rounds_of, tokens_of}
-use Rattle.spnego_core.specs.InitMech.{kinds_of, cred_for}
+use Rattle.spnego_core.specs.InitMech.{kinds_of, ticket_for}
 use Rattle.spnego_core.specs.Initiating.{Started, own_list, init_start}
 use Rattle.spnego_core.proofs.Makings.{among_split}
 use Rattle.accept_core.specs.declared.entry.Entry.{Entry}
@@ -97,13 +96,13 @@ fresh-so x xid book lanes made fixed outcome d = record {
   untold = λ i own c other has done mech built. by-ticket own c (is-own i own c has) (sym (ap (λ (o : Outcome). o.mech) (the-outcome x xid book lanes made fixed outcome other i own done)) ∙ mech);
 }
   where
-    is-own : (i : ℕ) (own : PlainSetup) (c : Granted) → HasTicket (last_world x xid book lanes made fixed outcome) i own c → cred_for x.own.list kinds.Kerberos ≡ Some (creds.Kerberos c)
-    is-own i own c has = subst (λ (o : PlainSetup). cred_for o.list kinds.Kerberos ≡ Some (creds.Kerberos c)) (one-place x.own own i has.there).1 has.is_own
+    is-own : (i : ℕ) (own : PlainSetup) (c : Granted) → HasTicket (last_world x xid book lanes made fixed outcome) i own c → ticket_for x.own.list ≡ Some c
+    is-own i own c has = subst (λ (o : PlainSetup). ticket_for o.list ≡ Some c) (one-place x.own own i has.there).1 has.is_own
 
     basis : (c : Context) → Listed (context_with 1 fixed ∷ []) c → c.fixed.basis ≡ fixed.basis
     basis c listed = ap (λ (z : Context). z.fixed.basis) (the-context fixed c listed)
 
-    by-ticket : (own : PlainSetup) (c : Granted) → cred_for x.own.list kinds.Kerberos ≡ Some (creds.Kerberos c) → outcome.mech ≡ kinds.Kerberos → GuardedSession x.marking c.session
+    by-ticket : (own : PlainSetup) (c : Granted) → ticket_for x.own.list ≡ Some c → outcome.mech ≡ kinds.Kerberos → GuardedSession x.marking c.session
     by-ticket own c is mech =
         let on : OnTicket x.marking x.own = subst (λ (k : MechKind). OnGuarded x.marking x.own k) mech d.final.guarded in
         subst (λ (g : Granted). GuardedSession x.marking g.session) (same-cred x.own on.credential c on.is_own is) on.guarded

@@ -135,7 +135,7 @@ text-none talk (Ok started) = nothing-made _ refl
 
 switched-none : (talk : TalkSays) (cred : MechCred) → On NoProof (switched talk (init_begun talk.own cred))
 unfolding init_begun
-switched-none talk (creds.Kerberos credential) = request-none talk _ (request_of credential talk.own.stamp talk.own.draws talk.own.bindings) (λ e. cc)
+switched-none talk (creds.Kerberos name credential) = request-none talk _ (request_of credential talk.own.stamp talk.own.draws talk.own.bindings) (λ e. cc)
 switched-none talk (creds.Scram user password) = text-none talk (init_started user password (drawn_nonce talk.own.draws) talk.own.bindings)
 
 other-none : (talk : TalkSays) (found : Option MechCred) → On NoProof (begins_other talk found)
@@ -209,7 +209,7 @@ none-made x started r e f n = let same : x ≡ started = cc in subst (λ (s : St
 
 begun-first : (own : PlainSetup) (first : MechCred) (rest : List MechCred) (started : Started) (making : MechMaking) → opens own (init_begun own first) ≡ Ok started → AmongMakings started.makes making → is_first (kinds_of (first ∷ rest)) kinds.Kerberos ≡ true
 unfolding init_begun
-begun-first own (creds.Kerberos credential) rest started making e a = refl
+begun-first own (creds.Kerberos name credential) rest started making e a = refl
 begun-first own (creds.Scram user password) rest started making e a = absurd (by (init_started user password (drawn_nonce own.draws) own.bindings) e)
   where
     by : (result : Result InitStarted ScramRefusal) → opens own (text_begun result) ≡ Ok started → ⊥

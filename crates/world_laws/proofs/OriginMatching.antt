@@ -22,7 +22,8 @@ use Rattle.world_laws.specs.State.{World}
 use Rattle.world_laws.specs.Premises.{WasMade, Completed}
 use Rattle.world_laws.proofs.Makers.{tag, tag-word}
 use Rattle.world_laws.proofs.OriginReading.{word_of, Told}
-use Rattle.world_laws.proofs.OriginWords.{header-kind, header-procedure, header-proc, header-seq, header-service, header-long, number-first, args-behind, AreShort, args-short, args-few, args-low, IsHigh, high-list}
+use Rattle.world_laws.proofs.OriginWords.{header-kind, header-procedure, header-proc, header-seq, header-service, header-long, number-first, args-behind, AreShort, args-short, args-few, args-low}
+use Rattle.world_laws.proofs.ListOctets.{IsHigh, high-list}
 use Rattle.world_laws.proofs.OriginShown.{same-heads, content-sealed, HeaderMaking, BodyMaking, SealedMaking, one-of, NumberedBy}
 use Rattle.world_laws.proofs.OriginCalls.{OwnListMic, Uncalled, Called, CalledMaking, Fitting, Calls}
 

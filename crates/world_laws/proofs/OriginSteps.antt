@@ -158,7 +158,7 @@ run-proving scram size talk mech state (Some token) mic = ran-proving scram talk
 
 begun-none : (own : PlainSetup) (cred : MechCred) (begun : MechBegun) → init_begun own cred ≡ Ok begun → proof_end begun.mech ≡ None
 unfolding init_begun
-begun-none own (creds.Kerberos credential) begun e = by (request_of credential own.stamp own.draws own.bindings) e
+begun-none own (creds.Kerberos name credential) begun e = by (request_of credential own.stamp own.draws own.bindings) e
   where
     by : (r : Result (ApInit × List ℕ) ApRefusal) → request_begun (map typed (request_makes credential own.stamp own.draws own.bindings)) r ≡ Ok begun → proof_end begun.mech ≡ None
     by (Ok sent) f = ap (λ (b : MechBegun). proof_end b.mech) (ok_is {E = MechRefusal} begun _ (sym f))

@@ -1,22 +1,14 @@
 -- A call's header, a body's octets and a list of mechanisms are told apart by the word behind their first one.
-use Rattle.std.proofs.Common.{◌≡◌, ◌⊎◌, inl, inr, ℕ, ◌+◌, ◌<◌, ◌≤◌, ◌^◌, lit<, Bool, true, false, List, [], ◌∷◌, ◌++◌, length, drop, Result, Ok, Err, is_ok, refl, ap, ◌∙◌, arith, map}
+use Rattle.std.proofs.Common.{◌≡◌, ◌⊎◌, inl, inr, ℕ, ◌+◌, ◌<◌, ◌≤◌, ◌^◌, lit<, Bool, true, false, List, ◌++◌, length, drop, Result, Ok, Err, is_ok, refl, ap, ◌∙◌, arith}
 use Rattle.std.specs.Prelude.{◌==◌, if◌then◌else◌}
 use Rattle.std.proofs.lemmas.Bool.{eqb-true}
 use Rattle.std.proofs.lemmas.List.{length-append}
 use Rattle.std.proofs.lemmas.Nat.{from_be_bytes-to_be_bytes_4}
-use Rattle.gss_base.specs.declared.mech.MechKind.{MechKind}
-use Rattle.gss_base.specs.declared.mech.MechKind.TheVariants as kinds
-use Rattle.gss_base.specs.Mech.{oid_of}
 use Rattle.rpc_msgs.specs.Words.{word, opaque, padding_length}
 use Rattle.rpc_msgs.specs.Xdr.{whole, opaque_at, end_at}
 use Rattle.rpc_msgs.specs.declared.xdr_reader.XdrRefusal.{XdrRefusal}
 use Rattle.rpc_msgs.proofs.XdrLaws.{bind_ok}
 use Rattle.rpcsec_msgs.proofs.BodyLaws.{end-found}
-use Rattle.der_core.specs.Header.{tlv, length_octets}
-use Rattle.der_core.specs.Values.{object_identifier}
-use Rattle.spnego_msgs.specs.Lists.{list_octets}
-use Rattle.spnego_core.specs.declared.setup.MechCred.{MechCred}
-use Rattle.spnego_core.specs.InitMech.{kind_of, is_own_list}
 use Rattle.accept_book.specs.Served.{one_opaque, are_args}
 use Rattle.gss_client.specs.Calling.{header_of}
 use Rattle.gss_client.specs.Session.{SessionState}
@@ -102,27 +94,3 @@ args-few args (inr (size, is, low, all)) z = empty size (is ∙ z) all
 pub args-low : (args : List ℕ) → AreShort args → 4 ≤ length args → word_of 0 args ≤ 65536
 args-low args (inl none) h = absurd (omega (arith, none, h))
 args-low args (inr (size, is, low, all)) h = omega (arith, is, low)
-
--- ---- a list of own mechanisms
-
-pub record IsHigh (octets : List ℕ) : Type 0 where
-  pub long : 8 < length octets
-  pub high : 65536 < word_of 4 octets
-
-high-one : (k : MechKind) → IsHigh (list_octets (oid_of k ∷ []))
-unfolding object_identifier tlv length_octets
-high-one kinds.Kerberos = record { long = lit< tt; high = lit< tt }
-high-one kinds.Scram = record { long = lit< tt; high = lit< tt }
-
-high-two : (k l : MechKind) → IsHigh (list_octets (oid_of k ∷ oid_of l ∷ []))
-unfolding object_identifier tlv length_octets
-high-two kinds.Kerberos kinds.Kerberos = record { long = lit< tt; high = lit< tt }
-high-two kinds.Kerberos kinds.Scram = record { long = lit< tt; high = lit< tt }
-high-two kinds.Scram kinds.Kerberos = record { long = lit< tt; high = lit< tt }
-high-two kinds.Scram kinds.Scram = record { long = lit< tt; high = lit< tt }
-
-pub high-list : (creds : List MechCred) → is_own_list creds ≡ true → IsHigh (list_octets (map (λ (cred : MechCred). oid_of (kind_of cred)) creds))
-high-list [] e = absurd cc
-high-list (only ∷ []) e = high-one (kind_of only)
-high-list (first ∷ second ∷ []) e = high-two (kind_of first) (kind_of second)
-high-list (first ∷ second ∷ third ∷ rest) e = absurd cc

@@ -40,7 +40,7 @@ use Rattle.spnego_core.specs.Tokens.{init_read, resp_read, rejects}
 use Rattle.spnego_core.specs.ListMic.{list_mic, is_list_mic}
 use Rattle.spnego_core.specs.Choice.{is_first_named, best}
 use Rattle.spnego_core.specs.AcceptMech.{request_taken, text_taken, proof_taken, accept_taken}
-use Rattle.spnego_core.specs.Accepting.{Fixed, Accepted, reply, finished, gone_on, run, begun, token_for, started, chose, begins, proceeds, settled, closes, accept_step}
+use Rattle.spnego_core.specs.Accepting.{Fixed, Accepted, reply, oid_chosen, finished, gone_on, run, begun, token_for, started, chose, begins, proceeds, settled, closes, accept_step}
 use Rattle.context_table.specs.declared.slot.SlotState.{SlotState}
 use Rattle.context_table.specs.declared.slot.SlotState.TheVariants as states
 use Rattle.context_table.specs.declared.slot.SlotState.TheVariants.{Negotiating, Complete}
@@ -126,7 +126,7 @@ owed-if false received outcome lasts token last owing e = absurd (none-some owin
 
 finished-owes : (turn : Turn) (chosen : Chosen) (outcome : Outcome) (lasts : ℕ) (token : List ℕ) (owing : Owing) → owing_answered (finished turn chosen outcome lasts token) ≡ Some owing → chosen.received ≡ owing.received
 finished-owes turn chosen outcome lasts token owing e =
-    owed-if chosen.due chosen.received outcome lasts (reply turn chosen.kind true true (Some token) (Some (list_mic outcome Acceptor chosen.received))) (reply turn chosen.kind false true (Some token) None) owing e
+    owed-if chosen.due chosen.received outcome lasts (reply turn (oid_chosen chosen) true true (Some token) (Some (list_mic outcome Acceptor chosen.received))) (reply turn (oid_chosen chosen) false true (Some token) None) owing e
 
 owing-gone : (after : Answered) → owing_step (gone_on after) ≡ owing_answered after
 owing-gone (afters.More end token) = refl

@@ -15,7 +15,7 @@ use Rattle.spnego_core.specs.declared.accept_end.AcceptEnd.{AcceptEnd}
 use Rattle.spnego_core.specs.Ends.{PlainSetup}
 use Rattle.spnego_core.specs.AcceptMech.{Basis, ByRequest, ByProof}
 use Rattle.spnego_core.specs.Choice.{best}
-use Rattle.spnego_core.specs.InitMech.{cred_for}
+use Rattle.spnego_core.specs.InitMech.{cred_for, ticket_for}
 use Rattle.spnego_core.specs.Initiating.{own_list}
 use Rattle.context_table.specs.declared.slot.SlotState.TheVariants.{Complete}
 use Rattle.context_table.specs.Places.{slot_at}
@@ -37,7 +37,7 @@ use Rattle.world_laws.specs.Premises.{Proved, HasAuth}
 -- the context took the initiator's authenticator: the session key and the stamp are its own
 pub record TookRequest (own : PlainSetup) (request : Judged) : Type 0 where
   pub credential : Granted
-  pub is_own : cred_for own.list kinds.Kerberos ≡ Some (creds.Kerberos credential)
+  pub is_own : ticket_for own.list ≡ Some credential
   pub session : request.session ≡ credential.session
   pub stamp : request.stamp ≡ own.stamp
 
@@ -51,7 +51,7 @@ pub record TookProof (w : World) (own : PlainSetup) (end : AcceptModel) (text : 
 -- the initiator handed out the authenticator of its request
 pub record AskedOut (w : World) (own : PlainSetup) : Type 0 where
   pub credential : Granted
-  pub is_own : cred_for own.list kinds.Kerberos ≡ Some (creds.Kerberos credential)
+  pub is_own : ticket_for own.list ≡ Some credential
   pub handed_out : AmongMakings w.makings (typed (request_making credential own.stamp own.draws
       own.bindings))
 
@@ -81,7 +81,7 @@ pub record HasPartner (w : World) (own : PlainSetup) (outcome : Outcome) : Type 
 -- names and hash
 pub record NamesByTicket (own : PlainSetup) (outcome : Outcome) : Type 0 where
   pub credential : Granted
-  pub is_own : cred_for own.list kinds.Kerberos ≡ Some (creds.Kerberos credential)
+  pub is_own : ticket_for own.list ≡ Some credential
   pub initiator : outcome.initiator ≡ label_of credential.client
   pub acceptor : outcome.acceptor ≡ label_of credential.server
 

@@ -45,7 +45,7 @@ occasions_at now draws = map (λ octets. record { now = now; drawn = take 66 oct
 -- what the acceptor has for a credential beside the facts that fit: for a request by Kerberos, a
 -- place for its mark, which isn't stale; of a user of SCRAM, no line by another password
 abbrev pub ReadyFor : BookOf → PlainSetup → ℕ → MechCred → Type 0
-ReadyFor book own now (creds.Kerberos credential) = (part : EncTicketPart)
+ReadyFor book own now (creds.Kerberos name credential) = (part : EncTicketPart)
     → cache_verdict book.core.cache.capacity (max book.core.cache.greatest now)
     (taken_of book.core.history)
     (judged_mark (honest_judged credential own.stamp own.bindings part)) ≡ Taken

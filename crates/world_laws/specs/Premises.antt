@@ -26,7 +26,7 @@ use Rattle.spnego_core.specs.declared.outcome.Outcome.{Outcome}
 use Rattle.spnego_core.specs.declared.setup.MechCred.TheVariants as creds
 use Rattle.spnego_core.specs.Ends.{PlainSetup}
 use Rattle.spnego_core.specs.AcceptMech.{Basis, ByRequest, ByProof}
-use Rattle.spnego_core.specs.InitMech.{cred_for}
+use Rattle.spnego_core.specs.InitMech.{cred_for, ticket_for}
 use Rattle.spnego_core.specs.Outcome.{token_end}
 use Rattle.accept_core.specs.declared.entry.Entry.{Entry}
 use Rattle.accept_core.specs.declared.entry.Entry.TheVariants.{Settled}
@@ -117,7 +117,7 @@ Guarded marking fixed (OfPassword key) = GuardedSecret marking key
 -- and password
 pub record OnTicket (marking : Marking) (own : PlainSetup) : Type 0 where
   pub credential : Granted
-  pub is_own : cred_for own.list kinds.Kerberos ≡ Some (creds.Kerberos credential)
+  pub is_own : ticket_for own.list ≡ Some credential
   pub guarded : GuardedSession marking credential.session
 
 -- the same by SCRAM: its credential is a marked user's name and password
@@ -202,7 +202,7 @@ pub record OnProof (context : Context) (end : AcceptModel) (auth : List ℕ) : T
 -- the initiator of this place has a Kerberos credential, or SCRAM's
 pub record HasTicket (w : World) (i : ℕ) (own : PlainSetup) (credential : Granted) : Type 0 where
   pub there : slice_get w.facts i ≡ Some own
-  pub is_own : cred_for own.list kinds.Kerberos ≡ Some (creds.Kerberos credential)
+  pub is_own : ticket_for own.list ≡ Some credential
 
 -- the same of SCRAM: it has this user and password
 pub record HasAccount (w : World) (i : ℕ) (own : PlainSetup) (user password : List ℕ) : Type 0 where

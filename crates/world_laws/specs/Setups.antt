@@ -1,6 +1,5 @@
 -- What the setups that a world is begun with are: what the types of their parts say of them.
 use Rattle.std.specs.Prelude.{◌≡◌, ℕ, true, List, slice_get, Option, Some}
-use Rattle.gss_base.specs.declared.mech.MechKind.TheVariants as kinds
 use Rattle.krb_files.specs.Granted.{Granted}
 use Rattle.krb_msgs.specs.Authenticator.{authenticator}
 use Rattle.ap_exchange.specs.Request.{authenticator_of}
@@ -10,12 +9,12 @@ use Rattle.scram_mech.specs.VerifierFile.{IsLine}
 use Rattle.spnego_core.specs.declared.setup.MechCred.{MechCred}
 use Rattle.spnego_core.specs.declared.setup.MechCred.TheVariants as creds
 use Rattle.spnego_core.specs.Ends.{PlainSetup}
-use Rattle.spnego_core.specs.InitMech.{cred_for}
+use Rattle.spnego_core.specs.InitMech.{ticket_for}
 use Rattle.world_laws.specs.State.{World}
 
 -- the moment, the names, the hash and the subkey of a request have a spelling
 abbrev pub IsSpelled : MechCred → ℕ → List ℕ → Option (List ℕ) → Type 0
-IsSpelled (creds.Kerberos credential) stamp draws bindings =
+IsSpelled (creds.Kerberos name credential) stamp draws bindings =
     authenticator.fits (authenticator_of credential stamp draws bindings) ≡ true
 IsSpelled (creds.Scram user password) stamp draws bindings = Unit {0}
 
@@ -26,7 +25,7 @@ pub record IsSetup (own : PlainSetup) : Type 0 where
       → AreOctets 1 32768 application
   -- the moment, the names, the hash and the subkey of a request have a spelling
   pub spelled : (credential : Granted)
-      → cred_for own.list kinds.Kerberos ≡ Some (creds.Kerberos credential)
+      → ticket_for own.list ≡ Some credential
       → authenticator.fits (authenticator_of credential own.stamp own.draws own.bindings) ≡ true
 
 -- each initiator has such a setup, and each user's line of the acceptor is of its grammar

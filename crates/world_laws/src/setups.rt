@@ -25,7 +25,7 @@ fn tell_credential(
         (λ _. IsSpelled cred.now stamp draws.now (option_map (λ b. b.now) bindings.entry)) }
 {
     match cred {
-        MechCred::Kerberos(credential) => {
+        MechCred::Kerberos { credential, .. } => {
             ApInit::told_spelling(alloc, credential, stamp, draws, bindings)
         }
         MechCred::Scram { .. } => Ok(()),

@@ -4,7 +4,7 @@
 ghost use Rattle.std.specs.Prelude.{◌≡◌, ◌∷◌, [], true, map, replicate, IfOk, IfSome, None};
 ghost use Rattle.spnego_core.specs.InitMech.{is_own_list};
 ghost use Rattle.spnego_core.specs.Ends.{setup_of};
-ghost use Rattle.init_ends.specs.Arming.{IsBlankPair};
+ghost use Rattle.init_ends.specs.Arming.{AreStandard};
 ghost use Rattle.init_ends.specs.Ends.{setup_means, setup_by};
 ghost use Rattle.init_ends.specs.Plain.{objects_of};
 ghost use Rattle.world_laws.specs.Worlds.{world_means, IsWorld};
@@ -23,8 +23,11 @@ fn copied(alloc: Global, cred: &MechCred) -> Result<MechCred, NoMemory>
     ensures { IfOk result (λ copy. copy ≡ cred.now) }
 {
     match cred {
-        MechCred::Kerberos(credential) => match credential.copied(alloc) {
-            Ok(copy) => Ok(MechCred::Kerberos(copy)),
+        MechCred::Kerberos { name, credential } => match credential.copied(alloc) {
+            Ok(copy) => Ok(MechCred::Kerberos {
+                name: *name,
+                credential: copy,
+            }),
             Err(no_memory) => Err(no_memory),
         },
         MechCred::Scram { user, password } => login(alloc, user.as_str(), password.as_str()),
@@ -98,7 +101,7 @@ pub fn begin(
     stamp: Moment,
     draw: u8,
 ) -> Result<Begun, NoMemory>
-    requires blank { IsBlankPair (map meaning mechs.items) }
+    requires blank { AreStandard (map meaning mechs.items) }
     requires list { is_own_list list ≡ true }
     ensures same { IfOk result
         (λ begun. setup_means meaning begun.own ≡ objects_of (setup_of begun.facts)) }
@@ -183,7 +186,7 @@ fn world_of(alloc: Global, book: OwnSeat, first: Begun, second: Begun) -> Result
 
 /// The initiator of another user, by another password. `mechs` has one blank object of Kerberos and one of SCRAM.
 pub fn other(alloc: Global, mechs: Vec<Box<dyn Mech>>, start: Moment) -> Result<Begun, NoMemory>
-    requires { IsBlankPair (map meaning mechs.items) }
+    requires { AreStandard (map meaning mechs.items) }
     ensures same { IfOk result
         (λ begun. setup_means meaning begun.own ≡ objects_of (setup_of begun.facts)) }
     ensures own { IfOk result (λ begun. is_own_list begun.facts.list ≡ true) }

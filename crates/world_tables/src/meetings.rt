@@ -9,7 +9,8 @@ ghost use Rattle.world_laws.specs.Worlds.{world_means, IsWorld};
 
 use crate::begun::{Begun, begin, book, list_of};
 use accept_book::OwnSeat;
-use mech_objects::{KerberosMech, Mech, ScramMech};
+use init_ends::standard_mechs;
+use mech_objects::{KerberosMech, ScramMech};
 use sec_base::{Items, Moment, NoMemory, Octets};
 use spnego_core::{AcceptSetup, MechCred};
 use std::alloc::Global;
@@ -103,9 +104,10 @@ fn carry_between(
 ) -> Result<Carried, NoMemory>
     requires { is_own_list list ≡ true }
 {
-    let mut mechs: Vec<Box<dyn Mech>> = Vec::with_capacity(alloc, 2)?;
-    mechs.push_reserved(Box::new(alloc, KerberosMech::new(alloc))?);
-    mechs.push_reserved(Box::new(alloc, ScramMech::new(alloc))?);
+    let kerberos = Box::new(alloc, KerberosMech::new(alloc))?;
+    let microsoft = Box::new(alloc, KerberosMech::new_ms(alloc))?;
+    let scram = Box::new(alloc, ScramMech::new(alloc))?;
+    let mechs = standard_mechs(alloc, kerberos, microsoft, scram)?;
     let book = book(alloc, setup, now)?;
     let begun = begin(alloc, mechs, list, now, 7)?;
     carry(alloc, book, begun, count, now)

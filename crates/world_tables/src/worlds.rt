@@ -7,7 +7,8 @@ ghost use Rattle.world_laws.specs.Events.{IsProper};
 ghost use Rattle.world_laws.specs.Worlds.{world_means, IsWorld};
 
 use crate::begun::{Given, begin, begun_by, given_by, other};
-use mech_objects::{KerberosMech, Mech, ScramMech};
+use init_ends::standard_mechs;
+use mech_objects::{KerberosMech, ScramMech};
 use rpc_msgs::{Reply, read_reply};
 use sec_base::{Moment, NoMemory, Octets};
 use std::alloc::Global;
@@ -329,12 +330,14 @@ fn go_over(
     requires { is_own_list given.list ≡ true }
 {
     let alloc = cells.alloc();
-    let mut mechs: Vec<Box<dyn Mech>> = Vec::with_capacity(alloc, 2)?;
-    mechs.push_reserved(Box::new(alloc, KerberosMech::new(alloc))?);
-    mechs.push_reserved(Box::new(alloc, ScramMech::new(alloc))?);
-    let mut others: Vec<Box<dyn Mech>> = Vec::with_capacity(alloc, 2)?;
-    others.push_reserved(Box::new(alloc, KerberosMech::new(alloc))?);
-    others.push_reserved(Box::new(alloc, ScramMech::new(alloc))?);
+    let kerberos = Box::new(alloc, KerberosMech::new(alloc))?;
+    let microsoft = Box::new(alloc, KerberosMech::new_ms(alloc))?;
+    let scram = Box::new(alloc, ScramMech::new(alloc))?;
+    let mechs = standard_mechs(alloc, kerberos, microsoft, scram)?;
+    let kerberos = Box::new(alloc, KerberosMech::new(alloc))?;
+    let microsoft = Box::new(alloc, KerberosMech::new_ms(alloc))?;
+    let scram = Box::new(alloc, ScramMech::new(alloc))?;
+    let others = standard_mechs(alloc, kerberos, microsoft, scram)?;
     let Given { list, setup, start } = given;
     let first = begin(alloc, mechs, list, start, 7)?;
     let second = other(alloc, others, start)?;

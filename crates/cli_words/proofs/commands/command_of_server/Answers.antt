@@ -12,8 +12,9 @@ returns c =
     let e3 = c.in_ok-command-3.ensures ∙ ap (λ (a : App). with_rule a (option_rule (codes "--verifiers") (codes "verifiers"))) e2 in
     let e4 = c.in_ok-command-4.ensures ∙ ap (λ (a : App). with_rule a (option_rule (codes "--name") (codes "name"))) e3 in
     let e5 = c.in_ok-command-5.ensures ∙ ap (λ (a : App). with_rule a (option_rule (codes "--bind") (codes "bind"))) e4 in
-    let e6 = c.in_ok-command-6.ensures ∙ ap (λ (a : App). with_rule a (option_rule (codes "--window") (codes "window"))) e5 in
-    let e7 = c.in_ok-command-7.ensures ∙ ap (λ (a : App). with_rule a (option_rule (codes "--connections") (codes "connections"))) e6 in
-    let e8 = c.in_ok-command-8.ensures ∙ ap (λ (a : App). with_rule a (option_rule (codes "--contexts") (codes "contexts"))) e7 in
-    let e9 = c.in_ok-command-9.ensures ∙ ap (λ (a : App). with_rule a (option_rule (codes "--marks") (codes "marks"))) e8 in
-    IfOk-weaker c.with_option-9.result _ _ (λ more e. e ∙ ap (λ (a : App). with_rule a (option_rule (codes "--log") (codes "log"))) e9) c.with_option-9.ensures
+    let e6 = c.in_ok-command-6.ensures ∙ ap (λ (a : App). with_rule a (option_rule (codes "--offer") (codes "offer"))) e5 in
+    let e7 = c.in_ok-command-7.ensures ∙ ap (λ (a : App). with_rule a (option_rule (codes "--window") (codes "window"))) e6 in
+    let e8 = c.in_ok-command-8.ensures ∙ ap (λ (a : App). with_rule a (option_rule (codes "--connections") (codes "connections"))) e7 in
+    let e9 = c.in_ok-command-9.ensures ∙ ap (λ (a : App). with_rule a (option_rule (codes "--contexts") (codes "contexts"))) e8 in
+    let e10 = c.in_ok-command-10.ensures ∙ ap (λ (a : App). with_rule a (option_rule (codes "--marks") (codes "marks"))) e9 in
+    IfOk-weaker c.with_option-10.result _ _ (λ more e. e ∙ ap (λ (a : App). with_rule a (option_rule (codes "--log") (codes "log"))) e10) c.with_option-10.ensures

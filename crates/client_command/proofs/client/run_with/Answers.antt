@@ -1,4 +1,4 @@
-use Rattle.std.proofs.Common.{◌≡◌, ◌∙◌, inr, sym, List, Result, Ok, Err}
+use Rattle.std.proofs.Common.{◌≡◌, ◌∙◌, inr, List, Result, Ok, Err}
 use Rattle.spnego_core.specs.declared.setup.MechCred.{MechCred}
 use Rattle.client_command.proofs.Asking.{asked-begun}
 use Rattle.client_command.proofs.Ended.{reported-begun, reported-fault, stops-never}

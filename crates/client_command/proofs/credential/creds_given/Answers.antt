@@ -1,5 +1,6 @@
 use Rattle.std.proofs.Common.{IsTrue, Ok, Err, refl, arith}
 use Rattle.client_command.proofs.Asking.{asked-cache, asked-password, asked-both}
+use Rattle.client_command.proofs.Listing.{own-given}
 use Rattle.client_command.proofs.Loading.{with-cache}
 use Rattle.client_command.proofs.credential.creds_given.Goals as goal
 
@@ -44,3 +45,7 @@ returns-clause-read g c =
     (g.F.Shelf.faults c.args.shelf.now) (g.F.Shelf.faults c.cache_given.new.shelf) (g.F.Shelf.faults c.password_given.new.shelf)
     c.args.sources.now c.in-Ok.cache (Ok c.in-Ok-password_given.password) c.creds_with.result
     c.in-Ok.ensures.read c.in-Ok.ensures.tells c.in-Ok.ensures.files c.in-Ok-password_given.ensures.read c.in-Ok-password_given.ensures.faults c.creds_with.ensures.value
+
+pub returns-clause-own : goal.returns-clause-own
+returns-clause-own g c =
+    own-given c.creds_with.result c.args.sources.now c.in-Ok.cache c.in-Ok-password_given.password c.creds_with.ensures.value c.requires

@@ -1,6 +1,5 @@
 use Rattle.std.proofs.Common.{◌∙◌, sym, ap, arith}
 use Rattle.std.proofs.lemmas.Str.Pattern.{strip_suffix_char}
-use Rattle.std.specs.Option.{MatchOption}
 use Rattle.std.proofs.Common.{Some, None}
 use Rattle.client_command.specs.Credentials.{less_feed}
 use Rattle.client_command.proofs.Password.{fed, unfed}

@@ -1,6 +1,5 @@
-use Rattle.std.proofs.Common.{◌∙◌, refl, sym, ap, ℕ, List}
+use Rattle.std.proofs.Common.{◌∙◌, refl}
 use Rattle.cli_base.specs.declared.files.FileStop.TheVariants.{Bad}
-use Rattle.client_command.specs.Credentials.{less_feed}
 use Rattle.client_command.proofs.Password.{texts, no-text}
 use Rattle.client_command.proofs.files.password_by.Goals as goal
 

@@ -1,12 +1,12 @@
-use Rattle.std.proofs.Common.{◌∙◌, ap, sym, List, [], ◌∷◌, ◌++◌, map}
+use Rattle.std.proofs.Common.{◌∙◌, ap, sym, [], ◌∷◌}
 use Rattle.spnego_core.specs.InitMech as plain_lists
 use Rattle.mech_objects.specs.Meaning.{MechSays}
-use Rattle.drill_plan.proofs.Arming.{kind-is, armed-is}
+use Rattle.drill_plan.proofs.Arming.{kind-is, own-is, armed-is}
 use Rattle.drill_plan.proofs.setting.armed_one.Goals as goal
 
 pub armed_with-requires-clause-same : goal.armed_with-requires-clause-same
 armed_with-requires-clause-same g c =
-    ap plain_lists.kind_of c.in_ok-cred.ensures.is ∙ (kind-is c.args.kind ∙ sym (ap (λ (m : MechSays). m.kind) c.requires))
+    ap plain_lists.kind_of c.in_ok-cred.ensures.is ∙ (kind-is c.args.kind ∙ sym (ap (λ (m : MechSays). m.kind) c.requires ∙ own-is c.args.kind))
 
 pub armed_with-requires-clause-blank : goal.armed_with-requires-clause-blank
 armed_with-requires-clause-blank g c = ap (λ (m : MechSays). m.stage) c.requires

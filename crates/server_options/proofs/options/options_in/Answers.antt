@@ -13,8 +13,8 @@ pub returns-in-Ok-clause-value : goal.returns-in-Ok-clause-value
 unfolding options_in
 returns-in-Ok-clause-value c =
     let words = c.args.line.now in
-    let make : ℕ → ℕ → ℕ → ℕ → ℕ → Options = λ w k n m l. record { files = c.in_ok-files.files; name = c.in_ok-name.name; bindings = c.in_ok-bindings.bindings; window = w; connections = k; contexts = n; marks = m; log = l } in
-    rw (c.in_ok-files.ensures, c.in_ok-name.ensures, c.in_ok-bindings.ensures)
+    let make : ℕ → ℕ → ℕ → ℕ → ℕ → Options = λ w k n m l. record { files = c.in_ok-files.files; name = c.in_ok-name.name; bindings = c.in_ok-bindings.bindings; offer = c.in_ok-offer.offer; window = w; connections = k; contexts = n; marks = m; log = l } in
+    rw (c.in_ok-files.ensures, c.in_ok-name.ensures, c.in_ok-bindings.ensures, c.in_ok-offer.ensures)
     (joined (number_given 1 1024 128 (value_of (codes "--window") words)) (number_given 1 1000000 1000 (value_of (codes "--connections") words)) (number_given 1 65536 1024 (value_of (codes "--contexts") words)) (number_given 1 1000000 65536 (value_of (codes "--marks") words)) (number_given 16 4000000 262144 (value_of (codes "--log") words)) make
     ∙ ap (λ (r : Result Numbers WordsRefusal). r >>= made_of make) (sym c.in-Ok.ensures.value))
 
@@ -22,7 +22,7 @@ pub returns-in-Err-clause-value : goal.returns-in-Err-clause-value
 unfolding options_in
 returns-in-Err-clause-value c = λ _.
     let words = c.args.line.now in
-    let make : ℕ → ℕ → ℕ → ℕ → ℕ → Options = λ w k n m l. record { files = c.in_ok-files.files; name = c.in_ok-name.name; bindings = c.in_ok-bindings.bindings; window = w; connections = k; contexts = n; marks = m; log = l } in
-    rw (c.in_ok-files.ensures, c.in_ok-name.ensures, c.in_ok-bindings.ensures)
+    let make : ℕ → ℕ → ℕ → ℕ → ℕ → Options = λ w k n m l. record { files = c.in_ok-files.files; name = c.in_ok-name.name; bindings = c.in_ok-bindings.bindings; offer = c.in_ok-offer.offer; window = w; connections = k; contexts = n; marks = m; log = l } in
+    rw (c.in_ok-files.ensures, c.in_ok-name.ensures, c.in_ok-bindings.ensures, c.in_ok-offer.ensures)
     (joined (number_given 1 1024 128 (value_of (codes "--window") words)) (number_given 1 1000000 1000 (value_of (codes "--connections") words)) (number_given 1 65536 1024 (value_of (codes "--contexts") words)) (number_given 1 1000000 65536 (value_of (codes "--marks") words)) (number_given 16 4000000 262144 (value_of (codes "--log") words)) make
     ∙ ap (λ (r : Result Numbers WordsRefusal). r >>= made_of make) (sym c.in-Err.ensures.value))

@@ -1,0 +1,79 @@
+-- A list that is read value by value, and the credentials of listed names.
+use Rattle.std.proofs.Common.{◌≡◌, ◌∙◌, ℕ, true, List, [], ◌∷◌, ◌++◌, map, Option, Some, None, Result, Ok, Err, refl, ap, sym, subst}
+use Rattle.std.specs.Prelude.{IfOk}
+use Rattle.sec_base.specs.Answers.{Gives}
+use Rattle.gss_base.specs.Mech.{oid_named}
+use Rattle.gss_base.specs.Name.{Name}
+use Rattle.gss_base.specs.declared.mech.KerberosName.{KerberosName}
+use Rattle.gss_base.specs.declared.mech.MechName.{MechName}
+use Rattle.gss_base.specs.declared.mech.MechName.TheVariants as names
+use Rattle.krb_files.specs.Ccache.{granted_for}
+use Rattle.krb_files.specs.Granted.{Granted, Cache}
+use Rattle.spnego_core.specs.Choice.{are_few}
+use Rattle.spnego_core.specs.InitMech.{name_of, oid_listed, is_own_list}
+use Rattle.spnego_core.specs.declared.setup.MechCred.{MechCred}
+use Rattle.client_command.specs.Credentials.{◌>>=◌, or_none, ticket_for, login_of, cred_for, listed, creds_with}
+use Rattle.client_command.specs.Mechs.{is_list}
+use Rattle.client_command.specs.declared.ending.RunEnd.{RunEnd}
+use Rattle.client_command.specs.declared.ending.RunEnd.TheVariants.{NoMemory}
+use Rattle.client_command.specs.declared.words.Sources.{Sources}
+
+-- a list that was read behind values that stand already
+abbrev pub behind : {A E : Type 0} → List A → Result (List A) E → Result (List A) E
+behind before (Ok list) = Ok (before ++ list)
+behind before (Err refusal) = Err refusal
+
+-- ---- each credential has the name under which it is listed
+
+abbrev Names : MechName → Result MechCred RunEnd → Type 0
+Names name (Ok cred) = name_of cred ≡ name
+Names name (Err end) = Unit {0}
+
+some-names : (name : KerberosName) (found : Option Granted) → Names (names.Kerberos name) (or_none name found)
+some-names name None = tt
+some-names name (Some granted) = refl
+
+ticket-names : (name : KerberosName) (cache : Option Cache) (server : Option Name) → Names (names.Kerberos name) (ticket_for name cache server)
+ticket-names name (Some cache) (Some server) = some-names name (granted_for server cache.credentials)
+ticket-names name (Some cache) None = tt
+ticket-names name None server = tt
+
+login-names : (user password : Option (List ℕ)) → Names names.Scram (login_of user password)
+login-names (Some user) (Some password) = refl
+login-names (Some user) None = tt
+login-names None password = tt
+
+cred-names : (sources : Sources) (cache : Option Cache) (password : Option (List ℕ)) (name : MechName) → Names name (cred_for sources cache password name)
+cred-names sources cache password (names.Kerberos name) = ticket-names name cache sources.server
+cred-names sources cache password names.Scram = login-names sources.user password
+
+-- ---- so have those of a list
+
+abbrev AreNamed : List MechName → Result (List MechCred) RunEnd → Type 0
+AreNamed list (Ok creds) = map name_of creds ≡ list
+AreNamed list (Err end) = Unit {0}
+
+one-more : (name : MechName) (list : List MechName) (one : Result MechCred RunEnd) (rest : Result (List MechCred) RunEnd)
+    → Names name one → AreNamed list rest → AreNamed (name ∷ list) (one >>= λ cred. rest >>= λ creds. Ok (cred ∷ creds))
+one-more name list (Ok cred) (Ok creds) is are = ap (λ (n : MechName). n ∷ map name_of creds) is ∙ ap (λ (ns : List MechName). name ∷ ns) are
+one-more name list (Ok cred) (Err end) is are = tt
+one-more name list (Err end) rest is are = tt
+
+all-named : (found : MechName → Result MechCred RunEnd) → ((name : MechName) → Names name (found name)) → (list : List MechName) → AreNamed list (listed found list)
+all-named found each [] = refl
+all-named found each (name ∷ list) = one-more name list (found name) (listed found list) (each name) (all-named found each list)
+
+-- ---- and they are an initiator's
+
+by-names : (creds : List MechCred) → map oid_named (map name_of creds) ≡ map oid_listed creds
+by-names [] = refl
+by-names (cred ∷ creds) = ap (λ (oids : List (List ℕ)). oid_listed cred ∷ oids) (by-names creds)
+
+own-list : (creds : List MechCred) (list : List MechName) → map name_of creds ≡ list → is_list list ≡ true → is_own_list creds ≡ true
+own-list creds list named few = ap are_few (sym (by-names creds) ∙ ap (λ (ns : List MechName). map oid_named ns) named) ∙ few
+
+pub own-given : (result : Result (List MechCred) RunEnd) (sources : Sources) (cache : Option Cache) (password : Option (List ℕ))
+    → Gives NoMemory (λ list. list) result (creds_with sources cache password) → is_list sources.mechs ≡ true → IfOk result (λ list. is_own_list list ≡ true)
+own-given (Ok creds) sources cache password given few =
+    own-list creds sources.mechs (subst (λ (r : Result (List MechCred) RunEnd). AreNamed sources.mechs r) given (all-named (cred_for sources cache password) (cred-names sources cache password) sources.mechs)) few
+own-given (Err end) sources cache password given few = tt

@@ -1,0 +1,8 @@
+use Rattle.std.proofs.Common.{◌≡◌, drop}
+use Rattle.client_command.specs.Credentials.{cred_for, listed}
+use Rattle.client_command.proofs.Listing.{behind}
+use Rattle.client_command.proofs.credential.creds_with.Given as goal
+
+abbrev pub invariant-loop-name : goal.invariant-loop-name
+invariant-loop-name l =
+    behind l.list.items (listed (cred_for l.sources l.cache l.password) (drop l.name-index l.sources.mechs)) ≡ listed (cred_for l.sources l.cache l.password) l.sources.mechs
