@@ -8,8 +8,6 @@ mod four;
 mod pieces;
 mod rounds;
 mod schedule;
-#[cfg(test)]
-mod tests;
 mod vectors;
 
 pub use four::{advance4, digest4, finish4, first_states, lane_words, lanes_of};

@@ -4,6 +4,3 @@
 mod shared_key;
 
 pub use shared_key::SharedKeyMech;
-
-#[cfg(test)]
-mod tests;

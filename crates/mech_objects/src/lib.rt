@@ -12,6 +12,3 @@ pub use ask::{MechAsk, MechMove, Stage};
 pub use laws::prove_standard;
 pub use mech::Mech;
 pub use objects::{KerberosMech, ScramMech};
-
-#[cfg(test)]
-mod tests;

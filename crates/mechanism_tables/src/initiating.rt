@@ -3,15 +3,16 @@
 ghost use Rattle.std.specs.Prelude.{◌≡◌, IfSome, map, true};
 ghost use Rattle.spnego_core.specs.InitMech.{is_own_list};
 ghost use Rattle.init_ends.specs.Arming.{AreStandard};
-ghost use Rattle.init_ends.specs.Ends.{end_by, holds, holds_after, step_by};
+ghost use Rattle.init_ends.specs.Ends.{end_by, holds, holds_after, setup_by, step_by};
+ghost use Rattle.init_ends.specs.Objects as own_objects;
+ghost use Rattle.table_setting.specs.Handed.{AreHanded};
 
 use crate::accepting::{say_more, token};
 use init_ends::{InitEnd, InitSetup, InitStep, standard_mechs};
-use mech_objects::{KerberosMech, Mech, ScramMech};
-use sec_base::NoMemory;
+use mech_objects::Mech;
 use spnego_core::{InitFacts, Outcome};
 use table_rows::{Cells, Said};
-use table_setting::{Setting, saying};
+use table_setting::{Objects, Setting, make_objects, saying};
 
 /// Says that the context stands.
 fn say_done(said: &mut Said, outcome: &Outcome) {
@@ -85,17 +86,10 @@ fn followed(cells: &mut Cells<'_>, said: &mut Said, end: InitEnd)
     drop(next);
 }
 
-/// Says the first token by these objects, and `reply=verdict` for each reply that is left of a row behind the first token.
-fn talk_over(
-    cells: &mut Cells<'_>,
-    said: &mut Said,
-    mechs: Vec<Box<dyn Mech>>,
-    facts: InitFacts,
-) -> Result<(), NoMemory>
-    requires blank { AreStandard (map meaning mechs.items) }
-    requires list { is_own_list facts.list ≡ true }
+/// Says the first token of an initiator with this setup, and `reply=verdict` for each reply that is left of a row behind the first token.
+fn talk_from(cells: &mut Cells<'_>, said: &mut Said, setup: InitSetup)
+    requires { own_objects.is_own_list (setup_by setup meaning).list ≡ true }
 {
-    let setup = InitSetup::armed(cells.alloc(), mechs, facts)?;
     match InitEnd::start(cells.alloc(), setup) {
         Err(refusal) => saying::refusal(said, refusal),
         Ok((end, first)) => {
@@ -103,27 +97,43 @@ fn talk_over(
             followed(cells, said, end);
         }
     }
-    Ok(())
+}
+
+/// The same by these objects, which are armed with what the facts list.
+fn talk_over(cells: &mut Cells<'_>, said: &mut Said, mechs: Vec<Box<dyn Mech>>, facts: InitFacts)
+    requires blank { AreStandard (map meaning mechs.items) }
+    requires list { is_own_list facts.list ≡ true }
+{
+    match InitSetup::armed(cells.alloc(), mechs, facts) {
+        Ok(setup) => talk_from(cells, said, setup),
+        Err(_) => said.starve(),
+    }
 }
 
 /// The same by objects of Kerberos under both its names, and of SCRAM.
-fn talk_by_all(cells: &mut Cells<'_>, said: &mut Said, facts: InitFacts) -> Result<(), NoMemory>
-    requires { is_own_list facts.list ≡ true }
+fn talk_by_all(cells: &mut Cells<'_>, said: &mut Said, objects: Objects, facts: InitFacts)
+    requires objects { AreHanded objects }
+    requires list { is_own_list facts.list ≡ true }
 {
-    let alloc = cells.alloc();
-    let kerberos = Box::new(alloc, KerberosMech::new(alloc))?;
-    let microsoft = Box::new(alloc, KerberosMech::new_ms(alloc))?;
-    let scram = Box::new(alloc, ScramMech::new(alloc))?;
-    let mechs = standard_mechs(alloc, kerberos, microsoft, scram)?;
-    talk_over(cells, said, mechs, facts)
+    let Objects {
+        kerberos,
+        microsoft,
+        scram,
+    } = objects;
+    let mechs = standard_mechs(cells.alloc(), kerberos, microsoft, scram).ok();
+    match mechs.zip(Some(facts)) {
+        Some((mechs, facts)) => talk_over(cells, said, mechs, facts),
+        None => said.starve(),
+    }
 }
 
 /// Says the first token of an initiator with these facts, and `reply=verdict` for each reply that is left of a row behind the first token.
 pub fn talk(cells: &mut Cells<'_>, said: &mut Said, facts: InitFacts)
     requires { is_own_list facts.list ≡ true }
 {
-    if talk_by_all(cells, said, facts).is_err() {
-        said.starve();
+    match make_objects(cells.alloc()).zip(Some(facts)) {
+        Some((objects, facts)) => talk_by_all(cells, said, objects, facts),
+        None => said.starve(),
     }
 }
 

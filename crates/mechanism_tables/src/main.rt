@@ -4,6 +4,7 @@
 mod accepting;
 mod initiating;
 mod kerberos;
+mod objects;
 mod peers;
 mod scram_exchanges;
 mod scram_initiator;
@@ -18,7 +19,7 @@ use std::{fs, io};
 use table::{Table, compared};
 use table_setting::Setting;
 
-const TABLES: [Table; 16] = [
+const TABLES: [Table; 17] = [
     Table::Requests,
     Table::Replies,
     Table::Faults,
@@ -26,6 +27,7 @@ const TABLES: [Table; 16] = [
     Table::Stamps,
     Table::ScramExchanges,
     Table::ScramInitiator,
+    Table::Objects,
     Table::ScramTexts,
     Table::Verifiers,
     Table::MadeVerifiers,

@@ -1,8 +1,8 @@
 //! The tables, and the comparison of one with what the calls answer.
 
 use crate::{
-    accepting, initiating, kerberos, peers, scram_exchanges, scram_initiator, scram_texts, stamps,
-    third, tickets, verifiers,
+    accepting, initiating, kerberos, objects, peers, scram_exchanges, scram_initiator, scram_texts,
+    stamps, third, tickets, verifiers,
 };
 use std::alloc::Global;
 use table_rows::{Cells, Rows, Said};
@@ -18,6 +18,7 @@ pub enum Table {
     Stamps,
     ScramExchanges,
     ScramInitiator,
+    Objects,
     ScramTexts,
     Verifiers,
     MadeVerifiers,
@@ -40,6 +41,7 @@ impl Table {
             Table::Stamps => "stamps.txt",
             Table::ScramExchanges => "scram_exchanges.txt",
             Table::ScramInitiator => "scram_initiator.txt",
+            Table::Objects => "objects.txt",
             Table::ScramTexts => "scram_texts.txt",
             Table::Verifiers => "verifiers.txt",
             Table::MadeVerifiers => "made_verifiers.txt",
@@ -60,6 +62,7 @@ impl Table {
                 | Table::Tickets
                 | Table::Stamps
                 | Table::ScramInitiator
+                | Table::Objects
                 | Table::Third
                 | Table::FirstTokens
         )
@@ -74,6 +77,7 @@ impl Table {
             Table::Stamps => stamps::answer(cells, said),
             Table::ScramExchanges => scram_exchanges::answer(cells, said),
             Table::ScramInitiator => scram_initiator::answer(cells, said),
+            Table::Objects => objects::answer(cells, said),
             Table::ScramTexts => scram_texts::answer(cells, said),
             Table::Verifiers => verifiers::read(cells, said),
             Table::MadeVerifiers => verifiers::made(cells, said),

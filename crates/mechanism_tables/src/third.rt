@@ -1,21 +1,22 @@
 //! A third object, of a mechanism that is no standard's, first in an initiator's list: the acceptor doesn't know it and chooses another, whose
 //! object then begins.
 
-ghost use Rattle.std.specs.Prelude.{◌≡◌, IfOk, IfSome, map, true};
+ghost use Rattle.std.specs.Prelude.{◌≡◌, ◌≤◌, ◌∷◌, [], IfSome, map, true, vec_capacity};
 ghost use Rattle.gss_base.specs.declared.mech.KerberosName.TheVariants.{Standard};
 ghost use Rattle.gss_base.specs.declared.mech.MechKind.TheVariants as kinds;
 ghost use Rattle.gss_base.specs.declared.mech.MechName.TheVariants as names;
-ghost use Rattle.spnego_core.specs.InitMech.{is_own_list, kind_of};
+ghost use Rattle.spnego_core.specs.InitMech.{kind_of};
 ghost use Rattle.mech_objects.specs.Standard.{blank_of};
-ghost use Rattle.mech_objects.specs.Meaning.{blank};
+ghost use Rattle.mech_objects.specs.Meaning.{armed, blank};
 ghost use Rattle.mech_examples.specs.SharedKey.{example_oid, shared_key};
 ghost use Rattle.init_ends.specs.Ends.{end_by, holds};
+ghost use Rattle.init_ends.specs.Objects.{is_own_list};
 
 use gss_base::KerberosName;
 use init_ends::{InitEnd, InitSetup, InitStep, armed_with};
 use mech_examples::SharedKeyMech;
 use mech_objects::{KerberosMech, Mech, MechAsk};
-use sec_base::{Moment, NoMemory, Octets, Text};
+use sec_base::{Moment, Octets, Text};
 use spnego_core::{AcceptEnd, AcceptSetup, AcceptStep, MechCred};
 use std::alloc::Global;
 use table_rows::{Cells, Said};
@@ -104,24 +105,32 @@ fn exchange(cells: &mut Cells<'_>, said: &mut Said, host: &AcceptSetup, ends: Fu
     }
 }
 
-/// Says what both ends come to, where the initiator's list is the object of the shared key and then that of Kerberos.
-fn talk_over(
-    cells: &mut Cells<'_>,
-    said: &mut Said,
-    host: &AcceptSetup,
+/// A list of the object of the shared key and then that of Kerberos, each with its credential. `room` has room for both.
+fn list_of(
+    room: Vec<Box<dyn Mech>>,
     objects: (Box<dyn Mech>, Box<dyn Mech>),
     creds: (MechCred, MechCred),
-) -> Result<(), NoMemory>
+) -> Vec<Box<dyn Mech>>
+    requires none { room.items ≡ [] }
+    requires room { 2 ≤ vec_capacity room }
     requires shared { meaning objects.0 ≡ blank kinds.Scram example_oid shared_key }
     requires kerberos { meaning objects.1 ≡ blank_of (names.Kerberos Standard) }
     requires login { kind_of creds.0 ≡ kinds.Scram }
     requires ticket { kind_of creds.1 ≡ kinds.Kerberos }
+    ensures { map meaning result.items
+        ≡ armed (blank kinds.Scram example_oid shared_key) creds.0
+        ∷ armed (blank_of (names.Kerberos Standard)) creds.1 ∷ [] }
 {
-    let (shared, kerberos) = objects;
-    let (login, ticket) = creds;
-    let mut list = Vec::with_capacity(cells.alloc(), 2)?;
-    list.push_reserved(armed_with(shared, login));
-    list.push_reserved(armed_with(kerberos, ticket));
+    let mut list = room;
+    list.push_reserved(armed_with(objects.0, creds.0));
+    list.push_reserved(armed_with(objects.1, creds.1));
+    list
+}
+
+/// Says what both ends come to, where the initiator's list is the object of the shared key and then that of Kerberos.
+fn talk_over(cells: &mut Cells<'_>, said: &mut Said, host: &AcceptSetup, list: Vec<Box<dyn Mech>>)
+    requires { is_own_list (map meaning list.items) ≡ true }
+{
     let ask = MechAsk {
         stamp: Moment::new(1_000_000, 0).unwrap_or(Moment::start()),
         draws: own_draws(),
@@ -131,23 +140,24 @@ fn talk_over(
         Err(refusal) => saying::refusal(said, refusal),
         Ok((end, token)) => exchange(cells, said, host, (end, AcceptEnd::new(), token)),
     }
-    Ok(())
 }
 
-/// The same with the objects made.
-fn talk(
-    cells: &mut Cells<'_>,
-    said: &mut Said,
-    host: &AcceptSetup,
-    creds: (MechCred, MechCred),
-) -> Result<(), NoMemory>
+/// The same with the objects made, ahead of the credentials that they get.
+fn talk(cells: &mut Cells<'_>, said: &mut Said, host: &AcceptSetup, creds: (MechCred, MechCred))
     requires login { kind_of creds.0 ≡ kinds.Scram }
     requires ticket { kind_of creds.1 ≡ kinds.Kerberos }
 {
     let alloc = cells.alloc();
-    let shared: Box<dyn Mech> = Box::new(alloc, SharedKeyMech::new(alloc))?;
-    let kerberos: Box<dyn Mech> = Box::new(alloc, KerberosMech::new(alloc))?;
-    talk_over(cells, said, host, (shared, kerberos), creds)
+    let shared = Box::new(alloc, SharedKeyMech::new(alloc)).ok();
+    let kerberos = Box::new(alloc, KerberosMech::new(alloc)).ok();
+    let room = Vec::with_capacity(alloc, 2).ok();
+    match shared.zip(kerberos).zip(room).zip(Some(creds)) {
+        Some((((shared, kerberos), room), creds)) => {
+            let list = list_of(room, (shared, kerberos), creds);
+            talk_over(cells, said, host, list);
+        }
+        None => said.starve(),
+    }
 }
 
 /// The user's name and the shared key, and the ticket of `alice@R`.
@@ -172,9 +182,7 @@ pub fn answer(setting: &Setting, cells: &mut Cells<'_>, said: &mut Said) {
     let alloc = cells.alloc();
     match setting.acceptor(alloc, letters).zip(creds(setting, alloc)) {
         Some((host, creds)) => {
-            if talk(cells, said, &host, creds).is_err() {
-                said.starve();
-            }
+            talk(cells, said, &host, creds);
             drop(host);
         }
         None => cells.expect(false),

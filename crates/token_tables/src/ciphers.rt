@@ -1,6 +1,7 @@
-//! AES, ciphertext stealing, HMAC and Hi.
+//! AES, ciphertext stealing, SHA-1 in four lanes, HMAC and Hi.
 
 use aes_cts::AesKey;
+use lanes_sha1::digest4;
 use mac_sha1::{Hmac, hi};
 use table_rows::{Cells, Said};
 
@@ -81,4 +82,25 @@ pub fn sum(cells: &mut Cells<'_>, said: &mut Said) {
     } else {
         said.octets(&hi(password.as_slice(), salt.as_slice(), rounds));
     }
+}
+
+/// The cells of four messages: the digest of each, made side by side.
+pub fn digests(cells: &mut Cells<'_>, said: &mut Said) {
+    let messages = [
+        cells.octets(),
+        cells.octets(),
+        cells.octets(),
+        cells.octets(),
+    ];
+    let [first, second, third, fourth] = &messages;
+    let digests = digest4(&[
+        first.as_slice(),
+        second.as_slice(),
+        third.as_slice(),
+        fourth.as_slice(),
+    ]);
+    for digest in digests {
+        said.octets(&digest);
+    }
+    drop(messages);
 }

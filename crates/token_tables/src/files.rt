@@ -70,15 +70,27 @@ fn keys_found(said: &mut Said, keytab: &Keytab, server: &Principal, at: usize) -
     at
 }
 
+/// The same for the name of this text.
+fn named_keys(said: &mut Said, keytab: &Keytab, text: &str, at: usize) -> usize {
+    match Principal::parse(said.alloc(), text) {
+        Ok(server) => {
+            let at = keys_found(said, keytab, &server, at);
+            drop(server);
+            at
+        }
+        Err(_) => {
+            said.starve();
+            at
+        }
+    }
+}
+
 /// Says what a keytab has for all names.
 fn keytab_said(said: &mut Said, keytab: &Keytab) {
     said.word("Ok");
     let mut at = 0usize;
     for text in NAMES {
-        match Principal::parse(said.alloc(), text) {
-            Ok(server) => at = keys_found(said, keytab, &server, at),
-            Err(_) => said.starve(),
-        }
+        at = named_keys(said, keytab, text, at);
     }
     if at == 0 {
         said.word("-");
@@ -109,21 +121,36 @@ fn key_asked(parts: &mut Cells<'_>, said: &mut Said, keytab: &Keytab, server: &P
     }
 }
 
+/// Says what a keytab has for a name by the parts `number/type`, or for `serves`.
+fn name_asked(parts: &mut Cells<'_>, said: &mut Said, keytab: &Keytab, server: &Principal) {
+    if parts.rest() == Some("serves") {
+        said.word(if keytab.serves(server) { "yes" } else { "no" });
+    } else {
+        key_asked(parts, said, keytab, server);
+    }
+}
+
 /// Says what a keytab has for a question `name/number/type`, or for `name/serves`, and answers whether it is in that form.
 fn asked(said: &mut Said, keytab: &Keytab, question: &str) -> bool {
     let mut parts = Cells::new(said.alloc(), question, '/');
     let text = parts.text();
     match Principal::parse(said.alloc(), text.as_str()) {
         Ok(server) => {
-            if parts.rest() == Some("serves") {
-                said.word(if keytab.serves(&server) { "yes" } else { "no" });
-            } else {
-                key_asked(&mut parts, said, keytab, &server);
-            }
+            name_asked(&mut parts, said, keytab, &server);
+            drop(server);
         }
         Err(_) => parts.expect(false),
     }
     parts.are_well()
+}
+
+/// Says what a keytab has for questions with commas between them.
+fn all_asked(cells: &mut Cells<'_>, said: &mut Said, keytab: &Keytab, questions: &str) {
+    for (at, question) in questions.split(',').enumerate() {
+        said.listed(at);
+        let is_asked = asked(said, keytab, question);
+        cells.expect(is_asked);
+    }
 }
 
 /// The cells of a keytab and questions with commas between them: the answers.
@@ -131,11 +158,8 @@ pub fn finds(cells: &mut Cells<'_>, said: &mut Said) {
     let (octets, questions) = (cells.octets(), cells.word());
     match read_keytab(cells.alloc(), octets.as_slice()) {
         Ok(keytab) => {
-            for (at, question) in questions.split(',').enumerate() {
-                said.listed(at);
-                let is_asked = asked(said, &keytab, question);
-                cells.expect(is_asked);
-            }
+            all_asked(cells, said, &keytab, questions);
+            drop(keytab);
         }
         Err(_) => cells.expect(false),
     }
@@ -193,14 +217,22 @@ pub fn cache(cells: &mut Cells<'_>, said: &mut Said) {
     }
 }
 
+/// Says the credential for a server, or that there is none.
+fn granted_to(said: &mut Said, cache: &Ccache, server: &Principal) {
+    match cache.find(server) {
+        Some(credential) => granted(said, credential),
+        None => said.word("none"),
+    }
+}
+
 /// Says the owner of a cache and the credential for the server of this name.
 fn found(cells: &mut Cells<'_>, said: &mut Said, cache: &Ccache, text: &str) {
     name(said, cache.owner());
     match Principal::parse(cells.alloc(), text) {
-        Ok(server) => match cache.find(&server) {
-            Some(credential) => granted(said, credential),
-            None => said.word("none"),
-        },
+        Ok(server) => {
+            granted_to(said, cache, &server);
+            drop(server);
+        }
         Err(_) => cells.expect(false),
     }
 }

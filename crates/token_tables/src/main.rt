@@ -17,9 +17,10 @@ mod written;
 use std::{fs, io};
 use table::{Table, compared};
 
-const TABLES: [Table; 27] = [
+const TABLES: [Table; 28] = [
     Table::Blocks,
     Table::Stealing,
+    Table::Lanes,
     Table::Codes,
     Table::Sums,
     Table::Passwords,

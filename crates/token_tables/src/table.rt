@@ -9,6 +9,7 @@ use table_rows::{Cells, Rows, Said};
 pub enum Table {
     Blocks,
     Stealing,
+    Lanes,
     Codes,
     Sums,
     Passwords,
@@ -42,6 +43,7 @@ impl Table {
         match self {
             Table::Blocks => "blocks.txt",
             Table::Stealing => "stealing.txt",
+            Table::Lanes => "lanes.txt",
             Table::Codes => "codes.txt",
             Table::Sums => "sums.txt",
             Table::Passwords => "passwords.txt",
@@ -74,7 +76,8 @@ impl Table {
 impl Rows for Table {
     fn are_named(&self) -> bool {
         match self {
-            Table::Keys | Table::MicCases | Table::UnwrapCases | Table::Fields => true,
+            Table::Lanes | Table::Keys | Table::MicCases | Table::UnwrapCases => true,
+            Table::Fields => true,
             Table::MessageCases | Table::NegotiationCases | Table::Finds => true,
             Table::Credentials => true,
             _ => false,
@@ -85,6 +88,7 @@ impl Rows for Table {
         match *self {
             Table::Blocks => ciphers::block(cells, said),
             Table::Stealing => ciphers::stolen(cells, said),
+            Table::Lanes => ciphers::digests(cells, said),
             Table::Codes => ciphers::code(cells, said),
             Table::Sums => ciphers::sum(cells, said),
             Table::Passwords => keys::of_password(cells, said),
