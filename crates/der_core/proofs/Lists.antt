@@ -1,5 +1,5 @@
 -- Steps of the loops that read and write lists.
-use Rattle.std.proofs.Common.{◌≡◌, ℕ, zero, suc, ◌+◌, ◌-◌, ◌<◌, ◌≤◌, Bool, true, List, [], ◌∷◌, ◌++◌, length, get_or, drop, Result, Ok, Err, refl, sym, ap, subst, ◌∙◌, arith, append_assoc, add-one, drop-cons}
+use Rattle.std.proofs.Common.{◌≡◌, ℕ, zero, suc, ◌+◌, ◌-◌, ◌<◌, ◌≤◌, List, [], ◌∷◌, ◌++◌, length, get_or, drop, Result, Ok, Err, refl, sym, subst, ◌∙◌, arith, append_assoc, add-one, drop-cons}
 use Rattle.std.proofs.lemmas.List.{append-nil}
 use Rattle.der_core.specs.declared.refusal.DerRefusal.{DerRefusal}
 use Rattle.der_core.specs.Format.{Format, Input, Puts, ◌>>=◌}
@@ -74,3 +74,15 @@ front_more front v (Err e) = refl
 pub goes_on : {A : Type 0} (f : Format A) (n counter : ℕ) (i left : Input) (front : List A) (v : A) (whole : Result (List A) DerRefusal) → counter < n → 0 < length i.octets → f.read i ≡ Ok (v, left) → with_front front (many_of f (n - counter) i) ≡ whole → with_front (front ++ v ∷ []) (many_of f (n - (counter + 1)) left) ≡ whole
 goes_on f n counter i left front v whole lt some read before =
     front_more front v (many_of f (n - (counter + 1)) left) ∙ (rw (many_some f n counter i lt some, read) at before)
+
+-- all was read, and nothing is left
+pub ends : {A : Type 0} (f : Format A) (n counter : ℕ) (i : Input) (front : List A) (whole : Result (List A) DerRefusal) → n ≤ counter → end_at i ≡ Ok tt → with_front front (many_of f (n - counter) i) ≡ whole → whole ≡ Ok front
+ends f n counter i front whole past none before =
+    let no_more : n - counter ≡ 0 = omega arith in
+    sym (rw (no_more, none, append-nil front) at before)
+
+-- all was read, and something is left
+pub trails : {A : Type 0} (f : Format A) (n counter : ℕ) (i : Input) (front : List A) (whole : Result (List A) DerRefusal) (e : DerRefusal) → n ≤ counter → end_at i ≡ Err e → with_front front (many_of f (n - counter) i) ≡ whole → whole ≡ Err e
+trails f n counter i front whole e past left before =
+    let no_more : n - counter ≡ 0 = omega arith in
+    sym (rw (no_more, left) at before)

@@ -88,33 +88,34 @@ impl Writer {
         ensures stays { OnErr result (self.new ≡ self.old) }
     {
         if size < 128 {
-            self.octets.extend_from_slice(&[tag, size as u8])?;
+            self.put_raw(&[tag, size as u8])
         } else if size < 256 {
-            self.octets.extend_from_slice(&[tag, 129, size as u8])?;
+            self.put_raw(&[tag, 129, size as u8])
         } else if size < 65_536 {
-            self.octets
-                .extend_from_slice(&[tag, 130, (size / 256) as u8, (size % 256) as u8])?;
-        } else if size < 16_777_216 {
-            self.octets.extend_from_slice(&[
-                tag,
-                131,
-                (size / 65_536) as u8,
-                (size / 256 % 256) as u8,
-                (size % 256) as u8,
-            ])?;
-        } else if size < 4_294_967_296 {
-            self.octets.extend_from_slice(&[
-                tag,
-                132,
-                (size / 16_777_216) as u8,
-                (size / 65_536 % 256) as u8,
-                (size / 256 % 256) as u8,
-                (size % 256) as u8,
-            ])?;
+            self.put_raw(&[tag, 130, (size / 256) as u8, (size % 256) as u8])
         } else {
-            return Err(NoMemory);
+            self.put_long_header(tag, size)
         }
-        Ok(())
+    }
+
+    /// Adds a tag and a length of three octets or more.
+    #[tactic(auto, unfolding(crate::specs::Header::length_octets))]
+    fn put_long_header(&mut self, tag: u8, size: usize) -> Result<(), NoMemory>
+        requires { 65536 ≤ size }
+        ensures spells { OnOk result (self.new ≡ self.old ++ tag ∷ length_octets size) }
+        ensures small { OnOk result (size < 2 ^ 32) }
+        ensures stays { OnErr result (self.new ≡ self.old) }
+    {
+        let low = (size / 256 % 256) as u8;
+        let lowest = (size % 256) as u8;
+        if size < 16_777_216 {
+            self.put_raw(&[tag, 131, (size / 65_536) as u8, low, lowest])
+        } else if size < 4_294_967_296 {
+            let high = (size / 16_777_216) as u8;
+            self.put_raw(&[tag, 132, high, (size / 65_536 % 256) as u8, low, lowest])
+        } else {
+            Err(NoMemory)
+        }
     }
 
     /// Adds an OCTET STRING.

@@ -1,7 +1,7 @@
 -- The mechanisms and their object identifiers: Kerberos V5, RFC 4121 section 1
 -- (1.2.840.113554.1.2.2), and SCRAM-SHA-1, RFC 5802 section 8 (1.3.6.1.5.5.14). Microsoft's clients
--- put a second identifier before Kerberos's own, 1.2.840.48018.1.2.2 (MS-SPNG section 1.9); it is
--- another name of the same mechanism.
+-- put a second identifier before Kerberos's own, 1.2.840.48018.1.2.2; it is another name of the
+-- same mechanism.
 use Rattle.std.specs.Prelude.{◌≡◌, ◌⊎◌, ℕ, Bool, true, false, ◌||◌, List, [], ◌∷◌, Option}
 use Rattle.std.specs.Prelude.{None, Some, nat_eq, if◌then◌else◌}
 use Rattle.std.specs.Cmp.Lexicographic.{pointwise}

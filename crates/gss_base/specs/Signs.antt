@@ -1,6 +1,6 @@
 -- How a text names a principal: it is a row of signs.
 use Rattle.std.specs.Prelude.{◌≡◌, ℕ, ◌+◌, ◌-◌, Bool, true, false, ◌&&◌, not, nat_eq, List, [], ◌∷◌}
-use Rattle.std.specs.Prelude.{◌++◌, Result, Ok, Err, Vec, if◌then◌else◌}
+use Rattle.std.specs.Prelude.{◌++◌, Option, Some, None, Result, Ok, Err, Vec, if◌then◌else◌}
 use Rattle.gss_base.specs.Name.{Name}
 use Rattle.gss_base.specs.Principal.{is_mark, name_judged}
 use Rattle.gss_base.specs.declared.principal.NameRefusal.{NameRefusal}
@@ -8,6 +8,8 @@ use Rattle.gss_base.specs.declared.principal.NameRefusal.TheVariants.{Form, Part
 use Rattle.gss_base.specs.declared.principal.NameRefusal.TheVariants.{TooLong, NoMemory}
 use Rattle.gss_base.specs.declared.principal.Sign.{Sign}
 use Rattle.gss_base.specs.declared.principal.Sign.TheVariants.{Octet, Slash, At}
+use Rattle.gss_base.specs.declared.principal.Turn.{Turn}
+use Rattle.gss_base.specs.declared.principal.Turn.TheVariants.{Stands, Quotes, Faulty}
 
 -- this sign before those that follow, unless the text is refused behind it
 abbrev pub with_sign : Sign → Result (List Sign) ℕ → Result (List Sign) ℕ
@@ -30,6 +32,26 @@ signs_of false realm at (octet ∷ octets) =
     then (if realm then Err at else with_sign At (signs_of false true (at + 1) octets))
     else with_sign (if nat_eq octet 47 && not realm then Slash else Octet octet)
     (signs_of false realm (at + 1) octets)
+
+-- what one octet does; arguments as in `signs_of`
+abbrev pub turn_of : Bool → Bool → ℕ → ℕ → Turn
+turn_of true realm at octet = if is_mark octet then Stands (Octet octet) else Faulty (at - 1)
+turn_of false realm at octet =
+    if nat_eq octet 92 then Quotes
+    else if nat_eq octet 64 then (if realm then Faulty at else Stands At)
+    else Stands (if nat_eq octet 47 && not realm then Slash else Octet octet)
+
+-- whether the bare `@` was there, once this sign was read
+abbrev pub realm_behind : Bool → Sign → Bool
+realm_behind realm (Octet octet) = realm
+realm_behind realm Slash = realm
+realm_behind realm At = true
+
+-- the place that is refused where a text ends at the place `at`; arguments as in `signs_of`
+abbrev pub fault_at : Bool → Bool → ℕ → Option ℕ
+fault_at true realm at = Some (at - 1)
+fault_at false true at = None
+fault_at false false at = Some at
 
 -- what a function that reads the signs answers
 abbrev pub AreSigns : {A : Type 0} → Result (Vec Sign A) NameRefusal → Result (List Sign) ℕ → Type 0

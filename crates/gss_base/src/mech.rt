@@ -10,7 +10,7 @@ use sec_base::Oid;
 /// The content of Kerberos V5's object identifier, 1.2.840.113554.1.2.2 (RFC 4121 section 1).
 const KERBEROS: [u8; 9] = [0x2a, 0x86, 0x48, 0x86, 0xf7, 0x12, 0x01, 0x02, 0x02];
 
-/// The content of the object identifier that Microsoft's clients put before Kerberos's own, 1.2.840.48018.1.2.2 (MS-SPNG section 1.9).
+/// The content of the object identifier that Microsoft's clients put before Kerberos's own, 1.2.840.48018.1.2.2.
 const MS_KERBEROS: [u8; 9] = [0x2a, 0x86, 0x48, 0x82, 0xf7, 0x12, 0x01, 0x02, 0x02];
 
 /// The content of SCRAM-SHA-1's object identifier, 1.3.6.1.5.5.14 (RFC 5802 section 8).

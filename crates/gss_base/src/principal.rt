@@ -2,7 +2,7 @@
 
 ghost use Rattle.std.specs.Prelude.{◌≡◌, ℕ, List, Ok, ◌∷◌, ◌++◌, [], length, IfOk, OnOk};
 ghost use Rattle.std.specs.Prelude.{if◌then◌else◌, Some, None, true, false, nat_eq, nat_le, not};
-ghost use Rattle.std.specs.Prelude.{◌&&◌, IsUtf8};
+ghost use Rattle.std.specs.Prelude.{◌&&◌, IsUtf8, ◌<◌};
 ghost use Rattle.std.specs.List.{AllByRecursion};
 ghost use Rattle.sec_base.specs.Answers.{Gives};
 ghost use Rattle.gss_base.specs.declared.principal.Sign.TheVariants.{Octet, Slash};
@@ -10,6 +10,7 @@ ghost use Rattle.gss_base.specs.Principal.{is_mark, quoted, text_form, zero_from
 ghost use Rattle.gss_base.specs.Principal.{is_named};
 ghost use Rattle.gss_base.specs.SameName.{same_name, same_name_per};
 ghost use Rattle.gss_base.specs.Signs.{signs_of, AreSigns, parts_from, realm_of, parsed};
+ghost use Rattle.gss_base.specs.Signs.{turn_of, realm_behind, fault_at};
 
 use crate::label::Label;
 use sec_base::{Items, NoMemory, Text};
@@ -45,6 +46,17 @@ enum Sign {
     Slash,
     /// The `@` before the realm.
     At,
+}
+
+/// What one octet of a text of a name does.
+#[derive(Clone, Copy)]
+enum Turn {
+    /// It stands for this sign.
+    Stands(Sign),
+    /// It is a `\` that quotes the next octet.
+    Quotes,
+    /// The text is refused, at this place.
+    Faulty(usize),
 }
 
 fn is_mark_octet(octet: u8) -> bool
@@ -158,6 +170,51 @@ fn inner_sign(octet: u8, realm: bool) -> Sign
     }
 }
 
+/// What the octet at the place `at` does.
+/// `quotes` says that the octet before it quotes it, and `realm` that the bare `@` was there.
+fn turn_at(at: usize, octet: u8, quotes: bool, realm: bool) -> Turn
+    requires { quotes ≡ true → 0 < at }
+    ensures { result ≡ turn_of quotes realm at octet }
+{
+    if quotes && !is_mark_octet(octet) {
+        Turn::Faulty(at - 1)
+    } else if quotes {
+        Turn::Stands(Sign::Octet(octet))
+    } else if octet == b'\\' {
+        Turn::Quotes
+    } else if octet != b'@' {
+        Turn::Stands(inner_sign(octet, realm))
+    } else if realm {
+        Turn::Faulty(at)
+    } else {
+        Turn::Stands(Sign::At)
+    }
+}
+
+/// Whether the bare `@` was there, once this sign was read.
+fn realm_after(realm: bool, sign: Sign) -> bool
+    ensures { result ≡ realm_behind realm sign }
+{
+    match sign {
+        Sign::Octet(_) | Sign::Slash => realm,
+        Sign::At => true,
+    }
+}
+
+/// The place that is refused where a text ends at the place `at`: that of a `\` at its end, or the end where no bare `@` was.
+fn fault_at_end(at: usize, quotes: bool, realm: bool) -> Option<usize>
+    requires { quotes ≡ true → 0 < at }
+    ensures { result ≡ fault_at quotes realm at }
+{
+    if quotes {
+        Some(at - 1)
+    } else if realm {
+        None
+    } else {
+        Some(at)
+    }
+}
+
 /// The signs of a text of a name.
 fn signs_in(alloc: Global, text: &[u8]) -> Result<Vec<Sign>, NameRefusal>
     ensures { AreSigns result (signs_of false false 0 text.now) }
@@ -166,35 +223,20 @@ fn signs_in(alloc: Global, text: &[u8]) -> Result<Vec<Sign>, NameRefusal>
     let mut quotes = false;
     let mut realm = false;
     for (at, octet) in text.iter().enumerate() {
-        if quotes {
-            if !is_mark_octet(*octet) {
-                return Err(NameRefusal::Form { at: at - 1 });
+        match turn_at(at, *octet, quotes, realm) {
+            Turn::Stands(sign) => {
+                signs.push(sign)?;
+                quotes = false;
+                realm = realm_after(realm, sign);
             }
-            signs.push(Sign::Octet(*octet))?;
-            quotes = false;
-            continue;
+            Turn::Quotes => quotes = true,
+            Turn::Faulty(at) => return Err(NameRefusal::Form { at }),
         }
-        if *octet == b'\\' {
-            quotes = true;
-            continue;
-        }
-        if *octet == b'@' {
-            if realm {
-                return Err(NameRefusal::Form { at });
-            }
-            signs.push(Sign::At)?;
-            realm = true;
-            continue;
-        }
-        signs.push(inner_sign(*octet, realm))?;
     }
-    if quotes {
-        return Err(NameRefusal::Form { at: text.len() - 1 });
+    match fault_at_end(text.len(), quotes, realm) {
+        Some(at) => Err(NameRefusal::Form { at }),
+        None => Ok(signs),
     }
-    if !realm {
-        return Err(NameRefusal::Form { at: text.len() });
-    }
-    Ok(signs)
 }
 
 /// A name: a realm and 1 to 8 parts, with a text form of at most 255 octets that has no octet 00 (RFC 4120 section 6.2, RFC
