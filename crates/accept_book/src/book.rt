@@ -311,6 +311,18 @@ fn take_step(
     take_stepped(core, id, stepped)
 }
 
+// Whether an end took a token, without what it made of it, which is let go here alone.
+fn emptied(stepped: Result<AcceptStep, NegRefusal>) -> Result<(), NegRefusal>
+    ensures { result ≡ Err NegRefusal.NoMemory ↔ stepped ≡ Err NegRefusal.NoMemory }
+{
+    let told = match &stepped {
+        Ok(_) => Ok(()),
+        Err(refusal) => Err(*refusal),
+    };
+    drop(stepped);
+    told
+}
+
 // A first token for which there is no room. Want of memory at its step is told before that.
 fn turn_away(stepped: Result<AcceptStep, NegRefusal>, refusal: BookRefusal) -> Negotiated
     ensures size { token_size result.answer ≡ 0 }
@@ -319,7 +331,7 @@ fn turn_away(stepped: Result<AcceptStep, NegRefusal>, refusal: BookRefusal) -> N
     ensures memory { result.answer ≡ NegAnswer.NoMemory ↔ stepped ≡ Err NegRefusal.NoMemory }
     ensures receipts { (h : List Entry) → given result.receipts ≡ gained (length h) h }
 {
-    match stepped {
+    match emptied(stepped) {
         Ok(_) => leave(NegAnswer::Refused(refusal)),
         Err(NegRefusal::NoMemory) => leave(NegAnswer::NoMemory),
         Err(_) => leave(NegAnswer::Refused(refusal)),

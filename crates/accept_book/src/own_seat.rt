@@ -60,7 +60,10 @@ impl OwnSeat {
     {
         match Book::open(alloc, limits, start) {
             Ok(book) => Ok(OwnSeat { setup, book }),
-            Err(error) => Err(error),
+            Err(error) => {
+                drop(setup);
+                Err(error)
+            }
         }
     }
 
@@ -140,7 +143,8 @@ impl OwnSeat {
         ensures marks { result.marks ≡ self.core.cache.capacity }
         ensures legal { Legal self.core.width self.core.history }
     {
-        let OwnSeat { setup: _, book } = self;
+        let OwnSeat { setup, book } = self;
+        drop(setup);
         book.into_log()
     }
 

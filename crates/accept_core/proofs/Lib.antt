@@ -1,3 +1,6 @@
 pub mod Appended
 pub mod Steps
 pub mod Onces
+pub mod Lapses
+pub mod Admits
+pub mod StepMade

@@ -1,6 +1,7 @@
 -- MixColumns and InvMixColumns undo each other: their coefficients, multiplied out, are 1 and 0. Each product is tried at every octet.
-use Rattle.std.proofs.Common.{◌≡◌, ℕ, ◌<◌, ◌==◌, Bool, true, false, if◌then◌else◌, refl, ap, ◌∙◌, eqb}
-use Rattle.std.specs.Int.Bits.{bit_xor, xor_zero_l, xor_zero_r}
+use Rattle.std.proofs.Common.{◌≡◌, ℕ, zero, suc, ◌<◌, ◌==◌, Bool, true, false, if◌then◌else◌, refl, ap, ◌∙◌, eqb}
+use Rattle.std.specs.Int.Bits.{bit_xor, xor_assoc, xor_zero_l, xor_zero_r}
+use Rattle.std.proofs.lemmas.Nat.{xor_comm}
 use Rattle.std.proofs.lemmas.Bool.{eqb-true}
 use Rattle.aes_cts.specs.Field.{times_x, product, times}
 use Rattle.aes_cts.specs.State.{Column, sum4, mix_column, inverse_mix_column}
@@ -37,6 +38,23 @@ only_third a = rw (xor_zero_r (bit_xor (bit_xor 0 0) a), xor_zero_l a)
 only_fourth : (a : ℕ) → sum4 0 0 0 a ≡ a
 only_fourth a = refl
 
+-- the order in which coefficients are taken is of no account
+all-same : (p q : ℕ → Bool) → ((x : ℕ) → p x ≡ q x) → (n : ℕ) → all_below p n ≡ all_below q n
+unfolding all_below
+all-same p q same zero = refl
+all-same p q same (suc n) = rw (same n, all-same p q same n) refl
+
+turned-sum : (a b c d : ℕ) → sum4 d a b c ≡ sum4 a b c d
+turned-sum a b c d =
+    ap (λ (x : ℕ). bit_xor x c) (xor_assoc d a b) ∙ xor_assoc d (bit_xor a b) c ∙ xor_comm d (bit_xor (bit_xor a b) c)
+
+turned : (w x y z p q r s : ℕ) (one : Bool) → all_below (makes w x y z p q r s one) 256 ≡ true → all_below (makes z w x y s p q r one) 256 ≡ true
+unfolding makes
+turned w x y z p q r s one all =
+    all-same (makes z w x y s p q r one) (makes w x y z p q r s one)
+    (λ t. ap (λ (v : ℕ). eqb v (if one then t else 0)) (turned-sum (term w (term p t)) (term x (term q t)) (term y (term r t)) (term z (term s t)))) 256
+    ∙ all
+
 undone00 : all_below (makes 14 11 13 9 2 1 1 3 true) 256 ≡ true
 unfolding all_below makes times product times_x
 undone00 = refl
@@ -54,52 +72,40 @@ unfolding all_below makes times product times_x
 undone03 = refl
 
 undone10 : all_below (makes 9 14 11 13 2 1 1 3 false) 256 ≡ true
-unfolding all_below makes times product times_x
-undone10 = refl
+undone10 = turned 14 11 13 9 1 1 3 2 false undone03
 
 undone11 : all_below (makes 9 14 11 13 3 2 1 1 true) 256 ≡ true
-unfolding all_below makes times product times_x
-undone11 = refl
+undone11 = turned 14 11 13 9 2 1 1 3 true undone00
 
 undone12 : all_below (makes 9 14 11 13 1 3 2 1 false) 256 ≡ true
-unfolding all_below makes times product times_x
-undone12 = refl
+undone12 = turned 14 11 13 9 3 2 1 1 false undone01
 
 undone13 : all_below (makes 9 14 11 13 1 1 3 2 false) 256 ≡ true
-unfolding all_below makes times product times_x
-undone13 = refl
+undone13 = turned 14 11 13 9 1 3 2 1 false undone02
 
 undone20 : all_below (makes 13 9 14 11 2 1 1 3 false) 256 ≡ true
-unfolding all_below makes times product times_x
-undone20 = refl
+undone20 = turned 9 14 11 13 1 1 3 2 false undone13
 
 undone21 : all_below (makes 13 9 14 11 3 2 1 1 false) 256 ≡ true
-unfolding all_below makes times product times_x
-undone21 = refl
+undone21 = turned 9 14 11 13 2 1 1 3 false undone10
 
 undone22 : all_below (makes 13 9 14 11 1 3 2 1 true) 256 ≡ true
-unfolding all_below makes times product times_x
-undone22 = refl
+undone22 = turned 9 14 11 13 3 2 1 1 true undone11
 
 undone23 : all_below (makes 13 9 14 11 1 1 3 2 false) 256 ≡ true
-unfolding all_below makes times product times_x
-undone23 = refl
+undone23 = turned 9 14 11 13 1 3 2 1 false undone12
 
 undone30 : all_below (makes 11 13 9 14 2 1 1 3 false) 256 ≡ true
-unfolding all_below makes times product times_x
-undone30 = refl
+undone30 = turned 13 9 14 11 1 1 3 2 false undone23
 
 undone31 : all_below (makes 11 13 9 14 3 2 1 1 false) 256 ≡ true
-unfolding all_below makes times product times_x
-undone31 = refl
+undone31 = turned 13 9 14 11 2 1 1 3 false undone20
 
 undone32 : all_below (makes 11 13 9 14 1 3 2 1 false) 256 ≡ true
-unfolding all_below makes times product times_x
-undone32 = refl
+undone32 = turned 13 9 14 11 3 2 1 1 false undone21
 
 undone33 : all_below (makes 11 13 9 14 1 1 3 2 true) 256 ≡ true
-unfolding all_below makes times product times_x
-undone33 = refl
+undone33 = turned 13 9 14 11 1 3 2 1 true undone22
 
 undone_row0 : (a b c d : ℕ) → a < 256 → b < 256 → c < 256 → d < 256
     → sum4 (times 14 (sum4 (times 2 a) (times 3 b) c d)) (times 11 (sum4 a (times 2 b) (times 3 c) d)) (times 13 (sum4 a b (times 2 c) (times 3 d))) (times 9 (sum4 (times 3 a) b c (times 2 d))) ≡ a
@@ -179,52 +185,40 @@ unfolding all_below makes times product times_x
 redone03 = refl
 
 redone10 : all_below (makes 1 2 3 1 14 9 13 11 false) 256 ≡ true
-unfolding all_below makes times product times_x
-redone10 = refl
+redone10 = turned 2 3 1 1 9 13 11 14 false redone03
 
 redone11 : all_below (makes 1 2 3 1 11 14 9 13 true) 256 ≡ true
-unfolding all_below makes times product times_x
-redone11 = refl
+redone11 = turned 2 3 1 1 14 9 13 11 true redone00
 
 redone12 : all_below (makes 1 2 3 1 13 11 14 9 false) 256 ≡ true
-unfolding all_below makes times product times_x
-redone12 = refl
+redone12 = turned 2 3 1 1 11 14 9 13 false redone01
 
 redone13 : all_below (makes 1 2 3 1 9 13 11 14 false) 256 ≡ true
-unfolding all_below makes times product times_x
-redone13 = refl
+redone13 = turned 2 3 1 1 13 11 14 9 false redone02
 
 redone20 : all_below (makes 1 1 2 3 14 9 13 11 false) 256 ≡ true
-unfolding all_below makes times product times_x
-redone20 = refl
+redone20 = turned 1 2 3 1 9 13 11 14 false redone13
 
 redone21 : all_below (makes 1 1 2 3 11 14 9 13 false) 256 ≡ true
-unfolding all_below makes times product times_x
-redone21 = refl
+redone21 = turned 1 2 3 1 14 9 13 11 false redone10
 
 redone22 : all_below (makes 1 1 2 3 13 11 14 9 true) 256 ≡ true
-unfolding all_below makes times product times_x
-redone22 = refl
+redone22 = turned 1 2 3 1 11 14 9 13 true redone11
 
 redone23 : all_below (makes 1 1 2 3 9 13 11 14 false) 256 ≡ true
-unfolding all_below makes times product times_x
-redone23 = refl
+redone23 = turned 1 2 3 1 13 11 14 9 false redone12
 
 redone30 : all_below (makes 3 1 1 2 14 9 13 11 false) 256 ≡ true
-unfolding all_below makes times product times_x
-redone30 = refl
+redone30 = turned 1 1 2 3 9 13 11 14 false redone23
 
 redone31 : all_below (makes 3 1 1 2 11 14 9 13 false) 256 ≡ true
-unfolding all_below makes times product times_x
-redone31 = refl
+redone31 = turned 1 1 2 3 14 9 13 11 false redone20
 
 redone32 : all_below (makes 3 1 1 2 13 11 14 9 false) 256 ≡ true
-unfolding all_below makes times product times_x
-redone32 = refl
+redone32 = turned 1 1 2 3 11 14 9 13 false redone21
 
 redone33 : all_below (makes 3 1 1 2 9 13 11 14 true) 256 ≡ true
-unfolding all_below makes times product times_x
-redone33 = refl
+redone33 = turned 1 1 2 3 13 11 14 9 true redone22
 
 redone_row0 : (a b c d : ℕ) → a < 256 → b < 256 → c < 256 → d < 256
     → sum4 (times 2 (sum4 (times 14 a) (times 11 b) (times 13 c) (times 9 d))) (times 3 (sum4 (times 9 a) (times 14 b) (times 11 c) (times 13 d))) (sum4 (times 13 a) (times 9 b) (times 14 c) (times 11 d)) (sum4 (times 11 a) (times 13 b) (times 9 c) (times 14 d)) ≡ a

@@ -1,4 +1,5 @@
 pub mod Sums
+pub mod Powers
 pub mod Entries
 pub mod Octets
 pub mod Shapes

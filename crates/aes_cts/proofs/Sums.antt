@@ -34,7 +34,7 @@ transposed a b c d e f g h i j k l m n o p =
     ∙ sum4-xor (bit_xor (bit_xor a e) i) (bit_xor (bit_xor b f) j) (bit_xor (bit_xor c g) k) (bit_xor (bit_xor d h) l) m n o p
 
 -- a bit times a number
-below_two : (p : ℕ) → p < 2 → (p ≡ 0) ⊎ (p ≡ 1)
+pub below_two : (p : ℕ) → p < 2 → (p ≡ 0) ⊎ (p ≡ 1)
 below_two zero h = inl refl
 below_two (suc zero) h = inr refl
 below_two (suc (suc p)) h = inl (omega arith)

@@ -44,6 +44,10 @@ live-rising slots live order j k d o lt lk =
       ap (λ (s : Slot _ _). s.id) (live-slot slots live order k d o lk),
     )
 
+-- the cell at a place of the live ones is there
+pub cell-there : {N S : Type 0} (slots : List (Slot N S)) (live : ℕ) (order : List ℕ) (k : ℕ) → IsOrder live order slots → k < live → get_or order k 0 < length slots
+cell-there slots live order k o lt = omega (arith, o.within k (omega (arith, lt, o.few)), o.slots_are)
+
 -- what a look-up's step tells of the places on one side of the middle
 pub below-middle : {N S : Type 0} (slots : List (Slot N S)) (live : ℕ) (order : List ℕ) (middle id k : ℕ) (x d : Slot N S) → IsOrder live order slots
     → middle < live → (get_or slots (get_or order middle 0) x).id < id → k < middle + 1 → (get_or slots (get_or order k 0) d).id < id

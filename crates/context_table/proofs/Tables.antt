@@ -34,6 +34,13 @@ found-slot limit width live order slots id spot cell x t there read-cell read-sl
       id_is = sym (ap (λ (s : Slot _ _). s.id) here) ∙ there.same x;
     }
 
+-- the cell that a look-up reads is there
+pub cell-within : {N S : Type 0} (limit width live : ℕ) (order : List ℕ) (slots : List (Slot N S)) (id spot cell : ℕ) → IsTable limit width live order slots
+    → IsPlaceOf order slots live id spot → cell ≡ get_or order spot cell → cell < length slots
+cell-within limit width live order slots id spot cell t there read =
+    let lt : spot < length order = omega (arith, there.within, t.ordered.few) in
+    omega (arith, get_or_read order spot cell lt read 0, t.ordered.within spot lt, t.ordered.slots_are)
+
 -- the live slots after one of them was written in its cell
 pub changed-slot : {N S : Type 0} (live : ℕ) (order : List ℕ) (slots : List (Slot N S)) (spot cell : ℕ) (y : Slot N S) → IsOrder live order slots
     → spot < live → cell ≡ get_or order spot 0 → gathered (take live order) (set slots cell y) ≡ set (gathered (take live order) slots) spot y

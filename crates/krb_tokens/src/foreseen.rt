@@ -101,6 +101,55 @@ impl MicKeys {
     {
         checksums_and_digest(&check_for(self, first), &check_for(self, second), octets)
     }
+
+    // The checksums of four short tokens, each with its token.
+    fn known4<'a>(
+        &self,
+        first: &MicTask<'a>,
+        second: &MicTask<'a>,
+        third: &MicTask<'a>,
+        fourth: &MicTask<'a>,
+    ) -> KnownMics<'a>
+        requires first { IsShort first.now }
+        requires second { IsShort second.now }
+        requires third { IsShort third.now }
+        requires fourth { IsShort fourth.now }
+        ensures { AreKnown self.now.end.key
+            (first.now ∷ second.now ∷ third.now ∷ fourth.now ∷ []) result.mics }
+    {
+        let (t0, t1, t2, t3) = self.tags4(&*first, &*second, &*third, &*fourth);
+        KnownMics {
+            mics: [
+                KnownMic::new(&self.end.key, first, &t0),
+                KnownMic::new(&self.end.key, second, &t1),
+                KnownMic::new(&self.end.key, third, &t2),
+                KnownMic::new(&self.end.key, fourth, &t3),
+            ],
+        }
+    }
+
+    // The checksums of two tokens, each with its token, and the SHA-1 of octets that are about as long as their messages.
+    fn known_pair<'a>(
+        &self,
+        first: &MicTask<'a>,
+        second: &MicTask<'a>,
+        octets: &'a [u8],
+    ) -> KnownPair<'a>
+        requires size { length octets.now < 2 ^ 32 }
+        requires first { IsAbout (length octets.now) first.now }
+        requires second { IsAbout (length octets.now) second.now }
+        ensures known { AreKnown self.now.end.key (first.now ∷ second.now ∷ []) result.mics }
+        ensures digest { result.digest.message.now ≡ octets.now }
+    {
+        let (t0, t1, digest) = self.tags_and_digest(&*first, &*second, &*octets);
+        KnownPair {
+            mics: [
+                KnownMic::new(&self.end.key, first, &t0),
+                KnownMic::new(&self.end.key, second, &t1),
+            ],
+            digest: KnownDigest::new(octets, &digest),
+        }
+    }
 }
 
 impl KeyCache {
@@ -121,15 +170,10 @@ impl KeyCache {
         ensures known { IfSome result (λ all. AreKnown end.now.key
             (first.now ∷ second.now ∷ third.now ∷ fourth.now ∷ []) all.mics) }
     {
-        let keys = self.keys_of(end)?;
-        let (t0, t1, t2, t3) = keys.tags4(&*first, &*second, &*third, &*fourth);
-        let mics = [
-            KnownMic::new(&end.key, first, &t0),
-            KnownMic::new(&end.key, second, &t1),
-            KnownMic::new(&end.key, third, &t2),
-            KnownMic::new(&end.key, fourth, &t3),
-        ];
-        Some(KnownMics { mics })
+        match self.keys_of(end) {
+            Some(keys) => Some(keys.known4(first, second, third, fourth)),
+            None => None,
+        }
     }
 
     /// The checksums of two tokens of this end's context, and the SHA-1 of octets that are about as long as their messages;
@@ -149,13 +193,9 @@ impl KeyCache {
             (λ all. AreKnown end.now.key (first.now ∷ second.now ∷ []) all.mics) }
         ensures digest { IfSome result (λ all. all.digest.message.now ≡ octets.now) }
     {
-        let keys = self.keys_of(end)?;
-        let (t0, t1, digest) = keys.tags_and_digest(&*first, &*second, &*octets);
-        let mics = [
-            KnownMic::new(&end.key, first, &t0),
-            KnownMic::new(&end.key, second, &t1),
-        ];
-        let digest = KnownDigest::new(octets, &digest);
-        Some(KnownPair { mics, digest })
+        match self.keys_of(end) {
+            Some(keys) => Some(keys.known_pair(first, second, octets)),
+            None => None,
+        }
     }
 }

@@ -6,7 +6,7 @@ use Rattle.std.proofs.lemmas.List.{length-append, append-nil}
 use Rattle.sec_base.specs.Link.{Wire}
 use Rattle.rpc_msgs.specs.Words.{word}
 use Rattle.rpc_msgs.specs.Records.{more_fragment, last_fragment, frames, joined, IsFront, IsWhole, IsPartial, TakesRecord}
-use Rattle.rpc_msgs.specs.Fragments.{Adds, Begins, Heads, TakesAnnounced, TakesFragment}
+use Rattle.rpc_msgs.specs.Fragments.{Adds, Begins, Heads, TakesContent, TakesAnnounced, TakesFragment}
 use Rattle.rpc_msgs.specs.declared.record.Fragment.{Fragment}
 use Rattle.rpc_msgs.specs.declared.record.Fragment.TheVariants.{More, Last, End}
 use Rattle.rpc_msgs.specs.declared.record.RecordRefusal.{RecordRefusal}
@@ -118,6 +118,14 @@ is-more b c xs ys n f e t = subst (λ (g : Fragment). TakesFragment b c xs ys n 
 
 pub is-last : (b c : Wire) (xs ys : List ℕ) (n : ℕ) (f : Fragment) → f ≡ Last → TakesFragment b c xs ys n (Ok f) → TakesFragment b c xs ys n (Ok Last)
 is-last b c xs ys n f e t = subst (λ (g : Fragment). TakesFragment b c xs ys n (Ok g)) e t
+
+-- what a header announces was not read, since its octets were not
+pub announced-refused : (a b : Wire) (xs ys : List ℕ) (n header : ℕ) (refusal : RecordRefusal) → n < 64 → length xs + header % 2 ^ 31 ≤ 131072 → TakesContent a b xs ys (header % 2 ^ 31) (Err refusal) → TakesAnnounced a b xs ys n header (Err refusal)
+announced-refused a b xs ys n header LinkFault few fits t = (t.0, few, fits, t.1, t.2)
+announced-refused a b xs ys n header TooLong few fits t = absurd t
+announced-refused a b xs ys n header TooManyFragments few fits t = absurd t
+announced-refused a b xs ys n header Torn few fits t = absurd t
+announced-refused a b xs ys n header NoMemory few fits t = (t.0, few, fits, t.1, t.2)
 
 -- a header was read, and then what it announces, or why that was not
 pub after-header : {a b : Wire} (c : Wire) (n header : ℕ) (xs ys : List ℕ) (r : Result Fragment RecordRefusal) → Heads a b header → TakesAnnounced b c xs ys n header r → TakesFragment a c xs ys n r

@@ -3,3 +3,4 @@ pub mod Noting
 pub mod Sides
 pub mod Telling
 pub mod Lending
+pub mod Lengths

@@ -7,8 +7,8 @@ returns-in-Err-LogFull-clause-took c =
     let turned = c.turn_away.ensures in record {
       size = omega (arith, turned.size);
       comes = comes_turned c.args.core.now _ _ c.turn_away.result turned.answer turned.receipts (λ past is_past. search rules);
-      keeps = search rules;
-      fits = search rules;
+      keeps = record { limit = refl; width = refl; contexts = refl; capacity = refl; greatest = refl };
+      fits = c.requires.fits;
     }
 
 pub returns-in-Err-TableFull-clause-took : goal.returns-in-Err-TableFull-clause-took
@@ -16,8 +16,8 @@ returns-in-Err-TableFull-clause-took c =
     let turned = c.turn_away-in-Err-TableFull.ensures in record {
       size = omega (arith, turned.size);
       comes = comes_turned c.args.core.now _ _ c.turn_away-in-Err-TableFull.result turned.answer turned.receipts (λ past is_past. search rules);
-      keeps = search rules;
-      fits = search rules;
+      keeps = record { limit = refl; width = refl; contexts = refl; capacity = refl; greatest = refl };
+      fits = c.requires.fits;
     }
 
 pub returns-in-Ok-clause-took : goal.returns-in-Ok-clause-took

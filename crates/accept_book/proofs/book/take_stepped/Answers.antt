@@ -1,4 +1,4 @@
-use Rattle.std.proofs.Common.{rules}
+use Rattle.std.proofs.Common.{arith}
 use Rattle.accept_book.specs.Booking.{stands_of}
 use Rattle.accept_book.proofs.Comings.{comes_short}
 use Rattle.accept_book.proofs.book.take_stepped.Goals as goal
@@ -18,16 +18,16 @@ returns-in-Ok-clause-memory c =
 
 pub returns-in-Err-NoMemory-clause-took : goal.returns-in-Err-NoMemory-clause-took
 returns-in-Err-NoMemory-clause-took c = record {
-  size = search rules;
+  size = rw c.refuse.ensures.answer (omega arith);
   comes = comes_short (stands_of c.args.core.now) c.args.id _ c.refuse.result c.refuse.new.core c.refuse.ensures.comes;
-  keeps = search rules;
-  fits = search rules;
+  keeps = c.refuse.ensures.keeps;
+  fits = c.refuse.ensures.fits;
 }
 
 pub returns-in-Err-clause-took : goal.returns-in-Err-clause-took
 returns-in-Err-clause-took c = rw c.in-Err.is (record {
-  size = search rules;
+  size = rw c.refuse-in-Err.ensures.answer (omega arith);
   comes = c.refuse-in-Err.ensures.comes;
-  keeps = search rules;
-  fits = search rules;
+  keeps = c.refuse-in-Err.ensures.keeps;
+  fits = c.refuse-in-Err.ensures.fits;
 })

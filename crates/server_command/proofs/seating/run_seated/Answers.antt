@@ -7,13 +7,14 @@ use Rattle.server_options.specs.declared.ending.RunEnd.TheVariants.{Served}
 use Rattle.server_desks.specs.declared.desk.Desk.{Desk}
 use Rattle.server_desks.specs.declared.desk.DeskEnd.{DeskEnd}
 use Rattle.server_desks.proofs.InStep.{there, all-along, get-map}
+use Rattle.server_command.proofs.Lengths.{same-length}
 use Rattle.server_command.proofs.Noting.{desk-noted}
 use Rattle.server_command.proofs.seating.run_seated.Goals as goal
 
 pub run_desks-requires-after_bounds : goal.run_desks-requires-after_bounds
 run_desks-requires-after_bounds g c κs within =
-    let n1 : length c.hire_all.new.staffed.items ≡ length c.replace-olds.result.items = search rules in
-    let n2 : length c.seat_all.new.jobs.items ≡ length c.hire_all.new.staffed.items = search rules in
+    let n1 : length c.hire_all.new.staffed.items ≡ length c.replace-olds.result.items = same-length c.hire_all.new.staffed c.replace-olds.result c.hire_all.ensures.count in
+    let n2 : length c.seat_all.new.jobs.items ≡ length c.hire_all.new.staffed.items = same-length c.seat_all.new.jobs c.hire_all.new.staffed c.seat_all.ensures.count in
     all-along IsFresh (λ job. IsFresh job.desk) c.replace-olds.result.items c.seat_all.new.jobs.items (n2 ∙ n1)
     (λ i a b at_a at_b fresh.
     let s1 = there c.replace-olds.result.items c.hire_all.new.staffed.items i a n1 at_a in
@@ -25,11 +26,11 @@ run_desks-requires-after_bounds g c κs within =
 pub returns-clause-served : goal.returns-clause-served
 returns-clause-served g c =
     let value = c.replace-olds.ensures.value in
-    let n1 : length c.hire_all.new.staffed.items ≡ length c.replace-olds.result.items = search rules in
-    let n2 : length c.seat_all.new.jobs.items ≡ length c.hire_all.new.staffed.items = search rules in
-    let n3 : length c.run_desks.new.jobs.items ≡ length c.seat_all.new.jobs.items = search rules in
-    let n4 : length c.rise_all.new.staffed.items ≡ length c.run_desks.new.jobs.items = search rules in
-    let n5 : length c.compare_all.new.desks.items ≡ length c.rise_all.new.staffed.items = search rules in
+    let n1 : length c.hire_all.new.staffed.items ≡ length c.replace-olds.result.items = same-length c.hire_all.new.staffed c.replace-olds.result c.hire_all.ensures.count in
+    let n2 : length c.seat_all.new.jobs.items ≡ length c.hire_all.new.staffed.items = same-length c.seat_all.new.jobs c.hire_all.new.staffed c.seat_all.ensures.count in
+    let n3 : length c.run_desks.new.jobs.items ≡ length c.seat_all.new.jobs.items = same-length c.run_desks.new.jobs c.seat_all.new.jobs c.run_desks.ensures.count in
+    let n4 : length c.rise_all.new.staffed.items ≡ length c.run_desks.new.jobs.items = same-length c.rise_all.new.staffed c.run_desks.new.jobs c.rise_all.ensures.count in
+    let n5 : length c.compare_all.new.desks.items ≡ length c.rise_all.new.staffed.items = same-length c.compare_all.new.desks c.rise_all.new.staffed c.compare_all.ensures.count in
     let olds : length c.replace-olds.result.items ≡ length c.args.desks.now.items = ap (λ v. length v.items) value in
     let all = c.into_parts-book.result.1.all in
     record {

@@ -1,6 +1,6 @@
-use Rattle.std.proofs.Common.{◌≡◌, refl, sym, ◌∙◌, ap, Some}
+use Rattle.std.proofs.Common.{◌≡◌, refl, sym, ◌∙◌, ap, Some, arith}
 use Rattle.context_table.specs.declared.slot.Slot.{Slot}
-use Rattle.context_table.proofs.Tables.{found-slot, placed, some_same, both-of}
+use Rattle.context_table.proofs.Tables.{cell-within, found-slot, placed, some_same, both-of}
 use Rattle.context_table.proofs.table.Table.judge.Goals as goal
 
 pub returns-in-Some-clause-some : goal.returns-in-Some-clause-some
@@ -20,3 +20,27 @@ returns-in-Some-clause-fresh g c =
     let there = rw (c.as_slice.ensures.value, c.as_slice-2.ensures.value) at c.in-Some.ensures.found in
     let f = found-slot c.self.inside.limit c.self.inside.width c.self.inside.live c.self.inside.order.items c.self.inside.slots.items c.args.id c.in-Some.place c.index.result.now c.index-in-Some.result.now c.self.invariant there c.index.ensures c.index-in-Some.ensures in
     rw (← c.self.view_is, f.slot) (λ e. c.judge.ensures.fresh (some_same e))
+
+pub find-requires : goal.find-requires
+find-requires g c = rw (c.as_slice.ensures.value, c.as_slice-2.ensures.value) c.self.invariant.ordered
+
+pub index-requires : goal.index-requires
+index-requires g c =
+    let there = rw (c.as_slice.ensures.value, c.as_slice-2.ensures.value) at c.in-Some.ensures.found in
+    omega (arith, there.within, c.self.invariant.ordered.few)
+
+pub index-requires-in-Some : goal.index-requires-in-Some
+index-requires-in-Some g c =
+    let there = rw (c.as_slice.ensures.value, c.as_slice-2.ensures.value) at c.in-Some.ensures.found in
+    omega (arith, cell-within c.self.inside.limit c.self.inside.width c.self.inside.live c.self.inside.order.items c.self.inside.slots.items c.args.id c.in-Some.place c.index.result.now c.self.invariant there c.index.ensures)
+
+pub returns-in-None-clause-some : goal.returns-in-None-clause-some
+returns-in-None-clause-some g c =
+    let none = rw (c.as_slice.ensures.value, c.as_slice-2.ensures.value) at c.in-None.ensures.none refl in
+    rw (← c.self.view_is, none) refl
+
+pub returns-in-None-clause-verdict : goal.returns-in-None-clause-verdict
+returns-in-None-clause-verdict g c = tt
+
+pub returns-in-None-clause-fresh : goal.returns-in-None-clause-fresh
+returns-in-None-clause-fresh g c = λ e. absurd cc

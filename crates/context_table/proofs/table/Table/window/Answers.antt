@@ -3,7 +3,7 @@ use Rattle.context_table.specs.declared.slot.Slot.{Slot}
 use Rattle.context_table.specs.Places.{Places}
 use Rattle.context_table.specs.Lending.{with_window}
 use Rattle.context_table.proofs.Lent.{lent, same-loan}
-use Rattle.context_table.proofs.Tables.{found-slot, placed}
+use Rattle.context_table.proofs.Tables.{cell-within, found-slot, placed}
 use Rattle.context_table.proofs.table.Table.window.Goals as goal
 
 pub returns-then-not-is_complete : goal.returns-then-not-is_complete
@@ -35,3 +35,16 @@ returns-else-not-is_complete g c =
           ∙ ap (λ (t : Places g.row.N.Denot g.row.S.Denot). with_window t c.args.id w) c.self.view_is),
       record { lends = tt; some = rw (← c.self.view_is, whole.slot) (sym c.if-not-is_complete.false ∙ c.is_complete.ensures); value = rw (← c.self.view_is, f.slot) refl },
     )
+
+pub find-requires : goal.find-requires
+find-requires g c = rw (c.as_slice.ensures.value, c.as_slice-2.ensures.value) c.self.invariant.ordered
+
+pub index-requires : goal.index-requires
+index-requires g c =
+    let there = rw (c.as_slice.ensures.value, c.as_slice-2.ensures.value) at c.in-Some.ensures.found in
+    omega (arith, there.within, c.self.invariant.ordered.few)
+
+pub index-requires-in-Some : goal.index-requires-in-Some
+index-requires-in-Some g c =
+    let there = rw (c.as_slice.ensures.value, c.as_slice-2.ensures.value) at c.in-Some.ensures.found in
+    omega (arith, cell-within c.self.inside.limit c.self.inside.width c.self.inside.live c.self.inside.order.items c.self.inside.slots.items c.args.id c.in-Some.place c.index.result.now c.self.invariant there c.index.ensures)
