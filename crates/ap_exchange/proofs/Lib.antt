@@ -8,3 +8,4 @@ pub mod Honest
 pub mod DerReasons
 pub mod MessageReasons
 pub mod Reasons
+pub mod Opening

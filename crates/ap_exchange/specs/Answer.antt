@@ -39,12 +39,15 @@ reply_part_of j draws = reply_part_with j.stamp (acceptor_subkey j draws)
 abbrev pub reply_octets : Judged → List ℕ → List ℕ
 reply_octets j draws = enc_ap_rep_part.spell (reply_part_of j draws)
 
+-- the reply by what it seals, under the session key
+abbrev pub ap_rep_with : Key → List ℕ → List ℕ → ApRep
+ap_rep_with session draws octets = record {
+  enc_part = sealed_data session None reply_usage (drawn_confounder draws) octets;
+}
+
 -- the reply: what it says, sealed under the session key
 abbrev pub ap_rep_of : Judged → List ℕ → ApRep
-ap_rep_of j draws = record {
-  enc_part =
-      sealed_data j.session None reply_usage (drawn_confounder draws) (reply_octets j draws);
-}
+ap_rep_of j draws = ap_rep_with j.session draws (reply_octets j draws)
 
 -- the token with the reply, for the initiator
 unfoldable pub answer_token : Judged → List ℕ → List ℕ

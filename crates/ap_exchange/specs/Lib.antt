@@ -6,6 +6,7 @@ pub mod Stamps
 pub mod Request
 pub mod Exchange
 pub mod Judging
+pub mod Opening
 pub mod Answer
 pub mod Reply
 pub mod SealedTicket

@@ -2,8 +2,11 @@
 
 ghost use Rattle.std.specs.Prelude.{◌≡◌, IfOk};
 ghost use Rattle.der_core.specs.Format.{WritesWhole};
+ghost use Rattle.krb_msgs.specs.ApRep.{ap_rep};
 ghost use Rattle.krb_msgs.specs.EncApRepPart.{enc_ap_rep_part};
-ghost use Rattle.ap_exchange.specs.Answer.{reply_part_with, answer_of, AnswerFits};
+ghost use Rattle.ap_exchange.specs.Keys.{reply_usage, SealedOpens};
+ghost use Rattle.ap_exchange.specs.Draws.{drawn_confounder};
+ghost use Rattle.ap_exchange.specs.Answer.{reply_part_with, ap_rep_with, answer_of, AnswerFits};
 
 use crate::draws::{confounder_of, subkey_of};
 use crate::judged::Judged;
@@ -30,6 +33,26 @@ fn reply_octets(alloc: Global, stamp: Moment, subkey: &Key) -> Result<Octets, No
     write_enc_ap_rep_part(alloc, &part)
 }
 
+/// The message of a reply that seals these octets.
+fn reply_message(
+    alloc: Global,
+    session: &Key,
+    draws: &[u8; 66],
+    octets: &[u8],
+) -> Result<Octets, NoMemory>
+    ensures message { IfOk result
+        (λ o. WritesWhole ap_rep (ap_rep_with session.now draws.now octets.now) o) }
+    ensures opens { IfOk result
+        (λ _. SealedOpens session.now reply_usage (drawn_confounder draws.now) octets.now) }
+{
+    let confounder = confounder_of(draws);
+    let enc_part = sealed_data(alloc, session, None, REPLY_USAGE, &confounder, octets)?;
+    let reply = ApRep { enc_part };
+    let message = write_ap_rep(alloc, &reply);
+    drop(reply);
+    message
+}
+
 impl Judged {
     /// What the acceptor is left with, and the token for the initiator: a subkey of its own, of the session key's type.
     #[tactic(auto, unfolding(crate::specs::Answer::answer_token, crate::specs::Tokens::token_of))]
@@ -39,16 +62,7 @@ impl Judged {
     {
         let subkey = subkey_of(self.session.etype(), draws);
         let octets = reply_octets(alloc, self.stamp, &subkey)?;
-        let confounder = confounder_of(draws);
-        let sealed = sealed_data(
-            alloc,
-            &self.session,
-            None,
-            REPLY_USAGE,
-            &confounder,
-            octets.as_slice(),
-        )?;
-        let message = write_ap_rep(alloc, &ApRep { enc_part: sealed })?;
+        let message = reply_message(alloc, &self.session, draws, octets.as_slice())?;
         let token = framed_message(alloc, AP_REP, message.as_slice())?;
         let done = MechDone {
             key: subkey,

@@ -1,6 +1,6 @@
 //! What an acceptor makes of a request, before it answers: RFC 4120 section 3.2.3.
 
-ghost use Rattle.std.specs.Prelude.{◌≡◌, ◌≤◌, ◌-◌, ◌%◌, true, length, option_map};
+ghost use Rattle.std.specs.Prelude.{◌≡◌, ◌≤◌, ◌-◌, ◌%◌, true, length, option_map, IfOk};
 ghost use Rattle.sec_base.specs.Answers.{Gives};
 ghost use Rattle.gss_base.specs.Principal.{is_named};
 ghost use Rattle.der_core.specs.Format.{all_of};
@@ -9,6 +9,7 @@ ghost use Rattle.ap_exchange.specs.Steps.{der_behind};
 ghost use Rattle.ap_exchange.specs.Exchange.{is_mutual, requested, ticket_for, service_key};
 ghost use Rattle.ap_exchange.specs.Judging.{is_checksum_type, is_checksum, hash_carried, is_bound};
 ghost use Rattle.ap_exchange.specs.Judging.{hash_claimed, claim_judged, judged};
+ghost use Rattle.ap_exchange.specs.Opening.{ticket_part, part_opened, said_opened, part_judged};
 
 use crate::judged::Judged;
 use crate::keys::{AUTHENTICATOR_USAGE, TICKET_USAGE, data_opened, key_in, opened_or, subkey_in};
@@ -60,6 +61,7 @@ fn requested(alloc: Global, token: &[u8]) -> Result<ApReq, ApRefusal>
     }
     let request = message_of_request(alloc, token, message_in(inner))?;
     if !is_mutual(request.ap_options) {
+        drop(request);
         return Err(ApRefusal::NotMutual);
     }
     Ok(request)
@@ -72,6 +74,7 @@ fn ticket_for(alloc: Global, own: &Principal, request: &ApReq) -> Result<Ticket,
 {
     let granted = ticket_in(alloc, request.ticket.as_slice())?;
     if !is_principal(&granted.realm, &granted.sname, own) {
+        drop(granted);
         return Err(ApRefusal::TicketNames);
     }
     Ok(granted)
@@ -186,9 +189,93 @@ fn claim_judged(
     })
 }
 
+/// What a ticket says, opened with the acceptor's key.
+#[tactic(auto, unfolding(crate::specs::Opening::ticket_part))]
+fn ticket_part(
+    alloc: Global,
+    keytab: &Keytab,
+    own: &Principal,
+    granted: &Ticket,
+) -> Result<EncTicketPart, ApRefusal>
+    ensures exact { Gives ApRefusal.NoMemory (λ p. p) result
+        (ticket_part keytab.now own.now granted.now) }
+    ensures named { IfOk result (λ p. is_named p.crealm p.cname.name_string ≡ true) }
+{
+    let service = service_key(keytab, own, granted)?;
+    let cipher = granted.enc_part.cipher.as_slice();
+    let octets = opened_or(
+        alloc,
+        ApRefusal::TicketClosed,
+        &service,
+        TICKET_USAGE,
+        cipher,
+    )?;
+    let part = part_in(alloc, octets.as_slice());
+    drop(octets);
+    part
+}
+
+/// What a request's ticket says.
+#[tactic(auto, unfolding(crate::specs::Opening::part_opened))]
+fn part_opened(
+    alloc: Global,
+    keytab: &Keytab,
+    own: &Principal,
+    request: &ApReq,
+) -> Result<EncTicketPart, ApRefusal>
+    ensures exact { Gives ApRefusal.NoMemory (λ p. p) result
+        (part_opened keytab.now own.now request.now) }
+    ensures named { IfOk result (λ p. is_named p.crealm p.cname.name_string ≡ true) }
+{
+    let granted = ticket_for(alloc, own, request)?;
+    let part = ticket_part(alloc, keytab, own, &granted);
+    drop(granted);
+    part
+}
+
+/// What a request's authenticator says, opened with the session key.
+#[tactic(auto, unfolding(crate::specs::Opening::said_opened))]
+fn said_opened(alloc: Global, session: &Key, request: &ApReq) -> Result<Authenticator, ApRefusal>
+    ensures exact { Gives ApRefusal.NoMemory (λ a. a) result
+        (said_opened session.now request.now) }
+    ensures time { IfOk result (λ a. a.ctime % 1000000 ≡ 0) }
+    ensures micros { IfOk result (λ a. a.cusec ≤ 999999) }
+{
+    let octets = data_opened(
+        alloc,
+        ApRefusal::AuthClosed,
+        session,
+        AUTHENTICATOR_USAGE,
+        &request.authenticator,
+    )?;
+    let said = authenticator_in(alloc, octets.as_slice());
+    drop(octets);
+    said
+}
+
+/// What a request is judged as whose ticket says this.
+#[tactic(auto, unfolding(crate::specs::Opening::part_judged))]
+fn part_judged(
+    alloc: Global,
+    own: &Principal,
+    now: Moment,
+    bindings: Option<&Bindings>,
+    request: &ApReq,
+    part: &EncTicketPart,
+) -> Result<Judged, ApRefusal>
+    requires { is_named part.now.crealm part.now.cname.name_string ≡ true }
+    ensures { Gives ApRefusal.NoMemory (λ j. j) result (part_judged own.now now
+        (option_map (λ b. b.now) bindings.entry) request.now part.now) }
+{
+    let session = key_in(&part.key)?;
+    let said = said_opened(alloc, &session, request)?;
+    let judged = claim_judged(alloc, own, now, bindings, session, part, &said);
+    drop(said);
+    judged
+}
+
 /// Judges the request in a token, at this moment, for the server of this name and with these keys. Nothing is answered yet:
 /// whether it is a repeat is judged by its mark first.
-#[tactic(auto, unfolding(crate::specs::Judging::judged, crate::specs::Exchange::exchange_of))]
 pub fn judge_request(
     alloc: Global,
     keytab: &Keytab,
@@ -201,25 +288,16 @@ pub fn judge_request(
         (judged keytab.now own.now now (option_map (λ b. b.now) bindings.entry) token.now) }
 {
     let request = requested(alloc, token)?;
-    let granted = ticket_for(alloc, own, &request)?;
-    let service = service_key(keytab, own, &granted)?;
-    let cipher = granted.enc_part.cipher.as_slice();
-    let ticket_octets = opened_or(
-        alloc,
-        ApRefusal::TicketClosed,
-        &service,
-        TICKET_USAGE,
-        cipher,
-    )?;
-    let part = part_in(alloc, ticket_octets.as_slice())?;
-    let session = key_in(&part.key)?;
-    let octets = data_opened(
-        alloc,
-        ApRefusal::AuthClosed,
-        &session,
-        AUTHENTICATOR_USAGE,
-        &request.authenticator,
-    )?;
-    let said = authenticator_in(alloc, octets.as_slice())?;
-    claim_judged(alloc, own, now, bindings, session, &part, &said)
+    match part_opened(alloc, keytab, own, &request) {
+        Ok(part) => {
+            let judged = part_judged(alloc, own, now, bindings, &request, &part);
+            drop(part);
+            drop(request);
+            judged
+        }
+        Err(refusal) => {
+            drop(request);
+            Err(refusal)
+        }
+    }
 }

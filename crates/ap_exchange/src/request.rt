@@ -81,18 +81,22 @@ fn authenticator_octets(
     ensures { IfOk result (λ o. WritesWhole authenticator
         (authenticator_with client.now stamp subkey.now hash.now) o) }
 {
+    let subkey = key_value(alloc, subkey)?;
+    let sum = checksum_for(alloc, hash)?;
     let (crealm, cname) = names_of(alloc, client)?;
     let said = Authenticator {
         crealm,
         cname,
-        cksum: Some(checksum_for(alloc, hash)?),
+        cksum: Some(sum),
         cusec: stamp.micros(),
         ctime: seconds_of(stamp),
-        subkey: Some(key_value(alloc, subkey)?),
+        subkey: Some(subkey),
         seq_number: Some(0),
         authorization_data: None,
     };
-    write_authenticator(alloc, &said)
+    let octets = write_authenticator(alloc, &said);
+    drop(said);
+    octets
 }
 
 /// The request's message.
@@ -109,8 +113,9 @@ fn message_of(
     ensures opens { IfOk result
         (λ _. SealedOpens session.now authenticator_usage (drawn_confounder draws.now) octets.now) }
 {
+    let ticket = Octets::of(alloc, ticket)?;
     let confounder = confounder_of(draws);
-    let sealed = sealed_data(
+    let authenticator = sealed_data(
         alloc,
         session,
         None,
@@ -120,10 +125,12 @@ fn message_of(
     )?;
     let request = ApReq {
         ap_options: MUTUAL_REQUIRED,
-        ticket: Octets::of(alloc, ticket)?,
-        authenticator: sealed,
+        ticket,
+        authenticator,
     };
-    write_ap_req(alloc, &request)
+    let message = write_ap_req(alloc, &request);
+    drop(request);
+    message
 }
 
 /// The request's token, of a ticket that is one.
@@ -168,7 +175,8 @@ impl ApInit {
         ensures fits { IfOk result (λ _. RequestFits credential.now stamp draws.now
             (option_map (λ b. b.now) bindings.entry)) }
     {
-        let _ticket = ticket_in(alloc, credential.ticket.as_slice())?;
+        let ticket = ticket_in(alloc, credential.ticket.as_slice())?;
+        drop(ticket);
         let hash = binding_hash(bindings);
         let session = credential.session;
         let subkey = subkey_of(session.etype(), draws);

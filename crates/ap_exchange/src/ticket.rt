@@ -39,18 +39,23 @@ pub fn seal_ticket(
         (enc_ticket_part.spell part.now)) }
 {
     let octets = write_enc_ticket_part(alloc, part)?;
+    let sealed = sealed_data(
+        alloc,
+        service,
+        Some(kvno),
+        TICKET_USAGE,
+        confounder,
+        octets.as_slice(),
+    );
+    drop(octets);
+    let enc_part = sealed?;
     let (realm, sname) = names_of(alloc, server)?;
     let granted = Ticket {
         realm,
         sname,
-        enc_part: sealed_data(
-            alloc,
-            service,
-            Some(kvno),
-            TICKET_USAGE,
-            confounder,
-            octets.as_slice(),
-        )?,
+        enc_part,
     };
-    write_ticket(alloc, &granted)
+    let token = write_ticket(alloc, &granted);
+    drop(granted);
+    token
 }

@@ -3,10 +3,13 @@
 //! They are looked up where a checksum is due, and taken where key, side, octets and header are the same. So an answer is the same with
 //! them and without.
 
+ghost use Rattle.std.specs.Prelude.{◌≤◌, length};
+ghost use Rattle.krb_tokens.specs.Known.{IsShort};
+
 use crate::heard::Heard;
 use crate::saying::end_at;
 use accept_book::Lease;
-use krb_tokens::{KeyCache, KnownMics, KnownPair, LentKeys};
+use krb_tokens::{KeyCache, KnownMics, KnownPair, LentKeys, MicTask, TokenEnd};
 use rpcsec_msgs::numbers::RPC_GSS_SVC_INTEGRITY;
 use rpcsec_msgs::{GssCred, split_checked};
 
@@ -39,12 +42,28 @@ pub(crate) fn foresee_short<'a>(
         return None;
     }
     let end = end_at(lease);
-    let number = 2 * cred.seq as u64;
-    let of_header = end.mic_taken(heard.call.verf.body, header)?;
-    let of_body = end.mic_taken(mic, body)?;
+    let of_header = end.mic_taken(heard.call.verf.body, header);
+    let (of_header, of_body) = of_header.zip(end.mic_taken(mic, body))?;
+    foresee_reply(keys, &end, cred.seq, &of_header, &of_body)
+}
+
+/// Four checksums of a short call by the two of its own: those of its reply are taken of its body.
+fn foresee_reply<'a>(
+    keys: &KeyCache,
+    end: &TokenEnd,
+    seq: u32,
+    of_header: &MicTask<'a>,
+    of_body: &MicTask<'a>,
+) -> Option<KnownMics<'a>>
+    requires header { IsShort of_header.now }
+    requires body { IsShort of_body.now }
+    requires size { 4 ≤ length of_body.now.message.now }
+{
+    let body = of_body.message;
+    let number = 2 * seq as u64;
     let of_verifier = end.mic_due(number, &body[..4]);
     let of_reply = end.mic_due(number + 1, body);
-    keys.foresee4(&end, &of_header, &of_body, &of_verifier, &of_reply)
+    keys.foresee4(end, of_header, of_body, &of_verifier, &of_reply)
 }
 
 /// The checksums of a long call's body and of its reply's, where that has the content of the call, and the digest of the call's content.

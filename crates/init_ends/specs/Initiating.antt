@@ -85,6 +85,10 @@ looks talk outcome state (Some mic) = if is_list_mic outcome Initiator talk.list
 
 -- ---- the mechanism
 
+-- a further token of the mechanism is sent
+abbrev pub sends : TalkingMeans → List ℕ → StepMeans
+sends talking token = More (Talks talking) (resp_octets (token_sent token))
+
 -- an object has a further token, which may not come where all is complete; a MIC beside what it
 -- took is passed over
 abbrev pub goes_on : Talk → MechSays → Option NegState → List ℕ → Result StepMeans NegRefusal

@@ -91,23 +91,25 @@ pub fn looks(
     talk: Talk,
     outcome: Outcome,
     state: Option<NegState>,
-    mic: Option<Octets>,
+    mic: &Option<Octets>,
 ) -> Result<InitStep, NegRefusal>
     ensures exact { Gives NegRefusal.NoMemory (step_means meaning) result
-        (looks talk outcome state mic) }
+        (looks talk outcome state mic.now) }
     ensures held { IfOk result (λ s. holds_after (step_means meaning s) ≡ true) }
     ensures short { IfOk result (λ s. ShortStep (step_means meaning s)) }
 {
     match mic {
         None => {
             if is_mic_owed(&talk) {
+                drop(talk);
                 return Err(NegRefusal::MicMissing);
             }
             let step = ended(alloc, talk, outcome, false, completes_now(state, false))?;
             Ok(step)
         }
         Some(mic) => {
-            if !listed(alloc, &talk, &outcome, &mic)? {
+            if !listed(alloc, &talk, &outcome, mic)? {
+                drop(talk);
                 return Err(NegRefusal::MicBad);
             }
             let step = ended(alloc, talk, outcome, true, completes_now(state, true))?;
@@ -121,15 +123,16 @@ pub fn looks_again(
     alloc: Global,
     signed: Signed,
     state: Option<NegState>,
-    mic: Option<Octets>,
+    mic: &Option<Octets>,
 ) -> Result<InitStep, NegRefusal>
     ensures exact { Gives NegRefusal.NoMemory (step_means meaning) result
-        (looks_again signed state mic) }
+        (looks_again signed state mic.now) }
     ensures held { IfOk result (λ s. holds_after (step_means meaning s) ≡ true) }
     ensures short { IfOk result (λ s. ShortStep (step_means meaning s)) }
 {
     if let Some(mic) = mic {
-        if !listed(alloc, &signed.talk, &signed.outcome, &mic)? {
+        if !listed(alloc, &signed.talk, &signed.outcome, mic)? {
+            drop(signed);
             return Err(NegRefusal::MicBad);
         }
     }

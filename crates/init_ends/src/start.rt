@@ -7,8 +7,9 @@ ghost use Rattle.spnego_core.specs.Sizes.{IsShort, FitsBeside};
 ghost use Rattle.mech_objects.specs.Meaning.{starts, started};
 ghost use Rattle.mech_objects.specs.declared.ask.Stage.TheVariants.{Fresh};
 ghost use Rattle.spnego_core.specs.Choice.{are_few};
-ghost use Rattle.init_ends.specs.Objects.{is_own_list};
+ghost use Rattle.init_ends.specs.Objects.{is_own_list, is_waiting, all_fresh};
 ghost use Rattle.init_ends.specs.Ends.{setup_means, end_means, holds};
+ghost use Rattle.init_ends.specs.Ends as means;
 ghost use Rattle.init_ends.specs.Initiating.{first_sent, end_start};
 
 use crate::ends::{InitEnd, InitSetup, Opening};
@@ -63,6 +64,47 @@ fn first_sent(
     Ok((list, octets))
 }
 
+/// The end behind the first token, which has the token of its first mechanism.
+fn opens(
+    alloc: Global,
+    own: Vec<Oid>,
+    token: Octets,
+    ask: MechAsk,
+    mech: Box<dyn Mech>,
+    others: Vec<Box<dyn Mech>>,
+) -> Result<(InitEnd, Octets), NoMemory>
+    requires few { are_few own.items ≡ true }
+    requires waits { is_waiting (meaning mech).stage ≡ true }
+    requires fresh { all_fresh (map meaning others.items) ≡ true }
+    ensures end { IfOk result (λ p. end_means meaning p.0
+        ≡ means.Opens (record {
+          list = own.items;
+          ask = ask;
+          mech = meaning mech;
+          others = map meaning others.items;
+        })) }
+    ensures token { IfOk result (λ p. p.1 ≡ init_octets (first_sent own.items token)) }
+    ensures short { FitsBeside token → IfOk result (λ p. IsShort p.1) }
+{
+    match first_sent(alloc, Items::of(own), token) {
+        Ok((list, octets)) => {
+            let opening = Opening {
+                list,
+                ask,
+                mech,
+                others,
+            };
+            Ok((InitEnd::Opens(opening), octets))
+        }
+        Err(refusal) => {
+            drop(ask);
+            drop(mech);
+            drop(others);
+            Err(refusal)
+        }
+    }
+}
+
 impl InitEnd {
     /// The end and its first token.
     pub fn start(alloc: Global, setup: InitSetup) -> Result<(InitEnd, Octets), NegRefusal>
@@ -72,18 +114,24 @@ impl InitEnd {
         ensures held { IfOk result (λ p. holds (end_means meaning p.0) ≡ true) }
         ensures short { IfOk result (λ p. IsShort p.1) }
     {
+        let Ok(own) = own_list(alloc, setup.list.as_slice()) else {
+            drop(setup);
+            return Err(NegRefusal::NoMemory);
+        };
         let InitSetup { list, ask } = setup;
-        let own = own_list(alloc, list.as_slice())?;
         let mut others = list;
         let mut mech = others.remove(0);
-        let token = start_of(alloc, &mut mech, &ask)?;
-        let (list, octets) = first_sent(alloc, Items::of(own), token)?;
-        let opening = Opening {
-            list,
-            ask,
-            mech,
-            others,
-        };
-        Ok((InitEnd::Opens(opening), octets))
+        match start_of(alloc, &mut mech, &ask) {
+            Ok(token) => {
+                let begun = opens(alloc, own, token, ask, mech, others)?;
+                Ok(begun)
+            }
+            Err(refusal) => {
+                drop(ask);
+                drop(mech);
+                drop(others);
+                Err(refusal)
+            }
+        }
     }
 }

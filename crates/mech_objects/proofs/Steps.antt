@@ -1,5 +1,8 @@
 -- The states of Kerberos and SCRAM, token by token.
-use Rattle.std.proofs.Common.{rules, ◌≡◌, List, [], ◌∷◌, ◌++◌, ℕ, Option, Some, None, Result, Ok, Err}
+use Rattle.std.proofs.Common.{rules, ap, ◌∙◌, ◌≡◌, List, [], ◌∷◌, ◌++◌, ℕ, Option, Some, None, Result, Ok, Err}
+use Rattle.std.specs.Prelude.{IfOk}
+use Rattle.std.specs.Option.{option_zip}
+use Rattle.std.specs.Result.{result_ok}
 use Rattle.spnego_core.specs.MechStates.{InitMech}
 use Rattle.spnego_core.specs.declared.refusal.MechRefusal.{MechRefusal}
 use Rattle.spnego_core.specs.declared.setup.MechCred.{MechCred}
@@ -42,3 +45,12 @@ unfolding state_of
 begun_by None own ask state token is_own e = search (rules, is_own)
 begun_by (Some cred) own ask state token is_own e =
     search (rules, is_own, begun_state (begun own ask) state token e)
+
+-- what a copy beside something else is a copy of
+pub zipped : {A B E : Type 0} (a : Option A) (r : Result B E) (x : A) (y z : B)
+    → option_zip a (result_ok r) ≡ Some (x, y) → IfOk r (λ w. w ≡ z) → y ≡ z
+zipped None r x y z e copied = absurd cc
+zipped (Some v) (Err refusal) x y z e copied = absurd cc
+zipped {A} {B} (Some v) (Ok w) x y z e copied =
+    let pair : (x, y) ≡ (v, w) = cc in
+    ap (λ (p : A × B). p.1) pair ∙ copied

@@ -59,6 +59,10 @@ object_of k = record {
   stage = k.stage;
 }
 
+-- with a token that it took and one that it said
+abbrev pub kept : Kept → List ℕ → List ℕ → Kept
+kept k token octets = record k { sent = k.sent ++ octets ∷ []; taken = k.taken ++ token ∷ [] }
+
 -- once it took a token and said another: it waits for a further one
 abbrev pub goes_on : Kept → List ℕ → List ℕ → Kept
 goes_on k token octets = record k {

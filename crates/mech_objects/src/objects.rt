@@ -30,7 +30,7 @@ impl KerberosMech {
         }
     }
 
-    /// One that has no credential, under Microsoft's object identifier of Kerberos (MS-SPNG section 1.9).
+    /// One that has no credential, under Microsoft's object identifier of Kerberos.
     pub fn new_ms(alloc: Global) -> KerberosMech
         ensures { kerberos_of result ≡ blank_of (Kerberos Microsoft) }
     {

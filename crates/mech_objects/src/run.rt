@@ -1,11 +1,11 @@
 //! What the objects of Kerberos and SCRAM share: what one was given and took, and its mechanism's state.
 
-ghost use Rattle.std.specs.Prelude.{◌≡◌, ◌∷◌, ◌++◌, [], Some, Ok, IfOk, IfErr};
+ghost use Rattle.std.specs.Prelude.{◌≡◌, ◌∷◌, ◌++◌, [], Some, Ok, IfOk, IfErr, IfSome};
 ghost use Rattle.sec_base.specs.Answers.{Gives};
 ghost use Rattle.spnego_core.specs.Sizes.{FitsBeside};
 ghost use Rattle.mech_objects.specs.Meaning.{armed, starts, started, takes, took, FitsMove};
 ghost use Rattle.mech_objects.specs.Standard.{blank_of, state_after, state_by};
-ghost use Rattle.mech_objects.specs.States.{finished, goes_on, mech_in, object_of};
+ghost use Rattle.mech_objects.specs.States.{finished, goes_on, kept, mech_in, object_of};
 ghost use Rattle.mech_objects.specs.declared.ask.Stage.TheVariants.{Blank, Fresh, Waiting, Over};
 
 use crate::ask::{MechAsk, MechMove, Stage};
@@ -15,6 +15,17 @@ use sec_base::{NoMemory, Octets, Oid};
 use spnego_core::{MechCred, NegRefusal};
 use std::alloc::Global;
 use std::marker::Model;
+use std::mem::replace;
+
+/// A list of a copy of this token alone; None where there is no memory.
+fn alone(alloc: Global, token: &[u8]) -> Option<Vec<Octets>>
+    ensures { IfSome result (λ list. list.items ≡ token.now ∷ []) }
+{
+    let copy = Octets::of(alloc, token).ok()?;
+    let mut list = Vec::new(alloc);
+    list.push(copy).ok()?;
+    Some(list)
+}
 
 /// An object of Kerberos or SCRAM. Contracts see what it is.
 ///
@@ -104,16 +115,15 @@ impl MechRun {
         ensures after { object_of self.new ≡ started (object_of self.old) ask (Ok result) }
         ensures token { result ≡ token }
     {
-        self.ask = Some(ask);
-        self.sent = sent;
-        self.taken = Vec::new(alloc);
-        self.state = Some(state);
+        drop(self.ask.replace(ask));
+        drop(replace(&mut self.sent, sent));
+        drop(replace(&mut self.taken, Vec::new(alloc)));
+        drop(self.state.replace(state));
         self.stage = Stage::Waiting;
         token
     }
 
     /// The first token.
-    #[tactic(auto, using(crate::proofs::Steps::begun_by))]
     pub fn start(&mut self, alloc: Global, ask: &MechAsk) -> Result<Octets, NegRefusal>
         requires { self.old.stage ≡ Fresh }
         ensures exact { Gives NegRefusal.NoMemory (λ o. o) result
@@ -126,13 +136,31 @@ impl MechRun {
             return Err(NegRefusal::MechNotMine);
         };
         let (state, token) = MechState::begin(alloc, cred, ask)?;
-        let copy = Octets::of(alloc, token.as_slice())?;
-        let own = ask.copied(alloc)?;
-        let mut sent = Vec::new(alloc);
-        if sent.push(copy).is_err() {
-            return Err(NegRefusal::NoMemory);
+        match alone(alloc, token.as_slice()).zip(ask.copied(alloc).ok()) {
+            Some((sent, own)) => Ok(self.begins(alloc, own, state, sent, token)),
+            None => {
+                drop(state);
+                drop(token);
+                Err(NegRefusal::NoMemory)
+            }
         }
-        Ok(self.begins(alloc, own, state, sent, token))
+    }
+
+    /// A token that was taken and one that was sent are kept, or neither is.
+    fn keeps(&mut self, taken: Octets, sent: Octets) -> Result<(), NoMemory>
+        requires over { self.old.stage ≡ Over }
+        ensures after { IfOk result (λ _. self.new ≡ kept self.old taken sent) }
+        ensures lost { IfErr result (λ _. self.new ≡ self.old) }
+    {
+        if self.taken.push(taken).is_err() {
+            drop(sent);
+            return Err(NoMemory);
+        }
+        if self.sent.push(sent).is_err() {
+            drop(self.taken.pop());
+            return Err(NoMemory);
+        }
+        Ok(())
     }
 
     /// The tokens are kept, and the mechanism goes on in this state.
@@ -144,14 +172,17 @@ impl MechRun {
         ensures after { IfOk result (λ _. self.new ≡ goes_on self.old taken sent) }
         ensures lost { IfErr result (λ _. self.new ≡ self.old) }
     {
-        self.taken.push(taken)?;
-        if self.sent.push(sent).is_err() {
-            self.taken.pop();
-            return Err(NoMemory);
+        match self.keeps(taken, sent) {
+            Ok(()) => {
+                drop(self.state.replace(state));
+                self.stage = Stage::Waiting;
+                Ok(())
+            }
+            Err(refusal) => {
+                drop(state);
+                Err(refusal)
+            }
         }
-        self.state = Some(state);
-        self.stage = Stage::Waiting;
-        Ok(())
     }
 
     /// The last token is kept, and the mechanism is done.
@@ -187,16 +218,41 @@ impl MechRun {
         ensures short { IfOk result FitsMove }
     {
         let before = self.spent();
-        let kept = Octets::of(alloc, token)?;
         match before.take(alloc, token)? {
             StateAnswer::More(state, sent) => {
-                let copy = Octets::of(alloc, sent.as_slice())?;
-                self.goes_on(state, kept, copy)?;
+                self.says(alloc, token, state, sent.as_slice())?;
                 Ok(MechMove::Token(sent))
             }
             StateAnswer::Done(made) => {
+                let kept = Octets::of(alloc, token)?;
                 self.finishes(kept)?;
                 Ok(MechMove::Done(made))
+            }
+        }
+    }
+
+    /// Copies of both tokens are kept, and the mechanism goes on in this state.
+    fn says(
+        &mut self,
+        alloc: Global,
+        taken: &[u8],
+        state: MechState,
+        sent: &[u8],
+    ) -> Result<(), NoMemory>
+        requires state { Some (mech_in state)
+            ≡ state_after (state_by self.old.cred self.old.ask self.old.taken) taken.now }
+        requires over { self.old.stage ≡ Over }
+        ensures after { IfOk result (λ _. self.new ≡ goes_on self.old taken.now sent.now) }
+        ensures lost { IfErr result (λ _. self.new ≡ self.old) }
+    {
+        match Octets::of(alloc, taken)
+            .ok()
+            .zip(Octets::of(alloc, sent).ok())
+        {
+            Some((taken, sent)) => self.goes_on(state, taken, sent),
+            None => {
+                drop(state);
+                Err(NoMemory)
             }
         }
     }

@@ -1,15 +1,13 @@
 -- How long the texts are that both ends write.
-use Rattle.std.proofs.Common.{◌≡◌, ◌∙◌, ℕ, zero, suc, ◌+◌, ◌*◌, ◌/◌, ◌≤◌, ◌<◌, ◌^◌, true, List, [], ◌∷◌, ◌++◌, codes, length, Option, Some, None, Result, Ok, Err, refl, sym, ap, subst, arith, length-append, nat_eq}
-use Rattle.std.specs.Prelude.{IfOk, IfSome, slice_get, nat_le, nat_lt}
+use Rattle.std.proofs.Common.{◌≡◌, ℕ, zero, suc, ◌+◌, ◌≤◌, true, List, [], ◌∷◌, ◌++◌, codes, length, Option, Some, None, Result, Ok, Err, refl, ap, subst, arith, length-append}
+use Rattle.std.specs.Prelude.{IfOk, slice_get}
 use Rattle.std.specs.Fmt.{decimal}
 use Rattle.std.proofs.lemmas.Fmt.{length-decimal-le}
 use Rattle.std.proofs.lemmas.Bool.Decides.{nat_tests}
 use Rattle.sec_base.specs.Answers.{Gives}
 use Rattle.scram_mech.specs.declared.verifiers.Verifier.{Verifier}
-use Rattle.scram_mech.specs.declared.verifiers.Verifiers.{Verifiers}
 use Rattle.scram_mech.specs.declared.refusal.ScramRefusal.{ScramRefusal}
 use Rattle.scram_mech.specs.declared.refusal.ScramRefusal.TheVariants as refusals
-use Rattle.scram_mech.specs.declared.refusal.VerifierRefusal.{VerifierRefusal}
 use Rattle.scram_mech.specs.Reading.{seen}
 use Rattle.scram_mech.specs.Base64.{encoded}
 use Rattle.scram_mech.specs.Judging.{data_of, are_rounds}
@@ -17,10 +15,9 @@ use Rattle.scram_mech.specs.SecondText.{second_text}
 use Rattle.scram_mech.specs.ThirdText.{bare_text, with_proof}
 use Rattle.scram_mech.specs.FinalText.{final_text}
 use Rattle.scram_mech.specs.Secrets.{proof_of, signature_of}
-use Rattle.scram_mech.specs.Initiator.{InitModel, InitAnswered, Proving, proving, secret_of, bare_of, auth_of, answer_with, init_answered}
-use Rattle.scram_mech.specs.Verifiers.{line_for, verifiers_of}
+use Rattle.scram_mech.specs.Initiator.{InitModel, InitAnswered, Proving, proving, secret_of, bare_of, auth_of, init_answered}
 use Rattle.scram_mech.specs.VerifierFile.{IsLine, AreLines}
-use Rattle.scram_mech.specs.Acceptor.{AcceptModel, AcceptStarted, AcceptFinished, Accepting, accepting, nonce_of, second_by, accept_with, auth_with, finish_with, accept_started, accept_finished}
+use Rattle.scram_mech.specs.Acceptor.{AcceptModel, AcceptStarted, AcceptFinished, Accepting, accepting, nonce_of, accept_with, auth_with, accept_started, accept_finished}
 use Rattle.scram_mech.proofs.Written.{length-encoded}
 use Rattle.scram_mech.proofs.Masks.{length-proof, length-signature}
 use Rattle.scram_mech.proofs.ExchangeLaws.{proves, takes, accepts}

@@ -30,3 +30,4 @@ pub mod RefusedTexts
 pub mod RefusedFiles
 pub mod Lengths
 pub mod Reasons
+pub mod SteppedTexts

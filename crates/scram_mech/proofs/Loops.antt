@@ -1,8 +1,9 @@
 -- Steps of loops over octets.
-use Rattle.std.proofs.Common.{◌≡◌, ℕ, ◌+◌, ◌<◌, List, [], ◌∷◌, ◌++◌, length, drop, refl, sym, arith, add-one, append_assoc}
+use Rattle.std.proofs.Common.{◌≡◌, ℕ, ◌+◌, ◌<◌, Bool, true, false, cond, eqb, get_or, List, [], ◌∷◌, ◌++◌, length, drop, refl, arith, add-one, append_assoc}
 use Rattle.std.proofs.Math.Seq.{drop-cons}
-use Rattle.scram_mech.specs.declared.name.Escape.TheVariants.{Outside, Comma, Equals}
-use Rattle.scram_mech.specs.Name.{unescaped}
+use Rattle.scram_mech.specs.declared.name.Escape.{Escape}
+use Rattle.scram_mech.specs.declared.name.Escape.TheVariants.{Outside, Begun, Comma, Equals}
+use Rattle.scram_mech.specs.Name.{unescaped, given, behind}
 use Rattle.scram_mech.specs.Reading.{word_at, stuck_at}
 
 -- a word that isn't read whole is stuck at the end
@@ -11,13 +12,19 @@ unfolding word_at
 word-stuck word [] i lt short = rw (drop-cons word i 0) refl
 word-stuck word (x ∷ xs) i lt short = absurd (omega arith)
 
--- an escape that closes gives its octet
-pub closes_comma : (name more os all : List ℕ) (i : ℕ) → i < length os → more ≡ name ++ 44 ∷ [] → name ++ unescaped Comma (drop i os) ≡ all → more ++ unescaped Outside (drop (i + 1) os) ≡ all
-unfolding unescaped
-closes_comma name more os all i lt push before =
-    rw (push, add-one, append_assoc) (sym (rw (drop-cons os i 0) at (sym before)))
+outside_octet : (b : Bool) (octet : ℕ) (os : List ℕ) → cond b (unescaped Begun os) (octet ∷ unescaped Outside os) ≡ cond b [] (octet ∷ []) ++ unescaped (cond b Begun Outside) os
+outside_octet true octet os = refl
+outside_octet false octet os = refl
 
-pub closes_equals : (name more os all : List ℕ) (i : ℕ) → i < length os → more ≡ name ++ 61 ∷ [] → name ++ unescaped Equals (drop i os) ≡ all → more ++ unescaped Outside (drop (i + 1) os) ≡ all
+unescaped_octet : (escape : Escape) (octet : ℕ) (os : List ℕ) → unescaped escape (octet ∷ os) ≡ given escape octet ++ unescaped (behind escape octet) os
 unfolding unescaped
-closes_equals name more os all i lt push before =
-    rw (push, add-one, append_assoc) (sym (rw (drop-cons os i 0) at (sym before)))
+unescaped_octet Outside octet os = outside_octet (eqb octet 61) octet os
+unescaped_octet Begun octet os = refl
+unescaped_octet Comma octet os = refl
+unescaped_octet Equals octet os = refl
+
+-- an octet more of a text gives what it gives of the name
+pub read_more : (escape after : Escape) (name more extra os all : List ℕ) (i octet : ℕ) → i < length os → octet ≡ get_or os i 0 → extra ≡ given escape octet → after ≡ behind escape octet → more ≡ name ++ extra → name ++ unescaped escape (drop i os) ≡ all
+    → more ++ unescaped after (drop (i + 1) os) ≡ all
+read_more escape after name more extra os all i octet lt is gives leads push before =
+    rw (push, gives, leads, is, add-one, append_assoc) (rw (drop-cons os i 0, unescaped_octet) at before)

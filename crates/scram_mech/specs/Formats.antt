@@ -34,6 +34,43 @@ pieces_of format text = do
   values ← pieces format text
   Ok values.0
 
+-- a word, and the value behind it
+unfoldable pub value_behind : List ℕ → State → List ℕ → Result (List ℕ × List ℕ) Stuck
+value_behind word start octets = do
+  word ← word_at word octets
+  value_at start word.1
+
+-- the same values and the same rest as `pieces` gives, where a word and the value behind it are one
+-- step
+unfoldable pub steps : List Segment → List ℕ → Result (List (List ℕ) × List ℕ) Stuck
+steps [] octets = Ok ([], octets)
+steps (Word word ∷ []) octets = do
+  word ← word_at word octets
+  steps [] word.1
+steps (Word word ∷ Word next ∷ format) octets = do
+  word ← word_at word octets
+  steps (Word next ∷ format) word.1
+steps (Word word ∷ Value start ∷ format) octets = do
+  value ← value_behind word start octets
+  others ← steps format value.1
+  Ok (value.0 ∷ others.0, others.1)
+steps (Word word ∷ End ∷ format) octets = do
+  word ← word_at word octets
+  steps (End ∷ format) word.1
+steps (Value start ∷ format) octets = do
+  value ← value_at start octets
+  others ← steps format value.1
+  Ok (value.0 ∷ others.0, others.1)
+steps (End ∷ format) octets = do
+  end ← end_at octets
+  steps format end.1
+
+-- the same values as `pieces_of` gives
+unfoldable pub steps_of : List Segment → List ℕ → Result (List (List ℕ)) Stuck
+steps_of format text = do
+  values ← steps format text
+  Ok values.0
+
 -- the value at a place
 abbrev pub piece : List (List ℕ) → ℕ → List ℕ
 piece values at = slice_index_or values at []

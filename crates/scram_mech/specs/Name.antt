@@ -52,6 +52,20 @@ name_ends_in Equals n = false
 abbrev pub name_ends : Name → Bool
 name_ends n = name_ends_in n.escape n
 
+-- the octet of a name that an octet of a text gives behind this much of an escape, if any
+abbrev pub given : Escape → ℕ → List ℕ
+given Outside octet = if octet == 61 then [] else octet ∷ []
+given Begun octet = []
+given Comma octet = 44 ∷ []
+given Equals octet = 61 ∷ []
+
+-- how much of an escape is open behind it
+abbrev pub behind : Escape → ℕ → Escape
+behind Outside octet = if octet == 61 then Begun else Outside
+behind Begun octet = if octet == 50 then Comma else Equals
+behind Comma octet = Outside
+behind Equals octet = Outside
+
 -- the name for which octets of a text stand, behind this much of an escape
 unfoldable pub unescaped : Escape → List ℕ → List ℕ
 unescaped escape [] = []

@@ -1,6 +1,8 @@
 //! The acceptor's end.
 
 ghost use Rattle.std.specs.Prelude.{◌≡◌, ◌≤◌, ◌++◌, length, IfOk, option_map};
+ghost use Rattle.scram_mech.specs.Base64.{encoded};
+ghost use Rattle.scram_mech.specs.Acceptor.{accept_with};
 ghost use Rattle.sec_base.specs.Answers.{Gives};
 ghost use Rattle.scram_mech.specs.declared.refusal.ScramRefusal.TheVariants as refusals;
 ghost use Rattle.scram_mech.specs.Reading.{seen};
@@ -75,17 +77,50 @@ impl ScramAccept {
         let text = unframed(token)?;
         let first = read_first(text)?;
         let name = unescape(alloc, first.name)?;
-        let Some(line) = verifiers.find(name.as_slice()) else {
+        let found = verifiers.find(name.as_slice());
+        drop(name);
+        let Some(line) = found else {
             return Err(ScramRefusal::NoUser);
         };
-        let accept = ScramAccept {
-            line: line.copied(alloc)?,
-            first: Octets::of(alloc, text)?,
-            client: Octets::of(alloc, first.nonce)?,
-            own: encode(alloc, nonce)?,
-        };
-        let token = accept.second(alloc)?;
-        Ok((accept, token))
+        let accept = ScramAccept::with_line(alloc, line, text, first.nonce, nonce)?;
+        let answer = accept.with_second(alloc)?;
+        Ok(answer)
+    }
+
+    /// The end by a user's line, the first text, the initiator's nonce in it, and what was drawn for the own one.
+    fn with_line(
+        alloc: Global,
+        line: &Verifier,
+        text: &[u8],
+        client: &[u8],
+        nonce: &[u8; 18],
+    ) -> Result<ScramAccept, NoMemory>
+        ensures { IfOk result
+            (λ a. a ≡ accept_with text.now client.now line.now (encoded nonce.now)) }
+    {
+        let own = encode(alloc, nonce)?;
+        let client = Octets::of(alloc, client)?;
+        let first = Octets::of(alloc, text)?;
+        let line = line.copied(alloc)?;
+        Ok(ScramAccept {
+            line,
+            first,
+            client,
+            own,
+        })
+    }
+
+    /// The end with its second text.
+    fn with_second(self, alloc: Global) -> Result<(ScramAccept, Octets), NoMemory>
+        ensures { IfOk result (λ p. (p.0 ≡ self) × (p.1 ≡ second_by self)) }
+    {
+        match self.second(alloc) {
+            Ok(token) => Ok((self, token)),
+            Err(_) => {
+                drop(self);
+                Err(NoMemory)
+            }
+        }
     }
 
     /// The whole nonce.

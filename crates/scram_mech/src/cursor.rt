@@ -7,6 +7,7 @@ ghost use Rattle.scram_mech.specs.Run.{IsLineName};
 ghost use Rattle.scram_mech.specs.declared.run.Class.TheVariants.{LineName};
 ghost use Rattle.scram_mech.specs.Reading.{Reads, word_at, end_at};
 ghost use Rattle.scram_mech.specs.Values.{progress, value_at};
+ghost use Rattle.scram_mech.specs.Formats.{value_behind};
 
 use crate::digits::{Decimal, Digits};
 use crate::encoding::Encoded;
@@ -125,6 +126,41 @@ impl<'a> Cursor<'a> {
             return Err(self.stuck());
         }
         Ok(value)
+    }
+
+    /// Reads this word and a value behind it.
+    #[tactic(auto, unfolding(crate::specs::Formats::value_behind))]
+    pub fn value_behind(&mut self, word: &[u8], start: State) -> Result<&'a [u8], Stuck>
+        ensures { Reads (λ o. o.now) self.new result (value_behind word.now start self.old) }
+    {
+        self.word(word)?;
+        self.value(start)
+    }
+
+    /// Reads this word and behind it the base64 of a number of octets from `least` to `most`.
+    #[tactic(auto, unfolding(crate::specs::Formats::value_behind))]
+    pub fn base64_behind(
+        &mut self,
+        word: &[u8],
+        least: u16,
+        most: u16,
+    ) -> Result<Encoded<'a>, Stuck>
+        ensures read { Reads (λ e. e.signs.now) self.new result
+            (value_behind word.now (base64 least most) self.old) }
+        ensures range { IfOk result (λ e. InRange least most (decoded e.signs.now)) }
+    {
+        self.word(word)?;
+        self.base64(least, most)
+    }
+
+    /// Reads this word and a number of at most ten digits behind it.
+    #[tactic(auto, unfolding(crate::specs::Formats::value_behind))]
+    pub fn number_behind(&mut self, word: &[u8]) -> Result<Decimal<'a>, Stuck>
+        ensures { Reads (λ d. d.digits.now) self.new result
+            (value_behind word.now rounds_number self.old) }
+    {
+        self.word(word)?;
+        self.number()
     }
 
     /// Reads a name of a verifier file.

@@ -3,6 +3,7 @@
 ghost use Rattle.std.specs.Prelude.{◌≡◌, ◌++◌, IfOk, OnOk};
 ghost use Rattle.scram_mech.specs.Base64.{IsBase64, decoded, encoded};
 
+use crate::texts::put;
 use base64::engine::general_purpose::STANDARD;
 use sec_base::{NoMemory, Octets};
 use std::alloc::Global;
@@ -32,8 +33,7 @@ pub fn put_encoded(alloc: Global, text: &mut Vec<u8>, octets: &[u8]) -> Result<(
     ensures { OnOk result (text.new.items ≡ text.old.items ++ encoded octets.now) }
 {
     let signs = STANDARD.encode(alloc, octets)?;
-    text.extend_from_slice(signs.as_bytes())?;
-    Ok(())
+    put(text, signs.as_bytes())
 }
 
 /// The signs of these octets.

@@ -3,7 +3,7 @@
 ghost use Rattle.std.specs.Prelude.{◌≡◌, ◌++◌, ◌∷◌, [], IfOk};
 ghost use Rattle.scram_mech.specs.Reading.{Answers};
 ghost use Rattle.scram_mech.specs.Base64.{InRange, decoded};
-ghost use Rattle.scram_mech.specs.Formats.{pieces_of, values_of};
+ghost use Rattle.scram_mech.specs.Formats.{steps_of, values_of};
 ghost use Rattle.scram_mech.specs.FinalText.{signature_format, error_format, begins_as_error};
 ghost use Rattle.scram_mech.specs.FinalText.{final_of, final_text};
 
@@ -26,30 +26,29 @@ struct SignatureText<'a> {
     further: &'a [u8],
 }
 
-#[tactic(auto, unfolding(crate::specs::Formats::pieces_of, crate::specs::Formats::pieces, crate::specs::FinalText::signature_format))]
+#[tactic(auto, unfolding(crate::specs::Formats::steps_of, crate::specs::Formats::steps, crate::specs::FinalText::signature_format))]
 fn signature_parts(text: &[u8]) -> Result<SignatureText<'_>, Stuck>
     ensures { Answers (λ t. t.signature.signs.now ∷ t.further.now ∷ []) result
-        (pieces_of signature_format text.now) }
+        (steps_of signature_format text.now) }
 {
     let mut cursor = Cursor::new(text);
-    cursor.word(b"v=")?;
-    let signature = cursor.base64(SIGNATURE, SIGNATURE)?;
+    let signature = cursor.base64_behind(b"v=", SIGNATURE, SIGNATURE)?;
     let further = cursor.value(State::further(None))?;
     cursor.end()?;
     Ok(SignatureText { signature, further })
 }
 
 /// The value and the further parts of a final text with an error.
-#[tactic(auto, unfolding(crate::specs::Formats::pieces_of, crate::specs::Formats::pieces, crate::specs::FinalText::error_format))]
+#[tactic(auto, unfolding(crate::specs::Formats::steps_of, crate::specs::Formats::steps, crate::specs::FinalText::error_format))]
 fn error_parts(text: &[u8]) -> Result<&[u8], Stuck>
-    ensures { Answers (λ v. v.now ∷ []) result (pieces_of error_format text.now) }
+    ensures { Answers (λ v. v.now ∷ []) result (steps_of error_format text.now) }
 {
     let mut cursor = Cursor::new(text);
-    cursor.word(b"e=")?;
-    let value = cursor.value(State::Further(Further {
+    let further = Further {
         due: Due::Value,
         last: None,
-    }))?;
+    };
+    let value = cursor.value_behind(b"e=", State::Further(further))?;
     cursor.end()?;
     Ok(value)
 }
@@ -64,7 +63,7 @@ fn begins_as_error(text: &[u8]) -> bool
 }
 
 /// The signature of a final text; a text of an error is refused as such.
-#[tactic(auto, unfolding(crate::specs::Formats::values_of, crate::specs::FinalText::final_of))]
+#[tactic(auto, using(crate::proofs::SteppedTexts::steps_of_pieces), unfolding(crate::specs::Formats::values_of, crate::specs::FinalText::final_of))]
 pub fn read_final(text: &[u8]) -> Result<Encoded<'_>, ScramRefusal>
     ensures { Answers (λ e. decoded e.signs.now) result (final_of text.now) }
 {

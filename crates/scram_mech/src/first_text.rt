@@ -4,7 +4,7 @@ ghost use Rattle.std.specs.Prelude.{◌≡◌, ◌++◌, ◌∷◌, [], OnOk, co
 ghost use Rattle.scram_mech.specs.declared.name.Escape.TheVariants.{Outside};
 ghost use Rattle.scram_mech.specs.Reading.{Answers};
 ghost use Rattle.scram_mech.specs.Name.{unescaped};
-ghost use Rattle.scram_mech.specs.Formats.{pieces_of};
+ghost use Rattle.scram_mech.specs.Formats.{steps_of};
 ghost use Rattle.scram_mech.specs.FirstText.{first_format, first_of, first_text};
 
 use crate::cursor::Cursor;
@@ -26,16 +26,14 @@ pub struct FirstText<'a> {
     pub further: &'a [u8],
 }
 
-#[tactic(auto, unfolding(crate::specs::Formats::pieces_of, crate::specs::Formats::pieces, crate::specs::FirstText::first_format))]
+#[tactic(auto, unfolding(crate::specs::Formats::steps_of, crate::specs::Formats::steps, crate::specs::FirstText::first_format))]
 fn parts_of(text: &[u8]) -> Result<FirstText<'_>, Stuck>
     ensures { Answers (λ t. t.name.now ∷ t.nonce.now ∷ t.further.now ∷ []) result
-        (pieces_of first_format text.now) }
+        (steps_of first_format text.now) }
 {
     let mut cursor = Cursor::new(text);
-    cursor.word(b"n=")?;
-    let name = cursor.value(State::name())?;
-    cursor.word(b",r=")?;
-    let nonce = cursor.value(State::some(Class::Nonce, MOST_NONCE))?;
+    let name = cursor.value_behind(b"n=", State::name())?;
+    let nonce = cursor.value_behind(b",r=", State::some(Class::Nonce, MOST_NONCE))?;
     let further = cursor.value(State::further(None))?;
     cursor.end()?;
     Ok(FirstText {
@@ -46,7 +44,7 @@ fn parts_of(text: &[u8]) -> Result<FirstText<'_>, Stuck>
 }
 
 /// The name and the nonce of a first text.
-#[tactic(auto, unfolding(crate::specs::Formats::values_of, crate::specs::FirstText::first_of))]
+#[tactic(auto, using(crate::proofs::SteppedTexts::steps_of_pieces), unfolding(crate::specs::Formats::values_of, crate::specs::FirstText::first_of))]
 pub fn read_first(text: &[u8]) -> Result<FirstText<'_>, ScramRefusal>
     ensures { Answers (λ t. record { name = unescaped Outside t.name.now; nonce = t.nonce.now })
         result (first_of text.now) }
@@ -68,6 +66,5 @@ pub fn put_first(text: &mut Vec<u8>, name: &[u8], nonce: &[u8]) -> Result<(), No
     put(text, b"n=")?;
     put_name(text, name)?;
     put(text, b",r=")?;
-    put(text, nonce)?;
-    Ok(())
+    put(text, nonce)
 }

@@ -10,6 +10,9 @@ ghost use Rattle.scram_mech.specs.FirstText.{first_text};
 ghost use Rattle.scram_mech.specs.ThirdText.{bare_text, with_proof};
 ghost use Rattle.scram_mech.specs.Secrets.{auth_message, masked, key_of_client};
 ghost use Rattle.scram_mech.specs.Initiator.{proving, init_started, init_answered, init_finished};
+ghost use Rattle.gss_base.specs.Mech.{oid_of};
+ghost use Rattle.gss_base.specs.declared.mech.MechKind.TheVariants.{Scram};
+ghost use Rattle.der_core.specs.Frame.{framed};
 
 use crate::encoding::encode;
 use crate::final_text::read_final;
@@ -74,6 +77,17 @@ fn write_first(alloc: Global, user: &[u8], nonce: &[u8]) -> Result<Octets, NoMem
     Ok(Octets::from_vec(text))
 }
 
+/// The first text of a name and a nonce, framed.
+fn first_token(alloc: Global, user: &[u8], nonce: &[u8]) -> Result<Octets, NoMemory>
+    ensures { IfOk result
+        (λ o. o ≡ framed.spell (oid_of Scram, first_text user.now nonce.now)) }
+{
+    let text = write_first(alloc, user, nonce)?;
+    let token = frame(alloc, &MechKind::Scram.oid(), text.as_slice());
+    drop(text);
+    token
+}
+
 impl ScramInit {
     /// Begins an exchange as `user`, with 18 octets that were drawn for the nonce: the first token, framed. A user has 1 to 255 octets
     /// of printable ASCII, a password 1 to 1,024; where one isn't so, the place is its first octet that can't stand there.
@@ -96,19 +110,40 @@ impl ScramInit {
             unreachable!();
         };
         let nonce = encode(alloc, nonce)?;
-        let text = write_first(alloc, user.as_bytes(), nonce.as_slice())?;
-        let token = frame(alloc, &MechKind::Scram.oid(), text.as_slice())?;
-        let password = Octets::of(alloc, password.as_bytes())?;
+        let token = first_token(alloc, user.as_bytes(), nonce.as_slice());
+        let end = ScramInit::with_nonce(alloc, label, password.as_bytes(), nonce, bindings);
+        match end.ok().zip(token.ok()) {
+            Some(begun) => Ok(begun),
+            None => Err(ScramRefusal::NoMemory),
+        }
+    }
+
+    /// The end of a user with this nonce.
+    fn with_nonce(
+        alloc: Global,
+        user: Label,
+        password: &[u8],
+        nonce: Octets,
+        bindings: Option<&Bindings>,
+    ) -> Result<ScramInit, NoMemory>
+        ensures { IfOk result
+            (λ i. i
+            ≡ record {
+              user = user;
+              password = password.now;
+              nonce = nonce;
+              bindings =
+                  option_map (λ b. b.now) bindings.entry;
+            }) }
+    {
+        let password = Octets::of(alloc, password)?;
         let bindings = copied(alloc, bindings)?;
-        Ok((
-            ScramInit {
-                user: label,
-                password,
-                nonce,
-                bindings,
-            },
-            token,
-        ))
+        Ok(ScramInit {
+            user,
+            password,
+            nonce,
+            bindings,
+        })
     }
 }
 
@@ -213,14 +248,23 @@ fn write_proof(
 
 impl ScramWait {
     /// Takes the acceptor's final text. The end is spent, whatever the answer.
-    #[tactic(auto, unfolding(crate::specs::Initiator::init_finished, crate::specs::Secrets::signature_of))]
     pub fn take_final(self, alloc: Global, text: &[u8]) -> Result<MechDone, ScramRefusal>
         ensures { Gives refusals.NoMemory (λ d. d) result
             (seen (λ f. f.done) (init_finished self text.now)) }
     {
+        self.finished(alloc, text)
+    }
+
+    /// What `take_final` answers.
+    #[tactic(auto, unfolding(crate::specs::Initiator::init_finished, crate::specs::Secrets::signature_of))]
+    fn finished(&self, alloc: Global, text: &[u8]) -> Result<MechDone, ScramRefusal>
+        ensures { Gives refusals.NoMemory (λ d. d) result
+            (seen (λ f. f.done) (init_finished self.now text.now)) }
+    {
         let signature = read_final(text)?.decode(alloc)?;
         let due = code_of(&self.server, self.auth.as_slice());
         if !same(&due, signature.as_slice()) {
+            drop(signature);
             return Err(ScramRefusal::Signature);
         }
         Ok(MechDone {

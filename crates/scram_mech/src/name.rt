@@ -1,10 +1,12 @@
 //! A user's name as a text has it: `=2C` stands for a comma, `=3D` for `=` (RFC 5802 section 5.1).
 
-ghost use Rattle.std.specs.Prelude.{◌≡◌, ◌++◌, IfOk, OnOk};
+ghost use Rattle.std.specs.Prelude.{◌≡◌, ◌++◌, IfOk, OnOk, option_to_list};
 ghost use Rattle.scram_mech.specs.Name.{longer, within, name_step, name_ends, unescaped, escaped};
+ghost use Rattle.scram_mech.specs.Name.{escape_of, given, behind};
 ghost use Rattle.scram_mech.specs.declared.name.Escape.TheVariants.{Outside};
 
 use crate::signs::is_value;
+use crate::texts::put;
 use sec_base::{NoMemory, Octets};
 use std::alloc::Global;
 
@@ -99,19 +101,76 @@ impl Name {
     }
 }
 
+/// Adds an octet of a name to a text.
+fn put_octet(text: &mut Vec<u8>, octet: u8) -> Result<(), NoMemory>
+    ensures { OnOk result (text.new.items ≡ text.old.items ++ escape_of octet) }
+{
+    match octet {
+        b',' => put(text, b"=2C"),
+        b'=' => put(text, b"=3D"),
+        plain => put(text, &[plain]),
+    }
+}
+
 /// Adds a name to a text.
 #[tactic(auto, unfolding(crate::specs::Name::escaped))]
 pub fn put_name(text: &mut Vec<u8>, name: &[u8]) -> Result<(), NoMemory>
     ensures { OnOk result (text.new.items ≡ text.old.items ++ escaped name.now) }
 {
     for octet in name {
-        match *octet {
-            b',' => text.extend_from_slice(b"=2C")?,
-            b'=' => text.extend_from_slice(b"=3D")?,
-            plain => text.push(plain)?,
-        }
+        put_octet(text, *octet)?;
     }
     Ok(())
+}
+
+impl Escape {
+    /// The octet of a name that this one of a text gives behind it, if any.
+    fn given(self, octet: u8) -> Option<u8>
+        ensures { option_to_list result ≡ given self octet }
+    {
+        match self {
+            Escape::Outside => { if octet == b'=' { None } else { Some(octet) } }
+            Escape::Begun => None,
+            Escape::Comma => Some(b','),
+            Escape::Equals => Some(b'='),
+        }
+    }
+
+    /// How much of an escape is open behind this octet of a text.
+    fn behind(self, octet: u8) -> Escape
+        ensures { result ≡ behind self octet }
+    {
+        match self {
+            Escape::Outside => {
+                if octet == b'=' {
+                    Escape::Begun
+                } else {
+                    Escape::Outside
+                }
+            }
+            Escape::Begun => {
+                if octet == b'2' {
+                    Escape::Comma
+                } else {
+                    Escape::Equals
+                }
+            }
+            Escape::Comma | Escape::Equals => Escape::Outside,
+        }
+    }
+}
+
+/// Adds an octet to a name, if there is one.
+fn put_given(name: &mut Vec<u8>, given: Option<u8>) -> Result<(), NoMemory>
+    ensures { OnOk result (name.new.items ≡ name.old.items ++ option_to_list given) }
+{
+    match given {
+        Some(octet) => {
+            name.push(octet)?;
+            Ok(())
+        }
+        None => Ok(()),
+    }
 }
 
 /// The name that stands so in a text.
@@ -122,34 +181,8 @@ pub fn unescape(alloc: Global, octets: &[u8]) -> Result<Octets, NoMemory>
     let mut name = Vec::new(alloc);
     let mut escape = Escape::Outside;
     for octet in octets {
-        match escape {
-            Escape::Outside => {
-                if *octet == b'=' {
-                    escape = Escape::Begun;
-                    continue;
-                }
-                name.push(*octet)?;
-                continue;
-            }
-            Escape::Begun => {
-                if *octet == b'2' {
-                    escape = Escape::Comma;
-                    continue;
-                }
-                escape = Escape::Equals;
-                continue;
-            }
-            Escape::Comma => {
-                name.push(b',')?;
-                escape = Escape::Outside;
-                continue;
-            }
-            Escape::Equals => {
-                name.push(b'=')?;
-                escape = Escape::Outside;
-                continue;
-            }
-        }
+        put_given(&mut name, escape.given(*octet))?;
+        escape = escape.behind(*octet);
     }
     Ok(Octets::from_vec(name))
 }

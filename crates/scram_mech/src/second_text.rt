@@ -5,7 +5,7 @@ ghost use Rattle.std.specs.Fmt.{decimal};
 ghost use Rattle.scram_mech.specs.Reading.{Answers};
 ghost use Rattle.scram_mech.specs.Base64.{decoded};
 ghost use Rattle.scram_mech.specs.Digits.{number_of};
-ghost use Rattle.scram_mech.specs.Formats.{pieces_of};
+ghost use Rattle.scram_mech.specs.Formats.{steps_of};
 ghost use Rattle.scram_mech.specs.SecondText.{second_format, second_of, second_text};
 
 use crate::cursor::Cursor;
@@ -30,18 +30,15 @@ pub struct SecondText<'a> {
     pub further: &'a [u8],
 }
 
-#[tactic(auto, unfolding(crate::specs::Formats::pieces_of, crate::specs::Formats::pieces, crate::specs::SecondText::second_format))]
+#[tactic(auto, unfolding(crate::specs::Formats::steps_of, crate::specs::Formats::steps, crate::specs::SecondText::second_format))]
 fn parts_of(text: &[u8]) -> Result<SecondText<'_>, Stuck>
     ensures { Answers (λ t. t.nonce.now ∷ t.salt.signs.now ∷ t.rounds.digits.now ∷ t.further.now
-        ∷ []) result (pieces_of second_format text.now) }
+        ∷ []) result (steps_of second_format text.now) }
 {
     let mut cursor = Cursor::new(text);
-    cursor.word(b"r=")?;
-    let nonce = cursor.value(State::some(Class::Nonce, MOST_NONCE))?;
-    cursor.word(b",s=")?;
-    let salt = cursor.base64(1, 64)?;
-    cursor.word(b",i=")?;
-    let rounds = cursor.number()?;
+    let nonce = cursor.value_behind(b"r=", State::some(Class::Nonce, MOST_NONCE))?;
+    let salt = cursor.base64_behind(b",s=", 1, 64)?;
+    let rounds = cursor.number_behind(b",i=")?;
     let further = cursor.value(State::further(None))?;
     cursor.end()?;
     Ok(SecondText {
@@ -53,7 +50,7 @@ fn parts_of(text: &[u8]) -> Result<SecondText<'_>, Stuck>
 }
 
 /// Nonce, salt and rounds of a second text.
-#[tactic(auto, unfolding(crate::specs::Formats::values_of, crate::specs::SecondText::second_of))]
+#[tactic(auto, using(crate::proofs::SteppedTexts::steps_of_pieces), unfolding(crate::specs::Formats::values_of, crate::specs::SecondText::second_of))]
 pub fn read_second(text: &[u8]) -> Result<SecondText<'_>, ScramRefusal>
     ensures { Answers (λ t. record {
       nonce = t.nonce.now;
@@ -76,8 +73,7 @@ pub fn put_decimal(alloc: Global, text: &mut Vec<u8>, number: u32) -> Result<(),
     ensures { OnOk result (text.new.items ≡ text.old.items ++ decimal number) }
 {
     let digits = format!(in alloc; "{number}")?;
-    text.extend_from_slice(digits.as_bytes())?;
-    Ok(())
+    put(text, digits.as_bytes())
 }
 
 /// Adds the second text of a nonce, a salt and rounds.
@@ -97,6 +93,5 @@ pub fn put_second(
     put(text, b",s=")?;
     put_encoded(alloc, text, salt)?;
     put(text, b",i=")?;
-    put_decimal(alloc, text, rounds)?;
-    Ok(())
+    put_decimal(alloc, text, rounds)
 }

@@ -76,8 +76,7 @@ fn put_after_comma(message: &mut Vec<u8>, text: &[u8]) -> Result<(), NoMemory>
     ensures { OnOk result (message.new.items ≡ message.old.items ++ (codes "," ++ text.now)) }
 {
     put(message, b",")?;
-    put(message, text)?;
-    Ok(())
+    put(message, text)
 }
 
 /// A key masked by the code of an AuthMessage under the stored key; a mask over a mask takes it off.

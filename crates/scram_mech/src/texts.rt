@@ -19,6 +19,8 @@ pub fn is_mandatory(text: &[u8]) -> bool
 pub fn put(text: &mut Vec<u8>, octets: &[u8]) -> Result<(), NoMemory>
     ensures { OnOk result (text.new.items ≡ text.old.items ++ octets.now) }
 {
-    text.extend_from_slice(octets)?;
-    Ok(())
+    match text.extend_from_slice(octets) {
+        Ok(()) => Ok(()),
+        Err(_) => Err(NoMemory),
+    }
 }

@@ -3,7 +3,7 @@
 ghost use Rattle.std.specs.Prelude.{◌≡◌, ◌-◌, ◌≤◌, ◌++◌, ◌∷◌, [], length, take, IfOk, OnOk, codes};
 ghost use Rattle.scram_mech.specs.Reading.{Answers};
 ghost use Rattle.scram_mech.specs.Base64.{InRange, decoded, encoded};
-ghost use Rattle.scram_mech.specs.Formats.{pieces_of};
+ghost use Rattle.scram_mech.specs.Formats.{steps_of};
 ghost use Rattle.scram_mech.specs.ThirdText.{third_format, third_of, bare_text, with_proof};
 
 use crate::cursor::Cursor;
@@ -35,22 +35,19 @@ pub struct ThirdText<'a> {
     pub bare: &'a [u8],
 }
 
-#[tactic(auto, unfolding(crate::specs::Formats::pieces_of, crate::specs::Formats::pieces, crate::specs::ThirdText::third_format))]
+#[tactic(auto, unfolding(crate::specs::Formats::steps_of, crate::specs::Formats::steps, crate::specs::ThirdText::third_format))]
 fn parts_of(text: &[u8]) -> Result<ThirdText<'_>, Stuck>
     ensures read { Answers (λ t. t.binding.signs.now ∷ t.nonce.now ∷ t.further.now
-        ∷ t.proof.signs.now ∷ []) result (pieces_of third_format text.now) }
+        ∷ t.proof.signs.now ∷ []) result (steps_of third_format text.now) }
     ensures bare { IfOk result (λ t. t.bare.now ≡ take (length text.now - 31) text.now) }
     ensures binding { IfOk result (λ t. InRange 0 32768 (decoded t.binding.signs.now)) }
     ensures proof { IfOk result (λ t. InRange 20 20 (decoded t.proof.signs.now)) }
 {
     let mut cursor = Cursor::new(text);
-    cursor.word(b"c=")?;
-    let binding = cursor.base64(0, MOST_BINDING)?;
-    cursor.word(b",r=")?;
-    let nonce = cursor.value(State::some(Class::Nonce, MOST_NONCE))?;
+    let binding = cursor.base64_behind(b"c=", 0, MOST_BINDING)?;
+    let nonce = cursor.value_behind(b",r=", State::some(Class::Nonce, MOST_NONCE))?;
     let further = cursor.value(State::further(Some(b'p')))?;
-    cursor.word(b"=")?;
-    let proof = cursor.base64(PROOF, PROOF)?;
+    let proof = cursor.base64_behind(b"=", PROOF, PROOF)?;
     cursor.end()?;
     Ok(ThirdText {
         binding,
@@ -62,7 +59,7 @@ fn parts_of(text: &[u8]) -> Result<ThirdText<'_>, Stuck>
 }
 
 /// Binding data, nonce and proof of a third text.
-#[tactic(auto, unfolding(crate::specs::Formats::values_of, crate::specs::ThirdText::third_of))]
+#[tactic(auto, using(crate::proofs::SteppedTexts::steps_of_pieces), unfolding(crate::specs::Formats::values_of, crate::specs::ThirdText::third_of))]
 pub fn read_third(text: &[u8]) -> Result<ThirdText<'_>, ScramRefusal>
     ensures read { Answers (λ t. record {
       binding = decoded t.binding.signs.now;
@@ -97,8 +94,7 @@ pub fn put_bare(
     put(text, b"c=")?;
     put_encoded(alloc, text, binding)?;
     put(text, b",r=")?;
-    put(text, nonce)?;
-    Ok(())
+    put(text, nonce)
 }
 
 /// Adds a proof to a third text.
@@ -106,6 +102,5 @@ pub fn put_proof(alloc: Global, text: &mut Vec<u8>, proof: &[u8]) -> Result<(), 
     ensures { OnOk result (text.new.items ≡ text.old.items ++ codes ",p=" ++ encoded proof.now) }
 {
     put(text, b",p=")?;
-    put_encoded(alloc, text, proof)?;
-    Ok(())
+    put_encoded(alloc, text, proof)
 }

@@ -8,7 +8,7 @@ ghost use Rattle.scram_mech.specs.declared.refusal.VerifierRefusal.TheVariants a
 ghost use Rattle.scram_mech.specs.Base64.{InRange, decoded};
 ghost use Rattle.scram_mech.specs.Digits.{number_of};
 ghost use Rattle.scram_mech.specs.Reading.{Reads, Answers, MayRead};
-ghost use Rattle.scram_mech.specs.Formats.{pieces};
+ghost use Rattle.scram_mech.specs.Formats.{steps};
 ghost use Rattle.scram_mech.specs.VerifierFile.{AreLines};
 ghost use Rattle.scram_mech.specs.Verifiers.{line_format, line_at, lines_at, line_for, once};
 ghost use Rattle.scram_mech.specs.Verifiers.{verifiers_of, line_text, made_line};
@@ -85,22 +85,18 @@ struct LineText<'a> {
     server: Encoded<'a>,
 }
 
-#[tactic(auto, unfolding(crate::specs::Formats::pieces, crate::specs::Verifiers::line_format))]
+#[tactic(auto, unfolding(crate::specs::Formats::steps, crate::specs::Verifiers::line_format))]
 fn parts_of<'a>(cursor: &mut Cursor<'a>) -> Result<LineText<'a>, Stuck>
     ensures read { Reads (λ t. t.name ∷ t.rounds.digits.now ∷ t.salt.signs.now ∷ t.stored.signs.now
-        ∷ t.server.signs.now ∷ []) cursor.new result (pieces line_format cursor.old) }
+        ∷ t.server.signs.now ∷ []) cursor.new result (steps line_format cursor.old) }
     ensures stored { IfOk result (λ t. InRange 20 20 (decoded t.stored.signs.now)) }
     ensures server { IfOk result (λ t. InRange 20 20 (decoded t.server.signs.now)) }
 {
     let name = cursor.line_name()?;
-    cursor.word(b":")?;
-    let rounds = cursor.number()?;
-    cursor.word(b":")?;
-    let salt = cursor.base64(1, 64)?;
-    cursor.word(b":")?;
-    let stored = cursor.base64(KEY, KEY)?;
-    cursor.word(b":")?;
-    let server = cursor.base64(KEY, KEY)?;
+    let rounds = cursor.number_behind(b":")?;
+    let salt = cursor.base64_behind(b":", 1, 64)?;
+    let stored = cursor.base64_behind(b":", KEY, KEY)?;
+    let server = cursor.base64_behind(b":", KEY, KEY)?;
     cursor.word(b"\n")?;
     Ok(LineText {
         name,
@@ -112,7 +108,7 @@ fn parts_of<'a>(cursor: &mut Cursor<'a>) -> Result<LineText<'a>, Stuck>
 }
 
 /// The line of this number, which stands at the front.
-#[tactic(auto, unfolding(crate::specs::Verifiers::line_at))]
+#[tactic(auto, using(crate::proofs::SteppedTexts::steps_pieces), unfolding(crate::specs::Verifiers::line_at))]
 fn read_line(alloc: Global, cursor: &mut Cursor, number: usize) -> Result<Verifier, VerifierRefusal>
     ensures read { MayRead verifier_refusals.NoMemory (λ v. v) cursor.new result
         (line_at number cursor.old) }

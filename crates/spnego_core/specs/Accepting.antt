@@ -95,15 +95,19 @@ oid_chosen chosen = listed_as chosen.received chosen.kind
 
 -- ---- the mechanism
 
+-- the mechanism is done and the MIC is due: the own one goes with its last token, and the
+-- initiator's is owed
+abbrev pub owes : Turn → Chosen → Outcome → ℕ → List ℕ → Answered
+owes turn chosen outcome lasts token = afters.More
+    (ends.Owes (record { received = chosen.received; outcome = outcome; lasts = lasts }))
+    (reply turn (oid_chosen chosen) true true (Some token)
+    (Some (list_mic outcome Acceptor chosen.received)))
+
 -- the mechanism is done: where the MIC is due, the own one goes with its last token, and the
 -- initiator's is owed
 abbrev pub finished : Turn → Chosen → Outcome → ℕ → List ℕ → Answered
 finished turn chosen outcome lasts token =
-    if chosen.due
-    then afters.More
-    (ends.Owes (record { received = chosen.received; outcome = outcome; lasts = lasts }))
-    (reply turn (oid_chosen chosen) true true (Some token)
-    (Some (list_mic outcome Acceptor chosen.received)))
+    if chosen.due then owes turn chosen outcome lasts token
     else afters.Done outcome lasts (reply turn (oid_chosen chosen) false true (Some token) None)
 
 -- the step that follows once nothing is to be asked
@@ -223,6 +227,10 @@ closes owing resp = do
   mic ← or_refuse MicMissing resp.mic
   right ← due MicBad (is_list_mic owing.outcome Acceptor owing.received mic)
   Ok (settled owing mic)
+
+-- the same by the token, which is read first
+abbrev pub closed : Owing → List ℕ → Result Accepted NegRefusal
+closed owing token = resp_read token >>= closes owing
 
 -- ---- the machine: setup, end, token, moment, draws
 -- what an acceptor makes of a token: the first, one for the mechanism, or one with the MIC

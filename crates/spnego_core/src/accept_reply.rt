@@ -1,12 +1,14 @@
 //! What an acceptor answers.
 
-ghost use Rattle.std.specs.Prelude.{◌≡◌, IfOk, IfErr, IfSome, Some, None, Ok};
+ghost use Rattle.std.specs.Prelude.{◌≡◌, IfOk, IfErr, IfSome, Some, None, Ok, true};
 ghost use Rattle.sec_base.specs.Answers.{Gives};
 ghost use Rattle.spnego_core.specs.AcceptMech.{answered};
 ghost use Rattle.spnego_core.specs.Sizes.{IsShort, FitsBeside, IsMicSized, ShortTold};
 ghost use Rattle.spnego_core.specs.Sizes.{ShortAnswered, ShortAccept};
 ghost use Rattle.spnego_core.specs.Accepting.{state_said, mech_said, reply_with, reply, finished};
-ghost use Rattle.spnego_core.specs.Accepting.{going, told, run, step_of};
+ghost use Rattle.spnego_core.specs.Accepting.{going, told, owes, oid_chosen};
+ghost use Rattle.spnego_core.specs.ListMic.{list_mic};
+ghost use Rattle.krb_tokens.specs.declared.end.Side.TheVariants.{Acceptor};
 
 use crate::accept_end::{
     AcceptEnd, AcceptPause, AcceptStep, Answered, Chosen, Owing, Running, Turn, gone_on,
@@ -92,24 +94,52 @@ fn finished(
     ensures exact { IfOk result (λ a. a ≡ finished turn chosen outcome lasts token) }
     ensures short { FitsBeside token → IfOk result ShortAnswered }
 {
-    let Chosen {
-        received,
-        kind,
-        due,
-    } = chosen;
-    let oid = listed_as(received.as_slice(), kind);
-    if !due {
+    if chosen.due {
+        owes(alloc, turn, chosen, outcome, lasts, token)
+    } else {
+        let oid = listed_as(chosen.received.as_slice(), chosen.kind);
+        drop(chosen);
         let octets = reply(alloc, turn, oid, false, true, Some(token), None)?;
-        return Ok(Answered::Done(outcome, lasts, octets));
+        Ok(Answered::Done(outcome, lasts, octets))
     }
-    let mic = list_mic(alloc, &outcome, Side::Acceptor, received.as_slice())?;
-    let octets = reply(alloc, turn, oid, true, true, Some(token), Some(mic))?;
+}
+
+/// What follows a mechanism that is done, where the initiator's MIC is due.
+fn owes(
+    alloc: Global,
+    turn: Turn,
+    chosen: Chosen,
+    outcome: Outcome,
+    lasts: Moment,
+    token: Octets,
+) -> Result<Answered, NoMemory>
+    ensures exact { IfOk result (λ a. a ≡ owes turn chosen outcome lasts token) }
+    ensures short { FitsBeside token → IfOk result ShortAnswered }
+{
+    let octets = reply_with_mic(alloc, turn, &chosen, &outcome, token)?;
     let owing = Owing {
-        received,
+        received: chosen.received,
         outcome,
         lasts,
     };
     Ok(Answered::More(AcceptEnd::Owes(owing), octets))
+}
+
+/// The octets of the reply that has the mechanism's last token and the own MIC.
+fn reply_with_mic(
+    alloc: Global,
+    turn: Turn,
+    chosen: &Chosen,
+    outcome: &Outcome,
+    token: Octets,
+) -> Result<Octets, NoMemory>
+    ensures exact { IfOk result (λ o. o ≡ reply turn (oid_chosen chosen.now) true true (Some token)
+        (Some (list_mic outcome.now Acceptor chosen.now.received))) }
+    ensures short { FitsBeside token → IfOk result IsShort }
+{
+    let oid = listed_as(chosen.received.as_slice(), chosen.kind);
+    let mic = list_mic(alloc, outcome, Side::Acceptor, chosen.received.as_slice())?;
+    reply(alloc, turn, oid, true, true, Some(token), Some(mic))
 }
 
 /// The mechanism goes on, and nothing else changes.
@@ -124,9 +154,14 @@ pub fn going(
     ensures short { IfSome token FitsBeside → IfOk result ShortAccept }
 {
     let oid = listed_as(chosen.received.as_slice(), chosen.kind);
-    let octets = reply(alloc, turn, oid, chosen.due, false, token, None)?;
     let running = Running { chosen, mech };
-    Ok(AcceptStep::More(AcceptEnd::Runs(running), octets))
+    match reply(alloc, turn, oid, running.chosen.due, false, token, None) {
+        Ok(octets) => Ok(AcceptStep::More(AcceptEnd::Runs(running), octets)),
+        Err(refusal) => {
+            drop(running);
+            Err(refusal)
+        }
+    }
 }
 
 /// The step by the mechanism's answer.

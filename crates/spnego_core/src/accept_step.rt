@@ -2,10 +2,11 @@
 
 ghost use Rattle.std.specs.Prelude.{◌≡◌, IfOk};
 ghost use Rattle.sec_base.specs.Answers.{Gives};
+ghost use Rattle.spnego_core.specs.declared.accept_end.AcceptEnd.TheVariants as ends;
 ghost use Rattle.spnego_core.specs.AcceptMech.{accept_taken};
 ghost use Rattle.spnego_core.specs.Sizes.{ShortAccept};
 ghost use Rattle.spnego_core.specs.Accepting.{begun, token_for, started, chose, begins, proceeds};
-ghost use Rattle.spnego_core.specs.Accepting.{closes, run, step_of, accept_step};
+ghost use Rattle.spnego_core.specs.Accepting.{closes, closed, run, step_of, accept_step};
 
 use crate::accept_end::{AcceptEnd, AcceptStep, Chosen, Owing, Running, Turn};
 use crate::accept_mech::accept_begun;
@@ -120,45 +121,37 @@ fn proceeds(
     setup: &AcceptSetup,
     size: usize,
     running: Running,
-    resp: NegResp,
+    resp: &NegResp,
     now: Moment,
     draws: &[u8; 66],
 ) -> Result<AcceptStep, NegRefusal>
     ensures short { IfOk result ShortAccept }
     ensures exact { Gives NegRefusal.NoMemory (λ s. s) result
-        (step_of (proceeds setup.now now draws.now size running resp)) }
+        (step_of (proceeds setup.now now draws.now size running resp.now)) }
 {
-    let NegResp {
-        state,
-        mech: _,
-        token,
-        mic: _,
-    } = resp;
-    if rejects(state) {
+    if rejects(resp.state) {
+        drop(running);
         return Err(NegRefusal::Rejected);
     }
-    let Some(token) = token else {
-        return Err(NegRefusal::Defective { at: size });
-    };
-    run(alloc, setup, Turn::Later, running, &token, now, draws)
+    match &resp.token {
+        Some(token) => run(alloc, setup, Turn::Later, running, token, now, draws),
+        None => {
+            drop(running);
+            Err(NegRefusal::Defective { at: size })
+        }
+    }
 }
 
 /// What follows a later token once the mechanism is done and the initiator's MIC is due.
 #[tactic(auto, unfolding(crate::specs::Accepting::closes))]
-fn closes(alloc: Global, owing: Owing, resp: NegResp) -> Result<AcceptStep, NegRefusal>
+fn closes(alloc: Global, owing: Owing, resp: &NegResp) -> Result<AcceptStep, NegRefusal>
     ensures short { IfOk result ShortAccept }
-    ensures exact { Gives NegRefusal.NoMemory (λ s. s) result (step_of (closes owing resp)) }
+    ensures exact { Gives NegRefusal.NoMemory (λ s. s) result (step_of (closes owing resp.now)) }
 {
-    let NegResp {
-        state,
-        mech: _,
-        token: _,
-        mic,
-    } = resp;
-    if rejects(state) {
+    if rejects(resp.state) {
         return Err(NegRefusal::Rejected);
     }
-    let Some(mic) = mic else {
+    let Some(mic) = &resp.mic else {
         return Err(NegRefusal::MicMissing);
     };
     let received = owing.received.as_slice();
@@ -167,6 +160,51 @@ fn closes(alloc: Global, owing: Owing, resp: NegResp) -> Result<AcceptStep, NegR
     }
     let nothing = Octets::from_vec(Vec::new(alloc));
     Ok(AcceptStep::Done(owing.outcome, owing.lasts, nothing))
+}
+
+/// What follows the initiator's next token while the mechanism isn't done.
+fn carried_on(
+    alloc: Global,
+    setup: &AcceptSetup,
+    running: Running,
+    token: &[u8],
+    now: Moment,
+    draws: &[u8; 66],
+) -> Result<AcceptStep, NegRefusal>
+    ensures short { IfOk result ShortAccept }
+    ensures exact { Gives NegRefusal.NoMemory (λ s. s) result
+        (step_of (accept_step setup.now (ends.Runs running) token.now now draws.now)) }
+{
+    match resp_read(alloc, token) {
+        Ok(resp) => {
+            let step = proceeds(alloc, setup, token.len(), running, &resp, now, draws);
+            drop(resp);
+            step
+        }
+        Err(refusal) => {
+            drop(running);
+            Err(refusal)
+        }
+    }
+}
+
+/// What follows the initiator's next token once the mechanism is done.
+fn closed(alloc: Global, owing: Owing, token: &[u8]) -> Result<AcceptStep, NegRefusal>
+    ensures short { IfOk result ShortAccept }
+    ensures exact { Gives NegRefusal.NoMemory (λ s. s) result
+        (step_of (closed owing token.now)) }
+{
+    match resp_read(alloc, token) {
+        Ok(resp) => {
+            let step = closes(alloc, owing, &resp);
+            drop(resp);
+            step
+        }
+        Err(refusal) => {
+            drop(owing);
+            Err(refusal)
+        }
+    }
 }
 
 /// What follows the initiator's next token.
@@ -185,11 +223,8 @@ fn stepped(
 {
     match end {
         AcceptEnd::New => begins(alloc, setup, init_read(alloc, token)?, now, draws),
-        AcceptEnd::Runs(running) => {
-            let resp = resp_read(alloc, token)?;
-            proceeds(alloc, setup, token.len(), running, resp, now, draws)
-        }
-        AcceptEnd::Owes(owing) => closes(alloc, owing, resp_read(alloc, token)?),
+        AcceptEnd::Runs(running) => carried_on(alloc, setup, running, token, now, draws),
+        AcceptEnd::Owes(owing) => closed(alloc, owing, token),
     }
 }
 
