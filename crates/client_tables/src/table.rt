@@ -5,10 +5,10 @@ ghost use Rattle.init_ends.specs.Arming.{AreStandard};
 
 use crate::{made_files, runs, sessions, talks};
 use init_ends::standard_mechs;
-use mech_objects::{KerberosMech, Mech, ScramMech};
+use mech_objects::Mech;
 use std::alloc::Global;
 use table_rows::{Cells, Rows, Said};
-use table_setting::{Files, Setting};
+use table_setting::{Files, Setting, make_objects};
 
 /// A table of outside values.
 #[derive(Clone, Copy)]
@@ -81,18 +81,14 @@ impl Rows for Set<'_> {
 
     fn answer(&self, cells: &mut Cells<'_>, said: &mut Said) {
         let alloc = cells.alloc();
-        let Ok(kerberos) = Box::new(alloc, KerberosMech::new(alloc)) else {
-            return said.starve();
-        };
-        let Ok(microsoft) = Box::new(alloc, KerberosMech::new_ms(alloc)) else {
-            return said.starve();
-        };
-        let Ok(scram) = Box::new(alloc, ScramMech::new(alloc)) else {
-            return said.starve();
-        };
-        match standard_mechs(alloc, kerberos, microsoft, scram) {
-            Ok(mechs) => self.answer_by(mechs, cells, said),
-            Err(_) => said.starve(),
+        match make_objects(alloc) {
+            Some(made) => {
+                match standard_mechs(alloc, made.kerberos, made.microsoft, made.scram) {
+                    Ok(mechs) => self.answer_by(mechs, cells, said),
+                    Err(_) => said.starve(),
+                }
+            }
+            None => said.starve(),
         }
     }
 }

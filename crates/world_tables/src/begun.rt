@@ -126,9 +126,9 @@ pub fn book(alloc: Global, setup: AcceptSetup, start: Moment) -> Result<OwnSeat,
     OwnSeat::open(alloc, setup, limits, start)
 }
 
-/// What two initiators are begun with, and what their objects are armed with.
+/// What initiators in a row are begun with, and what their objects are armed with.
 #[derive(Drop)]
-struct Pair {
+struct Row {
     own: Vec<InitSetup>,
     facts: Vec<InitFacts>,
 }
@@ -148,15 +148,15 @@ fn two<T: Drop>(alloc: Global, first: T, second: T) -> Result<Vec<T>, NoMemory>
 }
 
 /// Two initiators in a row.
-fn both(alloc: Global, first: Begun, second: Begun) -> Result<Pair, NoMemory>
-    ensures own { IfOk result (λ pair. pair.own.items ≡ first.own ∷ second.own ∷ []) }
-    ensures facts { IfOk result (λ pair. pair.facts.items ≡ first.facts ∷ second.facts ∷ []) }
+fn both(alloc: Global, first: Begun, second: Begun) -> Result<Row, NoMemory>
+    ensures own { IfOk result (λ row. row.own.items ≡ first.own ∷ second.own ∷ []) }
+    ensures facts { IfOk result (λ row. row.facts.items ≡ first.facts ∷ second.facts ∷ []) }
 {
     match (
         two(alloc, first.own, second.own),
         two(alloc, first.facts, second.facts),
     ) {
-        (Ok(own), Ok(facts)) => Ok(Pair { own, facts }),
+        (Ok(own), Ok(facts)) => Ok(Row { own, facts }),
         _ => Err(NoMemory),
     }
 }
@@ -171,11 +171,11 @@ fn world_of(alloc: Global, book: OwnSeat, first: Begun, second: Begun) -> Result
     ensures { IfOk result (λ world. IsWorld (world_means world meaning)) }
 {
     match both(alloc, first, second) {
-        Ok(pair) => {
+        Ok(row) => {
             let setup = WorldSetup {
                 book,
-                initiators: pair.own,
-                facts: pair.facts,
+                initiators: row.own,
+                facts: row.facts,
                 lanes: 2,
             };
             World::new(alloc, setup)
@@ -184,8 +184,53 @@ fn world_of(alloc: Global, book: OwnSeat, first: Begun, second: Begun) -> Result
     }
 }
 
+/// A list of one.
+fn alone<T: Drop>(alloc: Global, only: T) -> Result<Vec<T>, NoMemory>
+    ensures { IfOk result (λ list. list.items ≡ only ∷ []) }
+{
+    match Vec::with_capacity(alloc, 1) {
+        Ok(mut list) => {
+            list.push_reserved(only);
+            Ok(list)
+        }
+        Err(_) => Err(NoMemory),
+    }
+}
+
+/// One initiator.
+fn single(alloc: Global, begun: Begun) -> Result<Row, NoMemory>
+    ensures own { IfOk result (λ row. row.own.items ≡ begun.own ∷ []) }
+    ensures facts { IfOk result (λ row. row.facts.items ≡ begun.facts ∷ []) }
+{
+    match (alone(alloc, begun.own), alone(alloc, begun.facts)) {
+        (Ok(own), Ok(facts)) => Ok(Row { own, facts }),
+        _ => Err(NoMemory),
+    }
+}
+
+/// A world of this book, this initiator and one lane.
+pub fn world_alone(alloc: Global, book: OwnSeat, begun: Begun) -> Result<World, NoMemory>
+    requires empty { book.core.history ≡ [] }
+    requires same { setup_by begun.own meaning ≡ objects_of (setup_of begun.facts) }
+    requires own { is_own_list begun.facts.list ≡ true }
+    ensures { IfOk result (λ world. IsWorld (world_means world meaning)) }
+{
+    match single(alloc, begun) {
+        Ok(row) => {
+            let setup = WorldSetup {
+                book,
+                initiators: row.own,
+                facts: row.facts,
+                lanes: 1,
+            };
+            World::new(alloc, setup)
+        }
+        Err(no_memory) => Err(no_memory),
+    }
+}
+
 /// The initiator of another user, by another password. `mechs` has one blank object of Kerberos and one of SCRAM.
-pub fn other(alloc: Global, mechs: Vec<Box<dyn Mech>>, start: Moment) -> Result<Begun, NoMemory>
+fn other(alloc: Global, mechs: Vec<Box<dyn Mech>>, start: Moment) -> Result<Begun, NoMemory>
     requires { AreStandard (map meaning mechs.items) }
     ensures same { IfOk result
         (λ begun. setup_means meaning begun.own ≡ objects_of (setup_of begun.facts)) }
@@ -194,6 +239,32 @@ pub fn other(alloc: Global, mechs: Vec<Box<dyn Mech>>, start: Moment) -> Result<
     let login = login(alloc, "other", "q")?;
     let list = one(alloc, login)?;
     begin(alloc, mechs, list, start, 9)
+}
+
+/// An initiator with this list, and that of another user. Each of both lists of objects has one blank one of Kerberos and one of SCRAM.
+pub fn begin_both(
+    alloc: Global,
+    mechs: (Vec<Box<dyn Mech>>, Vec<Box<dyn Mech>>),
+    list: Items<MechCred>,
+    start: Moment,
+) -> Option<(Begun, Begun)>
+    requires first { AreStandard (map meaning mechs.0.items) }
+    requires second { AreStandard (map meaning mechs.1.items) }
+    requires list { is_own_list list ≡ true }
+    ensures first_same { IfSome result
+        (λ both. setup_means meaning both.0.own ≡ objects_of (setup_of both.0.facts)) }
+    ensures first_own { IfSome result (λ both. is_own_list both.0.facts.list ≡ true) }
+    ensures second_same { IfSome result
+        (λ both. setup_means meaning both.1.own ≡ objects_of (setup_of both.1.facts)) }
+    ensures second_own { IfSome result (λ both. is_own_list both.1.facts.list ≡ true) }
+{
+    match (
+        begin(alloc, mechs.0, list, start, 7),
+        other(alloc, mechs.1, start),
+    ) {
+        (Ok(first), Ok(second)) => Some((first, second)),
+        _ => None,
+    }
 }
 
 /// A world of this acceptor and both initiators.
@@ -238,8 +309,8 @@ pub struct Given {
 pub fn given_by(alloc: Global, setting: &Setting, letters: &str) -> Option<Given>
     ensures { IfSome result (λ given. is_own_list given.list ≡ true) }
 {
-    let list = list_of(alloc, setting, letters)?;
-    let setup = setting.acceptor(alloc, "ks")?;
     let start = Moment::new(1_000_000, 0)?;
+    let list = list_of(alloc, setting, letters);
+    let (list, setup) = list.zip(setting.acceptor(alloc, "ks"))?;
     Some(Given { list, setup, start })
 }

@@ -1,35 +1,24 @@
 //! Exchanges of one initiator that are carried as they are.
 
-ghost use Rattle.std.specs.Prelude.{◌≡◌, ◌∷◌, [], true, IfOk};
+ghost use Rattle.std.specs.Prelude.{◌≡◌, [], true, map};
 ghost use Rattle.spnego_core.specs.InitMech.{is_own_list};
 ghost use Rattle.spnego_core.specs.Ends.{setup_of};
+ghost use Rattle.init_ends.specs.Arming.{AreStandard};
 ghost use Rattle.init_ends.specs.Ends.{setup_by};
 ghost use Rattle.init_ends.specs.Plain.{objects_of};
 ghost use Rattle.world_laws.specs.Worlds.{world_means, IsWorld};
+ghost use Rattle.table_setting.specs.Handed.{AreHanded};
 
-use crate::begun::{Begun, begin, book, list_of};
+use crate::begun::{Begun, begin, book, list_of, world_alone};
 use accept_book::OwnSeat;
 use init_ends::standard_mechs;
-use mech_objects::{KerberosMech, ScramMech};
+use mech_objects::Mech;
 use sec_base::{Items, Moment, NoMemory, Octets};
 use spnego_core::{AcceptSetup, MechCred};
 use std::alloc::Global;
 use table_rows::{Cells, Said};
-use table_setting::Setting;
-use world_laws::{World, WorldSetup, call_once, meet};
-
-/// A list of one.
-fn alone<T: Drop>(alloc: Global, only: T) -> Result<Vec<T>, NoMemory>
-    ensures { IfOk result (λ list. list.items ≡ only ∷ []) }
-{
-    match Vec::with_capacity(alloc, 1) {
-        Ok(mut list) => {
-            list.push_reserved(only);
-            Ok(list)
-        }
-        Err(_) => Err(NoMemory),
-    }
-}
+use table_setting::{Objects, Setting, make_objects};
+use world_laws::{World, call_once, meet};
 
 /// How far an exchange came.
 #[derive(Clone, Copy)]
@@ -77,43 +66,78 @@ fn carry(
     requires same { setup_by begun.own meaning ≡ objects_of (setup_of begun.facts) }
     requires own { is_own_list begun.facts.list ≡ true }
 {
-    match (alone(alloc, begun.own), alone(alloc, begun.facts)) {
-        (Ok(initiators), Ok(facts)) => {
-            let setup = WorldSetup {
-                book,
-                initiators,
-                facts,
-                lanes: 1,
-            };
-            match World::new(alloc, setup) {
-                Ok(mut world) => carry_over(alloc, &mut world, count, now),
-                Err(no_memory) => Err(no_memory),
-            }
+    match world_alone(alloc, book, begun) {
+        Ok(mut world) => {
+            let carried = carry_over(alloc, &mut world, count, now);
+            drop(world);
+            carried
         }
-        _ => Err(NoMemory),
+        Err(no_memory) => Err(no_memory),
     }
 }
 
-/// The same of an initiator with this list, by objects of its own, and of this acceptor, which begin at this moment.
-fn carry_between(
+/// The same of this initiator and this acceptor.
+fn carry_by(
     alloc: Global,
     setup: AcceptSetup,
-    list: Items<MechCred>,
+    begun: Begun,
     count: u64,
     now: Moment,
 ) -> Result<Carried, NoMemory>
-    requires { is_own_list list ≡ true }
+    requires same { setup_by begun.own meaning ≡ objects_of (setup_of begun.facts) }
+    requires own { is_own_list begun.facts.list ≡ true }
 {
-    let kerberos = Box::new(alloc, KerberosMech::new(alloc))?;
-    let microsoft = Box::new(alloc, KerberosMech::new_ms(alloc))?;
-    let scram = Box::new(alloc, ScramMech::new(alloc))?;
-    let mechs = standard_mechs(alloc, kerberos, microsoft, scram)?;
-    let book = book(alloc, setup, now)?;
-    let begun = begin(alloc, mechs, list, now, 7)?;
-    carry(alloc, book, begun, count, now)
+    match book(alloc, setup, now) {
+        Ok(book) => carry(alloc, book, begun, count, now),
+        Err(no_memory) => {
+            drop(begun);
+            Err(no_memory)
+        }
+    }
 }
 
-/// The same at 1,000,000 seconds, by the letters of the initiator's list and of the acceptor's offer.
+/// The same of an initiator over these objects and of this acceptor, which begin at 1,000,000 seconds. `given` has the initiator's list.
+fn carry_between(
+    alloc: Global,
+    mechs: Vec<Box<dyn Mech>>,
+    given: (Items<MechCred>, AcceptSetup),
+    count: u64,
+) -> Option<Carried>
+    requires blank { AreStandard (map meaning mechs.items) }
+    requires list { is_own_list given.0 ≡ true }
+{
+    let now = Moment::new(1_000_000, 0).unwrap_or(Moment::start());
+    let (list, setup) = given;
+    match begin(alloc, mechs, list, now, 7) {
+        Ok(begun) => carry_by(alloc, setup, begun, count, now).ok(),
+        Err(_) => {
+            drop(setup);
+            None
+        }
+    }
+}
+
+/// The same where the initiator has an object of Kerberos under both its names, and of SCRAM.
+fn carry_by_all(
+    alloc: Global,
+    objects: Objects,
+    given: (Items<MechCred>, AcceptSetup),
+    count: u64,
+) -> Option<Carried>
+    requires objects { AreHanded objects }
+    requires list { is_own_list given.0 ≡ true }
+{
+    let Objects {
+        kerberos,
+        microsoft,
+        scram,
+    } = objects;
+    let mechs = standard_mechs(alloc, kerberos, microsoft, scram).ok();
+    let (mechs, given) = mechs.zip(Some(given))?;
+    carry_between(alloc, mechs, given, count)
+}
+
+/// The same by the letters of the initiator's list and of the acceptor's offer.
 fn carry_with(
     alloc: Global,
     setting: &Setting,
@@ -121,11 +145,10 @@ fn carry_with(
     offer: &str,
     count: u64,
 ) -> Option<Carried> {
-    let list = list_of(alloc, setting, letters)?;
-    match (setting.acceptor(alloc, offer), Moment::new(1_000_000, 0)) {
-        (Some(setup), Some(now)) => carry_between(alloc, setup, list, count, now).ok(),
-        _ => None,
-    }
+    let list = list_of(alloc, setting, letters);
+    let given = list.zip(setting.acceptor(alloc, offer));
+    let (objects, given) = make_objects(alloc).zip(given)?;
+    carry_by_all(alloc, objects, given, count)
 }
 
 /// Says whether both ends completed after so many records and their replies, and whether a call after that was answered, of a row with the letters of

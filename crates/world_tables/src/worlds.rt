@@ -1,19 +1,25 @@
 //! What happens in a world, one event after the other.
 
-ghost use Rattle.std.specs.Prelude.{◌≡◌, ◌≤◌, true, length};
+ghost use Rattle.std.specs.Prelude.{◌≡◌, ◌≤◌, true, length, map};
 ghost use Rattle.spnego_core.specs.InitMech.{is_own_list};
+ghost use Rattle.spnego_core.specs.Ends.{setup_of};
+ghost use Rattle.init_ends.specs.Arming.{AreStandard};
+ghost use Rattle.init_ends.specs.Ends.{setup_by};
+ghost use Rattle.init_ends.specs.Plain.{objects_of};
 ghost use Rattle.accept_book.specs.Served.{are_args};
 ghost use Rattle.world_laws.specs.Events.{IsProper};
 ghost use Rattle.world_laws.specs.Worlds.{world_means, IsWorld};
+ghost use Rattle.table_setting.specs.Handed.{AreHanded};
 
-use crate::begun::{Given, begin, begun_by, given_by, other};
+use crate::begun::{Begun, Given, begin_both, begun_by, given_by};
 use init_ends::standard_mechs;
-use mech_objects::{KerberosMech, ScramMech};
+use mech_objects::Mech;
 use rpc_msgs::{Reply, read_reply};
-use sec_base::{Moment, NoMemory, Octets};
+use sec_base::{Moment, Octets};
+use spnego_core::AcceptSetup;
 use std::alloc::Global;
 use table_rows::{Cells, Said};
-use table_setting::{Setting, octets_by_name, saying};
+use table_setting::{Objects, Setting, make_objects, octets_by_name, saying};
 use world_laws::{Happened, World, WorldEvent};
 
 /// A world, how many events it had, the moment of each of them, and the records that were handed out.
@@ -301,61 +307,121 @@ impl Run {
     }
 }
 
+/// A world that had no event yet, whose network has this record of its own.
+fn run_of(alloc: Global, said: &mut Said, world: World, own: Octets) -> Run
+    requires { IsWorld (world_means world meaning) }
+    ensures { IsWorld (world_means result.world meaning) }
+{
+    let mut records = Vec::new(alloc);
+    if records.push(own).is_err() {
+        said.starve();
+    }
+    Run {
+        world,
+        steps: 0,
+        now: Moment::new(1_000_000, 0).unwrap_or(Moment::start()),
+        records,
+    }
+}
+
 /// Says `step=answer` for each step that is left of a row, in this world whose network has this record of its own.
 fn go_through(cells: &mut Cells<'_>, said: &mut Said, names: &str, world: World, own: Octets)
     requires { IsWorld (world_means world meaning) }
 {
-    let mut run = Run {
-        world,
-        steps: 0,
-        now: Moment::new(1_000_000, 0).unwrap_or(Moment::start()),
-        records: Vec::new(cells.alloc()),
-    };
-    if run.records.push(own).is_err() {
-        said.starve();
-    }
+    let mut run = run_of(cells.alloc(), said, world, own);
     for part in cells.rest().unwrap_or("").split(' ') {
         run.answer(cells, said, names, part);
     }
+    drop(run);
 }
 
-/// The same in a world of this acceptor and two initiators: one with this list, and the user by another password, each over objects of its own.
+/// The same in a world of this acceptor and both initiators.
+fn go_between(
+    names: &str,
+    cells: &mut Cells<'_>,
+    said: &mut Said,
+    both: (Begun, Begun),
+    host: (AcceptSetup, Moment),
+    own: Octets,
+)
+    requires first_same { setup_by both.0.own meaning ≡ objects_of (setup_of both.0.facts) }
+    requires first_own { is_own_list both.0.facts.list ≡ true }
+    requires second_same { setup_by both.1.own meaning ≡ objects_of (setup_of both.1.facts) }
+    requires second_own { is_own_list both.1.facts.list ≡ true }
+{
+    match begun_by(cells.alloc(), host.0, both.0, both.1, host.1) {
+        Ok(world) => go_through(cells, said, names, world, own),
+        Err(_) => {
+            drop(own);
+            said.starve();
+        }
+    }
+}
+
+/// The same by these objects: of an initiator with this list, and of the user by another password.
 fn go_over(
     names: &str,
     cells: &mut Cells<'_>,
     said: &mut Said,
-    given: Given,
-    own: Octets,
-) -> Result<(), NoMemory>
-    requires { is_own_list given.list ≡ true }
+    mechs: (Vec<Box<dyn Mech>>, Vec<Box<dyn Mech>>),
+    given: (Given, Octets),
+)
+    requires first { AreStandard (map meaning mechs.0.items) }
+    requires second { AreStandard (map meaning mechs.1.items) }
+    requires list { is_own_list given.0.list ≡ true }
+{
+    let (Given { list, setup, start }, own) = given;
+    match begin_both(cells.alloc(), mechs, list, start) {
+        Some(both) => go_between(names, cells, said, both, (setup, start), own),
+        None => {
+            drop((setup, own));
+            said.starve();
+        }
+    }
+}
+
+/// The same where each initiator has an object of Kerberos under both its names, and of SCRAM.
+fn go_by_all(
+    names: &str,
+    cells: &mut Cells<'_>,
+    said: &mut Said,
+    objects: (Objects, Objects),
+    given: (Given, Octets),
+)
+    requires first { AreHanded objects.0 }
+    requires second { AreHanded objects.1 }
+    requires list { is_own_list given.0.list ≡ true }
 {
     let alloc = cells.alloc();
-    let kerberos = Box::new(alloc, KerberosMech::new(alloc))?;
-    let microsoft = Box::new(alloc, KerberosMech::new_ms(alloc))?;
-    let scram = Box::new(alloc, ScramMech::new(alloc))?;
-    let mechs = standard_mechs(alloc, kerberos, microsoft, scram)?;
-    let kerberos = Box::new(alloc, KerberosMech::new(alloc))?;
-    let microsoft = Box::new(alloc, KerberosMech::new_ms(alloc))?;
-    let scram = Box::new(alloc, ScramMech::new(alloc))?;
-    let others = standard_mechs(alloc, kerberos, microsoft, scram)?;
-    let Given { list, setup, start } = given;
-    let first = begin(alloc, mechs, list, start, 7)?;
-    let second = other(alloc, others, start)?;
-    let world = begun_by(alloc, setup, first, second, start)?;
-    go_through(cells, said, names, world, own);
-    Ok(())
+    let (one, two) = objects;
+    let first = standard_mechs(alloc, one.kerberos, one.microsoft, one.scram).ok();
+    let second = standard_mechs(alloc, two.kerberos, two.microsoft, two.scram).ok();
+    match first.zip(second).zip(Some(given)) {
+        Some((mechs, given)) => go_over(names, cells, said, mechs, given),
+        None => said.starve(),
+    }
+}
+
+/// The same with the objects made.
+fn go_with(names: &str, cells: &mut Cells<'_>, said: &mut Said, given: (Given, Octets))
+    requires { is_own_list given.0.list ≡ true }
+{
+    let alloc = cells.alloc();
+    match make_objects(alloc)
+        .zip(make_objects(alloc))
+        .zip(Some(given))
+    {
+        Some((objects, given)) => go_by_all(names, cells, said, objects, given),
+        None => said.starve(),
+    }
 }
 
 /// Says `step=answer` for each step of a row, which begins with the letters of initiator 0's list and a record of the network's own.
 pub fn answer(setting: &Setting, names: &str, cells: &mut Cells<'_>, said: &mut Said) {
     let letters = cells.word();
     let own = Octets::from_vec(octets_by_name(cells, names));
-    match given_by(cells.alloc(), setting, letters) {
-        Some(given) => {
-            if go_over(names, cells, said, given, own).is_err() {
-                said.starve();
-            }
-        }
+    match given_by(cells.alloc(), setting, letters).zip(Some(own)) {
+        Some(given) => go_with(names, cells, said, given),
         None => cells.expect(false),
     }
 }
