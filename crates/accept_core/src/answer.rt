@@ -73,7 +73,7 @@ pub enum Next<N, S> {
 }
 
 /// A step that was taken: the id of its context, and the entries that it added.
-#[derive(Clone, Copy, Debug)]
+#[derive(Clone, Copy)]
 pub struct Entered {
     pub id: u64,
     pub receipts: Receipts,

@@ -15,7 +15,7 @@ pub enum EndCause {
 }
 
 /// An entry of the log. Every `at` is the greatest moment that was seen by then.
-#[derive(Clone, Copy, Debug, PartialEq, Eq)]
+#[derive(Clone, Copy)]
 pub enum Entry {
     /// A context was opened.
     Opened {
@@ -60,28 +60,28 @@ pub enum Entry {
 const _: () = prove!(size_of::<Entry>() <= 80);
 
 /// An entry that a step added, and its place in the log.
-#[derive(Clone, Copy, Debug, PartialEq, Eq)]
+#[derive(Clone, Copy)]
 pub struct Receipt {
     pub place: u64,
     pub entry: Entry,
 }
 
 /// The entries that one step added, oldest first: the first `count` of the list.
-#[derive(Clone, Copy, Debug)]
+#[derive(Clone, Copy)]
 pub struct Receipts {
     pub count: u8,
     pub list: [Receipt; 4],
 }
 
 /// An admitted call: its entry, and how many calls of procedure 3 the log has up to it.
-#[derive(Clone, Copy, Debug)]
+#[derive(Clone, Copy)]
 pub struct Admitted {
     pub receipt: Receipt,
     pub posts: u32,
 }
 
 /// The limits under which an acceptor keeps its contexts, marks and log, and the width of its windows.
-#[derive(Clone, Copy, Debug)]
+#[derive(Clone, Copy)]
 pub struct Limits {
     pub contexts: usize,
     pub marks: usize,

@@ -3,9 +3,9 @@ use Rattle.std.proofs.Common.{◌≡◌, ℕ, zero, suc, ◌-◌, ◌≤◌, Boo
 use Rattle.gss_base.specs.Principal.{is_count, is_named}
 use Rattle.der_core.specs.declared.refusal.DerRefusal.{DerRefusal}
 use Rattle.der_core.specs.declared.refusal.DerWhy.TheVariants.{Short, Tag, Length, NotShortest, Value}
-use Rattle.der_core.specs.Number.{natural_of}
+use Rattle.der_numbers.specs.Number.{natural_of, is_shortest_length}
 use Rattle.der_core.specs.Format.{Input, Format, Content, all_of, place, refused, begins, ◌>>=◌}
-use Rattle.der_core.specs.Header.{is_shortest_length, long_length_at, length_from, length_of, length_at, header_of, header_at, content_at, tlv_at, end_of, end_at}
+use Rattle.der_core.specs.Header.{long_length_at, length_from, length_of, length_at, header_of, header_at, content_at, tlv_at, end_of, end_at}
 use Rattle.der_core.specs.Element.{element, whole, explicit, plain, guarded, kept, any_octets, octet_string}
 use Rattle.der_core.specs.Fields.{done, with_known, with_field, optional_at, with_optional, seen, many_step, many_of, many, list_of}
 use Rattle.der_core.specs.Integer.{has_spare_octet, signed_of, is_natural, shortest_of, shortest_at, int32_at, int32, natural_at, natural}

@@ -2,4 +2,5 @@ pub mod Counting
 pub mod Pairs
 pub mod Walking
 pub mod Taken
+pub mod Turns
 pub mod Programs

@@ -1,11 +1,12 @@
 //! The commands of both programs, and their words as `clap` reads them.
 
 ghost use Rattle.std.specs.Prelude.{◌≡◌, IfOk};
+ghost use Rattle.std.specs.List.{fold};
 ghost use Rattle.clap.specs.Values.{kind_of};
 ghost use Rattle.clap.specs.Simple.{app_of, new_rule, with_rule};
 ghost use Rattle.cli_base.specs.Words.{texts};
 ghost use Rattle.cli_words.specs.Line.{IsLine, server_names, client_names};
-ghost use Rattle.cli_words.specs.Commands.{option_rule, server_app, client_app, IsTaken};
+ghost use Rattle.cli_words.specs.Commands.{option_rule, bare_app, IsTaken};
 
 use crate::line::Line;
 use clap::error::ErrorKind;
@@ -13,64 +14,80 @@ use clap::{Arg, Command, Error};
 use sec_base::NoMemory;
 use std::alloc::Global;
 
-/// The command with a place for one more plain word.
-fn with_place<'a>(alloc: Global, command: Command<'a>, id: &'a str) -> Result<Command<'a>, NoMemory>
-    ensures { IfOk result (λ more. app_of more
-        ≡ with_rule (app_of command.entry) (new_rule id.entry.now)) }
-{
-    let place = Arg::new(alloc, id);
-    Ok(command.arg(place)?)
-}
+/// The options of the server: each with its word, which is its id too, and its name, the word without `--`.
+const SERVER_OPTIONS: [(&str, &str); 10] = [
+    ("--keytab", "keytab"),
+    ("--verifiers", "verifiers"),
+    ("--name", "name"),
+    ("--bind", "bind"),
+    ("--offer", "offer"),
+    ("--window", "window"),
+    ("--connections", "connections"),
+    ("--contexts", "contexts"),
+    ("--marks", "marks"),
+    ("--log", "log"),
+];
 
-/// The command with one more option: its word, which is its id too, and its name, the word without `--`.
-fn with_option<'a>(
+/// The options of the client, each with its word and its name.
+const CLIENT_OPTIONS: [(&str, &str); 9] = [
+    ("--ccache", "ccache"),
+    ("--server", "server"),
+    ("--user", "user"),
+    ("--password", "password"),
+    ("--mechs", "mechs"),
+    ("--bind", "bind"),
+    ("--service", "service"),
+    ("--times", "times"),
+    ("--first", "first"),
+];
+
+/// The command with places for plain words, of these ids.
+fn with_places<'a>(
     alloc: Global,
-    command: Command<'a>,
-    word: &'a str,
-    name: &'a str,
+    mut command: Command<'a>,
+    ids: &[&'a str],
 ) -> Result<Command<'a>, NoMemory>
     ensures { IfOk result (λ more. app_of more
-        ≡ with_rule (app_of command.entry) (option_rule word.entry.now name.entry.now)) }
+        ≡ fold (λ app id. with_rule app (new_rule id.now)) (app_of command.entry) ids.now) }
 {
-    let option = Arg::new(alloc, word).long(name);
-    Ok(command.arg(option)?)
+    for id in ids {
+        command = command.arg(Arg::new(alloc, *id))?;
+    }
+    Ok(command)
 }
 
-/// The command of the server.
-fn command_of_server<'a>(alloc: Global) -> Result<Command<'a>, NoMemory>
-    ensures { IfOk result (λ command. app_of command ≡ server_app) }
+/// The command with these options too: each with its word, which is its id, and its name.
+fn with_options<'a>(
+    alloc: Global,
+    mut command: Command<'a>,
+    options: &[(&'a str, &'a str)],
+) -> Result<Command<'a>, NoMemory>
+    ensures { IfOk result (λ more. app_of more
+        ≡ fold (λ app option. with_rule app (option_rule option.0.now option.1.now))
+        (app_of command.entry) options.now) }
 {
-    let command = Command::new(alloc, "gssrpcd").no_binary_name(true);
-    let command = with_place(alloc, command, "address")?;
-    let command = with_option(alloc, command, "--keytab", "keytab")?;
-    let command = with_option(alloc, command, "--verifiers", "verifiers")?;
-    let command = with_option(alloc, command, "--name", "name")?;
-    let command = with_option(alloc, command, "--bind", "bind")?;
-    let command = with_option(alloc, command, "--offer", "offer")?;
-    let command = with_option(alloc, command, "--window", "window")?;
-    let command = with_option(alloc, command, "--connections", "connections")?;
-    let command = with_option(alloc, command, "--contexts", "contexts")?;
-    let command = with_option(alloc, command, "--marks", "marks")?;
-    with_option(alloc, command, "--log", "log")
+    for option in options {
+        let (word, name) = *option;
+        command = command.arg(Arg::new(alloc, word).long(name))?;
+    }
+    Ok(command)
 }
 
-/// The command of the client.
-fn command_of_client<'a>(alloc: Global) -> Result<Command<'a>, NoMemory>
-    ensures { IfOk result (λ command. app_of command ≡ client_app) }
+/// The command of this name, with these places and options; its words have no program's name before them.
+fn command_of<'a>(
+    alloc: Global,
+    name: &'a str,
+    places: &[&'a str],
+    options: &[(&'a str, &'a str)],
+) -> Result<Command<'a>, NoMemory>
+    ensures { IfOk result (λ command. app_of command
+        ≡ fold (λ app option. with_rule app (option_rule option.0.now option.1.now))
+        (fold (λ app id. with_rule app (new_rule id.now)) (bare_app name.entry.now) places.now)
+        options.now) }
 {
-    let command = Command::new(alloc, "gssrpc").no_binary_name(true);
-    let command = with_place(alloc, command, "address")?;
-    let command = with_place(alloc, command, "command")?;
-    let command = with_place(alloc, command, "argument")?;
-    let command = with_option(alloc, command, "--ccache", "ccache")?;
-    let command = with_option(alloc, command, "--server", "server")?;
-    let command = with_option(alloc, command, "--user", "user")?;
-    let command = with_option(alloc, command, "--password", "password")?;
-    let command = with_option(alloc, command, "--mechs", "mechs")?;
-    let command = with_option(alloc, command, "--bind", "bind")?;
-    let command = with_option(alloc, command, "--service", "service")?;
-    let command = with_option(alloc, command, "--times", "times")?;
-    with_option(alloc, command, "--first", "first")
+    let command = Command::new(alloc, name).no_binary_name(true);
+    let command = with_places(alloc, command, places)?;
+    with_options(alloc, command, options)
 }
 
 /// The want of memory for which a parse failed.
@@ -96,7 +113,7 @@ pub fn server_line<'a>(alloc: Global, words: &'a [&'a str]) -> Result<Line<'a>, 
     requires { IsLine server_names 1 (texts words.now) }
     ensures { IfOk result (λ line. line ≡ texts words.entry.now) }
 {
-    let command = command_of_server(alloc)?;
+    let command = command_of(alloc, "gssrpcd", &["address"], &SERVER_OPTIONS)?;
     read(command, words)
 }
 
@@ -105,6 +122,11 @@ pub fn client_line<'a>(alloc: Global, words: &'a [&'a str]) -> Result<Line<'a>, 
     requires { IsLine client_names 3 (texts words.now) }
     ensures { IfOk result (λ line. line ≡ texts words.entry.now) }
 {
-    let command = command_of_client(alloc)?;
+    let command = command_of(
+        alloc,
+        "gssrpc",
+        &["address", "command", "argument"],
+        &CLIENT_OPTIONS,
+    )?;
     read(command, words)
 }

@@ -7,3 +7,6 @@ pub mod Password
 pub mod Saying
 pub mod Spoken
 pub mod Arguments
+pub mod ByCredentials
+pub mod Unread
+pub mod Naming

@@ -1,5 +1,6 @@
 -- A list that is read value by value, and the credentials of listed names.
-use Rattle.std.proofs.Common.{◌≡◌, ◌∙◌, ℕ, true, List, [], ◌∷◌, ◌++◌, map, Option, Some, None, Result, Ok, Err, refl, ap, sym, subst}
+use Rattle.std.proofs.Common.{◌≡◌, ◌∙◌, ℕ, ◌+◌, ◌<◌, ◌≤◌, true, List, [], ◌∷◌, ◌++◌, append_assoc, length, drop, get_or, map, Option, Some, None, Result, Ok, Err, refl, ap, sym, subst}
+use Rattle.std.proofs.lemmas.List.{append-nil, at_drop_more, at_drop_all}
 use Rattle.std.specs.Prelude.{IfOk}
 use Rattle.sec_base.specs.Answers.{Gives}
 use Rattle.gss_base.specs.Mech.{oid_named}
@@ -77,3 +78,25 @@ pub own-given : (result : Result (List MechCred) RunEnd) (sources : Sources) (ca
 own-given (Ok creds) sources cache password given few =
     own-list creds sources.mechs (subst (λ (r : Result (List MechCred) RunEnd). AreNamed sources.mechs r) given (all-named (cred_for sources cache password) (cred-names sources cache password) sources.mechs)) few
 own-given (Err end) sources cache password given few = tt
+
+-- ---- a list that is read on, value by value
+
+-- one more value stands already
+creds-on : (before : List MechCred) (cred : MechCred) (rest : Result (List MechCred) RunEnd) → behind before (rest >>= λ creds. Ok (cred ∷ creds)) ≡ behind (before ++ cred ∷ []) rest
+creds-on before cred (Ok list) = ap Ok (sym (append_assoc before (cred ∷ []) list))
+creds-on before cred (Err end) = refl
+
+pub next-cred : (f : MechName → Result MechCred RunEnd) (names : List MechName) (i : ℕ) (name : MechName) {cred : MechCred} (before : List MechCred) {longer : List MechCred} {whole : Result (List MechCred) RunEnd}
+    → i < length names → f (get_or names i name) ≡ Ok cred → longer ≡ before ++ cred ∷ [] → behind before (listed f (drop i names)) ≡ whole → behind longer (listed f (drop (i + 1) names)) ≡ whole
+next-cred f names i name {cred} before {longer} {whole} within is more so =
+    let rest : Result (List MechCred) RunEnd = listed f (drop (i + 1) names) in
+    rw more (
+    sym (creds-on before cred rest)
+    ∙ (ap (λ (r : Result MechCred RunEnd). behind before (r >>= λ one. rest >>= λ creds. Ok (one ∷ creds))) (sym is)
+    ∙ (sym (at_drop_more (λ (ns : List MechName). behind before (listed f ns)) names i name within) ∙ so))
+    )
+
+pub all-creds : (f : MechName → Result MechCred RunEnd) (names : List MechName) (i : ℕ) (before : List MechCred) {whole : Result (List MechCred) RunEnd}
+    → length names ≤ i → behind before (listed f (drop i names)) ≡ whole → whole ≡ Ok before
+all-creds f names i before {whole} past so =
+    sym so ∙ (at_drop_all (λ (ns : List MechName). behind before (listed f ns)) names i past ∙ ap Ok (append-nil before))

@@ -11,6 +11,8 @@ use Rattle.gss_client.specs.declared.refusal.Denial.TheVariants.{Rpc, Auth, Acce
 use Rattle.cli_base.specs.Files.{stop_line}
 use Rattle.cli_base.specs.Lines.{memory_line}
 use Rattle.cli_base.specs.declared.files.FileStop.TheVariants as stops
+use Rattle.cli_base.specs.declared.given.WordsRefusal.{WordsRefusal}
+use Rattle.cli_base.specs.declared.given.WordsRefusal.TheVariants as words
 use Rattle.client_command.specs.declared.ending.RunEnd.{RunEnd}
 use Rattle.client_command.specs.declared.ending.RunEnd.TheVariants.{Usage, CannotLoad, Bad}
 use Rattle.client_command.specs.declared.ending.RunEnd.TheVariants.{NoCredential, NoMemory}
@@ -37,6 +39,11 @@ end_of partings.Finished = Finished
 end_of partings.Spent = Spent
 end_of partings.Foreign = Foreign
 end_of (partings.Refused refusal) = end_of_refusal refusal
+
+-- the end of a run whose words were refused
+abbrev pub end_of_words : WordsRefusal → RunEnd
+end_of_words words.Usage = Usage
+end_of_words words.NoMemory = NoMemory
 
 -- the ends of a session: each but that of want of memory, which may come before one too
 abbrev pub is_begun : RunEnd → Bool

@@ -1,16 +1,16 @@
 //! The run of the client.
 
 ghost use Rattle.std.specs.Prelude.{◌≡◌, ◌≢◌, ◌≤◌, ◌⊎◌, [], List, false, true, IsTrue, IsOk, None};
-ghost use Rattle.std.specs.Prelude.{Ok, Err, map};
+ghost use Rattle.std.specs.Prelude.{Ok, Err, IfOk, IfErr, map};
 ghost use Rattle.sec_base.specs.Answers.{Rose};
 ghost use Rattle.spnego_core.specs.InitMech.{is_own_list};
 ghost use Rattle.spnego_core.specs.declared.setup.MechCred.{MechCred};
 ghost use Rattle.init_ends.specs.Arming.{AreStandard};
 ghost use Rattle.cli_base.specs.Lines.{SaysLine, Says};
 ghost use Rattle.client_command.specs.Credentials.{creds_from, is_unloaded, Asks};
-ghost use Rattle.client_command.specs.Endings.{end_of, is_begun, status_of, line_of};
+ghost use Rattle.client_command.specs.Endings.{end_of, end_of_words, is_begun, status_of, line_of};
 ghost use Rattle.client_command.specs.Lines.{lines};
-ghost use Rattle.client_command.specs.Loading.{RunBegins};
+ghost use Rattle.client_command.specs.Loading.{RunBegins, EndsBy};
 ghost use Rattle.client_command.specs.Mechs.{is_list};
 ghost use Rattle.client_command.specs.Runs.{text_or_none, server_text, names_in, names_of};
 ghost use Rattle.client_command.specs.Runs.{procedure_of, Reports, Spoke, EndsSo};
@@ -25,7 +25,7 @@ use gss_base::{Label, Principal};
 use gss_client::{ClientRefusal, Parting, Procedure, Session, Start, Talk};
 use init_ends::InitSetup;
 use mech_objects::Mech;
-use sec_base::{Clock, Draw, Items, Link, Octets, Shelf, Sink, Text};
+use sec_base::{Clock, Draw, Items, Link, NoMemory, Octets, Shelf, Sink, Text};
 use spnego_core::{InitFacts, MechCred, Outcome};
 use std::alloc::Global;
 
@@ -129,6 +129,29 @@ fn unspoken<O: Sink>(alloc: Global, names: &Names<'_>, end: RunEnd, err: &mut O)
     }
 }
 
+/// Writes what is printed of a session, and then the line of its end. Answers the run's status.
+fn print<O: Sink>(
+    alloc: Global,
+    names: &Names<'_>,
+    text: &[u8],
+    end: RunEnd,
+    out: &mut O,
+    err: &mut O,
+) -> u8
+    ensures status { result ≢ 6 → result ≢ 8 → result ≡ status_of end }
+    ensures sink_fault { result ≡ 6
+        → Rose (O.faults out.old) (O.faults out.new) ⊎ Rose (O.faults err.old) (O.faults err.new) }
+    ensures printed { IsTrue (O.tells out.old)
+        → SaysLine (O.written out.old) (O.written out.new) result text.now }
+    ensures said { IsTrue (O.tells err.old)
+        → Says (O.written err.old) (O.written err.new) result (line_of names.now end) }
+{
+    match out.write(text) {
+        Ok(()) => say_end(alloc, err, names, end),
+        Err(_) => 6,
+    }
+}
+
 /// Prints what a session came to, and says how it ended.
 fn report<O: Sink>(
     alloc: Global,
@@ -153,19 +176,22 @@ fn report<O: Sink>(
         results,
         parting,
     } = talk;
-    let Ok(text) = lines(alloc, procedure, &outcome, results.as_slice()) else {
-        return unspoken(alloc, names, RunEnd::NoMemory, err);
-    };
-    let end = end_of(parting);
-    let status = match out.write(text.as_slice()) {
-        Ok(()) => say_end(alloc, err, names, end),
-        Err(_) => 6,
-    };
-    ClientEnd {
-        status,
-        end,
-        outcome,
-        results,
+    match lines(alloc, procedure, &outcome, results.as_slice()) {
+        Ok(text) => {
+            let end = end_of(parting);
+            let status = print(alloc, names, text.as_slice(), end, out, err);
+            drop(text);
+            ClientEnd {
+                status,
+                end,
+                outcome,
+                results,
+            }
+        }
+        Err(NoMemory) => {
+            drop(results);
+            unspoken(alloc, names, RunEnd::NoMemory, err)
+        }
     }
 }
 
@@ -208,6 +234,61 @@ fn names_in<'a>(sources: &'a Sources, label: &'a Option<Label>) -> Names<'a>
         ccache: text_or_none(&sources.ccache),
         password: text_or_none(&sources.password),
         server: label_or_none(label),
+    }
+}
+
+/// Holds the session where there are credentials, and says how the run ended.
+fn run_by<L: Link, C: Clock, D: Draw, O: Sink>(
+    alloc: Global,
+    sources: &Sources,
+    plan: Plan,
+    creds: Result<Items<MechCred>, RunEnd>,
+    link: &mut L,
+    clock: &mut C,
+    draw: &mut D,
+    mechs: Vec<Box<dyn Mech>>,
+    out: &mut O,
+    err: &mut O,
+) -> ClientEnd
+    requires unclosed { L.closed link.old ≡ false }
+    requires mechs { AreStandard (map meaning mechs.items) }
+    requires range { IsRanged plan }
+    requires own { IfOk creds (λ list. is_own_list list ≡ true) }
+    requires unbegun { IfErr creds (λ end. is_begun end ≡ false) }
+    ensures status { result.status ≢ 6 → result.status ≢ 8 → result.status ≡ status_of result.end }
+    ensures sink_fault { result.status ≡ 6
+        → Rose (O.faults out.old) (O.faults out.new) ⊎ Rose (O.faults err.old) (O.faults err.new) }
+    ensures printed { IsTrue (O.tells out.old) → SaysLine (O.written out.old) (O.written out.new)
+        result.status (lines plan.procedure result.outcome result.results.items) }
+    ensures said { IsTrue (O.tells err.old) → Says (O.written err.old) (O.written err.new)
+        result.status (line_of (names_in sources.now) result.end) }
+    ensures ends { EndsBy creds result.end }
+    ensures silent { IfErr creds (λ end. IsSilent (L.wire link.old) (L.wire link.new)
+        result.outcome result.results.items) }
+    ensures spoke { (list : List MechCred) → creds ≡ Ok list → IsTrue (L.tells link.old)
+        → Spoke (C.tells clock.new) (C.given clock.old) (C.given clock.new) (D.tells draw.new)
+        (D.given draw.old) (D.given draw.new) plan list (L.wire link.old) (L.wire link.new)
+        result.outcome result.results.items result.end }
+    ensures unloaded { is_unloaded result.end ≡ true → creds ≡ Err result.end }
+    ensures link_fault { result.end ≡ RunEnd.LinkFault
+        → Rose (L.faults link.old) (L.faults link.new) }
+    ensures tells { L.tells link.new ≡ L.tells link.old }
+    ensures unclosed { L.closed link.new ≡ false }
+    ensures faults { L.faults link.old ≤ L.faults link.new }
+{
+    let label = server_label(&sources.server);
+    let names = names_in(sources, &label);
+    match creds {
+        Ok(creds) => {
+            let procedure = plan.procedure;
+            let talk = speak(alloc, plan, creds, link, clock, draw, mechs);
+            report(alloc, &names, procedure, talk, out, err)
+        }
+        Err(end) => {
+            drop(plan);
+            drop(mechs);
+            unspoken(alloc, &names, end, err)
+        }
     }
 }
 
@@ -270,15 +351,21 @@ fn run_with<F: Shelf, L: Link, C: Clock, D: Draw, O: Sink>(
     ensures faults { L.faults link.old ≤ L.faults link.new }
 {
     let ClientWords { sources, plan } = words;
-    let procedure = plan.procedure;
-    let label = server_label(&sources.server);
-    let names = names_in(&sources, &label);
-    match creds_given(alloc, shelf, &sources) {
-        Ok(creds) => {
-            let talk = speak(alloc, plan, creds, link, clock, draw, mechs);
-            report(alloc, &names, procedure, talk, out, err)
-        }
-        Err(end) => unspoken(alloc, &names, end, err),
+    let creds = creds_given(alloc, shelf, &sources);
+    let ended = run_by(
+        alloc, &sources, plan, creds, link, clock, draw, mechs, out, err,
+    );
+    drop(sources);
+    ended
+}
+
+/// How the run ends whose words were refused.
+fn end_of_words(refusal: WordsRefusal) -> RunEnd
+    ensures { result ≡ end_of_words refusal }
+{
+    match refusal {
+        WordsRefusal::Usage => RunEnd::Usage,
+        WordsRefusal::NoMemory => RunEnd::NoMemory,
     }
 }
 
@@ -381,7 +468,9 @@ pub fn run_client<F: Shelf, L: Link, C: Clock, D: Draw, O: Sink>(
 {
     match read_words(alloc, words) {
         Ok(words) => run_with(alloc, words, shelf, link, clock, draw, mechs, out, err),
-        Err(WordsRefusal::Usage) => unspoken(alloc, &UNNAMED, RunEnd::Usage, err),
-        Err(WordsRefusal::NoMemory) => unspoken(alloc, &UNNAMED, RunEnd::NoMemory, err),
+        Err(refusal) => {
+            drop(mechs);
+            unspoken(alloc, &UNNAMED, end_of_words(refusal), err)
+        }
     }
 }

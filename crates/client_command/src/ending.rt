@@ -17,7 +17,7 @@ use std::marker::Model;
 const USAGE: &str = "usage: gssrpc ADDRESS COMMAND [ARG] [options]\n";
 
 /// A file that the words name.
-#[derive(Clone, Copy, Debug, PartialEq, Eq)]
+#[derive(Clone, Copy)]
 pub enum WordFile {
     /// The credential cache.
     Ccache,
@@ -26,7 +26,7 @@ pub enum WordFile {
 }
 
 /// How a run ended, before its line was written.
-#[derive(Clone, Copy, Debug, PartialEq, Eq)]
+#[derive(Clone, Copy)]
 pub enum RunEnd {
     /// The words aren't in the command.
     Usage,
@@ -124,7 +124,7 @@ fn say_uncredited<O: Sink>(alloc: Global, err: &mut O, server: &str) -> u8
 }
 
 /// What the words of a run name, as its line says it: the files, and the server's text form. A name that the words don't have is empty.
-#[derive(Debug, Drop)]
+#[derive(Drop)]
 pub struct Names<'a> {
     pub ccache: &'a str,
     pub password: &'a str,

@@ -46,8 +46,9 @@ fn mechs_named(alloc: Global, words: &[&str]) -> Result<Items<MechName>, WordsRe
     let mut list = Vec::new(alloc);
     for word in words {
         let name = mech_named(word)?;
-        if list.push(name).is_err() {
-            return Err(WordsRefusal::NoMemory);
+        match list.push(name) {
+            Ok(()) => {}
+            Err(_) => return Err(WordsRefusal::NoMemory),
         }
     }
     Ok(Items::of(list))

@@ -45,7 +45,7 @@ pub struct Plan {
 }
 
 /// Where the credentials come from.
-#[derive(Debug, Drop)]
+#[derive(Drop)]
 pub struct Sources {
     /// The file of the credential cache.
     pub ccache: Option<Text>,
@@ -253,6 +253,30 @@ fn mechs_in(alloc: Global, line: &Line<'_>) -> Result<Items<MechName>, WordsRefu
     mechs_given(alloc, krb5, scram, line.value("--mechs"))
 }
 
+/// The texts that name the files, and the user.
+#[derive(Drop)]
+struct Texts {
+    ccache: Option<Text>,
+    user: Option<Text>,
+    password: Option<Text>,
+}
+
+/// The texts that the words give.
+fn texts_given(alloc: Global, line: &Line<'_>) -> Result<Texts, NoMemory>
+    ensures ccache { IfOk result (λ t. t.ccache ≡ value_of (codes "--ccache") line.now) }
+    ensures user { IfOk result (λ t. t.user ≡ value_of (codes "--user") line.now) }
+    ensures password { IfOk result (λ t. t.password ≡ value_of (codes "--password") line.now) }
+{
+    let ccache = text_given(alloc, line, "--ccache")?;
+    let user = text_given(alloc, line, "--user")?;
+    let password = text_given(alloc, line, "--password")?;
+    Ok(Texts {
+        ccache,
+        user,
+        password,
+    })
+}
+
 /// Where the credentials come from.
 #[tactic(auto, unfolding(crate::specs::Words::sources_of))]
 fn sources_of(alloc: Global, line: &Line<'_>) -> Result<Sources, WordsRefusal>
@@ -261,9 +285,11 @@ fn sources_of(alloc: Global, line: &Line<'_>) -> Result<Sources, WordsRefusal>
 {
     let server = server_given(alloc, line)?;
     let mechs = mechs_in(alloc, line)?;
-    let ccache = text_given(alloc, line, "--ccache")?;
-    let user = text_given(alloc, line, "--user")?;
-    let password = text_given(alloc, line, "--password")?;
+    let Texts {
+        ccache,
+        user,
+        password,
+    } = texts_given(alloc, line)?;
     Ok(Sources {
         ccache,
         server,

@@ -4,8 +4,8 @@ use Rattle.std.proofs.lemmas.Bool.{cases_lt, ltb-true, ltb-false, lt-ltb, le-ltb
 use Rattle.std.proofs.lemmas.List.{take-append-drop, length-take, take_at, drop_at, length-append}
 use Rattle.der_core.specs.declared.refusal.DerRefusal.{DerRefusal}
 use Rattle.der_core.specs.Format.{Input, place, begins, ◌>>=◌, AreOctets}
-use Rattle.der_core.specs.Number.{natural_of}
-use Rattle.der_core.specs.Header.{length_octets, tlv, long_length_at, length_from, length_of, length_at, header_of, header_at, content_at, tlv_at, is_shortest_length}
+use Rattle.der_numbers.specs.Number.{natural_of, is_shortest_length}
+use Rattle.der_core.specs.Header.{length_octets, tlv, long_length_at, length_from, length_of, length_at, header_of, header_at, content_at, tlv_at}
 use Rattle.der_core.specs.Law.{Takes}
 use Rattle.der_core.proofs.Steps.{bind_ok, refused_not, passed, chosen, ok_is, both, octets-take, octets-drop, octets-first, octets-rest}
 

@@ -5,7 +5,6 @@ pub mod TwosComplement
 pub mod Laws
 pub mod LibraryDates
 pub mod Lists
-pub mod OctetByOctet
 pub mod PutFields
 pub mod SingleValues
 pub mod Steps

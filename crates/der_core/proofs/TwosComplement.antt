@@ -4,7 +4,7 @@ use Rattle.std.proofs.lemmas.Bool.{cases_lt, cases_Bool, ltb-true, ltb-false, lt
 use Rattle.std.proofs.lemmas.Bool.Decides.{nat_tests}
 use Rattle.der_core.specs.declared.refusal.DerRefusal.{DerRefusal}
 use Rattle.der_core.specs.Format.{Input, Content, place, ◌>>=◌, AreOctets}
-use Rattle.der_core.specs.Number.{natural_of, natural_behind, flipped, is_negative}
+use Rattle.der_numbers.specs.Number.{natural_of, natural_behind, flipped, is_negative}
 use Rattle.der_core.specs.Integer.{least, signed_octets, signed_of, has_spare_octet, shortest_of, shortest_at, is_int32, int32_at, int32_content, is_natural, natural_at, natural_content}
 use Rattle.der_core.specs.Law.{IsContent}
 use Rattle.der_core.proofs.Steps.{bind_ok, refused_not, passed, ok_is, both, octets-take}

@@ -1,12 +1,11 @@
 -- Tag, length and content of an element, ITU-T X.690 sections 8.1 and 10.1.
-use Rattle.std.specs.Prelude.{ℕ, ◌+◌, ◌-◌, ◌/◌, ◌%◌, Bool, not, ◌==◌, ◌&&◌, ◌||◌, nat_lt, nat_le}
-use Rattle.std.specs.Prelude.{if◌then◌else◌, List, [], ◌∷◌, ◌++◌, length, take, drop, Result, Ok}
-use Rattle.std.specs.Prelude.{Err}
+use Rattle.std.specs.Prelude.{ℕ, ◌+◌, ◌-◌, ◌/◌, ◌%◌, ◌==◌, ◌||◌, nat_lt, if◌then◌else◌, List, []}
+use Rattle.std.specs.Prelude.{◌∷◌, ◌++◌, length, take, drop, Result, Ok, Err}
 use Rattle.der_core.specs.declared.refusal.DerRefusal.{DerRefusal}
 use Rattle.der_core.specs.declared.refusal.DerWhy.TheVariants.{Short, Tag, Length, NotShortest}
 use Rattle.der_core.specs.declared.refusal.DerWhy.TheVariants.{Trailing}
-use Rattle.der_core.specs.Format.{Input, place, begins, refused, ◌>>=◌}
-use Rattle.der_core.specs.Number.{natural_of}
+use Rattle.der_core.specs.Format.{Input, place, refused, ◌>>=◌}
+use Rattle.der_numbers.specs.Number.{natural_of, is_shortest_length}
 
 -- the one spelling of a length: one octet below 128, else how many octets it has, and those
 unfoldable pub length_octets : ℕ → List ℕ
@@ -20,11 +19,6 @@ length_octets n =
 -- an element: its tag, its length, its content
 unfoldable pub tlv : ℕ → List ℕ → List ℕ
 tlv tag content = tag ∷ (length_octets (length content) ++ content)
-
--- whether the octets of a long length are as few as can be: no leading 0, and no number that one
--- octet spells
-abbrev pub is_shortest_length : List ℕ → Bool
-is_shortest_length octets = not (begins 0 octets) && nat_le 128 (natural_of octets)
 
 -- a length of so many octets, whose first octet stood at a place
 unfoldable pub long_length_at : ℕ → ℕ → Input → Result (ℕ × Input) DerRefusal

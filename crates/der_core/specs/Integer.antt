@@ -5,7 +5,7 @@ use Rattle.std.specs.Prelude.{negsuc, Result, Ok, Err}
 use Rattle.der_core.specs.declared.refusal.DerRefusal.{DerRefusal}
 use Rattle.der_core.specs.declared.refusal.DerWhy.TheVariants.{NotShortest, Value}
 use Rattle.der_core.specs.Format.{Input, Format, Content, place, refused, ◌>>=◌}
-use Rattle.der_core.specs.Number.{natural_of, flipped, is_negative}
+use Rattle.der_numbers.specs.Number.{natural_of, flipped, is_negative}
 use Rattle.der_core.specs.Element.{element}
 
 -- the octets of a number below 2^39, none of them superfluous; the first is below 128

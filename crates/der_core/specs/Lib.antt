@@ -5,6 +5,5 @@ pub mod Frame
 pub mod Header
 pub mod Integer
 pub mod Law
-pub mod Number
 pub mod Time
 pub mod Values

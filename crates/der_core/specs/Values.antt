@@ -8,7 +8,7 @@ use Rattle.sec_base.specs.Oid.{is_oid}
 use Rattle.der_core.specs.declared.refusal.DerRefusal.{DerRefusal}
 use Rattle.der_core.specs.declared.refusal.DerWhy.TheVariants.{Value}
 use Rattle.der_core.specs.Format.{Input, Format, Content, place, refused, ◌>>=◌}
-use Rattle.der_core.specs.Number.{natural_of}
+use Rattle.der_numbers.specs.Number.{natural_of}
 use Rattle.der_core.specs.Element.{element, plain}
 
 -- whether some octet is 00

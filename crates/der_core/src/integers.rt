@@ -2,12 +2,12 @@
 
 ghost use Rattle.std.specs.Prelude.{◌≡◌, ◌≤◌, length, OnErr, IfOk};
 ghost use Rattle.der_core.specs.Format.{Answers, Reads, ReadsSpellings, AreOctets};
-ghost use Rattle.der_core.specs.Number.{is_negative};
+ghost use Rattle.der_numbers.specs.Number.{is_negative};
 ghost use Rattle.der_core.specs.Integer.{has_spare_octet, signed_of, shortest_at, int32_at, int32};
 ghost use Rattle.der_core.specs.Integer.{natural_at, natural, uint32};
 
-use crate::numbers::{flipped_number_of, number_of};
 use crate::{DerRefusal, DerWhy, Reader};
+use der_numbers::{flipped_number_of, number_of};
 
 impl<'a> Reader<'a> {
     /// The next element, an INTEGER from -2147483648 to 2147483647.

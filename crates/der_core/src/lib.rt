@@ -3,7 +3,6 @@
 
 mod fields;
 mod integers;
-mod numbers;
 mod reader;
 mod refusal;
 mod times;

@@ -8,8 +8,8 @@ ghost use Rattle.der_core.specs.Element.{any_element, raw_element};
 ghost use Rattle.der_core.specs.Header.{tlv_at, content_at, header_at, length_at, long_length_at};
 ghost use Rattle.der_core.specs.Header.{end_at};
 
-use crate::numbers::number_of;
 use crate::{DerRefusal, DerWhy};
+use der_numbers::long_length;
 use std::marker::Model;
 
 /// The octets that are left, and the place behind the last of them.
@@ -205,13 +205,12 @@ impl<'a> Reader<'a> {
             });
         }
         let (octets, rest) = self.octets.split_at(size);
-        let length = number_of(octets);
-        if begins_with(octets, 0) || length < 128 {
+        let Some(length) = long_length(octets) else {
             return Err(DerRefusal {
                 at,
                 why: DerWhy::NotShortest,
             });
-        }
+        };
         self.octets = rest;
         Ok(length as usize)
     }

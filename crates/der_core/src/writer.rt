@@ -4,7 +4,7 @@ ghost use Rattle.std.specs.Prelude.{◌≡◌, ◌^◌, ◌<◌, ◌≤◌, ◌+
 ghost use Rattle.std.specs.Prelude.{IfOk};
 ghost use Rattle.der_core.specs.Format.{Puts};
 ghost use Rattle.der_core.specs.Header.{tlv, length_octets};
-ghost use Rattle.der_core.specs.Number.{flipped};
+ghost use Rattle.der_numbers.specs.Number.{flipped};
 ghost use Rattle.der_core.specs.Element.{octet_string};
 ghost use Rattle.der_core.specs.Integer.{least, int32, natural, uint32};
 ghost use Rattle.der_core.specs.Values.{has_zero, text, object_identifier, small, flags};

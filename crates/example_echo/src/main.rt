@@ -11,7 +11,7 @@ ghost use Rattle.init_ends.specs.Arming.{AreStandard};
 
 use gss_client::{Parting, Procedure, Service, Session, Start, Talk, opaque_alone};
 use init_ends::{InitSetup, standard_mechs};
-use mech_objects::{KerberosMech, Mech, ScramMech};
+use mech_objects::{MadeMechs, Mech, make_mechs};
 use sec_base::{Link, MemDraw, Octets};
 use setups::{BookLink, initiator, link_of};
 use spnego_core::Outcome;
@@ -83,9 +83,11 @@ fn report(rt: &impl Print, talk: &Talk, answered: usize) -> io::Result<()> {
 
 /// Makes the link and the client's mechanisms, holds the session, and says what came of it.
 fn run(rt: &impl Print, alloc: Global) -> Option<()> {
-    let kerberos: Box<dyn Mech> = Box::new(alloc, KerberosMech::new(alloc)).ok()?;
-    let microsoft: Box<dyn Mech> = Box::new(alloc, KerberosMech::new_ms(alloc)).ok()?;
-    let scram: Box<dyn Mech> = Box::new(alloc, ScramMech::new(alloc)).ok()?;
+    let MadeMechs {
+        kerberos,
+        microsoft,
+        scram,
+    } = make_mechs(alloc)?;
     let mechs = standard_mechs(alloc, kerberos, microsoft, scram).ok()?;
     let mut link = link_of(alloc)?;
     let talk = hold(alloc, &mut link, mechs);

@@ -14,7 +14,7 @@ ghost use Rattle.init_ends.specs.Arming.{AreStandard};
 ghost use Rattle.init_ends.specs.Ends.{end_by, end_means, holds, holds_after, step_by};
 
 use init_ends::{InitEnd, InitSetup, InitStep, standard_mechs};
-use mech_objects::{KerberosMech, Mech, ScramMech};
+use mech_objects::{MadeMechs, Mech, make_mechs};
 use sec_base::{Moment, Octets};
 use setups::{DRAWS, acceptor, initiator};
 use spnego_core::{AcceptEnd, AcceptSetup, AcceptStep, Outcome};
@@ -153,9 +153,11 @@ fn negotiate(
 /// Both ends from their setups on. The initiator is handed an object under each name that it may be asked for, as the boxed values of one
 /// trait: it steps them, and knows no more of them than the trait says.
 fn run(rt: &impl Print, alloc: Global) -> Option<()> {
-    let kerberos: Box<dyn Mech> = Box::new(alloc, KerberosMech::new(alloc)).ok()?;
-    let microsoft: Box<dyn Mech> = Box::new(alloc, KerberosMech::new_ms(alloc)).ok()?;
-    let scram: Box<dyn Mech> = Box::new(alloc, ScramMech::new(alloc)).ok()?;
+    let MadeMechs {
+        kerberos,
+        microsoft,
+        scram,
+    } = make_mechs(alloc)?;
     let mechs = standard_mechs(alloc, kerberos, microsoft, scram).ok()?;
     let host = acceptor(alloc)?;
     let outcomes = negotiate(rt, alloc, &host, mechs);

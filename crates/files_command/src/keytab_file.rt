@@ -12,7 +12,7 @@ use sec_base::{NoMemory, Octets};
 use std::alloc::Global;
 
 /// A key of a server, and its number.
-#[derive(Debug, Drop)]
+#[derive(Drop)]
 pub struct ServiceKey {
     pub server: Principal,
     pub kvno: u32,

@@ -16,7 +16,7 @@ use sec_base::{Octets, Text};
 use std::alloc::Global;
 
 /// A file that is asked for.
-#[derive(Debug, Drop)]
+#[derive(Drop)]
 pub enum Order {
     /// A keytab of this key.
     Keytab {

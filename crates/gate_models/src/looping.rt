@@ -44,7 +44,7 @@ pub(crate) enum Next {
 }
 
 /// How hearing ends.
-#[derive(Clone, Copy, Debug, PartialEq, Eq)]
+#[derive(Clone, Copy)]
 pub(crate) enum Turned {
     /// A record was answered.
     Answered,

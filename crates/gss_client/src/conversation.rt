@@ -20,7 +20,7 @@ use std::alloc::Global;
 const END: u32 = 0x8000_0000;
 
 /// How a conversation ended.
-#[derive(Clone, Copy, Debug, PartialEq, Eq)]
+#[derive(Clone, Copy, Debug)]
 pub enum Parting {
     /// All calls were answered, and the context was destroyed.
     Finished,

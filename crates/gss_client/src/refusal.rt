@@ -8,7 +8,7 @@ use sec_base::NoMemory;
 use spnego_core::NegRefusal;
 
 /// What the server denied.
-#[derive(Clone, Copy, Debug, PartialEq, Eq)]
+#[derive(Clone, Copy, Debug)]
 pub enum Denial {
     /// The version of RPC: it serves the versions `low` to `high`.
     Rpc { low: u32, high: u32 },
@@ -21,7 +21,7 @@ pub enum Denial {
 }
 
 /// What is wrong with a reply.
-#[derive(Clone, Copy, Debug, PartialEq, Eq)]
+#[derive(Clone, Copy, Debug)]
 pub enum ReplyWhy {
     /// The record is too long, or has too many fragments.
     Record,
@@ -42,7 +42,7 @@ pub enum ReplyWhy {
 }
 
 /// Why a session ends.
-#[derive(Clone, Copy, Debug, PartialEq, Eq)]
+#[derive(Clone, Copy, Debug)]
 pub enum ClientRefusal {
     /// The link failed, and its count of faults rose.
     LinkFault,

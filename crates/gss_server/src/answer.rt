@@ -20,7 +20,7 @@ pub struct Kept {
 }
 
 /// What goes back to the peer.
-#[derive(Debug, Drop)]
+#[derive(Drop)]
 pub enum Reply {
     /// Nothing.
     Silent,

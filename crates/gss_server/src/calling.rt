@@ -5,7 +5,7 @@ ghost use Rattle.sha1.specs.Sha1.{sha1};
 ghost use Rattle.rpcsec_msgs.specs.Cred.{cred_value};
 ghost use Rattle.accept_book.specs.RecordShown.{is_verified, body_args, end_of};
 ghost use Rattle.accept_book.specs.RecordRule.{unadmitted, admitted_ruling, ask_admit, args_ruling};
-ghost use Rattle.accept_book.specs.RecordRule.{data_ruling};
+ghost use Rattle.accept_book.specs.RecordRule.{data_ruling, IsInContext};
 ghost use Rattle.gss_server.specs.Answers.{IsSaid};
 ghost use Rattle.gss_server.specs.Hearing.{shown};
 ghost use Rattle.gss_server.specs.Ruled.{IsRuledInContext, IsScreened, unasked};
@@ -167,13 +167,13 @@ fn say_args<G: Gate>(
     cred: &GssCred<'_>,
     lease: &Lease,
     keys: &LentKeys<'_>,
-    args: Option<Octets>,
+    args: &Option<Octets>,
     asks: &mut Asks,
 ) -> Said
     requires unasked { asks.old ≡ unasked }
     ensures ruled { IsRuledInContext G.Gate gate.old gate.new asks.new result
         (args_ruling (shown heard.entry.now) (cred_value cred.now) lease.now asks.new.admitted
-        args) }
+        args.now) }
 {
     let Some(args) = args else {
         return say_stat(alloc, heard, cred, lease, keys, Rule::Body, GARBAGE_ARGS);
@@ -208,7 +208,7 @@ fn say_opened<G: Gate>(
         (body_args (end_of lease.now) (cred_value cred.now) heard.entry.now.call.args.now)) }
 {
     match open_body(alloc, &end_at(lease), keys, cred, heard.call.args) {
-        Ok(args) => say_args(alloc, gate, heard, cred, lease, keys, args, asks),
+        Ok(args) => say_args(alloc, gate, heard, cred, lease, keys, &args, asks),
         Err(_) => say_no_memory(),
     }
 }
@@ -238,9 +238,9 @@ fn say_body<G: Gate>(
     }
 }
 
-/// Answers a data call of a context that was shown.
+/// Answers a data call whose verifier, program and version are right.
 #[tactic(auto, unfolding(accept_book::specs::RecordRule::data_ruling))]
-pub(crate) fn say_data<G: Gate>(
+fn say_in_context<G: Gate>(
     alloc: Global,
     gate: &mut G,
     heard: &Heard<'_>,
@@ -249,14 +249,11 @@ pub(crate) fn say_data<G: Gate>(
     keys: &LentKeys<'_>,
     asks: &mut Asks,
 ) -> Said
+    requires right { IsInContext (shown heard.now) lease.now }
     requires unasked { asks.old ≡ unasked }
     ensures ruled { IsRuledInContext G.Gate gate.old gate.new asks.new result
         (data_ruling (shown heard.entry.now) (cred_value cred.now) lease.now asks.new.admitted) }
 {
-    match screened(alloc, heard, cred, lease, keys) {
-        None => {}
-        Some(said) => return said,
-    }
     let call = &heard.call;
     if call.procedure > COUNT {
         return say_stat(
@@ -273,4 +270,24 @@ pub(crate) fn say_data<G: Gate>(
         return say_denied(alloc, heard, Rule::Weak, AUTH_TOOWEAK);
     }
     say_body(alloc, gate, heard, cred, lease, keys, asks)
+}
+
+/// Answers a data call of a context that was shown.
+pub(crate) fn say_data<G: Gate>(
+    alloc: Global,
+    gate: &mut G,
+    heard: &Heard<'_>,
+    cred: &GssCred<'_>,
+    lease: &Lease,
+    keys: &LentKeys<'_>,
+    asks: &mut Asks,
+) -> Said
+    requires unasked { asks.old ≡ unasked }
+    ensures ruled { IsRuledInContext G.Gate gate.old gate.new asks.new result
+        (data_ruling (shown heard.entry.now) (cred_value cred.now) lease.now asks.new.admitted) }
+{
+    match screened(alloc, heard, cred, lease, keys) {
+        None => say_in_context(alloc, gate, heard, cred, lease, keys, asks),
+        Some(said) => said,
+    }
 }

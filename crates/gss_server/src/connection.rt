@@ -24,7 +24,7 @@ use std::alloc::Global;
 const RECORDS: u32 = 65536;
 
 /// Why a connection ended.
-#[derive(Clone, Copy, Debug, PartialEq, Eq)]
+#[derive(Clone, Copy, Debug)]
 pub enum ConnEnd {
     /// The stream ended between two records.
     Ended,

@@ -22,7 +22,7 @@ use rpcsec_msgs::GssCred;
 use std::alloc::Global;
 
 /// A rule, and the reply by it; at want of memory the rule is 0.
-#[derive(Debug, Drop)]
+#[derive(Drop)]
 pub(crate) struct Said {
     pub rule: u8,
     pub reply: Reply,

@@ -5,6 +5,7 @@ ghost use Rattle.spnego_core.specs.InitMech as plain_lists;
 ghost use Rattle.init_ends.specs.Arming.{AreStandard};
 ghost use Rattle.init_ends.specs.Ends.{setup_by};
 ghost use Rattle.init_ends.specs.Objects.{is_own_list};
+ghost use Rattle.mech_objects.specs.Made.{AreMade};
 
 use crate::connections::book_of;
 use crate::entries;
@@ -14,7 +15,7 @@ use gate_models::{Beginning, LoopLink};
 use gss_client::{Service, Session, Start};
 use gss_server::Kept;
 use init_ends::{InitSetup, standard_mechs};
-use mech_objects::{KerberosMech, Mech, ScramMech};
+use mech_objects::{MadeMechs, Mech, make_mechs};
 use sec_base::{Link, MemDraw, MemShelf, Moment, NoMemory, Octets, Text};
 use spnego_core::{InitFacts, Outcome};
 use std::alloc::Global;
@@ -135,9 +136,11 @@ fn run_by_all(
 ) -> Result<(), NoMemory>
     requires { ⟦<BookLink as Link>⟧.closed link.old ≡ false }
 {
-    let kerberos = Box::new(alloc, KerberosMech::new(alloc))?;
-    let microsoft = Box::new(alloc, KerberosMech::new_ms(alloc))?;
-    let scram = Box::new(alloc, ScramMech::new(alloc))?;
+    let MadeMechs {
+        kerberos,
+        microsoft,
+        scram,
+    } = make_mechs(alloc).ok_or(NoMemory)?;
     let mechs = standard_mechs(alloc, kerberos, microsoft, scram)?;
     run(alloc, words, link, shelf, devices, mechs, said);
     Ok(())
@@ -293,36 +296,50 @@ fn pair(alloc: Global, setup: InitSetup, link: BookLink, said: &mut Said)
     }
 }
 
-/// The same by objects of Kerberos under both its names, and of SCRAM.
-fn pair_by_all(
-    alloc: Global,
-    facts: InitFacts,
-    link: BookLink,
-    said: &mut Said,
-) -> Result<(), NoMemory>
-    requires unclosed { ⟦<BookLink as Link>⟧.closed link ≡ false }
-    requires list { plain_lists.is_own_list facts.list ≡ true }
+/// The same by these objects, which are armed with what the facts list.
+fn pair_by(alloc: Global, mechs: Vec<Box<dyn Mech>>, given: (InitFacts, BookLink), said: &mut Said)
+    requires blank { AreStandard (map meaning mechs.items) }
+    requires list { plain_lists.is_own_list given.0.list ≡ true }
+    requires unclosed { ⟦<BookLink as Link>⟧.closed given.1 ≡ false }
 {
-    let kerberos = Box::new(alloc, KerberosMech::new(alloc))?;
-    let microsoft = Box::new(alloc, KerberosMech::new_ms(alloc))?;
-    let scram = Box::new(alloc, ScramMech::new(alloc))?;
-    let mechs = standard_mechs(alloc, kerberos, microsoft, scram)?;
-    let setup = InitSetup::armed(alloc, mechs, facts)?;
-    pair(alloc, setup, link, said);
-    Ok(())
+    let (facts, link) = given;
+    match InitSetup::armed(alloc, mechs, facts) {
+        Ok(setup) => pair(alloc, setup, link, said),
+        Err(_) => {
+            drop(link);
+            said.starve();
+        }
+    }
+}
+
+/// The same by objects of Kerberos under both its names, and of SCRAM.
+fn pair_by_all(alloc: Global, made: MadeMechs, given: (InitFacts, BookLink), said: &mut Said)
+    requires made { AreMade made }
+    requires list { plain_lists.is_own_list given.0.list ≡ true }
+    requires unclosed { ⟦<BookLink as Link>⟧.closed given.1 ≡ false }
+{
+    let MadeMechs {
+        kerberos,
+        microsoft,
+        scram,
+    } = made;
+    let mechs = standard_mechs(alloc, kerberos, microsoft, scram).ok();
+    match mechs.zip(Some(given)) {
+        Some((mechs, given)) => pair_by(alloc, mechs, given, said),
+        None => said.starve(),
+    }
 }
 
 /// Says what comes of a session over a book of this offer's letters.
 fn pair_over(setting: &Setting, alloc: Global, facts: InitFacts, offer: &str, said: &mut Said)
     requires { plain_lists.is_own_list facts.list ≡ true }
 {
-    match loop_of(alloc, setting, offer, Vec::new(alloc)) {
-        Some(link) => {
-            if pair_by_all(alloc, facts, link, said).is_err() {
-                said.starve();
-            }
+    match make_mechs(alloc).zip(loop_of(alloc, setting, offer, Vec::new(alloc))) {
+        Some((made, link)) => pair_by_all(alloc, made, (facts, link), said),
+        None => {
+            drop(facts);
+            said.starve();
         }
-        None => said.starve(),
     }
 }
 

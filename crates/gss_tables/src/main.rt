@@ -1,20 +1,29 @@
-//! Compares tables of outside values of the server, the book and both ends together with what the public calls answer, and says of each
-//! table how many lines agree, or which doesn't.
+//! Compares tables of outside values of both ends, the book and the world with what the public calls answer, and says of each table how
+//! many lines agree, or which doesn't.
 #![tactic(auto)]
 
 mod asking;
+mod begun;
 mod books;
 mod connections;
 mod cores;
+mod drills;
+mod endings;
 mod entries;
+mod exchanges;
 mod links;
 mod loops;
+mod made_files;
 mod meetings;
 mod records;
 mod rules;
+mod runs;
 mod seats;
 mod servers;
+mod sessions;
 mod table;
+mod talks;
+mod worlds;
 
 use std::sync::Wait;
 use std::thread::Threads;
@@ -22,7 +31,8 @@ use std::{fs, io};
 use table::{Table, compared};
 use table_setting::{Files, Setting};
 
-const TABLES: [Table; 12] = [
+/// Those of the server, of the book, of both ends together, of the client, and of the command that makes files.
+const TABLES: [Table; 20] = [
     Table::Records,
     Table::Rules,
     Table::Connections,
@@ -35,7 +45,18 @@ const TABLES: [Table; 12] = [
     Table::Meetings,
     Table::Loops,
     Table::Pairs,
+    Table::Sessions,
+    Table::Runs,
+    Table::Creations,
+    Table::Talks,
+    Table::Bodies,
+    Table::Trials,
+    Table::MadeFiles,
+    Table::ReadBack,
 ];
+
+/// Those of the world, which has a setting of its own, and of drills, which have none.
+const WORLD_TABLES: [Table; 3] = [Table::Worlds, Table::Exchanges, Table::Drills];
 
 /// Says of a table how many lines agree, or which doesn't. The host is the runtime once more, which makes threads and waits for them.
 fn compare<R: Threads + Wait + Sync>(
@@ -52,36 +73,50 @@ fn compare<R: Threads + Wait + Sync>(
     }
 }
 
-/// Says the same of each table.
+/// Says the same of each of these tables.
 fn compare_all<R: Threads + Wait + Sync>(
     rt: &HostRuntime,
     host: &R,
     setting: &Setting,
     files: &Files,
+    tables: &[Table],
 ) -> io::Result<()> {
-    for table in TABLES {
-        compare(rt, host, setting, files, table)?;
+    for table in tables {
+        compare(rt, host, setting, files, *table)?;
     }
     Ok(())
 }
 
-/// The files that rows name.
-fn read_files(rt: &HostRuntime) -> io::Result<Files> {
+/// The files that rows name, whose octets stand in this one.
+fn read_files(rt: &HostRuntime, octets: &str) -> io::Result<Files> {
     let shelf = fs::read_to_string(rt, "shelf.txt")?;
-    let octets = fs::read_to_string(rt, "octets.txt")?;
+    let octets = fs::read_to_string(rt, octets)?;
     Ok(Files { shelf, octets })
 }
 
-/// What the tables rest on, None where its file isn't in its form.
-fn read_setting(rt: &HostRuntime) -> io::Result<Option<Setting>> {
-    let text = fs::read_to_string(rt, "setting.txt")?;
+/// What tables rest on by this file, None where it isn't in its form.
+fn read_setting(rt: &HostRuntime, file: &str) -> io::Result<Option<Setting>> {
+    let text = fs::read_to_string(rt, file)?;
     Ok(Setting::read(rt.alloc(), text.as_str()))
 }
 
-fn main(rt: HostRuntime) -> io::Result<()> {
-    let files = read_files(&rt)?;
-    match read_setting(&rt)? {
-        Some(setting) => compare_all(&rt, &rt, &setting, &files),
-        None => println!(rt; "setting.txt: not in its form"),
+/// Says the same of each of these tables, by the files of their setting and of the octets that their rows name.
+fn compare_over<R: Threads + Wait + Sync>(
+    rt: &HostRuntime,
+    host: &R,
+    setting: &str,
+    octets: &str,
+    tables: &[Table],
+) -> io::Result<()> {
+    let files = read_files(rt, octets)?;
+    match read_setting(rt, setting)? {
+        Some(setting) => compare_all(rt, host, &setting, &files, tables),
+        None => println!(rt; "{setting}: not in its form"),
     }
+}
+
+fn main(rt: HostRuntime) -> io::Result<()> {
+    compare_over(&rt, &rt, "setting.txt", "octets.txt", &TABLES)?;
+    let (setting, octets) = ("world_setting.txt", "world_octets.txt");
+    compare_over(&rt, &rt, setting, octets, &WORLD_TABLES)
 }

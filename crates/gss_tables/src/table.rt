@@ -1,6 +1,14 @@
 //! The tables, and the comparison of one with what the calls answer.
 
-use crate::{books, connections, cores, links, loops, meetings, records, rules, seats, servers};
+ghost use Rattle.std.specs.Prelude.{map};
+ghost use Rattle.init_ends.specs.Arming.{AreStandard};
+
+use crate::{
+    books, connections, cores, drills, exchanges, links, loops, made_files, meetings, records,
+    rules, runs, seats, servers, sessions, talks, worlds,
+};
+use init_ends::standard_mechs;
+use mech_objects::{Mech, make_mechs};
 use std::alloc::Global;
 use std::sync::Wait;
 use std::thread::Threads;
@@ -22,6 +30,17 @@ pub enum Table {
     Meetings,
     Loops,
     Pairs,
+    Sessions,
+    Runs,
+    Creations,
+    Talks,
+    Bodies,
+    Trials,
+    MadeFiles,
+    ReadBack,
+    Worlds,
+    Exchanges,
+    Drills,
 }
 
 impl Table {
@@ -39,6 +58,17 @@ impl Table {
             Table::Meetings => "meetings.txt",
             Table::Loops => "loops.txt",
             Table::Pairs => "pairs.txt",
+            Table::Sessions => "sessions.txt",
+            Table::Runs => "runs.txt",
+            Table::Creations => "creations.txt",
+            Table::Talks => "talks.txt",
+            Table::Bodies => "bodies.txt",
+            Table::Trials => "trials.txt",
+            Table::MadeFiles => "made_files.txt",
+            Table::ReadBack => "read_back.txt",
+            Table::Worlds => "worlds.txt",
+            Table::Exchanges => "exchanges.txt",
+            Table::Drills => "drills.txt",
         }
     }
 
@@ -51,8 +81,48 @@ impl Table {
     fn is_named(self) -> bool {
         match self {
             Table::Records | Table::Rules | Table::Connections => false,
+            Table::Sessions | Table::Runs | Table::Drills => false,
             _ => true,
         }
+    }
+}
+
+/// Says what the calls of a client answer to a row, by these objects.
+fn answer_by(
+    setting: &Setting,
+    files: &Files,
+    table: Table,
+    mechs: Vec<Box<dyn Mech>>,
+    cells: &mut Cells<'_>,
+    said: &mut Said,
+)
+    requires { AreStandard (map meaning mechs.items) }
+{
+    match table {
+        Table::Sessions => sessions::answer(setting, mechs, cells, said),
+        Table::Runs => runs::answer(files, mechs, cells, said),
+        Table::Creations => talks::create(setting, files, mechs, cells, said),
+        Table::Talks => talks::hold_all(setting, files, mechs, cells, said),
+        Table::Trials => runs::run_trial(files, mechs, cells, said),
+        _ => cells.expect(false),
+    }
+}
+
+/// The same by objects of Kerberos under both its names, and of SCRAM, which are made for the row.
+fn answer_by_objects(
+    setting: &Setting,
+    files: &Files,
+    table: Table,
+    cells: &mut Cells<'_>,
+    said: &mut Said,
+) {
+    let alloc = cells.alloc();
+    match make_mechs(alloc) {
+        Some(made) => match standard_mechs(alloc, made.kerberos, made.microsoft, made.scram) {
+            Ok(mechs) => answer_by(setting, files, table, mechs, cells, said),
+            Err(_) => said.starve(),
+        },
+        None => said.starve(),
     }
 }
 
@@ -83,6 +153,15 @@ impl<R: Wait> Rows for Set<'_, R> {
             Table::Servers | Table::Failing | Table::Meetings => cells.expect(false),
             Table::Loops => loops::run_over(setting, files, cells, said),
             Table::Pairs => loops::run_pair(setting, cells, said),
+            Table::Sessions | Table::Runs | Table::Creations | Table::Talks | Table::Trials => {
+                answer_by_objects(setting, files, self.table, cells, said)
+            }
+            Table::Bodies => talks::open_body(files, cells, said),
+            Table::MadeFiles => made_files::make(cells, said),
+            Table::ReadBack => made_files::read_back(cells, said),
+            Table::Worlds => worlds::answer(setting, files.octets.as_str(), cells, said),
+            Table::Exchanges => exchanges::answer(setting, cells, said),
+            Table::Drills => drills::answer(cells, said),
         }
     }
 }

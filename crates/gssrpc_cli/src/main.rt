@@ -1,9 +1,12 @@
 //! The client's program: makes the real devices and the mechanisms' objects, and runs the client over them.
 #![tactic(auto)]
 
+ghost use Rattle.std.specs.Prelude.{map};
+ghost use Rattle.init_ends.specs.Arming.{AreStandard};
+
 use client_command::{address_of, run_client};
 use init_ends::standard_mechs;
-use mech_objects::{KerberosMech, ScramMech};
+use mech_objects::{MadeMechs, Mech, make_mechs};
 use sec_base::Text;
 use std::process::ExitCode;
 use system_devices::{
@@ -26,24 +29,11 @@ fn main(rt: HostRuntime) -> ExitCode {
     ExitCode::from(status)
 }
 
-/// Runs the client with these words and the objects of Kerberos under both its names and of SCRAM, over a connection to the address that they name.
-fn run(rt: HostRuntime, words: &[Text]) -> u8 {
-    let Ok(mut draw) = RandDraw::new(&rt) else {
-        return NOT_STARTED;
-    };
+/// Runs the client with these words and objects, over a connection to the address that the words name.
+fn run_over(rt: HostRuntime, words: &[Text], mechs: Vec<Box<dyn Mech>>, draw: &mut RandDraw) -> u8
+    requires { AreStandard (map meaning mechs.items) }
+{
     let alloc = rt.alloc();
-    let Ok(kerberos) = Box::new(alloc, KerberosMech::new(alloc)) else {
-        return OUT_OF_MEMORY;
-    };
-    let Ok(microsoft) = Box::new(alloc, KerberosMech::new_ms(alloc)) else {
-        return OUT_OF_MEMORY;
-    };
-    let Ok(scram) = Box::new(alloc, ScramMech::new(alloc)) else {
-        return OUT_OF_MEMORY;
-    };
-    let Ok(mechs) = standard_mechs(alloc, kerberos, microsoft, scram) else {
-        return OUT_OF_MEMORY;
-    };
     // a command has an address, and what isn't one needs no connection
     let address = address_of(words).unwrap_or("");
     let mut link = Buffered::over(alloc, DialedLink::new(rt, address));
@@ -52,9 +42,29 @@ fn run(rt: HostRuntime, words: &[Text]) -> u8 {
     let mut out = StdSink::output(rt.stdout());
     let mut err = StdSink::error(rt.stderr());
     run_client(
-        alloc, words, &mut shelf, &mut link, &mut clock, &mut draw, mechs, &mut out, &mut err,
+        alloc, words, &mut shelf, &mut link, &mut clock, draw, mechs, &mut out, &mut err,
     )
     .status
+}
+
+/// The same with the objects of Kerberos under both its names and of SCRAM, which are made ahead of the devices.
+fn run(rt: HostRuntime, words: &[Text]) -> u8 {
+    let Ok(mut draw) = RandDraw::new(&rt) else {
+        return NOT_STARTED;
+    };
+    let alloc = rt.alloc();
+    let Some(made) = make_mechs(alloc) else {
+        return OUT_OF_MEMORY;
+    };
+    let MadeMechs {
+        kerberos,
+        microsoft,
+        scram,
+    } = made;
+    match standard_mechs(alloc, kerberos, microsoft, scram) {
+        Ok(mechs) => run_over(rt, words, mechs, &mut draw),
+        Err(_) => OUT_OF_MEMORY,
+    }
 }
 
 /// Runs the client with the words of the command line.

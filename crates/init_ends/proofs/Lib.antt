@@ -4,3 +4,4 @@ pub mod PlainNames
 pub mod PlainStates
 pub mod PlainSteps
 pub mod Taking
+pub mod Starting

@@ -3,3 +3,4 @@ pub mod Standard
 pub mod States
 pub mod Objects
 pub mod Laws
+pub mod Made

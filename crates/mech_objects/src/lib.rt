@@ -3,6 +3,7 @@
 
 mod ask;
 mod laws;
+mod made;
 mod mech;
 mod objects;
 mod run;
@@ -10,5 +11,6 @@ mod state;
 
 pub use ask::{MechAsk, MechMove, Stage};
 pub use laws::prove_standard;
+pub use made::{MadeMechs, make_mechs};
 pub use mech::Mech;
 pub use objects::{KerberosMech, ScramMech};

@@ -1,5 +1,5 @@
 -- Fragment after fragment of a record.
-use Rattle.std.proofs.Common.{◌≡◌, ◌⊎◌, inl, inr, ℕ, ◌+◌, ◌%◌, ◌<◌, ◌≤◌, ◌^◌, lit<, List, [], ◌∷◌, ◌++◌, length, refl, ap, sym, ◌∙◌, subst, arith, Some, Result, Ok, Err}
+use Rattle.std.proofs.Common.{◌≡◌, ◌⊎◌, inl, inr, ℕ, ◌+◌, ◌%◌, ◌<◌, ◌≤◌, ◌^◌, lit<, Bool, true, false, List, [], ◌∷◌, ◌++◌, length, refl, ap, sym, ◌∙◌, subst, arith, Some, Result, Ok, Err}
 use Rattle.std.proofs.lemmas.Bool.{cases_lt}
 use Rattle.std.proofs.lemmas.Grind.{flat_map-append}
 use Rattle.std.proofs.lemmas.List.{length-append, append-nil}
@@ -118,6 +118,18 @@ is-more b c xs ys n f e t = subst (λ (g : Fragment). TakesFragment b c xs ys n 
 
 pub is-last : (b c : Wire) (xs ys : List ℕ) (n : ℕ) (f : Fragment) → f ≡ Last → TakesFragment b c xs ys n (Ok f) → TakesFragment b c xs ys n (Ok Last)
 is-last b c xs ys n f e t = subst (λ (g : Fragment). TakesFragment b c xs ys n (Ok g)) e t
+
+-- what the header of a last fragment announces was read
+pub announced-last : (a b : Wire) (xs ys : List ℕ) (n header : ℕ) → 2 ^ 31 ≤ header → header < 2 ^ 32 → (whole : Bool) → whole ≡ true → TakesContent a b xs ys (header % 2 ^ 31) (Ok whole) → TakesAnnounced a b xs ys n header (Ok Last)
+announced-last a b xs ys n header last bound true e t = (t.0, omega (arith, t.1), t.2)
+announced-last a b xs ys n header last bound false e t = absurd cc
+
+-- the input ended inside what a header announces
+pub announced-torn : (a b : Wire) (xs ys : List ℕ) (n header : ℕ) → n < 64 → length xs + header % 2 ^ 31 ≤ 131072 → (whole : Bool) → whole ≡ false → TakesContent a b xs ys (header % 2 ^ 31) (Ok whole) → TakesAnnounced a b xs ys n header (Err Torn)
+announced-torn a b xs ys n header few fits true e t = absurd cc
+announced-torn a b xs ys n header few fits false e t =
+    let all : a.coming ≡ t.0 = t.3.took.coming ∙ (ap (λ (zs : List ℕ). t.0 ++ zs) t.2 ∙ append-nil t.0) in
+    (few, fits, subst (λ (zs : List ℕ). length zs < header % 2 ^ 31) (sym all) t.1, took-same t.3.took (sym all))
 
 -- what a header announces was not read, since its octets were not
 pub announced-refused : (a b : Wire) (xs ys : List ℕ) (n header : ℕ) (refusal : RecordRefusal) → n < 64 → length xs + header % 2 ^ 31 ≤ 131072 → TakesContent a b xs ys (header % 2 ^ 31) (Err refusal) → TakesAnnounced a b xs ys n header (Err refusal)

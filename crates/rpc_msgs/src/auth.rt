@@ -12,7 +12,7 @@ use sec_base::NoMemory;
 const BODY: u32 = 400;
 
 /// Who calls or answers, or what shows it: a flavour and its body of at most 400 octets.
-#[derive(Clone, Copy, Debug)]
+#[derive(Clone, Copy)]
 pub struct Auth<'a> {
     pub flavour: u32,
     pub body: &'a [u8],

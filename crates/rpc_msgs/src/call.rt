@@ -9,12 +9,12 @@ ghost use Rattle.rpc_msgs.specs.Xdr.{Answers, Reads};
 use crate::auth::{Auth, put_auth, read_auth};
 use crate::numbers::{CALL, RPC_VERSION, RPCSEC_GSS};
 use crate::xdr_reader::{XdrReader, XdrRefusal};
-use crate::xdr_writer::XdrWriter;
+use crate::xdr_writer::{XdrWriter, put_words};
 use sec_base::{NoMemory, Octets};
 use std::alloc::Global;
 
 /// A call.
-#[derive(Clone, Copy, Debug)]
+#[derive(Clone, Copy)]
 pub struct Call<'a> {
     pub xid: u32,
     pub program: u32,
@@ -183,11 +183,7 @@ fn put_header(
     ensures { OnOk result (out.new ≡ out.old ++ header_octets xid program version procedure
         (record { flavour = RPCSEC_GSS; body = cred.now })) }
 {
-    out.word(xid)?;
-    out.word(CALL)?;
-    out.word(RPC_VERSION)?;
-    out.word(program)?;
-    out.word(version)?;
-    out.word(procedure)?;
+    put_words(out, xid, CALL, RPC_VERSION)?;
+    put_words(out, program, version, procedure)?;
     put_auth(out, RPCSEC_GSS, cred)
 }

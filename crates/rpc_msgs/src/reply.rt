@@ -1,16 +1,17 @@
 //! Replies, RFC 5531 section 9.
 
 ghost use Rattle.std.specs.Prelude.{◌≡◌, ◌≤◌, ◌++◌, length, IfOk, OnOk, Ok};
-ghost use Rattle.rpc_msgs.specs.Replies.{accepted, mismatch, auth_error, reply_value, reply_octets};
-ghost use Rattle.rpc_msgs.specs.Replies.{IsReply, accepted_head, accepted_body, mismatch_octets};
+ghost use Rattle.rpc_msgs.specs.Replies.{reply_value, reply_octets, IsReply, HasWords};
+ghost use Rattle.rpc_msgs.specs.Replies.{accepted_head, accepted_body, mismatch_octets};
 ghost use Rattle.rpc_msgs.specs.Replies.{auth_error_octets};
 ghost use Rattle.rpc_msgs.specs.ReplyReading.{reply_at};
 ghost use Rattle.rpc_msgs.specs.Words.{word};
 
+use crate::auth::put_auth;
 use crate::numbers::{
     AUTH_ERROR, MSG_ACCEPTED, MSG_DENIED, PROG_MISMATCH, REPLY, RPC_MISMATCH, SUCCESS,
 };
-use crate::xdr_writer::XdrWriter;
+use crate::xdr_writer::{XdrWriter, put_words};
 use sec_base::{NoMemory, Octets};
 use std::alloc::Global;
 
@@ -18,7 +19,7 @@ use std::alloc::Global;
 const HEAD_ROOM: usize = 64;
 
 /// A reply.
-#[derive(Clone, Copy, Debug)]
+#[derive(Clone, Copy)]
 pub enum Reply<'a> {
     /// The call was accepted. `result` is there at SUCCESS, the versions `low` to `high` at PROG_MISMATCH.
     Accepted {
@@ -50,6 +51,25 @@ pub fn write_reply(alloc: Global, v: &Reply<'_>) -> Result<Octets, NoMemory>
     // It is read as that reply.
     ensures again { IfOk result (λ octets. reply_at octets ≡ Ok (reply_value v.now)) }
 {
+    let mut out = XdrWriter::with_room(alloc, room_of(v))?;
+    put_reply(&mut out, v)?;
+    Ok(out.finish())
+}
+
+/// The room that is taken for a reply.
+fn room_of(v: &Reply<'_>) -> usize {
+    match *v {
+        Reply::Accepted { result, .. } => result.len().saturating_add(HEAD_ROOM),
+        _ => HEAD_ROOM,
+    }
+}
+
+/// Appends a reply.
+fn put_reply(out: &mut XdrWriter, v: &Reply<'_>) -> Result<(), NoMemory>
+    requires { IsReply (reply_value v.now) }
+    ensures octets { OnOk result (out.new ≡ out.old ++ reply_octets (reply_value v.now)) }
+    ensures words { HasWords (reply_value v.now) }
+{
     match *v {
         Reply::Accepted {
             xid,
@@ -59,34 +79,13 @@ pub fn write_reply(alloc: Global, v: &Reply<'_>) -> Result<Octets, NoMemory>
             low,
             high,
             result,
-        } => write_accepted(alloc, xid, flavour, verf, stat, low, high, result),
-        Reply::Mismatch { xid, low, high } => write_mismatch(alloc, xid, low, high),
-        Reply::AuthError { xid, stat } => write_auth_error(alloc, xid, stat),
+        } => {
+            put_accepted(out, xid, flavour, verf, stat)?;
+            put_body(out, stat, low, high, result)
+        }
+        Reply::Mismatch { xid, low, high } => put_mismatch(out, xid, low, high),
+        Reply::AuthError { xid, stat } => put_auth_error(out, xid, stat),
     }
-}
-
-/// The octets of an accepted reply.
-fn write_accepted(
-    alloc: Global,
-    xid: u32,
-    flavour: u32,
-    verf: &[u8],
-    stat: u32,
-    low: u32,
-    high: u32,
-    body: &[u8],
-) -> Result<Octets, NoMemory>
-    requires { IsReply (accepted xid flavour verf.now stat low high body.now) }
-    ensures octets { IfOk result
-        (λ octets. octets ≡ reply_octets (accepted xid flavour verf.now stat low high body.now)) }
-    ensures again { IfOk result
-        (λ octets. reply_at octets ≡ Ok (accepted xid flavour verf.now stat low high body.now)) }
-{
-    let room = body.len().saturating_add(HEAD_ROOM);
-    let mut out = XdrWriter::with_room(alloc, room)?;
-    put_accepted(&mut out, xid, flavour, verf, stat)?;
-    put_body(&mut out, stat, low, high, body)?;
-    Ok(out.finish())
 }
 
 /// Appends an accepted reply up to its stat. Behind SUCCESS stands the result.
@@ -100,11 +99,8 @@ pub fn put_accepted(
     requires { length verf.now ≤ 400 }
     ensures { OnOk result (out.new ≡ out.old ++ accepted_head xid flavour verf.now stat) }
 {
-    out.word(xid)?;
-    out.word(REPLY)?;
-    out.word(MSG_ACCEPTED)?;
-    out.word(flavour)?;
-    out.opaque(verf)?;
+    put_words(out, xid, REPLY, MSG_ACCEPTED)?;
+    put_auth(out, flavour, verf)?;
     out.word(stat)
 }
 
@@ -120,44 +116,31 @@ fn put_body(
 {
     match stat {
         SUCCESS => out.octets(body),
-        PROG_MISMATCH => put_range(out, low, high),
+        PROG_MISMATCH => put_pair(out, low, high),
         _ => Ok(()),
     }
 }
 
 /// Appends two words.
-fn put_range(out: &mut XdrWriter, low: u32, high: u32) -> Result<(), NoMemory>
-    ensures { OnOk result (out.new ≡ out.old ++ (word low ++ word high)) }
+fn put_pair(out: &mut XdrWriter, first: u32, second: u32) -> Result<(), NoMemory>
+    ensures { OnOk result (out.new ≡ out.old ++ (word first ++ word second)) }
 {
-    out.word(low)?;
-    out.word(high)
+    out.word(first)?;
+    out.word(second)
 }
 
-/// The reply to another RPC version.
-fn write_mismatch(alloc: Global, xid: u32, low: u32, high: u32) -> Result<Octets, NoMemory>
-    ensures octets { IfOk result (λ octets. octets ≡ mismatch_octets xid low high) }
-    ensures again { IfOk result (λ octets. reply_at octets ≡ Ok (mismatch xid low high)) }
+/// Appends the reply to another RPC version.
+fn put_mismatch(out: &mut XdrWriter, xid: u32, low: u32, high: u32) -> Result<(), NoMemory>
+    ensures { OnOk result (out.new ≡ out.old ++ mismatch_octets xid low high) }
 {
-    let mut out = XdrWriter::with_room(alloc, HEAD_ROOM)?;
-    out.word(xid)?;
-    out.word(REPLY)?;
-    out.word(MSG_DENIED)?;
-    out.word(RPC_MISMATCH)?;
-    out.word(low)?;
-    out.word(high)?;
-    Ok(out.finish())
+    put_words(out, xid, REPLY, MSG_DENIED)?;
+    put_words(out, RPC_MISMATCH, low, high)
 }
 
-/// The reply to a caller who isn't accepted.
-fn write_auth_error(alloc: Global, xid: u32, stat: u32) -> Result<Octets, NoMemory>
-    ensures octets { IfOk result (λ octets. octets ≡ auth_error_octets xid stat) }
-    ensures again { IfOk result (λ octets. reply_at octets ≡ Ok (auth_error xid stat)) }
+/// Appends the reply to a caller who isn't accepted.
+fn put_auth_error(out: &mut XdrWriter, xid: u32, stat: u32) -> Result<(), NoMemory>
+    ensures { OnOk result (out.new ≡ out.old ++ auth_error_octets xid stat) }
 {
-    let mut out = XdrWriter::with_room(alloc, HEAD_ROOM)?;
-    out.word(xid)?;
-    out.word(REPLY)?;
-    out.word(MSG_DENIED)?;
-    out.word(AUTH_ERROR)?;
-    out.word(stat)?;
-    Ok(out.finish())
+    put_words(out, xid, REPLY, MSG_DENIED)?;
+    put_pair(out, AUTH_ERROR, stat)
 }

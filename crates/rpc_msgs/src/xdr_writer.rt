@@ -11,7 +11,7 @@ use std::marker::Model;
 const ZEROS: [u8; 3] = [0; 3];
 
 /// Octets that grow by XDR values. Contracts see the octets so far.
-#[derive(Debug, Drop)]
+#[derive(Drop)]
 pub struct XdrWriter {
     bytes: Vec<u8>,
 }
@@ -104,4 +104,18 @@ impl XdrWriter {
     {
         Octets::from_vec(self.bytes)
     }
+}
+
+/// Appends three words.
+pub(crate) fn put_words(
+    out: &mut XdrWriter,
+    first: u32,
+    second: u32,
+    third: u32,
+) -> Result<(), NoMemory>
+    ensures { OnOk result (out.new ≡ out.old ++ (word first ++ (word second ++ word third))) }
+{
+    out.word(first)?;
+    out.word(second)?;
+    out.word(third)
 }

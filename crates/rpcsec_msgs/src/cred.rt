@@ -22,7 +22,7 @@ use std::alloc::Global;
 /// | 8 to 11 | `seq`, the number of the call |
 /// | 12 to 15 | `service`: of a data call 1 none, 2 integrity, 3 privacy; else any number |
 /// | from 16 | `context`, the handle, of variable length |
-#[derive(Clone, Copy, Debug)]
+#[derive(Clone, Copy)]
 pub struct GssCred<'a> {
     pub proc: u32,
     pub seq: u32,

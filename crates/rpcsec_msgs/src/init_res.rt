@@ -24,7 +24,7 @@ const TOKEN: u32 = 65_536;
 /// | 3 | `minor`, the minor status |
 /// | 4 | `window`, how many numbers the server remembers |
 /// | 5 | `token`, at most 65,536 octets |
-#[derive(Debug, Drop, PartialEq)]
+#[derive(Drop)]
 pub struct InitRes {
     pub context: Octets,
     pub major: u32,

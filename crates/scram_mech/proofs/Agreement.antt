@@ -13,7 +13,8 @@ use Rattle.scram_mech.specs.declared.run.Class.TheVariants.{Printable}
 use Rattle.scram_mech.specs.declared.verifiers.Verifier.{Verifier}
 use Rattle.scram_mech.specs.Signs.{is_nonce}
 use Rattle.scram_mech.specs.Base64.{encoded}
-use Rattle.scram_mech.specs.Judging.{judged, same, is_extended, are_rounds, data_of, is_bound, unframed}
+use Rattle.scram_mech.specs.Judging.{judged, same, is_extended, are_rounds, unframed}
+use Rattle.scram_bindings.specs.Carried.{data_of, is_bound}
 use Rattle.scram_mech.specs.FirstText.{First, first_of, first_text}
 use Rattle.scram_mech.specs.SecondText.{Second, second_of, second_text}
 use Rattle.scram_mech.specs.ThirdText.{Third, third_of, bare_text, with_proof}

@@ -11,7 +11,8 @@ use Rattle.scram_mech.specs.declared.state.State.{State}
 use Rattle.scram_mech.specs.declared.symbols.Spot.TheVariants as spots
 use Rattle.scram_mech.specs.Reading.{◌>>=◌, in_text}
 use Rattle.scram_mech.specs.State.{base64, ends}
-use Rattle.scram_mech.specs.Judging.{demand, same, is_extended, are_rounds, is_bound, unframed}
+use Rattle.scram_mech.specs.Judging.{demand, same, is_extended, are_rounds, unframed}
+use Rattle.scram_bindings.specs.Carried.{is_bound}
 use Rattle.scram_mech.specs.Base64.{decoded}
 use Rattle.scram_mech.specs.Formats.{Segment, pieces_of, piece, is_mandatory, values_of}
 use Rattle.scram_mech.specs.FirstText.{first_of}

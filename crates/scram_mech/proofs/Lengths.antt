@@ -10,7 +10,8 @@ use Rattle.scram_mech.specs.declared.refusal.ScramRefusal.{ScramRefusal}
 use Rattle.scram_mech.specs.declared.refusal.ScramRefusal.TheVariants as refusals
 use Rattle.scram_mech.specs.Reading.{seen}
 use Rattle.scram_mech.specs.Base64.{encoded}
-use Rattle.scram_mech.specs.Judging.{data_of, are_rounds}
+use Rattle.scram_mech.specs.Judging.{are_rounds}
+use Rattle.scram_bindings.specs.Carried.{data_of}
 use Rattle.scram_mech.specs.SecondText.{second_text}
 use Rattle.scram_mech.specs.ThirdText.{bare_text, with_proof}
 use Rattle.scram_mech.specs.FinalText.{final_text}

@@ -15,7 +15,8 @@ use Rattle.scram_mech.specs.FirstText.{first_of}
 use Rattle.scram_mech.specs.SecondText.{second_of}
 use Rattle.scram_mech.specs.ThirdText.{third_of}
 use Rattle.scram_mech.specs.FinalText.{final_of}
-use Rattle.scram_mech.specs.Judging.{demand, judged, same, is_extended, are_rounds, is_bound, held, unframed}
+use Rattle.scram_mech.specs.Judging.{demand, judged, same, is_extended, are_rounds, held, unframed}
+use Rattle.scram_bindings.specs.Carried.{is_bound}
 use Rattle.scram_mech.specs.Verifiers.{line_for}
 use Rattle.scram_mech.specs.Acceptor.{AcceptModel, nonce_of, line_or_none, accept_started, auth_with, is_proof, accept_finished}
 use Rattle.scram_mech.specs.Initiator.{InitModel, WaitModel, init_started, init_answered, init_finished}

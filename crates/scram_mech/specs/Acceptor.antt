@@ -10,7 +10,8 @@ use Rattle.scram_mech.specs.declared.refusal.ScramRefusal.{ScramRefusal}
 use Rattle.scram_mech.specs.declared.refusal.ScramRefusal.TheVariants as refusals
 use Rattle.scram_mech.specs.Reading.{◌>>=◌}
 use Rattle.scram_mech.specs.Base64.{encoded}
-use Rattle.scram_mech.specs.Judging.{demand, same, carried, is_bound, unframed}
+use Rattle.scram_mech.specs.Judging.{demand, same, unframed}
+use Rattle.scram_bindings.specs.Carried.{carried, is_bound}
 use Rattle.scram_mech.specs.FirstText.{first_of}
 use Rattle.scram_mech.specs.SecondText.{second_text}
 use Rattle.scram_mech.specs.ThirdText.{Third, third_of}

@@ -13,7 +13,8 @@ use Rattle.scram_mech.specs.declared.refusal.ScramRefusal.{ScramRefusal}
 use Rattle.scram_mech.specs.declared.refusal.ScramRefusal.TheVariants as refusals
 use Rattle.scram_mech.specs.Reading.{◌>>=◌}
 use Rattle.scram_mech.specs.Base64.{encoded}
-use Rattle.scram_mech.specs.Judging.{demand, judged, same, is_extended, are_rounds, data_of}
+use Rattle.scram_mech.specs.Judging.{demand, judged, same, is_extended, are_rounds}
+use Rattle.scram_bindings.specs.Carried.{data_of}
 use Rattle.scram_mech.specs.FirstText.{first_text}
 use Rattle.scram_mech.specs.SecondText.{Second, second_of}
 use Rattle.scram_mech.specs.ThirdText.{bare_text, with_proof}

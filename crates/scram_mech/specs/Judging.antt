@@ -1,6 +1,6 @@
 -- What is judged at several steps.
-use Rattle.std.specs.Prelude.{ℕ, ◌-◌, Bool, true, false, nat_eq, nat_lt, nat_le, ◌==◌, ◌&&◌, List}
-use Rattle.std.specs.Prelude.{[], ◌∷◌, length, take, Option, Some, None, unwrap_or, Result, Ok, Err}
+use Rattle.std.specs.Prelude.{ℕ, ◌-◌, Bool, true, false, nat_eq, nat_lt, nat_le, ◌&&◌, List}
+use Rattle.std.specs.Prelude.{[], ◌∷◌, length, take, Result, Ok, Err}
 use Rattle.std.specs.Prelude.{if◌then◌else◌}
 use lib.Pointwise.{pointwise}
 use Rattle.gss_base.specs.Mech.{is_oid_of}
@@ -37,19 +37,6 @@ is_extended own nonce = nat_lt (length own) (length nonce) && same (take (length
 -- rounds within the limits
 abbrev pub are_rounds : ℕ → Bool
 are_rounds rounds = nat_le 4096 rounds && nat_le rounds 200000
-
--- the application data of bindings, none without them
-abbrev pub data_of : Option (List ℕ) → List ℕ
-data_of bindings = unwrap_or bindings []
-
--- the bindings of application data that came, none where there is none
-abbrev pub carried : List ℕ → Option (List ℕ)
-carried binding = if length binding == 0 then None else Some binding
-
--- data that came against an acceptor's bindings; an acceptor without any takes whatever comes
-abbrev pub is_bound : Option (List ℕ) → List ℕ → Bool
-is_bound None binding = true
-is_bound (Some bindings) binding = same bindings binding
 
 -- what a frame holds, RFC 2743 section 3.1; one of another mechanism is refused at the content of
 -- its identifier

@@ -5,7 +5,8 @@ use Rattle.scram_mech.specs.declared.verifiers.Verifier.{Verifier}
 use Rattle.std.specs.List.{list_all}
 use Rattle.base64.specs.GeneralPurpose.{IsBytes}
 use Rattle.scram_mech.specs.Signs.{is_printable}
-use Rattle.scram_mech.specs.Judging.{is_extended, are_rounds, data_of, carried, is_bound, unframed}
+use Rattle.scram_mech.specs.Judging.{is_extended, are_rounds, unframed}
+use Rattle.scram_bindings.specs.Carried.{data_of, carried, is_bound}
 use Rattle.scram_mech.specs.Base64.{encoded}
 use Rattle.scram_mech.specs.declared.refusal.ScramRefusal.TheVariants.{Text, PeerError}
 use Rattle.scram_mech.specs.Reasons.{StepReasons}

@@ -1,11 +1,11 @@
 //! What is judged at several steps.
 
-ghost use Rattle.std.specs.Prelude.{◌≡◌, ◌≤◌, ◌∷◌, [], length, IfOk, OnOk, option_map};
+ghost use Rattle.std.specs.Prelude.{◌≡◌, ◌≤◌, ◌∷◌, [], length, OnOk};
 ghost use Rattle.scram_mech.specs.Reading.{Answers};
 ghost use Rattle.scram_mech.specs.State.{some};
 ghost use Rattle.scram_mech.specs.Formats.{Value, End, pieces_of};
-ghost use Rattle.scram_mech.specs.Judging.{judged, is_extended, are_rounds, data_of, carried};
-ghost use Rattle.scram_mech.specs.Judging.{is_bound, unframed};
+ghost use Rattle.scram_mech.specs.Judging.{judged, is_extended, are_rounds};
+ghost use Rattle.scram_mech.specs.Judging.{unframed};
 
 use crate::cursor::Cursor;
 use crate::refusal::{ScramRefusal, Stuck};
@@ -13,9 +13,7 @@ use crate::run::Class;
 use crate::secrets::same;
 use crate::state::State;
 use der_core::unframe;
-use gss_base::{Bindings, Label, MechKind};
-use sec_base::{NoMemory, Octets};
-use std::alloc::Global;
+use gss_base::{Label, MechKind};
 
 #[tactic(auto, unfolding(crate::specs::Formats::pieces_of, crate::specs::Formats::pieces))]
 fn whole(octets: &[u8], class: Class, most: u16) -> Result<&[u8], Stuck>
@@ -55,27 +53,6 @@ pub fn are_rounds(rounds: u64) -> bool
     rounds >= 4_096 && rounds <= 200_000
 }
 
-/// The application data of bindings, none without them.
-pub fn data_of<'a>(bindings: Option<&'a Bindings>) -> &'a [u8]
-    ensures value { result.now ≡ data_of (option_map (λ b. b.now) bindings.entry) }
-    ensures few { length result.now ≤ 32768 }
-{
-    match bindings {
-        None => &[],
-        Some(bindings) => bindings.application(),
-    }
-}
-
-/// Whether the data that came are those of an acceptor's bindings; without any whatever comes is taken.
-pub fn is_bound(bindings: Option<&Bindings>, binding: &[u8]) -> bool
-    ensures { result ≡ is_bound (option_map (λ b. b.now) bindings.entry) binding.now }
-{
-    match bindings {
-        None => true,
-        Some(bindings) => same(bindings.application(), binding),
-    }
-}
-
 /// What a frame of this mechanism holds.
 #[tactic(auto, unfolding(crate::specs::Judging::unframed))]
 pub fn unframed(token: &[u8]) -> Result<&[u8], ScramRefusal>
@@ -93,27 +70,6 @@ pub fn unframed(token: &[u8]) -> Result<&[u8], ScramRefusal>
         },
         Err(refusal) => Err(ScramRefusal::Text { at: refusal.at }),
     }
-}
-
-/// A copy of bindings.
-pub fn copied(alloc: Global, bindings: Option<&Bindings>) -> Result<Option<Bindings>, NoMemory>
-    ensures { IfOk result (λ b. b ≡ option_map (λ x. x.now) bindings.entry) }
-{
-    match bindings {
-        None => Ok(None),
-        Some(bindings) => {
-            let application = Octets::of(alloc, bindings.application())?;
-            Ok(bindings_of(application))
-        }
-    }
-}
-
-/// The bindings of application data, none where there is none.
-pub fn bindings_of(application: Octets) -> Option<Bindings>
-    requires { length application ≤ 32768 }
-    ensures { result ≡ carried application }
-{
-    Bindings::new(application).ok()
 }
 
 /// The name of who isn't named.

@@ -180,19 +180,28 @@ where
     ensures limits { IfOk result (λ course. IsUnder (limits_of book.core) course.log) }
     ensures none { OnErr result (desks.new ≡ desks.old) }
 {
-    let (board, token) = open_board(alloc)?;
-    let (setup, bare) = book.into_parts();
-    run_noted::<Brand, R, P, C, D, K, S>(
-        rt,
-        alloc,
-        board,
-        token,
-        &setup,
-        bare,
-        desks,
-        connections,
-        width,
-    )
+    match open_board(alloc) {
+        Ok((board, token)) => {
+            let (setup, bare) = book.into_parts();
+            let course = run_noted::<Brand, R, P, C, D, K, S>(
+                rt,
+                alloc,
+                board,
+                token,
+                &setup,
+                bare,
+                desks,
+                connections,
+                width,
+            );
+            drop(setup);
+            course
+        }
+        Err(refusal) => {
+            drop(book);
+            Err(refusal)
+        }
+    }
 }
 
 /// The course of a run that has no memory to serve its desks.

@@ -50,7 +50,7 @@ pub struct Counts {
 }
 
 /// What the words of a run name, as its line says it: the files of the keys, and the own name's text form. Each is empty where the words aren't in the command.
-#[derive(Debug, Drop)]
+#[derive(Drop)]
 pub struct Names<'a> {
     pub keytab: &'a str,
     pub verifiers: &'a str,

@@ -1,6 +1,6 @@
 //! The words of the server.
 
-ghost use Rattle.std.specs.Prelude.{◌≡◌, ◌∷◌, [], IfOk, codes};
+ghost use Rattle.std.specs.Prelude.{◌≡◌, ◌∷◌, [], Ok, Err, IfOk, MatchResult, codes};
 ghost use Rattle.sec_base.specs.Answers.{Gives};
 ghost use Rattle.cli_base.specs.Words.{value_of};
 ghost use Rattle.server_options.specs.Options.{is_command, formed, name_by, files_given};
@@ -17,7 +17,7 @@ use sec_base::{Items, NoMemory, Text};
 use std::alloc::Global;
 
 /// The files of the server's keys.
-#[derive(Debug, Drop)]
+#[derive(Drop)]
 pub struct Files {
     pub keytab: Text,
     /// The users of SCRAM.
@@ -25,7 +25,7 @@ pub struct Files {
 }
 
 /// What the words of the server ask for.
-#[derive(Debug, Drop)]
+#[derive(Drop)]
 pub struct Options {
     pub files: Files,
     /// The own name.
@@ -198,28 +198,68 @@ fn numbers_given(line: &Line<'_>) -> Result<Numbers, WordsRefusal>
     })
 }
 
+/// Both values, or the first refusal. So what waits while the next is read is let go here alone.
+fn both<A: Drop, B: Drop>(
+    first: Result<A, WordsRefusal>,
+    second: Result<B, WordsRefusal>,
+) -> Result<(A, B), WordsRefusal>
+    ensures { MatchResult first
+        (λ a. MatchResult second (λ b. result ≡ Ok (a, b)) (λ refusal. result ≡ Err refusal))
+        (λ refusal. result ≡ Err refusal) }
+{
+    match first {
+        Ok(one) => match second {
+            Ok(other) => Ok((one, other)),
+            Err(refusal) => Err(refusal),
+        },
+        Err(refusal) => Err(refusal),
+    }
+}
+
+/// What owns memory among the options: the files and the own name, then the bindings and the mechanisms.
+type Owned = ((Files, Principal), (Option<Bindings>, Items<MechKind>));
+
+/// The options that these parts are.
+fn options_by(parts: (Owned, Numbers)) -> Options
+    ensures { result ≡ record {
+      files = parts.0.0.0;
+      name = parts.0.0.1;
+      bindings = parts.0.1.0;
+      offer = parts.0.1.1;
+      window = parts.1.window;
+      connections = parts.1.connections;
+      contexts = parts.1.contexts;
+      marks = parts.1.marks;
+      log = parts.1.log;
+    } }
+{
+    let (owned, numbers) = parts;
+    let (keys, offered) = owned;
+    let (files, name) = keys;
+    let (bindings, offer) = offered;
+    Options {
+        files,
+        name,
+        bindings,
+        offer,
+        window: numbers.window,
+        connections: numbers.connections,
+        contexts: numbers.contexts,
+        marks: numbers.marks,
+        log: numbers.log,
+    }
+}
+
 /// What a line's options ask for.
 #[tactic(auto, unfolding(crate::specs::Options::options_in))]
 fn options_in(alloc: Global, line: &Line<'_>) -> Result<Options, WordsRefusal>
     ensures value { Gives WordsRefusal.NoMemory (λ options. options) result (options_in line.now) }
     ensures range { IfOk result IsRanged }
 {
-    let files = files_given(alloc, line)?;
-    let name = name_given(alloc, line)?;
-    let bindings = bindings_given(alloc, line)?;
-    let offer = offer_given(alloc, line)?;
-    match numbers_given(line) {
-        Ok(numbers) => Ok(Options {
-            files,
-            name,
-            bindings,
-            offer,
-            window: numbers.window,
-            connections: numbers.connections,
-            contexts: numbers.contexts,
-            marks: numbers.marks,
-            log: numbers.log,
-        }),
+    let keys = both(files_given(alloc, line), name_given(alloc, line));
+    let offered = both(bindings_given(alloc, line), offer_given(alloc, line));
+    match both(both(keys, offered), numbers_given(line)) {
+        Ok(parts) => Ok(options_by(parts)),
         Err(refusal) => Err(refusal),
     }
 }

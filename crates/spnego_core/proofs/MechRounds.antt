@@ -24,7 +24,8 @@ use Rattle.scram_mech.specs.declared.verifiers.Verifier.{Verifier}
 use Rattle.scram_mech.specs.MechMaking.{typed}
 use Rattle.scram_mech.specs.Base64.{encoded}
 use Rattle.scram_mech.specs.declared.run.Class.TheVariants.{Printable}
-use Rattle.scram_mech.specs.Judging.{data_of, are_rounds, judged, unframed, demand, same}
+use Rattle.scram_mech.specs.Judging.{are_rounds, judged, unframed, demand, same}
+use Rattle.scram_bindings.specs.Carried.{data_of}
 use Rattle.scram_mech.specs.FirstText.{First, first_of, first_text}
 use Rattle.scram_mech.specs.FinalText.{final_of}
 use Rattle.scram_mech.specs.Secrets.{signature_of}

@@ -12,7 +12,7 @@ use Rattle.gss_base.specs.Bindings.{hash_of}
 use Rattle.gss_base.specs.Principal.{is_mark, quoted, further, joined, text_form, is_count, is_found, name_unless_zero, zero_from, is_named}
 use Rattle.der_core.specs.Header.{length_octets, tlv}
 use Rattle.der_core.specs.Integer.{least, signed_octets, natural, int32}
-use Rattle.der_core.specs.Number.{flipped}
+use Rattle.der_numbers.specs.Number.{flipped}
 use Rattle.der_core.specs.Time.{civil_of, digits, time}
 use Rattle.der_core.specs.Values.{text, object_identifier, flags}
 use Rattle.der_core.specs.Element.{octet_string}

@@ -10,7 +10,7 @@ use Rattle.ap_exchange.specs.Draws.{drawn_nonce}
 use Rattle.ap_exchange.specs.Request.{RequestFits}
 use Rattle.ap_exchange.specs.Answer.{AnswerFits}
 use Rattle.ap_exchange.specs.Laws.{Fits, honest_judged}
-use Rattle.scram_mech.specs.Judging.{data_of, is_bound}
+use Rattle.scram_bindings.specs.Carried.{data_of, is_bound}
 use Rattle.scram_mech.specs.Laws.{Honest}
 use Rattle.spnego_core.specs.declared.outcome.Outcome.{Outcome}
 use Rattle.spnego_core.specs.declared.refusal.NegRefusal.{NegRefusal}

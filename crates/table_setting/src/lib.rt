@@ -4,7 +4,6 @@
 
 mod devices;
 mod names;
-mod objects;
 pub mod saying;
 mod setting;
 
@@ -12,5 +11,4 @@ pub use devices::{
     Devices, Files, clock, link, numbers, numbers_of, present, say_list, words, words_of,
 };
 pub use names::{named, octets_by_name};
-pub use objects::{Objects, make_objects};
 pub use setting::{Setting, acceptor, credential, draws, initiator, own_draws};

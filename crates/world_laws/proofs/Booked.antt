@@ -8,7 +8,7 @@ use Rattle.gss_base.specs.declared.mech.MechKind.TheVariants as kinds
 use Rattle.ap_exchange.specs.declared.judged.Judged.{Judged}
 use Rattle.ap_exchange.specs.Judging.{is_bound}
 use Rattle.scram_mech.specs.Acceptor.{AcceptModel, AcceptFinished}
-use Rattle.scram_mech.specs.Judging.{carried, is_bound as is_carried}
+use Rattle.scram_bindings.specs.Carried.{carried, is_bound as is_carried}
 use Rattle.scram_mech.specs.Laws.{Accepts}
 use Rattle.spnego_core.specs.declared.outcome.Outcome.{Outcome}
 use Rattle.spnego_core.specs.AcceptMech.{Basis, ByRequest, ByProof}

@@ -14,7 +14,8 @@ use Rattle.scram_mech.specs.declared.run.Class.TheVariants.{Printable}
 use Rattle.scram_mech.specs.declared.verifiers.Verifier.{Verifier}
 use Rattle.scram_mech.specs.Signs.{is_nonce}
 use Rattle.scram_mech.specs.Base64.{encoded}
-use Rattle.scram_mech.specs.Judging.{same, is_extended, data_of}
+use Rattle.scram_mech.specs.Judging.{same, is_extended}
+use Rattle.scram_bindings.specs.Carried.{data_of}
 use Rattle.scram_mech.specs.FirstText.{first_text}
 use Rattle.scram_mech.specs.SecondText.{second_of, second_text}
 use Rattle.scram_mech.specs.ThirdText.{Third, third_of, bare_text}

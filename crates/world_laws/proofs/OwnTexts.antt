@@ -12,7 +12,8 @@ use Rattle.scram_mech.specs.State.{some}
 use Rattle.scram_mech.specs.Formats.{Value, End, pieces_of}
 use Rattle.scram_mech.specs.Base64.{encoded}
 use Rattle.scram_mech.specs.Grammar.{IsName, IsNonce, AreOctets}
-use Rattle.scram_mech.specs.Judging.{judged, are_rounds, data_of}
+use Rattle.scram_mech.specs.Judging.{judged, are_rounds}
+use Rattle.scram_bindings.specs.Carried.{data_of}
 use Rattle.scram_mech.specs.FirstText.{first_of, first_text}
 use Rattle.scram_mech.specs.SecondText.{Second, second_of}
 use Rattle.scram_mech.specs.ThirdText.{third_of, bare_text, with_proof}

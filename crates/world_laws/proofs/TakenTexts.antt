@@ -9,7 +9,8 @@ use Rattle.scram_mech.specs.Acceptor.{AcceptModel, AcceptFinished, nonce_of, sec
 use Rattle.scram_mech.specs.AuthParts.{AuthParts, auth_parts}
 use Rattle.scram_mech.specs.Base64.{encoded}
 use Rattle.scram_mech.specs.Grammar.{IsNonce, AreOctets}
-use Rattle.scram_mech.specs.Judging.{are_rounds, data_of, carried}
+use Rattle.scram_mech.specs.Judging.{are_rounds}
+use Rattle.scram_bindings.specs.Carried.{data_of, carried}
 use Rattle.scram_mech.specs.Laws.{Accepts, Laws as ScramLaws}
 use Rattle.scram_mech.specs.MechMaking.{OfPassword, MechMaking, AmongMakings, proof_making}
 use Rattle.scram_mech.specs.SecondText.{second_of}

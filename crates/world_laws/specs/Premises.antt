@@ -17,7 +17,8 @@ use Rattle.scram_mech.specs.declared.verifiers.Verifier.{Verifier}
 use Rattle.scram_mech.specs.Acceptor.{AcceptModel, auth_with}
 use Rattle.scram_mech.specs.AuthParts.{AuthParts, auth_parts}
 use Rattle.scram_mech.specs.Base64.{encoded}
-use Rattle.scram_mech.specs.Judging.{are_rounds, data_of}
+use Rattle.scram_mech.specs.Judging.{are_rounds}
+use Rattle.scram_bindings.specs.Carried.{data_of}
 use Rattle.scram_mech.specs.MechMaking.{TagKey, OfType, OfPassword, MechMaking, AmongMakings, typed}
 use Rattle.scram_mech.specs.MechMaking.{proof_making}
 use Rattle.scram_mech.specs.Secrets.{stored_key, server_key, proof_of}

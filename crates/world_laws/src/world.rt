@@ -370,6 +370,38 @@ fn idle(alloc: Global, count: usize) -> Result<Vec<Option<InHand>>, NoMemory>
     Ok(lanes)
 }
 
+/// What events change, before the first of them: a book, initiators that weren't started, and so many lanes without a record.
+fn parts_of(
+    alloc: Global,
+    book: OwnSeat,
+    initiators: Vec<InitSetup>,
+    lanes: usize,
+) -> Result<Parts, NoMemory>
+    ensures stages { IfOk result (λ parts. map (λ s. stage_means s meaning) parts.stages.items
+        ≡ map objects.Ready (map (λ own. setup_by own meaning) initiators.items)) }
+    ensures book { IfOk result (λ parts. parts.book ≡ Some book) }
+    ensures lanes { IfOk result (λ parts. parts.lanes.items ≡ replicate lanes None) }
+{
+    match ready(alloc, initiators) {
+        Ok(stages) => match idle(alloc, lanes) {
+            Ok(lanes) => Ok(Parts {
+                stages,
+                book: Some(book),
+                lanes,
+            }),
+            Err(refusal) => {
+                drop(stages);
+                drop(book);
+                Err(refusal)
+            }
+        },
+        Err(refusal) => {
+            drop(book);
+            Err(refusal)
+        }
+    }
+}
+
 impl World {
     ghost use Rattle.world_laws.specs.Events.{IsProper};
     ghost use Rattle.world_laws.specs.Setups.{IsSetup};
@@ -395,27 +427,26 @@ impl World {
             (λ world. (shown world meaning).lanes ≡ replicate setup.lanes None) }
         ensures events { IfOk result (λ world. (shown world meaning).events ≡ []) }
     {
+        tell_setups(alloc, setup.facts.as_slice())?;
+        setup.book.setup().verifiers.told_lines();
+        let _log = setup.book.log();
         let WorldSetup {
             book,
             initiators,
             facts,
             lanes,
         } = setup;
-        tell_setups(alloc, facts.as_slice())?;
-        book.setup().verifiers.told_lines();
-        let _log = book.log();
-        let stages = ready(alloc, initiators)?;
-        let lanes = idle(alloc, lanes)?;
-        let parts = Parts {
-            stages,
-            book: Some(book),
-            lanes,
-        };
-        Ok(World {
-            facts,
-            parts,
-            events: Vec::new(alloc),
-        })
+        match parts_of(alloc, book, initiators, lanes) {
+            Ok(parts) => Ok(World {
+                facts,
+                parts,
+                events: Vec::new(alloc),
+            }),
+            Err(refusal) => {
+                drop(facts);
+                Err(refusal)
+            }
+        }
     }
 
     /// The events so far, the first one first. They made a run, from a world before its first event to one that shows this.

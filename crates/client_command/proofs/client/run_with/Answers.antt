@@ -1,58 +1,63 @@
-use Rattle.std.proofs.Common.{◌≡◌, ◌∙◌, inr, List, Result, Ok, Err}
-use Rattle.spnego_core.specs.declared.setup.MechCred.{MechCred}
-use Rattle.client_command.proofs.Asking.{asked-begun}
-use Rattle.client_command.proofs.Ended.{reported-begun, reported-fault, stops-never}
-use Rattle.client_command.proofs.Spoken.{returned, ended-so}
-use Rattle.client_command.specs.declared.ending.RunEnd.{RunEnd}
+use Rattle.std.proofs.Common.{◌≡◌, Ok}
+use Rattle.client_command.proofs.ByCredentials.{other-by, fault-by, asked-by, stops-by, held-by, due-of, found-of, found-by, silent-by, silent-or}
+use Rattle.client_command.proofs.Spoken.{ended-so}
+use Rattle.client_command.specs.Credentials.{creds_from}
 use Rattle.client_command.proofs.client.run_with.Goals as goal
 
-pub returns-in-Ok-clause-spoke : goal.returns-in-Ok-clause-spoke
-returns-in-Ok-clause-spoke g c = λ begun t. record {
-  creds = c.in-Ok.creds;
-  found = c.in-Ok.ensures.found;
-  ranged = c.requires.range;
-  spoke = returned c.speak-talk.result.parting (c.speak-talk.ensures.told t) c.report.ensures.kept;
+pub returns-clause-other : goal.returns-clause-other
+returns-clause-other g c = other-by c.creds_given-creds.result c.run_by-ended.result.end c.creds_given-creds.ensures.other c.run_by-ended.ensures.ends
+
+pub returns-clause-begins : goal.returns-clause-begins
+returns-clause-begins g c = record {
+  creds = c.creds_given-creds.result;
+  given = c.creds_given-creds.ensures.read;
+  ends = c.run_by-ended.ensures.ends;
 }
 
-pub returns-in-Ok-clause-wanting : goal.returns-in-Ok-clause-wanting
-returns-in-Ok-clause-wanting g c = λ e t. inr (record {
-  creds = c.in-Ok.creds;
-  found = c.in-Ok.ensures.found;
-  ranged = c.requires.range;
-  spoke = returned c.speak-talk.result.parting (c.speak-talk.ensures.told t) c.report.ensures.kept;
-})
+pub returns-clause-load_fault : goal.returns-clause-load_fault
+returns-clause-load_fault g c = λ u.
+    fault-by c.creds_given-creds.result c.run_by-ended.result.end c.creds_given-creds.ensures.fault (c.run_by-ended.ensures.unloaded u) u
 
-same-creds : {due : Result (List MechCred) RunEnd} {one other : List MechCred} → due ≡ Ok one → due ≡ Ok other → one ≡ other
-same-creds here there = cc
+pub returns-clause-asked : goal.returns-clause-asked
+returns-clause-asked g c = λ t.
+    asked-by (g.F.Shelf.asked c.args.shelf.now) (g.F.Shelf.asked c.creds_given-creds.new.shelf) c.args.words.sources c.creds_given-creds.result c.run_by-ended.result.end
+    (c.creds_given-creds.ensures.asked t) c.run_by-ended.ensures.ends
 
-pub returns-in-Ok-clause-ends : goal.returns-in-Ok-clause-ends
-returns-in-Ok-clause-ends g c = λ creds parting told due t so steady calm other.
-    let same : creds ≡ c.in-Ok.creds = same-creds due (c.in-Ok.ensures.found told) in
-    ended-so parting (returned c.speak-talk.result.parting (c.speak-talk.ensures.told t) c.report.ensures.kept) (rw same at so)
-    (λ e. calm (c.speak-talk.ensures.fault (reported-fault c.speak-talk.result.parting c.report.ensures.kept e))) other
+pub returns-clause-stops : goal.returns-clause-stops
+returns-clause-stops g c = λ t.
+    stops-by (creds_from (g.F.Shelf.files c.args.shelf.now) c.args.words.sources) c.creds_given-creds.result c.run_by-ended.result.end
+    (c.creds_given-creds.ensures.found t) c.run_by-ended.ensures.ends
 
-pub returns-in-Ok-clause-asked : goal.returns-in-Ok-clause-asked
-returns-in-Ok-clause-asked g c = λ t.
-    asked-begun (g.F.Shelf.asked c.args.shelf.now) (g.F.Shelf.asked c.creds_given.new.shelf) c.args.words.sources c.report.result.end (c.in-Ok.ensures.asked t)
-    (reported-begun c.speak-talk.result.parting c.report.ensures.kept)
+pub returns-clause-found : goal.returns-clause-found
+returns-clause-found g c = λ t begun.
+    let held = held-by c.creds_given-creds.result c.run_by-ended.result.end c.creds_given-creds.ensures.unbegun c.run_by-ended.ensures.ends begun in
+    let due = creds_from (g.F.Shelf.files c.args.shelf.now) c.args.words.sources in
+    found-of due held.0 (due-of due c.creds_given-creds.result held.0 (c.creds_given-creds.ensures.found t) held.1)
 
-pub returns-in-Ok-clause-begins : goal.returns-in-Ok-clause-begins
-returns-in-Ok-clause-begins g c = record {
-  creds = Ok c.in-Ok.creds;
-  given = c.in-Ok.ensures.read;
-  ends = reported-begun c.speak-talk.result.parting c.report.ensures.kept;
-}
+pub returns-clause-silent : goal.returns-clause-silent
+returns-clause-silent g c = silent-by c.creds_given-creds.result c.run_by-ended.result.end c.run_by-ended.ensures.silent c.run_by-ended.ensures.ends
 
-pub returns-in-Err-clause-begins : goal.returns-in-Err-clause-begins
-returns-in-Err-clause-begins g c = record {
-  creds = Err c.in-Err.end;
-  given = c.in-Err.ensures.read;
-  ends = c.unspoken.ensures.end;
-}
+pub returns-clause-spoke : goal.returns-clause-spoke
+returns-clause-spoke g c = λ begun t.
+    let held = held-by c.creds_given-creds.result c.run_by-ended.result.end c.creds_given-creds.ensures.unbegun c.run_by-ended.ensures.ends begun in
+    record {
+      creds = held.0;
+      found = λ s. due-of (creds_from (g.F.Shelf.files c.args.shelf.now) c.args.words.sources) c.creds_given-creds.result held.0 (c.creds_given-creds.ensures.found s) held.1;
+      ranged = c.requires.range;
+      spoke = c.run_by-ended.ensures.spoke held.0 held.1 t;
+    }
 
-pub returns-in-Err-clause-sink_fault : goal.returns-in-Err-clause-sink_fault
-returns-in-Err-clause-sink_fault g c = λ e. inr (c.unspoken.ensures.sink_fault e)
+pub returns-clause-wanting : goal.returns-clause-wanting
+returns-clause-wanting g c = λ e t.
+    silent-or c.creds_given-creds.result c.run_by-ended.ensures.silent (λ list is. record {
+      creds = list;
+      found = λ s. due-of (creds_from (g.F.Shelf.files c.args.shelf.now) c.args.words.sources) c.creds_given-creds.result list (c.creds_given-creds.ensures.found s) is;
+      ranged = c.requires.range;
+      spoke = c.run_by-ended.ensures.spoke list is t;
+    })
 
-pub returns-in-Err-clause-ends : goal.returns-in-Err-clause-ends
-returns-in-Err-clause-ends g c = λ creds parting told due t so steady calm other.
-    absurd (stops-never (c.in-Err.ensures.found told) due (λ u. steady (c.in-Err.ensures.fault u)) (λ e. other (c.unspoken.ensures.end ∙ e)))
+pub returns-clause-ends : goal.returns-clause-ends
+returns-clause-ends g c = λ creds parting told due t so steady calm other.
+    let is : c.creds_given-creds.result ≡ Ok creds = found-by (creds_from (g.F.Shelf.files c.args.shelf.now) c.args.words.sources) c.creds_given-creds.result c.run_by-ended.result.end creds
+    (c.creds_given-creds.ensures.found told) due c.creds_given-creds.ensures.fault steady c.run_by-ended.ensures.ends other in
+    ended-so parting (c.run_by-ended.ensures.spoke creds is t) so (λ e. calm (c.run_by-ended.ensures.link_fault e)) other

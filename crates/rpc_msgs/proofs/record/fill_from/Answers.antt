@@ -15,3 +15,22 @@ returns-in-Ok-clause-told g c = λ t.
     piece-filled (g.L.Link.wire c.args.link.now) (g.L.Link.wire c.fill.new.link) (take c.args.at octets.items) c.truncate.new.self.items buffer c.in-Ok.count (vec_len octets - c.args.at) size fits
     (c.truncate.ensures.items ∙ (read-behind was buffer _ _ c.args.at c.in-Ok.count (vec_len octets) within fits room ∙ ap (λ (zs : List ℕ). take c.args.at zs ++ take c.in-Ok.count buffer) c.deref_mut.ensures.value))
     (c.in-Ok.ensures.told t)
+
+-- what the link keeps, by what was called last
+pub returns-in-Ok-clause-tells : goal.returns-in-Ok-clause-tells
+returns-in-Ok-clause-tells g c = c.in-Ok.ensures.tells
+
+pub returns-in-Ok-clause-unclosed : goal.returns-in-Ok-clause-unclosed
+returns-in-Ok-clause-unclosed g c = c.in-Ok.ensures.unclosed
+
+pub returns-in-Ok-clause-faults : goal.returns-in-Ok-clause-faults
+returns-in-Ok-clause-faults g c = c.in-Ok.ensures.faults
+
+pub returns-in-Err-clause-tells : goal.returns-in-Err-clause-tells
+returns-in-Err-clause-tells g c = c.in-Err.ensures.tells
+
+pub returns-in-Err-clause-unclosed : goal.returns-in-Err-clause-unclosed
+returns-in-Err-clause-unclosed g c = c.in-Err.ensures.unclosed
+
+pub returns-in-Err-clause-faults : goal.returns-in-Err-clause-faults
+returns-in-Err-clause-faults g c = c.in-Err.ensures.faults

@@ -1,8 +1,43 @@
 use Rattle.std.proofs.Common.{arith}
-use Rattle.rpc_msgs.proofs.FragmentSteps.{announced-refused}
+use Rattle.rpc_msgs.proofs.FragmentSteps.{announced-last, announced-torn, announced-refused}
 use Rattle.rpc_msgs.proofs.record.read_announced.Goals as goal
 
 pub returns-in-Err-clause-told : goal.returns-in-Err-clause-told
 returns-in-Err-clause-told g c = λ t.
     announced-refused (g.L.Link.wire c.args.link.now) (g.L.Link.wire c.read_content.new.link) c.args.octets.now.items c.read_content.new.octets.items c.args.number c.args.header c.in-Err.refusal (omega arith)
     (omega arith) (c.in-Err.ensures.told t)
+
+-- what the link keeps, by what was called last
+pub returns-in-Ok-true-clause-tells : goal.returns-in-Ok-true-clause-tells
+returns-in-Ok-true-clause-tells g c = c.in-Ok-true.ensures.tells
+
+pub returns-in-Ok-true-clause-unclosed : goal.returns-in-Ok-true-clause-unclosed
+returns-in-Ok-true-clause-unclosed g c = c.in-Ok-true.ensures.unclosed
+
+pub returns-in-Ok-true-clause-faults : goal.returns-in-Ok-true-clause-faults
+returns-in-Ok-true-clause-faults g c = c.in-Ok-true.ensures.faults
+
+pub returns-in-Ok-false-clause-tells : goal.returns-in-Ok-false-clause-tells
+returns-in-Ok-false-clause-tells g c = c.in-Ok-false.ensures.tells
+
+pub returns-in-Ok-false-clause-unclosed : goal.returns-in-Ok-false-clause-unclosed
+returns-in-Ok-false-clause-unclosed g c = c.in-Ok-false.ensures.unclosed
+
+pub returns-in-Ok-false-clause-faults : goal.returns-in-Ok-false-clause-faults
+returns-in-Ok-false-clause-faults g c = c.in-Ok-false.ensures.faults
+
+pub returns-in-Err-clause-tells : goal.returns-in-Err-clause-tells
+returns-in-Err-clause-tells g c = c.in-Err.ensures.tells
+
+pub returns-in-Err-clause-unclosed : goal.returns-in-Err-clause-unclosed
+returns-in-Err-clause-unclosed g c = c.in-Err.ensures.unclosed
+
+pub returns-in-Err-clause-faults : goal.returns-in-Err-clause-faults
+returns-in-Err-clause-faults g c = c.in-Err.ensures.faults
+
+-- what was read of the stream
+pub returns-in-Ok-true-clause-told : goal.returns-in-Ok-true-clause-told
+returns-in-Ok-true-clause-told g c = λ t. announced-last (g.L.Link.wire c.args.link.now) (g.L.Link.wire c.read_content.new.link) c.args.octets.now.items c.read_content.new.octets.items c.args.number c.args.header (omega arith) (omega arith) c.in-Ok-true.field-0 (cc) (c.in-Ok-true.ensures.told t)
+
+pub returns-in-Ok-false-clause-told : goal.returns-in-Ok-false-clause-told
+returns-in-Ok-false-clause-told g c = λ t. announced-torn (g.L.Link.wire c.args.link.now) (g.L.Link.wire c.read_content.new.link) c.args.octets.now.items c.read_content.new.octets.items c.args.number c.args.header (omega arith) (omega arith) c.in-Ok-false.field-0 (cc) (c.in-Ok-false.ensures.told t)

@@ -1,3 +1,4 @@
+use Rattle.std.proofs.Math.Nat.{le_trans}
 use Rattle.std.proofs.Common.{◌<◌, ◌≤◌, ◌≡◌, IsTrue, ◌∙◌, arith}
 use Rattle.rpc_msgs.proofs.ContentSteps.{piece-whole, piece-cut, piece-refused}
 use Rattle.rpc_msgs.proofs.record.read_content.Goals as goal
@@ -34,3 +35,31 @@ returns-in-Err-clause-told g c = λ t.
 pub returns-clause-told : goal.returns-clause-told
 returns-clause-told g c = λ t.
     let read = c.loop-left.invariant.told t in (read.0, omega (arith, read.1), read.2)
+
+-- what the link keeps, by what was called last
+pub returns-in-Ok-clause-tells : goal.returns-in-Ok-clause-tells
+returns-in-Ok-clause-tells g c = c.in-Ok.ensures.tells ∙ c.loop-left.invariant.tells
+
+pub returns-in-Ok-clause-unclosed : goal.returns-in-Ok-clause-unclosed
+returns-in-Ok-clause-unclosed g c = c.in-Ok.ensures.unclosed
+
+pub returns-in-Ok-clause-faults : goal.returns-in-Ok-clause-faults
+returns-in-Ok-clause-faults g c = le_trans c.loop-left.invariant.faults c.in-Ok.ensures.faults
+
+pub returns-in-Err-clause-tells : goal.returns-in-Err-clause-tells
+returns-in-Err-clause-tells g c = c.in-Err.ensures.tells ∙ c.loop-left.invariant.tells
+
+pub returns-in-Err-clause-unclosed : goal.returns-in-Err-clause-unclosed
+returns-in-Err-clause-unclosed g c = c.in-Err.ensures.unclosed
+
+pub returns-in-Err-clause-faults : goal.returns-in-Err-clause-faults
+returns-in-Err-clause-faults g c = le_trans c.loop-left.invariant.faults c.in-Err.ensures.faults
+
+pub returns-clause-tells : goal.returns-clause-tells
+returns-clause-tells g c = c.loop-left.invariant.tells
+
+pub returns-clause-unclosed : goal.returns-clause-unclosed
+returns-clause-unclosed g c = c.loop-left.invariant.unclosed
+
+pub returns-clause-faults : goal.returns-clause-faults
+returns-clause-faults g c = c.loop-left.invariant.faults

@@ -1,3 +1,4 @@
+use Rattle.std.proofs.Math.Nat.{le_trans}
 use Rattle.std.proofs.Common.{◌∙◌, arith, IsTrue, ap, Ok}
 use Rattle.rpc_msgs.proofs.FragmentSteps.{begins-more, takes-last, takes-refusal, is-more, is-last}
 use Rattle.rpc_msgs.proofs.record.read_record.Goals as goal
@@ -26,3 +27,31 @@ loop-number-preserved g c = record {
   unclosed = c.in-Ok-More.ensures.unclosed;
   faults = omega (arith, c.in-Ok-More.ensures.faults);
 }
+
+-- what the link keeps, by what was called last
+pub returns-in-Ok-Last-clause-tells : goal.returns-in-Ok-Last-clause-tells
+returns-in-Ok-Last-clause-tells g c = c.in-Ok-Last.ensures.tells ∙ c.loop-number.invariant.tells
+
+pub returns-in-Ok-Last-clause-unclosed : goal.returns-in-Ok-Last-clause-unclosed
+returns-in-Ok-Last-clause-unclosed g c = c.in-Ok-Last.ensures.unclosed
+
+pub returns-in-Ok-Last-clause-faults : goal.returns-in-Ok-Last-clause-faults
+returns-in-Ok-Last-clause-faults g c = le_trans c.loop-number.invariant.faults c.in-Ok-Last.ensures.faults
+
+pub returns-in-Ok-End-clause-tells : goal.returns-in-Ok-End-clause-tells
+returns-in-Ok-End-clause-tells g c = c.in-Ok-End.ensures.tells ∙ c.loop-number.invariant.tells
+
+pub returns-in-Ok-End-clause-unclosed : goal.returns-in-Ok-End-clause-unclosed
+returns-in-Ok-End-clause-unclosed g c = c.in-Ok-End.ensures.unclosed
+
+pub returns-in-Ok-End-clause-faults : goal.returns-in-Ok-End-clause-faults
+returns-in-Ok-End-clause-faults g c = le_trans c.loop-number.invariant.faults c.in-Ok-End.ensures.faults
+
+pub returns-in-Err-clause-tells : goal.returns-in-Err-clause-tells
+returns-in-Err-clause-tells g c = c.in-Err.ensures.tells ∙ c.loop-number.invariant.tells
+
+pub returns-in-Err-clause-unclosed : goal.returns-in-Err-clause-unclosed
+returns-in-Err-clause-unclosed g c = c.in-Err.ensures.unclosed
+
+pub returns-in-Err-clause-faults : goal.returns-in-Err-clause-faults
+returns-in-Err-clause-faults g c = le_trans c.loop-number.invariant.faults c.in-Err.ensures.faults

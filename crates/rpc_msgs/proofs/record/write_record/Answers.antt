@@ -1,4 +1,5 @@
-use Rattle.std.proofs.Common.{◌+◌, ◌^◌, length, IsTrue}
+use Rattle.std.proofs.Math.Nat.{le_trans}
+use Rattle.std.proofs.Common.{◌+◌, ◌^◌, length, IsTrue, ◌∙◌}
 use Rattle.rpc_msgs.specs.Words.{word}
 use Rattle.sec_base.proofs.InARow.{put-same}
 use Rattle.rpc_msgs.proofs.InARow.{put-short, sends-again}
@@ -13,3 +14,22 @@ pub returns-in-Err-clause-told : goal.returns-in-Err-clause-told
 returns-in-Err-clause-told g c = λ t.
     let p = rw c.header_of.ensures at c.in-Err.ensures.told t in
     put-short (word (2 ^ 31 + length c.args.bytes.now)) c.args.bytes.now p.0 p.1
+
+-- what the link keeps, by what was called last
+pub returns-in-Ok-clause-tells : goal.returns-in-Ok-clause-tells
+returns-in-Ok-clause-tells g c = c.send-in-Ok.ensures.tells ∙ c.in-Ok.ensures.tells
+
+pub returns-in-Ok-clause-unclosed : goal.returns-in-Ok-clause-unclosed
+returns-in-Ok-clause-unclosed g c = c.send-in-Ok.ensures.unclosed
+
+pub returns-in-Ok-clause-faults : goal.returns-in-Ok-clause-faults
+returns-in-Ok-clause-faults g c = le_trans c.in-Ok.ensures.faults c.send-in-Ok.ensures.faults
+
+pub returns-in-Err-clause-tells : goal.returns-in-Err-clause-tells
+returns-in-Err-clause-tells g c = c.in-Err.ensures.tells
+
+pub returns-in-Err-clause-unclosed : goal.returns-in-Err-clause-unclosed
+returns-in-Err-clause-unclosed g c = c.in-Err.ensures.unclosed
+
+pub returns-in-Err-clause-faults : goal.returns-in-Err-clause-faults
+returns-in-Err-clause-faults g c = c.in-Err.ensures.faults

@@ -1,28 +1,19 @@
-use Rattle.std.proofs.Common.{◌∙◌, ℕ, Result, ap, sym}
-use Rattle.std.specs.Prelude.{codes}
-use Rattle.cli_base.specs.Words.{value_of}
-use Rattle.cli_base.specs.Given.{◌>>=◌, number_given}
 use Rattle.server_options.specs.Options.{options_in}
-use Rattle.server_options.specs.declared.options.Numbers.{Numbers}
-use Rattle.server_options.specs.declared.options.Options.{Options}
-use Rattle.cli_base.specs.declared.given.WordsRefusal.{WordsRefusal}
-use Rattle.server_options.proofs.Numbers.{joined, made_of}
+use Rattle.server_options.proofs.Numbers.{words-given, ok-of, err-of, ranged}
 use Rattle.server_options.proofs.options.options_in.Goals as goal
 
 pub returns-in-Ok-clause-value : goal.returns-in-Ok-clause-value
-unfolding options_in
 returns-in-Ok-clause-value c =
-    let words = c.args.line.now in
-    let make : ℕ → ℕ → ℕ → ℕ → ℕ → Options = λ w k n m l. record { files = c.in_ok-files.files; name = c.in_ok-name.name; bindings = c.in_ok-bindings.bindings; offer = c.in_ok-offer.offer; window = w; connections = k; contexts = n; marks = m; log = l } in
-    rw (c.in_ok-files.ensures, c.in_ok-name.ensures, c.in_ok-bindings.ensures, c.in_ok-offer.ensures)
-    (joined (number_given 1 1024 128 (value_of (codes "--window") words)) (number_given 1 1000000 1000 (value_of (codes "--connections") words)) (number_given 1 65536 1024 (value_of (codes "--contexts") words)) (number_given 1 1000000 65536 (value_of (codes "--marks") words)) (number_given 16 4000000 262144 (value_of (codes "--log") words)) make
-    ∙ ap (λ (r : Result Numbers WordsRefusal). r >>= made_of make) (sym c.in-Ok.ensures.value))
+    ok-of c.both-2.result (options_in c.args.line.now) c.in-Ok.parts c.options_by.result
+    (words-given c.args.line.now c.files_given.result c.name_given.result c.bindings_given.result c.offer_given.result c.numbers_given.result c.both-keys.result c.both-offered.result c.both.result c.both-2.result c.files_given.ensures c.name_given.ensures c.bindings_given.ensures c.offer_given.ensures c.numbers_given.ensures.value c.both-keys.ensures c.both-offered.ensures c.both.ensures c.both-2.ensures)
+    c.in-Ok.is c.options_by.ensures
+
+pub returns-in-Ok-clause-range : goal.returns-in-Ok-clause-range
+returns-in-Ok-clause-range c =
+    ranged c.both.result c.numbers_given.result c.both-2.result c.in-Ok.parts c.options_by.result c.both-2.ensures c.in-Ok.is c.numbers_given.ensures.range c.options_by.ensures
 
 pub returns-in-Err-clause-value : goal.returns-in-Err-clause-value
-unfolding options_in
-returns-in-Err-clause-value c = λ _.
-    let words = c.args.line.now in
-    let make : ℕ → ℕ → ℕ → ℕ → ℕ → Options = λ w k n m l. record { files = c.in_ok-files.files; name = c.in_ok-name.name; bindings = c.in_ok-bindings.bindings; offer = c.in_ok-offer.offer; window = w; connections = k; contexts = n; marks = m; log = l } in
-    rw (c.in_ok-files.ensures, c.in_ok-name.ensures, c.in_ok-bindings.ensures, c.in_ok-offer.ensures)
-    (joined (number_given 1 1024 128 (value_of (codes "--window") words)) (number_given 1 1000000 1000 (value_of (codes "--connections") words)) (number_given 1 65536 1024 (value_of (codes "--contexts") words)) (number_given 1 1000000 65536 (value_of (codes "--marks") words)) (number_given 16 4000000 262144 (value_of (codes "--log") words)) make
-    ∙ ap (λ (r : Result Numbers WordsRefusal). r >>= made_of make) (sym c.in-Err.ensures.value))
+returns-in-Err-clause-value c =
+    err-of c.both-2.result (options_in c.args.line.now) c.in-Err.refusal
+    (words-given c.args.line.now c.files_given.result c.name_given.result c.bindings_given.result c.offer_given.result c.numbers_given.result c.both-keys.result c.both-offered.result c.both.result c.both-2.result c.files_given.ensures c.name_given.ensures c.bindings_given.ensures c.offer_given.ensures c.numbers_given.ensures.value c.both-keys.ensures c.both-offered.ensures c.both.ensures c.both-2.ensures)
+    c.in-Err.is

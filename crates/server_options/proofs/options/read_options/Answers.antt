@@ -1,5 +1,4 @@
 use Rattle.std.proofs.Common.{sym}
-use Rattle.cli_words.specs.Line.{IsLine}
 use Rattle.server_options.proofs.Formed.{is-line}
 use Rattle.server_options.proofs.options.read_options.Goals as goal
 

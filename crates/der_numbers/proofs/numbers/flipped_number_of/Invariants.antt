@@ -1,0 +1,10 @@
+use Rattle.std.proofs.Common.{◌≡◌, ◌<◌, drop}
+use Rattle.der_numbers.specs.Number.{natural_of, natural_behind, flipped}
+use Rattle.der_numbers.proofs.OctetByOctet.{bound}
+use Rattle.der_numbers.proofs.numbers.flipped_number_of.Given as goal
+
+abbrev pub invariant-loop-octet : goal.invariant-loop-octet
+invariant-loop-octet l = record {
+  read : natural_behind l.number (flipped (drop l.octet-index l.octets)) ≡ natural_of (flipped l.octets);
+  within : l.number < bound l.octet-index;
+}

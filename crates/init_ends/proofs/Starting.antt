@@ -1,0 +1,23 @@
+-- The objects of an initiator in their order: the first of them, and one after the other.
+use Rattle.std.proofs.Common.{◌≡◌, ◌<◌, ◌+◌, ◌∙◌, ℕ, true, refl, sym, ap, List, [], ◌∷◌, ◌++◌, append_assoc, map, length, drop, get_or}
+use Rattle.std.proofs.lemmas.List.{drop_more}
+use Rattle.std.specs.Prelude.{slice_index_or}
+use Rattle.std.specs.List.{remove}
+use Rattle.mech_objects.specs.Meaning.{MechSays}
+use Rattle.init_ends.specs.Objects.{is_own_list, oids_of}
+
+-- there is a first one
+pub first_of : {X : Type 0} (f : X → MechSays) (xs : List X) (d : X) → is_own_list (map f xs) ≡ true → map f xs ≡ f (slice_index_or xs 0 d) ∷ map f (remove xs 0)
+first_of f [] d h = absurd cc
+first_of f (x ∷ xs) d h = refl
+
+-- the identifier of a further object stands behind those before it
+pub one_more_oid : {X : Type 0} (f : X → MechSays) (list : List X) (i : ℕ) (object : X) (found after : List (List ℕ)) (oid : List ℕ) → i < length list → object ≡ get_or list i object → oid ≡ (f object).oid → after ≡ found ++ oid ∷ []
+    → oids_of (map f list) ≡ found ++ oids_of (map f (drop i list)) → oids_of (map f list) ≡ after ++ oids_of (map f (drop (i + 1) list))
+one_more_oid f list i object found after oid less is named grown so_far =
+    let rest : List (List ℕ) = oids_of (map f (drop (i + 1) list)) in
+    so_far
+    ∙ (ap (λ zs. found ++ oids_of (map f zs)) (drop_more list i object less)
+    ∙ (ap (λ x. found ++ ((f x).oid ∷ rest)) (sym is)
+    ∙ (ap (λ (o : List ℕ). found ++ (o ∷ rest)) (sym named)
+    ∙ (sym (append_assoc found (oid ∷ []) rest) ∙ ap (λ (zs : List (List ℕ)). zs ++ rest) (sym grown)))))
