@@ -1,6 +1,7 @@
 //! Words, numbers and files of a command line.
 
 use crate::devices::{shelf, shelf_said};
+use crate::links::numbers;
 use cli_base::{
     FileStop, are_words, count_plain, first_word, load, number_in, plain, say_stop, stop_of,
 };
@@ -8,7 +9,6 @@ use krb_files::{FileRefusal, FileWhy};
 use sec_base::{MemSink, Text};
 use std::alloc::Global;
 use table_rows::{Cells, Said};
-use table_setting::numbers;
 
 /// The names of the options that the words may have.
 const NAMES: [&str; 2] = ["--log", "--bind"];

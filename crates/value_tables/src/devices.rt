@@ -1,11 +1,11 @@
 //! Sinks, clocks, draws and shelves in memory.
 
+use crate::links::numbers;
 use sec_base::{
     Clock, Draw, LoadRefusal, MemClock, MemDraw, MemShelf, MemSink, Moment, NamedFile, Octets,
     Shelf, Sink, SinkFault, Text,
 };
 use table_rows::{Cells, Said};
-use table_setting::numbers;
 
 /// What a sink answers, what was written and how many writes failed, by the cells numbers of the writes that fail, and octets.
 pub fn sunk(cells: &mut Cells<'_>, said: &mut Said) {

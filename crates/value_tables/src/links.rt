@@ -3,7 +3,20 @@
 use sec_base::{Link, LinkFault, MemLink, MemPort, NoMemory, Port};
 use std::alloc::Global;
 use table_rows::{Cells, Said};
-use table_setting::numbers;
+
+/// The numbers of the next cell, `-` where there is none.
+pub fn numbers(cells: &mut Cells<'_>) -> Vec<u64> {
+    let mut numbers = Vec::new(cells.alloc());
+    let cell = cells.word();
+    if cell != "-" {
+        for number in cell.split(',') {
+            let number = cells.number_in(number);
+            let is_added = numbers.push(number).is_ok();
+            cells.expect(is_added);
+        }
+    }
+    numbers
+}
 
 /// The sizes of the next cell, `-` where there is none.
 fn sizes(cells: &mut Cells<'_>) -> Vec<usize> {

@@ -1,6 +1,6 @@
 //! The credentials, results and bodies of RPCSEC_GSS, both ways.
 
-use crate::rpc_messages::written_as;
+use crate::messages::written_as;
 use crate::xdr::refused;
 use rpcsec_msgs::{
     GssCred, InitRes, join_checked, join_sealed, read_cred, read_init_res, split_checked,

@@ -1,58 +1,196 @@
 //! The tables, and the comparison of one with what the calls answer.
 
-use crate::mechanism_table::MechanismTable;
-use crate::token_table::TokenTable;
-use crate::value_table::ValueTable;
+use crate::{
+    caches, commands, contexts, devices, links, mechs, messages, names, records, secured, values,
+    windows, xdr,
+};
 use std::alloc::Global;
 use table_rows::{Cells, Rows, Said};
-use table_setting::Setting;
 
 /// A table of outside values.
 #[derive(Clone, Copy)]
 pub enum Table {
-    Value(ValueTable),
-    Token(TokenTable),
-    Mechanism(MechanismTable),
+    Pieces,
+    Framed,
+    Calls,
+    Replies,
+    Opaques,
+    Words,
+    Credentials,
+    Creations,
+    Checked,
+    Sealed,
+    Kinds,
+    Hashes,
+    Marks,
+    Statuses,
+    Names,
+    Parts,
+    Labels,
+    Moments,
+    Oids,
+    Values,
+    Links,
+    Ports,
+    Sinks,
+    Clocks,
+    Draws,
+    Shelves,
+    Commands,
+    Numbers,
+    Files,
+    Stops,
+    Windows,
+    Caches,
+    ManyMarks,
+    Contexts,
+    ContextWindows,
 }
+
+/// All of them.
+pub const TABLES: [Table; 35] = [
+    Table::Pieces,
+    Table::Framed,
+    Table::Calls,
+    Table::Replies,
+    Table::Opaques,
+    Table::Words,
+    Table::Credentials,
+    Table::Creations,
+    Table::Checked,
+    Table::Sealed,
+    Table::Kinds,
+    Table::Hashes,
+    Table::Marks,
+    Table::Statuses,
+    Table::Names,
+    Table::Parts,
+    Table::Labels,
+    Table::Moments,
+    Table::Oids,
+    Table::Values,
+    Table::Links,
+    Table::Ports,
+    Table::Sinks,
+    Table::Clocks,
+    Table::Draws,
+    Table::Shelves,
+    Table::Commands,
+    Table::Numbers,
+    Table::Files,
+    Table::Stops,
+    Table::Windows,
+    Table::Caches,
+    Table::ManyMarks,
+    Table::Contexts,
+    Table::ContextWindows,
+];
 
 impl Table {
     /// Its file.
     pub fn file(self) -> &'static str {
         match self {
-            Table::Value(table) => table.file(),
-            Table::Token(table) => table.file(),
-            Table::Mechanism(table) => table.file(),
+            Table::Pieces => "pieces.txt",
+            Table::Framed => "framed.txt",
+            Table::Calls => "calls.txt",
+            Table::Replies => "replies.txt",
+            Table::Opaques => "opaques.txt",
+            Table::Words => "words.txt",
+            Table::Credentials => "credentials.txt",
+            Table::Creations => "creations.txt",
+            Table::Checked => "checked.txt",
+            Table::Sealed => "sealed.txt",
+            Table::Kinds => "kinds.txt",
+            Table::Hashes => "hashes.txt",
+            Table::Marks => "marks.txt",
+            Table::Statuses => "statuses.txt",
+            Table::Names => "names.txt",
+            Table::Parts => "parts.txt",
+            Table::Labels => "labels.txt",
+            Table::Moments => "moments.txt",
+            Table::Oids => "oids.txt",
+            Table::Values => "values.txt",
+            Table::Links => "links.txt",
+            Table::Ports => "ports.txt",
+            Table::Sinks => "sinks.txt",
+            Table::Clocks => "clocks.txt",
+            Table::Draws => "draws.txt",
+            Table::Shelves => "shelves.txt",
+            Table::Commands => "commands.txt",
+            Table::Numbers => "numbers.txt",
+            Table::Files => "files.txt",
+            Table::Stops => "stops.txt",
+            Table::Windows => "windows.txt",
+            Table::Caches => "caches.txt",
+            Table::ManyMarks => "many_marks.txt",
+            Table::Contexts => "contexts.txt",
+            Table::ContextWindows => "context_windows.txt",
         }
     }
 }
 
-/// A table over its setting.
-#[derive(Drop)]
-struct Set<'a> {
-    table: Table,
-    setting: &'a Setting,
-}
-
-impl Rows for Set<'_> {
+impl Rows for Table {
     fn are_named(&self) -> bool {
-        match self.table {
-            Table::Value(table) => table.is_named(),
-            Table::Token(table) => table.is_named(),
-            Table::Mechanism(table) => table.is_named(),
+        match *self {
+            Table::Pieces
+            | Table::Calls
+            | Table::Replies
+            | Table::Opaques
+            | Table::Credentials
+            | Table::Creations
+            | Table::Checked
+            | Table::Sealed
+            | Table::Hashes
+            | Table::Marks
+            | Table::Names
+            | Table::Windows
+            | Table::Caches => false,
+            _ => true,
         }
     }
 
     fn answer(&self, cells: &mut Cells<'_>, said: &mut Said) {
-        match self.table {
-            Table::Value(table) => table.answer(cells, said),
-            Table::Token(table) => table.answer(cells, said),
-            Table::Mechanism(table) => table.answer(self.setting, cells, said),
+        match *self {
+            Table::Pieces => records::in_pieces(cells, said),
+            Table::Framed => records::framed(cells, said),
+            Table::Calls => messages::called(cells, said),
+            Table::Replies => messages::replied(cells, said),
+            Table::Opaques => xdr::opaques(cells, said),
+            Table::Words => xdr::words(cells, said),
+            Table::Credentials => secured::credential(cells, said),
+            Table::Creations => secured::creation(cells, said),
+            Table::Checked => secured::checked(cells, said),
+            Table::Sealed => secured::sealed(cells, said),
+            Table::Kinds => mechs::kind(cells, said),
+            Table::Hashes => mechs::hash(cells, said),
+            Table::Marks => mechs::mark(cells, said),
+            Table::Statuses => mechs::statuses(cells, said),
+            Table::Names => names::named(cells, said),
+            Table::Parts => names::made(cells, said),
+            Table::Labels => names::labelled(cells, said),
+            Table::Moments => values::moment(cells, said),
+            Table::Oids => values::oid(cells, said),
+            Table::Values => values::shown(cells, said),
+            Table::Links => links::linked(cells, said),
+            Table::Ports => links::ported(cells, said),
+            Table::Sinks => devices::sunk(cells, said),
+            Table::Clocks => devices::clocked(cells, said),
+            Table::Draws => devices::drawn(cells, said),
+            Table::Shelves => devices::shelved(cells, said),
+            Table::Commands => commands::sorted(cells, said),
+            Table::Numbers => commands::number(cells, said),
+            Table::Files => commands::file(cells, said),
+            Table::Stops => commands::stopped(cells, said),
+            Table::Windows => windows::judged(cells, said),
+            Table::Caches => caches::judged(cells, said),
+            Table::ManyMarks => caches::many(cells, said),
+            Table::Contexts => contexts::replaced(cells, said),
+            Table::ContextWindows => contexts::windowed(cells, said),
         }
     }
 }
 
 /// How many lines of a table, its comments aside, are as the calls answer them, or the first that isn't.
-pub fn compared(alloc: Global, setting: &Setting, table: Table, text: &str) -> Option<String> {
-    let rows = Set { table, setting };
-    table_rows::compared(alloc, &rows, table.file(), text)
+pub fn compared(alloc: Global, table: Table, text: &str) -> Option<String> {
+    table_rows::compared(alloc, &table, table.file(), text)
 }

@@ -1,6 +1,6 @@
 //! Numbers and octets in XDR, both ways.
 
-use crate::rpc_messages::written_as;
+use crate::messages::written_as;
 use rpc_msgs::{XdrReader, XdrRefusal, XdrWriter};
 use sec_base::{NoMemory, Octets};
 use std::alloc::Global;

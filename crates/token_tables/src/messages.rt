@@ -1,11 +1,11 @@
 //! The messages of the AP exchange.
 
-use crate::der_values::{refused, written_as};
-use crate::message_parts::{
+use crate::parts::{
     key, maybe_addresses, maybe_authorization, maybe_key, maybe_number, maybe_octets, maybe_text,
     maybe_time, name, number, octets, pair, sealed, time,
 };
-use crate::written_messages;
+use crate::values::{refused, written_as};
+use crate::written;
 use krb_msgs::{
     ApReq, Authenticator, EncApRepPart, EncTicketPart, KrbError, Ticket, read_ap_rep, read_ap_req,
     read_authenticator, read_enc_ap_rep_part, read_enc_ticket_part, read_krb_error, read_ticket,
@@ -99,7 +99,7 @@ fn read_request(said: &mut Said, octets: &[u8]) {
 fn read_whole_ticket(said: &mut Said, octets: &[u8]) {
     match read_ticket(said.alloc(), octets) {
         Ok(message) => {
-            let written = written_messages::ticket(said.alloc(), &message);
+            let written = written::ticket(said.alloc(), &message);
             written_as(said, octets, written);
             ticket(said, &message);
         }
@@ -111,7 +111,7 @@ fn read_whole_ticket(said: &mut Said, octets: &[u8]) {
 fn read_reply(said: &mut Said, octets: &[u8]) {
     match read_ap_rep(said.alloc(), octets) {
         Ok(message) => {
-            let written = written_messages::ap_rep(said.alloc(), &message);
+            let written = written::ap_rep(said.alloc(), &message);
             written_as(said, octets, written);
             sealed(said, "enc_part", &message.enc_part);
         }
@@ -123,7 +123,7 @@ fn read_reply(said: &mut Said, octets: &[u8]) {
 fn read_reply_part(said: &mut Said, octets: &[u8]) {
     match read_enc_ap_rep_part(said.alloc(), octets) {
         Ok(message) => {
-            let written = written_messages::enc_ap_rep_part(said.alloc(), &message);
+            let written = written::enc_ap_rep_part(said.alloc(), &message);
             written_as(said, octets, written);
             enc_ap_rep_part(said, &message);
         }
@@ -135,7 +135,7 @@ fn read_reply_part(said: &mut Said, octets: &[u8]) {
 fn read_proof(said: &mut Said, octets: &[u8]) {
     match read_authenticator(said.alloc(), octets) {
         Ok(message) => {
-            let written = written_messages::authenticator(said.alloc(), &message);
+            let written = written::authenticator(said.alloc(), &message);
             written_as(said, octets, written);
             authenticator(said, &message);
         }
@@ -147,7 +147,7 @@ fn read_proof(said: &mut Said, octets: &[u8]) {
 fn read_ticket_part(said: &mut Said, octets: &[u8]) {
     match read_enc_ticket_part(said.alloc(), octets) {
         Ok(message) => {
-            let written = written_messages::enc_ticket_part(said.alloc(), &message);
+            let written = written::enc_ticket_part(said.alloc(), &message);
             written_as(said, octets, written);
             enc_ticket_part(said, &message);
         }
@@ -159,7 +159,7 @@ fn read_ticket_part(said: &mut Said, octets: &[u8]) {
 fn read_error(said: &mut Said, octets: &[u8]) {
     match read_krb_error(said.alloc(), octets) {
         Ok(message) => {
-            let written = written_messages::krb_error(said.alloc(), &message);
+            let written = written::krb_error(said.alloc(), &message);
             written_as(said, octets, written);
             krb_error(said, &message);
         }

@@ -1,6 +1,6 @@
 use Rattle.std.proofs.Common.{◌≡◌, IfSome, true}
 use Rattle.init_ends.specs.Ends.{end_by, holds}
-use Rattle.value_tables.proofs.initiating.followed.Given as goal
+use Rattle.mechanism_tables.proofs.initiating.followed.Given as goal
 
 abbrev pub invariant-loop-part : goal.invariant-loop-part
 invariant-loop-part g l =

@@ -14,7 +14,7 @@ use sec_base::{Moment, Octets, Text};
 use std::alloc::Global;
 
 /// Some where a realm and a name in it have a spelling.
-#[tactic(auto, using(crate::proofs::Spellings::named, crate::proofs::Spellings::free))]
+#[tactic(auto, using(crate::proofs::Names::named, crate::proofs::Names::free))]
 fn spelled(alloc: Global, realm: &Text, name: &PrincipalName) -> Option<()>
     ensures name { IfSome result (λ _. IsName realm.now name.now) }
     ensures realm { IfSome result (λ _. has_zero realm.now ≡ false) }

@@ -1,9 +1,8 @@
 //! Kerberos's exchange by itself: a request that is judged and answered, and a request that is made and takes its reply.
 
-use crate::keys::etype;
 use ap_exchange::{ApInit, Judged, judge_request};
 use gss_base::{Bindings, Principal};
-use krb_derive::Key;
+use krb_derive::{Etype, Key};
 use krb_files::{Credential, Keytab, read_keytab};
 use krb_tokens::MechDone;
 use sec_base::{Moment, Octets};
@@ -36,9 +35,17 @@ pub fn principal_in(cells: &mut Cells<'_>) -> Option<Principal> {
     Principal::parse(cells.alloc(), text.as_str()).ok()
 }
 
+/// The type of a key.
+fn etype_in(cells: &mut Cells<'_>) -> Option<Etype> {
+    match i32::try_from(cells.signed()) {
+        Ok(number) => Etype::of(number),
+        Err(_) => None,
+    }
+}
+
 /// The key of the cells type and octets.
 pub fn key_in(cells: &mut Cells<'_>) -> Option<Key> {
-    let etype = etype(cells);
+    let etype = etype_in(cells);
     let octets = cells.octets();
     match etype {
         Some(etype) => Key::new(etype, octets.as_slice()),

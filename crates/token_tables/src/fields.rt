@@ -1,6 +1,6 @@
 //! Fields under explicit tags: a list under tag 0, octets under tag 1 and a text under tag 3, of which the latter two may be left out.
 
-use crate::der_values::refused;
+use crate::values::refused;
 use der_core::{Reader, Writer, field, optional, put_field, put_optional};
 use sec_base::{Items, NoMemory, Octets, Oid, Text};
 use std::alloc::Global;

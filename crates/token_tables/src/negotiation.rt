@@ -1,7 +1,7 @@
 //! The tokens of SPNEGO, and the list that both ends sign.
 
-use crate::der_fields::identifiers;
-use crate::der_values::{refused, written_as};
+use crate::fields::identifiers;
+use crate::values::{refused, written_as};
 use sec_base::{Octets, Oid};
 use spnego_msgs::{
     NegInit, NegResp, NegState, list_bytes, read_init, read_resp, write_init, write_resp,
