@@ -1,5 +1,5 @@
 -- Lists of which one follows another, place for place.
-use Rattle.std.proofs.Common.{◌≡◌, ◌⊎◌, ℕ, zero, suc, ◌+◌, ◌<◌, ◌≤◌, List, [], ◌∷◌, ◌++◌, length, length-append, take, drop, map, slice_get, Some, refl, sym, ap, ◌∙◌, subst, inl, inr, ⊎_elim, arith}
+use Rattle.std.proofs.Common.{◌≡◌, ◌⊎◌, ℕ, zero, suc, ◌<◌, ◌≤◌, List, [], ◌∷◌, ◌++◌, length, length-append, take, drop, map, slice_get, Some, refl, sym, ap, ◌∙◌, subst, inl, inr, ⊎_elim, arith}
 use Rattle.std.specs.Prelude.{slice_index_or, All}
 use Rattle.std.specs.List.{AllByRecursion}
 use Rattle.server_desks.specs.Desks.{InStep}
@@ -91,3 +91,7 @@ front {A} (x ∷ xs) zs = ap (λ (ys : List A). x ∷ ys) (front xs zs)
 -- what was written through a slice of a whole vector
 pub take-back : {A : Type 0} (count : ℕ) (xs ys : List A) → count ≡ length xs → take count (xs ++ drop (length xs) ys) ≡ xs
 take-back count xs ys e = rw e (front xs (drop (length xs) ys))
+
+-- what was done to all of a vector through a slice of it
+pub done-through : {A : Type 0} (Both : ℕ → A → A → Type 0) (old was now new : List A) → was ≡ old → new ≡ now → InStep was now Both → InStep old new Both
+done-through {A} Both old was now new e f step = subst (λ (ys : List A). InStep old ys Both) (sym f) (subst (λ (xs : List A). InStep xs now Both) e step)

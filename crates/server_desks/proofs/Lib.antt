@@ -1,3 +1,4 @@
 pub mod DeskRuns
 pub mod Ends
 pub mod InStep
+pub mod InTurn
