@@ -71,11 +71,20 @@ fn ask(alloc: Global, xid: u32, proc: u32, offer: Offer) -> Moves
         handle.as_slice(),
         token.as_slice(),
     ) {
-        Ok(record) => Moves {
-            stage: Stage::Asks { xid, end },
-            happened: Ok(Happened::Sent(record)),
-        },
-        Err(NoMemory) => lost(),
+        Ok(record) => {
+            drop(handle);
+            drop(token);
+            Moves {
+                stage: Stage::Asks { xid, end },
+                happened: Ok(Happened::Sent(record)),
+            }
+        }
+        Err(NoMemory) => {
+            drop(end);
+            drop(handle);
+            drop(token);
+            lost()
+        }
     }
 }
 

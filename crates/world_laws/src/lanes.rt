@@ -91,6 +91,8 @@ pub(crate) fn step(alloc: Global, book: OwnSeat, hand: InHand) -> LaneMoves
             draws,
             looked,
         });
+        drop(kept);
+        drop(reply);
         let happened = Ok(Happened::Stepped(0));
         return LaneMoves {
             book,
@@ -98,6 +100,8 @@ pub(crate) fn step(alloc: Global, book: OwnSeat, hand: InHand) -> LaneMoves
             happened,
         };
     }
+    drop(bytes);
+    drop(kept);
     let happened = said(rule, reply);
     LaneMoves {
         book,

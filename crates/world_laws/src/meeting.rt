@@ -118,7 +118,9 @@ pub fn meet(
     for drawn in draws {
         last = turn(alloc, world, last, now, drawn)?;
     }
-    Ok(is_completed(&last))
+    let met = is_completed(&last);
+    drop(last);
+    Ok(met)
 }
 
 /// After such an exchange the initiator calls. Its record comes to the first lane, which has two events: it looks for the context, and it admits the
@@ -145,7 +147,6 @@ pub fn call_once(
 {
     tell_below();
     world.tell_calls();
-    let none = Octets::from_vec(Vec::new(alloc));
     let first = world.step(
         alloc,
         WorldEvent::CallBy {
@@ -158,7 +159,7 @@ pub fn call_once(
         Some(record) => record,
         None => return Ok(false),
     };
-    let _second = world.step(
+    let second = world.step(
         alloc,
         WorldEvent::Lane {
             lane: 0,
@@ -167,6 +168,8 @@ pub fn call_once(
             draws,
         },
     )?;
+    drop(second);
+    let none = Octets::from_vec(Vec::new(alloc));
     let third = world.step(
         alloc,
         WorldEvent::Lane {
@@ -176,5 +179,7 @@ pub fn call_once(
             draws,
         },
     )?;
-    Ok(is_sent(&third))
+    let called = is_sent(&third);
+    drop(third);
+    Ok(called)
 }

@@ -2,7 +2,8 @@
 
 ghost use Rattle.std.specs.Prelude.{◌≡◌, ◌⊎◌, ◌≤◌, ℕ, [], ◌++◌, ◌∷◌, true, map, length, nat_le};
 ghost use Rattle.std.specs.Prelude.{replicate, slice_get, Option, Some, None, IsSome, IfOk, IsErr};
-ghost use Rattle.std.specs.Prelude.{Ok};
+ghost use Rattle.std.specs.Prelude.{Ok, ◌<◌, slice_set};
+ghost use Rattle.std.specs.Vec.{vec_len};
 ghost use Rattle.spnego_core.specs.Ends.{PlainSetup, setup_of};
 ghost use Rattle.spnego_core.specs.InitMech.{is_own_list};
 ghost use Rattle.init_ends.specs.Ends.{setup_by};
@@ -128,6 +129,14 @@ fn call_from(alloc: Global, stage: Stage, procedure: u32, args: &[u8]) -> Moves
     }
 }
 
+/// Puts an initiator's stage in its place, and lets go of what stood there.
+fn put(stages: &mut Vec<Stage>, i: usize, stage: Stage)
+    requires { i < vec_len stages.old }
+    ensures { stages.new.items ≡ slice_set stages.old.items i stage }
+{
+    drop(mem::replace(&mut stages[i], stage));
+}
+
 /// The initiator of this place starts.
 #[tactic(auto, using(crate::proofs::Turns::turned_at, crate::proofs::Turns::unturned_at))]
 fn start(alloc: Global, stages: &mut Vec<Stage>, i: usize) -> Result<Happened, NoMemory>
@@ -144,7 +153,7 @@ fn start(alloc: Global, stages: &mut Vec<Stage>, i: usize) -> Result<Happened, N
     }
     let stage = mem::replace(&mut stages[i], Stage::Over);
     let moves = start_from(alloc, stage);
-    stages[i] = moves.stage;
+    put(stages, i, moves.stage);
     moves.happened
 }
 
@@ -171,7 +180,7 @@ fn deliver(
     }
     let stage = mem::replace(&mut stages[i], Stage::Over);
     let moves = deliver_from(alloc, stage, bytes, first);
-    stages[i] = moves.stage;
+    put(stages, i, moves.stage);
     moves.happened
 }
 
@@ -195,7 +204,7 @@ fn call_by(
     }
     let stage = mem::replace(&mut stages[i], Stage::Over);
     let moves = call_from(alloc, stage, procedure, args);
-    stages[i] = moves.stage;
+    put(stages, i, moves.stage);
     moves.happened
 }
 
@@ -223,6 +232,7 @@ fn go_on(
         (record { book = book.new; lanes = lanes.new.items }) }
 {
     if lane >= lanes.len() {
+        drop(taken);
         return Ok(Happened::Nothing);
     }
     let before = lanes[lane].take();
@@ -231,8 +241,8 @@ fn go_on(
         Some(held) => {
             let moves = lanes::step(alloc, held, hand);
             let _log = moves.book.log();
-            *book = Some(moves.book);
-            lanes[lane] = moves.lane;
+            drop(book.replace(moves.book));
+            drop(mem::replace(&mut lanes[lane], moves.lane));
             moves.happened
         }
         None => unreachable!(),
@@ -276,7 +286,11 @@ fn happen(alloc: Global, parts: &mut Parts, event: WorldEvent) -> Result<Happene
             initiator,
             bytes,
             first,
-        } => deliver(alloc, &mut parts.stages, initiator, bytes.as_slice(), first),
+        } => {
+            let happened = deliver(alloc, &mut parts.stages, initiator, bytes.as_slice(), first);
+            drop(bytes);
+            happened
+        }
         WorldEvent::Lane {
             lane,
             bytes,
@@ -295,13 +309,17 @@ fn happen(alloc: Global, parts: &mut Parts, event: WorldEvent) -> Result<Happene
             initiator,
             procedure,
             args,
-        } => call_by(
-            alloc,
-            &mut parts.stages,
-            initiator,
-            procedure,
-            args.as_slice(),
-        ),
+        } => {
+            let happened = call_by(
+                alloc,
+                &mut parts.stages,
+                initiator,
+                procedure,
+                args.as_slice(),
+            );
+            drop(args);
+            happened
+        }
     }
 }
 
@@ -427,7 +445,13 @@ impl World {
             (λ world. (shown world meaning).lanes ≡ replicate setup.lanes None) }
         ensures events { IfOk result (λ world. (shown world meaning).events ≡ []) }
     {
-        tell_setups(alloc, setup.facts.as_slice())?;
+        match tell_setups(alloc, setup.facts.as_slice()) {
+            Ok(()) => {}
+            Err(refusal) => {
+                drop(setup);
+                return Err(refusal);
+            }
+        }
         setup.book.setup().verifiers.told_lines();
         let _log = setup.book.log();
         let WorldSetup {
@@ -487,9 +511,16 @@ impl World {
         prove_plain_law();
         prove_plain_creation();
         if self.events.reserve(1).is_err() {
+            drop(event);
             return Err(NoMemory);
         }
-        let kept = event.copied(alloc)?;
+        let kept = match event.copied(alloc) {
+            Ok(kept) => kept,
+            Err(refusal) => {
+                drop(event);
+                return Err(refusal);
+            }
+        };
         tell_book(&self.parts.book);
         let happened = happen(alloc, &mut self.parts, event);
         self.events.push_reserved(kept);

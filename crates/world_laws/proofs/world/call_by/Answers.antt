@@ -8,6 +8,7 @@ use Rattle.world_laws.proofs.world.call_by.Goals as goal
 
 pub returns : goal.returns
 returns g c =
-    turned_at (λ s. stage_means s (λ b. (goal.Mech-dyn g b).meaning b.1)) (called_from c.args.procedure c.args.args.now) (happened_of c.call_from-moves.result.happened) c.args.stages.now.items c.args.i c.replace-stage.result c.call_from-moves.result.stage c.replace-stage.new.dest
+    rw c.put.ensures
+    (turned_at (λ s. stage_means s (λ b. (goal.Mech-dyn g b).meaning b.1)) (called_from c.args.procedure c.args.args.now) (happened_of c.call_from-moves.result.happened) c.args.stages.now.items c.args.i c.replace-stage.result c.call_from-moves.result.stage c.replace-stage.new.dest
     (slice_get-get_or c.args.stages.now.items c.args.i _ (search rules) ∙ ap (λ s. Some s) (sym (c.replace-stage.ensures.value ∙ c.index_mut.ensures.value)))
-    c.call_from-moves.ensures
+    c.call_from-moves.ensures)

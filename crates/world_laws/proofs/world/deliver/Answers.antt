@@ -15,6 +15,7 @@ deliver_from-moves-requires g c = record {
 
 pub returns : goal.returns
 returns g c =
-    turned_at (λ s. stage_means s (λ b. (goal.Mech-dyn g b).meaning b.1)) (taken_from c.args.first c.args.bytes.now) (happened_of c.deliver_from-moves.result.happened) c.args.stages.now.items c.args.i c.replace-stage.result c.deliver_from-moves.result.stage c.replace-stage.new.dest
+    rw c.put.ensures
+    (turned_at (λ s. stage_means s (λ b. (goal.Mech-dyn g b).meaning b.1)) (taken_from c.args.first c.args.bytes.now) (happened_of c.deliver_from-moves.result.happened) c.args.stages.now.items c.args.i c.replace-stage.result c.deliver_from-moves.result.stage c.replace-stage.new.dest
     (slice_get-get_or c.args.stages.now.items c.args.i _ (search rules) ∙ ap (λ s. Some s) (sym (c.replace-stage.ensures.value ∙ c.index_mut.ensures.value)))
-    c.deliver_from-moves.ensures
+    c.deliver_from-moves.ensures)

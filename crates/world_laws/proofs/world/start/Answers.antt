@@ -13,6 +13,7 @@ start_from-moves-requires g c =
 
 pub returns : goal.returns
 returns g c =
-    turned_at (λ s. stage_means s (λ b. (goal.Mech-dyn g b).meaning b.1)) started_from (happened_of c.start_from-moves.result.happened) c.args.stages.now.items c.args.i c.replace-stage.result c.start_from-moves.result.stage c.replace-stage.new.dest
+    rw c.put.ensures
+    (turned_at (λ s. stage_means s (λ b. (goal.Mech-dyn g b).meaning b.1)) started_from (happened_of c.start_from-moves.result.happened) c.args.stages.now.items c.args.i c.replace-stage.result c.start_from-moves.result.stage c.replace-stage.new.dest
     (slice_get-get_or c.args.stages.now.items c.args.i _ (search rules) ∙ ap (λ s. Some s) (sym (c.replace-stage.ensures.value ∙ c.index_mut.ensures.value)))
-    c.start_from-moves.ensures
+    c.start_from-moves.ensures)

@@ -18,7 +18,7 @@ returns-clause-world g c =
     (stepped c.tell_below.ensures c.prove_plain_law.ensures c.prove_plain_creation.ensures c.args.event (happened_of c.happen-happened.result) (map setup_of c.args.self.now.facts.items)
     (parts_means c.args.self.now.parts (λ b. (goal.Mech-dyn g b).meaning b.1)) (parts_means c.happen-happened.new.parts (λ b. (goal.Mech-dyn g b).meaning b.1)) c.args.self.now.events.items c.push_reserved.new.self.items
     c.requires.proper c.tell_book.ensures c.requires.world c.happen-happened.ensures
-    (more-items c.push_reserved.new.self.items c.reserve.new.self.items c.args.self.now.events.items c.in_ok-kept.kept c.args.event c.push_reserved.ensures.items c.reserve.ensures.items c.in_ok-kept.ensures)).world
+    (more-items c.push_reserved.new.self.items c.reserve.new.self.items c.args.self.now.events.items c.in-Ok.kept c.args.event c.push_reserved.ensures.items c.reserve.ensures.items c.in-Ok.ensures)).world
 
 pub returns-clause-happened : goal.returns-clause-happened
 returns-clause-happened g c = told-ok c.args.event c.happen-happened.result (shown c.args.self.now (λ b. (goal.Mech-dyn g b).meaning b.1))
@@ -26,7 +26,7 @@ returns-clause-happened g c = told-ok c.args.event c.happen-happened.result (sho
     (stepped c.tell_below.ensures c.prove_plain_law.ensures c.prove_plain_creation.ensures c.args.event (happened_of c.happen-happened.result) (map setup_of c.args.self.now.facts.items)
     (parts_means c.args.self.now.parts (λ b. (goal.Mech-dyn g b).meaning b.1)) (parts_means c.happen-happened.new.parts (λ b. (goal.Mech-dyn g b).meaning b.1)) c.args.self.now.events.items c.push_reserved.new.self.items
     c.requires.proper c.tell_book.ensures c.requires.world c.happen-happened.ensures
-    (more-items c.push_reserved.new.self.items c.reserve.new.self.items c.args.self.now.events.items c.in_ok-kept.kept c.args.event c.push_reserved.ensures.items c.reserve.ensures.items c.in_ok-kept.ensures)).steps
+    (more-items c.push_reserved.new.self.items c.reserve.new.self.items c.args.self.now.events.items c.in-Ok.kept c.args.event c.push_reserved.ensures.items c.reserve.ensures.items c.in-Ok.ensures)).steps
 
 pub returns-clause-memory : goal.returns-clause-memory
 returns-clause-memory g c = told-err c.args.event c.happen-happened.result (shown c.args.self.now (λ b. (goal.Mech-dyn g b).meaning b.1))
@@ -34,4 +34,4 @@ returns-clause-memory g c = told-err c.args.event c.happen-happened.result (show
     (stepped c.tell_below.ensures c.prove_plain_law.ensures c.prove_plain_creation.ensures c.args.event (happened_of c.happen-happened.result) (map setup_of c.args.self.now.facts.items)
     (parts_means c.args.self.now.parts (λ b. (goal.Mech-dyn g b).meaning b.1)) (parts_means c.happen-happened.new.parts (λ b. (goal.Mech-dyn g b).meaning b.1)) c.args.self.now.events.items c.push_reserved.new.self.items
     c.requires.proper c.tell_book.ensures c.requires.world c.happen-happened.ensures
-    (more-items c.push_reserved.new.self.items c.reserve.new.self.items c.args.self.now.events.items c.in_ok-kept.kept c.args.event c.push_reserved.ensures.items c.reserve.ensures.items c.in_ok-kept.ensures)).steps
+    (more-items c.push_reserved.new.self.items c.reserve.new.self.items c.args.self.now.events.items c.in-Ok.kept c.args.event c.push_reserved.ensures.items c.reserve.ensures.items c.in-Ok.ensures)).steps
