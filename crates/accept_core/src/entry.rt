@@ -4,7 +4,7 @@ use sec_base::Moment;
 use std::mem::size_of;
 
 /// How a context ended.
-#[derive(Clone, Copy, Debug, PartialEq, Eq)]
+#[derive(Clone, Copy)]
 pub enum EndCause {
     /// By a call of the peer, which took this number.
     Destroyed { seq: u32 },

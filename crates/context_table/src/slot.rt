@@ -21,7 +21,7 @@ pub enum SlotState<N, S> {
 }
 
 /// What a caller is told of an id.
-#[derive(Clone, Copy, Debug, PartialEq, Eq)]
+#[derive(Clone, Copy, Debug)]
 pub enum Phase {
     /// No context that lives has it.
     None,

@@ -55,13 +55,14 @@ impl<N: Drop, S: Drop> Table<N, S> {
         let mut order = Vec::with_capacity(alloc, limit)?;
         let mut slots = Vec::with_capacity(alloc, limit)?;
         for cell in 0..limit as u32 {
-            order.push(cell)?;
-            slots.push(Slot {
+            let window = Window::new(alloc, width)?;
+            order.push_reserved(cell);
+            slots.push_reserved(Slot {
                 id: 0,
                 state: SlotState::Held,
                 ends: Moment::greatest(),
-                window: Window::new(alloc, width)?,
-            })?;
+                window,
+            });
         }
         Ok(Table {
             limit,

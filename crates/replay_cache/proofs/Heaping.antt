@@ -1,6 +1,7 @@
 -- A heap as times rise and sink in it, over plain lists.
-use Rattle.std.proofs.Common.{◌≡◌, ◌≢◌, ℕ, ◌+◌, ◌-◌, ◌/◌, ◌<◌, ◌≤◌, if◌then◌else◌, List, [], ◌∷◌, ◌++◌, length, get_or, set, zero, suc, sym, ◌∙◌, ap, inl, inr, arith, get_or-set_same, get_or-set_other, length-set, nat_le}
+use Rattle.std.proofs.Common.{◌≡◌, ◌≢◌, ℕ, ◌+◌, ◌-◌, ◌/◌, ◌<◌, ◌≤◌, if◌then◌else◌, List, [], ◌∷◌, ◌++◌, length, get_or, set, zero, suc, sym, ◌∙◌, ap, inl, inr, arith, get_or-set_same, get_or-set_other, length-set, length-append, nat_le}
 use Rattle.std.proofs.lemmas.Bool.{cases_eq, le-leb}
+use Rattle.std.proofs.lemmas.List.{get_or_append_left}
 use Rattle.replay_cache.specs.Tally.{tally, late}
 use Rattle.replay_cache.specs.Heap.{IsHeap, IsHeapBelow, IsHeapAbove, Exchanged, IsLesser}
 use Rattle.replay_cache.proofs.Tallying.{tally-set, tally-all, tally-append}
@@ -24,6 +25,20 @@ exchanged old a b order inside =
           let two : tally (nat_le moment) (set half b x) + (if nat_le moment (get_or half b 0) then 1 else 0) ≡ tally (nat_le moment) half + (if nat_le moment x then 1 else 0) = tally-set (nat_le moment) half b x 0 (omega (arith, long, inside)) in
           let three : tally (nat_le moment) (set half b x) + (if nat_le moment y then 1 else 0) ≡ tally (nat_le moment) half + (if nat_le moment x then 1 else 0) = rw there at two in
           omega (arith, one, three);
+    }
+
+-- a heap with a time put behind it
+pub grown : (heap : List ℕ) (at place : ℕ) → IsHeap heap → place ≡ length heap → IsHeapBelow (heap ++ at ∷ []) place
+grown heap at place is last =
+    let long : length (heap ++ at ∷ []) ≡ length heap + 1 = length-append heap (at ∷ []) in
+    record {
+      inside = omega (arith, long, last);
+      rises = λ k inside apart.
+          let within : k < length heap = omega (arith, inside, long, last, apart) in
+          let here : get_or (heap ++ at ∷ []) k 0 ≡ get_or heap k 0 = get_or_append_left heap (at ∷ []) 0 k within in
+          let above : get_or (heap ++ at ∷ []) ((k - 1) / 2) 0 ≡ get_or heap ((k - 1) / 2) 0 = get_or_append_left heap (at ∷ []) 0 ((k - 1) / 2) (omega (arith, within)) in
+          omega (arith, here, above, is.rises k within);
+      over = λ some k inside under. absurd (omega (arith, some, inside, under, long, last));
     }
 
 -- a place exchanged with its lesser child

@@ -17,7 +17,7 @@ use std::marker::Model;
 pub const SKEW: u64 = 300_000_000;
 
 /// What a cache says of a mark, in the order in which it is judged.
-#[derive(Clone, Copy, Debug, PartialEq, Eq)]
+#[derive(Clone, Copy)]
 pub enum CacheVerdict {
     /// Its time and the greatest moment, `greatest`, differ by more than 300 seconds.
     Stale { greatest: Moment },
@@ -30,7 +30,7 @@ pub enum CacheVerdict {
 }
 
 /// A mark that was taken, and the place that it was taken with.
-#[derive(Clone, Copy, Debug, PartialEq, Eq)]
+#[derive(Clone, Copy)]
 pub struct TakenMark {
     pub mark: Mark,
     pub place: u64,
@@ -220,17 +220,15 @@ fn empty_cells(alloc: Global, count: usize) -> Result<Vec<Cell>, NoMemory>
     ensures empty { IfOk result (λ cells. (p : ℕ) → (cell_at cells.items p).nth ≡ 0) }
     ensures early { IfOk result (λ cells. (p : ℕ) → (cell_at cells.items p).when ≡ 0) }
 {
-    let mut cells = Vec::with_capacity(alloc, count)?;
-    for _ in 0..count {
-        let who = [0; 20];
-        cells.push(Cell {
-            who,
-            nth: 0,
-            at: Moment::start(),
-            place: 0,
-            when: Moment::start(),
-        })?;
-    }
+    let blank = Cell {
+        who: [0; 20],
+        nth: 0,
+        at: Moment::start(),
+        place: 0,
+        when: Moment::start(),
+    };
+    let mut cells = Vec::new(alloc);
+    cells.resize(count, blank)?;
     Ok(cells)
 }
 
@@ -239,9 +237,7 @@ fn no_reaches(alloc: Global, count: usize) -> Result<Vec<u32>, NoMemory>
     ensures count { IfOk result (λ reaches. vec_len reaches ≡ count) }
     ensures none { IfOk result (λ reaches. (h : ℕ) → slice_index_or reaches.items h 0 ≡ 0) }
 {
-    let mut reaches = Vec::with_capacity(alloc, count)?;
-    for _ in 0..count {
-        reaches.push(0)?;
-    }
+    let mut reaches = Vec::new(alloc);
+    reaches.resize(count, 0)?;
     Ok(reaches)
 }

@@ -1,4 +1,4 @@
-use Rattle.std.proofs.Common.{◌≡◌, ◌<◌, ℕ, ◌+◌, ◌∙◌, ap, subst, sym, arith, length}
+use Rattle.std.proofs.Common.{rules, ◌≡◌, ◌<◌, ℕ, ◌+◌, ◌∙◌, ap, subst, sym, arith, length}
 use Rattle.std.proofs.lemmas.List.{length_push}
 use Rattle.context_table.specs.declared.slot.Slot.{Slot}
 use Rattle.context_table.proofs.Tables.{fresh-table, made-order, made-slots}
@@ -6,13 +6,15 @@ use Rattle.context_table.proofs.table.Table.new.Goals as goal
 
 pub loop-cell-preserved : goal.loop-cell-preserved
 loop-cell-preserved g c = record {
-  order_is = rw c.in_ok-push.ensures.items (length_push c.loop-cell.order.items c.loop-cell.cell ∙ ap (λ (n : ℕ). n + 1) c.loop-cell.invariant.order_is);
-  slots_are = rw c.in_ok-push-2.ensures.items (length_push c.loop-cell.slots.items _ ∙ ap (λ (n : ℕ). n + 1) c.loop-cell.invariant.slots_are);
-  each = rw c.in_ok-push.ensures.items (λ k lk.
+  order_is = rw c.push_reserved.ensures.items (length_push c.loop-cell.order.items c.loop-cell.cell ∙ ap (λ (n : ℕ). n + 1) c.loop-cell.invariant.order_is);
+  slots_are = rw c.push_reserved-in-loop-cell.ensures.items (length_push c.loop-cell.slots.items _ ∙ ap (λ (n : ℕ). n + 1) c.loop-cell.invariant.slots_are);
+  places = search rules;
+  room = search rules;
+  each = rw c.push_reserved.ensures.items (λ k lk.
       made-order c.loop-cell.order.items c.loop-cell.cell k c.loop-cell.invariant.order_is c.loop-cell.invariant.each lk);
-  spare = rw c.in_ok-push-2.ensures.items (λ k d lk.
+  spare = rw c.push_reserved-in-loop-cell.ensures.items (λ k d lk.
       made-slots c.args.width c.loop-cell.slots.items _ c.loop-cell.cell k d c.loop-cell.invariant.slots_are
-      (record { width = c.in_ok-new.ensures.width; window = c.in_ok-new.ensures.shows }) c.loop-cell.invariant.spare lk);
+      (record { width = c.in_ok-window.ensures.width; window = c.in_ok-window.ensures.shows }) c.loop-cell.invariant.spare lk);
 }
 
 pub invariant_of-result : goal.invariant_of-result
