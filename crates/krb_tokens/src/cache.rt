@@ -13,7 +13,6 @@ use crate::mic_keys::MicKeys;
 use crate::wrap_keys::WrapKeys;
 use krb_derive::{OpenRefusal, Piece, SealKeys, checksum, is_tag, verify};
 use sec_base::NoMemory;
-use std::fmt;
 
 /// The keys of the end that was kept last: those of its checksums and, where they were asked for, those of its sealed octets. They spare
 /// the tokens of that end their derivations; a token of another end is made and read all the same.
@@ -79,12 +78,6 @@ impl KeyCache {
             Some(sealing) if sealing.end == *end => Some(sealing),
             _ => None,
         }
-    }
-}
-
-impl fmt::Debug for KeyCache {
-    fn fmt<W: fmt::Write>(&self, f: &mut fmt::Formatter<W>) -> fmt::Result {
-        f.write_str("KeyCache { .. }")
     }
 }
 

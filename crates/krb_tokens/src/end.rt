@@ -8,7 +8,7 @@ ghost use Rattle.krb_tokens.specs.End.{all_filler};
 use krb_derive::Key;
 
 /// A side of a context.
-#[derive(Clone, Copy, Debug, PartialEq, Eq)]
+#[derive(Clone, Copy, PartialEq, Eq)]
 pub enum Side {
     Initiator,
     Acceptor,
@@ -53,7 +53,7 @@ impl Side {
 }
 
 /// An end of a context: its key, its side, and whether the key is the acceptor's subkey.
-#[derive(Clone, Copy, Debug, PartialEq, Eq)]
+#[derive(Clone, Copy, PartialEq, Eq)]
 pub struct TokenEnd {
     pub key: Key,
     pub side: Side,

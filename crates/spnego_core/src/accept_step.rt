@@ -5,6 +5,9 @@ ghost use Rattle.sec_base.specs.Answers.{Gives};
 ghost use Rattle.spnego_core.specs.declared.accept_end.AcceptEnd.TheVariants as ends;
 ghost use Rattle.spnego_core.specs.AcceptMech.{accept_taken};
 ghost use Rattle.spnego_core.specs.Sizes.{ShortAccept};
+ghost use Rattle.spnego_core.specs.ListMic.{is_list_mic};
+ghost use Rattle.spnego_core.specs.Steps.{due};
+ghost use Rattle.krb_tokens.specs.declared.end.Side.TheVariants.{Acceptor};
 ghost use Rattle.spnego_core.specs.Accepting.{begun, token_for, started, chose, begins, proceeds};
 ghost use Rattle.spnego_core.specs.Accepting.{closes, closed, run, step_of, accept_step};
 
@@ -142,6 +145,20 @@ fn proceeds(
     }
 }
 
+/// Judges the initiator's MIC over the list that came.
+fn mic_judged(alloc: Global, owing: &Owing, mic: &Octets) -> Result<(), NegRefusal>
+    ensures { Gives NegRefusal.NoMemory (λ u. u) result
+        (due NegRefusal.MicBad (is_list_mic owing.now.outcome Acceptor owing.now.received mic.now)) }
+{
+    let received = owing.received.as_slice();
+    let right = is_list_mic(alloc, &owing.outcome, Side::Acceptor, received, mic)?;
+    if right {
+        Ok(())
+    } else {
+        Err(NegRefusal::MicBad)
+    }
+}
+
 /// What follows a later token once the mechanism is done and the initiator's MIC is due.
 #[tactic(auto, unfolding(crate::specs::Accepting::closes))]
 fn closes(alloc: Global, owing: Owing, resp: &NegResp) -> Result<AcceptStep, NegRefusal>
@@ -149,17 +166,23 @@ fn closes(alloc: Global, owing: Owing, resp: &NegResp) -> Result<AcceptStep, Neg
     ensures exact { Gives NegRefusal.NoMemory (λ s. s) result (step_of (closes owing resp.now)) }
 {
     if rejects(resp.state) {
+        drop(owing);
         return Err(NegRefusal::Rejected);
     }
     let Some(mic) = &resp.mic else {
+        drop(owing);
         return Err(NegRefusal::MicMissing);
     };
-    let received = owing.received.as_slice();
-    if !is_list_mic(alloc, &owing.outcome, Side::Acceptor, received, &mic)? {
-        return Err(NegRefusal::MicBad);
+    match mic_judged(alloc, &owing, mic) {
+        Ok(()) => {
+            let nothing = Octets::from_vec(Vec::new(alloc));
+            Ok(AcceptStep::Done(owing.outcome, owing.lasts, nothing))
+        }
+        Err(refusal) => {
+            drop(owing);
+            Err(refusal)
+        }
     }
-    let nothing = Octets::from_vec(Vec::new(alloc));
-    Ok(AcceptStep::Done(owing.outcome, owing.lasts, nothing))
 }
 
 /// What follows the initiator's next token while the mechanism isn't done.
