@@ -29,6 +29,10 @@ abbrev pub is_option : List (List ℕ) → List ℕ → List (List ℕ) → Bool
 is_option names word behind =
     is_one_of word names && (has_value behind && not (is_one_of word behind))
 
+-- the word may stand before these: it doesn't begin with `-`, or is an option
+abbrev pub may_stand : List (List ℕ) → List ℕ → List (List ℕ) → Bool
+may_stand names word behind = if is_dashed word then is_option names word behind else true
+
 -- each word that begins with `-` is one of the names, has a value behind it, and stands there once
 abbrev pub are_words : List (List ℕ) → List (List ℕ) → Bool
 are_words names [] = true

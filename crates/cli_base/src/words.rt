@@ -3,7 +3,7 @@
 ghost use Rattle.std.specs.Prelude.{◌≡◌, false, length, slice_get};
 ghost use Rattle.std.specs.Option.{option_map};
 ghost use Rattle.cli_base.specs.Words.{is_dashed, is_one_of, texts, has_value, is_option};
-ghost use Rattle.cli_base.specs.Words.{are_words, first_word, plain_of};
+ghost use Rattle.cli_base.specs.Words.{may_stand, are_words, first_word, plain_of};
 
 use sec_base::Text;
 
@@ -58,13 +58,20 @@ fn is_option(word: &str, behind: &[Text], names: &[&str]) -> bool
     is_name(word, names) && has_value(behind) && !is_one_of(word, behind)
 }
 
+/// Whether a word may stand before these: it doesn't begin with `-`, or is an option.
+fn may_stand(word: &str, behind: &[Text], names: &[&str]) -> bool
+    ensures { result ≡ may_stand (texts names.now) word.now behind.now }
+{
+    !is_dashed(word) || is_option(word, behind, names)
+}
+
 /// Whether each word that begins with `-` is one of these names, stands there once, and has a value behind it: a word that doesn't
 /// begin with `-`.
 pub fn are_words(words: &[Text], names: &[&str]) -> bool
     ensures { result ≡ are_words (texts names.now) words.now }
 {
     for (at, word) in words.iter().enumerate() {
-        if is_dashed(word.as_str()) && !is_option(word.as_str(), &words[at + 1..], names) {
+        if !may_stand(word.as_str(), &words[at + 1..], names) {
             return false;
         }
     }

@@ -1,5 +1,5 @@
 -- Times as text: what is read is spelled so, and what is spelled so is read.
-use Rattle.std.proofs.Common.{◌≡◌, ℕ, zero, suc, ◌+◌, ◌-◌, ◌*◌, ◌/◌, ◌%◌, ◌<◌, ◌≤◌, Bool, true, false, cond, ◌&&◌, leb, ltb, eqb, List, [], ◌∷◌, ◌++◌, length, take, drop, pos, Result, Ok, refl, sym, ap, subst, ◌∙◌, arith}
+use Rattle.std.proofs.Common.{◌≡◌, ℕ, zero, suc, ◌+◌, ◌-◌, ◌*◌, ◌/◌, ◌%◌, ◌<◌, ◌≤◌, Bool, true, false, cond, ◌&&◌, leb, ltb, eqb, List, [], ◌∷◌, ◌++◌, length, get_or, take, drop, pos, Result, Ok, refl, sym, ap, subst, ◌∙◌, arith}
 use Rattle.std.proofs.lemmas.Bool.{leb-true, le-leb, ltb-true, lt-ltb, eqb-true, eq-eqb, and_from, and_right}
 use Rattle.std.proofs.lemmas.List.{take-append-drop, length-take, length-drop}
 use Rattle.jiff_core.specs.Calendar.{day_count}
@@ -178,3 +178,24 @@ unfolding is_time
 short_no_time os few =
     let zulu : is_zulu (drop 14 os) ≡ false = empty_no_zulu (drop 14 os) (omega (arith, length-drop 14 os)) in
     rw zulu (and_right (are_digits (take 14 os)) false refl)
+
+-- ---- fourteen digits
+
+-- the seven numbers that they spell
+pub fourteen : (ds : List ℕ) (c y m d h i s : ℕ) → length ds ≡ 14 → c ≡ (get_or ds 0 0 - 48) * 10 + (get_or ds 1 0 - 48) → y ≡ (get_or ds 2 0 - 48) * 10 + (get_or ds 3 0 - 48) → m ≡ (get_or ds 4 0 - 48) * 10 + (get_or ds 5 0 - 48) → d ≡ (get_or ds 6 0 - 48) * 10 + (get_or ds 7 0 - 48) → h ≡ (get_or ds 8 0 - 48) * 10 + (get_or ds 9 0 - 48) → i ≡ (get_or ds 10 0 - 48) * 10 + (get_or ds 11 0 - 48) → s ≡ (get_or ds 12 0 - 48) * 10 + (get_or ds 13 0 - 48) → numbers ds ≡ c ∷ y ∷ m ∷ d ∷ h ∷ i ∷ s ∷ []
+fourteen [] c y m d h i s sized p q r t u v w = absurd (omega arith)
+fourteen (o0 ∷ []) c y m d h i s sized p q r t u v w = absurd (omega arith)
+fourteen (o0 ∷ o1 ∷ []) c y m d h i s sized p q r t u v w = absurd (omega arith)
+fourteen (o0 ∷ o1 ∷ o2 ∷ []) c y m d h i s sized p q r t u v w = absurd (omega arith)
+fourteen (o0 ∷ o1 ∷ o2 ∷ o3 ∷ []) c y m d h i s sized p q r t u v w = absurd (omega arith)
+fourteen (o0 ∷ o1 ∷ o2 ∷ o3 ∷ o4 ∷ []) c y m d h i s sized p q r t u v w = absurd (omega arith)
+fourteen (o0 ∷ o1 ∷ o2 ∷ o3 ∷ o4 ∷ o5 ∷ []) c y m d h i s sized p q r t u v w = absurd (omega arith)
+fourteen (o0 ∷ o1 ∷ o2 ∷ o3 ∷ o4 ∷ o5 ∷ o6 ∷ []) c y m d h i s sized p q r t u v w = absurd (omega arith)
+fourteen (o0 ∷ o1 ∷ o2 ∷ o3 ∷ o4 ∷ o5 ∷ o6 ∷ o7 ∷ []) c y m d h i s sized p q r t u v w = absurd (omega arith)
+fourteen (o0 ∷ o1 ∷ o2 ∷ o3 ∷ o4 ∷ o5 ∷ o6 ∷ o7 ∷ o8 ∷ []) c y m d h i s sized p q r t u v w = absurd (omega arith)
+fourteen (o0 ∷ o1 ∷ o2 ∷ o3 ∷ o4 ∷ o5 ∷ o6 ∷ o7 ∷ o8 ∷ o9 ∷ []) c y m d h i s sized p q r t u v w = absurd (omega arith)
+fourteen (o0 ∷ o1 ∷ o2 ∷ o3 ∷ o4 ∷ o5 ∷ o6 ∷ o7 ∷ o8 ∷ o9 ∷ o10 ∷ []) c y m d h i s sized p q r t u v w = absurd (omega arith)
+fourteen (o0 ∷ o1 ∷ o2 ∷ o3 ∷ o4 ∷ o5 ∷ o6 ∷ o7 ∷ o8 ∷ o9 ∷ o10 ∷ o11 ∷ []) c y m d h i s sized p q r t u v w = absurd (omega arith)
+fourteen (o0 ∷ o1 ∷ o2 ∷ o3 ∷ o4 ∷ o5 ∷ o6 ∷ o7 ∷ o8 ∷ o9 ∷ o10 ∷ o11 ∷ o12 ∷ []) c y m d h i s sized p q r t u v w = absurd (omega arith)
+fourteen (o0 ∷ o1 ∷ o2 ∷ o3 ∷ o4 ∷ o5 ∷ o6 ∷ o7 ∷ o8 ∷ o9 ∷ o10 ∷ o11 ∷ o12 ∷ o13 ∷ []) c y m d h i s sized p q r t u v w = rw (p, q, r, t, u, v, w) refl
+fourteen (o0 ∷ o1 ∷ o2 ∷ o3 ∷ o4 ∷ o5 ∷ o6 ∷ o7 ∷ o8 ∷ o9 ∷ o10 ∷ o11 ∷ o12 ∷ o13 ∷ o14 ∷ os) c y m d h i s sized p q r t u v w = absurd (omega arith)

@@ -115,14 +115,28 @@ fn civil_moment(digits: &[u8]) -> Option<Moment>
         then Some (seconds_of (numbers digits.now) * 1000000) else None) }
 {
     match digits {
-        [a, b, c, d, e, f, g, h, i, j, k, l, m, n] => {
-            let year = two(*a, *b) * 100 + two(*c, *d);
-            let day = day_number(year, two(*e, *f), two(*g, *h))?;
-            let within = second_of_day(two(*i, *j), two(*k, *l), two(*m, *n))?;
-            Moment::new(day as u64 * DAY + within as u64, 0)
-        }
+        [a, b, c, d, e, f, g, h, i, j, k, l, m, n] => moment_at(
+            two(*a, *b) * 100 + two(*c, *d),
+            two(*e, *f),
+            two(*g, *h),
+            two(*i, *j),
+            two(*k, *l),
+            two(*m, *n),
+        ),
         [..] => unreachable!(),
     }
+}
+
+/// The moment of a date and a time of day.
+fn moment_at(year: u32, month: u32, day: u32, hour: u32, minute: u32, second: u32) -> Option<Moment>
+    ensures { result ≡ (if is_date year month day
+        && (nat_lt hour 24 && (nat_lt minute 60 && nat_lt second 60))
+        then Some ((day_number year month day * 86400 + (hour * 3600 + (minute * 60 + second))) * 1000000)
+        else None) }
+{
+    let days = day_number(year, month, day)?;
+    let within = second_of_day(hour, minute, second)?;
+    Moment::new(days as u64 * DAY + within as u64, 0)
 }
 
 /// The seconds from midnight to a time of day.

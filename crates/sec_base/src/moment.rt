@@ -42,13 +42,12 @@ impl Moment {
         ensures { result ≡ (if nat_le secs 253402300799 && nat_lt micros 1000000
             then Some (secs * 1000000 + micros) else None) }
     {
-        if secs <= LAST_SECOND && (micros as u64) < MICROS {
-            Some(Moment {
-                total: secs * MICROS + micros as u64,
-            })
-        } else {
-            None
+        if secs > LAST_SECOND || micros as u64 >= MICROS {
+            return None;
         }
+        Some(Moment {
+            total: secs * MICROS + micros as u64,
+        })
     }
 
     /// The start of 1970.

@@ -1,6 +1,7 @@
 //! The tokens of SPNEGO (RFC 4178), read and written, and the octets of the mechanism list that both ends sign.
 #![tactic(auto)]
 
+mod choice;
 mod lists;
 mod neg_init;
 mod neg_resp;

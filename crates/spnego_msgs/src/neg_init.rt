@@ -7,10 +7,11 @@ ghost use Rattle.der_core.specs.Element.{explicit};
 ghost use Rattle.der_core.specs.Fields.{optional_at, PutsMaybe};
 ghost use Rattle.spnego_msgs.specs.Lists.{is_count};
 ghost use Rattle.spnego_msgs.specs.NegInit.{is_spnego, spnego_content, spnego_identifier};
-ghost use Rattle.spnego_msgs.specs.NegInit.{req_flags, neg_init_fields, neg_init};
+ghost use Rattle.spnego_msgs.specs.NegInit.{req_flags, neg_init_fields, neg_init_choice, neg_init};
 
+use crate::choice::{both_end, put_choice, token_and_mic};
 use crate::lists::{list_field, put_list_field};
-use der_core::{DerRefusal, DerWhy, Reader, Writer, optional, put_optional};
+use der_core::{DerRefusal, DerWhy, Reader, Writer, put_optional};
 use sec_base::{Items, NoMemory, Octets, Oid};
 use std::alloc::Global;
 
@@ -51,16 +52,40 @@ fn neg_init_of(alloc: Global, bytes: &[u8]) -> Result<NegInit, DerRefusal>
     let mut reader = Reader::new(bytes);
     let mut framed = reader.tlv(0x60)?;
     identifier(&mut framed)?;
+    let token = init_choice(alloc, &mut framed)?;
+    match reader.end() {
+        Ok(()) => Ok(token),
+        Err(refusal) => {
+            drop(token);
+            Err(refusal)
+        }
+    }
+}
+
+/// Reads the token that stands in the frame, behind SPNEGO's identifier.
+fn init_choice(alloc: Global, framed: &mut Reader) -> Result<NegInit, DerRefusal>
+    ensures { MayAnswer (λ t. t) result (neg_init_choice.read framed.old) }
+{
     let mut choice = framed.tlv(0xa0)?;
     let mut fields = choice.tlv(0x30)?;
-    let list = list_field(alloc, &mut fields)?;
-    let flags = optional_flags(alloc, &mut fields)?;
-    let token = optional(alloc, &mut fields, 0xa2)?;
-    let mic = optional(alloc, &mut fields, 0xa3)?;
-    fields.end()?;
-    choice.end()?;
-    framed.end()?;
-    reader.end()?;
+    let token = init_fields(alloc, &mut fields)?;
+    match both_end(&choice, framed) {
+        Ok(()) => Ok(token),
+        Err(refusal) => {
+            drop(token);
+            Err(refusal)
+        }
+    }
+}
+
+/// Reads the token's fields.
+fn init_fields(alloc: Global, fields: &mut Reader) -> Result<NegInit, DerRefusal>
+    ensures { MayAnswer (λ t. (t.list, (t.flags, (t.token, (t.mic, tt))))) result
+        (neg_init_fields.read fields.old) }
+{
+    let list = list_field(alloc, fields)?;
+    let flags = optional_flags(alloc, fields)?;
+    let (token, mic) = token_and_mic(alloc, fields)?;
     Ok(NegInit {
         list,
         flags,
@@ -125,16 +150,22 @@ pub fn write_init(alloc: Global, v: &NegInit) -> Result<Octets, NoMemory>
     requires { is_count v.now.list ≡ true }
     ensures { IfOk result (λ o. WritesWhole neg_init v.now o) }
 {
-    let mut fields = Writer::new(alloc)?;
-    put_init_fields(alloc, &mut fields, v)?;
-    let mut choice = Writer::new(alloc)?;
-    choice.put_tlv(0x30, fields.as_slice())?;
     let mut framed = Writer::new(alloc)?;
     framed.put_tlv(0x06, &SPNEGO)?;
-    framed.put_tlv(0xa0, choice.as_slice())?;
+    put_init_choice(alloc, &mut framed, v)?;
     let mut out = Writer::new(alloc)?;
     out.put_tlv(0x60, framed.as_slice())?;
     out.finish()
+}
+
+/// Adds the token as it stands in the frame, behind SPNEGO's identifier.
+fn put_init_choice(alloc: Global, out: &mut Writer, v: &NegInit) -> Result<(), NoMemory>
+    requires { is_count v.now.list ≡ true }
+    ensures { OnOk result (PutsAll neg_init_choice v.now out.old out.new) }
+{
+    let mut fields = Writer::new(alloc)?;
+    put_init_fields(alloc, &mut fields, v)?;
+    put_choice(alloc, out, 0xa0, fields.as_slice())
 }
 
 /// Adds the token's fields.

@@ -5,6 +5,7 @@ ghost use Rattle.der_core.specs.Format.{all_of, MayAnswer, PutsAll, WritesWhole}
 ghost use Rattle.spnego_msgs.specs.NegResp.{neg_resp_fields, neg_resp};
 
 use crate::NegState;
+use crate::choice::{both_end, put_choice, token_and_mic};
 use der_core::{DerRefusal, Reader, Writer, optional, put_optional};
 use sec_base::{NoMemory, Octets, Oid};
 use std::alloc::Global;
@@ -43,13 +44,24 @@ fn neg_resp_of(alloc: Global, bytes: &[u8]) -> Result<NegResp, DerRefusal>
     let mut reader = Reader::new(bytes);
     let mut choice = reader.tlv(0xa1)?;
     let mut fields = choice.tlv(0x30)?;
-    let state = optional(alloc, &mut fields, 0xa0)?;
-    let mech = optional(alloc, &mut fields, 0xa1)?;
-    let token = optional(alloc, &mut fields, 0xa2)?;
-    let mic = optional(alloc, &mut fields, 0xa3)?;
-    fields.end()?;
-    choice.end()?;
-    reader.end()?;
+    let token = resp_fields(alloc, &mut fields)?;
+    match both_end(&choice, &reader) {
+        Ok(()) => Ok(token),
+        Err(refusal) => {
+            drop(token);
+            Err(refusal)
+        }
+    }
+}
+
+/// Reads the token's fields.
+fn resp_fields(alloc: Global, fields: &mut Reader) -> Result<NegResp, DerRefusal>
+    ensures { MayAnswer (λ t. (t.state, (t.mech, (t.token, (t.mic, tt))))) result
+        (neg_resp_fields.read fields.old) }
+{
+    let state = optional(alloc, fields, 0xa0)?;
+    let mech = optional(alloc, fields, 0xa1)?;
+    let (token, mic) = token_and_mic(alloc, fields)?;
     Ok(NegResp {
         state,
         mech,
@@ -65,10 +77,8 @@ pub fn write_resp(alloc: Global, v: &NegResp) -> Result<Octets, NoMemory>
 {
     let mut fields = Writer::new(alloc)?;
     put_resp_fields(alloc, &mut fields, v)?;
-    let mut choice = Writer::new(alloc)?;
-    choice.put_tlv(0x30, fields.as_slice())?;
     let mut out = Writer::new(alloc)?;
-    out.put_tlv(0xa1, choice.as_slice())?;
+    put_choice(alloc, &mut out, 0xa1, fields.as_slice())?;
     out.finish()
 }
 

@@ -1,6 +1,7 @@
 //! Standard streams that were closed before the program began.
 
-ghost use Rattle.std.specs.Prelude.{pos, ◌<ℤ◌, IfSome};
+ghost use Rattle.std.specs.Prelude.{pos, ◌<ℤ◌, IfSome, IsTrue};
+ghost use Rattle.std.specs.Fd.{file_raw_fd};
 ghost use Rattle.system_devices.specs.Devices.{number_above};
 
 use std::fs::File;
@@ -22,6 +23,13 @@ pub struct HeldStreams {
     above: File,
 }
 
+/// Whether a file's number is past those of the standard streams.
+fn is_above(file: &File) -> bool
+    ensures { IsTrue result → pos 2 <ℤ file_raw_fd file.now }
+{
+    file.as_raw_fd() > LAST
+}
+
 impl HeldStreams {
     /// Opens the empty file until it has a number past those of the standard streams: the system gives each file the lowest number that
     /// is free. None where it can't be opened.
@@ -31,7 +39,7 @@ impl HeldStreams {
         let mut below = [None, None, None];
         for at in 0..4 {
             let file = std::fs::open(rt, EMPTY).ok()?;
-            if file.as_raw_fd() > LAST {
+            if is_above(&file) {
                 return Some(HeldStreams { below, above: file });
             }
             if at < below.len() {
