@@ -100,6 +100,7 @@ fn speak<L: Link, C: Clock, D: Draw>(
         draws,
     };
     let Ok(setup) = InitSetup::armed(alloc, mechs, facts) else {
+        drop(args);
         return unbegun(alloc);
     };
     let start = Start {
@@ -107,7 +108,9 @@ fn speak<L: Link, C: Clock, D: Draw>(
         service,
         first,
     };
-    Session::hold(alloc, link, draw, start, procedure, args.as_slice(), times)
+    let talk = Session::hold(alloc, link, draw, start, procedure, args.as_slice(), times);
+    drop(args);
+    talk
 }
 
 /// Says how a run ended that spoke to nobody.

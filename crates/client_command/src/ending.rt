@@ -1,6 +1,6 @@
 //! How a run of the client ends, and the line that says so.
 
-ghost use Rattle.std.specs.Prelude.{◌≡◌, ◌≢◌, [], IsTrue};
+ghost use Rattle.std.specs.Prelude.{◌≡◌, ◌≢◌, [], IsTrue, IfOk, string_bytes};
 ghost use Rattle.sec_base.specs.Answers.{Rose};
 ghost use Rattle.cli_base.specs.Lines.{Says};
 ghost use Rattle.client_command.specs.Endings.{end_of, end_of_refusal, status_of, denial_line};
@@ -10,7 +10,7 @@ use cli_base::{FileStop, OUT_OF_MEMORY, say, say_made, say_stop};
 use gss_client::{ClientRefusal, Denial, Parting, ReplyWhy};
 use sec_base::Sink;
 use spnego_core::NegRefusal;
-use std::alloc::Global;
+use std::alloc::{AllocError, Global};
 use std::marker::Model;
 
 /// The line of status 2.
@@ -82,6 +82,18 @@ pub fn end_of(parting: Parting) -> RunEnd
     }
 }
 
+/// The line of what the server denied.
+fn denial_text(alloc: Global, denial: Denial) -> Result<String, AllocError>
+    ensures { IfOk result (λ made. string_bytes made ≡ denial_line denial) }
+{
+    match denial {
+        Denial::Rpc { low, high } => format!(in alloc; "refused: rpc {low} {high}\n"),
+        Denial::Auth { stat } => format!(in alloc; "refused: auth {stat}\n"),
+        Denial::Accept { stat } => format!(in alloc; "refused: accept {stat}\n"),
+        Denial::Gss { major, minor } => format!(in alloc; "refused: gss {major} {minor}\n"),
+    }
+}
+
 /// Says what the server denied.
 fn say_denied<O: Sink>(alloc: Global, err: &mut O, denial: Denial) -> u8
     ensures status { result ≢ 6 → result ≢ 8 → result ≡ 10 }
@@ -89,16 +101,7 @@ fn say_denied<O: Sink>(alloc: Global, err: &mut O, denial: Denial) -> u8
     ensures said { IsTrue (O.tells err.old)
         → Says (O.written err.old) (O.written err.new) result (denial_line denial) }
 {
-    match denial {
-        Denial::Rpc { low, high } => {
-            say_made(err, 10, format!(in alloc; "refused: rpc {low} {high}\n"))
-        }
-        Denial::Auth { stat } => say_made(err, 10, format!(in alloc; "refused: auth {stat}\n")),
-        Denial::Accept { stat } => say_made(err, 10, format!(in alloc; "refused: accept {stat}\n")),
-        Denial::Gss { major, minor } => {
-            say_made(err, 10, format!(in alloc; "refused: gss {major} {minor}\n"))
-        }
-    }
+    say_made(err, 10, denial_text(alloc, denial))
 }
 
 /// Says what the negotiating end refused.

@@ -268,13 +268,24 @@ fn texts_given(alloc: Global, line: &Line<'_>) -> Result<Texts, NoMemory>
     ensures password { IfOk result (λ t. t.password ≡ value_of (codes "--password") line.now) }
 {
     let ccache = text_given(alloc, line, "--ccache")?;
-    let user = text_given(alloc, line, "--user")?;
-    let password = text_given(alloc, line, "--password")?;
-    Ok(Texts {
-        ccache,
-        user,
-        password,
-    })
+    match text_given(alloc, line, "--user") {
+        Ok(user) => match text_given(alloc, line, "--password") {
+            Ok(password) => Ok(Texts {
+                ccache,
+                user,
+                password,
+            }),
+            Err(NoMemory) => {
+                drop(ccache);
+                drop(user);
+                Err(NoMemory)
+            }
+        },
+        Err(NoMemory) => {
+            drop(ccache);
+            Err(NoMemory)
+        }
+    }
 }
 
 /// Where the credentials come from.
@@ -284,19 +295,26 @@ fn sources_of(alloc: Global, line: &Line<'_>) -> Result<Sources, WordsRefusal>
     ensures list { IfOk result (λ s. is_list s.mechs ≡ true) }
 {
     let server = server_given(alloc, line)?;
-    let mechs = mechs_in(alloc, line)?;
-    let Texts {
-        ccache,
-        user,
-        password,
-    } = texts_given(alloc, line)?;
-    Ok(Sources {
-        ccache,
-        server,
-        user,
-        password,
-        mechs,
-    })
+    match mechs_in(alloc, line) {
+        Ok(mechs) => match texts_given(alloc, line) {
+            Ok(texts) => Ok(Sources {
+                ccache: texts.ccache,
+                server,
+                user: texts.user,
+                password: texts.password,
+                mechs,
+            }),
+            Err(NoMemory) => {
+                drop(server);
+                drop(mechs);
+                Err(WordsRefusal::NoMemory)
+            }
+        },
+        Err(refusal) => {
+            drop(server);
+            Err(refusal)
+        }
+    }
 }
 
 /// The service of this name.
@@ -363,8 +381,13 @@ fn read_line(alloc: Global, line: &Line<'_>) -> Result<ClientWords, WordsRefusal
     ensures list { IfOk result (λ w. is_list w.sources.mechs ≡ true) }
 {
     let sources = sources_of(alloc, line)?;
-    let plan = plan_of(alloc, line)?;
-    Ok(ClientWords { sources, plan })
+    match plan_of(alloc, line) {
+        Ok(plan) => Ok(ClientWords { sources, plan }),
+        Err(refusal) => {
+            drop(sources);
+            Err(refusal)
+        }
+    }
 }
 
 /// What words ask for that have the form of the command.

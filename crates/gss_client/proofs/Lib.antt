@@ -9,5 +9,6 @@ pub mod AnyCount
 pub mod InConversation
 pub mod Texts
 pub mod WholeTalk
+mod Counts
 pub mod PlainReplies
 pub mod PlainTurns

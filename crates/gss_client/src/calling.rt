@@ -90,16 +90,26 @@ pub fn creation_call(
     ensures size { IfOk result (λ o. length o ≤ 131072) }
 {
     let cred = credential(alloc, proc, 0, service.number(), handle)?;
-    let args = argument(alloc, token)?;
-    call(
-        alloc,
-        xid,
-        NULL,
-        cred.as_slice(),
-        AUTH_NONE,
-        &[],
-        args.as_slice(),
-    )
+    match argument(alloc, token) {
+        Ok(args) => {
+            let record = call(
+                alloc,
+                xid,
+                NULL,
+                cred.as_slice(),
+                AUTH_NONE,
+                &[],
+                args.as_slice(),
+            );
+            drop(cred);
+            drop(args);
+            record
+        }
+        Err(NoMemory) => {
+            drop(cred);
+            Err(NoMemory)
+        }
+    }
 }
 
 /// A call in a context, with its verifier.
@@ -118,29 +128,23 @@ fn signed_call(
 {
     let handle = session.handle.as_slice();
     let cred = credential(alloc, proc, session.number, service, handle)?;
-    let header = write_header(
-        alloc,
-        session.xid,
-        PROGRAM,
-        VERSION,
-        procedure,
-        cred.as_slice(),
-    )?;
-    let end = session.outcome.token_end(Side::Initiator);
-    let mic = end.make_mic_by(
-        &session.keys.lent(),
-        2 * session.number as u64,
-        header.as_slice(),
-    );
-    call(
-        alloc,
-        session.xid,
-        procedure,
-        cred.as_slice(),
-        RPCSEC_GSS,
-        &mic,
-        body,
-    )
+    let spelled = cred.as_slice();
+    let xid = session.xid;
+    match write_header(alloc, xid, PROGRAM, VERSION, procedure, spelled) {
+        Ok(header) => {
+            let end = session.outcome.token_end(Side::Initiator);
+            let number = 2 * session.number as u64;
+            let mic = end.make_mic_by(&session.keys.lent(), number, header.as_slice());
+            drop(header);
+            let record = call(alloc, xid, procedure, spelled, RPCSEC_GSS, &mic, body);
+            drop(cred);
+            record
+        }
+        Err(NoMemory) => {
+            drop(cred);
+            Err(NoMemory)
+        }
+    }
 }
 
 /// The call of a procedure.

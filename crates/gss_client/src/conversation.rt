@@ -90,6 +90,7 @@ impl Session {
                 return Conversation { results, parting };
             }
             if results.reserve(1).is_err() {
+                drop(session);
                 let parting = Parting::Refused(ClientRefusal::NoMemory);
                 return Conversation { results, parting };
             }
@@ -98,6 +99,8 @@ impl Session {
             match session.call(alloc, link, procedure.number(), args, &confounder) {
                 Ok((next, result)) => {
                     if !procedure.is_result(result.as_slice()) {
+                        drop(next);
+                        drop(result);
                         let parting = Parting::Foreign;
                         return Conversation { results, parting };
                     }

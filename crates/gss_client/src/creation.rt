@@ -75,12 +75,11 @@ fn granted_in(alloc: Global, xid: u32, bytes: &[u8]) -> Result<Granted<'_>, Clie
         Ok(result) => result,
         Err(refusal) => return Err(misplaced(&answer, refusal)),
     };
-    let InitRes { major, minor, .. } = &result;
-    if *major > CONTINUE_NEEDED {
-        return Err(ClientRefusal::Refused(Denial::Gss {
-            major: *major,
-            minor: *minor,
-        }));
+    let major = result.major;
+    let minor = result.minor;
+    if major > CONTINUE_NEEDED {
+        drop(result);
+        return Err(ClientRefusal::Refused(Denial::Gss { major, minor }));
     }
     Ok(Granted { answer, result })
 }
@@ -107,7 +106,7 @@ fn demand_done(
 }
 
 /// The end is spent by a refusal.
-pub(crate) fn spend(_end: InitEnd, refusal: ClientRefusal) -> Result<Created, ClientRefusal>
+pub(crate) fn spend<T>(_end: InitEnd, refusal: ClientRefusal) -> Result<T, ClientRefusal>
     ensures { result ≡ Err refusal }
 {
     Err(refusal)
@@ -127,6 +126,8 @@ fn going(major: u32, end: InitEnd, handle: Octets, token: Octets) -> Result<Crea
     if major == CONTINUE_NEEDED {
         Ok(Created::Going(Offer { end, handle, token }))
     } else {
+        drop(handle);
+        drop(token);
         spend(end, ClientRefusal::BadReply(ReplyWhy::Steps))
     }
 }
@@ -146,7 +147,10 @@ fn by_step(answer: &Answer<'_>, granted: InitRes, step: InitStep) -> Result<Crea
         InitStep::More(end, token) => going(granted.major, end, granted.context, token),
         InitStep::Done(outcome) => match demand_done(answer, &granted, &outcome) {
             Ok(()) => Ok(Created::Stands(outcome, granted.context)),
-            Err(refusal) => Err(refusal),
+            Err(refusal) => {
+                drop(granted);
+                Err(refusal)
+            }
         },
     }
 }
@@ -172,6 +176,9 @@ pub fn creation_step(
     };
     match end.step(alloc, result.token.as_slice()) {
         Ok(step) => by_step(&answer, result, step),
-        Err(refusal) => Err(not_negotiated(refusal)),
+        Err(refusal) => {
+            drop(result);
+            Err(not_negotiated(refusal))
+        }
     }
 }

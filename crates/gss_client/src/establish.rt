@@ -34,29 +34,22 @@ fn call_with<L: Link>(
     service: Service,
     xid: u32,
     proc: u32,
-    handle: Octets,
-    token: Octets,
+    handle: &[u8],
+    token: &[u8],
 ) -> Result<Octets, ClientRefusal>
     requires unclosed { L.closed link.old ≡ false }
-    requires handle { IsHandle handle }
-    requires token { length token ≤ 65536 }
+    requires handle { IsHandle handle.now }
+    requires token { length token.now ≤ 65536 }
     ensures told { IsTrue (L.tells link.old)
-        → Talks (exchanges (creation_call service xid proc handle token)) (L.wire link.old)
-        (L.wire link.new) result }
+        → Talks (exchanges (creation_call service xid proc handle.now token.now))
+        (L.wire link.old) (L.wire link.new) result }
     ensures fault { IsErrOf result ClientRefusal.LinkFault
         → Rose (L.faults link.old) (L.faults link.new) }
     ensures tells { L.tells link.new ≡ L.tells link.old }
     ensures unclosed { L.closed link.new ≡ false }
     ensures faults { L.faults link.old ≤ L.faults link.new }
 {
-    match creation_call(
-        alloc,
-        service,
-        xid,
-        proc,
-        handle.as_slice(),
-        token.as_slice(),
-    ) {
+    match creation_call(alloc, service, xid, proc, handle, token) {
         Ok(call) => exchange(alloc, link, call.as_slice()),
         Err(NoMemory) => Err(ClientRefusal::NoMemory),
     }
@@ -86,9 +79,27 @@ fn turn<L: Link>(
     ensures faults { L.faults link.old ≤ L.faults link.new }
 {
     let Offer { end, handle, token } = offer;
-    match call_with(alloc, link, service, xid, proc, handle, token) {
-        Ok(reply) => creation_step(alloc, end, xid, reply.as_slice()),
-        Err(refusal) => spend(end, refusal),
+    match call_with(
+        alloc,
+        link,
+        service,
+        xid,
+        proc,
+        handle.as_slice(),
+        token.as_slice(),
+    ) {
+        Ok(reply) => {
+            drop(handle);
+            drop(token);
+            let made = creation_step(alloc, end, xid, reply.as_slice());
+            drop(reply);
+            made
+        }
+        Err(refusal) => {
+            drop(handle);
+            drop(token);
+            spend(end, refusal)
+        }
     }
 }
 
@@ -117,7 +128,7 @@ fn establish<L: Link>(
     ensures faults { L.faults link.old ≤ L.faults link.new }
 {
     if left == 0 {
-        return Err(ClientRefusal::BadReply(ReplyWhy::Steps));
+        return spend(offer.end, ClientRefusal::BadReply(ReplyWhy::Steps));
     }
     match turn(alloc, link, service, xid, proc, offer) {
         Ok(Created::Going(next)) => establish(

@@ -18,7 +18,7 @@ use std::str::from_utf8;
 /// | 2 | the initiator's name | none | a text of at most 1,024 octets |
 /// | 3 | a post | octets, at most 65,536 | how many posts there were, in a word |
 /// | 4 | the count of posts | none | how many there were, in a word |
-#[derive(Clone, Copy, PartialEq, Eq)]
+#[derive(Clone, Copy)]
 pub enum Procedure {
     Null,
     Echo,

@@ -189,7 +189,10 @@ impl Session {
     {
         match self.ask(alloc, link, procedure, args, confounder) {
             Ok(reply) => self.take_result(alloc, reply.as_slice()),
-            Err(refusal) => Err(refusal),
+            Err(refusal) => {
+                drop(self);
+                Err(refusal)
+            }
         }
     }
 
@@ -211,7 +214,10 @@ impl Session {
             reply,
         ) {
             Ok(octets) => Ok((self.next(), octets)),
-            Err(refusal) => Err(refusal),
+            Err(refusal) => {
+                drop(self);
+                Err(refusal)
+            }
         }
     }
 
@@ -226,7 +232,9 @@ impl Session {
         ensures unclosed { L.closed link.new ≡ false }
         ensures faults { L.faults link.old ≤ L.faults link.new }
     {
-        self.leave(alloc, link)
+        let left = self.leave(alloc, link);
+        drop(self);
+        left
     }
 
     /// Destroys the context.

@@ -1,3 +1,4 @@
+mod Promising
 pub mod Invariants
 pub mod Freshness
 pub mod HeldLists

@@ -8,8 +8,8 @@ use Rattle.client_command.proofs.client.speak.Goals as goal
 pub returns-clause-told : goal.returns-clause-told
 returns-clause-told g c = λ t.
     let begun : SetupMeans → StartMeans = λ setup. record { setup = setup; service = c.args.plan.service; first = c.args.plan.first } in
-    held c.args.plan c.args.creds c.now-stamp.result c.fill.new.out c.now-stamp.ensures.told (omega (arith, c.fill.auto.out)) (λ d. c.fill.ensures.told (c.hold.ensures.drawing d))
-    (rw c.as_slice.ensures at c.hold.ensures.plain (start_of c.args.plan c.args.creds c.now-stamp.result c.fill.new.out) (ap begun c.in-Ok.ensures.objects) t)
+    held c.args.plan c.args.creds c.now-stamp.result c.fill.new.out c.now-stamp.ensures.told (omega (arith, c.fill.auto.out)) (λ d. c.fill.ensures.told (c.hold-talk.ensures.drawing d))
+    (rw c.as_slice.ensures at c.hold-talk.ensures.plain (start_of c.args.plan c.args.creds c.now-stamp.result c.fill.new.out) (ap begun c.in-Ok.ensures.objects) t)
 
 pub returns-in_default-clause-told : goal.returns-in_default-clause-told
 returns-in_default-clause-told g c = λ t.

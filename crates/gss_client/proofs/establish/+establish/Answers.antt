@@ -18,4 +18,4 @@ pub returns-in-Err-clause-told : goal.returns-in-Err-clause-told
 returns-in-Err-clause-told g t c = λ told. unestablished end_step c.args.left c.args.service c.args.first c.args.xid c.args.proc _ _ _ c.in-Err.refusal (omega (arith, c.if-left-eq0.false)) (c.in-Err.ensures.told told)
 
 pub returns-then-left-eq0-clause-told : goal.returns-then-left-eq0-clause-told
-returns-then-left-eq0-clause-told g t c = λ told. no-turn end_step c.args.left c.args.service c.args.first c.args.xid c.args.proc _ _ (omega (arith, c.if-left-eq0.true))
+returns-then-left-eq0-clause-told g t c = λ told. rw c.spend.ensures (no-turn end_step c.args.left c.args.service c.args.first c.args.xid c.args.proc _ _ (omega (arith, c.if-left-eq0.true)))

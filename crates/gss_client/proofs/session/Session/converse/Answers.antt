@@ -1,7 +1,8 @@
-use Rattle.std.proofs.Common.{◌∙◌, IsTrue, suc, ◌+◌, ◌-◌, arith, refl, ap, sym}
+use Rattle.std.proofs.Common.{◌∙◌, IsTrue, suc, ◌+◌, ◌-◌, arith, refl, ap, sym, Err}
 use Rattle.gss_client.specs.Procedure.{is_result}
 use Rattle.gss_client.specs.Session.{SessionState}
 use Rattle.gss_client.proofs.InConversation.{not-begun, held-as, no-number, no-room, foreign-call, refused-call, one-call, all-called, is-end, is-no-end, by-number, by-number-refused}
+use Rattle.gss_client.proofs.Counts.{no-less, rose-behind, not-spent, not-finished, not-foreign, not-memory, refused-as}
 use Rattle.gss_client.proofs.session.Session.converse.Goals as goal
 
 pub loop-number-init : goal.loop-number-init
@@ -67,3 +68,50 @@ loop-number-preserved g c = record {
   faults = omega (arith, c.in-Ok.ensures.faults, c.loop-number.invariant.faults);
   drawing = λ t. c.loop-number.invariant.drawing (c.fill.ensures.kept t);
 }
+
+-- ---- what is kept of the link and the draw, and its faults
+
+pub returns-then-session-clause-fault : goal.returns-then-session-clause-fault
+returns-then-session-clause-fault g c = λ e. rose-behind c.loop-number.invariant.faults c.part-parting.ensures.faults (c.part-parting.ensures.fault e not-spent)
+
+pub returns-then-session-clause-tells : goal.returns-then-session-clause-tells
+returns-then-session-clause-tells g c = c.part-parting.ensures.tells ∙ c.loop-number.invariant.tells
+
+pub returns-then-session-clause-faults : goal.returns-then-session-clause-faults
+returns-then-session-clause-faults g c = no-less c.loop-number.invariant.faults c.part-parting.ensures.faults
+
+pub returns-then-is_err-clause-fault : goal.returns-then-is_err-clause-fault
+returns-then-is_err-clause-fault g c = λ e. absurd (not-memory e)
+
+pub returns-then-not-is_result-clause-fault : goal.returns-then-not-is_result-clause-fault
+returns-then-not-is_result-clause-fault g c = λ e. absurd (not-foreign e)
+
+pub returns-then-not-is_result-clause-tells : goal.returns-then-not-is_result-clause-tells
+returns-then-not-is_result-clause-tells g c = c.in-Ok.ensures.tells ∙ c.loop-number.invariant.tells
+
+pub returns-then-not-is_result-clause-faults : goal.returns-then-not-is_result-clause-faults
+returns-then-not-is_result-clause-faults g c = no-less c.loop-number.invariant.faults c.in-Ok.ensures.faults
+
+pub returns-then-not-is_result-clause-drawing : goal.returns-then-not-is_result-clause-drawing
+returns-then-not-is_result-clause-drawing g c = λ t. c.loop-number.invariant.drawing (c.fill.ensures.kept t)
+
+pub returns-in-Err-clause-fault : goal.returns-in-Err-clause-fault
+returns-in-Err-clause-fault g c = λ e. rose-behind c.loop-number.invariant.faults c.in-Err.ensures.faults (c.in-Err.ensures.fault (ap Err (refused-as e)))
+
+pub returns-in-Err-clause-tells : goal.returns-in-Err-clause-tells
+returns-in-Err-clause-tells g c = c.in-Err.ensures.tells ∙ c.loop-number.invariant.tells
+
+pub returns-in-Err-clause-faults : goal.returns-in-Err-clause-faults
+returns-in-Err-clause-faults g c = no-less c.loop-number.invariant.faults c.in-Err.ensures.faults
+
+pub returns-in-Err-clause-drawing : goal.returns-in-Err-clause-drawing
+returns-in-Err-clause-drawing g c = λ t. c.loop-number.invariant.drawing (c.fill.ensures.kept t)
+
+pub returns-clause-fault : goal.returns-clause-fault
+returns-clause-fault g c = λ e. rose-behind c.loop-number.invariant.faults c.part-parting-2.ensures.faults (c.part-parting-2.ensures.fault e not-finished)
+
+pub returns-clause-tells : goal.returns-clause-tells
+returns-clause-tells g c = c.part-parting-2.ensures.tells ∙ c.loop-number.invariant.tells
+
+pub returns-clause-faults : goal.returns-clause-faults
+returns-clause-faults g c = no-less c.loop-number.invariant.faults c.part-parting-2.ensures.faults

@@ -3,6 +3,7 @@ use Rattle.spnego_core.specs.Ends.{setup_of}
 use Rattle.world_laws.specs.Turning.{happened_of}
 use Rattle.world_laws.specs.Worlds.{parts_means, world_means, shown, shown_by}
 use Rattle.world_laws.proofs.AllAsCredentials.{world-with, stepped, may-all}
+use Rattle.world_laws.proofs.Promising.{promised}
 use Rattle.world_laws.proofs.Stepping.{ran-book, more-items, told-ok, told-err}
 use Rattle.world_laws.proofs.world.World.step.Goals as goal
 
@@ -35,3 +36,12 @@ returns-clause-memory g c = told-err c.args.event c.happen-happened.result (show
     (parts_means c.args.self.now.parts (λ b. (goal.Mech-dyn g b).meaning b.1)) (parts_means c.happen-happened.new.parts (λ b. (goal.Mech-dyn g b).meaning b.1)) c.args.self.now.events.items c.push_reserved.new.self.items
     c.requires.proper c.tell_book.ensures c.requires.world c.happen-happened.ensures
     (more-items c.push_reserved.new.self.items c.reserve.new.self.items c.args.self.now.events.items c.in-Ok.kept c.args.event c.push_reserved.ensures.items c.reserve.ensures.items c.in-Ok.ensures)).steps
+
+pub returns-then-is_err-clause-promised : goal.returns-then-is_err-clause-promised
+returns-then-is_err-clause-promised g c = promised c.prove_agreement.ensures.agreement c.prove_origin.ensures _
+
+pub returns-in-Err-clause-promised : goal.returns-in-Err-clause-promised
+returns-in-Err-clause-promised g c = promised c.prove_agreement.ensures.agreement c.prove_origin.ensures _
+
+pub returns-clause-promised : goal.returns-clause-promised
+returns-clause-promised g c = promised c.prove_agreement.ensures.agreement c.prove_origin.ensures _
