@@ -17,7 +17,7 @@ pub struct Lease {
 }
 
 /// Why a token isn't taken, in the order in which it is judged.
-#[derive(Clone, Copy, Debug, PartialEq, Eq)]
+#[derive(Clone, Copy, Debug)]
 pub enum BookRefusal {
     /// The id isn't opened or is ended.
     NoContext,

@@ -4,7 +4,7 @@ ghost use Rattle.std.specs.Prelude.{◌≡◌};
 ghost use Rattle.accept_book.specs.Rules.{rule_number};
 
 /// A rule by which a record is answered. Of a record's kind the first that applies decides.
-#[derive(Clone, Copy, Debug, PartialEq, Eq)]
+#[derive(Clone, Copy)]
 pub enum Rule {
     /// The call doesn't read (RFC 5531 section 9).
     Unreadable,
