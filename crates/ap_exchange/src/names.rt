@@ -69,7 +69,8 @@ pub fn same_principal(
     ensures { result
         ≡ same_name (name_in_realm realm.now name.now) (name_in_realm other_realm.now other.now) }
 {
-    *realm == *other_realm && name.name_string == other.name_string
+    let same_realm = *realm == *other_realm;
+    same_realm && name.name_string == other.name_string
 }
 
 /// The text of a name in its realm.

@@ -64,7 +64,8 @@ pub fn mech_for(list: Vec<Box<dyn Mech>>, oid: &Oid) -> Option<Box<dyn Mech>>
 {
     for object in list {
         let own = oid_at(&object);
-        if is_named(oid, &own) {
+        let named = is_named(oid, &own);
+        if named {
             return Some(object);
         }
     }

@@ -100,7 +100,8 @@ pub fn looks(
 {
     match mic {
         None => {
-            if is_mic_owed(&talk) {
+            let owed = is_mic_owed(&talk);
+            if owed {
                 drop(talk);
                 return Err(NegRefusal::MicMissing);
             }
@@ -136,8 +137,11 @@ pub fn looks_again(
             return Err(NegRefusal::MicBad);
         }
     }
-    if completes_later(state) {
-        Ok(InitStep::Done(signed.outcome))
+    let completes = completes_later(state);
+    let outcome = signed.outcome;
+    drop(signed);
+    if completes {
+        Ok(InitStep::Done(outcome))
     } else {
         Err(NegRefusal::Defective { at: 0 })
     }

@@ -56,7 +56,7 @@ pub enum MechMove {
 }
 
 /// How far an object is.
-#[derive(Clone, Copy, Debug, PartialEq, Eq)]
+#[derive(Clone, Copy)]
 pub enum Stage {
     /// It has no credential.
     Blank,

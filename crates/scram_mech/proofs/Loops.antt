@@ -3,7 +3,7 @@ use Rattle.std.proofs.Common.{◌≡◌, ℕ, ◌+◌, ◌<◌, Bool, true, fals
 use Rattle.std.proofs.Math.Seq.{drop-cons}
 use Rattle.scram_mech.specs.declared.name.Escape.{Escape}
 use Rattle.scram_mech.specs.declared.name.Escape.TheVariants.{Outside, Begun, Comma, Equals}
-use Rattle.scram_mech.specs.Name.{unescaped, given, behind}
+use Rattle.scram_mech.specs.Name.{unescaped, given, behind, escaped, escape_of}
 use Rattle.scram_mech.specs.Reading.{word_at, stuck_at}
 
 -- a word that isn't read whole is stuck at the end
@@ -28,3 +28,9 @@ pub read_more : (escape after : Escape) (name more extra os all : List ℕ) (i o
     → more ++ unescaped after (drop (i + 1) os) ≡ all
 read_more escape after name more extra os all i octet lt is gives leads push before =
     rw (push, gives, leads, is, add-one, append_assoc) (rw (drop-cons os i 0, unescaped_octet) at before)
+
+-- an octet more of a name gives what stands for it in a text
+pub write_more : (text more os all : List ℕ) (i octet : ℕ) → i < length os → octet ≡ get_or os i 0 → more ≡ text ++ escape_of octet → text ++ escaped (drop i os) ≡ all
+    → more ++ escaped (drop (i + 1) os) ≡ all
+unfolding escaped
+write_more text more os all i octet lt is push before = rw (push, is, add-one, append_assoc) (rw (drop-cons os i 0) at before)

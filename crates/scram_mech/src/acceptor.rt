@@ -1,16 +1,21 @@
 //! The acceptor's end.
 
 ghost use Rattle.std.specs.Prelude.{◌≡◌, ◌≤◌, ◌++◌, length, IfOk, option_map};
-ghost use Rattle.scram_mech.specs.Base64.{encoded};
+ghost use Rattle.scram_mech.specs.Base64.{InRange, decoded, encoded};
+ghost use Rattle.scram_mech.specs.Judging.{demand, same};
 ghost use Rattle.scram_mech.specs.Acceptor.{accept_with};
 ghost use Rattle.sec_base.specs.Answers.{Gives};
 ghost use Rattle.scram_mech.specs.declared.refusal.ScramRefusal.TheVariants as refusals;
 ghost use Rattle.scram_mech.specs.Reading.{seen};
 ghost use Rattle.scram_mech.specs.SecondText.{second_text};
-ghost use Rattle.scram_mech.specs.Acceptor.{accepting, nonce_of, second_by, auth_with};
+ghost use Rattle.scram_mech.specs.Acceptor.{accepting, nonce_of, second_by, auth_with, is_proof};
+ghost use Rattle.scram_mech.specs.Secrets.{masked, signature_of};
+ghost use Rattle.scram_mech.specs.FinalText.{final_text};
+ghost use Rattle.scram_bindings.specs.Carried.{carried, is_bound};
+ghost use Rattle.gss_base.specs.Bindings.{hash_of};
 ghost use Rattle.scram_mech.specs.Acceptor.{accept_started, accept_finished};
 
-use crate::encoding::encode;
+use crate::encoding::{Encoded, encode};
 use crate::final_text::write_final;
 use crate::first_text::read_first;
 use crate::judging::{nobody, unframed};
@@ -172,7 +177,7 @@ impl ScramAccept {
 
     /// What `finish` answers.
     /// It stands apart, so that its definition is unfolded here alone, and the other clauses are proved from what is said here.
-    #[tactic(auto, unfolding(crate::specs::Acceptor::accept_finished, crate::specs::Secrets::signature_of, crate::specs::Secrets::context_key))]
+    #[tactic(auto, unfolding(crate::specs::Acceptor::accept_finished, crate::specs::Secrets::context_key))]
     fn finished(
         &self,
         alloc: Global,
@@ -185,34 +190,84 @@ impl ScramAccept {
             (accept_finished self.now text.now (option_map (λ b. b.now) bindings.entry) now)) }
     {
         let third = read_third(text)?;
-        let nonce = self.nonce(alloc)?;
-        if !same(third.nonce, nonce.as_slice()) {
-            return Err(ScramRefusal::Nonce);
-        }
-        let binding = third.binding.decode(alloc)?;
-        if !is_bound(bindings, binding.as_slice()) {
-            return Err(ScramRefusal::Bindings);
-        }
+        self.judge_nonce(alloc, third.nonce)?;
+        let hash = hash_judged(alloc, bindings, &third.binding)?;
         let auth = self.auth(alloc, third.bare)?;
-        let proof = third.proof.decode(alloc)?;
-        let client = masked(
-            &self.line.stored,
-            auth.as_slice(),
-            &twenty(proof.as_slice()),
-        );
-        if !same(&Sha1::digest(&client), &self.line.stored) {
-            return Err(ScramRefusal::Proof);
-        }
-        let signature = code_of(&self.line.server, auth.as_slice());
-        let token = write_final(alloc, &signature)?;
+        let client = self.client_judged(alloc, auth.as_slice(), &third.proof)?;
+        let token = self.final_token(alloc, auth.as_slice())?;
         let done = MechDone {
             key: key_of_client(&self.line.stored, &client, auth.as_slice()),
             subkey: false,
             initiator: self.line.name,
             acceptor: nobody(),
-            hash: binding_hash(bindings_of(binding).as_ref()),
+            hash,
             ends: now.later(LIFE),
         };
         Ok((done, token))
+    }
+
+    /// Judges the nonce of a third text.
+    fn judge_nonce(&self, alloc: Global, nonce: &[u8]) -> Result<(), ScramRefusal>
+        ensures { Gives refusals.NoMemory (λ u. u) result
+            (demand (same nonce.now (nonce_of self.now)) refusals.Nonce) }
+    {
+        let own = self.nonce(alloc)?;
+        if same(nonce, own.as_slice()) {
+            Ok(())
+        } else {
+            Err(ScramRefusal::Nonce)
+        }
+    }
+
+    /// The client key that a proof gives with an AuthMessage, whose digest is the stored key.
+    fn client_judged(
+        &self,
+        alloc: Global,
+        auth: &[u8],
+        proof: &Encoded<'_>,
+    ) -> Result<[u8; 20], ScramRefusal>
+        requires { InRange 20 20 (decoded proof.now.signs.now) }
+        ensures judged { Gives refusals.NoMemory (λ _. tt) result (demand
+            (is_proof self.now.line.stored auth.now (decoded proof.now.signs.now)) refusals.Proof) }
+        ensures key { IfOk result
+            (λ k. k ≡ masked self.now.line.stored auth.now (decoded proof.now.signs.now)) }
+    {
+        let proof = proof.decode(alloc)?;
+        let client = masked(&self.line.stored, auth, &twenty(proof.as_slice()));
+        if same(&Sha1::digest(&client), &self.line.stored) {
+            Ok(client)
+        } else {
+            Err(ScramRefusal::Proof)
+        }
+    }
+
+    /// The final text by an AuthMessage.
+    #[tactic(auto, unfolding(crate::specs::Secrets::signature_of))]
+    fn final_token(&self, alloc: Global, auth: &[u8]) -> Result<Octets, NoMemory>
+        ensures { IfOk result (λ o. o ≡ final_text (signature_of self.now.line.server auth.now)) }
+    {
+        let signature = code_of(&self.line.server, auth);
+        write_final(alloc, &signature)
+    }
+}
+
+/// The hash of the binding data of a third text, which an acceptor with bindings takes only where they are its own.
+fn hash_judged(
+    alloc: Global,
+    bindings: Option<&Bindings>,
+    data: &Encoded<'_>,
+) -> Result<[u8; 16], ScramRefusal>
+    requires { InRange 0 32768 (decoded data.now.signs.now) }
+    ensures judged { Gives refusals.NoMemory (λ _. tt) result (demand
+        (is_bound (option_map (λ b. b.now) bindings.entry) (decoded data.now.signs.now))
+        refusals.Bindings) }
+    ensures hash { IfOk result (λ h. h ≡ hash_of (carried (decoded data.now.signs.now))) }
+{
+    let data = data.decode(alloc)?;
+    if is_bound(bindings, data.as_slice()) {
+        Ok(binding_hash(bindings_of(data).as_ref()))
+    } else {
+        drop(data);
+        Err(ScramRefusal::Bindings)
     }
 }

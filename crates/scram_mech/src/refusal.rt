@@ -79,7 +79,7 @@ impl<T: Drop> From<AllocFailed<T>> for ScramRefusal {
 }
 
 /// Why a verifier file is refused. A bad line counts before a name that stands twice, wherever they stand.
-#[derive(Clone, Copy, Debug, PartialEq, Eq)]
+#[derive(Clone, Copy)]
 pub enum VerifierRefusal {
     /// The first line that isn't in the grammar; lines are counted from 1.
     Line { number: usize },
@@ -114,7 +114,7 @@ impl<T: Drop> From<AllocFailed<T>> for VerifierRefusal {
 }
 
 /// A reading ended where no text of the grammar goes on: so many octets were left there.
-#[derive(Clone, Copy, Debug, PartialEq, Eq)]
+#[derive(Clone, Copy)]
 pub struct Stuck {
     pub left: usize,
 }
