@@ -34,3 +34,10 @@ returns-in-Err-clause-unclosed g c = c.in-Err.ensures.unclosed
 
 pub returns-in-Err-clause-faults : goal.returns-in-Err-clause-faults
 returns-in-Err-clause-faults g c = c.in-Err.ensures.faults
+
+-- what stays of the octets
+pub returns-in-Ok-clause-size : goal.returns-in-Ok-clause-size
+returns-in-Ok-clause-size g c = (
+  grind (arith, common_steps, c.in-Ok.ensures.count, c.fill.auto.buf),
+  grind (arith, common_steps, c.in-Ok.ensures.count, c.fill.auto.buf),
+)
