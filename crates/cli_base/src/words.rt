@@ -55,7 +55,10 @@ fn has_value(words: &[Text]) -> bool
 fn is_option(word: &str, behind: &[Text], names: &[&str]) -> bool
     ensures { result ≡ is_option (texts names.now) word.now behind.now }
 {
-    is_name(word, names) && has_value(behind) && !is_one_of(word, behind)
+    if !is_name(word, names) || !has_value(behind) {
+        return false;
+    }
+    !is_one_of(word, behind)
 }
 
 /// Whether a word may stand before these: it doesn't begin with `-`, or is an option.

@@ -6,12 +6,12 @@ use Rattle.std.proofs.lemmas.List.{length-append, append-nil}
 use Rattle.sec_base.specs.Link.{Wire}
 use Rattle.rpc_msgs.specs.Words.{word}
 use Rattle.rpc_msgs.specs.Records.{more_fragment, last_fragment, frames, joined, IsFront, IsWhole, IsPartial, TakesRecord}
-use Rattle.rpc_msgs.specs.Fragments.{Adds, Begins, Heads, TakesContent, TakesAnnounced, TakesFragment}
+use Rattle.rpc_msgs.specs.Fragments.{Adds, Allows, Begins, Heads, TakesContent, TakesAnnounced, TakesFragment}
 use Rattle.rpc_msgs.specs.declared.record.Fragment.{Fragment}
 use Rattle.rpc_msgs.specs.declared.record.Fragment.TheVariants.{More, Last, End}
 use Rattle.rpc_msgs.specs.declared.record.RecordRefusal.{RecordRefusal}
 use Rattle.rpc_msgs.specs.declared.record.RecordRefusal.TheVariants.{LinkFault, TooLong, TooManyFragments, Torn, NoMemory}
-use Rattle.sec_base.proofs.InARow.{took-again, took-same}
+use Rattle.sec_base.proofs.InARow.{took-none, took-again, took-same}
 use Rattle.rpc_msgs.proofs.WordLengths.{length-word}
 
 pub frames-push : (earlier : List (List ℕ)) (part : List ℕ) → frames earlier ++ more_fragment part ≡ frames (earlier ++ part ∷ [])
@@ -138,6 +138,14 @@ announced-refused a b xs ys n header TooLong few fits t = absurd t
 announced-refused a b xs ys n header TooManyFragments few fits t = absurd t
 announced-refused a b xs ys n header Torn few fits t = absurd t
 announced-refused a b xs ys n header NoMemory few fits t = (t.0, few, fits, t.1, t.2)
+
+-- what a header announces may not come
+pub announced-denied : (a : Wire) (xs : List ℕ) (n held header : ℕ) (refusal : RecordRefusal) → held ≡ length xs → Allows n held (header % 2 ^ 31) (Err refusal) → TakesAnnounced a a xs xs n header (Err refusal)
+announced-denied a xs n held header LinkFault e t = elim t [ ]
+announced-denied a xs n held header TooLong e t = (omega (arith, t, e), took-none a)
+announced-denied a xs n held header TooManyFragments e t = (t.0, omega (arith, t.1, e), took-none a)
+announced-denied a xs n held header Torn e t = elim t [ ]
+announced-denied a xs n held header NoMemory e t = elim t [ ]
 
 -- a header was read, and then what it announces, or why that was not
 pub after-header : {a b : Wire} (c : Wire) (n header : ℕ) (xs ys : List ℕ) (r : Result Fragment RecordRefusal) → Heads a b header → TakesAnnounced b c xs ys n header r → TakesFragment a c xs ys n r

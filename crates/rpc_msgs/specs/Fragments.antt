@@ -64,6 +64,15 @@ TakesHeader old new number (Err Torn) = (length old.coming < 4) × (0 < number +
     × Took old new old.coming
 TakesHeader old new number (Err NoMemory) = ⊥
 
+-- a fragment of so many octets may come behind so many fragments and octets, or why it may not
+abbrev pub Allows : ℕ → ℕ → ℕ → Result (Unit {0}) RecordRefusal → Type 0
+Allows number held size (Ok _) = (number < 64) × (held + size ≤ 131072)
+Allows number held size (Err LinkFault) = ⊥
+Allows number held size (Err TooLong) = 131072 < held + size
+Allows number held size (Err TooManyFragments) = (number ≡ 64) × (held + size ≤ 131072)
+Allows number held size (Err Torn) = ⊥
+Allows number held size (Err NoMemory) = ⊥
+
 -- the octets that a header announces were read, or why they were not; so many fragments and octets
 -- came before
 abbrev pub TakesAnnounced : Wire → Wire → List ℕ → List ℕ → ℕ → ℕ → Result Fragment RecordRefusal

@@ -4,7 +4,7 @@ ghost use Rattle.std.specs.Prelude.{◌≡◌, ◌+◌, ◌-◌, ◌^◌, ◌<�
 ghost use Rattle.std.specs.Prelude.{vec_len, IsTrue, Ok, OnOk, IfOk, OnErr, IsErrOf};
 ghost use Rattle.sec_base.specs.Answers.{Rose};
 ghost use Rattle.rpc_msgs.specs.Fragments.{TakesFragment, TakesHeader, TakesAnnounced};
-ghost use Rattle.rpc_msgs.specs.Fragments.{TakesContent, TakesPiece};
+ghost use Rattle.rpc_msgs.specs.Fragments.{TakesContent, TakesPiece, Allows};
 ghost use Rattle.rpc_msgs.specs.Reading.{Finds, first_record};
 ghost use Rattle.rpc_msgs.specs.Records.{TakesRecord, last_fragment};
 ghost use Rattle.sec_base.specs.Streams.{Sends};
@@ -173,11 +173,9 @@ fn read_announced<L: Link>(
     ensures faults { L.faults link.old ≤ L.faults link.new }
 {
     let size = (header % LAST) as usize;
-    if LIMIT < octets.len() + size {
-        return Err(RecordRefusal::TooLong);
-    }
-    if number == FRAGMENTS {
-        return Err(RecordRefusal::TooManyFragments);
+    match allow(number, octets.len(), size) {
+        Ok(()) => {}
+        Err(refusal) => return Err(refusal),
     }
     match read_content(link, octets, size) {
         Ok(true) if header >= LAST => Ok(Fragment::Last),
@@ -185,6 +183,22 @@ fn read_announced<L: Link>(
         Ok(false) => Err(RecordRefusal::Torn),
         Err(refusal) => Err(refusal),
     }
+}
+
+/// Refuses a fragment that a record may not have behind so many fragments and octets.
+fn allow(number: u32, held: usize, size: usize) -> Result<(), RecordRefusal>
+    requires held { held ≤ 131072 }
+    requires most { number ≤ 64 }
+    requires size { size < 2 ^ 31 }
+    ensures { Allows number held size result }
+{
+    if LIMIT < held + size {
+        return Err(RecordRefusal::TooLong);
+    }
+    if number == FRAGMENTS {
+        return Err(RecordRefusal::TooManyFragments);
+    }
+    Ok(())
 }
 
 /// Reads so many octets behind those that are there; false where the input ended before.

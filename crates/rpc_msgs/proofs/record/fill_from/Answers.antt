@@ -34,3 +34,13 @@ returns-in-Err-clause-unclosed g c = c.in-Err.ensures.unclosed
 
 pub returns-in-Err-clause-faults : goal.returns-in-Err-clause-faults
 returns-in-Err-clause-faults g c = c.in-Err.ensures.faults
+
+-- what stays of the octets
+pub returns-in-Ok-clause-size : goal.returns-in-Ok-clause-size
+returns-in-Ok-clause-size g c =
+    let octets = c.args.octets.now in
+    let buffer = c.fill.new.buf in
+    let size : length buffer ≡ vec_len octets - c.args.at = grind (arith, common_steps) in
+    let fits : c.in-Ok.count ≤ length buffer = grind (arith, common_steps, c.in-Ok.ensures.count, c.fill.auto.buf) in
+    let within : c.args.at + c.in-Ok.count ≤ vec_len octets = omega (arith, size, fits, c.requires.within) in
+    (within, omega (arith, within, c.truncate.ensures.len))
