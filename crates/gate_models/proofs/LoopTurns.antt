@@ -184,6 +184,12 @@ further asking width moment kept kept' said said' cut cut' stream octets size An
 further asking width moment kept kept' said said' cut cut' stream octets size Rests w a e = absurd a
 further asking width moment kept kept' said said' cut cut' stream octets size Starved w a e = absurd cc
 
+-- what is said only grows
+pub said-more : (asking : List Asked → Type 0) (width moment : ℕ) (octets : List ℕ) (size : ℕ) (kept kept' : List Kept) (said said' : List ℕ) (cut cut' : ℕ) (result : Turned) → IsAnsweredBy asking width moment octets size kept kept' said said' cut cut' result → (more : List ℕ) × (said' ≡ said ++ more)
+said-more asking width moment octets size kept kept' said said' cut cut' Answered a = (written_for width octets a.one, a.replied)
+said-more asking width moment octets size kept kept' said said' cut cut' Rests a = absurd a
+said-more asking width moment octets size kept kept' said said' cut cut' Starved a = ([], a.0 ∙ sym (append-nil said))
+
 -- a slice up to the end
 pub sliced : (n : ℕ) (xs ys : List ℕ) → ys ≡ xs → take (length ys - n) (drop n ys) ≡ drop n xs
 sliced n xs ys e = rw e (take_all (length xs - n) (drop n xs) (omega (arith, length-drop n xs)))

@@ -1,6 +1,6 @@
 //! The words of the server.
 
-ghost use Rattle.std.specs.Prelude.{◌≡◌, ◌∷◌, [], Ok, Err, IfOk, MatchResult, codes};
+ghost use Rattle.std.specs.Prelude.{◌≡◌, Ok, Err, IfOk, MatchResult, codes};
 ghost use Rattle.sec_base.specs.Answers.{Gives};
 ghost use Rattle.cli_base.specs.Words.{value_of};
 ghost use Rattle.server_options.specs.Options.{is_command, formed, name_by, files_given};
@@ -13,7 +13,7 @@ pub use cli_base::{WordsRefusal, address_of};
 use cli_base::{are_words, count_plain, demand, first_word};
 use cli_words::{Line, bindings_given, number_given, server_line, texts_of};
 use gss_base::{Bindings, MechKind, NameRefusal, Principal};
-use sec_base::{Items, NoMemory, Text};
+use sec_base::{Items, Text};
 use std::alloc::Global;
 
 /// The files of the server's keys.
@@ -120,52 +120,47 @@ fn name_given(alloc: Global, line: &Line<'_>) -> Result<Principal, WordsRefusal>
     }
 }
 
-/// A list of one mechanism.
-fn alone(alloc: Global, kind: MechKind) -> Result<Items<MechKind>, NoMemory>
-    ensures { IfOk result (λ offer. offer ≡ kind ∷ []) }
-{
-    let mut list = Vec::with_capacity(alloc, 1)?;
-    list.push_reserved(kind);
-    Ok(Items::of(list))
-}
-
-/// A list of two mechanisms.
-fn ranked(alloc: Global, first: MechKind, second: MechKind) -> Result<Items<MechKind>, NoMemory>
-    ensures { IfOk result (λ offer. offer ≡ first ∷ second ∷ []) }
-{
-    let mut list = Vec::with_capacity(alloc, 2)?;
-    list.push_reserved(first);
-    list.push_reserved(second);
-    Ok(Items::of(list))
-}
-
 /// The mechanisms of this list, the preferred first.
-fn offer_by(alloc: Global, text: &str) -> Result<Items<MechKind>, WordsRefusal>
-    ensures { Gives WordsRefusal.NoMemory (λ offer. offer) result (offer_by text.now) }
+fn offer_by(text: &str) -> Result<&'static [MechKind], WordsRefusal>
+    ensures { MatchResult result (λ kinds. offer_by text.now ≡ Ok kinds.now)
+        (λ refusal. offer_by text.now ≡ Err refusal) }
 {
     if text == "krb5" {
-        return Ok(alone(alloc, MechKind::Kerberos)?);
+        return Ok(&[MechKind::Kerberos]);
     }
     if text == "scram" {
-        return Ok(alone(alloc, MechKind::Scram)?);
+        return Ok(&[MechKind::Scram]);
     }
     if text == "krb5,scram" {
-        return Ok(ranked(alloc, MechKind::Kerberos, MechKind::Scram)?);
+        return Ok(&[MechKind::Kerberos, MechKind::Scram]);
     }
     if text == "scram,krb5" {
-        return Ok(ranked(alloc, MechKind::Scram, MechKind::Kerberos)?);
+        return Ok(&[MechKind::Scram, MechKind::Kerberos]);
     }
     Err(WordsRefusal::Usage)
 }
 
 /// The mechanisms that are offered: those of the list, or both without it, Kerberos first.
+fn mechs_given(line: &Line<'_>) -> Result<&'static [MechKind], WordsRefusal>
+    ensures { MatchResult result
+        (λ kinds. offer_given (value_of (codes "--offer") line.now) ≡ Ok kinds.now)
+        (λ refusal. offer_given (value_of (codes "--offer") line.now) ≡ Err refusal) }
+{
+    match line.value("--offer") {
+        None => Ok(&[MechKind::Kerberos, MechKind::Scram]),
+        Some(text) => offer_by(text),
+    }
+}
+
+/// The same, as a list that is kept.
 fn offer_given(alloc: Global, line: &Line<'_>) -> Result<Items<MechKind>, WordsRefusal>
     ensures { Gives WordsRefusal.NoMemory (λ offer. offer) result
         (offer_given (value_of (codes "--offer") line.now)) }
 {
-    match line.value("--offer") {
-        None => Ok(ranked(alloc, MechKind::Kerberos, MechKind::Scram)?),
-        Some(text) => offer_by(alloc, text),
+    let kinds = mechs_given(line)?;
+    match Vec::from_slice(alloc, kinds) {
+        Ok(list) => Ok(Items::of(list)),
+        Err(_) => Err(WordsRefusal::NoMemory),
     }
 }
 

@@ -2,7 +2,7 @@ use Rattle.std.proofs.Common.{List, ℕ, ◌++◌, drop, subst}
 use Rattle.accept_book.specs.RecordShown.{Asked}
 use Rattle.gss_server.specs.Asking.{Asking}
 use Rattle.gate_models.specs.Looping.{IsWholeAt}
-use Rattle.gate_models.proofs.LoopTurns.{turned-so, further, sliced}
+use Rattle.gate_models.proofs.LoopTurns.{turned-so, further, said-more, sliced}
 use Rattle.gss_server.proofs.Turning.{asking-more}
 use Rattle.gate_models.proofs.looping.Looping.turn.Goals as goal
 
@@ -23,3 +23,9 @@ returns-in-Record-clause-further g c = λ e.
     let w : IsWholeAt (drop s.cut s.heard.items) c.as_slice.result.now c.in-Record.size =
     subst (λ (zs : List ℕ). IsWholeAt zs c.as_slice.result.now c.in-Record.size) (sliced s.cut s.heard.items c.deref.result.now c.deref.ensures.value) (rw c.as_slice.ensures c.in-Record.ensures.found) in
     further (λ (m : List Asked). Asking g.G.Gate.answers s.gate m t.gate) s.width s.now s.kept.items t.kept.items s.said.items t.said.items s.cut t.cut (drop s.cut s.heard.items) c.as_slice.result.now c.in-Record.size c.answer.result w c.answer.ensures.answered e
+
+pub returns-in-Record-clause-said : goal.returns-in-Record-clause-said
+returns-in-Record-clause-said g c =
+    let s = c.args.self.now in
+    let t = c.answer.new.self in
+    said-more (λ (m : List Asked). Asking g.G.Gate.answers s.gate m t.gate) s.width s.now c.as_slice.result.now c.in-Record.size s.kept.items t.kept.items s.said.items t.said.items s.cut t.cut c.answer.result c.answer.ensures.answered
