@@ -131,7 +131,8 @@ fn civil_moment(digits: &[u8]) -> Option<Moment>
 fn moment_at(year: u32, month: u32, day: u32, hour: u32, minute: u32, second: u32) -> Option<Moment>
     ensures { result ≡ (if is_date year month day
         && (nat_lt hour 24 && (nat_lt minute 60 && nat_lt second 60))
-        then Some ((day_number year month day * 86400 + (hour * 3600 + (minute * 60 + second))) * 1000000)
+        then Some ((day_number year month day * 86400
+        + (hour * 3600 + (minute * 60 + second))) * 1000000)
         else None) }
 {
     let days = day_number(year, month, day)?;

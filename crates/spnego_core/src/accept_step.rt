@@ -147,8 +147,8 @@ fn proceeds(
 
 /// Judges the initiator's MIC over the list that came.
 fn mic_judged(alloc: Global, owing: &Owing, mic: &Octets) -> Result<(), NegRefusal>
-    ensures { Gives NegRefusal.NoMemory (λ u. u) result
-        (due NegRefusal.MicBad (is_list_mic owing.now.outcome Acceptor owing.now.received mic.now)) }
+    ensures { Gives NegRefusal.NoMemory (λ u. u) result (due NegRefusal.MicBad
+        (is_list_mic owing.now.outcome Acceptor owing.now.received mic.now)) }
 {
     let received = owing.received.as_slice();
     let right = is_list_mic(alloc, &owing.outcome, Side::Acceptor, received, mic)?;
