@@ -6,7 +6,7 @@ use Rattle.gss_server.specs.declared.answer.Kept.{Kept}
 use Rattle.gss_server.specs.declared.answer.Reply.{Reply}
 use Rattle.gss_server.specs.declared.connection.ConnEnd.{ConnEnd}
 use Rattle.gss_server.specs.declared.connection.ConnEnd.TheVariants.{Ended, LinkFault, TooLong, TooManyFragments, Torn, Budget, NoMemory}
-use Rattle.accept_book.specs.RecordShown.{Asked, Ruling}
+use Rattle.accept_book.specs.RecordShown.{Asked, Ruling, asking}
 use Rattle.gss_server.specs.declared.answer.Reply.TheVariants as replies
 use Rattle.gss_server.specs.Answers.{Says, IsReply}
 use Rattle.gss_server.specs.Connections.{framed, ruling_for}
@@ -49,3 +49,9 @@ pub reply-said : (rule : ℕ) (ruling : Ruling) (reply : Reply) → Says reply r
 reply-said rule ruling replies.Silent p = (p.1, p.2)
 reply-said rule ruling (replies.Bytes octets) p = (p.1, p.2)
 reply-said rule ruling replies.NoMemory p = p.1
+
+-- what is said by a ruling is said by it with a question in front
+pub says-asking : (reply : Reply) (rule : ℕ) (one : Asked) (ruling : Ruling) → Says reply rule ruling → Says reply rule (asking one ruling)
+says-asking replies.Silent rule one ruling p = p
+says-asking (replies.Bytes octets) rule one ruling p = p
+says-asking replies.NoMemory rule one ruling p = p

@@ -11,3 +11,6 @@ returns-in-Some g c = record {
     unlooked = rw c.requires.unasked refl;
   };
 }
+
+pub returns-in-None : goal.returns-in-None
+returns-in-None g c = record { ruled = c.say_in_context.ensures.ruled }

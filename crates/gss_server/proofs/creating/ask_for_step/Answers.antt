@@ -1,15 +1,6 @@
-use Rattle.std.proofs.Common.{ℕ, refl}
-use Rattle.accept_book.specs.RecordShown.{Asked, Ruling, asking}
-use Rattle.gss_server.specs.Answers.{Says}
-use Rattle.gss_server.specs.declared.answer.Reply.{Reply}
-use Rattle.gss_server.specs.declared.answer.Reply.TheVariants.{Silent, Bytes, NoMemory}
+use Rattle.std.proofs.Common.{refl}
+use Rattle.gss_server.proofs.Replying.{says-asking}
 use Rattle.gss_server.proofs.creating.ask_for_step.Goals as goal
-
--- what is said by a ruling is said by it with a question in front
-says-asking : (reply : Reply) (rule : ℕ) (one : Asked) (ruling : Ruling) → Says reply rule ruling → Says reply rule (asking one ruling)
-says-asking Silent rule one ruling p = p
-says-asking (Bytes octets) rule one ruling p = p
-says-asking NoMemory rule one ruling p = p
 
 pub returns : goal.returns
 returns g c =

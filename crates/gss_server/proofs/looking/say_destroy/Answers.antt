@@ -1,5 +1,5 @@
 use Rattle.accept_book.specs.RecordRule.{destroy_ruling}
-use Rattle.std.proofs.Common.{refl}
+use Rattle.std.proofs.Common.{refl, rules}
 use Rattle.gss_server.proofs.Unasked.{unasked-ruled}
 use Rattle.gss_server.proofs.looking.say_destroy.Goals as goal
 
@@ -11,3 +11,7 @@ returns-in-Some g c = record {
     unlooked = rw c.requires.unasked refl;
   };
 }
+
+pub returns-in-None : goal.returns-in-None
+unfolding destroy_ruling
+returns-in-None g c = search rules
