@@ -91,8 +91,6 @@ pub(crate) fn step(alloc: Global, book: OwnSeat, hand: InHand) -> LaneMoves
             draws,
             looked,
         });
-        drop(kept);
-        drop(reply);
         let happened = Ok(Happened::Stepped(0));
         return LaneMoves {
             book,
@@ -100,8 +98,6 @@ pub(crate) fn step(alloc: Global, book: OwnSeat, hand: InHand) -> LaneMoves
             happened,
         };
     }
-    drop(bytes);
-    drop(kept);
     let happened = said(rule, reply);
     LaneMoves {
         book,

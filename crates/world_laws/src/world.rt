@@ -286,11 +286,7 @@ fn happen(alloc: Global, parts: &mut Parts, event: WorldEvent) -> Result<Happene
             initiator,
             bytes,
             first,
-        } => {
-            let happened = deliver(alloc, &mut parts.stages, initiator, bytes.as_slice(), first);
-            drop(bytes);
-            happened
-        }
+        } => deliver(alloc, &mut parts.stages, initiator, bytes.as_slice(), first),
         WorldEvent::Lane {
             lane,
             bytes,
@@ -309,17 +305,13 @@ fn happen(alloc: Global, parts: &mut Parts, event: WorldEvent) -> Result<Happene
             initiator,
             procedure,
             args,
-        } => {
-            let happened = call_by(
-                alloc,
-                &mut parts.stages,
-                initiator,
-                procedure,
-                args.as_slice(),
-            );
-            drop(args);
-            happened
-        }
+        } => call_by(
+            alloc,
+            &mut parts.stages,
+            initiator,
+            procedure,
+            args.as_slice(),
+        ),
     }
 }
 
