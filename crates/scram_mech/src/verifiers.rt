@@ -200,38 +200,8 @@ impl Verifiers {
     }
 }
 
-/// Adds the line of a user in a verifier file.
-#[tactic(auto, unfolding(crate::specs::Verifiers::line_text))]
-fn put_line(
-    alloc: Global,
-    line: &mut Vec<u8>,
-    user: &[u8],
-    salt: &[u8],
-    rounds: u32,
-    secrets: &Secrets,
-) -> Result<(), NoMemory>
-    ensures { OnOk result (line.new.items ≡ line.old.items ++ line_text (record {
-      name = user.now;
-      rounds = rounds;
-      salt =
-          salt.now;
-      stored = secrets.now.stored;
-      server = secrets.now.server;
-    })) }
-{
-    put(line, user)?;
-    put(line, b":")?;
-    put_decimal(alloc, line, rounds)?;
-    put(line, b":")?;
-    put_encoded(alloc, line, salt)?;
-    put(line, b":")?;
-    put_encoded(alloc, line, &secrets.stored)?;
-    put(line, b":")?;
-    put_encoded(alloc, line, &secrets.server)?;
-    put(line, b"\n")
-}
-
 /// The line of a user in a verifier file.
+#[tactic(auto, unfolding(crate::specs::Verifiers::line_text))]
 fn write_line(
     alloc: Global,
     user: &[u8],
@@ -249,7 +219,16 @@ fn write_line(
     })) }
 {
     let mut line = Vec::new(alloc);
-    put_line(alloc, &mut line, user, salt, rounds, secrets)?;
+    put(&mut line, user)?;
+    put(&mut line, b":")?;
+    put_decimal(alloc, &mut line, rounds)?;
+    put(&mut line, b":")?;
+    put_encoded(alloc, &mut line, salt)?;
+    put(&mut line, b":")?;
+    put_encoded(alloc, &mut line, &secrets.stored)?;
+    put(&mut line, b":")?;
+    put_encoded(alloc, &mut line, &secrets.server)?;
+    put(&mut line, b"\n")?;
     Ok(Octets::from_vec(line))
 }
 

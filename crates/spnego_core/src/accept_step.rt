@@ -110,7 +110,8 @@ fn begins(
         token,
         mic: _,
     } = init;
-    let Some(kind) = best(setup.offer.as_slice(), list.as_slice()) else {
+    let chosen = best(setup.offer.as_slice(), list.as_slice());
+    let Some(kind) = chosen else {
         return Err(NegRefusal::NoCommonMech);
     };
     let token = token_for(is_first_named(list.as_slice(), kind), token);
