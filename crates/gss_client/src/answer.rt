@@ -79,7 +79,8 @@ pub(crate) fn answer_in(xid: u32, bytes: &[u8]) -> Result<Answer<'_>, ClientRefu
         Ok(reply) => reply,
         Err(refusal) => return Err(ClientRefusal::BadReply(ReplyWhy::Form { at: refusal.at })),
     };
-    if xid_of(&reply) != xid {
+    let own = xid_of(&reply) == xid;
+    if !own {
         return Err(ClientRefusal::BadReply(ReplyWhy::Xid));
     }
     granted(bytes.len(), reply)
