@@ -255,15 +255,15 @@ impl ScramAccept {
 fn hash_judged(
     alloc: Global,
     bindings: Option<&Bindings>,
-    data: &Encoded<'_>,
+    binding: &Encoded<'_>,
 ) -> Result<[u8; 16], ScramRefusal>
-    requires { InRange 0 32768 (decoded data.now.signs.now) }
+    requires { InRange 0 32768 (decoded binding.now.signs.now) }
     ensures judged { Gives refusals.NoMemory (λ _. tt) result (demand
-        (is_bound (option_map (λ b. b.now) bindings.entry) (decoded data.now.signs.now))
+        (is_bound (option_map (λ b. b.now) bindings.entry) (decoded binding.now.signs.now))
         refusals.Bindings) }
-    ensures hash { IfOk result (λ h. h ≡ hash_of (carried (decoded data.now.signs.now))) }
+    ensures hash { IfOk result (λ h. h ≡ hash_of (carried (decoded binding.now.signs.now))) }
 {
-    let data = data.decode(alloc)?;
+    let data = binding.decode(alloc)?;
     if is_bound(bindings, data.as_slice()) {
         Ok(binding_hash(bindings_of(data).as_ref()))
     } else {
