@@ -38,7 +38,7 @@ pub enum NameRefusal {
 }
 
 /// One sign of a text of a name.
-#[derive(Clone, Copy, Debug, PartialEq, Eq)]
+#[derive(Clone, Copy, PartialEq, Eq)]
 enum Sign {
     /// An octet of a part or of the realm.
     Octet(u8),

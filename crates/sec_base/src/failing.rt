@@ -4,7 +4,7 @@ ghost use Rattle.std.specs.Prelude.{◌≡◌, ◌≤◌};
 ghost use Rattle.sec_base.specs.Answers.{Rose};
 
 /// The numbers of the calls that are to fail, counted from 1, with the calls and the faults so far.
-#[derive(Debug, Drop)]
+#[derive(Drop)]
 pub(crate) struct Failing {
     numbers: Vec<u64>,
     calls: u64,

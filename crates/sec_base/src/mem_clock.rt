@@ -8,7 +8,7 @@ use crate::moment::Moment;
 
 /// A clock that gives the moments of a list and then the last of them again and again; with an empty list it gives the start of
 /// 1970. It tells them, until it has given 2^64 - 1.
-#[derive(Debug, Drop)]
+#[derive(Drop)]
 pub struct MemClock {
     moments: Vec<Moment>,
     count: u64,

@@ -7,7 +7,7 @@ use crate::draw::Draw;
 
 /// A source that gives the octets of a list and then counts upwards from 0, modulo 256. It tells them, until it has given
 /// 2^64 - 1.
-#[derive(Debug, Drop)]
+#[derive(Drop)]
 pub struct MemDraw {
     octets: Vec<u8>,
     count: u64,

@@ -11,7 +11,7 @@ use crate::link::{Link, LinkFault};
 use std::alloc::Global;
 
 /// A link whose input is a stated list of octets, and which keeps what is written to it. It tells its octets.
-#[derive(Debug, Drop)]
+#[derive(Drop)]
 pub struct MemLink {
     input: Vec<u8>,
     at: usize,

@@ -1,6 +1,7 @@
 //! A shelf in memory.
 
-ghost use Rattle.std.specs.Prelude.{◌≡◌, ◌≤◌, [], Some, None, IsTrue, IsErr, IsErrOf};
+ghost use Rattle.std.specs.Prelude.{◌≡◌, ◌≤◌, [], Some, None, IsTrue, IsErr, IsErrOf, nat_eq};
+ghost use Rattle.std.specs.Cmp.Lexicographic.{pointwise};
 ghost use Rattle.std.specs.Option.{option_map};
 ghost use Rattle.sec_base.specs.Answers.{Rose};
 ghost use Rattle.sec_base.specs.Shelf.{content_of, Copies, Loads, Asks};
@@ -12,7 +13,7 @@ use crate::text::Text;
 use std::alloc::Global;
 
 /// A shelf of stated files, which tells them and keeps the names that were asked.
-#[derive(Debug, Drop)]
+#[derive(Drop)]
 pub struct MemShelf {
     files: Vec<NamedFile>,
     asked: Vec<Text>,
@@ -53,12 +54,19 @@ impl MemShelf {
     }
 }
 
+/// Whether a file has this name.
+fn is_named(file: &NamedFile, name: &str) -> bool
+    ensures { result ≡ pointwise nat_eq file.now.name name.now }
+{
+    file.name.as_str().as_bytes() == name.as_bytes()
+}
+
 /// The contents of the first file of this name.
 fn find<'a>(files: &'a [NamedFile], name: &str) -> Option<&'a [u8]>
     ensures { option_map (λ bytes. bytes.now) result ≡ content_of files.now name.now }
 {
     for file in files {
-        if file.name.as_str().as_bytes() == name.as_bytes() {
+        if is_named(file, name) {
             return Some(file.content.as_slice());
         }
     }

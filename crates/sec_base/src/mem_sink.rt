@@ -9,7 +9,7 @@ use crate::sink::{Sink, SinkFault};
 use std::alloc::Global;
 
 /// A sink that keeps what is written to it, and tells it.
-#[derive(Debug, Drop)]
+#[derive(Drop)]
 pub struct MemSink {
     written: Vec<u8>,
     failing: Failing,

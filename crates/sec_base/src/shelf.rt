@@ -8,7 +8,7 @@ use crate::text::Text;
 use std::alloc::Global;
 
 /// A file by its name.
-#[derive(Debug, Drop)]
+#[derive(Drop)]
 pub struct NamedFile {
     pub name: Text,
     pub content: Octets,
