@@ -28,7 +28,8 @@ use Rattle.server_desks.specs.declared.desk.DeskEnd.{DeskEnd}
 use Rattle.server_options.specs.declared.ending.RunEnd.{RunEnd}
 use Rattle.server_options.specs.declared.keys.Keys.{Keys}
 use Rattle.server_options.specs.declared.options.Options.{Options}
-use Rattle.server_command.specs.SideBySide.{Noted, OneHistory}
+use Rattle.server_command.specs.Through.{OneHistory}
+use Rattle.server_seating.specs.SideBySide.{Noted}
 
 -- ---- what one desk asked
 

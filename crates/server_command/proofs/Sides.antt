@@ -1,6 +1,5 @@
--- What holds of desks that are served side by side.
-use Rattle.std.proofs.Common.{◌≡◌, ◌≢◌, ◌⊎◌, inl, inr, ◌≤◌, ℕ, true, false, List, slice_get, Some, refl, sym, ◌∙◌, subst}
-use Rattle.std.specs.List.{AllByRecursion}
+-- What holds of a run of desks that are served side by side.
+use Rattle.std.proofs.Common.{◌≡◌, ◌≢◌, ◌⊎◌, inl, inr, ℕ, true, false, List, slice_get, Some, refl, sym, ◌∙◌, subst}
 use Rattle.sec_base.specs.Answers.{Rose}
 use Rattle.sec_base.specs.declared.port.Port as ports
 use Rattle.sec_base.specs.declared.link.Link as links
@@ -12,10 +11,9 @@ use Rattle.gss_server.specs.Telling.{limits_of}
 use Rattle.gss_server.specs.declared.answer.Kept.{Kept}
 use Rattle.gss_server.specs.declared.connection.Served.{Served}
 use Rattle.gss_server.specs.declared.keeper.Keeper as keepers
-use Rattle.server_desks.specs.Desks.{IsFresh, IsSmall}
 use Rattle.server_options.specs.Lines.{is_begun}
 use Rattle.server_command.specs.Runs.{HasLimits}
-use Rattle.server_command.specs.SideBySide.{SideBySide, IsUnder}
+use Rattle.server_seating.specs.SideBySide.{SideBySide, IsUnder}
 use Rattle.server_command.specs.Through.{IsOpened}
 use Rattle.server_desks.specs.declared.desk.Desk.{Desk}
 use Rattle.server_desks.specs.declared.desk.DeskEnd.TheVariants.{PortFault}
@@ -23,18 +21,10 @@ use Rattle.server_options.specs.declared.ending.RunEnd.{RunEnd}
 use Rattle.server_options.specs.declared.ending.RunEnd.TheVariants as whole
 use Rattle.server_options.specs.declared.keys.Keys.{Keys}
 use Rattle.server_options.specs.declared.options.Options.{Options}
-use Rattle.server_desks.proofs.DeskRuns.{desk-small}
 use Rattle.server_desks.proofs.Ends.{all-done}
-use Rattle.server_desks.proofs.InStep.{there, at-place, by-places}
+use Rattle.server_desks.proofs.InStep.{there}
 
 module _ {P C D K M L Q R : Type 0} {begins : BookOf → Type 0} {width most : ℕ} {port : ports.Ghosts P L} {link : links.Ghosts L} {clock : clocks.Ghosts C} {draw : draws.Ghosts D} {keeper : keepers.Ghosts K Kept Q} {kept : keepers.Ghosts M (Served L) R} {olds news : List (Desk P C D K M)} {end : RunEnd} {log : LogOf} where
-  -- desks that began with nothing are small
-  pub side-small : most ≤ 1000000 → AllByRecursion IsFresh olds → SideBySide begins width most port link clock draw keeper kept olds end news log → AllByRecursion IsSmall news
-  side-small few fresh s = by-places IsSmall news (λ i new at.
-      let old = there news olds i new (sym s.count) at in
-      let ending = there olds s.ends i old.0 s.ends_count old.1 in
-      desk-small few (at-place IsFresh olds i old.0 fresh old.1) (s.each i old.0 new ending.0 old.1 ending.1 at))
-
   -- a run in which no desk failed serves all connections
   pub side-served : SideBySide begins width most port link clock draw keeper kept olds end news log → ((i : ℕ) (a b : Desk P C D K M) → slice_get olds i ≡ Some a → slice_get news i ≡ Some b → Rose (port.faults a.port) (port.faults b.port) → ⊥) → end ≢ whole.NoMemory → end ≡ whole.Served
   side-served s steady other =

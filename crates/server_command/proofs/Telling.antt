@@ -16,7 +16,7 @@ use Rattle.book_seats.specs.Notes.{questions_of}
 use Rattle.history_laws.specs.Seen.{AllSeen, IsEmpty}
 use Rattle.history_laws.proofs.Chain.{seen-law}
 use Rattle.history_laws.proofs.InPlace.{in-place}
-use Rattle.server_command.specs.SideBySide.{OneHistory}
+use Rattle.server_command.specs.Through.{OneHistory}
 use Rattle.server_command.specs.Told.{ToldByLog}
 use Rattle.server_command.proofs.Lending.{lent}
 use Rattle.server_desks.specs.declared.desk.Desk.{Desk}

@@ -1,4 +1,3 @@
 pub mod Runs
-pub mod SideBySide
 pub mod Through
 pub mod Told

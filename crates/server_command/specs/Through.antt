@@ -1,10 +1,19 @@
--- The book that a run of the server opens, and that its desks ask.
-use Rattle.std.specs.Prelude.{◌≡◌, ℕ, List, [], reverse}
+-- The book that a run of the server opens, and the history of what its desks ask.
+use Rattle.std.specs.Prelude.{◌≡◌, ℕ, List, []}
+use Rattle.sec_base.specs.declared.port.Port as ports
+use Rattle.sec_base.specs.declared.link.Link as links
+use Rattle.sec_base.specs.declared.clock.Clock as clocks
+use Rattle.sec_base.specs.declared.draw.Draw as draws
 use Rattle.accept_book.specs.Booking.{BookOf}
-use Rattle.accept_core.specs.Logs.{LogOf, no_log}
+use Rattle.accept_core.specs.Logs.{LogOf}
+use Rattle.gss_server.specs.declared.answer.Kept.{Kept}
+use Rattle.gss_server.specs.declared.connection.Served.{Served}
+use Rattle.gss_server.specs.declared.keeper.Keeper as keepers
 use Rattle.server_desks.specs.declared.desk.Desk.{Desk}
+use Rattle.server_options.specs.declared.ending.RunEnd.{RunEnd}
 use Rattle.server_options.specs.declared.keys.Keys.{Keys}
 use Rattle.server_options.specs.declared.options.Options.{Options}
+use Rattle.server_seating.specs.SideBySide.{SideBySide}
 
 -- a book as it is opened: for the own name, with these keys and the bindings of the options,
 -- offering the options' mechanisms in their order, under the options' limits, without contexts
@@ -22,16 +31,12 @@ pub record IsOpened (options : Options) (keys : Keys) (start : ℕ) (book : Book
   pub marks : book.core.cache.capacity ≡ options.marks
   pub greatest : book.core.cache.greatest ≡ start
 
--- a log is that of a book
-pub record IsLogOf (book : BookOf) (log : LogOf) : Type 0 where
-  pub entries : reverse log.entries ≡ book.core.history
-  pub width : log.width ≡ book.core.width
-  pub limit : log.limit ≡ book.core.limit
-  pub contexts : log.contexts ≡ book.core.table.limit
-  pub marks : log.marks ≡ book.core.cache.capacity
-
--- no book was opened: the desks are as they were, and the log is empty and has no limits
-pub record NoBook {P C D K M : Type 0} (olds news : List (Desk P C D K M)) (log : LogOf) : Type
-    0 where
-  pub same : news ≡ olds
-  pub empty : log ≡ no_log
+-- one book, which is opened for these options and keys, answered all questions of all desks, from
+-- its opening to the log that is returned
+abbrev pub OneHistory : {P C D K M L Q R : Type 0} → Options → Keys → ℕ → ports.Ghosts P L
+    → links.Ghosts L → clocks.Ghosts C → draws.Ghosts D → keepers.Ghosts K Kept Q
+    → keepers.Ghosts M (Served L) R → List (Desk P C D K M) → RunEnd → List (Desk P C D K M)
+    → LogOf → Type 0
+OneHistory options keys start port link clock draw keeper kept olds end news log =
+    SideBySide (IsOpened options keys start) options.window options.connections port link clock draw
+    keeper kept olds end news log

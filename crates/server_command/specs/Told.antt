@@ -16,7 +16,7 @@ use Rattle.book_seats.specs.Notes.{questions_of}
 use Rattle.history_laws.specs.Lent.{AllLent}
 use Rattle.history_laws.specs.Receipts.{receipts_in}
 use Rattle.history_laws.specs.Seen.{AllSeen}
-use Rattle.server_command.specs.SideBySide.{OneHistory}
+use Rattle.server_command.specs.Through.{OneHistory}
 use Rattle.server_desks.specs.declared.desk.Desk.{Desk}
 use Rattle.server_options.specs.declared.ending.RunEnd.{RunEnd}
 use Rattle.server_options.specs.declared.keys.Keys.{Keys}

@@ -1,8 +1,6 @@
-//! The server's command: its desks over one book, and the run.
+//! The server's command: its words, the book that it opens, and the run of its desks.
 #![tactic(auto)]
 
-mod seating;
 mod server;
-mod staffing;
 
 pub use server::{ServerEnd, run_server};

@@ -12,14 +12,13 @@ ghost use Rattle.gss_base.specs.Principal.{text_form};
 ghost use Rattle.server_desks.specs.Desks.{IsFresh, IsSmall, NamesADesk};
 ghost use Rattle.server_options.specs.Lines.{Named, is_begun, status_of, line_of};
 ghost use Rattle.server_options.specs.Options.{options_of, IsRanged};
-ghost use Rattle.server_command.specs.SideBySide.{OneHistory};
-ghost use Rattle.server_command.specs.Through.{IsOpened, NoBook};
+ghost use Rattle.server_seating.specs.Through.{NoBook};
+ghost use Rattle.server_command.specs.Through.{IsOpened, OneHistory};
 ghost use Rattle.server_command.specs.Told.{ToldByLog};
 ghost use Rattle.server_command.specs.Runs.{files_of, names_in, names_of, counts_of, RunBegins};
 ghost use Rattle.server_command.specs.Runs.{HasLimits, HasValid, AsksAtMost};
 ghost use Rattle.server_options.specs.Keys.{KeysFrom};
 
-use crate::seating::{Course, run_book, starved};
 use accept_book::{Limits, Log, OwnSeat};
 use gss_base::{Label, Principal};
 use gss_server::{Keeper, Kept, Served};
@@ -28,6 +27,7 @@ use server_desks::{Desk, count_connections, count_records};
 use server_options::{
     Counts, Files, Keys, Names, Options, RunEnd, WordsRefusal, keys_from, read_options, say_end,
 };
+use server_seating::{Course, run_book, starved};
 use spnego_core::AcceptSetup;
 use std::alloc::Global;
 use std::sync::Wait;

@@ -22,9 +22,10 @@ use Rattle.gss_server.specs.declared.keeper.Keeper as keepers
 use Rattle.gss_server.proofs.Turning.{all-push}
 use Rattle.book_seats.specs.Notes.{Note, asked_by, questions_of}
 use Rattle.server_desks.specs.Desks.{ServedOf, ServedLink, LinksServed, DeskServed}
-use Rattle.server_command.specs.SideBySide.{Noted}
+use Rattle.server_seating.specs.SideBySide.{Noted}
 use Rattle.server_command.proofs.Lending.{noted, get-past}
-use Rattle.server_command.specs.Through.{IsOpened, IsLogOf}
+use Rattle.server_command.specs.Through.{IsOpened}
+use Rattle.server_seating.specs.Through.{IsLogOf}
 use Rattle.server_desks.specs.declared.desk.Desk.{Desk}
 use Rattle.server_desks.specs.declared.desk.DeskEnd.{DeskEnd}
 use Rattle.server_options.specs.declared.keys.Keys.{Keys}

@@ -19,8 +19,8 @@ use Rattle.gss_server.specs.declared.connection.Served.{Served}
 use Rattle.gss_server.specs.declared.keeper.Keeper as keepers
 use Rattle.book_seats.specs.Notes.{Note, asked_by}
 use Rattle.server_desks.specs.Desks.{ServedOf, LinksServed, DeskServed}
-use Rattle.server_command.specs.SideBySide.{Noted, OneHistory}
-use Rattle.server_command.specs.Through.{IsOpened}
+use Rattle.server_command.specs.Through.{IsOpened, OneHistory}
+use Rattle.server_seating.specs.SideBySide.{Noted}
 use Rattle.server_desks.specs.declared.desk.Desk.{Desk}
 use Rattle.server_desks.specs.declared.desk.DeskEnd.{DeskEnd}
 use Rattle.server_options.specs.declared.ending.RunEnd.{RunEnd}

@@ -1,7 +1,5 @@
 -- What devices of the system show of themselves.
-use Rattle.std.specs.Prelude.{ℕ, ℤ, Bool, List}
-use Rattle.std.specs.Fd.{file_raw_fd}
-use Rattle.system_devices.specs.declared.held_streams.HeldStreams.{HeldStreams}
+use Rattle.std.specs.Prelude.{ℕ, Bool, List}
 use Rattle.system_devices.specs.declared.stdio_port.StdioPort.{StdioPort}
 use Rattle.system_devices.specs.declared.system_clock.SystemClock.{SystemClock}
 use Rattle.system_devices.specs.declared.tcp_port.TcpDoor.{TcpDoor}
@@ -17,7 +15,3 @@ is_given port = port.given
 -- the address at which a door is to listen
 abbrev pub door_address : {R : Type 0} → TcpDoor R → List ℕ
 door_address door = door.address.now
-
--- the number of the file that is held above the standard streams
-abbrev pub number_above : HeldStreams → ℤ
-number_above held = file_raw_fd held.above

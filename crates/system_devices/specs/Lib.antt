@@ -1,4 +1,1 @@
-pub mod Ahead
-pub mod Behind
-pub mod Buffered
 pub mod Devices

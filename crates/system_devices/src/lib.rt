@@ -2,12 +2,8 @@
 //! thin, and tells nothing.
 #![tactic(auto)]
 
-mod ahead;
-mod behind;
-mod buffered;
 mod dialed_link;
 mod file_shelf;
-mod held_streams;
 mod rand_draw;
 mod std_sink;
 mod stdio_port;
@@ -16,13 +12,12 @@ mod tcp_link;
 mod tcp_port;
 mod words;
 
-pub use buffered::{Buffered, BufferedPort};
 pub use dialed_link::DialedLink;
 pub use file_shelf::FileShelf;
-pub use held_streams::HeldStreams;
 pub use rand_draw::RandDraw;
 pub use std_sink::StdSink;
 pub use stdio_port::{StdioLink, StdioPort};
+pub use stream_buffers::{Buffered, BufferedPort, HeldStreams};
 pub use system_clock::SystemClock;
 pub use tcp_link::TcpLink;
 pub use tcp_port::{TcpDoor, TcpPort};

@@ -1,17 +1,20 @@
 //! Compares tables of outside values with what the public calls of the base crates answer, and says of each table how many lines agree,
-//! or which doesn't.
+//! or which doesn't. Then it asks each device of the real system once, and says of each whether it did what it should.
 #![tactic(auto)]
 
 mod caches;
 mod commands;
+mod connections;
 mod contexts;
 mod devices;
+mod files;
 mod links;
 mod mechs;
 mod messages;
 mod names;
 mod records;
 mod secured;
+mod system;
 mod table;
 mod values;
 mod windows;
@@ -20,7 +23,8 @@ mod xdr;
 use std::{fs, io};
 use table::{TABLES, compared};
 
-fn main(rt: HostRuntime) -> io::Result<()> {
+/// Compares each table, and says what came of it.
+fn say_tables(rt: HostRuntime) -> io::Result<()> {
     for table in TABLES {
         let text = fs::read_to_string(&rt, table.file())?;
         match compared(rt.alloc(), table, text.as_str()) {
@@ -29,4 +33,9 @@ fn main(rt: HostRuntime) -> io::Result<()> {
         }
     }
     Ok(())
+}
+
+fn main(rt: HostRuntime) -> io::Result<()> {
+    say_tables(rt)?;
+    system::say_devices(rt)
 }

@@ -1,0 +1,77 @@
+use Rattle.std.proofs.Common.{rules, ◌≡◌, ◌≤◌, ℕ, List, [], map, Some, length, slice_get, All, vec_len, refl, sym, ap, ◌∙◌, subst, arith}
+use Rattle.accept_book.specs.Booking.{with_setup}
+use Rattle.book_seats.specs.Notes.{asked_by}
+use Rattle.std.proofs.lemmas.List.{length-map}
+use Rattle.server_desks.specs.Desks.{IsFresh, end_behind}
+use Rattle.server_options.specs.declared.ending.RunEnd.TheVariants.{Served}
+use Rattle.server_desks.specs.declared.desk.Desk.{Desk}
+use Rattle.server_desks.specs.declared.desk.DeskEnd.{DeskEnd}
+use Rattle.server_desks.proofs.InStep.{there, all-along, get-map}
+use Rattle.server_seating.proofs.Lengths.{same-length}
+use Rattle.server_seating.proofs.Noting.{desk-noted}
+use Rattle.server_seating.proofs.seating.run_seated.Goals as goal
+
+pub run_desks-requires-after_bounds : goal.run_desks-requires-after_bounds
+run_desks-requires-after_bounds g c κs within =
+    let n1 : length c.hire_all.new.staffed.items ≡ length c.replace-olds.result.items = same-length c.hire_all.new.staffed c.replace-olds.result c.hire_all.ensures.count in
+    let n2 : length c.seat_all.new.jobs.items ≡ length c.hire_all.new.staffed.items = same-length c.seat_all.new.jobs c.hire_all.new.staffed c.seat_all.ensures.count in
+    all-along IsFresh (λ job. IsFresh job.desk) c.replace-olds.result.items c.seat_all.new.jobs.items (n2 ∙ n1)
+    (λ i a b at_a at_b fresh.
+    let s1 = there c.replace-olds.result.items c.hire_all.new.staffed.items i a n1 at_a in
+    let r1 = c.hire_all.ensures.each i a s1.0 at_a s1.1 in
+    let r2 = c.seat_all.ensures.each i s1.0 b s1.1 at_b in
+    subst (λ desk. IsFresh desk) (sym (r2.0 ∙ r1.0)) fresh)
+    (rw c.replace-olds.ensures.value c.requires.fresh)
+
+pub returns-clause-served : goal.returns-clause-served
+returns-clause-served g c =
+    let value = c.replace-olds.ensures.value in
+    let n1 : length c.hire_all.new.staffed.items ≡ length c.replace-olds.result.items = same-length c.hire_all.new.staffed c.replace-olds.result c.hire_all.ensures.count in
+    let n2 : length c.seat_all.new.jobs.items ≡ length c.hire_all.new.staffed.items = same-length c.seat_all.new.jobs c.hire_all.new.staffed c.seat_all.ensures.count in
+    let n3 : length c.run_desks.new.jobs.items ≡ length c.seat_all.new.jobs.items = same-length c.run_desks.new.jobs c.seat_all.new.jobs c.run_desks.ensures.count in
+    let n4 : length c.rise_all.new.staffed.items ≡ length c.run_desks.new.jobs.items = same-length c.rise_all.new.staffed c.run_desks.new.jobs c.rise_all.ensures.count in
+    let n5 : length c.compare_all.new.desks.items ≡ length c.rise_all.new.staffed.items = same-length c.compare_all.new.desks c.rise_all.new.staffed c.compare_all.ensures.count in
+    let olds : length c.replace-olds.result.items ≡ length c.args.desks.now.items = ap (λ v. length v.items) value in
+    let all = c.into_parts-book.result.1.all in
+    record {
+      all = all;
+      ends = map (λ job. job.end) c.run_desks.new.jobs.items;
+      first = c.into_parts-book.ensures.began.0;
+      last = with_setup g.J.Room.setup c.into_parts-book.result.0;
+      opened = c.into_parts-book.ensures.began.1;
+      chain = c.into_parts-book.ensures.began.2;
+      closed = record {
+        entries = c.into_log.ensures.entries;
+        width = c.into_log.ensures.width;
+        limit = c.into_log.ensures.limit;
+        contexts = c.into_log.ensures.contexts;
+        marks = c.into_log.ensures.marks;
+      };
+      count = n5 ∙ n4 ∙ n3 ∙ n2 ∙ n1 ∙ olds;
+      ends_count = length-map c.run_desks.new.jobs.items (λ job. job.end) ∙ n3 ∙ n2 ∙ n1 ∙ olds;
+      each = λ i a b ending at_a at_end at_b.
+          let at : slice_get c.replace-olds.result.items i ≡ Some a = ap (λ v. slice_get v.items i) value ∙ at_a in
+          let s1 = there c.replace-olds.result.items c.hire_all.new.staffed.items i a n1 at in
+          let j1 = there c.hire_all.new.staffed.items c.seat_all.new.jobs.items i s1.0 n2 s1.1 in
+          let j2 = there c.seat_all.new.jobs.items c.run_desks.new.jobs.items i j1.0 n3 j1.1 in
+          let s2 = there c.run_desks.new.jobs.items c.rise_all.new.staffed.items i j2.0 n4 j2.1 in
+          let r1 = c.hire_all.ensures.each i a s1.0 at s1.1 in
+          let r2 = c.seat_all.ensures.each i s1.0 j1.0 s1.1 j1.1 in
+          let r3 = c.run_desks.ensures.served i j1.0 j2.0 j1.1 j2.1 in
+          let r4 = c.rise_all.ensures.each i j2.0 s2.0 j2.1 s2.1 in
+          let r5 = c.compare_all.ensures.each i s2.0 b s2.1 at_b in
+          let ended : ending ≡ j2.0.end = get-map (λ job. job.end) c.run_desks.new.jobs.items i j2.0 ending j2.1 at_end in
+          desk-noted g.J.Room.begins (λ s. s.clerk) all i j1.0.width j1.0.connections a b j1.0.desk j2.0.desk ending j1.0.gate j2.0.gate s2.0.clerk r2.3 r2.2 (r2.0 ∙ r1.0) (r2.1 ∙ r1.1) (rw ended r3) r4.1 (r5.0 ∙ r4.0) r5.1;
+      others = λ d few. ap (λ w. asked_by d w.all) (sym c.compare_all.ensures.writer)
+          ∙ c.close.ensures.others d (subst (λ (n : ℕ). n ≤ d) (sym (ap (λ w. w.made) c.compare_all.ensures.writer ∙ c.into_parts-book.ensures.desks ∙ c.requires.desks)) (search rules));
+      ended = c.end_of-end.ensures ∙ ap (λ jobs. end_behind Served 1 (map (λ job. job.end) jobs)) c.as_slice.ensures.value;
+    }
+
+pub returns-clause-limits : goal.returns-clause-limits
+returns-clause-limits g c =
+    let limits = c.into_parts-book.ensures.limits in record {
+      width = c.into_log.ensures.width ∙ ap (λ l. l.width) limits;
+      limit = c.into_log.ensures.limit ∙ ap (λ l. l.log) limits;
+      contexts = c.into_log.ensures.contexts ∙ ap (λ l. l.contexts) limits;
+      marks = c.into_log.ensures.marks ∙ ap (λ l. l.marks) limits;
+    }

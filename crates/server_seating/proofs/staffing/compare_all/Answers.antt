@@ -1,0 +1,16 @@
+use Rattle.std.proofs.Common.{rules, ◌≡◌, ℕ, List, [], ◌∷◌, ◌++◌, refl, sym, ap, ◌∙◌, subst}
+use Rattle.std.specs.Vec.Iter.{into_iter_items}
+use Rattle.book_seats.specs.Notes.{asked_by}
+use Rattle.server_desks.proofs.InStep.{moves-more}
+use Rattle.server_seating.proofs.staffing.compare_all.Goals as goal
+
+pub loop-one-preserved : goal.loop-one-preserved
+loop-one-preserved g c =
+    let i = c.loop-one.invariant in
+    record {
+      can_next = tt;
+      finite = tt;
+      moves = moves-more _ _ _ _ _ _ c.in-Some.one c.in-Some.one.desk i.moves c.in-Some.ensures.steps.0 c.push_reserved.ensures.items (refl, ap (λ w. asked_by c.in-Some.one.clerk.desk w.all) (sym i.writer) ∙ c.compare.ensures.mine);
+      writer = c.compare.ensures.same ∙ i.writer;
+      room = search rules;
+    }

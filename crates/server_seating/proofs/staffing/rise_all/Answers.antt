@@ -1,0 +1,14 @@
+use Rattle.std.proofs.Common.{rules, ◌≡◌, ℕ, List, [], ◌∷◌, ◌++◌, refl, sym, ap, ◌∙◌, subst}
+use Rattle.std.specs.Vec.Iter.{into_iter_items}
+use Rattle.server_desks.proofs.InStep.{moves-more}
+use Rattle.server_seating.proofs.staffing.rise_all.Goals as goal
+
+pub loop-job-preserved : goal.loop-job-preserved
+loop-job-preserved g c =
+    let i = c.loop-job.invariant in
+    record {
+      can_next = tt;
+      finite = tt;
+      moves = moves-more _ _ _ _ _ _ c.in-Some.job (record { desk = c.in-Some.job.desk; clerk = c.rise.result }) i.moves c.in-Some.ensures.steps.0 c.push_reserved.ensures.items (refl, c.rise.ensures);
+      room = search rules;
+    }

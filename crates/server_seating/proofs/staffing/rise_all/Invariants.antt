@@ -1,0 +1,12 @@
+use Rattle.std.proofs.Common.{◌≡◌, ◌≤◌, ℕ, [], length, vec_len, vec_capacity}
+use Rattle.std.specs.Vec.Iter.{into_iter_items}
+use Rattle.server_desks.proofs.InStep.{Moves}
+use Rattle.server_seating.proofs.staffing.rise_all.Given as goal
+
+abbrev pub invariant-loop-job : goal.invariant-loop-job
+invariant-loop-job g l = record {
+  can_next : (goal.iterator-loop-job g).can_next l.job-iterator;
+  finite : (goal.iterator-loop-job g).is_finite l.job-iterator;
+  moves : Moves l.fn.jobs.items (into_iter_items l.job-iterator) l.staffed.items (λ i a b. (b.desk ≡ a.desk) × (b.clerk ≡ a.gate.clerk));
+  room : vec_len l.fn.jobs ≤ vec_capacity l.staffed;
+}

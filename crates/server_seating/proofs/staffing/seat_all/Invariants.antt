@@ -1,0 +1,12 @@
+use Rattle.std.proofs.Common.{◌≡◌, ◌≤◌, ℕ, [], length, vec_len, vec_capacity}
+use Rattle.std.specs.Vec.Iter.{into_iter_items}
+use Rattle.server_desks.proofs.InStep.{Moves}
+use Rattle.server_seating.proofs.staffing.seat_all.Given as goal
+
+abbrev pub invariant-loop-one : goal.invariant-loop-one
+invariant-loop-one g l = record {
+  can_next : (goal.iterator-loop-one g).can_next l.one-iterator;
+  finite : (goal.iterator-loop-one g).is_finite l.one-iterator;
+  moves : Moves l.fn.staffed.items (into_iter_items l.one-iterator) l.jobs.items (λ i a b. (b.desk ≡ a.desk) × (b.gate.clerk ≡ a.clerk) × (b.connections ≡ l.fn.connections) × (b.width ≡ l.fn.width));
+  room : vec_len l.fn.staffed ≤ vec_capacity l.jobs;
+}

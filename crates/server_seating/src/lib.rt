@@ -1,0 +1,7 @@
+//! How one book serves the desks of a server, side by side.
+#![tactic(auto)]
+
+mod seating;
+mod staffing;
+
+pub use seating::{Course, run_book, starved};

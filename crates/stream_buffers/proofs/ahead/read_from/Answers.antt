@@ -1,0 +1,9 @@
+use Rattle.std.proofs.Common.{ap}
+use Rattle.sec_base.specs.Link.{Wire}
+use Rattle.stream_buffers.proofs.ahead.read_from.Goals as goal
+
+pub returns-in-Ok-clause-written : goal.returns-in-Ok-clause-written
+returns-in-Ok-clause-written g c = λ t. (c.in-Ok.ensures.told t).written
+
+pub returns-in-Err-clause-written : goal.returns-in-Err-clause-written
+returns-in-Err-clause-written g c = λ t. ap (λ (w : Wire). w.written) (c.in-Err.ensures.told t)

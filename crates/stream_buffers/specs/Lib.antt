@@ -1,0 +1,4 @@
+pub mod Ahead
+pub mod Behind
+pub mod Buffered
+pub mod HeldStreams

@@ -1,0 +1,247 @@
+//! Links that read ahead and write behind, for those whose reads and writes are calls of the system.
+
+ghost use Rattle.std.specs.Prelude.{◌≡◌, ◌<◌, ◌≤◌, ◌==◌, ◌++◌, true, false, [], length, take};
+ghost use Rattle.std.specs.Prelude.{IsTrue, IfOk, OnOk, OnErr};
+ghost use Rattle.sec_base.specs.Answers.{Rose};
+ghost use Rattle.sec_base.specs.Link.{Reads};
+ghost use Rattle.sec_base.specs.Streams.{Sends};
+ghost use Rattle.stream_buffers.specs.Ahead.{waiting_in};
+ghost use Rattle.stream_buffers.specs.Behind.{held, unwritten, Queues};
+
+use crate::ahead::{Ahead, ROOM, read_from};
+use crate::behind::Behind;
+use sec_base::{Link, LinkFault, Port, PortFault};
+use std::alloc::Global;
+
+/// A link that reads ahead, as many octets as are there and fit into 4,096, where fewer are wanted; where as many are wanted and none
+/// wait, they are read to where they are wanted. It writes behind: up to 8,192 octets wait until the link below is read, or closed, or
+/// until more come, so that the replies to calls that came together go out together. Where there was no memory for either, and once it is closed, it keeps
+/// none. A write that fails late is answered by the call that it was late for. It tells nothing of its octets.
+#[derive(Drop)]
+pub struct Buffered<L: Link> {
+    link: L,
+    ahead: Option<Ahead>,
+    behind: Option<Behind>,
+    may_wait: bool,
+    ghost unclosed: { may_wait ≡ true → L.closed link ≡ false },
+}
+
+/// Gives the octets that wait, and reads ahead before where none do.
+fn read_by<L: Link>(ahead: &mut Ahead, link: &mut L, buf: &mut [u8]) -> Result<usize, LinkFault>
+    requires { L.closed link.old ≡ false }
+    ensures count { IfOk result (λ count. count ≤ length buf.old) }
+    ensures unclosed { L.closed link.new ≡ false }
+    ensures written { IsTrue (L.tells link.old)
+        → (L.wire link.new).written ≡ (L.wire link.old).written }
+    ensures fault { OnErr result (Rose (L.faults link.old) (L.faults link.new)) }
+    ensures faults { L.faults link.old ≤ L.faults link.new }
+{
+    if ahead.is_empty() && !buf.is_empty() {
+        match ahead.fill(link) {
+            Ok(()) => {}
+            Err(fault) => return Err(fault),
+        }
+    }
+    Ok(ahead.move_to(buf))
+}
+
+/// Takes octets that are to be written. They wait, behind those that wait already. If there is no room for both, the first of them fill
+/// the room, and all that wait is written, so that no octets go out alone; octets behind which none wait, and for which there is no room,
+/// are written at once.
+fn write_by<L: Link>(behind: &mut Behind, link: &mut L, buf: &[u8]) -> Result<usize, LinkFault>
+    requires { L.closed link.old ≡ false }
+    ensures count { IfOk result (λ count. count ≤ length buf.now) }
+    ensures some { IfOk result (λ count. 0 < length buf.now → 0 < count) }
+    ensures in_order { IsTrue (L.tells link.old) → IfOk result
+        (λ count. Queues (L.wire link.old) (L.wire link.new) (unwritten behind.old)
+        (unwritten behind.new) (take count buf.now)) }
+    ensures unclosed { L.closed link.new ≡ false }
+    ensures fault { OnErr result (Rose (L.faults link.old) (L.faults link.new)) }
+    ensures faults { L.faults link.old ≤ L.faults link.new }
+{
+    if behind.has_room(buf) {
+        behind.keep(buf);
+        return Ok(buf.len());
+    }
+    let front = behind.keep_front(buf);
+    behind.flush(link)?;
+    if front > 0 {
+        return Ok(front);
+    }
+    link.write(buf)
+}
+
+impl<L: Link> Buffered<L> {
+    ghost use Rattle.stream_buffers.specs.Buffered.{link_below, read_ahead, written_behind};
+
+    /// A link over `link`, of which nothing was read ahead, and for which nothing waits.
+    pub fn over(alloc: Global, link: L) -> Buffered<L>
+        ensures below { link_below result ≡ link }
+        ensures ahead { read_ahead result ≡ [] }
+        ensures behind { written_behind result ≡ [] }
+    {
+        Buffered {
+            link,
+            ahead: Ahead::none(alloc),
+            behind: Behind::none(alloc),
+            may_wait: false,
+        }
+    }
+
+    /// Whether no octets wait that were read ahead, so that the next read asks the link below.
+    fn is_drained(&self) -> bool
+        ensures { result ≡ (length (waiting_in self.now.ahead) == 0) }
+    {
+        match &self.ahead {
+            Some(ahead) => ahead.is_empty(),
+            None => true,
+        }
+    }
+
+    /// Writes what waits.
+    fn flush(&mut self) -> Result<(), LinkFault>
+        requires { L.closed self.old.link ≡ false }
+        ensures none { held self.new.behind ≡ [] }
+        ensures told { IsTrue (L.tells self.old.link)
+            → Sends (L.wire self.old.link) (L.wire self.new.link) result (held self.old.behind) }
+        ensures tells { L.tells self.new.link ≡ L.tells self.old.link }
+        ensures unclosed { L.closed self.new.link ≡ false }
+        ensures fault { OnErr result (Rose (L.faults self.old.link) (L.faults self.new.link)) }
+        ensures faults { L.faults self.old.link ≤ L.faults self.new.link }
+    {
+        self.may_wait = false;
+        match &mut self.behind {
+            Some(behind) => behind.flush(&mut self.link),
+            None => Ok(()),
+        }
+    }
+
+    /// Writes what waits, if the next read asks the link below.
+    fn drain(&mut self) -> Result<(), LinkFault>
+        requires { L.closed self.old.link ≡ false }
+        ensures none { waiting_in self.old.ahead ≡ [] → held self.new.behind ≡ [] }
+        ensures written { IsTrue (L.tells self.old.link) → waiting_in self.old.ahead ≡ []
+            → OnOk result ((L.wire self.new.link).written
+            ≡ (L.wire self.old.link).written ++ held self.old.behind) }
+        ensures tells { L.tells self.new.link ≡ L.tells self.old.link }
+        ensures unclosed { L.closed self.new.link ≡ false }
+        ensures fault { OnErr result (Rose (L.faults self.old.link) (L.faults self.new.link)) }
+        ensures faults { L.faults self.old.link ≤ L.faults self.new.link }
+    {
+        if self.is_drained() {
+            return self.flush();
+        }
+        Ok(())
+    }
+
+    /// Gives the next octets, those that were read ahead first, and writes none.
+    fn give(&mut self, buf: &mut [u8]) -> Result<usize, LinkFault>
+        requires { L.closed self.old.link ≡ false }
+        ensures count { IfOk result (λ count. count ≤ length buf.old) }
+        ensures behind { held self.new.behind ≡ held self.old.behind }
+        ensures written { IsTrue (L.tells self.old.link)
+            → (L.wire self.new.link).written ≡ (L.wire self.old.link).written }
+        ensures unclosed { L.closed self.new.link ≡ false }
+        ensures fault { OnErr result (Rose (L.faults self.old.link) (L.faults self.new.link)) }
+        ensures faults { L.faults self.old.link ≤ L.faults self.new.link }
+    {
+        match &mut self.ahead {
+            Some(ahead) if buf.len() < ROOM || !ahead.is_empty() => {
+                read_by(ahead, &mut self.link, buf)
+            }
+            _ => read_from(&mut self.link, buf),
+        }
+    }
+}
+
+impl<L: Link> Link for Buffered<L> {
+    ghost use Rattle.std.specs.Prelude.{false, []};
+    ghost use Rattle.stream_buffers.specs.Buffered.{link_below, read_ahead, written_behind};
+
+    ghost faults = { λ b. L.faults b.link };
+
+    ghost tells = { λ _. false };
+
+    ghost wire = { λ _. record { taken = []; coming = []; written = [] } };
+
+    ghost closed = { λ b. L.closed b.link };
+
+    fn read(&mut self, buf: &mut [u8]) -> Result<usize, LinkFault>
+        requires { ⟦<Buffered<L> as Link>⟧.closed self.old ≡ false }
+        ensures count { IfOk result (λ count. count ≤ length buf.old) }
+        ensures told { IsTrue (⟦<Buffered<L> as Link>⟧.tells self.old)
+            → Reads (⟦<Buffered<L> as Link>⟧.wire self.old) (⟦<Buffered<L> as Link>⟧.wire self.new)
+            result buf.new }
+        ensures tells { ⟦<Buffered<L> as Link>⟧.tells self.new
+            ≡ ⟦<Buffered<L> as Link>⟧.tells self.old }
+        ensures unclosed { ⟦<Buffered<L> as Link>⟧.closed self.new ≡ false }
+        ensures fault { OnErr result (Rose (⟦<Buffered<L> as Link>⟧.faults self.old)
+            (⟦<Buffered<L> as Link>⟧.faults self.new)) }
+        ensures faults { ⟦<Buffered<L> as Link>⟧.faults self.old
+            ≤ ⟦<Buffered<L> as Link>⟧.faults self.new }
+        // before the link below is asked, what waits to be written is written to it
+        ensures drained { read_ahead self.old ≡ [] → written_behind self.new ≡ [] }
+        ensures written { IsTrue (L.tells (link_below self.old)) → read_ahead self.old ≡ []
+            → OnOk result ((L.wire (link_below self.new)).written
+            ≡ (L.wire (link_below self.old)).written ++ written_behind self.old) }
+    {
+        self.drain()?;
+        self.give(buf)
+    }
+
+    fn write(&mut self, buf: &[u8]) -> Result<usize, LinkFault> {
+        self.may_wait = true;
+        match &mut self.behind {
+            Some(behind) => write_by(behind, &mut self.link, buf),
+            None => self.link.write(buf),
+        }
+    }
+
+    fn close(&mut self) {
+        if self.may_wait {
+            let _ = self.flush();
+        }
+        self.may_wait = false;
+        self.ahead = None;
+        self.behind = None;
+        self.link.close();
+    }
+}
+
+/// A port whose links read ahead and write behind.
+#[derive(Drop)]
+pub struct BufferedPort<P> {
+    port: P,
+    alloc: Global,
+}
+
+impl<P: Port> BufferedPort<P> {
+    ghost use Rattle.stream_buffers.specs.Buffered.{port_below};
+
+    /// A port whose links are those of `port`.
+    pub fn new(alloc: Global, port: P) -> BufferedPort<P>
+        ensures { port_below result ≡ port }
+    {
+        BufferedPort { port, alloc }
+    }
+}
+
+impl<P: Port> Port for BufferedPort<P> {
+    ghost use Rattle.std.specs.Prelude.{false, []};
+
+    type Link = Buffered<P::Link>;
+
+    ghost faults = { λ p. P.faults p.port };
+
+    ghost tells = { λ _. false };
+
+    ghost links = { λ _. [] };
+
+    fn accept(&mut self) -> Result<Option<Buffered<P::Link>>, PortFault> {
+        match self.port.accept() {
+            Ok(Some(link)) => Ok(Some(Buffered::over(self.alloc, link))),
+            Ok(None) => Ok(None),
+            Err(fault) => Err(fault),
+        }
+    }
+}
