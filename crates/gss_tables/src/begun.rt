@@ -7,7 +7,7 @@ ghost use Rattle.spnego_core.specs.Ends.{setup_of};
 ghost use Rattle.init_ends.specs.Arming.{AreStandard};
 ghost use Rattle.init_ends.specs.Ends.{setup_means, setup_by};
 ghost use Rattle.init_ends.specs.Plain.{objects_of};
-ghost use Rattle.world_laws.specs.Worlds.{world_means, IsWorld};
+ghost use Rattle.world_runs.specs.Worlds.{world_means, IsWorld};
 
 use accept_book::{Limits, OwnSeat};
 use init_ends::InitSetup;
@@ -16,7 +16,7 @@ use sec_base::{Items, Moment, NoMemory, Text};
 use spnego_core::{AcceptSetup, MechCred};
 use std::alloc::Global;
 use table_setting::Setting;
-use world_laws::{InitFacts, World, WorldSetup};
+use world_runs::{InitFacts, World, WorldSetup};
 
 /// A copy of a credential.
 fn copied(alloc: Global, cred: &MechCred) -> Result<MechCred, NoMemory>

@@ -6,7 +6,7 @@ ghost use Rattle.spnego_core.specs.Ends.{setup_of};
 ghost use Rattle.init_ends.specs.Arming.{AreStandard};
 ghost use Rattle.init_ends.specs.Ends.{setup_by};
 ghost use Rattle.init_ends.specs.Plain.{objects_of};
-ghost use Rattle.world_laws.specs.Worlds.{world_means, IsWorld};
+ghost use Rattle.world_runs.specs.Worlds.{world_means, IsWorld};
 ghost use Rattle.mech_objects.specs.Made.{AreMade};
 
 use crate::begun::{Begun, begin, book, list_of, world_alone};
@@ -18,7 +18,7 @@ use spnego_core::{AcceptSetup, MechCred};
 use std::alloc::Global;
 use table_rows::{Cells, Said};
 use table_setting::Setting;
-use world_laws::{World, call_once, meet};
+use world_runs::{World, call_once, meet};
 
 /// How far an exchange came.
 #[derive(Clone, Copy)]

@@ -8,7 +8,7 @@ ghost use Rattle.init_ends.specs.Ends.{setup_by};
 ghost use Rattle.init_ends.specs.Plain.{objects_of};
 ghost use Rattle.accept_book.specs.Served.{are_args};
 ghost use Rattle.world_laws.specs.Events.{IsProper};
-ghost use Rattle.world_laws.specs.Worlds.{world_means, IsWorld};
+ghost use Rattle.world_runs.specs.Worlds.{world_means, IsWorld};
 ghost use Rattle.mech_objects.specs.Made.{AreMade};
 
 use crate::begun::{Begun, Given, begin_both, begun_by, given_by};
@@ -20,7 +20,8 @@ use spnego_core::AcceptSetup;
 use std::alloc::Global;
 use table_rows::{Cells, Said};
 use table_setting::{Setting, octets_by_name, saying};
-use world_laws::{Happened, World, WorldEvent};
+use world_laws::{Happened, WorldEvent};
+use world_runs::World;
 
 /// A world, how many events it had, the moment of each of them, and the records that were handed out.
 #[derive(Drop)]

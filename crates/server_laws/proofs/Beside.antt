@@ -12,8 +12,8 @@ use Rattle.world_laws.specs.declared.event.Happened.TheVariants.{Stepped}
 use Rattle.world_laws.specs.Events.{IsBook, Next}
 use Rattle.world_laws.specs.Lanes.{in_hand, with_lane}
 use Rattle.world_laws.specs.State.{InHand, World}
-use Rattle.world_laws.specs.Turning.{Turned}
-use Rattle.world_laws.proofs.LaneTurns.{hand_with}
+use Rattle.world_runs.specs.Turning.{Turned}
+use Rattle.world_runs.proofs.LaneTurns.{hand_with}
 use Rattle.world_laws.proofs.Slices.{set-same, set-other}
 use Rattle.server_laws.specs.Beside.{Leaves, left_with, RunsBeside}
 use Rattle.server_laws.specs.Served.{LegalAnswers, Meanwhile, event_of}

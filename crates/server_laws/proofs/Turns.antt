@@ -19,11 +19,11 @@ use Rattle.world_laws.specs.Deeds.{Deed}
 use Rattle.world_laws.specs.Events.{IsBook, LanesBy, Happens}
 use Rattle.world_laws.specs.Lanes.{told_width, in_hand, question_of, ruling_of, hand_after, IsAnswer, with_lane, LaneMoves}
 use Rattle.world_laws.specs.State.{InHand, World}
-use Rattle.world_laws.specs.Turning.{AtOnce, ByBook, Turned}
-use Rattle.world_laws.proofs.LaneTurns.{hand_with, lane-moved}
+use Rattle.world_runs.specs.Turning.{AtOnce, ByBook, Turned}
+use Rattle.world_runs.proofs.LaneTurns.{hand_with, lane-moved}
 use Rattle.history_laws.proofs.Past.{past-of}
 use Rattle.world_laws.proofs.RulingPlan.{Late, Rules, Admits, Ends, Plan, Decides, Steps, Looks, Ruled, ruled, plan_by, late_by, rulings, record-planned}
-use Rattle.world_laws.proofs.RulingTurns.{ruling_after}
+use Rattle.world_runs.proofs.RulingTurns.{ruling_after}
 use Rattle.world_laws.proofs.Slices.{set-same}
 use Rattle.server_laws.specs.Beside.{asked_in}
 use Rattle.server_laws.specs.Served.{LegalAnswers, IsOver, Answered, Serves, ruling_at}

@@ -1,4 +1,3 @@
-mod Promising
 pub mod Invariants
 pub mod Freshness
 pub mod HeldLists
@@ -35,11 +34,7 @@ pub mod Makers
 pub mod OnceMakers
 pub mod OnceKept
 pub mod Once
-pub mod Wanting
-pub mod LaneTurns
 pub mod RulingPlan
-pub mod RulingTurns
-pub mod Turns
 pub mod OwnTexts
 pub mod OnceOwners
 pub mod Spelled
@@ -80,23 +75,3 @@ pub mod Undecided
 pub mod Arriving
 pub mod Quiet
 pub mod Headlines
-mod MetTokens
-mod MetTexts
-mod MetMessages
-mod MetRounds
-mod MetFinishes
-mod MetHonest
-mod MetPairs
-mod MetEvents
-mod MetStays
-pub mod MetCalled
-mod MetCalls
-mod MetRules
-pub mod MetLater
-mod MetSpoken
-pub mod MetWhole
-pub mod Told
-pub mod Beginning
-pub mod Stepping
-pub mod AsCredentials
-pub mod AllAsCredentials

@@ -1,6 +1,4 @@
 pub mod Stages
-pub mod Objects
-pub mod ObjectMoves
 pub mod State
 pub mod Deeds
 pub mod Initiators
@@ -13,13 +11,4 @@ pub mod OneMechanism
 pub mod Origin
 pub mod KnownList
 pub mod Headline
-pub mod Moving
-pub mod Turning
-pub mod Passing
-pub mod Showing
-pub mod Parting
-pub mod Worlds
 pub mod Below
-pub mod Promised
-pub mod Meeting
-pub mod Carrying

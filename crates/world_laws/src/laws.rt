@@ -12,7 +12,7 @@ use accept_book::laws::prove_book_laws;
 use spnego_core::{prove_accept_laws, prove_init_laws};
 
 /// Does nothing; its contract holds the laws of the crates below.
-pub(crate) fn tell_below()
+pub fn tell_below()
     ensures { Below }
 {
     krb_derive::prove_laws();

@@ -1,4 +1,4 @@
-use Rattle.world_laws.specs.Worlds.{world_means, IsWorld}
+use Rattle.world_runs.specs.Worlds.{world_means, IsWorld}
 use Rattle.gss_tables.proofs.worlds.go_through.Given as goal
 
 abbrev pub invariant-loop-part : goal.invariant-loop-part

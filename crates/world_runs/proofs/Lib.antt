@@ -1,0 +1,25 @@
+mod Promising
+pub mod Wanting
+pub mod LaneTurns
+pub mod RulingTurns
+pub mod Turns
+mod MetTokens
+mod MetTexts
+mod MetMessages
+mod MetRounds
+mod MetFinishes
+mod MetHonest
+mod MetPairs
+mod MetEvents
+mod MetStays
+pub mod MetCalled
+mod MetCalls
+mod MetRules
+pub mod MetLater
+mod MetSpoken
+pub mod MetWhole
+pub mod Told
+pub mod Beginning
+pub mod Stepping
+pub mod AsCredentials
+pub mod AllAsCredentials

@@ -1,0 +1,11 @@
+pub mod Objects
+pub mod ObjectMoves
+pub mod Moving
+pub mod Turning
+pub mod Passing
+pub mod Showing
+pub mod Parting
+pub mod Worlds
+pub mod Promised
+pub mod Meeting
+pub mod Carrying
