@@ -10,10 +10,10 @@ use Rattle.cli_base.specs.declared.files.FileStop.{FileStop}
 use Rattle.cli_base.specs.declared.files.FileStop.TheVariants as stops
 use Rattle.client_command.specs.Credentials.{◌>>=◌, cache_in, password_in, creds_with, end_by, is_unloaded, Finds, AskedOne, AsksOne}
 use Rattle.client_command.specs.Loading.{if_read, FromNamed, AreCreds}
-use Rattle.client_command.specs.declared.ending.RunEnd.{RunEnd}
-use Rattle.client_command.specs.declared.ending.RunEnd.TheVariants.{NoMemory}
-use Rattle.client_command.specs.declared.ending.WordFile.{WordFile}
-use Rattle.client_command.specs.declared.words.Sources.{Sources}
+use Rattle.client_options.specs.declared.ending.RunEnd.{RunEnd}
+use Rattle.client_options.specs.declared.ending.RunEnd.TheVariants.{NoMemory}
+use Rattle.client_options.specs.declared.ending.WordFile.{WordFile}
+use Rattle.client_options.specs.declared.words.Sources.{Sources}
 
 read-some : {A : Type 0} (tells : Bool) (files : List NamedFile) (before after : List (List ℕ)) (faults faults' : ℕ) (name : List ℕ) (read_in : Result (List ℕ) FileStop → Result A RunEnd) (read : Result A RunEnd)
     → FromShelf NoMemory tells files before after faults faults' name read_in read → FromShelf NoMemory tells files before after faults faults' name (λ answer. if_read (read_in answer)) (if_read read)

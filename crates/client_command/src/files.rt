@@ -10,8 +10,8 @@ ghost use Rattle.client_command.specs.Credentials.{password_from, is_unloaded, F
 ghost use Rattle.client_command.specs.Credentials.{AsksOne};
 ghost use Rattle.client_command.specs.Loading.{ReadFrom, ReadNamed};
 
-use crate::ending::{RunEnd, WordFile};
 use cli_base::{FileStop, load, stop_of};
+use client_options::{RunEnd, WordFile};
 use krb_files::{Ccache, read_ccache};
 use sec_base::{NoMemory, Shelf, Text};
 use std::alloc::Global;

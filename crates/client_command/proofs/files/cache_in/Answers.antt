@@ -2,7 +2,7 @@ use Rattle.std.proofs.Common.{Ok, Err, refl, sym, ap}
 use Rattle.cli_base.specs.Files.{file_in}
 use Rattle.client_command.proofs.Loading.{finds-read, asked-one, not-missing, finds-stop, asked-stop, missing-stop}
 use Rattle.client_command.specs.Credentials.{cache_in}
-use Rattle.client_command.specs.declared.ending.WordFile.TheVariants.{Ccache}
+use Rattle.client_options.specs.declared.ending.WordFile.TheVariants.{Ccache}
 use Rattle.client_command.proofs.files.cache_in.Goals as goal
 
 pub returns-in-Ok-clause-read : goal.returns-in-Ok-clause-read
