@@ -13,9 +13,9 @@ use Rattle.krb_files.specs.Granted.{Granted, Cache}
 use Rattle.spnego_core.specs.Choice.{are_few}
 use Rattle.spnego_core.specs.InitMech.{name_of, oid_listed, is_own_list}
 use Rattle.spnego_core.specs.declared.setup.MechCred.{MechCred}
-use Rattle.mech_words.proofs.Naming.{behind}
+use Rattle.client_options.proofs.Naming.{behind}
 use Rattle.client_command.specs.Credentials.{◌>>=◌, or_none, ticket_for, login_of, cred_for, listed, creds_with}
-use Rattle.mech_words.specs.Mechs.{is_list}
+use Rattle.client_options.specs.Mechs.{is_list}
 use Rattle.client_options.specs.declared.ending.RunEnd.{RunEnd}
 use Rattle.client_options.specs.declared.ending.RunEnd.TheVariants.{NoMemory}
 use Rattle.client_options.specs.declared.words.Sources.{Sources}

@@ -7,7 +7,7 @@ ghost use Rattle.client_command.specs.Credentials.{ticket_for, login_of, cred_fo
 ghost use Rattle.client_command.specs.Credentials.{creds_from, is_unloaded, Finds, AsksFor};
 ghost use Rattle.client_options.specs.Endings.{is_begun};
 ghost use Rattle.client_command.specs.Loading.{CredsFrom};
-ghost use Rattle.mech_words.specs.Mechs.{is_list};
+ghost use Rattle.client_options.specs.Mechs.{is_list};
 
 use crate::files::{cache_given, password_given};
 use client_options::{RunEnd, Sources};

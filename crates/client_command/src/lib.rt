@@ -6,5 +6,6 @@ mod credential;
 mod files;
 
 pub use client::{ClientEnd, run_client};
-pub use client_options::{ClientWords, Plan, RunEnd, Sources, WordFile, WordsRefusal};
-pub use client_options::{address_of, read_words};
+pub use client_options::{
+    ClientWords, Plan, RunEnd, Sources, WordFile, WordsRefusal, address_of, read_words,
+};

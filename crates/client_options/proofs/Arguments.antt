@@ -8,7 +8,7 @@ use Rattle.cli_base.specs.Words.{value_of, plain_of}
 use Rattle.rpc_msgs.specs.Words.{opaque}
 use Rattle.gss_client.specs.declared.procedure.Procedure.{Procedure}
 use Rattle.gss_client.specs.declared.procedure.Procedure.TheVariants.{Null, Echo, Whoami, Post, Count}
-use Rattle.mech_words.specs.Mechs.{same}
+use Rattle.mech_words.specs.Names.{same}
 use Rattle.client_options.specs.Words.{data_by, bare, with_data, asked_by, asked_in, is_command, service_given, plan_of, sources_of, words_of, IsData, IsArgument}
 use Rattle.client_options.specs.declared.words.Asked.{Asked}
 use Rattle.client_options.specs.declared.words.ClientWords.{ClientWords}

@@ -12,7 +12,8 @@ use Rattle.gss_client.specs.declared.procedure.Procedure.TheVariants.{Null, Echo
 use Rattle.cli_base.specs.Given.{◌>>=◌, or_usage, demanded}
 use Rattle.cli_base.specs.Words.{are_words, first_word, value_of, plain_of}
 use Rattle.cli_words.specs.Line.{IsLine, client_names}
-use Rattle.mech_words.specs.Mechs.{same, words_in, mech_named, mechs_named, is_list, mechs_by, are_equipped, equipped, usual, mechs_given}
+use Rattle.mech_words.specs.Names.{same, mech_named}
+use Rattle.client_options.specs.Mechs.{words_in, mechs_named, is_list, mechs_by, are_equipped, equipped, usual, mechs_given}
 use Rattle.client_options.specs.Words.{bare, with_data, asked_by, asked_in, is_command, is_line, name_by, server_given, has_krb5, has_scram, plan_of, sources_of, words_of}
 use Rattle.client_options.specs.declared.words.ClientWords.{ClientWords}
 use Rattle.client_options.specs.declared.words.Sources.{Sources}

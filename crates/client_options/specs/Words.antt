@@ -19,7 +19,8 @@ use Rattle.cli_words.specs.Line.{client_names}
 use Rattle.hex.specs.Hex.{decode_of}
 use Rattle.hex.specs.declared.error.FromHexError.{FromHexError}
 use Rattle.rpc_msgs.specs.Words.{opaque}
-use Rattle.mech_words.specs.Mechs.{same, mechs_given}
+use Rattle.mech_words.specs.Names.{same}
+use Rattle.client_options.specs.Mechs.{mechs_given}
 use Rattle.client_options.specs.declared.words.Asked.{Asked}
 use Rattle.client_options.specs.declared.words.ClientWords.{ClientWords}
 use Rattle.client_options.specs.declared.words.Plan.{Plan}

@@ -3,8 +3,9 @@
 
 mod ending;
 mod lines;
+mod mechs;
 mod words;
 
 pub use ending::{Names, RunEnd, WordFile, end_of, say_end};
-pub use lines::lines;
+pub use lines::lines_of;
 pub use words::{ClientWords, Plan, Sources, WordsRefusal, address_of, read_words};

@@ -118,7 +118,7 @@ fn push_result(
 }
 
 /// The lines of a session with this outcome and these results of a procedure.
-pub fn lines(
+pub fn lines_of(
     alloc: Global,
     procedure: Procedure,
     outcome: &Option<Outcome>,

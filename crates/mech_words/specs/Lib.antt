@@ -1,1 +1,1 @@
-pub mod Mechs
+pub mod Names

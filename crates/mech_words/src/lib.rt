@@ -1,6 +1,6 @@
-//! The mechanisms that the client's words list, the preferred one first.
+//! The words that name a mechanism.
 #![tactic(auto)]
 
-mod mechs;
+mod names;
 
-pub use mechs::mechs_given;
+pub use names::mech_named;

@@ -1,6 +1,6 @@
 use Rattle.std.proofs.Common.{◌∙◌, [], Ok, sym, ap}
-use Rattle.mech_words.proofs.Naming.{next-name, all-names}
-use Rattle.mech_words.proofs.mechs.mechs_named.Goals as goal
+use Rattle.client_options.proofs.Naming.{next-name, all-names}
+use Rattle.client_options.proofs.mechs.mechs_named.Goals as goal
 
 pub loop-word-preserved : goal.loop-word-preserved
 loop-word-preserved c =

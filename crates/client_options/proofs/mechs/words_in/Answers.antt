@@ -2,7 +2,7 @@ use Rattle.std.proofs.Common.{arith}
 use Rattle.std.proofs.lemmas.Iterator.Consumers.{map_from_collect}
 use Rattle.std.proofs.lemmas.Iterator.Splits.{YieldsList-from_str_split}
 use Rattle.std.proofs.lemmas.Result.{IfOk-at_ok}
-use Rattle.mech_words.proofs.mechs.words_in.Goals as goal
+use Rattle.client_options.proofs.mechs.words_in.Goals as goal
 
 pub returns : goal.returns
 returns c =

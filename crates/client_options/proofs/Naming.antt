@@ -6,7 +6,8 @@ use Rattle.gss_base.specs.declared.mech.MechName.{MechName}
 use Rattle.cli_base.specs.Given.{◌>>=◌}
 use Rattle.cli_base.specs.Words.{texts}
 use Rattle.cli_base.specs.declared.given.WordsRefusal.{WordsRefusal}
-use Rattle.mech_words.specs.Mechs.{mech_named, mechs_named}
+use Rattle.mech_words.specs.Names.{mech_named}
+use Rattle.client_options.specs.Mechs.{mechs_named}
 
 -- a list that was read behind values that stand already
 abbrev pub behind : {A E : Type 0} → List A → Result (List A) E → Result (List A) E

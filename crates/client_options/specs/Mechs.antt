@@ -1,10 +1,9 @@
 -- The list of mechanisms among the words of the client: the words between its commas, the mechanism
 -- that each of them names, and the list without these words.
-use Rattle.std.specs.Prelude.{ℕ, ◌==◌, Bool, true, false, nat_eq, List, [], ◌∷◌, map, codes}
-use Rattle.std.specs.Prelude.{Option, Some, None, Result, Ok, Err, if◌then◌else◌}
+use Rattle.std.specs.Prelude.{ℕ, ◌==◌, Bool, true, false, List, [], ◌∷◌, map}
+use Rattle.std.specs.Prelude.{Option, Some, None, Result, Ok, Err}
 use Rattle.std.specs.List.{slice_split, list_all}
-use lib.Pointwise.{pointwise}
-use Rattle.gss_base.specs.declared.mech.KerberosName.TheVariants.{Standard, Microsoft}
+use Rattle.gss_base.specs.declared.mech.KerberosName.TheVariants.{Standard}
 use Rattle.gss_base.specs.declared.mech.MechName.{MechName}
 use Rattle.gss_base.specs.declared.mech.MechName.TheVariants as names
 use Rattle.gss_base.specs.Mech.{oid_named}
@@ -12,24 +11,13 @@ use Rattle.spnego_core.specs.Choice.{are_few}
 use Rattle.cli_base.specs.Given.{◌>>=◌, demanded}
 use Rattle.cli_base.specs.declared.given.WordsRefusal.{WordsRefusal}
 use Rattle.cli_base.specs.declared.given.WordsRefusal.TheVariants.{Usage}
-
--- two words are the same
-abbrev pub same : List ℕ → List ℕ → Bool
-same = pointwise nat_eq
+use Rattle.mech_words.specs.Names.{mech_named}
 
 -- ---- the list by its words
 
 -- the words between the commas of a text
 abbrev pub words_in : List ℕ → List (List ℕ)
 words_in text = slice_split (λ octet. octet == 44) text
-
--- the mechanism that a word names: Kerberos under its own name or under Microsoft's, or SCRAM
-abbrev pub mech_named : List ℕ → Result MechName WordsRefusal
-mech_named word =
-    if same word (codes "krb5") then Ok (names.Kerberos Standard)
-    else if same word (codes "ms-krb5") then Ok (names.Kerberos Microsoft)
-    else if same word (codes "scram") then Ok names.Scram
-    else Err Usage
 
 -- the mechanism of each word, in their order
 abbrev pub mechs_named : List (List ℕ) → Result (List MechName) WordsRefusal

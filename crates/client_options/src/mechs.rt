@@ -6,12 +6,13 @@ ghost use Rattle.sec_base.specs.Answers.{Gives};
 ghost use Rattle.gss_base.specs.Mech.{oid_named};
 ghost use Rattle.spnego_core.specs.Choice.{is_same_oid};
 ghost use Rattle.cli_base.specs.Words.{texts};
-ghost use Rattle.mech_words.specs.Mechs.{words_in, mech_named, mechs_named, is_list};
-ghost use Rattle.mech_words.specs.Mechs.{mechs_by, is_equipped, are_equipped, equipped, usual};
-ghost use Rattle.mech_words.specs.Mechs.{mechs_given};
+ghost use Rattle.client_options.specs.Mechs.{words_in, mechs_named, is_list};
+ghost use Rattle.client_options.specs.Mechs.{mechs_by, is_equipped, are_equipped, equipped, usual};
+ghost use Rattle.client_options.specs.Mechs.{mechs_given};
 
 use cli_base::{WordsRefusal, demand};
 use gss_base::{KerberosName, MechName};
+use mech_words::mech_named;
 use sec_base::{Items, NoMemory};
 use std::alloc::Global;
 
@@ -21,22 +22,6 @@ fn words_in(alloc: Global, text: &str) -> Result<Vec<&str>, NoMemory>
 {
     let words: Vec<&str> = text.split(',').collect(alloc)?;
     Ok(words)
-}
-
-/// The mechanism that a word names.
-fn mech_named(word: &str) -> Result<MechName, WordsRefusal>
-    ensures { result ≡ mech_named word.now }
-{
-    if word == "krb5" {
-        return Ok(MechName::Kerberos(KerberosName::Standard));
-    }
-    if word == "ms-krb5" {
-        return Ok(MechName::Kerberos(KerberosName::Microsoft));
-    }
-    if word == "scram" {
-        return Ok(MechName::Scram);
-    }
-    Err(WordsRefusal::Usage)
 }
 
 /// The mechanism of each word, in their order.
