@@ -61,7 +61,7 @@ Stops {A} file read_in = (stop : FileStop) → read_in (Err stop) ≡ Err (end_b
 
 -- the end of a run that ended by such a file
 ends-by : {A : Type 0} (file : WordFile) (read_in : Result (List ℕ) FileStop → Result A RunEnd) (stop : FileStop) (end : RunEnd) → Stops file read_in → read_in (Err stop) ≡ Err end → end_by file stop ≡ end
-ends-by {A} file read_in stop end stopped is = same-end {A} (end_by file stop) end (sym (stopped stop) ∙ is)
+ends-by {A} file read_in stop end stopped is = same-end {A = A} (end_by file stop) end (sym (stopped stop) ∙ is)
 
 -- what is due of a file's answer is found
 pub finds-loaded : {A : Type 0} (file : WordFile) (read_in : Result (List ℕ) FileStop → Result A RunEnd) (due loaded : Result (List ℕ) FileStop) (read : Result A RunEnd)
@@ -75,14 +75,14 @@ finds-loaded {A} file read_in due (Err stops.NoMemory) (Ok what) stopped told gi
 finds-loaded {A} file read_in due (Err stops.NoMemory) (Err end) stopped told given = λ loaded other. absurd (other (sym (ends-by file read_in stops.NoMemory end stopped (given other))))
 
 -- the shelf was asked for the file
-pub asked-loaded : {A : Type 0} {old new : List (List ℕ)} {name : List ℕ} (file : WordFile) (read_in : Result (List ℕ) FileStop → Result A RunEnd) (loaded : Result (List ℕ) FileStop) (read : Result A RunEnd)
+pub asked-loaded : {A : Type 0} (old new : List (List ℕ)) (name : List ℕ) (file : WordFile) (read_in : Result (List ℕ) FileStop → Result A RunEnd) (loaded : Result (List ℕ) FileStop) (read : Result A RunEnd)
     → Stops file read_in → AsksFile old new name loaded → Gives NoMemory (λ what. what) read (read_in loaded) → AsksOne old new (Some name) read
-asked-loaded {A} file read_in (Ok octets) (Ok what) stopped all given = all
-asked-loaded {A} file read_in (Ok octets) (Err end) stopped all given = record { front = (1, all); whole = λ other. all }
-asked-loaded {A} file read_in (Err stop) (Ok what) stopped all given = let bad : ◌≡◌ {A = Result A RunEnd} (Err (end_by file stop)) (Ok what) = sym (stopped stop) ∙ given in cc
-asked-loaded {A} file read_in (Err stops.CannotLoad) (Err end) stopped all given = record { front = (1, all); whole = λ other. all }
-asked-loaded {A} file read_in (Err (stops.Bad at)) (Err end) stopped all given = record { front = (1, all); whole = λ other. all }
-asked-loaded {A} file read_in (Err stops.NoMemory) (Err end) stopped front given = record { front = front; whole = λ other. absurd (other (sym (ends-by file read_in stops.NoMemory end stopped (given other)))) }
+asked-loaded {A} old new name file read_in (Ok octets) (Ok what) stopped all given = all
+asked-loaded {A} old new name file read_in (Ok octets) (Err end) stopped all given = record { front = (1, all); whole = λ other. all }
+asked-loaded {A} old new name file read_in (Err stop) (Ok what) stopped all given = let bad : ◌≡◌ {A = Result A RunEnd} (Err (end_by file stop)) (Ok what) = sym (stopped stop) ∙ given in cc
+asked-loaded {A} old new name file read_in (Err stops.CannotLoad) (Err end) stopped all given = record { front = (1, all); whole = λ other. all }
+asked-loaded {A} old new name file read_in (Err (stops.Bad at)) (Err end) stopped all given = record { front = (1, all); whole = λ other. all }
+asked-loaded {A} old new name file read_in (Err stops.NoMemory) (Err end) stopped front given = record { front = front; whole = λ other. absurd (other (sym (ends-by file read_in stops.NoMemory end stopped (given other)))) }
 
 -- ---- what can't be loaded
 

@@ -17,7 +17,7 @@ returns-clause-found g c = λ t.
     finds-loaded Ccache cache_in (file_in (g.F.Shelf.files c.args.shelf.now) c.args.name.now) c.load.result c.cache_of.result (λ stop. refl) (c.load.ensures.told t) c.cache_of.ensures.value
 
 pub returns-clause-asked : goal.returns-clause-asked
-returns-clause-asked g c = λ t. asked-loaded Ccache cache_in c.load.result c.cache_of.result (λ stop. refl) (c.load.ensures.asked t) c.cache_of.ensures.value
+returns-clause-asked g c = λ t. asked-loaded _ _ _ Ccache cache_in c.load.result c.cache_of.result (λ stop. refl) (c.load.ensures.asked t) c.cache_of.ensures.value
 
 pub returns-clause-fault : goal.returns-clause-fault
 returns-clause-fault g c = missing-loaded c.cache_of.result c.load.result c.cache_of.ensures.unloaded c.load.ensures.fault

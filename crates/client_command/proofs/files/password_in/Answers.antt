@@ -17,7 +17,7 @@ returns-clause-found g c = λ t.
     finds-loaded Password password_in (file_in (g.F.Shelf.files c.args.shelf.now) c.args.name.now) c.load.result c.password_of.result (λ stop. refl) (c.load.ensures.told t) c.password_of.ensures.value
 
 pub returns-clause-asked : goal.returns-clause-asked
-returns-clause-asked g c = λ t. asked-loaded Password password_in c.load.result c.password_of.result (λ stop. refl) (c.load.ensures.asked t) c.password_of.ensures.value
+returns-clause-asked g c = λ t. asked-loaded _ _ _ Password password_in c.load.result c.password_of.result (λ stop. refl) (c.load.ensures.asked t) c.password_of.ensures.value
 
 pub returns-clause-fault : goal.returns-clause-fault
 returns-clause-fault g c = missing-loaded c.password_of.result c.load.result c.password_of.ensures.unloaded c.load.ensures.fault
