@@ -6,11 +6,11 @@ use Rattle.std.specs.Prelude.{IfErr}
 use Rattle.cli_base.specs.declared.files.FileStop.{FileStop}
 use Rattle.cli_base.specs.declared.files.FileStop.TheVariants as stops
 use Rattle.client_command.specs.Credentials.{end_by, IsStopOf, file_named, files_named, asked_until, AskedOne, Asks, AsksFor}
-use Rattle.client_command.specs.Endings.{is_begun}
-use Rattle.client_command.specs.declared.ending.RunEnd.{RunEnd}
-use Rattle.client_command.specs.declared.ending.RunEnd.TheVariants.{Usage, CannotLoad, Bad, NoCredential, NoMemory, LinkFault, PeerEnded, Refused, Negotiation, BadReply, Foreign, Spent, Finished}
-use Rattle.client_command.specs.declared.ending.WordFile.TheVariants.{Ccache, Password}
-use Rattle.client_command.specs.declared.words.Sources.{Sources}
+use Rattle.client_options.specs.Endings.{is_begun}
+use Rattle.client_options.specs.declared.ending.RunEnd.{RunEnd}
+use Rattle.client_options.specs.declared.ending.RunEnd.TheVariants.{Usage, CannotLoad, Bad, NoCredential, NoMemory, LinkFault, PeerEnded, Refused, Negotiation, BadReply, Foreign, Spent, Finished}
+use Rattle.client_options.specs.declared.ending.WordFile.TheVariants.{Ccache, Password}
+use Rattle.client_options.specs.declared.words.Sources.{Sources}
 
 -- ---- the cache can't be used
 

@@ -5,11 +5,11 @@ use Rattle.spnego_core.specs.declared.setup.MechCred.{MechCred}
 use Rattle.client_command.proofs.Asking.{asked-begun}
 use Rattle.client_command.proofs.Ended.{stops-never}
 use Rattle.client_command.specs.Credentials.{Finds, AsksFor, Asks, is_unloaded}
-use Rattle.client_command.specs.Endings.{is_begun}
+use Rattle.client_options.specs.Endings.{is_begun}
 use Rattle.client_command.specs.Loading.{EndsBy}
-use Rattle.client_command.specs.declared.ending.RunEnd.{RunEnd}
-use Rattle.client_command.specs.declared.ending.RunEnd.TheVariants.{Usage, CannotLoad, Bad, NoCredential, NoMemory, LinkFault, PeerEnded, Refused, Negotiation, BadReply, Foreign, Spent, Finished}
-use Rattle.client_command.specs.declared.words.Sources.{Sources}
+use Rattle.client_options.specs.declared.ending.RunEnd.{RunEnd}
+use Rattle.client_options.specs.declared.ending.RunEnd.TheVariants.{Usage, CannotLoad, Bad, NoCredential, NoMemory, LinkFault, PeerEnded, Refused, Negotiation, BadReply, Foreign, Spent, Finished}
+use Rattle.client_options.specs.declared.words.Sources.{Sources}
 
 -- ---- the ends of a run
 

@@ -8,10 +8,10 @@ use Rattle.gss_client.specs.declared.conversation.Parting.TheVariants as parting
 use Rattle.gss_client.specs.declared.refusal.ClientRefusal.{ClientRefusal}
 use Rattle.gss_client.specs.declared.refusal.ClientRefusal.TheVariants as refusals
 use Rattle.client_command.specs.Credentials.{Finds, is_unloaded}
-use Rattle.client_command.specs.Endings.{end_of, end_of_refusal, is_begun}
+use Rattle.client_options.specs.Endings.{end_of, end_of_refusal, is_begun}
 use Rattle.client_command.specs.Runs.{Reports}
-use Rattle.client_command.specs.declared.ending.RunEnd.{RunEnd}
-use Rattle.client_command.specs.declared.ending.RunEnd.TheVariants.{NoMemory, LinkFault}
+use Rattle.client_options.specs.declared.ending.RunEnd.{RunEnd}
+use Rattle.client_options.specs.declared.ending.RunEnd.TheVariants.{NoMemory, LinkFault}
 
 begun-refusal : (refusal : ClientRefusal) → end_of_refusal refusal ≢ NoMemory → is_begun (end_of_refusal refusal) ≡ true
 begun-refusal refusals.LinkFault other = refl

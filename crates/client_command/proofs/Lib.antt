@@ -1,4 +1,3 @@
-pub mod Refused
 pub mod Asking
 pub mod Ended
 pub mod Listing
@@ -6,7 +5,5 @@ pub mod Loading
 pub mod Password
 pub mod Saying
 pub mod Spoken
-pub mod Arguments
 pub mod ByCredentials
 pub mod Unread
-pub mod Naming

@@ -1,4 +1,4 @@
--- A list that is read value by value, and the credentials of listed names.
+-- The credentials of listed names, read value by value.
 use Rattle.std.proofs.Common.{◌≡◌, ◌∙◌, ℕ, ◌+◌, ◌<◌, ◌≤◌, true, List, [], ◌∷◌, ◌++◌, append_assoc, length, drop, get_or, map, Option, Some, None, Result, Ok, Err, refl, ap, sym, subst}
 use Rattle.std.proofs.lemmas.List.{append-nil, at_drop_more, at_drop_all}
 use Rattle.std.specs.Prelude.{IfOk}
@@ -13,16 +13,12 @@ use Rattle.krb_files.specs.Granted.{Granted, Cache}
 use Rattle.spnego_core.specs.Choice.{are_few}
 use Rattle.spnego_core.specs.InitMech.{name_of, oid_listed, is_own_list}
 use Rattle.spnego_core.specs.declared.setup.MechCred.{MechCred}
+use Rattle.client_options.proofs.Naming.{behind}
 use Rattle.client_command.specs.Credentials.{◌>>=◌, or_none, ticket_for, login_of, cred_for, listed, creds_with}
-use Rattle.client_command.specs.Mechs.{is_list}
-use Rattle.client_command.specs.declared.ending.RunEnd.{RunEnd}
-use Rattle.client_command.specs.declared.ending.RunEnd.TheVariants.{NoMemory}
-use Rattle.client_command.specs.declared.words.Sources.{Sources}
-
--- a list that was read behind values that stand already
-abbrev pub behind : {A E : Type 0} → List A → Result (List A) E → Result (List A) E
-behind before (Ok list) = Ok (before ++ list)
-behind before (Err refusal) = Err refusal
+use Rattle.client_options.specs.Mechs.{is_list}
+use Rattle.client_options.specs.declared.ending.RunEnd.{RunEnd}
+use Rattle.client_options.specs.declared.ending.RunEnd.TheVariants.{NoMemory}
+use Rattle.client_options.specs.declared.words.Sources.{Sources}
 
 -- ---- each credential has the name under which it is listed
 

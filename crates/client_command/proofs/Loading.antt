@@ -1,5 +1,5 @@
 -- What was read in the answers of a shelf, from file to file.
-use Rattle.std.proofs.Common.{◌≡◌, ℕ, ◌≤◌, Bool, true, false, List, [], ◌∷◌, ◌++◌, Option, Some, Result, Ok, Err, refl, sym, ap, subst, ◌∙◌}
+use Rattle.std.proofs.Common.{◌≡◌, ℕ, ◌≤◌, Bool, true, false, List, Option, Some, Result, Ok, Err, refl, sym, ap, subst, ◌∙◌}
 use Rattle.std.specs.Prelude.{IfErr}
 use Rattle.sec_base.specs.Answers.{Gives}
 use Rattle.sec_base.specs.declared.shelf.NamedFile.{NamedFile}
@@ -8,12 +8,12 @@ use Rattle.spnego_core.specs.declared.setup.MechCred.{MechCred}
 use Rattle.cli_base.specs.Files.{FromShelf, LoadsFile, AsksFile}
 use Rattle.cli_base.specs.declared.files.FileStop.{FileStop}
 use Rattle.cli_base.specs.declared.files.FileStop.TheVariants as stops
-use Rattle.client_command.specs.Credentials.{◌>>=◌, cache_in, password_in, creds_with, end_by, is_unloaded, Finds, AskedOne, AsksOne}
+use Rattle.client_command.specs.Credentials.{◌>>=◌, cache_in, password_in, creds_with, end_by, is_unloaded, Finds, AsksOne}
 use Rattle.client_command.specs.Loading.{if_read, FromNamed, AreCreds}
-use Rattle.client_command.specs.declared.ending.RunEnd.{RunEnd}
-use Rattle.client_command.specs.declared.ending.RunEnd.TheVariants.{NoMemory}
-use Rattle.client_command.specs.declared.ending.WordFile.{WordFile}
-use Rattle.client_command.specs.declared.words.Sources.{Sources}
+use Rattle.client_options.specs.declared.ending.RunEnd.{RunEnd}
+use Rattle.client_options.specs.declared.ending.RunEnd.TheVariants.{NoMemory}
+use Rattle.client_options.specs.declared.ending.WordFile.{WordFile}
+use Rattle.client_options.specs.declared.words.Sources.{Sources}
 
 read-some : {A : Type 0} (tells : Bool) (files : List NamedFile) (before after : List (List ℕ)) (faults faults' : ℕ) (name : List ℕ) (read_in : Result (List ℕ) FileStop → Result A RunEnd) (read : Result A RunEnd)
     → FromShelf NoMemory tells files before after faults faults' name read_in read → FromShelf NoMemory tells files before after faults faults' name (λ answer. if_read (read_in answer)) (if_read read)
@@ -51,32 +51,54 @@ pub finds : {A : Type 0} (due read : Result A RunEnd) → Gives NoMemory (λ wha
 finds due (Ok what) given = given
 finds due (Err end) given = λ loaded other. given other
 
--- what was read of a file that was loaded
-pub finds-read : {A : Type 0} (read_in : Result (List ℕ) FileStop → Result A RunEnd) (due : Result (List ℕ) FileStop) (octets : List ℕ) (read : Result A RunEnd)
-    → due ≡ Ok octets → Gives NoMemory (λ what. what) read (read_in (Ok octets)) → Finds (read_in due) read
-finds-read {A} read_in due octets read is given = finds (read_in due) read (subst (λ (d : Result (List ℕ) FileStop). Gives NoMemory (λ (what : A). what) read (read_in d)) (sym is) given)
+-- one end of a run is another
+same-end : {A : Type 0} (x y : RunEnd) → ◌≡◌ {A = Result A RunEnd} (Err x) (Err y) → x ≡ y
+same-end x y e = cc
 
-pub asked-one : {A : Type 0} (old new : List (List ℕ)) (name : List ℕ) (read : Result A RunEnd) → new ≡ old ++ name ∷ [] → AsksOne old new (Some name) read
-asked-one old new name (Ok what) all = all
-asked-one old new name (Err end) all = record { front = (1, all); whole = λ other. all }
+-- how a file that can't be used is read: the run ends by it
+abbrev Stops : {A : Type 0} → WordFile → (Result (List ℕ) FileStop → Result A RunEnd) → Type 0
+Stops {A} file read_in = (stop : FileStop) → read_in (Err stop) ≡ Err (end_by file stop)
 
+-- the end of a run that ended by such a file
+ends-by : {A : Type 0} (file : WordFile) (read_in : Result (List ℕ) FileStop → Result A RunEnd) (stop : FileStop) (end : RunEnd) → Stops file read_in → read_in (Err stop) ≡ Err end → end_by file stop ≡ end
+ends-by {A} file read_in stop end stopped is = same-end {A = A} (end_by file stop) end (sym (stopped stop) ∙ is)
+
+-- what is due of a file's answer is found
+pub finds-loaded : {A : Type 0} (file : WordFile) (read_in : Result (List ℕ) FileStop → Result A RunEnd) (due loaded : Result (List ℕ) FileStop) (read : Result A RunEnd)
+    → Stops file read_in → LoadsFile due loaded → Gives NoMemory (λ what. what) read (read_in loaded) → Finds (read_in due) read
+finds-loaded {A} file read_in due (Ok octets) read stopped told given = finds (read_in due) read (subst (λ (d : Result (List ℕ) FileStop). Gives NoMemory (λ (what : A). what) read (read_in d)) (sym told) given)
+finds-loaded {A} file read_in due (Err (stops.Bad at)) read stopped told given = finds (read_in due) read (subst (λ (d : Result (List ℕ) FileStop). Gives NoMemory (λ (what : A). what) read (read_in d)) (sym told) given)
+finds-loaded {A} file read_in due (Err stops.CannotLoad) (Ok what) stopped told given = let bad : ◌≡◌ {A = Result A RunEnd} (Err (end_by file stops.CannotLoad)) (Ok what) = sym (stopped stops.CannotLoad) ∙ given in cc
+finds-loaded {A} file read_in due (Err stops.CannotLoad) (Err end) stopped told given = λ loaded other.
+    let bad : true ≡ false = ap is_unloaded (ends-by file read_in stops.CannotLoad end stopped (given other)) ∙ loaded in cc
+finds-loaded {A} file read_in due (Err stops.NoMemory) (Ok what) stopped told given = let bad : ◌≡◌ {A = Result A RunEnd} (Err (end_by file stops.NoMemory)) (Ok what) = sym (stopped stops.NoMemory) ∙ given in cc
+finds-loaded {A} file read_in due (Err stops.NoMemory) (Err end) stopped told given = λ loaded other. absurd (other (sym (ends-by file read_in stops.NoMemory end stopped (given other))))
+
+-- the shelf was asked for the file
+pub asked-loaded : {A : Type 0} (old new : List (List ℕ)) (name : List ℕ) (file : WordFile) (read_in : Result (List ℕ) FileStop → Result A RunEnd) (loaded : Result (List ℕ) FileStop) (read : Result A RunEnd)
+    → Stops file read_in → AsksFile old new name loaded → Gives NoMemory (λ what. what) read (read_in loaded) → AsksOne old new (Some name) read
+asked-loaded {A} old new name file read_in (Ok octets) (Ok what) stopped all given = all
+asked-loaded {A} old new name file read_in (Ok octets) (Err end) stopped all given = record { front = (1, all); whole = λ other. all }
+asked-loaded {A} old new name file read_in (Err stop) (Ok what) stopped all given = let bad : ◌≡◌ {A = Result A RunEnd} (Err (end_by file stop)) (Ok what) = sym (stopped stop) ∙ given in cc
+asked-loaded {A} old new name file read_in (Err stops.CannotLoad) (Err end) stopped all given = record { front = (1, all); whole = λ other. all }
+asked-loaded {A} old new name file read_in (Err (stops.Bad at)) (Err end) stopped all given = record { front = (1, all); whole = λ other. all }
+asked-loaded {A} old new name file read_in (Err stops.NoMemory) (Err end) stopped front given = record { front = front; whole = λ other. absurd (other (sym (ends-by file read_in stops.NoMemory end stopped (given other)))) }
+
+-- ---- what can't be loaded
+
+-- what was loaded and then read is no file that can't be loaded
 pub not-missing : {A : Type 0} (P : Type 0) (read : Result A RunEnd) → IfErr read (λ end. is_unloaded end ≡ false) → IfErr read (λ end. is_unloaded end ≡ true → P)
 not-missing P (Ok what) loaded = tt
 not-missing P (Err end) loaded = λ missing. let bad : true ≡ false = sym missing ∙ loaded in cc
 
--- a file that can't be used
-pub finds-stop : {A : Type 0} (file : WordFile) (read_in : Result (List ℕ) FileStop → Result A RunEnd) (due : Result (List ℕ) FileStop) (stop : FileStop) {end : RunEnd}
-    → ((stop : FileStop) → read_in (Err stop) ≡ Err (end_by file stop)) → end ≡ end_by file stop → LoadsFile due (Err stop) → Finds (read_in due) (Err end)
-finds-stop file read_in due stops.CannotLoad stopped is told = λ loaded other. let bad : true ≡ false = sym (ap is_unloaded is) ∙ loaded in cc
-finds-stop file read_in due (stops.Bad at) stopped is told = λ loaded other. ap read_in told ∙ (stopped (stops.Bad at) ∙ ap Err (sym is))
-finds-stop file read_in due stops.NoMemory stopped is told = λ loaded other. absurd (other is)
+-- a run that ends so was answered so
+pub missing-stop : (file : WordFile) (stop : FileStop) {end : RunEnd} → end ≡ end_by file stop → is_unloaded end ≡ true → ◌≡◌ {A = Result (List ℕ) FileStop} (Err stop) (Err stops.CannotLoad)
+missing-stop file stops.CannotLoad is missing = refl
+missing-stop file (stops.Bad at) is missing = let bad : true ≡ false = sym missing ∙ ap is_unloaded is in cc
+missing-stop file stops.NoMemory is missing = let bad : true ≡ false = sym missing ∙ ap is_unloaded is in cc
 
-pub asked-stop : {old new : List (List ℕ)} {name : List ℕ} (file : WordFile) (stop : FileStop) {end : RunEnd} → end ≡ end_by file stop → AsksFile old new name (Err stop) → AskedOne old new (Some name) end
-asked-stop file stops.CannotLoad is all = record { front = (1, all); whole = λ other. all }
-asked-stop file (stops.Bad at) is all = record { front = (1, all); whole = λ other. all }
-asked-stop file stops.NoMemory is front = record { front = front; whole = λ other. absurd (other is) }
-
-pub missing-stop : {P : Type 0} (file : WordFile) (stop : FileStop) {end : RunEnd} → end ≡ end_by file stop → (◌≡◌ {A = Result (List ℕ) FileStop} (Err stop) (Err stops.CannotLoad) → P) → is_unloaded end ≡ true → P
-missing-stop file stops.CannotLoad is told missing = told refl
-missing-stop file (stops.Bad at) is told missing = let bad : true ≡ false = sym missing ∙ ap is_unloaded is in cc
-missing-stop file stops.NoMemory is told missing = let bad : true ≡ false = sym missing ∙ ap is_unloaded is in cc
+-- then the count rose
+pub missing-loaded : {A P : Type 0} (read : Result A RunEnd) (loaded : Result (List ℕ) FileStop)
+    → IfErr read (λ end. is_unloaded end ≡ true → loaded ≡ Err stops.CannotLoad) → (loaded ≡ Err stops.CannotLoad → P) → IfErr read (λ end. is_unloaded end ≡ true → P)
+missing-loaded (Ok what) loaded was told = tt
+missing-loaded (Err end) loaded was told = λ missing. told (was missing)

@@ -5,8 +5,8 @@ use Rattle.std.proofs.lemmas.Str.{IsUtf8-from_is_utf8, is_utf8-from_IsUtf8}
 use Rattle.std.specs.Str.{IsUtf8, is_utf8}
 use Rattle.std.specs.Str.Lossy.{utf8_valid_len}
 use Rattle.client_command.specs.Credentials.{less_feed, password_by}
-use Rattle.client_command.specs.declared.ending.RunEnd.TheVariants.{Bad}
-use Rattle.client_command.specs.declared.ending.WordFile.TheVariants.{Password}
+use Rattle.client_options.specs.declared.ending.RunEnd.TheVariants.{Bad}
+use Rattle.client_options.specs.declared.ending.WordFile.TheVariants.{Password}
 
 -- behind a text stands a line feed
 pub fed : (front : List ℕ) → less_feed (front ++ 10 ∷ []) ≡ front

@@ -9,11 +9,11 @@ use Rattle.gss_client.specs.declared.conversation.Parting.{Parting}
 use Rattle.gss_client.specs.declared.conversation.Parting.TheVariants as partings
 use Rattle.gss_client.specs.declared.refusal.ClientRefusal.{ClientRefusal}
 use Rattle.gss_client.specs.declared.refusal.ClientRefusal.TheVariants as refusals
-use Rattle.client_command.specs.Endings.{end_of, end_of_refusal, is_parted}
+use Rattle.client_options.specs.Endings.{end_of, end_of_refusal, is_parted}
 use Rattle.client_command.specs.Runs.{start_of, planned, Spoke, EndsSo, Reports}
-use Rattle.client_command.specs.declared.ending.RunEnd.{RunEnd}
-use Rattle.client_command.specs.declared.ending.RunEnd.TheVariants.{LinkFault, NoMemory}
-use Rattle.client_command.specs.declared.words.Plan.{Plan}
+use Rattle.client_options.specs.declared.ending.RunEnd.{RunEnd}
+use Rattle.client_options.specs.declared.ending.RunEnd.TheVariants.{LinkFault, NoMemory}
+use Rattle.client_options.specs.declared.words.Plan.{Plan}
 
 not-parted : (refusal : ClientRefusal) → is_parted (end_of_refusal refusal) ≡ true → ⊥
 not-parted refusals.LinkFault e = cc

@@ -4,11 +4,11 @@ use Rattle.std.proofs.lemmas.List.{append-nil}
 use Rattle.cli_base.specs.declared.given.WordsRefusal.{WordsRefusal}
 use Rattle.cli_base.specs.declared.given.WordsRefusal.TheVariants as refusals
 use Rattle.client_command.specs.Credentials.{Asks, is_unloaded}
-use Rattle.client_command.specs.Endings.{Named, end_of_words, is_begun, line_of}
-use Rattle.client_command.specs.declared.ending.RunEnd.{RunEnd}
-use Rattle.client_command.specs.declared.ending.RunEnd.TheVariants.{Usage, NoMemory, LinkFault}
-use Rattle.client_command.specs.declared.words.ClientWords.{ClientWords}
-use Rattle.client_command.specs.declared.words.Sources.{Sources}
+use Rattle.client_options.specs.Endings.{Named, end_of_words, is_begun, line_of}
+use Rattle.client_options.specs.declared.ending.RunEnd.{RunEnd}
+use Rattle.client_options.specs.declared.ending.RunEnd.TheVariants.{Usage, NoMemory, LinkFault}
+use Rattle.client_options.specs.declared.words.ClientWords.{ClientWords}
+use Rattle.client_options.specs.declared.words.Sources.{Sources}
 
 line-of : (refusal : WordsRefusal) (names others : Named) → line_of names (end_of_words refusal) ≡ line_of others (end_of_words refusal)
 line-of refusals.Usage names others = refl

@@ -16,15 +16,15 @@ use Rattle.spnego_core.specs.declared.setup.MechCred.TheVariants as creds
 use Rattle.cli_base.specs.Files.{file_in, stop_by}
 use Rattle.cli_base.specs.declared.files.FileStop.{FileStop}
 use Rattle.cli_base.specs.declared.files.FileStop.TheVariants as stops
-use Rattle.client_command.specs.declared.ending.RunEnd.{RunEnd}
-use Rattle.client_command.specs.declared.ending.RunEnd.TheVariants.{Usage, CannotLoad, Bad}
-use Rattle.client_command.specs.declared.ending.RunEnd.TheVariants.{NoCredential, NoMemory}
-use Rattle.client_command.specs.declared.ending.RunEnd.TheVariants.{LinkFault, PeerEnded, Refused}
-use Rattle.client_command.specs.declared.ending.RunEnd.TheVariants.{Negotiation, BadReply, Foreign}
-use Rattle.client_command.specs.declared.ending.RunEnd.TheVariants.{Spent, Finished}
-use Rattle.client_command.specs.declared.ending.WordFile.{WordFile}
-use Rattle.client_command.specs.declared.ending.WordFile.TheVariants.{Ccache, Password}
-use Rattle.client_command.specs.declared.words.Sources.{Sources}
+use Rattle.client_options.specs.declared.ending.RunEnd.{RunEnd}
+use Rattle.client_options.specs.declared.ending.RunEnd.TheVariants.{Usage, CannotLoad, Bad}
+use Rattle.client_options.specs.declared.ending.RunEnd.TheVariants.{NoCredential, NoMemory}
+use Rattle.client_options.specs.declared.ending.RunEnd.TheVariants.{LinkFault, PeerEnded, Refused}
+use Rattle.client_options.specs.declared.ending.RunEnd.TheVariants.{Negotiation, BadReply, Foreign}
+use Rattle.client_options.specs.declared.ending.RunEnd.TheVariants.{Spent, Finished}
+use Rattle.client_options.specs.declared.ending.WordFile.{WordFile}
+use Rattle.client_options.specs.declared.ending.WordFile.TheVariants.{Ccache, Password}
+use Rattle.client_options.specs.declared.words.Sources.{Sources}
 
 -- the rest of a reading, unless the run ends before
 infixl 10 ◌>>=◌

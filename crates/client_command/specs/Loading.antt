@@ -9,10 +9,10 @@ use Rattle.spnego_core.specs.declared.setup.MechCred.{MechCred}
 use Rattle.cli_base.specs.Files.{FromShelf}
 use Rattle.cli_base.specs.declared.files.FileStop.{FileStop}
 use Rattle.client_command.specs.Credentials.{◌>>=◌, cache_in, password_in, creds_with}
-use Rattle.client_command.specs.Endings.{is_begun}
-use Rattle.client_command.specs.declared.ending.RunEnd.{RunEnd}
-use Rattle.client_command.specs.declared.ending.RunEnd.TheVariants.{NoMemory}
-use Rattle.client_command.specs.declared.words.Sources.{Sources}
+use Rattle.client_options.specs.Endings.{is_begun}
+use Rattle.client_options.specs.declared.ending.RunEnd.{RunEnd}
+use Rattle.client_options.specs.declared.ending.RunEnd.TheVariants.{NoMemory}
+use Rattle.client_options.specs.declared.words.Sources.{Sources}
 
 -- ---- the files that the words name
 

@@ -15,13 +15,13 @@ use Rattle.gss_client.specs.declared.procedure.Procedure.{Procedure}
 use Rattle.gss_client.specs.declared.procedure.Procedure.TheVariants.{Null}
 use Rattle.gss_client.specs.Start.{StartSays}
 use Rattle.client_command.specs.Credentials.{creds_from}
-use Rattle.client_command.specs.Endings.{Named, end_of, is_parted}
-use Rattle.client_command.specs.Words.{words_of, IsRanged}
-use Rattle.client_command.specs.declared.ending.RunEnd.{RunEnd}
-use Rattle.client_command.specs.declared.ending.RunEnd.TheVariants.{LinkFault, NoMemory}
-use Rattle.client_command.specs.declared.words.ClientWords.{ClientWords}
-use Rattle.client_command.specs.declared.words.Plan.{Plan}
-use Rattle.client_command.specs.declared.words.Sources.{Sources}
+use Rattle.client_options.specs.Endings.{Named, end_of, is_parted}
+use Rattle.client_options.specs.Words.{words_of, IsRanged}
+use Rattle.client_options.specs.declared.ending.RunEnd.{RunEnd}
+use Rattle.client_options.specs.declared.ending.RunEnd.TheVariants.{LinkFault, NoMemory}
+use Rattle.client_options.specs.declared.words.ClientWords.{ClientWords}
+use Rattle.client_options.specs.declared.words.Plan.{Plan}
+use Rattle.client_options.specs.declared.words.Sources.{Sources}
 use Rattle.cli_base.specs.declared.given.WordsRefusal.{WordsRefusal}
 
 -- ---- what the words name

@@ -8,19 +8,19 @@ ghost use Rattle.spnego_core.specs.declared.setup.MechCred.{MechCred};
 ghost use Rattle.init_ends.specs.Arming.{AreStandard};
 ghost use Rattle.cli_base.specs.Lines.{SaysLine, Says};
 ghost use Rattle.client_command.specs.Credentials.{creds_from, is_unloaded, Asks};
-ghost use Rattle.client_command.specs.Endings.{end_of, end_of_words, is_begun, status_of, line_of};
-ghost use Rattle.client_command.specs.Lines.{lines};
+ghost use Rattle.client_options.specs.Endings.{end_of, end_of_words, is_begun, status_of, line_of};
+ghost use Rattle.client_options.specs.Lines.{lines};
 ghost use Rattle.client_command.specs.Loading.{RunBegins, EndsBy};
-ghost use Rattle.client_command.specs.Mechs.{is_list};
+ghost use Rattle.client_options.specs.Mechs.{is_list};
 ghost use Rattle.client_command.specs.Runs.{text_or_none, server_text, names_in, names_of};
 ghost use Rattle.client_command.specs.Runs.{procedure_of, Reports, Spoke, EndsSo};
 ghost use Rattle.client_command.specs.Runs.{HasHeld, HasSpoken, IsSilent};
-ghost use Rattle.client_command.specs.Words.{words_of, IsRanged};
+ghost use Rattle.client_options.specs.Words.{words_of, IsRanged};
 
 use crate::credential::creds_given;
-use crate::ending::{Names, RunEnd, end_of, say_end};
-use crate::lines::lines;
-use crate::words::{ClientWords, Plan, Sources, WordsRefusal, read_words};
+use client_options::{
+    ClientWords, Names, Plan, RunEnd, Sources, WordsRefusal, end_of, lines_of, read_words, say_end,
+};
 use gss_base::{Label, Principal};
 use gss_client::{ClientRefusal, Parting, Procedure, Session, Start, Talk};
 use init_ends::InitSetup;
@@ -179,7 +179,7 @@ fn report<O: Sink>(
         results,
         parting,
     } = talk;
-    match lines(alloc, procedure, &outcome, results.as_slice()) {
+    match lines_of(alloc, procedure, &outcome, results.as_slice()) {
         Ok(text) => {
             let end = end_of(parting);
             let status = print(alloc, names, text.as_slice(), end, out, err);

@@ -5,13 +5,12 @@ ghost use Rattle.sec_base.specs.Answers.{Gives, Rose};
 ghost use Rattle.spnego_core.specs.InitMech.{is_own_list};
 ghost use Rattle.client_command.specs.Credentials.{ticket_for, login_of, cred_for, creds_with};
 ghost use Rattle.client_command.specs.Credentials.{creds_from, is_unloaded, Finds, AsksFor};
-ghost use Rattle.client_command.specs.Endings.{is_begun};
+ghost use Rattle.client_options.specs.Endings.{is_begun};
 ghost use Rattle.client_command.specs.Loading.{CredsFrom};
-ghost use Rattle.client_command.specs.Mechs.{is_list};
+ghost use Rattle.client_options.specs.Mechs.{is_list};
 
-use crate::ending::RunEnd;
 use crate::files::{cache_given, password_given};
-use crate::words::Sources;
+use client_options::{RunEnd, Sources};
 use gss_base::{KerberosName, MechName, Principal};
 use krb_files::Ccache;
 use sec_base::{Items, NoMemory, Shelf, Text};

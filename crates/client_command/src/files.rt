@@ -1,6 +1,6 @@
 //! The files of a run.
 
-ghost use Rattle.std.specs.Prelude.{◌≡◌, ◌≤◌, IsTrue, IfErr, Some, true, false};
+ghost use Rattle.std.specs.Prelude.{◌≡◌, ◌≤◌, IsTrue, IfErr, Some, Err, true, false};
 ghost use Rattle.sec_base.specs.Answers.{Gives, Rose};
 ghost use Rattle.krb_files.specs.Ccache.{ccache_of};
 ghost use Rattle.cli_base.specs.Files.{file_in};
@@ -10,10 +10,10 @@ ghost use Rattle.client_command.specs.Credentials.{password_from, is_unloaded, F
 ghost use Rattle.client_command.specs.Credentials.{AsksOne};
 ghost use Rattle.client_command.specs.Loading.{ReadFrom, ReadNamed};
 
-use crate::ending::{RunEnd, WordFile};
 use cli_base::{FileStop, load, stop_of};
+use client_options::{RunEnd, WordFile};
 use krb_files::{Ccache, read_ccache};
-use sec_base::{NoMemory, Shelf, Text};
+use sec_base::{NoMemory, Octets, Shelf, Text};
 use std::alloc::Global;
 use std::str::from_utf8;
 
@@ -40,6 +40,19 @@ fn cache_by(alloc: Global, octets: &[u8]) -> Result<Ccache, RunEnd>
     }
 }
 
+/// The cache in what its file was loaded as.
+fn cache_of(alloc: Global, loaded: Result<Octets, FileStop>) -> Result<Ccache, RunEnd>
+    ensures value { Gives RunEnd.NoMemory (λ c. c) result (cache_in loaded) }
+    ensures unloaded { IfErr result
+        (λ end. is_unloaded end ≡ true → loaded ≡ Err FileStop.CannotLoad) }
+    ensures stop { IfErr result (IsStopOf WordFile.Ccache) }
+{
+    match loaded {
+        Ok(octets) => cache_by(alloc, octets.as_slice()),
+        Err(stop) => Err(end_by(WordFile::Ccache, stop)),
+    }
+}
+
 /// The cache in the file of this name.
 fn cache_in<F: Shelf>(alloc: Global, shelf: &mut F, name: &str) -> Result<Ccache, RunEnd>
     ensures read { ReadFrom F.Shelf shelf.old shelf.new name.now cache_in result }
@@ -54,10 +67,7 @@ fn cache_in<F: Shelf>(alloc: Global, shelf: &mut F, name: &str) -> Result<Ccache
     ensures tells { F.tells shelf.new ≡ F.tells shelf.old }
     ensures faults { F.faults shelf.old ≤ F.faults shelf.new }
 {
-    match load(alloc, shelf, name) {
-        Ok(octets) => cache_by(alloc, octets.as_slice()),
-        Err(stop) => Err(end_by(WordFile::Ccache, stop)),
-    }
+    cache_of(alloc, load(alloc, shelf, name))
 }
 
 /// The credential cache, where the words name one.
@@ -115,6 +125,19 @@ fn password_by(alloc: Global, octets: &[u8]) -> Result<Text, RunEnd>
     }
 }
 
+/// The password in what its file was loaded as.
+fn password_of(alloc: Global, loaded: Result<Octets, FileStop>) -> Result<Text, RunEnd>
+    ensures value { Gives RunEnd.NoMemory (λ t. t) result (password_in loaded) }
+    ensures unloaded { IfErr result
+        (λ end. is_unloaded end ≡ true → loaded ≡ Err FileStop.CannotLoad) }
+    ensures stop { IfErr result (IsStopOf WordFile.Password) }
+{
+    match loaded {
+        Ok(octets) => password_by(alloc, octets.as_slice()),
+        Err(stop) => Err(end_by(WordFile::Password, stop)),
+    }
+}
+
 /// The password in the file of this name.
 fn password_in<F: Shelf>(alloc: Global, shelf: &mut F, name: &str) -> Result<Text, RunEnd>
     ensures read { ReadFrom F.Shelf shelf.old shelf.new name.now password_in result }
@@ -128,10 +151,7 @@ fn password_in<F: Shelf>(alloc: Global, shelf: &mut F, name: &str) -> Result<Tex
     ensures files { F.files shelf.new ≡ F.files shelf.old }
     ensures faults { F.faults shelf.old ≤ F.faults shelf.new }
 {
-    match load(alloc, shelf, name) {
-        Ok(octets) => password_by(alloc, octets.as_slice()),
-        Err(stop) => Err(end_by(WordFile::Password, stop)),
-    }
+    password_of(alloc, load(alloc, shelf, name))
 }
 
 /// The password, where the words name its file.

@@ -19,15 +19,15 @@ use Rattle.gss_client.specs.Procedure.{procedure_number}
 use Rattle.gss_client.specs.Session.{SessionState}
 use Rattle.gss_client.specs.Talking.{Said}
 use Rattle.client_command.specs.Credentials.{creds_from}
-use Rattle.client_command.specs.Endings.{end_of}
+use Rattle.client_options.specs.Endings.{end_of}
 use Rattle.client_command.specs.Runs.{start_of, planned, Spoke, HasHeld, HasSpoken}
-use Rattle.client_command.specs.Words.{words_of, IsRanged}
-use Rattle.client_command.specs.declared.ending.RunEnd.{RunEnd}
-use Rattle.client_command.specs.declared.ending.RunEnd.TheVariants.{LinkFault, NoMemory}
-use Rattle.client_command.specs.declared.words.ClientWords.{ClientWords}
-use Rattle.client_command.specs.declared.words.Plan.{Plan}
+use Rattle.client_options.specs.Words.{words_of, IsRanged}
+use Rattle.client_options.specs.declared.ending.RunEnd.{RunEnd}
+use Rattle.client_options.specs.declared.ending.RunEnd.TheVariants.{LinkFault, NoMemory}
+use Rattle.client_options.specs.declared.words.ClientWords.{ClientWords}
+use Rattle.client_options.specs.declared.words.Plan.{Plan}
 use Rattle.cli_base.specs.declared.given.WordsRefusal.{WordsRefusal}
-use Rattle.client_command.proofs.Arguments.{words-own}
+use Rattle.client_options.proofs.Arguments.{words-own}
 use Rattle.pair_laws.specs.Booked.{id_in}
 use Rattle.pair_laws.specs.Honest.{HonestExchange}
 use Rattle.pair_laws.specs.HonestCalls.{session_on}

@@ -4,7 +4,7 @@ use Rattle.accept_book.specs.Served.{is_one_opaque, are_args}
 use Rattle.gss_client.specs.Procedure.{procedure_number}
 use Rattle.gss_client.specs.declared.procedure.Procedure.{Procedure}
 use Rattle.gss_client.specs.declared.procedure.Procedure.TheVariants.{Null, Echo, Whoami, Post, Count}
-use Rattle.client_command.specs.Words.{IsData, IsArgument}
+use Rattle.client_options.specs.Words.{IsData, IsArgument}
 use Rattle.pair_laws.proofs.SpelledAlone.{one-fits}
 
 data-fits : (args : List ℕ) → IsData args → is_one_opaque args ≡ true

@@ -13,10 +13,10 @@ use Rattle.rpcsec_bodies.specs.declared.service.Service.TheVariants as services
 use Rattle.gss_client.specs.Start.{StartSays}
 use Rattle.gss_client.specs.Exchanging.{Went}
 use Rattle.gss_client.specs.Procedure.{procedure_number}
-use Rattle.client_command.specs.Endings.{end_of}
+use Rattle.client_options.specs.Endings.{end_of}
 use Rattle.client_command.specs.Runs.{Drew, start_of}
-use Rattle.client_command.specs.declared.ending.RunEnd.{RunEnd}
-use Rattle.client_command.specs.declared.words.Plan.{Plan}
+use Rattle.client_options.specs.declared.ending.RunEnd.{RunEnd}
+use Rattle.client_options.specs.declared.words.Plan.{Plan}
 use Rattle.pair_laws.specs.Booked.{id_in}
 use Rattle.pair_laws.specs.Honest.{HonestExchange}
 use Rattle.pair_laws.specs.Laws.{Completes}

@@ -7,11 +7,11 @@ ghost use Rattle.spnego_core.specs.declared.setup.MechCred.{MechCred};
 ghost use Rattle.spnego_core.specs.declared.outcome.Outcome.{Outcome as OutcomeIs};
 ghost use Rattle.init_ends.specs.Arming.{AreStandard};
 ghost use Rattle.client_command.specs.Credentials.{creds_from};
-ghost use Rattle.client_command.specs.Endings.{status_of, line_of};
-ghost use Rattle.client_command.specs.Lines.{lines};
+ghost use Rattle.client_options.specs.Endings.{status_of, line_of};
+ghost use Rattle.client_options.specs.Lines.{lines};
 ghost use Rattle.client_command.specs.Runs.{names_of, procedure_of};
-ghost use Rattle.client_command.specs.Words.{words_of};
-ghost use Rattle.client_command.specs.declared.words.ClientWords.{ClientWords as ClientWordsIs};
+ghost use Rattle.client_options.specs.Words.{words_of};
+ghost use Rattle.client_options.specs.declared.words.ClientWords.{ClientWords as ClientWordsIs};
 ghost use Rattle.client_laws.specs.ClientRun.{Answers, Completed, OutcomeTold};
 
 use client_command::{ClientEnd, RunEnd, run_client};

@@ -4,7 +4,7 @@ use Rattle.client_command.proofs.ByCredentials.{loaded, unlinked}
 use Rattle.client_command.proofs.Ended.{reported-begun, reported-fault}
 use Rattle.client_command.proofs.Saying.{unprinted}
 use Rattle.client_command.proofs.Spoken.{returned}
-use Rattle.client_command.specs.declared.ending.RunEnd.{RunEnd}
+use Rattle.client_options.specs.declared.ending.RunEnd.{RunEnd}
 use Rattle.client_command.proofs.client.run_by.Goals as goal
 
 same-creds : {given : Result (List MechCred) RunEnd} {one other : List MechCred} → given ≡ Ok one → given ≡ Ok other → one ≡ other

@@ -1,6 +1,6 @@
 use Rattle.std.proofs.Common.{◌≡◌, drop}
 use Rattle.client_command.specs.Credentials.{cred_for, listed}
-use Rattle.client_command.proofs.Listing.{behind}
+use Rattle.client_options.proofs.Naming.{behind}
 use Rattle.client_command.proofs.credential.creds_with.Given as goal
 
 abbrev pub invariant-loop-name : goal.invariant-loop-name

@@ -1,43 +1,23 @@
-use Rattle.std.proofs.Common.{Ok, Err, refl, sym, ap}
+use Rattle.std.proofs.Common.{refl, rules}
 use Rattle.cli_base.specs.Files.{file_in}
-use Rattle.client_command.proofs.Loading.{finds-read, asked-one, not-missing, finds-stop, asked-stop, missing-stop}
+use Rattle.client_command.proofs.Loading.{finds-loaded, asked-loaded, missing-loaded}
 use Rattle.client_command.specs.Credentials.{password_in}
-use Rattle.client_command.specs.declared.ending.WordFile.TheVariants.{Password}
+use Rattle.client_options.specs.declared.ending.WordFile.TheVariants.{Password}
 use Rattle.client_command.proofs.files.password_in.Goals as goal
 
-pub returns-in-Ok-clause-read : goal.returns-in-Ok-clause-read
-returns-in-Ok-clause-read g c = record {
-  answer = Ok c.in-Ok.octets;
-  loaded = record { content = c.in-Ok.ensures.told; asked = c.in-Ok.ensures.asked; fault = c.in-Ok.ensures.fault; grows = c.in-Ok.ensures.faults };
-  given = rw c.as_slice.ensures at c.password_by.ensures.value;
+pub returns-clause-read : goal.returns-clause-read
+returns-clause-read g c = record {
+  answer = c.load.result;
+  loaded = record { content = c.load.ensures.told; asked = c.load.ensures.asked; fault = c.load.ensures.fault; grows = c.load.ensures.faults };
+  given = c.password_of.ensures.value;
 }
 
-pub returns-in-Ok-clause-found : goal.returns-in-Ok-clause-found
-returns-in-Ok-clause-found g c = λ t.
-    finds-read password_in (file_in (g.F.Shelf.files c.args.shelf.now) c.args.name.now) c.in-Ok.octets c.password_by.result (c.in-Ok.ensures.told t) (rw c.as_slice.ensures at c.password_by.ensures.value)
+pub returns-clause-found : goal.returns-clause-found
+returns-clause-found g c = λ t.
+    finds-loaded Password password_in (file_in (g.F.Shelf.files c.args.shelf.now) c.args.name.now) c.load.result c.password_of.result (λ stop. refl) (c.load.ensures.told t) c.password_of.ensures.value
 
-pub returns-in-Ok-clause-asked : goal.returns-in-Ok-clause-asked
-returns-in-Ok-clause-asked g c = λ t. asked-one (g.F.Shelf.asked c.args.shelf.now) (g.F.Shelf.asked c.load.new.shelf) c.args.name.now c.password_by.result (c.in-Ok.ensures.asked t)
+pub returns-clause-asked : goal.returns-clause-asked
+returns-clause-asked g c = λ t. asked-loaded _ _ _ Password password_in c.load.result c.password_of.result (λ stop. refl) (c.load.ensures.asked t) c.password_of.ensures.value
 
-pub returns-in-Ok-clause-fault : goal.returns-in-Ok-clause-fault
-returns-in-Ok-clause-fault g c = not-missing _ c.password_by.result c.password_by.ensures.loaded
-
-pub returns-in-Err-clause-read : goal.returns-in-Err-clause-read
-returns-in-Err-clause-read g c = record {
-  answer = Err c.in-Err.stop;
-  loaded = record { content = c.in-Err.ensures.told; asked = c.in-Err.ensures.asked; fault = c.in-Err.ensures.fault; grows = c.in-Err.ensures.faults };
-  given = λ other. ap Err (sym c.end_by.ensures);
-}
-
-pub returns-in-Err-clause-found : goal.returns-in-Err-clause-found
-returns-in-Err-clause-found g c = λ t.
-    finds-stop Password password_in (file_in (g.F.Shelf.files c.args.shelf.now) c.args.name.now) c.in-Err.stop (λ stop. refl) c.end_by.ensures (c.in-Err.ensures.told t)
-
-pub returns-in-Err-clause-asked : goal.returns-in-Err-clause-asked
-returns-in-Err-clause-asked g c = λ t. asked-stop Password c.in-Err.stop c.end_by.ensures (c.in-Err.ensures.asked t)
-
-pub returns-in-Err-clause-fault : goal.returns-in-Err-clause-fault
-returns-in-Err-clause-fault g c = missing-stop Password c.in-Err.stop c.end_by.ensures c.in-Err.ensures.fault
-
-pub returns-in-Err-clause-stop : goal.returns-in-Err-clause-stop
-returns-in-Err-clause-stop g c = (c.in-Err.stop, c.end_by.ensures)
+pub returns-clause-fault : goal.returns-clause-fault
+returns-clause-fault g c = missing-loaded c.password_of.result c.load.result c.password_of.ensures.unloaded c.load.ensures.fault

@@ -1,0 +1,4 @@
+pub mod Arguments
+pub mod Naming
+pub mod Refused
+pub mod Saying

@@ -1,0 +1,9 @@
+use Rattle.std.proofs.Common.{arith}
+use Rattle.std.proofs.lemmas.Iterator.Consumers.{map_from_collect}
+use Rattle.std.proofs.lemmas.Iterator.Splits.{YieldsList-from_str_split}
+use Rattle.std.proofs.lemmas.Result.{IfOk-at_ok}
+use Rattle.client_options.proofs.mechs.words_in.Goals as goal
+
+pub returns : goal.returns
+returns c =
+    IfOk-at_ok _ c.in_ok-words.was (map_from_collect _ c.collect.ensures.ran (YieldsList-from_str_split 44 c.args.text.now (omega arith) c.split.ensures.text c.split.ensures.has_more c.split.ensures.pattern))

@@ -1,0 +1,184 @@
+-- The words of the client, `ADDRESS COMMAND [ARG] [options]`: which are in its command, and what
+-- they ask for.
+use Rattle.std.specs.Prelude.{◌≡◌, ℕ, ◌<◌, ◌≤◌, Bool, ◌&&◌, nat_eq, nat_lt, nat_le}
+use Rattle.std.specs.Prelude.{List, [], length, slice_get, slice_index, codes, Option, Some}
+use Rattle.std.specs.Prelude.{None, is_some, Result, Ok, Err, if◌then◌else◌}
+use Rattle.gss_base.specs.Name.{Name}
+use Rattle.gss_base.specs.Signs.{parsed}
+use Rattle.gss_base.specs.declared.principal.NameRefusal.{NameRefusal}
+use Rattle.gss_client.specs.declared.procedure.Procedure.{Procedure}
+use Rattle.gss_client.specs.declared.procedure.Procedure.TheVariants.{Null, Echo, Whoami, Post}
+use Rattle.gss_client.specs.declared.procedure.Procedure.TheVariants.{Count}
+use Rattle.rpcsec_bodies.specs.declared.service.Service.{Service}
+use Rattle.rpcsec_bodies.specs.declared.service.Service.TheVariants as services
+use Rattle.cli_base.specs.Given.{◌>>=◌, or_usage, demanded, number_given, data_given}
+use Rattle.cli_base.specs.Words.{are_words, value_of, first_word, plain_of}
+use Rattle.cli_base.specs.declared.given.WordsRefusal.{WordsRefusal}
+use Rattle.cli_base.specs.declared.given.WordsRefusal.TheVariants.{Usage}
+use Rattle.cli_words.specs.Line.{client_names}
+use Rattle.hex.specs.Hex.{decode_of}
+use Rattle.hex.specs.declared.error.FromHexError.{FromHexError}
+use Rattle.rpc_msgs.specs.Words.{opaque}
+use Rattle.mech_words.specs.Names.{same}
+use Rattle.client_options.specs.Mechs.{mechs_given}
+use Rattle.client_options.specs.declared.words.Asked.{Asked}
+use Rattle.client_options.specs.declared.words.ClientWords.{ClientWords}
+use Rattle.client_options.specs.declared.words.Plan.{Plan}
+use Rattle.client_options.specs.declared.words.Sources.{Sources}
+
+-- ---- the command and its argument
+
+-- the octets of ARG, which has them in hexadecimal: at most 65,536
+abbrev pub within : List ℕ → Result (List ℕ) WordsRefusal
+within octets = if nat_lt 65536 (length octets) then Err Usage else Ok octets
+
+-- the same of ARG as it was read: what isn't hexadecimal is refused
+abbrev pub data_by : Result (List ℕ) FromHexError → Result (List ℕ) WordsRefusal
+data_by (Ok octets) = within octets
+data_by (Err refusal) = Err Usage
+
+-- a command without ARG
+unfoldable pub bare : List (List ℕ) → Procedure → Result Asked WordsRefusal
+bare plain procedure = do
+  alone ← demanded (nat_eq (length plain) 2)
+  Ok (record { procedure = procedure; args = [] })
+
+-- a command with ARG, which is the procedure's argument
+unfoldable pub with_data : List (List ℕ) → Procedure → Result Asked WordsRefusal
+with_data plain procedure = do
+  alone ← demanded (nat_eq (length plain) 3)
+  text ← or_usage (slice_get plain 2)
+  octets ← data_by (decode_of text)
+  Ok (record { procedure = procedure; args = opaque octets })
+
+-- what a command asks for, among the plain words
+abbrev pub asked_by : List (List ℕ) → List ℕ → Result Asked WordsRefusal
+asked_by plain word =
+    if same word (codes "null") then bare plain Null
+    else if same word (codes "echo") then with_data plain Echo
+    else if same word (codes "whoami") then bare plain Whoami
+    else if same word (codes "post") then with_data plain Post
+    else if same word (codes "count") then bare plain Count
+    else Err Usage
+
+-- the command is the second plain word, behind the address
+unfoldable pub asked_in : List (List ℕ) → Result Asked WordsRefusal
+asked_in plain = do
+  word ← or_usage (slice_get plain 1)
+  asked_by plain word
+
+-- ---- the options
+
+-- a word that is no option stands first; the options are of these names, each once, with its value
+abbrev pub is_command : List (List ℕ) → Bool
+is_command words = is_some (first_word words) && are_words client_names words
+
+-- words of the command, of which none is left over behind its argument
+abbrev pub is_line : List (List ℕ) → Bool
+is_line words = is_command words && nat_le (length (plain_of words)) 3
+
+-- the server as its text was read, refused where it names no principal
+abbrev pub name_by : Result Name NameRefusal → Result (Option Name) WordsRefusal
+name_by (Ok name) = Ok (Some name)
+name_by (Err refusal) = Err Usage
+
+-- the server, where the option names one
+abbrev pub server_given : Option (List ℕ) → Result (Option Name) WordsRefusal
+server_given None = Ok None
+server_given (Some text) = name_by (parsed text)
+
+-- the service by its word
+abbrev pub service_by : List ℕ → Result Service WordsRefusal
+service_by text =
+    if same text (codes "none") then Ok services.None
+    else if same text (codes "integrity") then Ok services.Integrity
+    else if same text (codes "privacy") then Ok services.Privacy
+    else Err Usage
+
+-- the service by the option, or integrity without it
+abbrev pub service_given : Option (List ℕ) → Result Service WordsRefusal
+service_given None = Ok services.Integrity
+service_given (Some text) = service_by text
+
+-- what is called and how, from the command and its options
+unfoldable pub plan_of : List (List ℕ) → Result Plan WordsRefusal
+plan_of words = do
+  asked ← asked_in (plain_of words)
+  bound ← data_given (value_of (codes "--bind") words)
+  service ← service_given (value_of (codes "--service") words)
+  times ← number_given 1 1000 1 (value_of (codes "--times") words)
+  first ← number_given 1 2147483647 1 (value_of (codes "--first") words)
+  Ok (record {
+    procedure = asked.procedure;
+    args = asked.args;
+    bindings = bound;
+    service =
+        service;
+    times = times;
+    first = first;
+  })
+
+-- ---- the mechanisms
+
+-- Kerberos's two options are the credential cache and the server, SCRAM's the user and the
+-- password's file
+abbrev pub is_given : List (List ℕ) → List ℕ → Bool
+is_given words name = is_some (value_of name words)
+
+-- both options of Kerberos are there
+abbrev pub has_krb5 : List (List ℕ) → Bool
+has_krb5 words = is_given words (codes "--ccache") && is_given words (codes "--server")
+
+-- both options of SCRAM are there
+abbrev pub has_scram : List (List ℕ) → Bool
+has_scram words = is_given words (codes "--user") && is_given words (codes "--password")
+
+-- where the credentials come from. Options of a mechanism that isn't listed are taken too.
+unfoldable pub sources_of : List (List ℕ) → Result Sources WordsRefusal
+sources_of words = do
+  server ← server_given (value_of (codes "--server") words)
+  list ← mechs_given (has_krb5 words) (has_scram words) (value_of (codes "--mechs") words)
+  Ok (record {
+    ccache = value_of (codes "--ccache") words;
+    server = server;
+    user = value_of (codes "--user") words;
+    password = value_of (codes "--password") words;
+    mechs = list;
+  })
+
+-- ---- the whole
+
+-- what the words ask for, refused exactly where they aren't in the command
+unfoldable pub words_of : List (List ℕ) → Result ClientWords WordsRefusal
+words_of words = do
+  formed ← demanded (is_command words)
+  sources ← sources_of words
+  plan ← plan_of words
+  Ok (record { sources = sources; plan = plan })
+
+-- octets in XDR, at most 65,536 of them
+pub record IsData (args : List ℕ) : Type 0 where
+  pub octets : List ℕ
+  pub few : length octets ≤ 65536
+  pub spelled : args ≡ opaque octets
+
+-- a procedure's argument: octets for ECHO and POST, nothing for the others
+abbrev pub IsArgument : Procedure → List ℕ → Type 0
+IsArgument Null args = args ≡ []
+IsArgument Echo args = IsData args
+IsArgument Whoami args = args ≡ []
+IsArgument Post args = IsData args
+IsArgument Count args = args ≡ []
+
+-- each number is an octet
+abbrev pub AreOctets : List ℕ → Type 0
+AreOctets octets = (i : ℕ) → slice_index octets i < 256
+
+-- the limits of what words ask for
+pub record IsRanged (plan : Plan) : Type 0 where
+  pub args : length plan.args ≤ 65540
+  pub octets : AreOctets plan.args
+  pub some : 1 ≤ plan.times
+  pub times : plan.times ≤ 1000
+  pub least : 1 ≤ plan.first
+  pub first : plan.first ≤ 2147483647

@@ -1,0 +1,6 @@
+//! The words that name a mechanism.
+#![tactic(auto)]
+
+mod names;
+
+pub use names::mech_named;
