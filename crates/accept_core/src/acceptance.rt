@@ -492,10 +492,12 @@ impl<N: Drop, S: Named + Drop> Core<N, S> {
             → IsPast self.now.table self.now.cache.greatest None
             → live_of self.now.table < self.now.table.limit }
     {
-        if self.log.limit() < self.log.len() + 4 {
+        let log_full = self.log.limit() < self.log.len() + 4;
+        if log_full {
             return Err(RoomRefusal::LogFull);
         }
-        if first && self.log.contexts() <= self.table.live() as u64 {
+        let crowded = first && self.log.contexts() <= self.table.live() as u64;
+        if crowded {
             match self.table.past(self.cache.greatest()) {
                 None => return Err(RoomRefusal::TableFull),
                 Some(_) => {}
