@@ -2,7 +2,7 @@
 ghost use Rattle.std.specs.Prelude.{◌≡◌, ◌≢◌, ℕ, ◌+◌, ◌<◌, ◌≤◌, ◌↔◌, [], ◌∷◌, Option, IfOk, IfSome};
 ghost use Rattle.std.specs.Prelude.{IsSome, IsOk, is_some, is_none, is_ok, None, Some, Ok, Err};
 ghost use Rattle.std.specs.Prelude.{length, reverse, max, ◌==◌, ◌||◌, true, false, IfErr, OnErr};
-ghost use Rattle.std.specs.Prelude.{if◌then◌else◌};
+ghost use Rattle.std.specs.Prelude.{if◌then◌else◌, ◌&&◌, nat_lt, nat_le};
 ghost use Rattle.context_table.specs.declared.slot.SlotState.{SlotState};
 ghost use Rattle.seq_window.specs.Marks.{Shows};
 ghost use Rattle.context_table.specs.Places.{slot_at, live_of, KeepsOthers, phase_of, is_complete};
@@ -479,6 +479,21 @@ impl<N: Drop, S: Named + Drop> Core<N, S> {
         self.posts
     }
 
+    // Whether the log has no room for the entries of a step.
+    fn is_log_full(&self) -> bool
+        ensures { result ≡ nat_lt self.now.limit (length self.now.history + 4) }
+    {
+        self.log.limit() < self.log.len() + 4
+    }
+
+    // Whether a step asks for the place of a context that is past its end, as a first one may.
+    fn is_crowded(&self, first: bool) -> bool
+        ensures { result
+            ≡ (first && nat_le self.now.table.limit (live_of self.now.table)) }
+    {
+        first && self.log.contexts() <= self.table.live() as u64
+    }
+
     /// Whether a step may be taken, a first one where `first`.
     pub fn room(&self, first: bool) -> Result<(), RoomRefusal>
         ensures log_full { (result ≡ Err RoomRefusal.LogFull)
@@ -492,10 +507,10 @@ impl<N: Drop, S: Named + Drop> Core<N, S> {
             → IsPast self.now.table self.now.cache.greatest None
             → live_of self.now.table < self.now.table.limit }
     {
-        if self.log.limit() < self.log.len() + 4 {
+        if self.is_log_full() {
             return Err(RoomRefusal::LogFull);
         }
-        if first && self.log.contexts() <= self.table.live() as u64 {
+        if self.is_crowded(first) {
             match self.table.past(self.cache.greatest()) {
                 None => return Err(RoomRefusal::TableFull),
                 Some(_) => {}
