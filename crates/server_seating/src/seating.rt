@@ -71,12 +71,12 @@ where
 {
     let lock;
     // (the book is let go by `rooms` where there is no room, so that no way out from here has to)
-    let (mut staffed, mut jobs, mut risen, mut back, (book, mut writer)) = rooms(
+    let (mut staffed, mut jobs, mut risen, back, (book, mut writer)) = rooms(
         alloc,
         desks.len(),
         (book, writer),
     )?;
-    let olds = mem::replace(desks, Vec::new(alloc));
+    let olds = mem::replace(desks, back);
     hire_all(hall, &mut writer, olds, &mut staffed);
     lock = Mutex::new(Shared::new(book, writer));
     seat_all(
@@ -94,9 +94,9 @@ where
     let end = end_of(jobs.as_slice());
     rise_all(jobs, &mut risen);
     let (book, mut writer) = lock.into_inner().into_parts();
-    compare_all(hall, &mut writer, risen, &mut back);
+    compare_all(hall, &mut writer, risen, desks);
     writer.close(hall);
-    *desks = back;
+    drop(writer);
     Ok(Course {
         end,
         log: book.into_log(),
