@@ -23,11 +23,11 @@ use accept_book::{Limits, Log, OwnSeat};
 use gss_base::{Label, Principal};
 use gss_server::{Keeper, Kept, Served};
 use sec_base::{Clock, Draw, Moment, NoMemory, Port, Shelf, Sink, Text};
-use server_desks::{Desk, count_connections, count_records};
+use server_desks::{Course, Desk, count_connections, count_records, starved};
 use server_options::{
     Counts, Files, Keys, Names, Options, RunEnd, WordsRefusal, keys_from, read_options, say_end,
 };
-use server_seating::{Course, run_book, starved};
+use server_seating::run_book;
 use spnego_core::AcceptSetup;
 use std::alloc::Global;
 use std::sync::Wait;

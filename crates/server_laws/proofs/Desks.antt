@@ -25,7 +25,7 @@ use Rattle.server_desks.specs.Desks.{ServedOf, ServedLink, LinksServed, DeskServ
 use Rattle.server_seating.specs.SideBySide.{Noted}
 use Rattle.server_command.proofs.Lending.{noted, get-past}
 use Rattle.server_command.specs.Through.{IsOpened}
-use Rattle.server_seating.specs.Through.{IsLogOf}
+use Rattle.server_desks.specs.Courses.{IsLogOf}
 use Rattle.server_desks.specs.declared.desk.Desk.{Desk}
 use Rattle.server_desks.specs.declared.desk.DeskEnd.{DeskEnd}
 use Rattle.server_options.specs.declared.keys.Keys.{Keys}

@@ -14,7 +14,7 @@ use Rattle.gss_server.specs.declared.connection.Served.{Served}
 use Rattle.gss_server.specs.declared.keeper.Keeper as keepers
 use Rattle.book_seats.specs.Notes.{Note, asked_by, questions_of}
 use Rattle.server_desks.specs.Desks.{DeskServed, end_behind}
-use Rattle.server_seating.specs.Through.{IsLogOf}
+use Rattle.server_desks.specs.Courses.{IsLogOf}
 use Rattle.server_desks.specs.declared.desk.Desk.{Desk}
 use Rattle.server_desks.specs.declared.desk.DeskEnd.{DeskEnd}
 use Rattle.server_options.specs.declared.ending.RunEnd.{RunEnd}

@@ -4,4 +4,4 @@
 mod seating;
 mod staffing;
 
-pub use seating::{Course, run_book, starved};
+pub use seating::run_book;

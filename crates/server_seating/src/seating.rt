@@ -9,16 +9,15 @@ ghost use Rattle.gss_server.specs.Telling.{limits_of};
 ghost use Rattle.book_seats.specs.Views.{writer};
 ghost use Rattle.server_desks.specs.Desks.{IsFresh, IsSmall, NamesADesk};
 ghost use Rattle.server_options.specs.Lines.{is_begun};
-ghost use Rattle.accept_core.specs.Logs.{no_log};
 ghost use Rattle.server_seating.specs.Through.{NoBook};
 ghost use Rattle.server_seating.specs.SideBySide.{SideBySide, IsUnder};
 
 use crate::staffing::{compare_all, hire_all, rise_all, rooms, seat_all};
-use accept_book::{Book, Log, OwnSeat};
+use accept_book::{Book, OwnSeat};
 use book_seats::{Board, Hall, Room, Shared, Token, Writer, open_board, open_hall};
 use gss_server::{Keeper, Kept, Served};
 use sec_base::{Clock, Draw, NoMemory, Port};
-use server_desks::{Desk, end_of, run_desks};
+use server_desks::{Course, Desk, course_of, end_of, run_desks, starved};
 use server_options::RunEnd;
 use spnego_core::AcceptSetup;
 use std::alloc::Global;
@@ -26,13 +25,6 @@ use std::marker::Brand;
 use std::mem;
 use std::sync::{Mutex, Wait};
 use std::thread::Threads;
-
-/// What a run came to.
-#[derive(Drop)]
-pub struct Course {
-    pub end: RunEnd,
-    pub log: Log,
-}
 
 /// Serves the desks side by side, each with a seat at the book. All room for that is taken before the first is served.
 fn run_seated<
@@ -71,12 +63,12 @@ where
 {
     let lock;
     // (the book is let go by `rooms` where there is no room, so that no way out from here has to)
-    let (mut staffed, mut jobs, mut risen, mut back, (book, mut writer)) = rooms(
+    let (mut staffed, mut jobs, mut risen, back, (book, mut writer)) = rooms(
         alloc,
         desks.len(),
         (book, writer),
     )?;
-    let olds = mem::replace(desks, Vec::new(alloc));
+    let olds = mem::replace(desks, back);
     hire_all(hall, &mut writer, olds, &mut staffed);
     lock = Mutex::new(Shared::new(book, writer));
     seat_all(
@@ -94,13 +86,10 @@ where
     let end = end_of(jobs.as_slice());
     rise_all(jobs, &mut risen);
     let (book, mut writer) = lock.into_inner().into_parts();
-    compare_all(hall, &mut writer, risen, &mut back);
+    compare_all(hall, &mut writer, risen, desks);
     writer.close(hall);
-    *desks = back;
-    Ok(Course {
-        end,
-        log: book.into_log(),
-    })
+    drop(writer);
+    Ok(course_of(alloc, end, Some(book)))
 }
 
 /// The same with a table, on which what the desks ask is noted.
@@ -201,17 +190,6 @@ where
             drop(book);
             Err(refusal)
         }
-    }
-}
-
-/// The course of a run that has no memory to serve its desks.
-pub fn starved(alloc: Global) -> Course
-    ensures end { result.end ≡ RunEnd.NoMemory }
-    ensures log { result.log ≡ no_log }
-{
-    Course {
-        end: RunEnd::NoMemory,
-        log: Log::empty(alloc),
     }
 }
 

@@ -2,7 +2,7 @@
 
 ghost use Rattle.std.specs.Prelude.{◌≡◌, pos, int_lt, ◌<ℤ◌, IfSome};
 ghost use Rattle.std.specs.Fd.{file_raw_fd};
-ghost use Rattle.stream_buffers.specs.HeldStreams.{number_above};
+ghost use Rattle.stream_buffers.specs.HeldStreams.{number_above, AreLow};
 
 use std::fs::File;
 use std::os::fd::AsRawFd;
@@ -34,7 +34,8 @@ impl HeldStreams {
     /// Opens the empty file until it has a number past those of the standard streams: the system gives each file the lowest number that
     /// is free. None where it can't be opened.
     pub fn hold<R: Files<File = File>>(rt: &R) -> Option<HeldStreams>
-        ensures { IfSome result (λ held. pos 2 <ℤ number_above held) }
+        ensures above { IfSome result (λ held. pos 2 <ℤ number_above held) }
+        ensures below { IfSome result (λ held. AreLow held) }
     {
         let mut below = [None, None, None];
         for at in 0..4 {

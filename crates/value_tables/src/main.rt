@@ -37,5 +37,5 @@ fn say_tables(rt: HostRuntime) -> io::Result<()> {
 
 fn main(rt: HostRuntime) -> io::Result<()> {
     say_tables(rt)?;
-    system::say_devices(rt)
+    system::say_devices(rt, rt)
 }

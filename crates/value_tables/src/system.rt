@@ -102,7 +102,7 @@ fn say_asked(rt: HostRuntime, asked: Asked) -> io::Result<()> {
     )
 }
 
-/// Says the same of connections. The host is the runtime once more, which waits for them.
+/// Says the same of connections.
 fn say_connections<R>(rt: HostRuntime, host: R) -> io::Result<()>
 where
     R: Net<Stream = TcpStream, Listener = TcpListener> + Wait + Copy + Drop,
@@ -121,8 +121,11 @@ where
     )
 }
 
-/// Asks each device once, and says so.
-pub fn say_devices(rt: HostRuntime) -> io::Result<()> {
+/// Asks each device once, and says what it did. The host is the runtime once more, which waits for connections.
+pub fn say_devices<R>(rt: HostRuntime, host: R) -> io::Result<()>
+where
+    R: Net<Stream = TcpStream, Listener = TcpListener> + Wait + Copy + Drop,
+{
     let is_held = HeldStreams::hold(&rt).is_some();
     say(rt, "no standard stream is left closed", is_held)?;
     let differ = draws_differ(&rt);
@@ -132,5 +135,5 @@ pub fn say_devices(rt: HostRuntime) -> io::Result<()> {
     say(rt, "standard input and output are one link", is_one)?;
     say(rt, "standard error takes octets", takes_octets(rt.stderr()))?;
     say_files(rt)?;
-    say_connections(rt, rt)
+    say_connections(rt, host)
 }

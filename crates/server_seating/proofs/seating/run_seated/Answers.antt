@@ -40,13 +40,7 @@ returns-clause-served g c =
       last = with_setup g.J.Room.setup c.into_parts-book.result.0;
       opened = c.into_parts-book.ensures.began.1;
       chain = c.into_parts-book.ensures.began.2;
-      closed = record {
-        entries = c.into_log.ensures.entries;
-        width = c.into_log.ensures.width;
-        limit = c.into_log.ensures.limit;
-        contexts = c.into_log.ensures.contexts;
-        marks = c.into_log.ensures.marks;
-      };
+      closed = c.course_of.ensures.log g.J.Room.setup;
       count = n5 ∙ n4 ∙ n3 ∙ n2 ∙ n1 ∙ olds;
       ends_count = length-map c.run_desks.new.jobs.items (λ job. job.end) ∙ n3 ∙ n2 ∙ n1 ∙ olds;
       each = λ i a b ending at_a at_end at_b.
@@ -64,14 +58,16 @@ returns-clause-served g c =
           desk-noted g.J.Room.begins (λ s. s.clerk) all i j1.0.width j1.0.connections a b j1.0.desk j2.0.desk ending j1.0.gate j2.0.gate s2.0.clerk r2.3 r2.2 (r2.0 ∙ r1.0) (r2.1 ∙ r1.1) (rw ended r3) r4.1 (r5.0 ∙ r4.0) r5.1;
       others = λ d few. ap (λ w. asked_by d w.all) (sym c.compare_all.ensures.writer)
           ∙ c.close.ensures.others d (subst (λ (n : ℕ). n ≤ d) (sym (ap (λ w. w.made) c.compare_all.ensures.writer ∙ c.into_parts-book.ensures.desks ∙ c.requires.desks)) (search rules));
-      ended = c.end_of-end.ensures ∙ ap (λ jobs. end_behind Served 1 (map (λ job. job.end) jobs)) c.as_slice.ensures.value;
+      ended = c.course_of.ensures.end ∙ c.end_of-end.ensures ∙ ap (λ jobs. end_behind Served 1 (map (λ job. job.end) jobs)) c.as_slice.ensures.value;
     }
 
 pub returns-clause-limits : goal.returns-clause-limits
 returns-clause-limits g c =
-    let limits = c.into_parts-book.ensures.limits in record {
-      width = c.into_log.ensures.width ∙ ap (λ l. l.width) limits;
-      limit = c.into_log.ensures.limit ∙ ap (λ l. l.log) limits;
-      contexts = c.into_log.ensures.contexts ∙ ap (λ l. l.contexts) limits;
-      marks = c.into_log.ensures.marks ∙ ap (λ l. l.marks) limits;
+    let limits = c.into_parts-book.ensures.limits in
+    let closed = c.course_of.ensures.log g.J.Room.setup in
+    record {
+      width = closed.width ∙ ap (λ l. l.width) limits;
+      limit = closed.limit ∙ ap (λ l. l.log) limits;
+      contexts = closed.contexts ∙ ap (λ l. l.contexts) limits;
+      marks = closed.marks ∙ ap (λ l. l.marks) limits;
     }
