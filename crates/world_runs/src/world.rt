@@ -99,6 +99,7 @@ fn deliver_from(alloc: Global, stage: Stage, bytes: &[u8], first: u32) -> Moves
 {
     match stage {
         Stage::Asks { xid, end } => initiators::take(alloc, first, xid, end, bytes),
+        Stage::Stands(session) => stays(Stage::Stands(session)),
         other => stays(other),
     }
 }
