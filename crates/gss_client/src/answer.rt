@@ -1,6 +1,6 @@
 //! What every reply is judged by: its form, its transaction number, whether it was accepted, and its verifier.
 
-ghost use Rattle.std.specs.Prelude.{◌≡◌};
+ghost use Rattle.std.specs.Prelude.{◌≡◌, ◌==◌};
 ghost use Rattle.rpc_msgs.specs.Replies.{reply_value};
 ghost use Rattle.rpc_msgs.specs.Xdr.{Answers};
 ghost use Rattle.gss_client.specs.Judging.{answer_value, answer_in, granted, place_of, xid_of};
@@ -43,6 +43,13 @@ fn xid_of(reply: &Reply<'_>) -> u32
     }
 }
 
+/// Whether a reply is to the call of this transaction number.
+fn is_own(reply: &Reply<'_>, xid: u32) -> bool
+    ensures { result ≡ (xid_of (reply_value reply.now) == xid) }
+{
+    xid_of(reply) == xid
+}
+
 /// The accepted reply in a record of so many octets.
 fn granted(size: usize, reply: Reply<'_>) -> Result<Answer<'_>, ClientRefusal>
     ensures { Answers answer_value result (granted size (reply_value reply.entry)) }
@@ -79,8 +86,7 @@ pub(crate) fn answer_in(xid: u32, bytes: &[u8]) -> Result<Answer<'_>, ClientRefu
         Ok(reply) => reply,
         Err(refusal) => return Err(ClientRefusal::BadReply(ReplyWhy::Form { at: refusal.at })),
     };
-    let own = xid_of(&reply) == xid;
-    if !own {
+    if !is_own(&reply, xid) {
         return Err(ClientRefusal::BadReply(ReplyWhy::Xid));
     }
     granted(bytes.len(), reply)

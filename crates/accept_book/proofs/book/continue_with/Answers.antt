@@ -18,3 +18,9 @@ returns-in-Complete c =
       keeps = search rules;
       fits = search rules;
     }
+
+pub proceed-requires-clause-negotiates : goal.proceed-requires-clause-negotiates
+proceed-requires-clause-negotiates c = search rules
+
+pub proceed-requires-clause-opened : goal.proceed-requires-clause-opened
+proceed-requires-clause-opened c = search rules

@@ -31,3 +31,6 @@ returns-in-Err-clause-took c = rw c.in-Err.is (record {
   keeps = c.refuse-in-Err.ensures.keeps;
   fits = c.refuse-in-Err.ensures.fits;
 })
+
+pub refuse-requires-in-Err : goal.refuse-requires-in-Err
+refuse-requires-in-Err c = record { ready = c.requires.ready }

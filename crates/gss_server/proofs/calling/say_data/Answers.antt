@@ -1,15 +1,11 @@
-use Rattle.accept_book.specs.RecordRule.{data_ruling}
-use Rattle.std.proofs.Common.{refl}
-use Rattle.gss_server.proofs.Unasked.{unasked-ruled}
+use Rattle.rpcsec_msgs.specs.Cred.{cred_value}
+use Rattle.gss_server.specs.Hearing.{shown}
+use Rattle.gss_server.proofs.Unasked.{screened-data}
 use Rattle.gss_server.proofs.calling.say_data.Goals as goal
 
 pub returns-in-Some : goal.returns-in-Some
-unfolding data_ruling
 returns-in-Some g c = record {
-  ruled = record {
-    ruled = unasked-ruled g.G.Gate 1 c.args.gate.now c.args.asks.now c.in-Some.said _ c.requires.unasked (c.in-Some.ensures _);
-    unlooked = rw c.requires.unasked refl;
-  };
+  ruled = screened-data g.G.Gate c.args.gate.now c.args.asks.now c.in-Some.said (shown c.args.heard.now) (cred_value c.args.cred.now) c.args.lease.now c.args.asks.now.admitted c.requires.unasked c.in-Some.ensures;
 }
 
 pub returns-in-None : goal.returns-in-None
