@@ -1,12 +1,12 @@
 -- How a run ends whose words were refused.
-use Rattle.std.proofs.Common.{◌≡◌, ◌≢◌, ◌++◌, ℕ, true, false, List, [], Result, Ok, Err, refl, sym, ap, ◌∙◌}
+use Rattle.std.proofs.Common.{◌≡◌, ◌≢◌, ℕ, true, false, List, Result, Ok, Err, refl, sym, ap, ◌∙◌}
 use Rattle.std.proofs.lemmas.List.{append-nil}
 use Rattle.cli_base.specs.declared.given.WordsRefusal.{WordsRefusal}
 use Rattle.cli_base.specs.declared.given.WordsRefusal.TheVariants as refusals
 use Rattle.client_command.specs.Credentials.{Asks, is_unloaded}
 use Rattle.client_options.specs.Endings.{Named, end_of_words, is_begun, line_of}
 use Rattle.client_options.specs.declared.ending.RunEnd.{RunEnd}
-use Rattle.client_options.specs.declared.ending.RunEnd.TheVariants.{Usage, NoMemory, LinkFault}
+use Rattle.client_options.specs.declared.ending.RunEnd.TheVariants.{Usage, NoMemory}
 use Rattle.client_options.specs.declared.words.ClientWords.{ClientWords}
 use Rattle.client_options.specs.declared.words.Sources.{Sources}
 

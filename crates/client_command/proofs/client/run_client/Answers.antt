@@ -1,9 +1,9 @@
-use Rattle.std.proofs.Common.{◌≡◌, ◌⊎◌, ◌∙◌, inl, inr, [], Result, Ok, Err, refl, sym, ap}
+use Rattle.std.proofs.Common.{◌≡◌, ◌⊎◌, ◌∙◌, inl, inr, [], Result, Ok, refl, sym, ap}
 use Rattle.client_command.proofs.ByCredentials.{stops-always, begun-always}
 use Rattle.client_command.proofs.Saying.{unprinted}
 use Rattle.client_command.proofs.Unread.{same-line, usage-of, usage-always, wanting, never-begun, never-unloaded, unasked}
 use Rattle.client_command.specs.Credentials.{creds_from}
-use Rattle.client_options.specs.Endings.{end_of_words, is_begun}
+use Rattle.client_options.specs.Endings.{is_begun}
 use Rattle.client_command.specs.Runs.{names_of}
 use Rattle.client_options.specs.Words.{words_of}
 use Rattle.client_options.specs.declared.words.ClientWords.{ClientWords}

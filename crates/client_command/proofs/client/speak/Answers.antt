@@ -1,9 +1,12 @@
-use Rattle.std.proofs.Common.{arith, ap}
+use Rattle.std.proofs.Common.{arith, ap, rules}
 use Rattle.gss_client.specs.Start.{StartMeans}
 use Rattle.init_ends.specs.Ends.{SetupMeans}
 use Rattle.client_command.proofs.Spoken.{held, unbegun}
 use Rattle.client_command.specs.Runs.{start_of}
 use Rattle.client_command.proofs.client.speak.Goals as goal
+
+pub hold-talk-requires-clause-list : goal.hold-talk-requires-clause-list
+hold-talk-requires-clause-list g c = search rules
 
 pub returns-clause-told : goal.returns-clause-told
 returns-clause-told g c = λ t.

@@ -1,4 +1,4 @@
-use Rattle.std.proofs.Common.{refl, rules}
+use Rattle.std.proofs.Common.{refl}
 use Rattle.cli_base.specs.Files.{file_in}
 use Rattle.client_command.proofs.Loading.{finds-loaded, asked-loaded, missing-loaded}
 use Rattle.client_command.specs.Credentials.{cache_in}
