@@ -10,5 +10,6 @@ pub mod InConversation
 pub mod Texts
 pub mod WholeTalk
 mod Counts
+mod Finishing
 pub mod PlainReplies
 pub mod PlainTurns

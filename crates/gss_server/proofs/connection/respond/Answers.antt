@@ -3,3 +3,6 @@ use Rattle.gss_server.proofs.connection.respond.Goals as goal
 
 pub returns-in-NoMemory-clause-told : goal.returns-in-NoMemory-clause-told
 returns-in-NoMemory-clause-told g c = search rules
+
+pub returns-in-Ok-clause-told : goal.returns-in-Ok-clause-told
+returns-in-Ok-clause-told g c = search rules
