@@ -1,6 +1,6 @@
 //! The credentials of a run's mechanisms.
 
-ghost use Rattle.std.specs.Prelude.{◌≡◌, ◌≢◌, ◌∷◌, ◌++◌, [], IsTrue, IfOk, IfErr, true, false};
+ghost use Rattle.std.specs.Prelude.{◌≡◌, ◌≢◌, IsTrue, IfOk, IfErr, true, false};
 ghost use Rattle.sec_base.specs.Answers.{Gives, Rose};
 ghost use Rattle.spnego_core.specs.InitMech.{is_own_list};
 ghost use Rattle.client_command.specs.Credentials.{ticket_for, login_of, cred_for, creds_with};
@@ -100,18 +100,6 @@ fn cred_for(
     }
 }
 
-/// A list with one more credential.
-fn with_last(list: Vec<MechCred>, cred: MechCred) -> Result<Vec<MechCred>, RunEnd>
-    ensures items { IfOk result (λ longer. longer.items ≡ list.items ++ cred ∷ []) }
-    ensures stop { IfErr result (λ end. end ≡ RunEnd.NoMemory) }
-{
-    let mut list = list;
-    match list.push(cred) {
-        Ok(()) => Ok(list),
-        Err(_) => Err(RunEnd::NoMemory),
-    }
-}
-
 /// The credentials of the mechanisms that are listed, in their order.
 fn creds_with(
     alloc: Global,
@@ -123,10 +111,13 @@ fn creds_with(
         (creds_with sources.now cache.now password.now) }
     ensures stop { IfErr result (λ end. end ≢ RunEnd.NoMemory → end ≡ RunEnd.NoCredential) }
 {
-    let mut list = Vec::new(alloc);
-    for name in sources.mechs.as_slice() {
+    let names = sources.mechs.as_slice();
+    let Ok(mut list) = Vec::with_capacity(alloc, names.len()) else {
+        return Err(RunEnd::NoMemory);
+    };
+    for name in names {
         let cred = cred_for(alloc, sources, cache, password, *name)?;
-        list = with_last(list, cred)?;
+        list.push_reserved(cred);
     }
     Ok(Items::of(list))
 }

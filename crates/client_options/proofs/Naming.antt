@@ -30,6 +30,15 @@ next-name words i word {name} before {longer} {whole} within is more so =
     ∙ (sym (at_drop_more (λ (ws : List (Bor (List ℕ))). behind before (mechs_named (texts ws))) words i word within) ∙ so))
     )
 
+-- a word names no mechanism
+pub no-name : (words : List (Bor (List ℕ))) (i : ℕ) (word : Bor (List ℕ)) {refusal : WordsRefusal} (before : List MechName) {whole : Result (List MechName) WordsRefusal}
+    → i < length words → mech_named (get_or words i word).now ≡ Err refusal → behind before (mechs_named (texts (drop i words))) ≡ whole → whole ≡ Err refusal
+no-name words i word {refusal} before {whole} within is so =
+    let rest : Result (List MechName) WordsRefusal = mechs_named (texts (drop (i + 1) words)) in
+    sym so
+    ∙ (at_drop_more (λ (ws : List (Bor (List ℕ))). behind before (mechs_named (texts ws))) words i word within
+    ∙ ap (λ (r : Result MechName WordsRefusal). behind before (r >>= λ one. rest >>= λ list. Ok (one ∷ list))) is)
+
 pub all-names : (words : List (Bor (List ℕ))) (i : ℕ) (before : List MechName) {whole : Result (List MechName) WordsRefusal}
     → length words ≤ i → behind before (mechs_named (texts (drop i words))) ≡ whole → whole ≡ Ok before
 all-names words i before {whole} past so =
