@@ -5,3 +5,4 @@ pub mod PlainStates
 pub mod PlainSteps
 pub mod Taking
 pub mod Starting
+pub mod Picking

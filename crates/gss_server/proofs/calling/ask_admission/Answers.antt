@@ -1,12 +1,19 @@
-use Rattle.std.proofs.Common.{refl}
-use Rattle.rpcsec_msgs.specs.Cred.{cred_value}
-use Rattle.gss_server.specs.Hearing.{shown}
-use Rattle.gss_server.proofs.Unasked.{asked-admit}
+use Rattle.std.proofs.Common.{rules, refl}
+use Rattle.gss_server.proofs.Replying.{says-asking}
 use Rattle.gss_server.proofs.calling.ask_admission.Goals as goal
 
 pub returns : goal.returns
 returns g c =
     let said = c.say_admitted-said in record {
-      ruled = asked-admit g.G.Gate c.args.gate.now _ c.args.asks.now said.result (shown c.args.heard.now) (cred_value c.args.cred.now) c.args.lease.now c.args.args.now c.digest_of-digest.result _
-          c.requires.unasked c.digest_of-digest.ensures said.ensures.says (search refl) (search refl) (search refl) (search refl);
+      ruled = record {
+        ruled = record {
+          says = says-asking said.result.reply said.result.rule _ _ said.ensures.says.says;
+          fits = said.ensures.says.fits;
+          exact = rw (said.ensures.says.unasked, c.requires.unasked) refl;
+          asked = search rules;
+          tells = search rules;
+          limits = search rules;
+        };
+        unlooked = rw c.requires.unasked refl;
+      };
     }
