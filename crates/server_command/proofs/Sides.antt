@@ -1,5 +1,5 @@
 -- What holds of a run of desks that are served side by side.
-use Rattle.std.proofs.Common.{◌≡◌, ◌≢◌, ◌⊎◌, inl, inr, ℕ, true, false, List, slice_get, Some, refl, sym, ◌∙◌, subst}
+use Rattle.std.proofs.Common.{◌≡◌, ◌≢◌, ◌⊎◌, inl, inr, ℕ, true, false, List, slice_get, Some, refl, sym, ◌∙◌}
 use Rattle.sec_base.specs.Answers.{Rose}
 use Rattle.sec_base.specs.declared.port.Port as ports
 use Rattle.sec_base.specs.declared.link.Link as links

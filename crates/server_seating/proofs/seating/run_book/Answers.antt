@@ -1,4 +1,4 @@
-use Rattle.std.proofs.Common.{◌≡◌, refl, sym, ◌∙◌, arith}
+use Rattle.std.proofs.Common.{refl, sym, ◌∙◌, arith}
 use Rattle.server_desks.proofs.DeskRuns.{fresh-small}
 use Rattle.server_desks.proofs.Ends.{begun-behind, names-one}
 use Rattle.server_seating.proofs.Sides.{side-small}

@@ -1,11 +1,9 @@
-use Rattle.std.proofs.Common.{rules, ◌≡◌, ◌≤◌, ℕ, List, [], map, Some, length, slice_get, All, vec_len, refl, sym, ap, ◌∙◌, subst, arith}
+use Rattle.std.proofs.Common.{rules, ◌≡◌, ◌≤◌, ℕ, map, Some, length, slice_get, sym, ap, ◌∙◌, subst}
 use Rattle.accept_book.specs.Booking.{with_setup}
 use Rattle.book_seats.specs.Notes.{asked_by}
 use Rattle.std.proofs.lemmas.List.{length-map}
 use Rattle.server_desks.specs.Desks.{IsFresh, end_behind}
 use Rattle.server_options.specs.declared.ending.RunEnd.TheVariants.{Served}
-use Rattle.server_desks.specs.declared.desk.Desk.{Desk}
-use Rattle.server_desks.specs.declared.desk.DeskEnd.{DeskEnd}
 use Rattle.server_desks.proofs.InStep.{there, all-along, get-map}
 use Rattle.server_seating.proofs.Lengths.{same-length}
 use Rattle.server_seating.proofs.Noting.{desk-noted}

@@ -1,5 +1,4 @@
-use Rattle.std.proofs.Common.{rules, ◌≡◌, ℕ, List, [], ◌∷◌, ◌++◌, refl, sym, ap, ◌∙◌, subst}
-use Rattle.std.specs.Vec.Iter.{into_iter_items}
+use Rattle.std.proofs.Common.{rules, refl, sym, ap, ◌∙◌}
 use Rattle.book_seats.specs.Notes.{asked_by}
 use Rattle.server_desks.proofs.InStep.{moves-more}
 use Rattle.server_seating.proofs.staffing.compare_all.Goals as goal

@@ -1,5 +1,4 @@
-use Rattle.std.proofs.Common.{rules, ◌≡◌, ◌+◌, ℕ, List, [], ◌∷◌, ◌++◌, length, length-append, refl, sym, ap, ◌∙◌, arith}
-use Rattle.std.specs.Vec.Iter.{into_iter_items}
+use Rattle.std.proofs.Common.{rules, ◌≡◌, ◌+◌, [], length, length-append, refl, sym, ap, ◌∙◌}
 use Rattle.server_desks.proofs.InStep.{moves-more}
 use Rattle.server_seating.proofs.staffing.hire_all.Goals as goal
 
