@@ -14,6 +14,8 @@ TOP = os.path.dirname(os.path.dirname(os.path.abspath(__file__)))
 # Where the files stand that the toolchain's output goes to: a folder that git passes over.
 LOGS = os.path.join(TOP, "out")
 TIMES = os.path.join(TOP, "docs", "DECISIONS.md")
+# The heads of the columns of its table that count here.
+PROOF, EDITS = "Proof, s", "Edits and the check before them, s"
 # How many lines of its output are shown where a run failed.
 SHOWN = 20
 PROVED = re.compile(r"^rt: (\w+)\b.*\bproved\b")
@@ -82,17 +84,24 @@ def show_end(path):
 
 
 def seconds_of_crates():
-    """What the proof of each crate took, by the table of docs/DECISIONS.md."""
+    """The seconds that the proof of each crate took, and those of its edits, by the table of docs/DECISIONS.md."""
     with open(TIMES, encoding="utf-8") as file:
         section = file.read().partition("\n## The gate's time\n")[2]
-    return {name: int(seconds) for name, seconds in re.findall(r"^\| `(\w+)` \| (\d+) \|", section, re.M)}
+    rows = [[cell.strip() for cell in line.strip("|").split("|")] for line in section.splitlines() if line.startswith("|")]
+    heads = next((row for row in rows if PROOF in row), [PROOF])
+    at = [heads.index(it) if it in heads else None for it in (PROOF, EDITS)]
+
+    def seconds(row, place):
+        return int(row[place]) if place is not None and place < len(row) and row[place].isdigit() else 0
+
+    return {row[0].strip("`"): tuple(seconds(row, it) for it in at) for row in rows if row[0].startswith("`")}
 
 
 class Course:
     """How far a run is that proves these crates, by what their proofs took once and by how fast this run has been."""
 
     def __init__(self, libraries, wanted):
-        times = seconds_of_crates()
+        times = {name: proof for name, (proof, _) in seconds_of_crates().items()}
         usual = sum(times.values()) / len(times) if times else 60
         self.seconds = {name: times.get(name, usual) for name in wanted}
         self.below = {name: {it for it in libraries[name] if it in wanted} for name in wanted}
