@@ -141,16 +141,17 @@ class Course:
             self.changed, self.left = time.monotonic(), self.seconds_left()
         return found
 
-    def says(self):
-        """The line: crates that are proved, minutes so far, and about how many are left."""
+    def says(self, count=None):
+        """The line: crates that are proved, by now or when there were so many, minutes so far, and about how many are left."""
         now = time.monotonic()
         # this run's seconds for one of the table's, once it has gone on for a while
         went = self.whole - self.left
         pace = (self.changed - self.begun) / went if went > 60 else 1
         left = max(self.left * pace - (now - self.changed), 0)
-        last = f" ({self.proved[-1]})" if self.proved else ""
+        count = len(self.proved) if count is None else count
+        last = f" ({self.proved[count - 1]})" if count else ""
         so_far, about = int(now - self.begun) // 60, round(left / 60)
-        return f"{len(self.proved)} of {len(self.seconds)} crates are proved{last}, {so_far} minutes so far, about {max(about, 1)} left"
+        return f"{count} of {len(self.seconds)} crates are proved{last}, {so_far} minutes so far, about {max(about, 1)} left"
 
 
 def prove(folder, libraries, wanted, name):
@@ -159,8 +160,9 @@ def prove(folder, libraries, wanted, name):
     line.step(course.says())
 
     def looks(text):
-        if course.take(text):
-            line.step(course.says())
+        before = len(course.proved)
+        for count in range(before + 1, before + len(course.take(text)) + 1):
+            line.step(course.says(count))
         line.over(course.says())
 
     status = run(["rt", "ci"], folder, name, looks, line)
