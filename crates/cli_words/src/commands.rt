@@ -15,7 +15,7 @@ use sec_base::NoMemory;
 use std::alloc::Global;
 
 /// The options of the server: each with its word, which is its id too, and its name, the word without `--`.
-const SERVER_OPTIONS: [(&str, &str); 10] = [
+const SERVER_OPTIONS: [(&str, &str); 12] = [
     ("--keytab", "keytab"),
     ("--verifiers", "verifiers"),
     ("--name", "name"),
@@ -26,6 +26,8 @@ const SERVER_OPTIONS: [(&str, &str); 10] = [
     ("--contexts", "contexts"),
     ("--marks", "marks"),
     ("--log", "log"),
+    ("--desks", "desks"),
+    ("--idle", "idle"),
 ];
 
 /// The options of the client, each with its word and its name.

@@ -1,7 +1,7 @@
 //! The server's program: makes the real devices and runs the server over them, or a drill, which needs none but the standard streams.
 #![tactic(auto)]
 
-ghost use Rattle.std.specs.Prelude.{◌≡◌, IfOk, Some, map};
+ghost use Rattle.std.specs.Prelude.{◌≡◌, IfOk, Some, map, vec_len};
 ghost use Rattle.std.specs.List.{AllByRecursion};
 ghost use Rattle.drill_plan.specs.Sessions.{blank_objects, session_count};
 ghost use Rattle.drill_plan.specs.Words.{plan_of};
@@ -11,18 +11,19 @@ use drill_command::run_drill;
 use drill_plan::{Plan, add_object, drill_sessions, is_drill};
 use gss_server::{KeepNothing, KeepReceipts};
 use mech_objects::{KerberosMech, Mech, ScramMech};
-use sec_base::{Clock, Port, Text};
+use sec_base::{Clock as Moments, Port, Text};
 use server_command::run_server;
 use server_desks::Desk;
-use server_options::address_of;
+use server_options::{WordsRefusal, address_of, read_options};
 use std::alloc::AllocError;
 use std::net::{Net, TcpListener, TcpStream};
 use std::process::ExitCode;
+use std::rt::Clock;
 use std::sync::Wait;
 use std::thread::Threads;
 use system_devices::{
     BufferedPort, FileShelf, HeldStreams, RandDraw, StdSink, StdioPort, SystemClock, TcpDoor,
-    TcpPort, WordsRefusal, command_line,
+    TcpPort, WordsRefusal as LineRefusal, command_line,
 };
 
 /// The status where the words can't be read, or the random source or the empty file isn't there.
@@ -110,57 +111,90 @@ fn over_standard_streams<R: Threads + Wait + Sync>(
     run(rt, threads, words, desks)
 }
 
-/// Random octets for four desks; None where the system gives no seed.
-fn draws(rt: HostRuntime) -> Option<(RandDraw, RandDraw, RandDraw, RandDraw)> {
-    match (
-        RandDraw::new(&rt),
-        RandDraw::new(&rt),
-        RandDraw::new(&rt),
-        RandDraw::new(&rt),
-    ) {
-        (Ok(first), Ok(second), Ok(third), Ok(fourth)) => Some((first, second, third, fourth)),
-        _ => None,
-    }
-}
-
 /// A desk at a TCP listener.
-fn desk_at<'a, R: Net<Stream = TcpStream, Listener = TcpListener> + Wait + Drop>(
+fn desk_at<'a, R>(
     rt: HostRuntime,
     door: &'a TcpDoor<'a, R>,
     draw: RandDraw,
 ) -> SystemDesk<BufferedPort<TcpPort<'a, R>>>
+where
+    R: Net<Stream = TcpStream, Listener = TcpListener> + Clock + Wait + Copy + Drop,
     ensures { IsFresh result }
 {
     desk(rt, BufferedPort::new(rt.alloc(), TcpPort::at(door)), draw)
 }
 
-/// Four desks at a TCP listener; or the status where there are none.
-fn desks_at<'a, R: Net<Stream = TcpStream, Listener = TcpListener> + Wait + Drop>(
+/// So many desks at a TCP listener, each with random octets of its own; or the status where there are none.
+fn desks_at<'a, R>(
     rt: HostRuntime,
     door: &'a TcpDoor<'a, R>,
+    count: u32,
 ) -> Result<Vec<SystemDesk<BufferedPort<TcpPort<'a, R>>>>, u8>
-    ensures { IfOk result (λ desks. AllByRecursion IsFresh desks.items) }
+where
+    R: Net<Stream = TcpStream, Listener = TcpListener> + Clock + Wait + Copy + Drop,
+    ensures count { IfOk result (λ desks. vec_len desks ≡ count) }
+    ensures fresh { IfOk result (λ desks. AllByRecursion IsFresh desks.items) }
 {
-    let Some((first, second, third, fourth)) = draws(rt) else {
-        return Err(NOT_STARTED);
-    };
-    let Ok(mut desks) = Vec::with_capacity(rt.alloc(), 4) else {
+    let Ok(mut desks) = Vec::with_capacity(rt.alloc(), count as usize) else {
         return Err(OUT_OF_MEMORY);
     };
-    desks.push_reserved(desk_at(rt, door, first));
-    desks.push_reserved(desk_at(rt, door, second));
-    desks.push_reserved(desk_at(rt, door, third));
-    desks.push_reserved(desk_at(rt, door, fourth));
+    for number in 0..count {
+        let Ok(draw) = RandDraw::new(&rt) else {
+            return Err(NOT_STARTED);
+        };
+        desks.push_reserved(desk_at(rt, door, draw));
+    }
     Ok(desks)
 }
 
-/// Runs the server over four desks at a TCP listener, which listens once the files were read.
+/// What the devices of a run have to know of its words.
+#[derive(Clone, Copy)]
+struct Staff {
+    /// How many desks there are.
+    desks: u32,
+    /// How many connections all of them serve together.
+    connections: u64,
+    /// For how many seconds a connection may be silent.
+    idle: u32,
+}
+
+/// What words ask for that aren't in the command: the run says what they are before anything is served.
+const UNSERVED: Staff = Staff {
+    desks: 1,
+    connections: 1,
+    idle: 1,
+};
+
+/// What the words ask for of the devices; None at want of memory.
+fn staff_of(rt: HostRuntime, words: &[Text]) -> Option<Staff> {
+    match read_options(rt.alloc(), words) {
+        Ok(options) => Some(Staff {
+            desks: options.desks,
+            connections: (options.connections as u64).saturating_mul(options.desks as u64),
+            idle: options.idle,
+        }),
+        Err(WordsRefusal::Usage) => Some(UNSERVED),
+        Err(WordsRefusal::NoMemory) => None,
+    }
+}
+
+/// Runs the server over the desks that the words ask for at a TCP listener, which listens once the files were read.
 fn over_listener<R>(rt: HostRuntime, host: R, words: &[Text], address: &str) -> u8
 where
-    R: Net<Stream = TcpStream, Listener = TcpListener> + Threads + Wait + Sync + Copy + Drop,
+    R: Net<Stream = TcpStream, Listener = TcpListener>
+        + Clock
+        + Threads
+        + Wait
+        + Send
+        + Sync
+        + Copy
+        + Drop,
 {
-    let door = TcpDoor::at(host, address);
-    match desks_at(rt, &door) {
+    let Some(staff) = staff_of(rt, words) else {
+        return OUT_OF_MEMORY;
+    };
+    let door = TcpDoor::at(host, address, staff.connections, staff.idle);
+    match desks_at(rt, &door, staff.desks) {
         Ok(desks) => run(rt, &host, words, desks),
         Err(status) => status,
     }
@@ -202,12 +236,19 @@ fn drill(rt: HostRuntime, words: &[Text]) -> u8 {
 /// Holds a drill, or runs the server over the devices that the words ask for. The host is the runtime once more, which makes threads and waits for them.
 fn status<R>(rt: HostRuntime, host: R) -> u8
 where
-    R: Net<Stream = TcpStream, Listener = TcpListener> + Threads + Wait + Sync + Copy + Drop,
+    R: Net<Stream = TcpStream, Listener = TcpListener>
+        + Clock
+        + Threads
+        + Wait
+        + Send
+        + Sync
+        + Copy
+        + Drop,
 {
     let words = match command_line(&rt) {
         Ok(words) => words,
-        Err(WordsRefusal::NotText) => return NOT_STARTED,
-        Err(WordsRefusal::NoMemory) => return OUT_OF_MEMORY,
+        Err(LineRefusal::NotText) => return NOT_STARTED,
+        Err(LineRefusal::NoMemory) => return OUT_OF_MEMORY,
     };
     if is_drill(words.as_slice()) {
         return drill(rt, words.as_slice());

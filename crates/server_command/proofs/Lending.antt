@@ -22,7 +22,7 @@ use Rattle.book_seats.proofs.Moves.{of-append, of-own, of-else}
 use Rattle.history_laws.specs.Before.{Gives, IsGiven}
 use Rattle.history_laws.specs.Lent.{AllLent}
 use Rattle.history_laws.proofs.Lent.{LentFrom, lent-join, lends-record, at-place}
-use Rattle.server_desks.specs.Desks.{ServedOf, ServedLink, LinksServed, DeskServed}
+use Rattle.server_desks.specs.Desks.{ServedOf, ServedLink, LinksServed, DeskServed, run_limit}
 use Rattle.server_desks.specs.declared.desk.Desk.{Desk}
 use Rattle.server_desks.specs.declared.desk.DeskEnd.{DeskEnd}
 use Rattle.server_options.specs.declared.ending.RunEnd.{RunEnd}
@@ -143,6 +143,6 @@ pub lent : {P C D K M L Q R : Type 0} (options : Options) (keys : Keys) (start :
     → (one : OneHistory options keys start port link clock draw keeper kept olds end news log) → AllLent (questions_of one.all)
 lent options keys start port link clock draw keeper kept olds end news log one = at-place (questions_of one.all) (all-lent [] one.all (λ i. elim (cases_lt i (length olds)) [
   | inl below ↦ each-lent olds one.ends news i (asked_by i one.all) (slice_get olds i) (slice_get one.ends i) (slice_get news i) one.count one.ends_count refl refl refl below
-      (λ old new ending a b c. desk-lent options.window options.connections port link clock draw keeper kept i old ending new (asked_by i one.all) (one.each i old new ending a b c))
+      (λ old new ending a b c. desk-lent options.window (run_limit options.connections (length olds)) port link clock draw keeper kept i old ending new (asked_by i one.all) (one.each i old new ending a b c))
   | inr past ↦ subst (λ (xs : List Asked). LentFrom [] xs) (sym (one.others i past)) tt
 ]))

@@ -1,5 +1,5 @@
 -- What holds of a run of desks that are served side by side.
-use Rattle.std.proofs.Common.{◌≡◌, ◌≢◌, ◌⊎◌, inl, inr, ℕ, true, false, List, slice_get, Some, refl, sym, ◌∙◌}
+use Rattle.std.proofs.Common.{◌≡◌, ◌≢◌, ◌⊎◌, inl, inr, ℕ, true, false, List, slice_get, Some, refl, sym, subst, ◌∙◌}
 use Rattle.sec_base.specs.Answers.{Rose}
 use Rattle.sec_base.specs.declared.port.Port as ports
 use Rattle.sec_base.specs.declared.link.Link as links
@@ -34,8 +34,8 @@ module _ {P C D K M L Q R : Type 0} {begins : BookOf → Type 0} {width most : �
       steady i old.0 new.0 old.1 new.1 ((s.each i old.0 new.0 PortFault old.1 at new.1).failed refl)) (λ e. other (s.ended ∙ e))
 
   -- the book began in another sense
-  pub began-as : {Begins : BookOf → Type 0} → ((book : BookOf) → begins book → Begins book) → SideBySide begins width most port link clock draw keeper kept olds end news log → SideBySide Begins width most port link clock draw keeper kept olds end news log
-  began-as by s = record {
+  began : {Begins : BookOf → Type 0} → ((book : BookOf) → begins book → Begins book) → SideBySide begins width most port link clock draw keeper kept olds end news log → SideBySide Begins width most port link clock draw keeper kept olds end news log
+  began by s = record {
     all = s.all;
     ends = s.ends;
     first = s.first;
@@ -49,6 +49,10 @@ module _ {P C D K M L Q R : Type 0} {begins : BookOf → Type 0} {width most : �
     others = s.others;
     ended = s.ended;
   }
+
+  -- the book began in another sense, and the desks' limit is written otherwise
+  pub began-as : {Begins : BookOf → Type 0} {limit : ℕ} → ((book : BookOf) → begins book → Begins book) → most ≡ limit → SideBySide begins width most port link clock draw keeper kept olds end news log → SideBySide Begins width limit port link clock draw keeper kept olds end news log
+  began-as {Begins} by same s = subst (λ (n : ℕ). SideBySide Begins width n port link clock draw keeper kept olds end news log) same (began by s)
 
 pub begun-served : {end : RunEnd} {Idle Other : Type 0} → ((is_begun end ≡ false) × Idle) ⊎ Other → (Other → end ≡ whole.Served) → is_begun end ≡ true → end ≡ whole.Served
 begun-served (inl idle) served begun = let bad : false ≡ true = sym idle.0 ∙ begun in cc

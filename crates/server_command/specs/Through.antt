@@ -1,5 +1,5 @@
 -- The book that a run of the server opens, and the history of what its desks ask.
-use Rattle.std.specs.Prelude.{◌≡◌, ℕ, List, []}
+use Rattle.std.specs.Prelude.{◌≡◌, ℕ, List, [], length}
 use Rattle.sec_base.specs.declared.port.Port as ports
 use Rattle.sec_base.specs.declared.link.Link as links
 use Rattle.sec_base.specs.declared.clock.Clock as clocks
@@ -9,6 +9,7 @@ use Rattle.accept_core.specs.Logs.{LogOf}
 use Rattle.gss_server.specs.declared.answer.Kept.{Kept}
 use Rattle.gss_server.specs.declared.connection.Served.{Served}
 use Rattle.gss_server.specs.declared.keeper.Keeper as keepers
+use Rattle.server_desks.specs.Desks.{run_limit}
 use Rattle.server_desks.specs.declared.desk.Desk.{Desk}
 use Rattle.server_options.specs.declared.ending.RunEnd.{RunEnd}
 use Rattle.server_options.specs.declared.keys.Keys.{Keys}
@@ -38,5 +39,5 @@ abbrev pub OneHistory : {P C D K M L Q R : Type 0} → Options → Keys → ℕ 
     → keepers.Ghosts M (Served L) R → List (Desk P C D K M) → RunEnd → List (Desk P C D K M)
     → LogOf → Type 0
 OneHistory options keys start port link clock draw keeper kept olds end news log =
-    SideBySide (IsOpened options keys start) options.window options.connections port link clock draw
-    keeper kept olds end news log
+    SideBySide (IsOpened options keys start) options.window
+    (run_limit options.connections (length olds)) port link clock draw keeper kept olds end news log

@@ -23,7 +23,7 @@ use accept_book::{Limits, Log, OwnSeat};
 use gss_base::{Label, Principal};
 use gss_server::{Keeper, Kept, Served};
 use sec_base::{Clock, Draw, Moment, NoMemory, Port, Shelf, Sink, Text};
-use server_desks::{Course, Desk, count_connections, count_records, starved};
+use server_desks::{Course, Desk, count_connections, count_records, run_limit, starved};
 use server_options::{
     Counts, Files, Keys, Names, Options, RunEnd, WordsRefusal, keys_from, read_options, say_end,
 };
@@ -127,7 +127,7 @@ where
         ⊎ OneHistory options keys start P.Port P.Link.Link C.Clock D.Draw K.Keeper S.Keeper
         desks.old.items result.end desks.new.items result.log }
 {
-    let connections = options.connections;
+    let connections = run_limit(options.connections, desks.len());
     let width = options.window;
     match open_book(alloc, options, keys, start) {
         Ok(book) => run_book(rt, alloc, book, desks, connections, width),
@@ -270,7 +270,7 @@ where
 
 /// Runs the server over its desks, side by side where threads can be made, and says on `err` how it ended. The words are
 /// `ADDRESS --keytab FILE --verifiers FILE --name PRINCIPAL [--bind TEXT] [--offer LIST] [--window N] [--connections N] [--contexts N] [--marks N]
-/// [--log N]`.
+/// [--log N] [--desks N] [--idle SECONDS]`. How many desks there are, and how long a connection may be silent, whoever made them knows.
 pub fn run_server<
     R: Threads + Wait + Sync,
     F: Shelf,
@@ -330,7 +330,7 @@ where
         → is_begun result.end ≡ true → HasLimits options result.log }
     // One book, of the setup that words, keytab and verifiers give, gave all answers to the desks, in one order, from its opening to the log that is
     // returned: of each desk the questions of its connections, in the desk's order, and no others. Its offer is that of the words, in their order. Each
-    // desk served the first links of its port, in order; where it is done, all of them or as many as the words say. Or no book was opened: then the
+    // desk served the first links of its port, in order; where it is done, all of them or as many as the run serves. Or no book was opened: then the
     // desks are as they were, and the log is empty and has no limits.
     ensures booked { (options : Options) → options_of words.now ≡ Ok options
         → ((is_begun result.end ≡ false) × NoBook desks.old.items desks.new.items result.log)

@@ -2,9 +2,17 @@
 
 ghost use Rattle.std.specs.Prelude.{◌≡◌};
 ghost use Rattle.std.specs.List.{AllByRecursion};
-ghost use Rattle.server_desks.specs.Desks.{IsSmall, all_connections, all_records};
+ghost use Rattle.server_desks.specs.Desks.{IsSmall, all_connections, all_records, run_limit};
 
 use crate::desk::Desk;
+
+/// How many links each of so many desks may serve: as many as the run serves, `connections` for each desk, whichever desk they come to.
+pub fn run_limit(connections: u32, desks: usize) -> u32
+    ensures { result ≡ run_limit connections desks }
+{
+    let counted = desks.min(u32::MAX as usize) as u32;
+    connections.saturating_mul(counted)
+}
 
 /// How many connections the desks had.
 pub fn count_connections<P, C, D, K, S>(desks: &[Desk<P, C, D, K, S>]) -> u128

@@ -21,7 +21,7 @@ use Rattle.gss_server.specs.declared.connection.Served.{Served}
 use Rattle.gss_server.specs.declared.keeper.Keeper as keepers
 use Rattle.gss_server.proofs.Turning.{all-push}
 use Rattle.book_seats.specs.Notes.{Note, asked_by, questions_of}
-use Rattle.server_desks.specs.Desks.{ServedOf, ServedLink, LinksServed, DeskServed}
+use Rattle.server_desks.specs.Desks.{ServedOf, ServedLink, LinksServed, DeskServed, run_limit}
 use Rattle.server_seating.specs.SideBySide.{Noted}
 use Rattle.server_command.proofs.Lending.{noted, get-past}
 use Rattle.server_command.specs.Through.{IsOpened}
@@ -197,10 +197,10 @@ pub server-run : {P C D K M L Q R : Type 0} (port : ports.Ghosts P L) (link : li
     (kept : keepers.Ghosts M (Served L) R) → ServerIsRun port link clock draw keeper kept
 server-run {P} {C} {D} {K} {M} port link clock draw keeper kept options keys start olds end news log one legal w lane meanwhile is free =
     let own : (i : ℕ) → Own (λ (old : Desk P C D K M) (ending : DeskEnd) (new : Desk P C D K M) (hands : List InHand).
-    DeskHad Noted options.window options.connections port link clock draw keeper kept (i, []) old ending new (i, asked_by i one.all) hands) olds one.ends news i (asked_by i one.all) =
+    DeskHad Noted options.window (run_limit options.connections (length olds)) port link clock draw keeper kept (i, []) old ending new (i, asked_by i one.all) hands) olds one.ends news i (asked_by i one.all) =
     λ i. own-by (λ (old : Desk P C D K M) (ending : DeskEnd) (new : Desk P C D K M) (hands : List InHand).
-    DeskHad Noted options.window options.connections port link clock draw keeper kept (i, []) old ending new (i, asked_by i one.all) hands) olds one.ends news i (asked_by i one.all)
+    DeskHad Noted options.window (run_limit options.connections (length olds)) port link clock draw keeper kept (i, []) old ending new (i, asked_by i one.all) hands) olds one.ends news i (asked_by i one.all)
     (slice_get olds i) (slice_get one.ends i) (slice_get news i) one.count one.ends_count refl refl refl
-    (λ old new ending a b c. desk-had options.window options.connections port link clock draw keeper kept i old ending new (asked_by i one.all) (one.each i old new ending a b c)) in
-    server-by (AreTheirs options.window options.connections port link clock draw keeper kept olds one.ends news one.all) options keys start (length olds) one.first one.last log one.all (λ i. (own i).hands)
+    (λ old new ending a b c. desk-had options.window (run_limit options.connections (length olds)) port link clock draw keeper kept i old ending new (asked_by i one.all) (one.each i old new ending a b c)) in
+    server-by (AreTheirs options.window (run_limit options.connections (length olds)) port link clock draw keeper kept olds one.ends news one.all) options keys start (length olds) one.first one.last log one.all (λ i. (own i).hands)
     one.opened one.closed one.chain legal (record { each = λ i old new ending a b c. (own i).theirs old new ending a b c; others = λ i le. (own i).past le }) (λ i below. (own i).scripts below) (λ i le. (own i).past le) one.others w lane meanwhile is free

@@ -18,7 +18,7 @@ use Rattle.gss_server.specs.declared.answer.Kept.{Kept}
 use Rattle.gss_server.specs.declared.connection.Served.{Served}
 use Rattle.gss_server.specs.declared.keeper.Keeper as keepers
 use Rattle.book_seats.specs.Notes.{Note, asked_by}
-use Rattle.server_desks.specs.Desks.{ServedOf, LinksServed, DeskServed}
+use Rattle.server_desks.specs.Desks.{ServedOf, LinksServed, DeskServed, run_limit}
 use Rattle.server_command.specs.Through.{IsOpened, OneHistory}
 use Rattle.server_seating.specs.SideBySide.{Noted}
 use Rattle.server_desks.specs.declared.desk.Desk.{Desk}
@@ -142,5 +142,5 @@ ServerIsRun {P} {C} {D} {K} {M} port link clock draw keeper kept =
     → Legal log.width (reverse log.entries) → (w : World) (lane : ℕ → ℕ)
     (meanwhile : (w : World) → Meanwhile w) → w.book ≡ opened_book options keys start
     → AreFree w lane (length olds) → LogIsRun
-    (AreTheirs options.window options.connections port link clock draw keeper kept olds one.ends
-    news one.all) lane meanwhile one.all w (reverse log.entries)
+    (AreTheirs options.window (run_limit options.connections (length olds)) port link clock draw
+    keeper kept olds one.ends news one.all) lane meanwhile one.all w (reverse log.entries)

@@ -20,7 +20,7 @@ use Rattle.server_options.specs.declared.options.Options.{Options}
 abbrev pub names : List (List ℕ)
 names = codes "--keytab" ∷ codes "--verifiers" ∷ codes "--name" ∷ codes "--bind" ∷ codes "--offer"
     ∷ codes "--window" ∷ codes "--connections" ∷ codes "--contexts" ∷ codes "--marks"
-    ∷ codes "--log" ∷ []
+    ∷ codes "--log" ∷ codes "--desks" ∷ codes "--idle" ∷ []
 
 -- two words are the same
 abbrev pub same : List ℕ → List ℕ → Bool
@@ -81,8 +81,17 @@ numbers_given words = do
   contexts ← number_given 1 65536 1024 (value_of (codes "--contexts") words)
   marks ← number_given 1 1000000 65536 (value_of (codes "--marks") words)
   log ← number_given 16 4000000 262144 (value_of (codes "--log") words)
-  Ok (record
-      { window = window; connections = connections; contexts = contexts; marks = marks; log = log })
+  desks ← number_given 1 1024 64 (value_of (codes "--desks") words)
+  idle ← number_given 1 86400 60 (value_of (codes "--idle") words)
+  Ok (record {
+    window = window;
+    connections = connections;
+    contexts = contexts;
+    marks = marks;
+    log = log;
+    desks = desks;
+    idle = idle;
+  })
 
 -- what the options of words in the command ask for
 unfoldable pub options_in : List (List ℕ) → Result Options WordsRefusal
@@ -96,6 +105,8 @@ options_in words = do
   contexts ← number_given 1 65536 1024 (value_of (codes "--contexts") words)
   marks ← number_given 1 1000000 65536 (value_of (codes "--marks") words)
   log ← number_given 16 4000000 262144 (value_of (codes "--log") words)
+  desks ← number_given 1 1024 64 (value_of (codes "--desks") words)
+  idle ← number_given 1 86400 60 (value_of (codes "--idle") words)
   Ok (record {
     files = files;
     name = name;
@@ -107,6 +118,8 @@ options_in words = do
     contexts = contexts;
     marks = marks;
     log = log;
+    desks = desks;
+    idle = idle;
   })
 
 -- what the words ask for, refused exactly where they aren't in the command
@@ -124,6 +137,10 @@ pub record AreRanged (numbers : Numbers) : Type 0 where
   pub some_mark : 0 < numbers.marks
   pub marks : numbers.marks ≤ 1000000
   pub log : numbers.log ≤ 4000000
+  pub some_desk : 0 < numbers.desks
+  pub desks : numbers.desks ≤ 1024
+  pub some_idle : 0 < numbers.idle
+  pub idle : numbers.idle ≤ 86400
 
 -- the limits of the options
 pub record IsRanged (options : Options) : Type 0 where
@@ -134,3 +151,7 @@ pub record IsRanged (options : Options) : Type 0 where
   pub some_mark : 0 < options.marks
   pub marks : options.marks ≤ 1000000
   pub log : options.log ≤ 4000000
+  pub some_desk : 0 < options.desks
+  pub desks : options.desks ≤ 1024
+  pub some_idle : 0 < options.idle
+  pub idle : options.idle ≤ 86400

@@ -36,7 +36,7 @@ pub struct Options {
     pub offer: Items<MechKind>,
     /// The width of the windows, in numbers.
     pub window: u32,
-    /// How many connections a desk serves.
+    /// How many connections the run serves for each desk.
     pub connections: u32,
     /// How many contexts live at once.
     pub contexts: u32,
@@ -44,6 +44,10 @@ pub struct Options {
     pub marks: u32,
     /// How many entries the log may have.
     pub log: u32,
+    /// How many desks an address has.
+    pub desks: u32,
+    /// For how many seconds a connection may be silent.
+    pub idle: u32,
 }
 
 /// Whether the words are an address and options with their values.
@@ -69,6 +73,8 @@ fn is_command(words: &[Text]) -> bool
                 "--contexts",
                 "--marks",
                 "--log",
+                "--desks",
+                "--idle",
             ],
         )
 }
@@ -172,6 +178,8 @@ struct Numbers {
     contexts: u32,
     marks: u32,
     log: u32,
+    desks: u32,
+    idle: u32,
 }
 
 /// The numbers that a line asks for.
@@ -184,12 +192,16 @@ fn numbers_given(line: &Line<'_>) -> Result<Numbers, WordsRefusal>
     let contexts = number_given(line, "--contexts", 1, 65536, 1024)?;
     let marks = number_given(line, "--marks", 1, 1_000_000, 65536)?;
     let log = number_given(line, "--log", 16, 4_000_000, 262_144)?;
+    let desks = number_given(line, "--desks", 1, 1024, 64)?;
+    let idle = number_given(line, "--idle", 1, 86_400, 60)?;
     Ok(Numbers {
         window,
         connections,
         contexts,
         marks,
         log,
+        desks,
+        idle,
     })
 }
 
@@ -226,6 +238,8 @@ fn options_by(parts: (Owned, Numbers)) -> Options
       contexts = parts.1.contexts;
       marks = parts.1.marks;
       log = parts.1.log;
+      desks = parts.1.desks;
+      idle = parts.1.idle;
     } }
 {
     let (owned, numbers) = parts;
@@ -242,6 +256,8 @@ fn options_by(parts: (Owned, Numbers)) -> Options
         contexts: numbers.contexts,
         marks: numbers.marks,
         log: numbers.log,
+        desks: numbers.desks,
+        idle: numbers.idle,
     }
 }
 

@@ -19,7 +19,7 @@ use Rattle.server_desks.proofs.InStep.{there, at-place, by-places}
 
 module _ {P C D K M L Q R : Type 0} {begins : BookOf → Type 0} {width most : ℕ} {port : ports.Ghosts P L} {link : links.Ghosts L} {clock : clocks.Ghosts C} {draw : draws.Ghosts D} {keeper : keepers.Ghosts K Kept Q} {kept : keepers.Ghosts M (Served L) R} {olds news : List (Desk P C D K M)} {end : RunEnd} {log : LogOf} where
   -- desks that began with nothing are small
-  pub side-small : most ≤ 1000000 → AllByRecursion IsFresh olds → SideBySide begins width most port link clock draw keeper kept olds end news log → AllByRecursion IsSmall news
+  pub side-small : most ≤ 4294967295 → AllByRecursion IsFresh olds → SideBySide begins width most port link clock draw keeper kept olds end news log → AllByRecursion IsSmall news
   side-small few fresh s = by-places IsSmall news (λ i new at.
       let old = there news olds i new (sym s.count) at in
       let ending = there olds s.ends i old.0 s.ends_count old.1 in

@@ -212,7 +212,6 @@ pub fn run_book<
 where
     P::Link: Drop + Send,
     requires fresh { AllByRecursion IsFresh desks.old.items }
-    requires connections { connections ≤ 1000000 }
     ensures served { ((result.end ≡ RunEnd.NoMemory)
         × NoBook desks.old.items desks.new.items result.log)
         ⊎ SideBySide (λ first. first ≡ book) width connections P.Port P.Link.Link C.Clock D.Draw

@@ -4,7 +4,9 @@
 
 mod dialed_link;
 mod file_shelf;
+mod patient_link;
 mod rand_draw;
+mod setback;
 mod std_sink;
 mod stdio_port;
 mod system_clock;
@@ -14,6 +16,7 @@ mod words;
 
 pub use dialed_link::DialedLink;
 pub use file_shelf::FileShelf;
+pub use patient_link::PatientLink;
 pub use rand_draw::RandDraw;
 pub use std_sink::StdSink;
 pub use stdio_port::{StdioLink, StdioPort};

@@ -56,6 +56,17 @@ impl TcpLink {
             None => None,
         };
     }
+
+    /// Has each later read and write wait for at most so long; false where that can't be set.
+    pub(crate) fn wait_for(&self, most: Duration) -> bool {
+        match &self.stream {
+            Some(stream) => {
+                stream.set_read_timeout(Some(most)).is_ok()
+                    && stream.set_write_timeout(Some(most)).is_ok()
+            }
+            None => false,
+        }
+    }
 }
 
 impl Link for TcpLink {

@@ -3,30 +3,55 @@
 ghost use Rattle.std.specs.Prelude.{◌≡◌};
 ghost use Rattle.system_devices.specs.Devices.{door_address};
 
-use crate::tcp_link::TcpLink;
+use crate::patient_link::PatientLink;
+use crate::setback::{PASSING_TRIES, SCARCE_TRIES, Setback, pause, setback_of};
 use sec_base::{Link, Port, PortFault};
 use std::net::{Net, TcpListener, TcpStream};
+use std::rt::Clock;
+use std::sync::atomic::{AtomicU64, Ordering};
 use std::sync::{OnceLock, Wait};
+use std::thread;
 
 /// A TCP listener for several ports, on threads of their own or on one, which listens from the first accept of one of them on, or from
-/// where its number is asked for.
+/// where its number is asked for. Its connections are counted for all of them together.
 #[derive(Drop)]
 pub struct TcpDoor<'a, R: Drop> {
     rt: R,
     address: &'a str,
     listener: OnceLock<Option<TcpListener>>,
+    most: u64,
+    given: AtomicU64,
+    idle: u32,
 }
 
 impl<'a, R: Net<Stream = TcpStream, Listener = TcpListener> + Wait + Drop> TcpDoor<'a, R> {
-    /// The listener at `address`, a host and a port with a colon between them, which doesn't listen yet.
-    pub fn at(rt: R, address: &'a str) -> TcpDoor<'a, R>
+    /// The listener at `address`, a host and a port with a colon between them, which doesn't listen yet. It gives at most so many
+    /// connections in all, each of which may be silent for `idle` seconds.
+    pub fn at(rt: R, address: &'a str, most: u64, idle: u32) -> TcpDoor<'a, R>
         ensures { door_address result ≡ address.now }
     {
         TcpDoor {
             rt,
             address,
             listener: OnceLock::new(),
+            most,
+            given: AtomicU64::new(0),
+            idle,
         }
+    }
+
+    /// Takes the place of one more connection; false where as many as there may be are taken.
+    fn take_place(&self) -> bool {
+        if self.given.fetch_add(1, Ordering::SeqCst) < self.most {
+            return true;
+        }
+        self.give_back();
+        false
+    }
+
+    /// Gives a place back that no connection came to.
+    fn give_back(&self) {
+        self.given.fetch_sub(1, Ordering::SeqCst);
     }
 
     /// The listener, which is bound where that wasn't tried before; None where it can't be.
@@ -56,19 +81,45 @@ pub struct TcpPort<'a, R: Drop> {
     faults: u64,
 }
 
-impl<'a, R: Net<Stream = TcpStream, Listener = TcpListener> + Wait + Drop> TcpPort<'a, R> {
+impl<'a, R: Net<Stream = TcpStream, Listener = TcpListener> + Clock + Wait + Copy + Drop> TcpPort<
+    'a,
+    R,
+> {
     /// A port at this listener.
     pub fn at(door: &'a TcpDoor<'a, R>) -> TcpPort<'a, R>
         ensures { ⟦<TcpPort<'a, R> as Port>⟧.faults result ≡ 0 }
     {
         TcpPort { door, faults: 0 }
     }
+
+    /// The next connection. An error that passes with one connection is followed by a further accept at once, and one for want of
+    /// descriptors or memory by one after a pause, each at most so many times in a row; None after that, and at any other error.
+    fn next_stream(&self) -> Option<TcpStream> {
+        let listener = self.door.listener()?;
+        let mut passing = 0;
+        let mut scarce = 0;
+        for _ in 0..=PASSING_TRIES + SCARCE_TRIES {
+            match listener.accept() {
+                Ok((stream, _)) => return Some(stream),
+                Err(error) => match setback_of(&error) {
+                    Setback::Passing if passing < PASSING_TRIES => passing += 1,
+                    Setback::Scarce if scarce < SCARCE_TRIES => {
+                        scarce += 1;
+                        thread::sleep(&self.door.rt, pause());
+                    }
+                    _ => return None,
+                },
+            }
+        }
+        None
+    }
 }
 
-impl<'a, R: Net<Stream = TcpStream, Listener = TcpListener> + Wait + Drop> Port for TcpPort<'a, R> {
+impl<'a, R: Net<Stream = TcpStream, Listener = TcpListener> + Clock + Wait + Copy + Drop> Port
+    for TcpPort<'a, R> {
     ghost use Rattle.std.specs.Prelude.{false, []};
 
-    type Link = TcpLink;
+    type Link = PatientLink<R>;
 
     ghost faults = { λ p. p.faults };
 
@@ -76,18 +127,14 @@ impl<'a, R: Net<Stream = TcpStream, Listener = TcpListener> + Wait + Drop> Port 
 
     ghost links = { λ _. [] };
 
-    fn accept(&mut self) -> Result<Option<TcpLink>, PortFault> {
-        let accepted = match self.door.listener() {
-            Some(listener) => listener.accept().ok(),
-            None => None,
-        };
-        match accepted {
-            Some((stream, _)) => {
-                let mut link = TcpLink::none();
-                link.take(Some(stream));
-                Ok(Some(link))
-            }
+    fn accept(&mut self) -> Result<Option<PatientLink<R>>, PortFault> {
+        if !self.door.take_place() {
+            return Ok(None);
+        }
+        match self.next_stream() {
+            Some(stream) => Ok(Some(PatientLink::over(self.door.rt, stream, self.door.idle))),
             None => {
+                self.door.give_back();
                 self.faults = self.faults.saturating_add(1);
                 Err(PortFault)
             }

@@ -7,6 +7,7 @@ use sec_base::transfer::{fill, send};
 use sec_base::{Link, Port};
 use std::alloc::Global;
 use std::net::{Net, TcpListener, TcpStream};
+use std::rt::Clock;
 use std::sync::Wait;
 use system_devices::{Buffered, BufferedPort, DialedLink, TcpDoor, TcpPort};
 
@@ -17,6 +18,11 @@ const ANY_PORT: &str = "127.0.0.1:0";
 const QUESTION: &[u8] = b"what is written on one link";
 
 const ANSWER: &[u8] = b"comes out of the other";
+
+/// How many connections a door may give, and for how many seconds one of them may be silent.
+const MOST: u64 = 16;
+
+const IDLE: u32 = 60;
 
 /// How many octets are compared at most.
 const ROOM: usize = 64;
@@ -97,7 +103,7 @@ pub struct Asked {
 /// Whether octets go both ways over a connection to a door, up to its end.
 fn carries<R>(rt: R, door: &TcpDoor<'_, R>, address: &str) -> bool
 where
-    R: Net<Stream = TcpStream, Listener = TcpListener> + Wait + Copy + Drop,
+    R: Net<Stream = TcpStream, Listener = TcpListener> + Clock + Wait + Copy + Drop,
 {
     let mut port = TcpPort::at(door);
     is_answered(&mut port, &mut DialedLink::new(rt, address))
@@ -107,7 +113,7 @@ where
 /// The same of links that read ahead and write behind.
 fn carries_late<R>(rt: R, alloc: Global, door: &TcpDoor<'_, R>, address: &str) -> bool
 where
-    R: Net<Stream = TcpStream, Listener = TcpListener> + Wait + Copy + Drop,
+    R: Net<Stream = TcpStream, Listener = TcpListener> + Clock + Wait + Copy + Drop,
 {
     let mut port = BufferedPort::new(alloc, TcpPort::at(door));
     let mut late = Buffered::over(alloc, DialedLink::new(rt, address));
@@ -117,9 +123,9 @@ where
 /// Whether two ports of a door accept, and a second door can't have its address.
 fn is_shared<R>(rt: R, door: &TcpDoor<'_, R>, address: &str) -> bool
 where
-    R: Net<Stream = TcpStream, Listener = TcpListener> + Wait + Copy + Drop,
+    R: Net<Stream = TcpStream, Listener = TcpListener> + Clock + Wait + Copy + Drop,
 {
-    let taken = TcpDoor::at(rt, address);
+    let taken = TcpDoor::at(rt, address, MOST, IDLE);
     is_answered(&mut TcpPort::at(door), &mut DialedLink::new(rt, address))
         && is_answered(&mut TcpPort::at(door), &mut DialedLink::new(rt, address))
         && taken.port().is_none()
@@ -129,9 +135,9 @@ where
 /// Asks a door at this machine; None where it doesn't listen.
 pub fn ask<R>(rt: R, alloc: Global) -> Option<Asked>
 where
-    R: Net<Stream = TcpStream, Listener = TcpListener> + Wait + Copy + Drop,
+    R: Net<Stream = TcpStream, Listener = TcpListener> + Clock + Wait + Copy + Drop,
 {
-    let door = TcpDoor::at(rt, ANY_PORT);
+    let door = TcpDoor::at(rt, ANY_PORT, MOST, IDLE);
     let address = address(alloc, &door)?;
     Some(Asked {
         is_carried: carries(rt, &door, address.as_str()),
@@ -141,8 +147,11 @@ where
 }
 
 /// Whether two ports at a door that is no address fail.
-pub fn ports_fail<R: Net<Stream = TcpStream, Listener = TcpListener> + Wait + Drop>(rt: R) -> bool {
-    let door = TcpDoor::at(rt, "not an address");
+pub fn ports_fail<R>(rt: R) -> bool
+where
+    R: Net<Stream = TcpStream, Listener = TcpListener> + Clock + Wait + Copy + Drop,
+{
+    let door = TcpDoor::at(rt, "not an address", MOST, IDLE);
     let mut one = TcpPort::at(&door);
     let mut other = TcpPort::at(&door);
     one.accept().is_err() && other.accept().is_err()

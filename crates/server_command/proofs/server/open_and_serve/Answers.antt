@@ -1,13 +1,15 @@
-use Rattle.std.proofs.Common.{inl, inr, ⊎_elim, sym, subst}
+use Rattle.std.proofs.Common.{inl, inr, ⊎_elim, sym, ap, subst, ◌∙◌, ◌≡◌, length}
 use Rattle.accept_book.specs.Booking.{BookOf}
 use Rattle.server_command.specs.Through.{IsOpened}
+use Rattle.server_desks.specs.Desks.{run_limit}
 use Rattle.server_desks.proofs.DeskRuns.{fresh-small}
 use Rattle.server_command.proofs.Sides.{began-as, limits-as}
 use Rattle.server_command.proofs.server.open_and_serve.Goals as goal
 
 pub returns-in-Ok-clause-booked : goal.returns-in-Ok-clause-booked
 returns-in-Ok-clause-booked g c =
-    ⊎_elim (λ none. inl none) (λ one. inr (began-as (λ book e. subst (λ (b : BookOf). IsOpened c.args.options c.args.keys c.args.start b) (sym e) c.in-Ok.ensures.opened) one)) c.run_book.ensures.served
+    let limit : c.run_limit.result ≡ run_limit c.args.options.connections (length c.args.desks.now.items) = c.run_limit.ensures ∙ ap (run_limit c.args.options.connections) (c.len.ensures ∙ c.args.desks.now.ok.0) in
+    ⊎_elim (λ none. inl none) (λ one. inr (began-as (λ book e. subst (λ (b : BookOf). IsOpened c.args.options c.args.keys c.args.start b) (sym e) c.in-Ok.ensures.opened) limit one)) c.run_book.ensures.served
 
 pub returns-in-Ok-clause-limits : goal.returns-in-Ok-clause-limits
 returns-in-Ok-clause-limits g c = λ begun. limits-as c.in-Ok.book c.in-Ok.ensures.opened (c.run_book.ensures.limits begun)
