@@ -3,9 +3,9 @@
 ghost use Rattle.std.specs.Prelude.{◌≡◌, ◌<◌, ◌≤◌, ◌==◌, ◌++◌, true, false, [], length, take};
 ghost use Rattle.std.specs.Prelude.{IsTrue, IfOk, OnOk, OnErr};
 ghost use Rattle.sec_base.specs.Answers.{Rose};
-ghost use Rattle.sec_base.specs.Link.{Reads};
+ghost use Rattle.sec_base.specs.Link.{Reads, Writes};
 ghost use Rattle.sec_base.specs.Streams.{Sends};
-ghost use Rattle.stream_buffers.specs.Ahead.{waiting_in};
+ghost use Rattle.stream_buffers.specs.Ahead.{waiting, waiting_in, Gives};
 ghost use Rattle.stream_buffers.specs.Behind.{held, unwritten, Queues};
 
 use crate::ahead::{Ahead, ROOM, read_from};
@@ -30,6 +30,8 @@ pub struct Buffered<L: Link> {
 fn read_by<L: Link>(ahead: &mut Ahead, link: &mut L, buf: &mut [u8]) -> Result<usize, LinkFault>
     requires { L.closed link.old ≡ false }
     ensures count { IfOk result (λ count. count ≤ length buf.old) }
+    ensures given { IsTrue (L.tells link.old) → IfOk result (λ count. Gives (L.wire link.old)
+        (L.wire link.new) (waiting ahead.old) (waiting ahead.new) (take count buf.new)) }
     ensures unclosed { L.closed link.new ≡ false }
     ensures written { IsTrue (L.tells link.old)
         → (L.wire link.new).written ≡ (L.wire link.old).written }
@@ -102,6 +104,7 @@ impl<L: Link> Buffered<L> {
     fn flush(&mut self) -> Result<(), LinkFault>
         requires { L.closed self.old.link ≡ false }
         ensures none { held self.new.behind ≡ [] }
+        ensures ahead { self.new.ahead ≡ self.old.ahead }
         ensures told { IsTrue (L.tells self.old.link)
             → Sends (L.wire self.old.link) (L.wire self.new.link) result (held self.old.behind) }
         ensures tells { L.tells self.new.link ≡ L.tells self.old.link }
@@ -119,6 +122,9 @@ impl<L: Link> Buffered<L> {
     /// Writes what waits, if the next read asks the link below.
     fn drain(&mut self) -> Result<(), LinkFault>
         requires { L.closed self.old.link ≡ false }
+        ensures ahead { self.new.ahead ≡ self.old.ahead }
+        ensures taken { IsTrue (L.tells self.old.link)
+            → (L.wire self.new.link).taken ≡ (L.wire self.old.link).taken }
         ensures none { waiting_in self.old.ahead ≡ [] → held self.new.behind ≡ [] }
         ensures written { IsTrue (L.tells self.old.link) → waiting_in self.old.ahead ≡ []
             → OnOk result ((L.wire self.new.link).written
@@ -138,6 +144,9 @@ impl<L: Link> Buffered<L> {
     fn give(&mut self, buf: &mut [u8]) -> Result<usize, LinkFault>
         requires { L.closed self.old.link ≡ false }
         ensures count { IfOk result (λ count. count ≤ length buf.old) }
+        ensures given { IsTrue (L.tells self.old.link) → IfOk result
+            (λ count. Gives (L.wire self.old.link) (L.wire self.new.link)
+            (waiting_in self.old.ahead) (waiting_in self.new.ahead) (take count buf.new)) }
         ensures behind { held self.new.behind ≡ held self.old.behind }
         ensures written { IsTrue (L.tells self.old.link)
             → (L.wire self.new.link).written ≡ (L.wire self.old.link).written }
@@ -179,6 +188,10 @@ impl<L: Link> Link for Buffered<L> {
             (⟦<Buffered<L> as Link>⟧.faults self.new)) }
         ensures faults { ⟦<Buffered<L> as Link>⟧.faults self.old
             ≤ ⟦<Buffered<L> as Link>⟧.faults self.new }
+        // the octets are those that were taken of the link below, once and in order
+        ensures given { IsTrue (L.tells (link_below self.old)) → IfOk result
+            (λ count. Gives (L.wire (link_below self.old)) (L.wire (link_below self.new))
+            (read_ahead self.old) (read_ahead self.new) (take count buf.new)) }
         // before the link below is asked, what waits to be written is written to it
         ensures drained { read_ahead self.old ≡ [] → written_behind self.new ≡ [] }
         ensures written { IsTrue (L.tells (link_below self.old)) → read_ahead self.old ≡ []
@@ -189,7 +202,25 @@ impl<L: Link> Link for Buffered<L> {
         self.give(buf)
     }
 
-    fn write(&mut self, buf: &[u8]) -> Result<usize, LinkFault> {
+    fn write(&mut self, buf: &[u8]) -> Result<usize, LinkFault>
+        requires { ⟦<Buffered<L> as Link>⟧.closed self.old ≡ false }
+        ensures count { IfOk result (λ count. count ≤ length buf.now) }
+        ensures some { IfOk result (λ count. 0 < length buf.now → 0 < count) }
+        ensures told { IsTrue (⟦<Buffered<L> as Link>⟧.tells self.old)
+            → Writes (⟦<Buffered<L> as Link>⟧.wire self.old) (⟦<Buffered<L> as Link>⟧.wire self.new)
+            result buf.now }
+        ensures tells { ⟦<Buffered<L> as Link>⟧.tells self.new
+            ≡ ⟦<Buffered<L> as Link>⟧.tells self.old }
+        ensures unclosed { ⟦<Buffered<L> as Link>⟧.closed self.new ≡ false }
+        ensures fault { OnErr result (Rose (⟦<Buffered<L> as Link>⟧.faults self.old)
+            (⟦<Buffered<L> as Link>⟧.faults self.new)) }
+        ensures faults { ⟦<Buffered<L> as Link>⟧.faults self.old
+            ≤ ⟦<Buffered<L> as Link>⟧.faults self.new }
+        // what was taken is written to the link below or waits, behind what waited, once and in order
+        ensures queued { IsTrue (L.tells (link_below self.old)) → IfOk result
+            (λ count. Queues (L.wire (link_below self.old)) (L.wire (link_below self.new))
+            (written_behind self.old) (written_behind self.new) (take count buf.now)) }
+    {
         self.may_wait = true;
         match &mut self.behind {
             Some(behind) => write_by(behind, &mut self.link, buf),
