@@ -18,6 +18,7 @@ use server_options::address_of;
 use std::alloc::AllocError;
 use std::net::{Net, TcpListener, TcpStream};
 use std::process::ExitCode;
+use std::rt::Clock as SystemTimeSource;
 use std::sync::Wait;
 use std::thread::Threads;
 use system_devices::{
@@ -124,7 +125,7 @@ fn draws(rt: HostRuntime) -> Option<(RandDraw, RandDraw, RandDraw, RandDraw)> {
 }
 
 /// A desk at a TCP listener.
-fn desk_at<'a, R: Net<Stream = TcpStream, Listener = TcpListener> + Wait + Drop>(
+fn desk_at<'a, R: Net<Stream = TcpStream, Listener = TcpListener> + SystemTimeSource + Wait + Copy + Drop>(
     rt: HostRuntime,
     door: &'a TcpDoor<'a, R>,
     draw: RandDraw,
@@ -135,7 +136,7 @@ fn desk_at<'a, R: Net<Stream = TcpStream, Listener = TcpListener> + Wait + Drop>
 }
 
 /// Four desks at a TCP listener; or the status where there are none.
-fn desks_at<'a, R: Net<Stream = TcpStream, Listener = TcpListener> + Wait + Drop>(
+fn desks_at<'a, R: Net<Stream = TcpStream, Listener = TcpListener> + SystemTimeSource + Wait + Copy + Drop>(
     rt: HostRuntime,
     door: &'a TcpDoor<'a, R>,
 ) -> Result<Vec<SystemDesk<BufferedPort<TcpPort<'a, R>>>>, u8>
@@ -157,7 +158,13 @@ fn desks_at<'a, R: Net<Stream = TcpStream, Listener = TcpListener> + Wait + Drop
 /// Runs the server over four desks at a TCP listener, which listens once the files were read.
 fn over_listener<R>(rt: HostRuntime, host: R, words: &[Text], address: &str) -> u8
 where
-    R: Net<Stream = TcpStream, Listener = TcpListener> + Threads + Wait + Sync + Copy + Drop,
+    R: Net<Stream = TcpStream, Listener = TcpListener>
+        + SystemTimeSource
+        + Threads
+        + Wait
+        + Sync
+        + Copy
+        + Drop,
 {
     let door = TcpDoor::at(host, address);
     match desks_at(rt, &door) {
@@ -202,7 +209,13 @@ fn drill(rt: HostRuntime, words: &[Text]) -> u8 {
 /// Holds a drill, or runs the server over the devices that the words ask for. The host is the runtime once more, which makes threads and waits for them.
 fn status<R>(rt: HostRuntime, host: R) -> u8
 where
-    R: Net<Stream = TcpStream, Listener = TcpListener> + Threads + Wait + Sync + Copy + Drop,
+    R: Net<Stream = TcpStream, Listener = TcpListener>
+        + SystemTimeSource
+        + Threads
+        + Wait
+        + Sync
+        + Copy
+        + Drop,
 {
     let words = match command_line(&rt) {
         Ok(words) => words,

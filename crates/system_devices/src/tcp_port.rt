@@ -6,6 +6,7 @@ ghost use Rattle.system_devices.specs.Devices.{door_address};
 use crate::tcp_link::TcpLink;
 use sec_base::{Link, Port, PortFault};
 use std::net::{Net, TcpListener, TcpStream};
+use std::rt::Clock as SystemTimeSource;
 use std::sync::{OnceLock, Wait};
 
 /// A TCP listener for several ports, on threads of their own or on one, which listens from the first accept of one of them on, or from
@@ -56,7 +57,10 @@ pub struct TcpPort<'a, R: Drop> {
     faults: u64,
 }
 
-impl<'a, R: Net<Stream = TcpStream, Listener = TcpListener> + Wait + Drop> TcpPort<'a, R> {
+impl<'a, R> TcpPort<'a, R>
+where
+    R: Net<Stream = TcpStream, Listener = TcpListener> + SystemTimeSource + Wait + Copy + Drop,
+{
     /// A port at this listener.
     pub fn at(door: &'a TcpDoor<'a, R>) -> TcpPort<'a, R>
         ensures { ⟦<TcpPort<'a, R> as Port>⟧.faults result ≡ 0 }
@@ -65,10 +69,13 @@ impl<'a, R: Net<Stream = TcpStream, Listener = TcpListener> + Wait + Drop> TcpPo
     }
 }
 
-impl<'a, R: Net<Stream = TcpStream, Listener = TcpListener> + Wait + Drop> Port for TcpPort<'a, R> {
+impl<'a, R> Port for TcpPort<'a, R>
+where
+    R: Net<Stream = TcpStream, Listener = TcpListener> + SystemTimeSource + Wait + Copy + Drop,
+{
     ghost use Rattle.std.specs.Prelude.{false, []};
 
-    type Link = TcpLink;
+    type Link = TcpLink<R>;
 
     ghost faults = { λ p. p.faults };
 
@@ -76,14 +83,14 @@ impl<'a, R: Net<Stream = TcpStream, Listener = TcpListener> + Wait + Drop> Port 
 
     ghost links = { λ _. [] };
 
-    fn accept(&mut self) -> Result<Option<TcpLink>, PortFault> {
+    fn accept(&mut self) -> Result<Option<TcpLink<R>>, PortFault> {
         let accepted = match self.door.listener() {
             Some(listener) => listener.accept().ok(),
             None => None,
         };
         match accepted {
             Some((stream, _)) => {
-                let mut link = TcpLink::none();
+                let mut link = TcpLink::none(self.door.rt);
                 link.take(Some(stream));
                 Ok(Some(link))
             }
