@@ -6,7 +6,7 @@ ghost use Rattle.sec_base.specs.Answers.{Rose};
 ghost use Rattle.sec_base.specs.Link.{Reads, Writes};
 ghost use Rattle.sec_base.specs.Streams.{Sends};
 ghost use Rattle.stream_buffers.specs.Ahead.{waiting, waiting_in, Gives};
-ghost use Rattle.stream_buffers.specs.Behind.{held, unwritten, Queues};
+ghost use Rattle.stream_buffers.specs.Behind.{held, unwritten, Queues, LetGo};
 
 use crate::ahead::{Ahead, ROOM, read_from};
 use crate::behind::Behind;
@@ -24,6 +24,7 @@ pub struct Buffered<L: Link> {
     behind: Option<Behind>,
     may_wait: bool,
     ghost unclosed: { may_wait ≡ true → L.closed link ≡ false },
+    ghost idle: { may_wait ≡ false → held behind ≡ [] },
 }
 
 /// Gives the octets that wait, and reads ahead before where none do.
@@ -117,6 +118,37 @@ impl<L: Link> Buffered<L> {
             Some(behind) => behind.flush(&mut self.link),
             None => Ok(()),
         }
+    }
+
+    /// Closes the link below, for which nothing waits. From now on nothing is kept.
+    fn shut(&mut self)
+        requires { held self.old.behind ≡ [] }
+        ensures told { L.wire self.new.link ≡ L.wire self.old.link }
+        ensures closed { L.closed self.new.link ≡ true }
+        ensures none { held self.new.behind ≡ [] }
+        ensures faults { L.faults self.old.link ≤ L.faults self.new.link }
+    {
+        self.may_wait = false;
+        self.ahead = None;
+        self.behind = None;
+        self.link.close();
+    }
+
+    /// Writes what waits, and closes the link. An answer other than Ok says that a front of it was written; the link is closed whatever is
+    /// answered.
+    pub fn end(&mut self) -> Result<(), LinkFault>
+        requires { L.closed (link_below self.old) ≡ false }
+        ensures sent { IsTrue (L.tells (link_below self.old))
+            → Sends (L.wire (link_below self.old)) (L.wire (link_below self.new)) result
+            (written_behind self.old) }
+        ensures closed { L.closed (link_below self.new) ≡ true }
+        ensures fault { OnErr result
+            (Rose (L.faults (link_below self.old)) (L.faults (link_below self.new))) }
+        ensures faults { L.faults (link_below self.old) ≤ L.faults (link_below self.new) }
+    {
+        let sent = self.flush();
+        self.shut();
+        sent
     }
 
     /// Writes what waits, if the next read asks the link below.
@@ -228,14 +260,23 @@ impl<L: Link> Link for Buffered<L> {
         }
     }
 
-    fn close(&mut self) {
+    fn close(&mut self)
+        ensures told { ⟦<Buffered<L> as Link>⟧.wire self.new ≡ ⟦<Buffered<L> as Link>⟧.wire self.old }
+        ensures tells { ⟦<Buffered<L> as Link>⟧.tells self.new
+            ≡ ⟦<Buffered<L> as Link>⟧.tells self.old }
+        ensures closed { ⟦<Buffered<L> as Link>⟧.closed self.new ≡ true }
+        ensures faults { ⟦<Buffered<L> as Link>⟧.faults self.old
+            ≤ ⟦<Buffered<L> as Link>⟧.faults self.new }
+        // what waits is written to the link below, or a front of it where that fails
+        ensures sent { IsTrue (L.tells (link_below self.old)) → LetGo
+            (L.wire (link_below self.old)) (L.wire (link_below self.new))
+            (L.faults (link_below self.old)) (L.faults (link_below self.new))
+            (written_behind self.old) }
+    {
         if self.may_wait {
             let _ = self.flush();
         }
-        self.may_wait = false;
-        self.ahead = None;
-        self.behind = None;
-        self.link.close();
+        self.shut();
     }
 }
 
