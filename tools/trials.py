@@ -44,9 +44,14 @@ def below(names, libraries):
     return found
 
 
+def stand_built():
+    """Whether the programs are there."""
+    return all(os.access(os.path.join(HERE, "..", "crates", name, "out", name), os.X_OK) for name in PROGRAMS)
+
+
 def are_built():
     """Whether the programs are there, proved and built first where one isn't."""
-    if all(os.access(os.path.join(HERE, "..", "crates", name, "out", name), os.X_OK) for name in PROGRAMS):
+    if stand_built():
         return True
     print("$ tools/build", flush=True)
     return subprocess.run([tool("build")]).returncode == 0
