@@ -16,6 +16,7 @@ use Rattle.gss_server.specs.declared.answer.Kept.{Kept}
 use Rattle.gss_server.specs.declared.connection.Served.{Served}
 use Rattle.gss_server.specs.declared.keeper.Keeper as keepers
 use Rattle.book_seats.specs.Notes.{Note}
+use Rattle.server_desks.specs.Desks.{run_limit}
 use Rattle.server_desks.specs.declared.desk.Desk.{Desk}
 use Rattle.server_command.specs.Through.{OneHistory}
 use Rattle.server_options.specs.Keys.{KeysFrom}
@@ -92,6 +93,6 @@ ServerHeadline {F} {P} {C} {D} {K} {M} shelf port link clock draw keeper kept =
     → Legal log.width (reverse log.entries)
     → (initiators : List PlainSetup) (meanwhile : (w : World) → Meanwhile w)
     → AreInitiators initiators → OfThatLog
-    (AreTheirs options.window options.connections port link clock draw keeper kept olds one.ends
-    news one.all) meanwhile one.all (world_of initiators (opened_book options keys start)
-    (length olds)) (reverse log.entries)
+    (AreTheirs options.window (run_limit options.connections (length olds)) port link clock draw
+    keeper kept olds one.ends news one.all) meanwhile one.all
+    (world_of initiators (opened_book options keys start) (length olds)) (reverse log.entries)
