@@ -9,3 +9,4 @@ pub mod Openings
 pub mod Beside
 pub mod Desks
 pub mod AllDesks
+pub mod Headlines

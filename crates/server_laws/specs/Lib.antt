@@ -1,4 +1,5 @@
 pub mod Beside
 pub mod Receipts
+pub mod ServerHeadline
 pub mod Served
 pub mod ServerRun

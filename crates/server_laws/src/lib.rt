@@ -1,8 +1,10 @@
-//! That what a server did is a run of the world.
+//! That what a server did is a run of the world, and what follows of the log that it returns.
 #![tactic(auto)]
 
+mod headline;
 mod receipts;
 mod served;
 
+pub use headline::prove_server_headline;
 pub use receipts::prove_receipts;
 pub use served::{prove_served, prove_server_run};

@@ -1,6 +1,8 @@
 -- Octets for a link that wait to be written.
 use Rattle.std.specs.Prelude.{◌≡◌, ℕ, List, [], ◌++◌, take, Option, Some, None}
+use Rattle.sec_base.specs.Answers.{Rose}
 use Rattle.sec_base.specs.Link.{Wire}
+use Rattle.sec_base.specs.Streams.{Put}
 use Rattle.stream_buffers.specs.declared.behind.Behind.{Behind}
 
 -- those that wait, in order
@@ -17,3 +19,9 @@ held None = []
 pub record Queues (old new : Wire) (before after octets : List ℕ) : Type 0 where
   pub taken : new.taken ≡ old.taken
   pub written : new.written ++ after ≡ (old.written ++ before) ++ octets
+
+-- these octets were written before the end, all of them unless the count of faults rose, and then a
+-- front of them
+pub record LetGo (old new : Wire) (faults faults' : ℕ) (octets : List ℕ) : Type 0 where
+  pub front : (count : ℕ) × Put old new (take count octets)
+  pub whole : (Rose faults faults' → ⊥) → Put old new octets

@@ -1,8 +1,9 @@
 //! Octets of a link that were read before they were asked for.
 
 ghost use Rattle.std.specs.Prelude.{◌≡◌, ◌++◌, ◌==◌, ◌≤◌, false, [], length, take, min, vec_len};
-ghost use Rattle.std.specs.Prelude.{IsTrue, IfOk, OnErr};
+ghost use Rattle.std.specs.Prelude.{IsTrue, IfOk, OnOk, OnErr};
 ghost use Rattle.sec_base.specs.Answers.{Rose};
+ghost use Rattle.sec_base.specs.Link.{Reads};
 
 use sec_base::{Link, LinkFault};
 use std::alloc::Global;
@@ -24,6 +25,8 @@ pub(crate) struct Ahead {
 pub(crate) fn read_from<L: Link>(link: &mut L, buf: &mut [u8]) -> Result<usize, LinkFault>
     requires { L.closed link.old ≡ false }
     ensures count { IfOk result (λ count. count ≤ length buf.old) }
+    ensures told { IsTrue (L.tells link.old)
+        → Reads (L.wire link.old) (L.wire link.new) result buf.new }
     ensures written { IsTrue (L.tells link.old)
         → (L.wire link.new).written ≡ (L.wire link.old).written }
     ensures unclosed { L.closed link.new ≡ false }
@@ -78,6 +81,8 @@ impl Ahead {
         requires unclosed { L.closed link.old ≡ false }
         ensures unclosed { L.closed link.new ≡ false }
         ensures none { OnErr result (waiting self.new ≡ []) }
+        ensures filled { IsTrue (L.tells link.old) → OnOk result ((L.wire link.new).taken
+            ≡ (L.wire link.old).taken ++ waiting self.new) }
         ensures written { IsTrue (L.tells link.old)
             → (L.wire link.new).written ≡ (L.wire link.old).written }
         ensures fault { OnErr result (Rose (L.faults link.old) (L.faults link.new)) }

@@ -3,10 +3,10 @@
 ghost use Rattle.std.specs.Prelude.{◌≡◌, ◌<◌, ◌≤◌, ◌==◌, ◌++◌, true, false, [], length, take};
 ghost use Rattle.std.specs.Prelude.{IsTrue, IfOk, OnOk, OnErr};
 ghost use Rattle.sec_base.specs.Answers.{Rose};
-ghost use Rattle.sec_base.specs.Link.{Reads};
+ghost use Rattle.sec_base.specs.Link.{Reads, Writes};
 ghost use Rattle.sec_base.specs.Streams.{Sends};
-ghost use Rattle.stream_buffers.specs.Ahead.{waiting_in};
-ghost use Rattle.stream_buffers.specs.Behind.{held, unwritten, Queues};
+ghost use Rattle.stream_buffers.specs.Ahead.{waiting, waiting_in, Gives};
+ghost use Rattle.stream_buffers.specs.Behind.{held, unwritten, Queues, LetGo};
 
 use crate::ahead::{Ahead, ROOM, read_from};
 use crate::behind::Behind;
@@ -24,12 +24,15 @@ pub struct Buffered<L: Link> {
     behind: Option<Behind>,
     may_wait: bool,
     ghost unclosed: { may_wait ≡ true → L.closed link ≡ false },
+    ghost idle: { may_wait ≡ false → held behind ≡ [] },
 }
 
 /// Gives the octets that wait, and reads ahead before where none do.
 fn read_by<L: Link>(ahead: &mut Ahead, link: &mut L, buf: &mut [u8]) -> Result<usize, LinkFault>
     requires { L.closed link.old ≡ false }
     ensures count { IfOk result (λ count. count ≤ length buf.old) }
+    ensures given { IsTrue (L.tells link.old) → IfOk result (λ count. Gives (L.wire link.old)
+        (L.wire link.new) (waiting ahead.old) (waiting ahead.new) (take count buf.new)) }
     ensures unclosed { L.closed link.new ≡ false }
     ensures written { IsTrue (L.tells link.old)
         → (L.wire link.new).written ≡ (L.wire link.old).written }
@@ -102,6 +105,7 @@ impl<L: Link> Buffered<L> {
     fn flush(&mut self) -> Result<(), LinkFault>
         requires { L.closed self.old.link ≡ false }
         ensures none { held self.new.behind ≡ [] }
+        ensures ahead { self.new.ahead ≡ self.old.ahead }
         ensures told { IsTrue (L.tells self.old.link)
             → Sends (L.wire self.old.link) (L.wire self.new.link) result (held self.old.behind) }
         ensures tells { L.tells self.new.link ≡ L.tells self.old.link }
@@ -116,9 +120,43 @@ impl<L: Link> Buffered<L> {
         }
     }
 
+    /// Closes the link below, for which nothing waits. From now on nothing is kept.
+    fn shut(&mut self)
+        requires { held self.old.behind ≡ [] }
+        ensures told { L.wire self.new.link ≡ L.wire self.old.link }
+        ensures closed { L.closed self.new.link ≡ true }
+        ensures none { held self.new.behind ≡ [] }
+        ensures faults { L.faults self.old.link ≤ L.faults self.new.link }
+    {
+        self.may_wait = false;
+        self.ahead = None;
+        self.behind = None;
+        self.link.close();
+    }
+
+    /// Writes what waits, and closes the link. An answer other than Ok says that a front of it was written; the link is closed whatever is
+    /// answered.
+    pub fn end(&mut self) -> Result<(), LinkFault>
+        requires { L.closed (link_below self.old) ≡ false }
+        ensures sent { IsTrue (L.tells (link_below self.old))
+            → Sends (L.wire (link_below self.old)) (L.wire (link_below self.new)) result
+            (written_behind self.old) }
+        ensures closed { L.closed (link_below self.new) ≡ true }
+        ensures fault { OnErr result
+            (Rose (L.faults (link_below self.old)) (L.faults (link_below self.new))) }
+        ensures faults { L.faults (link_below self.old) ≤ L.faults (link_below self.new) }
+    {
+        let sent = self.flush();
+        self.shut();
+        sent
+    }
+
     /// Writes what waits, if the next read asks the link below.
     fn drain(&mut self) -> Result<(), LinkFault>
         requires { L.closed self.old.link ≡ false }
+        ensures ahead { self.new.ahead ≡ self.old.ahead }
+        ensures taken { IsTrue (L.tells self.old.link)
+            → (L.wire self.new.link).taken ≡ (L.wire self.old.link).taken }
         ensures none { waiting_in self.old.ahead ≡ [] → held self.new.behind ≡ [] }
         ensures written { IsTrue (L.tells self.old.link) → waiting_in self.old.ahead ≡ []
             → OnOk result ((L.wire self.new.link).written
@@ -138,6 +176,9 @@ impl<L: Link> Buffered<L> {
     fn give(&mut self, buf: &mut [u8]) -> Result<usize, LinkFault>
         requires { L.closed self.old.link ≡ false }
         ensures count { IfOk result (λ count. count ≤ length buf.old) }
+        ensures given { IsTrue (L.tells self.old.link) → IfOk result
+            (λ count. Gives (L.wire self.old.link) (L.wire self.new.link)
+            (waiting_in self.old.ahead) (waiting_in self.new.ahead) (take count buf.new)) }
         ensures behind { held self.new.behind ≡ held self.old.behind }
         ensures written { IsTrue (L.tells self.old.link)
             → (L.wire self.new.link).written ≡ (L.wire self.old.link).written }
@@ -179,6 +220,10 @@ impl<L: Link> Link for Buffered<L> {
             (⟦<Buffered<L> as Link>⟧.faults self.new)) }
         ensures faults { ⟦<Buffered<L> as Link>⟧.faults self.old
             ≤ ⟦<Buffered<L> as Link>⟧.faults self.new }
+        // the octets are those that were taken of the link below, once and in order
+        ensures given { IsTrue (L.tells (link_below self.old)) → IfOk result
+            (λ count. Gives (L.wire (link_below self.old)) (L.wire (link_below self.new))
+            (read_ahead self.old) (read_ahead self.new) (take count buf.new)) }
         // before the link below is asked, what waits to be written is written to it
         ensures drained { read_ahead self.old ≡ [] → written_behind self.new ≡ [] }
         ensures written { IsTrue (L.tells (link_below self.old)) → read_ahead self.old ≡ []
@@ -189,7 +234,25 @@ impl<L: Link> Link for Buffered<L> {
         self.give(buf)
     }
 
-    fn write(&mut self, buf: &[u8]) -> Result<usize, LinkFault> {
+    fn write(&mut self, buf: &[u8]) -> Result<usize, LinkFault>
+        requires { ⟦<Buffered<L> as Link>⟧.closed self.old ≡ false }
+        ensures count { IfOk result (λ count. count ≤ length buf.now) }
+        ensures some { IfOk result (λ count. 0 < length buf.now → 0 < count) }
+        ensures told { IsTrue (⟦<Buffered<L> as Link>⟧.tells self.old)
+            → Writes (⟦<Buffered<L> as Link>⟧.wire self.old) (⟦<Buffered<L> as Link>⟧.wire self.new)
+            result buf.now }
+        ensures tells { ⟦<Buffered<L> as Link>⟧.tells self.new
+            ≡ ⟦<Buffered<L> as Link>⟧.tells self.old }
+        ensures unclosed { ⟦<Buffered<L> as Link>⟧.closed self.new ≡ false }
+        ensures fault { OnErr result (Rose (⟦<Buffered<L> as Link>⟧.faults self.old)
+            (⟦<Buffered<L> as Link>⟧.faults self.new)) }
+        ensures faults { ⟦<Buffered<L> as Link>⟧.faults self.old
+            ≤ ⟦<Buffered<L> as Link>⟧.faults self.new }
+        // what was taken is written to the link below or waits, behind what waited, once and in order
+        ensures queued { IsTrue (L.tells (link_below self.old)) → IfOk result
+            (λ count. Queues (L.wire (link_below self.old)) (L.wire (link_below self.new))
+            (written_behind self.old) (written_behind self.new) (take count buf.now)) }
+    {
         self.may_wait = true;
         match &mut self.behind {
             Some(behind) => write_by(behind, &mut self.link, buf),
@@ -197,14 +260,23 @@ impl<L: Link> Link for Buffered<L> {
         }
     }
 
-    fn close(&mut self) {
+    fn close(&mut self)
+        ensures told { ⟦<Buffered<L> as Link>⟧.wire self.new ≡ ⟦<Buffered<L> as Link>⟧.wire self.old }
+        ensures tells { ⟦<Buffered<L> as Link>⟧.tells self.new
+            ≡ ⟦<Buffered<L> as Link>⟧.tells self.old }
+        ensures closed { ⟦<Buffered<L> as Link>⟧.closed self.new ≡ true }
+        ensures faults { ⟦<Buffered<L> as Link>⟧.faults self.old
+            ≤ ⟦<Buffered<L> as Link>⟧.faults self.new }
+        // what waits is written to the link below, or a front of it where that fails
+        ensures sent { IsTrue (L.tells (link_below self.old)) → LetGo
+            (L.wire (link_below self.old)) (L.wire (link_below self.new))
+            (L.faults (link_below self.old)) (L.faults (link_below self.new))
+            (written_behind self.old) }
+    {
         if self.may_wait {
             let _ = self.flush();
         }
-        self.may_wait = false;
-        self.ahead = None;
-        self.behind = None;
-        self.link.close();
+        self.shut();
     }
 }
 

@@ -5,6 +5,7 @@ ghost use Rattle.std.specs.Prelude.{◌≡◌, ◌≤◌, false, length};
 use crate::tcp_link::TcpLink;
 use sec_base::{Link, LinkFault};
 use std::net::{Net, TcpStream, ToSocketAddrs};
+use std::rt::Clock as SystemTimeSource;
 use std::time::Duration;
 
 /// How many milliseconds the tries to connect may take, all together.
@@ -13,11 +14,11 @@ const PATIENCE: usize = 10_000;
 /// A TCP connection to an address, a host and a port with a colon between them, which is made at the first read or write. Where it can't
 /// be made within 10 seconds, each call answers a fault. It tells nothing of its octets.
 #[derive(Drop)]
-pub struct DialedLink<'a, R: Drop> {
+pub struct DialedLink<'a, R: SystemTimeSource + Drop> {
     rt: R,
     address: &'a str,
     dialed: bool,
-    link: TcpLink,
+    link: TcpLink<R>,
 }
 
 /// A connection to the first of the host's addresses that takes one; each of them has the same share of the time.
@@ -33,7 +34,7 @@ fn connected<R: Net<Stream = TcpStream>>(rt: &R, address: &str) -> Option<TcpStr
     None
 }
 
-impl<'a, R: Net<Stream = TcpStream> + Drop> DialedLink<'a, R> {
+impl<'a, R: Net<Stream = TcpStream> + SystemTimeSource + Copy + Drop> DialedLink<'a, R> {
     /// The link to `address`, which isn't looked for yet.
     pub fn new(rt: R, address: &'a str) -> DialedLink<'a, R>
         ensures { ⟦<DialedLink<'a, R> as Link>⟧.closed result ≡ false }
@@ -42,7 +43,7 @@ impl<'a, R: Net<Stream = TcpStream> + Drop> DialedLink<'a, R> {
             rt,
             address,
             dialed: false,
-            link: TcpLink::none(),
+            link: TcpLink::none(rt),
         }
     }
 
@@ -58,7 +59,7 @@ impl<'a, R: Net<Stream = TcpStream> + Drop> DialedLink<'a, R> {
     }
 }
 
-impl<'a, R: Net<Stream = TcpStream> + Drop> Link for DialedLink<'a, R> {
+impl<'a, R: Net<Stream = TcpStream> + SystemTimeSource + Copy + Drop> Link for DialedLink<'a, R> {
     ghost use Rattle.std.specs.Prelude.{false, []};
 
     ghost faults = { λ l. l.link.faults };

@@ -1,6 +1,6 @@
 //! The files of the system.
 
-ghost use Rattle.std.specs.Prelude.{◌≡◌};
+ghost use Rattle.std.specs.Prelude.{◌≡◌, ◌≤◌, IfOk, IfSome, vec_len};
 
 use sec_base::{LoadRefusal, Octets, Shelf};
 use std::alloc::Global;
@@ -26,7 +26,11 @@ impl<R: Files + Drop> FileShelf<R> {
 }
 
 /// What reading a file to its end, or past the limit, gave.
-fn content<F: Read>(alloc: Global, file: &mut F, limit: usize) -> Result<Vec<u8>, LoadRefusal> {
+fn content<F: Read>(alloc: Global, file: &mut F, limit: usize) -> Result<Vec<u8>, LoadRefusal>
+    ensures whole { IfOk result
+        (λ octets. IfSome (F.remaining file.old) (λ all. octets.items ≡ all)) }
+    ensures within { IfOk result (λ octets. vec_len octets ≤ limit) }
+{
     let mut octets = Vec::new(alloc);
     let mut piece = [0; PIECE];
     for _ in 0..u64::MAX {

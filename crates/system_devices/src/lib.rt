@@ -2,6 +2,7 @@
 //! thin, and tells nothing.
 #![tactic(auto)]
 
+mod again;
 mod dialed_link;
 mod file_shelf;
 mod patient_link;

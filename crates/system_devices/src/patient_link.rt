@@ -27,8 +27,8 @@ enum Turn {
 /// second more for each 1,024 octets, may go by from a record's first octets to its reply's, and from those to the reply's last. After
 /// that each call answers a fault. It tells nothing of its octets.
 #[derive(Drop)]
-pub struct PatientLink<R: Drop> {
-    link: TcpLink,
+pub struct PatientLink<R: Clock + Drop> {
+    link: TcpLink<R>,
     rt: R,
     idle: Duration,
     turn: Turn,
@@ -40,12 +40,12 @@ pub struct PatientLink<R: Drop> {
     faults: u64,
 }
 
-impl<R: Clock + Drop> PatientLink<R> {
+impl<R: Clock + Copy + Drop> PatientLink<R> {
     /// A link over this connection, which may be silent for `idle` seconds.
     pub(crate) fn over(rt: R, stream: TcpStream, idle: u32) -> PatientLink<R>
         ensures { ⟦<PatientLink<R> as Link>⟧.closed result ≡ false }
     {
-        let mut link = TcpLink::none();
+        let mut link = TcpLink::none(rt);
         link.take(Some(stream));
         PatientLink {
             link,
@@ -150,7 +150,7 @@ impl<R: Clock + Drop> PatientLink<R> {
     }
 }
 
-impl<R: Clock + Drop> Link for PatientLink<R> {
+impl<R: Clock + Copy + Drop> Link for PatientLink<R> {
     ghost use Rattle.std.specs.Prelude.{false, []};
 
     ghost faults = { λ l. l.faults };
@@ -159,7 +159,7 @@ impl<R: Clock + Drop> Link for PatientLink<R> {
 
     ghost wire = { λ _. record { taken = []; coming = []; written = [] } };
 
-    ghost closed = { λ l. ⟦<TcpLink as Link>⟧.closed l.link };
+    ghost closed = { λ l. ⟦<TcpLink<R> as Link>⟧.closed l.link };
 
     fn read(&mut self, buf: &mut [u8]) -> Result<usize, LinkFault> {
         if !self.await_record() {

@@ -2,8 +2,9 @@
 
 ghost use Rattle.std.specs.Prelude.{◌≡◌, ◌<◌, ◌≤◌, length, IfSome};
 
+use crate::again::write_on;
 use sec_base::{Sink, SinkFault};
-use std::io::{Stderr, Stdout, Write};
+use std::io::{Stderr, Stdout};
 
 /// The two streams.
 #[derive(Drop)]
@@ -18,17 +19,18 @@ impl Stream {
         ensures { IfSome result (λ count. (0 < count) × (count ≤ length bytes.now)) }
     {
         let taken = match self {
-            Stream::Output(stream) => stream.write(bytes),
-            Stream::Error(stream) => stream.write(bytes),
+            Stream::Output(stream) => write_on(stream, bytes),
+            Stream::Error(stream) => write_on(stream, bytes),
         };
         match taken {
-            Ok(count) if count > 0 && count <= bytes.len() => Some(count),
+            Some(count) if count > 0 => Some(count),
             _ => None,
         }
     }
 }
 
-/// Standard output or standard error. It tells nothing of what was written.
+/// Standard output or standard error. A write that a signal, a stop or a tracer broke off is made again. It tells nothing of what was
+/// written.
 #[derive(Drop)]
 pub struct StdSink {
     stream: Stream,

@@ -6,10 +6,12 @@ ghost use Rattle.sec_base.specs.Answers.{Rose};
 ghost use Rattle.sec_base.specs.Port.{Accepts};
 ghost use Rattle.system_devices.specs.Devices.{is_given};
 
+use crate::again::{read_on, write_on};
 use sec_base::{Link, LinkFault, Port, PortFault};
-use std::io::{Read, Stdin, Stdout, Write};
+use std::io::{Stdin, Stdout};
 
-/// The link over standard input and output. It tells nothing of its octets.
+/// The link over standard input and output. A call that a signal, a stop or a tracer broke off is made again. It tells nothing of its
+/// octets.
 #[derive(Drop)]
 pub struct StdioLink {
     input: Stdin,
@@ -30,9 +32,9 @@ impl Link for StdioLink {
     ghost closed = { λ l. l.closed };
 
     fn read(&mut self, buf: &mut [u8]) -> Result<usize, LinkFault> {
-        match self.input.read(buf) {
-            Ok(count) => Ok(count),
-            Err(_) => {
+        match read_on(&mut self.input, buf) {
+            Some(count) => Ok(count),
+            None => {
                 self.faults = self.faults.saturating_add(1);
                 Err(LinkFault)
             }
@@ -40,9 +42,9 @@ impl Link for StdioLink {
     }
 
     fn write(&mut self, buf: &[u8]) -> Result<usize, LinkFault> {
-        match self.output.write(buf) {
-            Ok(count) if count > 0 || buf.is_empty() => Ok(count),
-            _ => {
+        match write_on(&mut self.output, buf) {
+            Some(count) => Ok(count),
+            None => {
                 self.faults = self.faults.saturating_add(1);
                 Err(LinkFault)
             }

@@ -2,18 +2,32 @@
 
 ghost use Rattle.std.specs.Prelude.{◌≡◌, ◌≤◌, false, length};
 
+use crate::again::{read_on, write_on};
 use sec_base::{Link, LinkFault};
-use std::io::{Read, Write};
 use std::net::{Shutdown, TcpStream};
-use std::time::Duration;
+use std::rt::Clock as SystemTimeSource;
+use std::time::{Duration, Instant};
 
 /// How many seconds a read or a write may wait.
 const PATIENCE: u64 = 60;
 
+/// How many seconds a close waits for the peer's end.
+const PARTING: u64 = 2;
+
+/// How many octets a close reads and drops before it waits no more for the peer's end.
+const MOST_DROPPED: usize = 4_194_304;
+
+/// How many octets a close reads at a time.
+const PIECE: usize = 16_384;
+
 /// A TCP connection. One that could not be made answers a fault at each call, and so does a call that waits for 60 seconds in which
-/// nothing comes or nothing can be written. One that was closed holds no descriptor. It tells nothing of its octets.
+/// nothing comes or nothing can be written. A call that a signal, a stop or a tracer broke off is made again. A close ends the writing
+/// side first, and then reads and drops what still comes, until the peer's end, for at most 2 seconds and 4,194,304 octets: a connection
+/// that is closed before its octets were read is reset, and takes with it what was written and didn't arrive yet. One that was closed
+/// holds no descriptor. It tells nothing of its octets.
 #[derive(Drop)]
-pub struct TcpLink {
+pub struct TcpLink<R: SystemTimeSource + Drop> {
+    rt: R,
     stream: Option<TcpStream>,
     faults: u64,
     closed: bool,
@@ -33,13 +47,40 @@ fn prepared(stream: TcpStream) -> Option<TcpStream> {
     }
 }
 
-impl TcpLink {
+/// How long a close that began then may still wait; None where that is over, or the clock can't be read.
+fn time_left<R: SystemTimeSource>(rt: &R, since: &Instant) -> Option<Duration> {
+    let gone = since.elapsed(rt).ok()?;
+    let left = Duration::from_secs(PARTING).saturating_sub(gone);
+    if left.is_zero() { None } else { Some(left) }
+}
+
+/// Reads and drops what still comes, until the peer's end, or for as long as a close may.
+fn drop_rest<R: SystemTimeSource>(rt: &R, stream: &mut TcpStream) {
+    let Ok(since) = Instant::now(rt) else {
+        return;
+    };
+    let mut piece = [0; PIECE];
+    let mut left = MOST_DROPPED;
+    for _ in 0..MOST_DROPPED {
+        let wait = time_left(rt, &since);
+        if wait.is_none() || stream.set_read_timeout(wait).is_err() {
+            return;
+        }
+        match read_on(stream, &mut piece) {
+            Some(count) if 0 < count && count < left => left -= count,
+            _ => return,
+        }
+    }
+}
+
+impl<R: SystemTimeSource + Drop> TcpLink<R> {
     /// A link without a connection.
-    pub(crate) fn none() -> TcpLink
+    pub(crate) fn none(rt: R) -> TcpLink<R>
         ensures closed { result.closed ≡ false }
         ensures faults { result.faults ≡ 0 }
     {
         TcpLink {
+            rt,
             stream: None,
             faults: 0,
             closed: false,
@@ -69,7 +110,7 @@ impl TcpLink {
     }
 }
 
-impl Link for TcpLink {
+impl<R: SystemTimeSource + Drop> Link for TcpLink<R> {
     ghost use Rattle.std.specs.Prelude.{false, []};
 
     ghost faults = { λ l. l.faults };
@@ -82,12 +123,12 @@ impl Link for TcpLink {
 
     fn read(&mut self, buf: &mut [u8]) -> Result<usize, LinkFault> {
         let read = match &mut self.stream {
-            Some(stream) => stream.read(buf).ok(),
+            Some(stream) => read_on(stream, buf),
             None => None,
         };
         match read {
-            Some(count) if count <= buf.len() => Ok(count),
-            _ => {
+            Some(count) => Ok(count),
+            None => {
                 self.faults = self.faults.saturating_add(1);
                 Err(LinkFault)
             }
@@ -96,12 +137,12 @@ impl Link for TcpLink {
 
     fn write(&mut self, buf: &[u8]) -> Result<usize, LinkFault> {
         let written = match &mut self.stream {
-            Some(stream) => stream.write(buf).ok(),
+            Some(stream) => write_on(stream, buf),
             None => None,
         };
         match written {
-            Some(count) if count <= buf.len() && (count > 0 || buf.is_empty()) => Ok(count),
-            _ => {
+            Some(count) => Ok(count),
+            None => {
                 self.faults = self.faults.saturating_add(1);
                 Err(LinkFault)
             }
@@ -109,8 +150,10 @@ impl Link for TcpLink {
     }
 
     fn close(&mut self) {
-        if let Some(stream) = &self.stream {
-            let _ = stream.shutdown(Shutdown::Both);
+        if let Some(stream) = &mut self.stream {
+            if stream.shutdown(Shutdown::Write).is_ok() {
+                drop_rest(&self.rt, stream);
+            }
         }
         self.stream = None;
         self.closed = true;

@@ -45,10 +45,10 @@ ready-by (Some own) stage e = (own, refl, same (Ready own) stage e)
     same : (a b : StageSays) → Some a ≡ Some b → b ≡ a
     same a b e = grind (arith, e)
 
-abbrev world-of : List PlainSetup → BookOf → ℕ → World
+abbrev pub world-of : List PlainSetup → BookOf → ℕ → World
 world-of setups book lanes = record { facts = setups; stages = map (λ setup. Ready setup) setups; book = book; lanes = replicate lanes None; fixed = []; makings = [] }
 
-begins : (setups : List PlainSetup) (book : BookOf) (lanes : ℕ) → book.core.history ≡ [] → IsBook book → AreLines book.setup.verifiers
+pub begins : (setups : List PlainSetup) (book : BookOf) (lanes : ℕ) → book.core.history ≡ [] → IsBook book → AreLines book.setup.verifiers
     → ((i : ℕ) (own : PlainSetup) → slice_get setups i ≡ Some own → is_own_list own.list ≡ true) → ((i : ℕ) (own : PlainSetup) → slice_get setups i ≡ Some own → IsSetup own)
     → Begins (world-of setups book lanes)
 begins setups book lanes empty is_book lines lists each = record {

@@ -1,0 +1,98 @@
+-- The headline of a server: what the log says that its run returns.
+use Rattle.std.specs.Prelude.{◌≡◌, ℕ, true, List, [], length, map, replicate, reverse, slice_get}
+use Rattle.std.specs.Prelude.{Ok, Some, None}
+use Rattle.sec_base.specs.declared.port.Port as ports
+use Rattle.sec_base.specs.declared.link.Link as links
+use Rattle.sec_base.specs.declared.clock.Clock as clocks
+use Rattle.sec_base.specs.declared.draw.Draw as draws
+use Rattle.sec_base.specs.declared.shelf.Shelf as shelves
+use Rattle.spnego_core.specs.Ends.{PlainSetup}
+use Rattle.spnego_core.specs.InitMech.{is_own_list}
+use Rattle.accept_book.specs.Booking.{BookOf}
+use Rattle.accept_core.specs.Legal.{Legal}
+use Rattle.accept_core.specs.Logs.{LogOf}
+use Rattle.accept_core.specs.declared.entry.Entry.{Entry}
+use Rattle.gss_server.specs.declared.answer.Kept.{Kept}
+use Rattle.gss_server.specs.declared.connection.Served.{Served}
+use Rattle.gss_server.specs.declared.keeper.Keeper as keepers
+use Rattle.book_seats.specs.Notes.{Note}
+use Rattle.server_desks.specs.Desks.{run_limit}
+use Rattle.server_desks.specs.declared.desk.Desk.{Desk}
+use Rattle.server_command.specs.Through.{OneHistory}
+use Rattle.server_options.specs.Keys.{KeysFrom}
+use Rattle.server_options.specs.declared.ending.RunEnd.{RunEnd}
+use Rattle.server_options.specs.declared.keys.Keys.{Keys}
+use Rattle.server_options.specs.declared.options.Options.{Options}
+use Rattle.world_laws.specs.declared.event.WorldEvent.{WorldEvent}
+use Rattle.world_laws.specs.Agreement.{Agreement}
+use Rattle.world_laws.specs.Events.{Run, Begins}
+use Rattle.world_laws.specs.Headline.{StandsOnce}
+use Rattle.world_laws.specs.Origin.{Origin}
+use Rattle.world_laws.specs.Premises.{Marking, NoForgery, Fresh}
+use Rattle.world_laws.specs.Setups.{IsSetup}
+use Rattle.world_laws.specs.Stages.{Ready}
+use Rattle.world_laws.specs.State.{InHand, World}
+use Rattle.server_laws.specs.Served.{Meanwhile}
+use Rattle.server_laws.specs.ServerRun.{opened_book, AreTheirs, LogIsRun}
+
+-- ---- the world that a run begins in
+
+-- these initiators, of whom nobody was started, a book, and a free lane for each of so many desks;
+-- nothing was fixed or handed out
+abbrev pub world_of : List PlainSetup → BookOf → ℕ → World
+world_of initiators book desks = record {
+  facts = initiators;
+  stages = map (λ own. Ready own) initiators;
+  book = book;
+  lanes = replicate desks None;
+  fixed = [];
+  makings = [];
+}
+
+-- each has one or two credentials, of different mechanisms, and is one that can be begun
+pub record AreInitiators (initiators : List PlainSetup) : Type 0 where
+  pub lists : (i : ℕ) (own : PlainSetup) → slice_get initiators i ≡ Some own
+      → is_own_list own.list ≡ true
+  pub setups : (i : ℕ) (own : PlainSetup) → slice_get initiators i ≡ Some own → IsSetup own
+
+-- ---- what the log says
+
+-- the log is the book's of a world at the end of a run, and of this world and this run agreement
+-- and origin hold: what the log says was settled has one partner, and what it says was called was
+-- called by the partner
+pub record HeadlineOf (marking : Marking) (old : World) (events : List WorldEvent) (new : World)
+    (run : Run old events new) (log : List Entry) : Type 0 where
+  pub logged : new.book.core.history ≡ log
+  pub agreement : Agreement marking new
+  pub origin : Origin marking old events new run
+
+-- the log that a run of the server returned, by the run of the world that it is: one that begins
+-- with the book that the server opened, in which the desks' lanes serve the records of their links.
+-- Where nothing was forged in that run under guarded keys, and draws were fresh, agreement and
+-- origin hold of this very log. And whatever was forged, nothing stands in it twice
+pub record OfThatLog (Are : (ℕ → List InHand) → Type 0) (meanwhile : (w : World) → Meanwhile w)
+    (notes : List Note) (old : World) (log : List Entry) : Type 0 where
+  pub begins : Begins old
+  pub is : LogIsRun Are (λ desk. desk) meanwhile notes old log
+  pub says : (marking : Marking)
+      → NoForgery marking old is.runs.events is.runs.next is.runs.run
+      → Fresh marking is.runs.next → HeadlineOf marking old is.runs.events is.runs.next is.runs.run log
+  pub once : StandsOnce log
+
+-- the server's headline. What `run_server` promises of its log in `booked` and `legal` is enough:
+-- files gave these keys, one book with them answered all questions of all desks, and its log is
+-- legal. Then for any initiators, whatever they do meanwhile, the headline holds of that log
+abbrev pub ServerHeadline : {F P C D K M L Q R : Type 0} → shelves.Ghosts F → ports.Ghosts P L
+    → links.Ghosts L → clocks.Ghosts C → draws.Ghosts D → keepers.Ghosts K Kept Q
+    → keepers.Ghosts M (Served L) R → Type 0
+ServerHeadline {F} {P} {C} {D} {K} {M} shelf port link clock draw keeper kept =
+    (options : Options) (keys : Keys) (start : ℕ) (before after : F) (olds : List (Desk P C D K M))
+    (end : RunEnd) (news : List (Desk P C D K M)) (log : LogOf)
+    → KeysFrom shelf before after options.files options.name (Ok keys)
+    → (one : OneHistory options keys start port link clock draw keeper kept olds end news log)
+    → Legal log.width (reverse log.entries)
+    → (initiators : List PlainSetup) (meanwhile : (w : World) → Meanwhile w)
+    → AreInitiators initiators → OfThatLog
+    (AreTheirs options.window (run_limit options.connections (length olds)) port link clock draw
+    keeper kept olds one.ends news one.all) meanwhile one.all
+    (world_of initiators (opened_book options keys start) (length olds)) (reverse log.entries)
