@@ -279,7 +279,7 @@ lines-only (suc most) number (line ∷ lines) are few =
 clash : (b : Bool) → b ≡ false → b ≡ true → ⊥
 clash b e f = cc
 
-same_is : (a b : List ℕ) → same a b ≡ true → a ≡ b
+pub same_is : (a b : List ℕ) → same a b ≡ true → a ≡ b
 same_is a b e = same_text a b (sym e)
 
 unnamed_by : (line : Verifier) (lines : List Verifier) (name : List ℕ) (b : Bool) → same line.name name ≡ b → is_there (cond b (Some line) (line_for lines name)) ≡ false

@@ -31,3 +31,6 @@ pub mod RefusedFiles
 pub mod Lengths
 pub mod Reasons
 pub mod SteppedTexts
+mod FoundPlaces
+mod PutPlaces
+mod LentLines

@@ -17,6 +17,7 @@ pub mod Secrets
 pub mod MechMaking
 pub mod Judging
 pub mod Initiator
+pub mod UserPlaces
 pub mod Verifiers
 pub mod Acceptor
 pub mod Places

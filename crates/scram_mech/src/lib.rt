@@ -21,6 +21,7 @@ mod state;
 mod symbols;
 mod texts;
 mod third_text;
+mod user_places;
 mod verifiers;
 
 pub use acceptor::ScramAccept;

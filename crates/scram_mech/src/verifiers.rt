@@ -7,8 +7,9 @@ ghost use Rattle.scram_mech.specs.declared.refusal.ScramRefusal.TheVariants as r
 ghost use Rattle.scram_mech.specs.declared.refusal.VerifierRefusal.TheVariants as verifier_refusals;
 ghost use Rattle.scram_mech.specs.Base64.{InRange, decoded};
 ghost use Rattle.scram_mech.specs.Digits.{number_of};
-ghost use Rattle.scram_mech.specs.Reading.{Reads, Answers, MayRead};
+ghost use Rattle.scram_mech.specs.Reading.{Reads, MayRead};
 ghost use Rattle.scram_mech.specs.Formats.{steps};
+ghost use Rattle.scram_mech.specs.UserPlaces.{AreFound};
 ghost use Rattle.scram_mech.specs.VerifierFile.{AreLines};
 ghost use Rattle.scram_mech.specs.Verifiers.{line_format, line_at, lines_at, line_for, once};
 ghost use Rattle.scram_mech.specs.Verifiers.{verifiers_of, line_text, made_line};
@@ -20,8 +21,9 @@ use crate::judging::{are_rounds, judge};
 use crate::refusal::{ScramRefusal, Stuck, VerifierRefusal};
 use crate::run::Class;
 use crate::second_text::put_decimal;
-use crate::secrets::{Secrets, same, twenty};
+use crate::secrets::{Secrets, twenty};
 use crate::texts::put;
+use crate::user_places::Places;
 use gss_base::Label;
 use sec_base::{NoMemory, Octets};
 use std::alloc::Global;
@@ -61,18 +63,19 @@ impl Verifier {
 #[derive(Drop)]
 pub struct Verifiers {
     lines: Vec<Verifier>,
+    places: Places,
 }
 
 impl Model for Verifiers {
     ghost use Rattle.std.specs.Prelude.{List};
     ghost use Rattle.scram_mech.specs.declared.verifiers.Verifier.{Verifier};
-    ghost use Rattle.scram_mech.specs.VerifierFile.{AreLines};
+    ghost use Rattle.scram_mech.specs.UserPlaces.{AreKept};
 
     ghost Value = { List Verifier };
 
     ghost view = { λ v. v.lines.items };
 
-    ghost invariant = { λ v. AreLines v.lines.items };
+    ghost invariant = { λ v. AreKept v.lines.items v.places };
 }
 
 /// The values of a line, as they stand there.
@@ -148,29 +151,21 @@ fn read_lines(alloc: Global, bytes: &[u8]) -> Result<Vec<Verifier>, VerifierRefu
     Ok(lines)
 }
 
-/// The first line of a name.
-fn line_for<'a>(lines: &'a [Verifier], name: &[u8]) -> Option<&'a Verifier>
-    ensures { option_copied result ≡ line_for lines.now name.now }
-{
-    for line in lines {
-        if same(line.name.text().as_bytes(), name) {
-            return Some(line);
-        }
-    }
-    None
-}
-
-/// Refuses the first line whose name stands in a line before it.
+/// The places of lines by their names; refuses the first line whose name stands in a line before it.
 #[tactic(auto, unfolding(crate::specs::Verifiers::once))]
-fn check_once(lines: &[Verifier]) -> Result<(), VerifierRefusal>
-    ensures { Answers (λ u. u) result (once [] 1 lines.now) }
+fn places_of(alloc: Global, lines: &[Verifier]) -> Result<Places, VerifierRefusal>
+    ensures once { Gives verifier_refusals.NoMemory (λ _. tt) result (once [] 1 lines.now) }
+    ensures found { IfOk result (λ places. AreFound places lines.now) }
 {
+    let mut places = Places::none(alloc);
     for (count, line) in lines.iter().enumerate() {
-        if line_for(&lines[..count], line.name.text().as_bytes()).is_some() {
+        let name = line.name.text().as_bytes();
+        if places.find(name).is_some() {
             return Err(VerifierRefusal::Twice { number: count + 1 });
         }
+        places.put(alloc, name, count)?;
     }
-    Ok(())
+    Ok(places)
 }
 
 /// The verifiers in a file: lines `name:rounds:salt:stored:server`, each ended by a line feed. A name is 1 to 255 octets of printable
@@ -180,8 +175,8 @@ pub fn read_verifiers(alloc: Global, bytes: &[u8]) -> Result<Verifiers, Verifier
     ensures { Gives verifier_refusals.NoMemory (λ v. v) result (verifiers_of bytes.now) }
 {
     let lines = read_lines(alloc, bytes)?;
-    check_once(lines.as_slice())?;
-    Ok(Verifiers { lines })
+    let places = places_of(alloc, lines.as_slice())?;
+    Ok(Verifiers { lines, places })
 }
 
 impl Verifiers {
@@ -189,7 +184,10 @@ impl Verifiers {
     pub(crate) fn find(&self, name: &[u8]) -> Option<&Verifier>
         ensures { option_copied result ≡ line_for self.now name.now }
     {
-        line_for(self.lines.as_slice(), name)
+        match self.places.find(name) {
+            Some(place) => self.lines.get(place),
+            None => None,
+        }
     }
 
     /// Does nothing: its contract says what the lines are.
