@@ -28,8 +28,8 @@ pub fn end_link<L: Link, O: Sink>(
         → Put (L.wire (link_below link.old)) (L.wire (link_below link.new))
         (written_behind link.old) }
     // It is the run's own status, unless the link failed.
-    ensures status { result.status ≢ run.status
-        → (run.status ≡ 0) × Rose (L.faults (link_below link.old)) (L.faults (link_below link.new)) }
+    ensures status { result.status ≢ run.status → (run.status ≡ 0)
+        × Rose (L.faults (link_below link.old)) (L.faults (link_below link.new)) }
     ensures end { result.status ≡ run.status → result.end ≡ run.end }
     ensures fault { result.status ≢ run.status → result.end ≡ RunEnd.LinkFault }
     ensures five { result.status ≢ run.status → result.status ≢ 6 → result.status ≢ 8

@@ -76,7 +76,8 @@ pub record OfThatLog (Are : (ℕ → List InHand) → Type 0) (meanwhile : (w : 
   pub is : LogIsRun Are (λ desk. desk) meanwhile notes old log
   pub says : (marking : Marking)
       → NoForgery marking old is.runs.events is.runs.next is.runs.run
-      → Fresh marking is.runs.next → HeadlineOf marking old is.runs.events is.runs.next is.runs.run log
+      → Fresh marking is.runs.next
+      → HeadlineOf marking old is.runs.events is.runs.next is.runs.run log
   pub once : StandsOnce log
 
 -- the server's headline. What `run_server` promises of its log in `booked` and `legal` is enough:
