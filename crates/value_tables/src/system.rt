@@ -6,6 +6,7 @@ use sec_base::{Clock, Draw, Link, LinkFault, Port, Sink};
 use std::io;
 use std::io::{Stderr, Stdin, Stdout};
 use std::net::{Net, TcpListener, TcpStream};
+use std::rt::Clock as SystemTimeSource;
 use std::sync::Wait;
 use system_devices::{DialedLink, HeldStreams, RandDraw, StdSink, StdioPort, SystemClock};
 
@@ -105,7 +106,7 @@ fn say_asked(rt: HostRuntime, asked: Asked) -> io::Result<()> {
 /// Says the same of connections.
 fn say_connections<R>(rt: HostRuntime, host: R) -> io::Result<()>
 where
-    R: Net<Stream = TcpStream, Listener = TcpListener> + Clock + Wait + Copy + Drop,
+    R: Net<Stream = TcpStream, Listener = TcpListener> + SystemTimeSource + Wait + Copy + Drop,
 {
     match connections::ask(host, rt.alloc()) {
         Some(asked) => say_asked(rt, asked)?,
@@ -124,7 +125,7 @@ where
 /// Asks each device once, and says what it did. The host is the runtime once more, which waits for connections.
 pub fn say_devices<R>(rt: HostRuntime, host: R) -> io::Result<()>
 where
-    R: Net<Stream = TcpStream, Listener = TcpListener> + Clock + Wait + Copy + Drop,
+    R: Net<Stream = TcpStream, Listener = TcpListener> + SystemTimeSource + Wait + Copy + Drop,
 {
     let is_held = HeldStreams::hold(&rt).is_some();
     say(rt, "no standard stream is left closed", is_held)?;
