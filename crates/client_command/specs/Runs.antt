@@ -45,10 +45,14 @@ names_in sources = record {
   server = server_text sources.server;
 }
 
+-- nothing is named
+abbrev pub unnamed : Named
+unnamed = record { ccache = []; password = []; server = [] }
+
 -- none where the words aren't in the command
 abbrev pub names_of : Result ClientWords WordsRefusal → Named
 names_of (Ok words) = names_in words.sources
-names_of (Err refusal) = record { ccache = []; password = []; server = [] }
+names_of (Err refusal) = unnamed
 
 -- the procedure whose results are printed; without one there are none
 abbrev pub procedure_of : Result ClientWords WordsRefusal → Procedure

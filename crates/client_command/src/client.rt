@@ -373,7 +373,7 @@ fn end_of_words(refusal: WordsRefusal) -> RunEnd
 }
 
 /// The names of words that aren't in the command.
-const UNNAMED: Names<'static> = Names {
+pub(crate) const UNNAMED: Names<'static> = Names {
     ccache: "",
     password: "",
     server: "",

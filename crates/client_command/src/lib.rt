@@ -4,8 +4,10 @@
 mod client;
 mod credential;
 mod files;
+mod parting;
 
 pub use client::{ClientEnd, run_client};
+pub use parting::end_link;
 pub use client_options::{
     ClientWords, Plan, RunEnd, Sources, WordFile, WordsRefusal, address_of, read_words,
 };

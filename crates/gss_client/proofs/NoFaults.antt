@@ -27,7 +27,7 @@ use Rattle.gss_client.specs.declared.refusal.ReplyWhy.{ReplyWhy}
 use Rattle.gss_client.specs.declared.refusal.ReplyWhy.TheVariants.{Form, Xid, Verifier, Steps, Width, Body, Number}
 use Rattle.gss_client.specs.Creation.{Machine, CreatedOf}
 use Rattle.gss_client.specs.Creation as created
-use Rattle.gss_client.specs.Judging.{AnswerValue, GrantedValue, ◌>>=◌, due, xid_of, place_of, formed, granted, answer_in, is_verified, placed, granted_in, negotiated, by_step, creation_by, verified_in, or_refused, call_result, destroyed_in}
+use Rattle.gss_client.specs.Judging.{AnswerValue, GrantedValue, ◌>>=◌, due, xid_of, place_of, formed, granted, answer_in, is_verified, placed, granted_in, negotiated, by_step, creation_by, verified_in, or_refused, call_result, holds_nothing, destroyed_in}
 
 NoFault : {A : Type 0} → Result A ClientRefusal → Type 0
 NoFault (Ok x) = Unit {0}
@@ -116,9 +116,9 @@ call-clear : (outcome : Outcome) (service : Service) (number xid : ℕ) (octets 
 unfolding call_result
 call-clear outcome service number xid octets = follow _ _ (verified-clear outcome number xid octets) (λ (answer : AnswerValue). or_refused-clear (unprotected (token_end outcome Initiator) service number answer.result))
 
-destroyed-clear : (outcome : Outcome) (number xid : ℕ) (octets : List ℕ) → NoFault (destroyed_in outcome number xid octets)
+destroyed-clear : (outcome : Outcome) (service : Service) (number xid : ℕ) (octets : List ℕ) → NoFault (destroyed_in outcome service number xid octets)
 unfolding destroyed_in
-destroyed-clear outcome number xid octets = follow _ _ (verified-clear outcome number xid octets) (λ (answer : AnswerValue). due-clear (BadReply (Form (place_of answer 0))) (length answer.result == 0) (bad (Form (place_of answer 0))))
+destroyed-clear outcome service number xid octets = follow _ _ (verified-clear outcome number xid octets) (λ (answer : AnswerValue). due-clear (BadReply (Form (place_of answer 0))) (holds_nothing (token_end outcome Initiator) service number answer.result) (bad (Form (place_of answer 0))))
 
 -- an answer of the code
 none : {A B : Type 0} (view : A → B) (r : Result A ClientRefusal) (answer : Result B ClientRefusal) → NoFault answer → Gives NoMemory view r answer → IsErrOf r LinkFault → ⊥
@@ -137,12 +137,8 @@ none view (Err refusal) answer h g e =
 pub no-call-fault : (outcome : Outcome) (service : Service) (number xid : ℕ) (octets : List ℕ) (r : Result (List ℕ) ClientRefusal) → Gives NoMemory (λ x. x) r (call_result outcome service number xid octets) → IsErrOf r LinkFault → ⊥
 no-call-fault outcome service number xid octets r g e = none (λ x. x) r (call_result outcome service number xid octets) (call-clear outcome service number xid octets) g e
 
-pub no-destroy-fault : (outcome : Outcome) (number xid : ℕ) (octets : List ℕ) (r : Result (Unit {0}) ClientRefusal) → r ≡ destroyed_in outcome number xid octets → IsErrOf r LinkFault → ⊥
-no-destroy-fault outcome number xid octets r g e = none (λ x. x) r (destroyed_in outcome number xid octets) (destroyed-clear outcome number xid octets) (same-gives r _ g) e
-  where
-    same-gives : {A : Type 0} (r a : Result A ClientRefusal) → r ≡ a → Gives NoMemory (λ x. x) r a
-    same-gives (Ok x) a g = sym g
-    same-gives (Err d) a g = λ h. sym g
+pub no-destroy-fault : (outcome : Outcome) (service : Service) (number xid : ℕ) (octets : List ℕ) (r : Result (Unit {0}) ClientRefusal) → Gives NoMemory (λ x. x) r (destroyed_in outcome service number xid octets) → IsErrOf r LinkFault → ⊥
+no-destroy-fault outcome service number xid octets r g e = none (λ x. x) r (destroyed_in outcome service number xid octets) (destroyed-clear outcome service number xid octets) g e
 
 pub no-creation-fault : {A E : Type 0} (r : Result A ClientRefusal) (view : A → CreatedOf E) (machine : Machine E) (end : E) (xid : ℕ) (octets : List ℕ) → Gives NoMemory view r (creation_by machine end xid octets) → IsErrOf r LinkFault → ⊥
 no-creation-fault r view machine end xid octets g e = none view r (creation_by machine end xid octets) (creation-clear machine end xid octets) g e

@@ -49,13 +49,13 @@ pub uncalled : (s : SessionState) (procedure : ℕ) (args confounder call : List
 unfolding calls
 uncalled s procedure args confounder call a b refusal e d = no-reply call (data_call s procedure args confounder) (result_taken s) a b refusal e d
 
-pub destroyed : (s : SessionState) (call : List ℕ) (a b : Wire) (reply : List ℕ) (r : Result (Unit {0}) ClientRefusal) → call ≡ destroy_call s → Done (exchanges call) a b reply → r ≡ destroyed_in s.outcome s.number s.xid reply → Talks (destroys s) a b r
+pub destroyed : (s : SessionState) (call : List ℕ) (a b : Wire) (reply : List ℕ) (r : Result (Unit {0}) ClientRefusal) → call ≡ destroy_call s → Done (exchanges call) a b reply → Gives NoMemory (λ x. x) r (destroyed_in s.outcome s.service s.number s.xid reply) → Talks (destroys s) a b r
 unfolding destroys
-destroyed s call a b reply r e d g = judged-reply call (destroy_call s) (destroyed_in s.outcome s.number s.xid) a b reply r e d (as-given r (destroyed_in s.outcome s.number s.xid reply) g)
+destroyed s call a b reply r e d g = judged-reply call (destroy_call s) (destroyed_in s.outcome s.service s.number s.xid) a b reply r e d g
 
 pub undestroyed : (s : SessionState) (call : List ℕ) (a b : Wire) (refusal : ClientRefusal) → call ≡ destroy_call s → Stopped (exchanges call) a b refusal → Stopped (destroys s) a b refusal
 unfolding destroys
-undestroyed s call a b refusal e d = no-reply call (destroy_call s) (destroyed_in s.outcome s.number s.xid) a b refusal e d
+undestroyed s call a b refusal e d = no-reply call (destroy_call s) (destroyed_in s.outcome s.service s.number s.xid) a b refusal e d
 
 pub turned : {E : Type 0} (machine : Machine E) (service : Service) (xid proc : ℕ) (offer : OfferOf E) (call : List ℕ) (a b : Wire) (reply : List ℕ) (r : Result (CreatedOf E) ClientRefusal) → call ≡ creation_call service xid proc offer.handle offer.token → Done (exchanges call) a b reply → Gives NoMemory (λ x. x) r (creation_by machine offer.end xid reply) → Talks (turns_by machine service xid proc offer) a b r
 unfolding turns_by

@@ -1,5 +1,5 @@
 -- How a client judges a reply: the first rule that applies decides.
-use Rattle.std.specs.Prelude.{ℕ, ◌-◌, Bool, not, ◌==◌, ◌&&◌, nat_le, if◌then◌else◌, is_ok, List}
+use Rattle.std.specs.Prelude.{ℕ, ◌-◌, Bool, true, false, not, ◌==◌, ◌&&◌, nat_le, if◌then◌else◌, is_ok, List}
 use Rattle.std.specs.Prelude.{length, Result, Ok, Err}
 use Rattle.gss_base.specs.declared.status.TheConstants.{COMPLETE, CONTINUE_NEEDED}
 use Rattle.krb_tokens.specs.declared.end.Side.TheVariants.{Initiator}
@@ -210,8 +210,21 @@ result_taken s octets = do
 
 -- ---- the reply to a destruction
 
--- C16: nothing follows the stat
-unfoldable pub destroyed_in : Outcome → ℕ → ℕ → List ℕ → Result (Unit {0}) ClientRefusal
-destroyed_in outcome number xid octets = do
+-- a body's content has no octets
+abbrev pub is_bare : Result (List ℕ) BodyRefusal → Bool
+is_bare (Ok content) = length content == 0
+is_bare (Err refusal) = false
+
+-- no octets, or a body by this service that verifies and holds the number alone (RFC 2203,
+-- section 5.4: the reply is protected as one to a data request is)
+abbrev pub holds_nothing : TokenEnd → Service → ℕ → List ℕ → Bool
+holds_nothing end service number body =
+    if length body == 0 then true else is_bare (unprotected end service number body)
+
+-- C16: what follows the stat holds nothing by the context's service
+unfoldable pub destroyed_in : Outcome → Service → ℕ → ℕ → List ℕ
+    → Result (Unit {0}) ClientRefusal
+destroyed_in outcome service number xid octets = do
   answer ← verified_in outcome number xid octets
-  due (BadReply (Form (place_of answer 0))) (length answer.result == 0)
+  due (BadReply (Form (place_of answer 0)))
+      (holds_nothing (token_end outcome Initiator) service number answer.result)

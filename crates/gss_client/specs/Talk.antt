@@ -99,4 +99,4 @@ calls s procedure args confounder = do
 unfoldable pub destroys : SessionState → Talking (Unit {0})
 destroys s = do
   reply ← exchanges (destroy_call s)
-  judges (destroyed_in s.outcome s.number s.xid reply)
+  judges (destroyed_in s.outcome s.service s.number s.xid reply)

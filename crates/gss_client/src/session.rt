@@ -254,8 +254,10 @@ impl Session {
         };
         match exchange(alloc, link, call.as_slice()) {
             Ok(reply) => destroyed_in(
+                alloc,
                 &self.keys,
                 &self.outcome,
+                self.service,
                 self.number,
                 self.xid,
                 reply.as_slice(),

@@ -4,7 +4,7 @@
 ghost use Rattle.std.specs.Prelude.{map};
 ghost use Rattle.init_ends.specs.Arming.{AreStandard};
 
-use client_command::{address_of, run_client};
+use client_command::{address_of, end_link, run_client};
 use init_ends::standard_mechs;
 use mech_objects::{MadeMechs, Mech, make_mechs};
 use sec_base::Text;
@@ -41,10 +41,10 @@ fn run_over(rt: HostRuntime, words: &[Text], mechs: Vec<Box<dyn Mech>>, draw: &m
     let mut clock = SystemClock::new(rt);
     let mut out = StdSink::output(rt.stdout());
     let mut err = StdSink::error(rt.stderr());
-    run_client(
+    let run = run_client(
         alloc, words, &mut shelf, &mut link, &mut clock, draw, mechs, &mut out, &mut err,
-    )
-    .status
+    );
+    end_link(alloc, run, &mut link, &mut err).status
 }
 
 /// The same with the objects of Kerberos under both its names and of SCRAM, which are made ahead of the devices.

@@ -162,6 +162,7 @@ where
         + SystemTimeSource
         + Threads
         + Wait
+        + Send
         + Sync
         + Copy
         + Drop,
@@ -213,6 +214,7 @@ where
         + SystemTimeSource
         + Threads
         + Wait
+        + Send
         + Sync
         + Copy
         + Drop,

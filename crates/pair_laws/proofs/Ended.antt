@@ -107,16 +107,16 @@ replying-reads : (lease : Lease) (number xid : ℕ) → xid < 2 ^ 32 → reply_a
 replying-reads lease number xid h =
     reply-only (replying lease number xid) (omega (arith, mic-size (end_of lease) (2 * number) (word number)), (λ other. absurd (other refl)), (λ other. refl), (λ other. refl)) (h, lit< tt, lit< tt, lit< tt, lit< tt)
 
-end-judged : (lease : Lease) (number xid : ℕ) → xid < 2 ^ 32 → destroyed_in lease.outcome number xid (reply_octets (replying lease number xid)) ≡ Ok tt
+end-judged : (lease : Lease) (service : Service) (number xid : ℕ) → xid < 2 ^ 32 → destroyed_in lease.outcome service number xid (reply_octets (replying lease number xid)) ≡ Ok tt
 unfolding destroyed_in verified_in answer_in
-end-judged lease number xid h =
+end-judged lease service number xid h =
     let good : checked_mic (token_end lease.outcome Initiator) (mic_of (end_of lease) (2 * number) (word number)) (word number) ≡ Ok tt = mic-taken (end_of lease) (2 * number) (word number) in
     rw (replying-reads lease number xid h) (rw (eqb-same xid) (rw good refl))
 
 replying-fits : (lease : Lease) (number xid : ℕ) → length (reply_octets (replying lease number xid)) ≤ 131072
 replying-fits lease number xid = accepted-fits xid 6 (mic_of (end_of lease) (2 * number) (word number)) 0 0 0 [] (omega (arith, mic-size (end_of lease) (2 * number) (word number))) (omega arith)
 
-end-heard : (s : SessionState) (reply rest : List ℕ) → length reply ≤ 131072 → destroyed_in s.outcome s.number s.xid reply ≡ Ok tt → destroys s (last_fragment reply ++ rest) ≡ said (last_fragment (destroy_call s)) (Ok tt) rest
+end-heard : (s : SessionState) (reply rest : List ℕ) → length reply ≤ 131072 → destroyed_in s.outcome s.service s.number s.xid reply ≡ Ok tt → destroys s (last_fragment reply ++ rest) ≡ said (last_fragment (destroy_call s)) (Ok tt) rest
 unfolding destroys
 end-heard s reply rest few judged = rw (exchanged (destroy_call s) reply rest few, judged, append-nil (last_fragment (destroy_call s))) refl
 
@@ -125,7 +125,7 @@ ended lease service number xid kept width rest h t =
     let r = end-rule lease service number xid kept width rest h t in record {
       rule = rw r refl;
       asked = rw r refl;
-      result = rw r (end-heard (session_on lease service number xid) (reply_octets (replying lease number xid)) rest (replying-fits lease number xid) (end-judged lease number xid h.xid_fits));
+      result = rw r (end-heard (session_on lease service number xid) (reply_octets (replying lease number xid)) rest (replying-fits lease number xid) (end-judged lease service number xid h.xid_fits));
     }
 
 -- ---- over a book

@@ -178,7 +178,7 @@ unfolding destroys
 destroys-first s stream =
     let call : List ℕ = destroy_call s in
     let f = exchange-front call stream in
-    let g = goes-front (last_fragment call) (exchanges call stream).written (exchanges call stream).rest (λ octets. judges (destroyed_in s.outcome s.number s.xid octets)) (exchanges call stream).answer f.more f.same in
+    let g = goes-front (last_fragment call) (exchanges call stream).written (exchanges call stream).rest (λ octets. judges (destroyed_in s.outcome s.service s.number s.xid octets)) (exchanges call stream).answer f.more f.same in
     record { more = g.more; same = g.same }
 
 pub on-first : (procedure : Procedure) (front written undrawn rest : List ℕ) (next : SessionState → List ℕ → List ℕ → Conversed) (answer : Result (SessionState × List ℕ) ClientRefusal) → Begins front written → Begins front (goes_on procedure written undrawn rest next answer).written

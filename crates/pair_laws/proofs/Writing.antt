@@ -50,7 +50,7 @@ end-wrote : (s : SessionState) (stream : List ℕ) → (destroys s stream).writt
 unfolding destroys
 end-wrote s stream =
     let e : Said (List ℕ) = exchanges (destroy_call s) stream in
-    goes-wrote e.written e.rest (destroyed_in s.outcome s.number s.xid) e.answer ∙ exchange-wrote (destroy_call s) stream
+    goes-wrote e.written e.rest (destroyed_in s.outcome s.service s.number s.xid) e.answer ∙ exchange-wrote (destroy_call s) stream
 
 end-size : (s : SessionState) → length s.handle ≤ 64 → length (destroy_call s) ≤ 131072
 unfolding destroy_call signed_call verifier_of header_of
