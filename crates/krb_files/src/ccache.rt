@@ -5,8 +5,8 @@ ghost use Rattle.krb_files.specs.Fields.{Reads, Answers};
 ghost use Rattle.krb_files.specs.Pieces.{all_of};
 ghost use Rattle.krb_files.specs.Grammar.{ReadsWhole};
 ghost use Rattle.krb_files.specs.CcacheGrammar.{SpellsCcache};
-ghost use Rattle.krb_files.specs.Ccache.{name_at, typed_at, times_typed_at, list_at, ticket_at, end_at};
-ghost use Rattle.krb_files.specs.Ccache.{kept_of, credential_at, next_at, ccache_of};
+ghost use Rattle.krb_files.specs.Ccache.{name_at, typed_at, times_typed_at, list_at, end_at};
+ghost use Rattle.krb_files.specs.Ccache.{ticket_at, kept_of, credential_at, next_at, ccache_of};
 ghost use Rattle.krb_files.specs.Ccache.{latest_from, granted_for};
 
 use crate::FileRefusal;

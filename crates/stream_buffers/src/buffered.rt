@@ -261,7 +261,8 @@ impl<L: Link> Link for Buffered<L> {
     }
 
     fn close(&mut self)
-        ensures told { ⟦<Buffered<L> as Link>⟧.wire self.new ≡ ⟦<Buffered<L> as Link>⟧.wire self.old }
+        ensures told { ⟦<Buffered<L> as Link>⟧.wire self.new
+            ≡ ⟦<Buffered<L> as Link>⟧.wire self.old }
         ensures tells { ⟦<Buffered<L> as Link>⟧.tells self.new
             ≡ ⟦<Buffered<L> as Link>⟧.tells self.old }
         ensures closed { ⟦<Buffered<L> as Link>⟧.closed self.new ≡ true }
