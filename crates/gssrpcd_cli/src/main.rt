@@ -125,7 +125,10 @@ fn draws(rt: HostRuntime) -> Option<(RandDraw, RandDraw, RandDraw, RandDraw)> {
 }
 
 /// A desk at a TCP listener.
-fn desk_at<'a, R: Net<Stream = TcpStream, Listener = TcpListener> + SystemTimeSource + Wait + Copy + Drop>(
+fn desk_at<
+    'a,
+    R: Net<Stream = TcpStream, Listener = TcpListener> + SystemTimeSource + Wait + Copy + Drop,
+>(
     rt: HostRuntime,
     door: &'a TcpDoor<'a, R>,
     draw: RandDraw,
@@ -136,7 +139,10 @@ fn desk_at<'a, R: Net<Stream = TcpStream, Listener = TcpListener> + SystemTimeSo
 }
 
 /// Four desks at a TCP listener; or the status where there are none.
-fn desks_at<'a, R: Net<Stream = TcpStream, Listener = TcpListener> + SystemTimeSource + Wait + Copy + Drop>(
+fn desks_at<
+    'a,
+    R: Net<Stream = TcpStream, Listener = TcpListener> + SystemTimeSource + Wait + Copy + Drop,
+>(
     rt: HostRuntime,
     door: &'a TcpDoor<'a, R>,
 ) -> Result<Vec<SystemDesk<BufferedPort<TcpPort<'a, R>>>>, u8>

@@ -62,8 +62,11 @@ end_at i = do
 abbrev pub kept_of : Name → Name → Option Key → ℕ → List ℕ → Next Kept
 kept_of client server None ends ticket = Other
 kept_of client server (Some session) ends ticket =
-    if nat_le (length ticket) 60000 then Item (record { granted = record
-    { client = client; server = server; session = session; ticket = ticket }; ends = ends })
+    if nat_le (length ticket) 60000 then Item (record {
+      granted = record
+          { client = client; server = server; session = session; ticket = ticket };
+      ends = ends;
+    })
     else Other
 
 -- a credential: the client, the server, the key, its end, and its ticket
