@@ -90,7 +90,7 @@ abbrev pub or_none : KerberosName → Option Granted → Result MechCred RunEnd
 or_none name None = Err NoCredential
 or_none name (Some granted) = Ok (creds.Kerberos name granted)
 
--- Kerberos: the first credential for the server in the cache, whichever name the list has
+-- Kerberos: the credential for the server in the cache that ends last, whichever name the list has
 abbrev pub ticket_for : KerberosName → Option Cache → Option Name → Result MechCred RunEnd
 ticket_for name (Some cache) (Some server) = or_none name (granted_for server cache.credentials)
 ticket_for name (Some cache) None = Err NoCredential

@@ -7,7 +7,7 @@ mod files;
 mod parting;
 
 pub use client::{ClientEnd, run_client};
-pub use parting::end_link;
 pub use client_options::{
     ClientWords, Plan, RunEnd, Sources, WordFile, WordsRefusal, address_of, read_words,
 };
+pub use parting::end_link;

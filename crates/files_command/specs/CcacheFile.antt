@@ -8,8 +8,12 @@ use Rattle.files_command.specs.Fields.{number, counted, principal, key_field, Is
 use Rattle.files_command.specs.Fields.{IsSizedKey}
 
 -- the cache that a reader finds
-abbrev pub cache_of : Granted → Cache
-cache_of granted = record { owner = granted.client; credentials = granted ∷ [] }
+abbrev pub cache_of : Times → Granted → Cache
+cache_of times granted = record {
+  owner = granted.client;
+  credentials =
+      record { granted = granted; ends = times.endtime } ∷ [];
+}
 
 -- a principal behind the type 1 of its name
 unfoldable pub cache_name : Name → List ℕ

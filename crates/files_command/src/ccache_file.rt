@@ -91,8 +91,8 @@ pub fn write_ccache(
     credential: &Credential,
 ) -> Result<Octets, NoMemory>
     ensures written { IfOk result (λ o. o ≡ ccache_file times credential.now) }
-    ensures spelled { IfOk result (λ o. SpellsCcache (cache_of credential.now) o) }
-    ensures found { IfOk result (λ o. ccache_of o ≡ Ok (cache_of credential.now)) }
+    ensures spelled { IfOk result (λ o. SpellsCcache (cache_of times credential.now) o) }
+    ensures found { IfOk result (λ o. ccache_of o ≡ Ok (cache_of times credential.now)) }
 {
     ccache_octets(alloc, times, credential)
 }

@@ -10,10 +10,10 @@ use Rattle.krb_files.specs.Fields.{Input, ◌>>=◌, place, number_at, counted_a
 use Rattle.krb_files.specs.Names.{principal_at}
 use Rattle.krb_files.specs.Keys.{key_at}
 use Rattle.krb_files.specs.Pieces.{all_of}
-use Rattle.krb_files.specs.Granted.{Granted, Cache}
-use Rattle.krb_files.specs.Ccache.{name_at, typed_at, times_typed_at, list_at, ticket_at, kept_of, credential_at, next_at, ccache_of}
+use Rattle.krb_files.specs.Granted.{Kept, Cache}
+use Rattle.krb_files.specs.Ccache.{name_at, typed_at, times_typed_at, list_at, end_at, ticket_at, kept_of, credential_at, next_at, ccache_of}
 use Rattle.krb_files.specs.Grammar.{Then, Gives, Number, Counted, Passed, Principal, KeyField, Body}
-use Rattle.krb_files.specs.CcacheGrammar.{CacheName, Typed, TimesTyped, TypedList, TicketField, Credential, NoOctets, Credentials, SpellsCcache}
+use Rattle.krb_files.specs.CcacheGrammar.{CacheName, Typed, TimesTyped, TypedList, EndField, TicketField, Credential, NoOctets, Credentials, SpellsCcache}
 use Rattle.krb_files.proofs.Laws.{Law, Taken, stands, bind_ok, ok_is, then_law, gives_law, number_law, counted_law, passed_law}
 use Rattle.krb_files.proofs.FieldLaws.{principal_law, key_law}
 use Rattle.krb_files.proofs.WholeLaws.{WholeLaw, StepLaw, then_whole, body_found, body_only, magic_found}
@@ -38,14 +38,19 @@ list_law : Law list_at TypedList
 unfolding list_at
 list_law = then_law (number_at 4) (Number 4) (λ i count j. times_typed_at count j) TimesTyped (number_law 4) (λ i count. times_typed_law count)
 
+end_law : Law end_at EndField
+unfolding end_at
+end_law =
+    then_law (passed_at 8) (Passed 8) (λ i before j. number_at 4 j >>= (λ ends. passed_at 9 ends.1 >>= (λ behind. Ok (ends.0, behind.1)))) (λ before. Then (Number 4) (λ ends. Then (Passed 9) (λ behind. Gives ends)))
+    (passed_law 8)
+    (λ i before. then_law (number_at 4) (Number 4) (λ j ends k. passed_at 9 k >>= (λ behind. Ok (ends, behind.1))) (λ ends. Then (Passed 9) (λ behind. Gives ends))
+    (number_law 4)
+    (λ j ends. then_law (passed_at 9) (Passed 9) (λ k behind l. Ok (ends, l)) (λ behind. Gives ends) (passed_law 9) (λ k behind. gives_law ends)))
+
 ticket_law : Law ticket_at TicketField
 unfolding ticket_at
 ticket_law =
-    then_law (passed_at 21) (Passed 21)
-    (λ i times j. list_at j >>= (λ addresses. list_at addresses.1 >>= (λ authorization. counted_at 4 authorization.1 >>= (λ ticket. counted_at 4 ticket.1 >>= (λ second. Ok (ticket.0, second.1))))))
-    (λ times. Then TypedList (λ addresses. Then TypedList (λ authorization. Then (Counted 4) (λ ticket. Then (Counted 4) (λ second. Gives ticket)))))
-    (passed_law 21)
-    (λ i times. then_law list_at TypedList
+    then_law list_at TypedList
     (λ j addresses k. list_at k >>= (λ authorization. counted_at 4 authorization.1 >>= (λ ticket. counted_at 4 ticket.1 >>= (λ second. Ok (ticket.0, second.1)))))
     (λ addresses. Then TypedList (λ authorization. Then (Counted 4) (λ ticket. Then (Counted 4) (λ second. Gives ticket))))
     list_law
@@ -55,62 +60,67 @@ ticket_law =
     list_law
     (λ k authorization. then_law (counted_at 4) (Counted 4) (λ l ticket m. counted_at 4 m >>= (λ second. Ok (ticket, second.1))) (λ ticket. Then (Counted 4) (λ second. Gives ticket))
     (counted_law 4)
-    (λ l ticket. then_law (counted_at 4) (Counted 4) (λ m second n. Ok (ticket, n)) (λ second. Gives ticket) (counted_law 4) (λ m second. gives_law ticket)))))
+    (λ l ticket. then_law (counted_at 4) (Counted 4) (λ m second n. Ok (ticket, n)) (λ second. Gives ticket) (counted_law 4) (λ m second. gives_law ticket))))
 
-abbrev step : Next Granted → Input → Result (Next Granted × Input) FileRefusal
+abbrev step : Next Kept → Input → Result (Next Kept × Input) FileRefusal
 step next i = Ok (next, i)
 
 credential_law : Law credential_at Credential
 unfolding credential_at
 credential_law =
     then_law name_at CacheName
-    (λ i client j. name_at j >>= (λ server. key_at 4 server.1 >>= (λ key. ticket_at key.1 >>= (λ ticket. step (kept_of client server.0 key.0 ticket.0) ticket.1))))
-    (λ client. Then CacheName (λ server. Then (KeyField 4) (λ key. Then TicketField (λ ticket. Gives (kept_of client server key ticket)))))
+    (λ i client j. name_at j >>= (λ server. key_at 4 server.1 >>= (λ key. end_at key.1 >>= (λ ends. ticket_at ends.1 >>= (λ ticket. step (kept_of client server.0 key.0 ends.0 ticket.0) ticket.1)))))
+    (λ client. Then CacheName (λ server. Then (KeyField 4) (λ key. Then EndField (λ ends. Then TicketField (λ ticket. Gives (kept_of client server key ends ticket))))))
     name_law
     (λ i client. then_law name_at CacheName
-    (λ j server k. key_at 4 k >>= (λ key. ticket_at key.1 >>= (λ ticket. step (kept_of client server key.0 ticket.0) ticket.1)))
-    (λ server. Then (KeyField 4) (λ key. Then TicketField (λ ticket. Gives (kept_of client server key ticket))))
+    (λ j server k. key_at 4 k >>= (λ key. end_at key.1 >>= (λ ends. ticket_at ends.1 >>= (λ ticket. step (kept_of client server key.0 ends.0 ticket.0) ticket.1))))
+    (λ server. Then (KeyField 4) (λ key. Then EndField (λ ends. Then TicketField (λ ticket. Gives (kept_of client server key ends ticket)))))
     name_law
     (λ j server. then_law (key_at 4) (KeyField 4)
-    (λ k key l. ticket_at l >>= (λ ticket. step (kept_of client server key ticket.0) ticket.1))
-    (λ key. Then TicketField (λ ticket. Gives (kept_of client server key ticket)))
+    (λ k key l. end_at l >>= (λ ends. ticket_at ends.1 >>= (λ ticket. step (kept_of client server key ends.0 ticket.0) ticket.1)))
+    (λ key. Then EndField (λ ends. Then TicketField (λ ticket. Gives (kept_of client server key ends ticket))))
     (key_law 4)
-    (λ k key. then_law ticket_at TicketField (λ l ticket m. step (kept_of client server key ticket) m) (λ ticket. Gives (kept_of client server key ticket)) ticket_law
-    (λ l ticket. gives_law (kept_of client server key ticket)))))
+    (λ k key. then_law end_at EndField
+    (λ l ends m. ticket_at m >>= (λ ticket. step (kept_of client server key ends ticket.0) ticket.1))
+    (λ ends. Then TicketField (λ ticket. Gives (kept_of client server key ends ticket)))
+    end_law
+    (λ l ends. then_law ticket_at TicketField (λ m ticket n. step (kept_of client server key ends ticket) n) (λ ticket. Gives (kept_of client server key ends ticket)) ticket_law
+    (λ m ticket. gives_law (kept_of client server key ends ticket))))))
 
-kept_never : (test : Bool) (granted : Granted) → End ≡ cond test (Item granted) Other → ⊥
-kept_never true granted e = cc
-kept_never false granted e = cc
+kept_never : (test : Bool) (kept : Kept) → End ≡ cond test (Item kept) Other → ⊥
+kept_never true kept e = cc
+kept_never false kept e = cc
 
-never_ends : (client server : Name) (key : Option Key) (ticket octets : List ℕ) → Gives (kept_of client server key ticket) End octets → ⊥
-never_ends client server None ticket octets g = let e = g.value in cc
-never_ends client server (Some session) ticket octets g = kept_never (nat_le (length ticket) 60000) _ g.value
+never_ends : (client server : Name) (key : Option Key) (ends : ℕ) (ticket octets : List ℕ) → Gives (kept_of client server key ends ticket) End octets → ⊥
+never_ends client server None ends ticket octets g = let e = g.value in cc
+never_ends client server (Some session) ends ticket octets g = kept_never (nat_le (length ticket) 60000) _ g.value
 
 never : (octets : List ℕ) → Credential End octets → ⊥
 never octets t =
     let u = t.goes_on in
     let v = u.goes_on in
     let w = v.goes_on in
-    never_ends t.value u.value v.value w.value w.back w.goes_on
+    let x = w.goes_on in
+    never_ends t.value u.value v.value w.value x.value x.back x.goes_on
 
-abbrev FoundNext : Input → Input → Next Granted → Type 0
+abbrev FoundNext : Input → Input → Next Kept → Type 0
 FoundNext i j End = i.octets ≡ []
 FoundNext i j Other = Taken Credential Other i j
 FoundNext i j (Item granted) = Taken Credential (Item granted) i j
 
-found_none : (i j : Input) (next : Next Granted) → i.octets ≡ [] → step End i ≡ step next j → FoundNext i j next
+found_none : (i j : Input) (next : Next Kept) → i.octets ≡ [] → step End i ≡ step next j → FoundNext i j next
 found_none i j next none e =
-    let end : Next Granted × Input = (End, i) in
+    let end : Next Kept × Input = (End, i) in
     let same = ok_is end (next, j) e in
     let ends : FoundNext i j End = none in
-    subst (λ (n : Next Granted). FoundNext i j n) (ap (λ p. p.0) same) ends
+    subst (λ (n : Next Kept). FoundNext i j n) (ap (λ p. p.0) same) ends
 
-found_some : (i j : Input) (next : Next Granted) → Taken Credential next i j → FoundNext i j next
+found_some : (i j : Input) (next : Next Kept) → Taken Credential next i j → FoundNext i j next
 found_some i j End t = absurd (never t.front t.spells)
 found_some i j Other t = t
 found_some i j (Item granted) t = t
 
-next_found : (i j : Input) (next : Next Granted) → next_at i ≡ step next j → FoundNext i j next
+next_found : (i j : Input) (next : Next Kept) → next_at i ≡ step next j → FoundNext i j next
 unfolding next_at
 next_found i j next e =
     elim (chosen (length i.octets == 0) (step End i) (credential_at i) (step next j) e) [
@@ -129,11 +139,11 @@ next_some i some = rw (not_zero (length i.octets) some) refl
 name_octets : (name : Name) (octets : List ℕ) → CacheName name octets → 0 < length octets
 name_octets name octets t = some_octets t.front t.back octets 4 t.begins.sized (omega arith) t.same
 
-credential_octets : (next : Next Granted) (octets : List ℕ) → Credential next octets → 0 < length octets
+credential_octets : (next : Next Kept) (octets : List ℕ) → Credential next octets → 0 < length octets
 credential_octets next octets t =
     let some = name_octets t.value t.front t.begins in rw t.same (omega (arith, length-append t.front t.back))
 
-next_only : (next : Next Granted) (front back : List ℕ) (i : Input) → Credential next front → i.octets ≡ front ++ back → next_at i ≡ step next (stands back i)
+next_only : (next : Next Kept) (front back : List ℕ) (i : Input) → Credential next front → i.octets ≡ front ++ back → next_at i ≡ step next (stands back i)
 next_only next front back i t same =
     let some : 0 < length i.octets = let h = credential_octets next front t in rw same (omega (arith, length-append front back)) in
     next_some i some ∙ credential_law.only next front back i t same

@@ -2,7 +2,7 @@
 use Rattle.std.specs.Prelude.{◌≡◌, ℕ, zero, suc, List, [], ◌∷◌}
 use Rattle.gss_base.specs.Name.{Name}
 use Rattle.krb_files.specs.declared.pieces.Next.{Next}
-use Rattle.krb_files.specs.Granted.{Granted, Cache}
+use Rattle.krb_files.specs.Granted.{Kept, Cache}
 use Rattle.krb_files.specs.Ccache.{kept_of}
 use Rattle.krb_files.specs.Grammar.{Then, Gives, Number, Counted, Passed, Principal, KeyField, Body}
 
@@ -23,17 +23,22 @@ TimesTyped (suc n) = Then Typed (λ one. TimesTyped n)
 abbrev pub TypedList : Unit {0} → List ℕ → Type 0
 TypedList = Then (Number 4) TimesTyped
 
--- what stands behind the key: 21 octets of times and flags, addresses, authorization data, the
--- ticket, a second ticket
-abbrev pub TicketField : List ℕ → List ℕ → Type 0
-TicketField = Then (Passed 21) (λ times. Then TypedList (λ addresses. Then TypedList
-    (λ authorization. Then (Counted 4) (λ ticket. Then (Counted 4) (λ second. Gives ticket)))))
+-- the third of four times is the ticket's end; one octet and the flags stand behind them
+abbrev pub EndField : ℕ → List ℕ → Type 0
+EndField = Then (Passed 8) (λ before. Then (Number 4) (λ ends. Then (Passed 9)
+    (λ behind. Gives ends)))
 
--- a credential: the client, the server, the key, the ticket; whether it is one to keep is told by
--- its key and its ticket
-abbrev pub Credential : Next Granted → List ℕ → Type 0
+-- addresses, authorization data, the ticket, a second ticket
+abbrev pub TicketField : List ℕ → List ℕ → Type 0
+TicketField = Then TypedList (λ addresses. Then TypedList (λ authorization. Then (Counted 4)
+    (λ ticket. Then (Counted 4) (λ second. Gives ticket))))
+
+-- a credential: the client, the server, the key, the end, the ticket; whether it is one to keep is
+-- told by its key and its ticket
+abbrev pub Credential : Next Kept → List ℕ → Type 0
 Credential = Then CacheName (λ client. Then CacheName (λ server. Then (KeyField 4)
-    (λ key. Then TicketField (λ ticket. Gives (kept_of client server key ticket)))))
+    (λ key. Then EndField (λ ends. Then TicketField
+    (λ ticket. Gives (kept_of client server key ends ticket))))))
 
 -- the end of the file
 abbrev pub NoOctets : List ℕ → Type 0

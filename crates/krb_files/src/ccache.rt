@@ -5,8 +5,9 @@ ghost use Rattle.krb_files.specs.Fields.{Reads, Answers};
 ghost use Rattle.krb_files.specs.Pieces.{all_of};
 ghost use Rattle.krb_files.specs.Grammar.{ReadsWhole};
 ghost use Rattle.krb_files.specs.CcacheGrammar.{SpellsCcache};
-ghost use Rattle.krb_files.specs.Ccache.{name_at, typed_at, times_typed_at, list_at, ticket_at};
-ghost use Rattle.krb_files.specs.Ccache.{kept_of, credential_at, next_at, ccache_of, granted_for};
+ghost use Rattle.krb_files.specs.Ccache.{name_at, typed_at, times_typed_at, list_at, end_at};
+ghost use Rattle.krb_files.specs.Ccache.{ticket_at, kept_of, credential_at, next_at, ccache_of};
+ghost use Rattle.krb_files.specs.Ccache.{latest_from, granted_for};
 
 use crate::FileRefusal;
 use crate::fields::Fields;
@@ -61,11 +62,26 @@ impl Credential {
     }
 }
 
+/// A credential with its end, in seconds since the start of 1970.
+#[derive(Drop)]
+struct Entry {
+    credential: Credential,
+    ends: u32,
+}
+
+impl Model for Entry {
+    ghost use Rattle.krb_files.specs.Granted.{Kept};
+
+    ghost Value = { Kept };
+
+    ghost view = { λ e. record { granted = e.credential; ends = e.ends } };
+}
+
 /// The credentials of one principal. Contracts see a `Cache`.
 #[derive(Drop)]
 pub struct Ccache {
     principal: Principal,
-    credentials: Vec<Credential>,
+    credentials: Vec<Entry>,
 }
 
 impl Model for Ccache {
@@ -115,12 +131,22 @@ fn pass_list(fields: &mut Fields) -> Result<(), FileRefusal>
     pass_times_typed(fields, count)
 }
 
-/// The ticket, among what stands behind the key.
+/// The end, among the times and the flags.
+#[tactic(auto, unfolding(crate::specs::Ccache::end_at))]
+fn read_end(fields: &mut Fields) -> Result<u32, FileRefusal>
+    ensures { Reads (λ n. n) fields.new result (end_at fields.old) }
+{
+    fields.pass(8)?;
+    let ends = fields.number(4)?;
+    fields.pass(9)?;
+    Ok(ends)
+}
+
+/// The ticket, among what stands behind the times and the flags.
 #[tactic(auto, unfolding(crate::specs::Ccache::ticket_at))]
 fn read_ticket<'a>(fields: &mut Fields<'a>) -> Result<&'a [u8], FileRefusal>
     ensures { Reads (λ t. t.now) fields.new result (ticket_at fields.old) }
 {
-    fields.pass(21)?;
     pass_list(fields)?;
     pass_list(fields)?;
     let ticket = fields.counted(4)?;
@@ -134,9 +160,10 @@ fn kept(
     client: Principal,
     server: Principal,
     key: Option<Key>,
+    ends: u32,
     ticket: &[u8],
-) -> Result<Next<Credential>, NoMemory>
-    ensures { IfOk result (λ n. n ≡ kept_of client server key ticket.now) }
+) -> Result<Next<Entry>, NoMemory>
+    ensures { IfOk result (λ n. n ≡ kept_of client server key ends ticket.now) }
 {
     let Some(session) = key else {
         return Ok(Next::Other);
@@ -145,30 +172,32 @@ fn kept(
         return Ok(Next::Other);
     }
     let ticket = Octets::of(alloc, ticket)?;
-    Ok(Next::Item(Credential {
+    let credential = Credential {
         client,
         server,
         session,
         ticket,
-    }))
+    };
+    Ok(Next::Item(Entry { credential, ends }))
 }
 
 /// The next credential.
 #[tactic(auto, unfolding(crate::specs::Ccache::credential_at))]
-fn read_credential(alloc: Global, fields: &mut Fields) -> Result<Next<Credential>, FileRefusal>
+fn read_credential(alloc: Global, fields: &mut Fields) -> Result<Next<Entry>, FileRefusal>
     ensures { Reads (λ n. n) fields.new result (credential_at fields.old) }
 {
     let client = read_name(alloc, fields)?;
     let server = read_name(alloc, fields)?;
     let key = read_key(fields, 4)?;
+    let ends = read_end(fields)?;
     let ticket = read_ticket(fields)?;
-    let next = kept(alloc, client, server, key, ticket)?;
+    let next = kept(alloc, client, server, key, ends, ticket)?;
     Ok(next)
 }
 
 /// What stands next.
 #[tactic(auto, unfolding(crate::specs::Ccache::next_at))]
-fn read_next(alloc: Global, fields: &mut Fields) -> Result<Next<Credential>, FileRefusal>
+fn read_next(alloc: Global, fields: &mut Fields) -> Result<Next<Entry>, FileRefusal>
     ensures { Reads (λ n. n) fields.new result (next_at fields.old) }
 {
     if fields.left() == 0 {
@@ -178,7 +207,7 @@ fn read_next(alloc: Global, fields: &mut Fields) -> Result<Next<Credential>, Fil
 }
 
 /// All credentials that are kept.
-fn credentials(alloc: Global, fields: &mut Fields) -> Result<Vec<Credential>, FileRefusal>
+fn credentials(alloc: Global, fields: &mut Fields) -> Result<Vec<Entry>, FileRefusal>
     ensures { Answers (λ v. v.items) result (all_of next_at fields.old) }
 {
     let mut credentials = Vec::new(alloc);
@@ -217,25 +246,32 @@ pub fn read_ccache(alloc: Global, bytes: &[u8]) -> Result<Ccache, FileRefusal>
     ccache_in(alloc, bytes)
 }
 
-/// The first credential for this server.
-fn first_for<'a>(credentials: &'a [Credential], server: &Principal) -> Option<&'a Credential>
-    ensures { option_copied result ≡ granted_for server.now credentials.now }
+/// The entry for this server that ends last.
+fn latest_for<'a>(entries: &'a [Entry], server: &Principal) -> Option<&'a Entry>
+    ensures { option_copied result ≡ latest_from server.now None entries.now }
 {
-    for credential in credentials {
-        if credential.server == *server {
-            return Some(credential);
+    let mut found: Option<&Entry> = None;
+    for entry in entries {
+        if entry.credential.server == *server {
+            found = match found {
+                Some(best) if entry.ends <= best.ends => Some(best),
+                _ => Some(entry),
+            };
         }
     }
-    None
+    found
 }
 
 impl Ccache {
-    /// The first credential, in the file's order, for this server, of those whose key is of a known type and whose ticket
-    /// has at most 60,000 octets.
+    /// The credential for this server that ends last, of those whose key is of a known type and whose ticket has at most 60,000 octets;
+    /// of those that end alike, the first in the file's order.
     pub fn find(&self, server: &Principal) -> Option<&Credential>
         ensures { option_copied result ≡ granted_for server.now self.now.credentials }
     {
-        first_for(self.credentials.as_slice(), server)
+        match latest_for(self.credentials.as_slice(), server) {
+            Some(entry) => Some(&entry.credential),
+            None => None,
+        }
     }
 
     /// Whose credentials they are.
