@@ -30,7 +30,7 @@ def libraries_of_crates():
     """The names of the libraries that each crate uses, by its name, as crates.txt has them."""
     with open(os.path.join(HERE, "..", "crates.txt"), encoding="utf-8") as file:
         lines = [line.partition(":") for line in file if line.strip() and not line.startswith("#")]
-    return {name.strip(): libraries.split() for name, _, libraries in lines}
+    return {name.split()[0]: libraries.split() for name, _, libraries in lines}
 
 
 def below(names, libraries):

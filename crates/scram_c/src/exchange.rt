@@ -1,7 +1,8 @@
 //! What a handle holds: an exchange, and how a step changes it.
 
-ghost use Rattle.std.specs.Prelude.{◌≡◌, ◌≢◌, Ok, IfOk, option_map};
+ghost use Rattle.std.specs.Prelude.{◌≡◌, ◌≢◌, IfOk, option_map};
 ghost use Rattle.scram_mech.specs.declared.refusal.ScramRefusal.TheVariants as refusals;
+ghost use Rattle.scram_c.specs.Status.{status_number, no_memory};
 ghost use Rattle.scram_c.specs.Steps.{goes_on, stands, standing, refused_by, unchanged, changed};
 ghost use Rattle.scram_c.specs.Steps.{first_went, wait_went, due_went, accept_went, stepped};
 
@@ -93,20 +94,37 @@ fn stands(side: Side, done: &MechDone, token: Option<Octets>) -> Went
     }
 }
 
-/// The exchange is over, by this cause; want of memory leaves it as it was.
-fn refused(refusal: ScramRefusal) -> Result<Went, NoMemory>
-    ensures { (refusal ≢ refusals.NoMemory → result ≡ Ok (refused_by refusal)) }
+/// The exchange is over, by this cause.
+fn over(refusal: ScramRefusal) -> Went
+    ensures { result ≡ refused_by refusal }
 {
-    if let ScramRefusal::NoMemory = refusal {
-        return Err(NoMemory);
-    }
-    Ok(Went {
+    Went {
         status: Status::Scram(refusal),
         change: Some(Change {
             stage: Stage::Over,
             token: None,
         }),
-    })
+    }
+}
+
+/// What a refusal brings: want of memory leaves the exchange as it was, each other cause ends it.
+fn refused(refusal: ScramRefusal) -> Result<Went, NoMemory>
+    ensures over { IfOk result (λ w. w ≡ refused_by refusal) }
+    ensures cause { IfOk result (λ _. refusal ≢ refusals.NoMemory) }
+    ensures told { IfOk result (λ w. status_number w.status ≢ no_memory) }
+{
+    match refusal {
+        ScramRefusal::Text { at } => Ok(over(ScramRefusal::Text { at })),
+        ScramRefusal::Mandatory => Ok(over(ScramRefusal::Mandatory)),
+        ScramRefusal::Nonce => Ok(over(ScramRefusal::Nonce)),
+        ScramRefusal::Rounds => Ok(over(ScramRefusal::Rounds)),
+        ScramRefusal::NoUser => Ok(over(ScramRefusal::NoUser)),
+        ScramRefusal::Bindings => Ok(over(ScramRefusal::Bindings)),
+        ScramRefusal::Proof => Ok(over(ScramRefusal::Proof)),
+        ScramRefusal::Signature => Ok(over(ScramRefusal::Signature)),
+        ScramRefusal::PeerError => Ok(over(ScramRefusal::PeerError)),
+        ScramRefusal::NoMemory => Err(NoMemory),
+    }
 }
 
 /// Nothing changes.
@@ -121,7 +139,8 @@ fn unchanged(status: Status) -> Went
 
 /// The acceptor's first text.
 fn after_first(alloc: Global, end: &ScramInit, token: &[u8]) -> Result<Went, NoMemory>
-    ensures { IfOk result (λ w. w ≡ first_went end.now token.now) }
+    ensures went { IfOk result (λ w. w ≡ first_went end.now token.now) }
+    ensures told { IfOk result (λ w. status_number w.status ≢ no_memory) }
 {
     match end.answered(alloc, token) {
         Ok((end, token)) => Ok(goes_on(Stage::Wait(end), token)),
@@ -131,7 +150,8 @@ fn after_first(alloc: Global, end: &ScramInit, token: &[u8]) -> Result<Went, NoM
 
 /// The acceptor's signature.
 fn after_wait(alloc: Global, end: &ScramWait, token: &[u8]) -> Result<Went, NoMemory>
-    ensures { IfOk result (λ w. w ≡ wait_went end.now token.now) }
+    ensures went { IfOk result (λ w. w ≡ wait_went end.now token.now) }
+    ensures told { IfOk result (λ w. status_number w.status ≢ no_memory) }
 {
     match end.finished(alloc, token) {
         Ok(done) => Ok(stands(Side::Initiator, &done, None)),
@@ -146,8 +166,9 @@ fn after_due(
     token: &[u8],
     nonce: &[u8; 18],
 ) -> Result<Went, NoMemory>
-    ensures { IfOk result (λ w. w
+    ensures went { IfOk result (λ w. w
         ≡ due_went (option_map (λ v. v.now) users.entry) token.now nonce.now) }
+    ensures told { IfOk result (λ w. status_number w.status ≢ no_memory) }
 {
     let Some(users) = users else {
         return Ok(unchanged(Status::NoVerifiers));
@@ -166,8 +187,9 @@ fn after_accept(
     token: &[u8],
     now: Moment,
 ) -> Result<Went, NoMemory>
-    ensures { IfOk result (λ w. w
+    ensures went { IfOk result (λ w. w
         ≡ accept_went end.now (option_map (λ b. b.now) bindings.entry) token.now now) }
+    ensures told { IfOk result (λ w. status_number w.status ≢ no_memory) }
 {
     match end.finished(alloc, token, bindings, now) {
         Ok((done, token)) => Ok(stands(Side::Acceptor, &done, Some(token))),
@@ -186,8 +208,10 @@ impl Exchange {
         now: Moment,
         nonce: &[u8; 18],
     ) -> Result<Went, NoMemory>
-        ensures { IfOk result (λ w. w
+        ensures went { IfOk result (λ w. w
             ≡ stepped self.now (option_map (λ v. v.now) users.entry) token.now now nonce.now) }
+        // want of memory is the Err alone
+        ensures told { IfOk result (λ w. status_number w.status ≢ no_memory) }
     {
         match &self.stage {
             Stage::First(end) => after_first(alloc, end, token),

@@ -2,4 +2,10 @@
 #![tactic(auto)]
 
 mod exchange;
+mod listing;
+mod messages;
+mod opening;
+mod scram_handle;
 mod status;
+mod telling;
+mod verifiers_handle;
