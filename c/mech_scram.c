@@ -317,7 +317,7 @@ OM_uint32 gss_accept_sec_context(OM_uint32 *minor, gss_ctx_id_t *ctx, gss_cred_i
     pthread_mutex_unlock(&c->lock);
     if (mech) *mech = &scram_oid;
     if (flags) *flags = FLAGS;
-    if (time) *time = 86400;
+    if (time) *time = status == VM_DONE ? left_of(c) : 0;
     if (delegated) *delegated = GSS_C_NO_CREDENTIAL;
     return major;
 }

@@ -38,24 +38,35 @@ stays old status = record { status = status; held = old }
 abbrev pub given : List ℕ → Option (List ℕ)
 given application = if nat_eq (length application) 0 then None else Some application
 
+-- application data that an exchange may carry have so many octets at most
+abbrev pub most_bindings : ℕ
+most_bindings = 32768
+
 -- ---- beginning
 
 -- an exchange whose first token is to be sent
-abbrev pub begun_with : Option Exchange → Option (List ℕ) → Result InitStarted ScramRefusal → Answer Exchange
+abbrev pub begun_with : Option Exchange → Option (List ℕ) → Result InitStarted ScramRefusal
+    → Answer Exchange
 begun_with old bindings (Ok begun) = record {
   status = statuses.More;
-  held = Some (record { stage = stages.First begun.end; bindings = bindings; token = Some begun.token });
+  held = Some (record {
+    stage = stages.First begun.end;
+    bindings = bindings;
+    token = Some begun.token;
+  });
 }
 begun_with old bindings (Err refusal) = stays old (statuses.Scram refusal)
 
 -- an initiator's exchange, by user, password, drawn octets and bindings
 abbrev pub begun : Option Exchange → List ℕ → List ℕ → List ℕ → List ℕ → Answer Exchange
-begun old user password nonce application = if nat_lt 32768 (length application) then stays old statuses.LongBindings
+begun old user password nonce application =
+    if nat_lt most_bindings (length application) then stays old statuses.LongBindings
     else begun_with old (given application) (init_started user password nonce (given application))
 
 -- an acceptor to whom nothing came
 abbrev pub awaiting : Option Exchange → List ℕ → Answer Exchange
-awaiting old application = if nat_lt 32768 (length application) then stays old statuses.LongBindings
+awaiting old application =
+    if nat_lt most_bindings (length application) then stays old statuses.LongBindings
     else record {
       status = statuses.Done;
       held = Some (record { stage = stages.Due; bindings = given application; token = None });
@@ -66,7 +77,8 @@ awaiting old application = if nat_lt 32768 (length application) then stays old s
 abbrev pub went_in : Exchange → Went → Answer Exchange
 went_in exchange went = record { status = went.status; held = Some (changed exchange went) }
 
-abbrev pub step_answer : Option Exchange → Option (List Verifier) → List ℕ → ℕ → List ℕ → Answer Exchange
+abbrev pub step_answer : Option Exchange → Option (List Verifier) → List ℕ → ℕ → List ℕ
+    → Answer Exchange
 step_answer None users token micros nonce = stays None statuses.Empty
 step_answer (Some exchange) users token micros nonce =
     went_in exchange (stepped exchange users token (min micros greatest_moment) nonce)
@@ -157,7 +169,8 @@ counted (Some exchange) = Some (record exchange { stage = counted_in exchange.st
 
 -- ---- verifiers
 
-abbrev pub read_into : Option (List Verifier) → Result (List Verifier) VerifierRefusal → Answer (List Verifier)
+abbrev pub read_into : Option (List Verifier) → Result (List Verifier) VerifierRefusal
+    → Answer (List Verifier)
 read_into old (Ok users) = record { status = statuses.Done; held = Some users }
 read_into old (Err (lines.Line number)) = stays old statuses.Line
 read_into old (Err (lines.Twice number)) = stays old statuses.Twice

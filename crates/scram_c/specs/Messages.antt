@@ -37,7 +37,8 @@ wrap_opened token None = None
 wrap_opened token (Some context) = Some (unwrapped context.end token)
 
 -- its octets are handed out
-abbrev pub opened_status : Option Exchange → List ℕ → Option (Result Unwrapped TokenRefusal) → Status
+abbrev pub opened_status : Option Exchange → List ℕ → Option (Result Unwrapped TokenRefusal)
+    → Status
 opened_status held room None = absent held
 opened_status held room (Some (Err refusal)) = statuses.Token refusal
 opened_status held room (Some (Ok opened)) = room_status room opened.content

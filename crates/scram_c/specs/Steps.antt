@@ -79,7 +79,8 @@ accept_went end bindings token now =
     (seen accepting (accept_finished end token bindings now))
 
 -- what comes of the other end's token
-abbrev pub stage_went : Stage → Option (List ℕ) → Option (List Verifier) → List ℕ → ℕ → List ℕ → Went
+abbrev pub stage_went : Stage → Option (List ℕ) → Option (List Verifier) → List ℕ → ℕ → List ℕ
+    → Went
 stage_went (stages.First end) bindings users token now nonce = first_went end token
 stage_went (stages.Wait end) bindings users token now nonce = wait_went end token
 stage_went stages.Due bindings users token now nonce = due_went users token nonce
