@@ -175,10 +175,10 @@ impl ScramAccept {
         self.finished(alloc, text, bindings, now)
     }
 
-    /// What `finish` answers.
+    /// What `finish` answers; the end stays.
     /// It stands apart, so that its definition is unfolded here alone, and the other clauses are proved from what is said here.
     #[tactic(auto, unfolding(crate::specs::Acceptor::accept_finished, crate::specs::Secrets::context_key))]
-    fn finished(
+    pub fn finished(
         &self,
         alloc: Global,
         text: &[u8],

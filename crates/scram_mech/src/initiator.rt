@@ -166,8 +166,9 @@ impl ScramInit {
         let _data = data_of(self.bindings.as_ref());
     }
 
+    /// What `take_first` answers; the end stays.
     #[tactic(auto, unfolding(crate::specs::Initiator::init_answered, crate::specs::Secrets::proof_of))]
-    fn answered(&self, alloc: Global, text: &[u8]) -> Result<(ScramWait, Octets), ScramRefusal>
+    pub fn answered(&self, alloc: Global, text: &[u8]) -> Result<(ScramWait, Octets), ScramRefusal>
         ensures { Gives refusals.NoMemory (λ p. record { end = p.0; token = p.1 }) result
             (seen proving (init_answered self.now text.now)) }
     {
@@ -256,9 +257,9 @@ impl ScramWait {
         self.finished(alloc, text)
     }
 
-    /// What `take_final` answers.
+    /// What `take_final` answers; the end stays.
     #[tactic(auto, unfolding(crate::specs::Initiator::init_finished, crate::specs::Secrets::signature_of))]
-    fn finished(&self, alloc: Global, text: &[u8]) -> Result<MechDone, ScramRefusal>
+    pub fn finished(&self, alloc: Global, text: &[u8]) -> Result<MechDone, ScramRefusal>
         ensures { Gives refusals.NoMemory (λ d. d) result
             (seen (λ f. f.done) (init_finished self.now text.now)) }
     {

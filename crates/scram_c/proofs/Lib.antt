@@ -1,0 +1,2 @@
+pub mod ScramSlots
+pub mod VerifierSlots
