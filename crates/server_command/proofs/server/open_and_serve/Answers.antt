@@ -8,7 +8,7 @@ use Rattle.server_command.proofs.server.open_and_serve.Goals as goal
 
 pub returns-in-Ok-clause-booked : goal.returns-in-Ok-clause-booked
 returns-in-Ok-clause-booked g c =
-    let limit : c.run_limit.result ≡ run_limit c.args.options.connections (length c.args.desks.now.items) = c.run_limit.ensures ∙ ap (run_limit c.args.options.connections) (c.len.ensures ∙ c.args.desks.now.ok.0) in
+    let limit : c.run_limit-connections.result ≡ run_limit c.args.options.connections (length c.args.desks.now.items) = c.run_limit-connections.ensures ∙ ap (run_limit c.args.options.connections) (c.len.ensures ∙ c.args.desks.now.ok.0) in
     ⊎_elim (λ none. inl none) (λ one. inr (began-as (λ book e. subst (λ (b : BookOf). IsOpened c.args.options c.args.keys c.args.start b) (sym e) c.in-Ok.ensures.opened) limit one)) c.run_book.ensures.served
 
 pub returns-in-Ok-clause-limits : goal.returns-in-Ok-clause-limits
