@@ -1,5 +1,5 @@
 -- The headline of the log that a run of the server returns.
-use Rattle.std.proofs.Common.{◌≡◌, ◌∙◌, ℕ, zero, suc, ◌<◌, Bool, true, false, refl, ap, sym, subst, arith, List, [], ◌∷◌, length, replicate, reverse, slice_get, Option, Some, None, Result, Ok, Err, if◌then◌else◌}
+use Rattle.std.proofs.Common.{◌≡◌, ◌∙◌, ℕ, zero, suc, ◌<◌, Bool, true, false, refl, ap, sym, subst, arith, List, length, replicate, reverse, slice_get, Option, Some, None, Result, Ok, Err, if◌then◌else◌}
 use Rattle.sec_base.specs.Answers.{Gives}
 use Rattle.sec_base.specs.declared.shelf.NamedFile.{NamedFile}
 use Rattle.sec_base.specs.declared.shelf.Shelf as shelves
@@ -20,7 +20,7 @@ use Rattle.cli_base.specs.declared.files.FileStop.{FileStop}
 use Rattle.gss_server.specs.declared.answer.Kept.{Kept}
 use Rattle.gss_server.specs.declared.connection.Served.{Served}
 use Rattle.gss_server.specs.declared.keeper.Keeper as keepers
-use Rattle.server_options.specs.Keys.{verifiers_by, verifiers_in, keys_with, WithVerifiers, BehindKeytab, KeysFrom}
+use Rattle.server_options.specs.Keys.{verifiers_by, verifiers_in, keys_with, BehindKeytab, KeysFrom}
 use Rattle.server_options.specs.declared.ending.RunEnd.{RunEnd}
 use Rattle.server_options.specs.declared.ending.RunEnd.TheVariants.{NoKey, NoMemory}
 use Rattle.server_options.specs.declared.keys.Keys.{Keys}
@@ -28,10 +28,10 @@ use Rattle.server_options.specs.declared.options.Files.{Files}
 use Rattle.krb_files.specs.Keytab.{is_served}
 use Rattle.world_laws.specs.Events.{Begins}
 use Rattle.world_laws.specs.Headline.{Headline, StandsOnce}
-use Rattle.world_laws.specs.State.{InHand, World}
+use Rattle.world_laws.specs.State.{InHand}
 use Rattle.world_runs.proofs.Beginning.{begins}
 use Rattle.server_laws.specs.Beside.{AreFree}
-use Rattle.server_laws.specs.ServerHeadline.{world_of, AreInitiators, ServerHeadline}
+use Rattle.server_laws.specs.ServerHeadline.{world_of, ServerHeadline}
 use Rattle.server_laws.specs.ServerRun.{opened_book}
 use Rattle.server_laws.proofs.Desks.{server-run}
 use Rattle.server_laws.proofs.Openings.{opened}
@@ -40,7 +40,10 @@ use Rattle.server_laws.proofs.Openings.{opened}
 
 read-lines : Laws → (users : List Verifier) (octets : List ℕ) (read : Result (List Verifier) VerifierRefusal) → verifiers_of octets ≡ read → verifiers_by read ≡ Ok users → AreLines users
 read-lines laws users octets (Err refusal) is e = grind (arith, e)
-read-lines laws users octets (Ok lines) is e = (laws.file_found octets users (is ∙ e)).each
+read-lines laws users octets (Ok lines) is e = subst AreLines (same lines users e) (laws.file_found octets lines is).each
+  where
+    same : (a b : List Verifier) → ◌≡◌ {A = Result (List Verifier) RunEnd} (Ok a) (Ok b) → a ≡ b
+    same a b e = grind (arith, e)
 
 answered-lines : Laws → (users : List Verifier) (answer : Result (List ℕ) FileStop) → verifiers_in answer ≡ Ok users → AreLines users
 answered-lines laws users (Err stop) e = grind (arith, e)
