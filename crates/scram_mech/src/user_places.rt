@@ -8,7 +8,7 @@ use sec_base::NoMemory;
 use std::alloc::Global;
 use std::collections::BTreeMap;
 
-/// The places of names, in a tree: a name that isn't there is looked up in as many steps as one that is.
+/// The places of names, in a tree: each is looked up in steps by the logarithm of their number, whether it is there or not.
 #[derive(Drop)]
 pub(crate) struct Places {
     by_name: BTreeMap<Vec<u8>, usize>,
