@@ -6,7 +6,10 @@ use Rattle.std.proofs.lemmas.List.{length-append, append-nil}
 use Rattle.sec_base.specs.Link.{Wire}
 use Rattle.rpc_msgs.specs.Words.{word}
 use Rattle.rpc_msgs.specs.Records.{more_fragment, last_fragment, frames, joined, IsFront, IsWhole, IsPartial, TakesRecord}
-use Rattle.rpc_msgs.specs.Fragments.{Adds, Allows, Begins, Heads, TakesContent, TakesAnnounced, TakesFragment}
+use Rattle.sec_base.specs.Contents.{TakesContent}
+use Rattle.sec_base.specs.declared.transfer.ContentRefusal.{ContentRefusal}
+use Rattle.sec_base.specs.declared.transfer.ContentRefusal.TheVariants as contents
+use Rattle.rpc_msgs.specs.Fragments.{Adds, Allows, Begins, Heads, TakesAnnounced, TakesFragment}
 use Rattle.rpc_msgs.specs.declared.record.Fragment.{Fragment}
 use Rattle.rpc_msgs.specs.declared.record.Fragment.TheVariants.{More, Last, End}
 use Rattle.rpc_msgs.specs.declared.record.RecordRefusal.{RecordRefusal}
@@ -131,13 +134,15 @@ announced-torn a b xs ys n header few fits false e t =
     let all : a.coming ≡ t.0 = t.3.took.coming ∙ (ap (λ (zs : List ℕ). t.0 ++ zs) t.2 ∙ append-nil t.0) in
     (few, fits, subst (λ (zs : List ℕ). length zs < header % 2 ^ 31) (sym all) t.1, took-same t.3.took (sym all))
 
--- what a header announces was not read, since its octets were not
-pub announced-refused : (a b : Wire) (xs ys : List ℕ) (n header : ℕ) (refusal : RecordRefusal) → n < 64 → length xs + header % 2 ^ 31 ≤ 131072 → TakesContent a b xs ys (header % 2 ^ 31) (Err refusal) → TakesAnnounced a b xs ys n header (Err refusal)
-announced-refused a b xs ys n header LinkFault few fits t = (t.0, few, fits, t.1, t.2)
-announced-refused a b xs ys n header TooLong few fits t = absurd t
-announced-refused a b xs ys n header TooManyFragments few fits t = absurd t
-announced-refused a b xs ys n header Torn few fits t = absurd t
-announced-refused a b xs ys n header NoMemory few fits t = (t.0, few, fits, t.1, t.2)
+-- what a header announces was not read, since the link failed
+pub announced-fault : (a b : Wire) (xs ys : List ℕ) (n header : ℕ) → n < 64 → length xs + header % 2 ^ 31 ≤ 131072 → (refusal : ContentRefusal) → refusal ≡ contents.LinkFault → TakesContent a b xs ys (header % 2 ^ 31) (Err refusal) → TakesAnnounced a b xs ys n header (Err LinkFault)
+announced-fault a b xs ys n header few fits contents.LinkFault e t = (t.0, few, fits, t.1, t.2)
+announced-fault a b xs ys n header few fits contents.NoMemory e t = absurd cc
+
+-- what a header announces was not read for want of memory
+pub announced-memory : (a b : Wire) (xs ys : List ℕ) (n header : ℕ) → n < 64 → length xs + header % 2 ^ 31 ≤ 131072 → (refusal : ContentRefusal) → refusal ≡ contents.NoMemory → TakesContent a b xs ys (header % 2 ^ 31) (Err refusal) → TakesAnnounced a b xs ys n header (Err NoMemory)
+announced-memory a b xs ys n header few fits contents.LinkFault e t = absurd cc
+announced-memory a b xs ys n header few fits contents.NoMemory e t = (t.0, few, fits, t.1, t.2)
 
 -- what a header announces may not come
 pub announced-denied : (a : Wire) (xs : List ℕ) (n held header : ℕ) (refusal : RecordRefusal) → held ≡ length xs → Allows n held (header % 2 ^ 31) (Err refusal) → TakesAnnounced a a xs xs n header (Err refusal)

@@ -1,4 +1,3 @@
-pub mod ContentSteps
 pub mod FragmentSteps
 pub mod InARow
 pub mod Readings

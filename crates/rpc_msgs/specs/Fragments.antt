@@ -1,8 +1,9 @@
 -- What reading one fragment took of the stream.
-use Rattle.std.specs.Prelude.{◌≡◌, ℕ, ◌+◌, ◌%◌, ◌<◌, ◌≤◌, ◌^◌, Bool, true, false, List, [], ◌++◌}
+use Rattle.std.specs.Prelude.{◌≡◌, ℕ, ◌+◌, ◌%◌, ◌<◌, ◌≤◌, ◌^◌, List, [], ◌++◌}
 use Rattle.std.specs.Prelude.{length, Option, Some, None, Result, Ok, Err}
 use Rattle.sec_base.specs.Link.{Wire}
 use Rattle.sec_base.specs.Streams.{Took}
+use Rattle.sec_base.specs.Contents.{Grows}
 use Rattle.rpc_msgs.specs.Words.{word}
 use Rattle.rpc_msgs.specs.Records.{more_fragment, last_fragment, frames, joined, IsPartial}
 use Rattle.rpc_msgs.specs.declared.record.Fragment.{Fragment}
@@ -11,37 +12,6 @@ use Rattle.rpc_msgs.specs.declared.record.RecordRefusal.{RecordRefusal}
 use Rattle.rpc_msgs.specs.declared.record.RecordRefusal.TheVariants.{LinkFault, TooLong}
 use Rattle.rpc_msgs.specs.declared.record.RecordRefusal.TheVariants.{TooManyFragments, Torn}
 use Rattle.rpc_msgs.specs.declared.record.RecordRefusal.TheVariants.{NoMemory}
-
--- these octets were read behind those that were there
-pub record Grows (old new : Wire) (before after part : List ℕ) : Type 0 where
-  pub grown : after ≡ before ++ part
-  pub took : Took old new part
-
--- at most so many octets were read, fewer only where the input ended
-abbrev pub TakesPiece : Wire → Wire → List ℕ → List ℕ → ℕ → Result ℕ RecordRefusal → Type 0
-TakesPiece old new before after most (Ok count) = (part : List ℕ) × (length part ≡ count)
-    × (count < most → new.coming ≡ []) × Grows old new before after part
-TakesPiece old new before after most (Err LinkFault) =
-    (part : List ℕ) × (length part < most) × Took old new part
-TakesPiece old new before after most (Err TooLong) = ⊥
-TakesPiece old new before after most (Err TooManyFragments) = ⊥
-TakesPiece old new before after most (Err Torn) = ⊥
-TakesPiece old new before after most (Err NoMemory) =
-    (part : List ℕ) × (length part ≤ most) × Took old new part
-
--- so many octets were read, or those up to the end of input where fewer came
-abbrev pub TakesContent : Wire → Wire → List ℕ → List ℕ → ℕ → Result Bool RecordRefusal → Type 0
-TakesContent old new before after count (Ok true) =
-    (part : List ℕ) × (length part ≡ count) × Grows old new before after part
-TakesContent old new before after count (Ok false) =
-    (part : List ℕ) × (length part < count) × (new.coming ≡ []) × Grows old new before after part
-TakesContent old new before after count (Err LinkFault) =
-    (part : List ℕ) × (length part < count) × Took old new part
-TakesContent old new before after count (Err TooLong) = ⊥
-TakesContent old new before after count (Err TooManyFragments) = ⊥
-TakesContent old new before after count (Err Torn) = ⊥
-TakesContent old new before after count (Err NoMemory) =
-    (part : List ℕ) × (length part ≤ count) × Took old new part
 
 -- a fragment was read whole behind those that were there
 pub record Adds (old new : Wire) (before after part framed : List ℕ) : Type 0 where

@@ -3,15 +3,14 @@
 ghost use Rattle.std.specs.Prelude.{◌≡◌, ◌+◌, ◌-◌, ◌^◌, ◌<◌, ◌≤◌, true, false, length, take};
 ghost use Rattle.std.specs.Prelude.{vec_len, IsTrue, Ok, OnOk, IfOk, OnErr, IsErrOf};
 ghost use Rattle.sec_base.specs.Answers.{Rose};
-ghost use Rattle.rpc_msgs.specs.Fragments.{TakesFragment, TakesHeader, TakesAnnounced};
-ghost use Rattle.rpc_msgs.specs.Fragments.{TakesContent, TakesPiece, Allows};
+ghost use Rattle.rpc_msgs.specs.Fragments.{TakesFragment, TakesHeader, TakesAnnounced, Allows};
 ghost use Rattle.rpc_msgs.specs.Reading.{Finds, first_record};
 ghost use Rattle.rpc_msgs.specs.Records.{TakesRecord, last_fragment};
 ghost use Rattle.sec_base.specs.Streams.{Sends};
 ghost use Rattle.rpc_msgs.specs.Words.{word};
 
 use crate::xdr_reader::word_of;
-use sec_base::transfer::{fill, send};
+use sec_base::transfer::{ContentRefusal, fill, read_content, send};
 use sec_base::{Link, LinkFault, Octets};
 use std::alloc::Global;
 
@@ -23,9 +22,6 @@ const FRAGMENTS: u32 = 64;
 
 /// The top bit of a fragment's header, which marks the last one.
 const LAST: u32 = 0x8000_0000;
-
-/// The octets of the first piece that is read of a fragment. A later piece has as many as were read of the record, where these are more.
-const PIECE: usize = 8192;
 
 /// The buffer in which a short record is framed, which is filled with zeros first.
 const SMALL_FRAME: usize = 256;
@@ -181,7 +177,8 @@ fn read_announced<L: Link>(
         Ok(true) if header >= LAST => Ok(Fragment::Last),
         Ok(true) => Ok(Fragment::More),
         Ok(false) => Err(RecordRefusal::Torn),
-        Err(refusal) => Err(refusal),
+        Err(ContentRefusal::LinkFault) => Err(RecordRefusal::LinkFault),
+        Err(ContentRefusal::NoMemory) => Err(RecordRefusal::NoMemory),
     }
 }
 
@@ -199,84 +196,6 @@ fn allow(number: u32, held: usize, size: usize) -> Result<(), RecordRefusal>
         return Err(RecordRefusal::TooManyFragments);
     }
     Ok(())
-}
-
-/// Reads so many octets behind those that are there; false where the input ended before.
-fn read_content<L: Link>(
-    link: &mut L,
-    octets: &mut Vec<u8>,
-    length: usize,
-) -> Result<bool, RecordRefusal>
-    requires unclosed { L.closed link.old ≡ false }
-    requires room { vec_len octets.old + length ≤ 131072 }
-    ensures told { IsTrue (L.tells link.old) → TakesContent (L.wire link.old) (L.wire link.new)
-        octets.old.items octets.new.items length result }
-    ensures size { result ≡ Ok true → vec_len octets.new ≡ vec_len octets.old + length }
-    ensures tells { L.tells link.new ≡ L.tells link.old }
-    ensures unclosed { L.closed link.new ≡ false }
-    ensures fault { IsErrOf result RecordRefusal.LinkFault
-        → Rose (L.faults link.old) (L.faults link.new) }
-    ensures faults { L.faults link.old ≤ L.faults link.new }
-{
-    let mut left = length;
-    while left > 0 {
-        let part = left.min(octets.len().max(PIECE));
-        match read_piece(link, octets, part) {
-            Ok(count) if count < part => return Ok(false),
-            Ok(_) => left -= part,
-            Err(refusal) => return Err(refusal),
-        }
-    }
-    Ok(true)
-}
-
-/// Reads at most so many octets behind those that are there, to where they stay, fewer only where the input ends.
-fn read_piece<L: Link>(
-    link: &mut L,
-    octets: &mut Vec<u8>,
-    length: usize,
-) -> Result<usize, RecordRefusal>
-    requires unclosed { L.closed link.old ≡ false }
-    requires room { vec_len octets.old + length ≤ 131072 }
-    ensures told { IsTrue (L.tells link.old) → TakesPiece (L.wire link.old) (L.wire link.new)
-        octets.old.items octets.new.items length result }
-    ensures size { IfOk result
-        (λ count. (count ≤ length) × (vec_len octets.new ≡ vec_len octets.old + count)) }
-    ensures tells { L.tells link.new ≡ L.tells link.old }
-    ensures unclosed { L.closed link.new ≡ false }
-    ensures fault { IsErrOf result RecordRefusal.LinkFault
-        → Rose (L.faults link.old) (L.faults link.new) }
-    ensures faults { L.faults link.old ≤ L.faults link.new }
-{
-    let at = octets.len();
-    match octets.resize(at + length, 0) {
-        Ok(()) => fill_from(link, octets, at),
-        Err(_) => Err(RecordRefusal::NoMemory),
-    }
-}
-
-/// Reads octets in place of those from `at` on, of which those go for which the input has none.
-fn fill_from<L: Link>(link: &mut L, octets: &mut Vec<u8>, at: usize) -> Result<usize, RecordRefusal>
-    requires unclosed { L.closed link.old ≡ false }
-    requires within { at ≤ vec_len octets.old }
-    requires room { vec_len octets.old ≤ 131072 }
-    ensures told { IsTrue (L.tells link.old) → TakesPiece (L.wire link.old) (L.wire link.new)
-        (take at octets.old.items) octets.new.items (vec_len octets.old - at) result }
-    ensures size { IfOk result
-        (λ count. (at + count ≤ vec_len octets.old) × (vec_len octets.new ≡ at + count)) }
-    ensures tells { L.tells link.new ≡ L.tells link.old }
-    ensures unclosed { L.closed link.new ≡ false }
-    ensures fault { IsErrOf result RecordRefusal.LinkFault
-        → Rose (L.faults link.old) (L.faults link.new) }
-    ensures faults { L.faults link.old ≤ L.faults link.new }
-{
-    match fill(link, &mut octets[at..]) {
-        Ok(count) => {
-            octets.truncate(at + count);
-            Ok(count)
-        }
-        Err(LinkFault) => Err(RecordRefusal::LinkFault),
-    }
 }
 
 /// Writes a record as one last fragment. After a fault a front of it was written.

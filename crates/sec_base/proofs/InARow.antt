@@ -1,11 +1,12 @@
--- Reads in a row take what they take together, and writes write it.
-use Rattle.std.proofs.Common.{◌≡◌, ℕ, ◌+◌, ◌-◌, ◌≤◌, List, [], ◌++◌, length, take, drop, refl, ap, sym, ◌∙◌, arith, append_assoc}
+-- Reads in a row take what they take together, and writes and sends write it.
+use Rattle.std.proofs.Common.{◌≡◌, ℕ, ◌+◌, ◌-◌, ◌≤◌, List, [], ◌++◌, length, take, drop, refl, ap, sym, ◌∙◌, arith, append_assoc, inl, inr, Result, Ok, Err}
 use borrow.Rule.Slice.PartMut.{put_mid}
 use Rattle.std.proofs.lemmas.Grind.{common_steps}
-use Rattle.std.proofs.lemmas.List.{take-append-le}
-use Rattle.std.proofs.Math.Seq.{take-add, take-append-add}
+use Rattle.std.proofs.lemmas.Bool.{cases_lt}
+use Rattle.std.proofs.lemmas.List.{take-append-le, take_all}
+use Rattle.std.proofs.Math.Seq.{take-add, take-append-add, take-append_seam}
 use Rattle.sec_base.specs.Link.{Wire, Gave, Sent}
-use Rattle.sec_base.specs.Streams.{Took, Put}
+use Rattle.sec_base.specs.Streams.{Took, Put, Sends}
 
 pub took-none : (w : Wire) → Took w w []
 took-none w = record { taken = grind (arith, common_steps); coming = grind (arith, common_steps); written = refl }
@@ -56,3 +57,18 @@ pub take-piece : (at n : ℕ) (xs : List ℕ) → take (at + n) xs ≡ take at x
 take-piece at n xs =
     let all : take (length xs - at) (drop at xs) ≡ drop at xs = grind (arith, common_steps) in
     rw (all, take-add at n xs)
+
+pub put-front : {a b c : Wire} {xs : List ℕ} (ys : List ℕ) (n : ℕ) → Put a b xs → Put b c (take n ys) → Put a c (take (length xs + n) (xs ++ ys))
+put-front {a} {b} {c} {xs} ys n first then = put-same (put-again first then) (sym (take-append-add xs ys n))
+
+pub put-short : {a b : Wire} (xs ys : List ℕ) (n : ℕ) → Put a b (take n xs) → (m : ℕ) × Put a b (take m (xs ++ ys))
+put-short xs ys n p =
+    elim (cases_lt n (length xs)) [
+      | inl below ↦ let le : n ≤ length xs = omega arith in (n, put-same p (sym (take-append-le n xs ys le)))
+      | inr past ↦ (length xs, put-same p (take_all n xs past ∙ sym (take-append_seam xs ys)))
+    ]
+
+-- two sends in a row are a send of both
+pub sends-again : {T E : Type 0} {a b : Wire} (c : Wire) {xs : List ℕ} (ys : List ℕ) (result : Result T E) → Put a b xs → Sends b c result ys → Sends a c result (xs ++ ys)
+sends-again c ys (Ok t) first then = put-again first then
+sends-again c {xs = xs} ys (Err e) first then = (length xs + then.0, put-front ys then.0 first then.1)

@@ -1,4 +1,5 @@
 pub mod Cells
+pub mod ContentSteps
 pub mod GivenInMemory
 pub mod InARow
 pub mod Pieces

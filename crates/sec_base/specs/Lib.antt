@@ -1,4 +1,5 @@
 pub mod Answers
+pub mod Contents
 pub mod Failures
 pub mod Link
 pub mod MemClock

@@ -1,14 +1,17 @@
 use Rattle.std.proofs.Common.{arith}
-use Rattle.rpc_msgs.proofs.FragmentSteps.{announced-denied, announced-last, announced-torn, announced-refused}
+use Rattle.rpc_msgs.proofs.FragmentSteps.{announced-denied, announced-fault, announced-last, announced-memory, announced-torn}
 use Rattle.rpc_msgs.proofs.record.read_announced.Goals as goal
 
 pub returns-in-Err-clause-told : goal.returns-in-Err-clause-told
 returns-in-Err-clause-told g c = λ t. announced-denied (g.L.Link.wire c.args.link.now) c.args.octets.now.items c.args.number c.len.result c.args.header c.in-Err.refusal (omega arith) c.in-Err.ensures
 
-pub returns-in-Err-read_content-clause-told : goal.returns-in-Err-read_content-clause-told
-returns-in-Err-read_content-clause-told g c = λ t.
-    announced-refused (g.L.Link.wire c.args.link.now) (g.L.Link.wire c.read_content.new.link) c.args.octets.now.items c.read_content.new.octets.items c.args.number c.args.header c.in-Err-read_content.refusal c.in-Ok.ensures.0
-    (omega (arith, c.in-Ok.ensures.1)) (c.in-Err-read_content.ensures.told t)
+pub returns-in-Err-LinkFault-clause-told : goal.returns-in-Err-LinkFault-clause-told
+returns-in-Err-LinkFault-clause-told g c = λ t.
+    announced-fault (g.L.Link.wire c.args.link.now) (g.L.Link.wire c.read_content.new.link) c.args.octets.now.items c.read_content.new.octets.items c.args.number c.args.header c.in-Ok.ensures.0 (omega (arith, c.in-Ok.ensures.1)) c.in-Err-LinkFault.field-0 c.in-Err-LinkFault.field-0-is (c.in-Err-LinkFault.ensures.told t)
+
+pub returns-in-Err-NoMemory-clause-told : goal.returns-in-Err-NoMemory-clause-told
+returns-in-Err-NoMemory-clause-told g c = λ t.
+    announced-memory (g.L.Link.wire c.args.link.now) (g.L.Link.wire c.read_content.new.link) c.args.octets.now.items c.read_content.new.octets.items c.args.number c.args.header c.in-Ok.ensures.0 (omega (arith, c.in-Ok.ensures.1)) c.in-Err-NoMemory.field-0 c.in-Err-NoMemory.field-0-is (c.in-Err-NoMemory.ensures.told t)
 
 -- what the link keeps, by what was called last
 pub returns-in-Ok-true-clause-tells : goal.returns-in-Ok-true-clause-tells
@@ -28,15 +31,6 @@ returns-in-Ok-false-clause-unclosed g c = c.in-Ok-false.ensures.unclosed
 
 pub returns-in-Ok-false-clause-faults : goal.returns-in-Ok-false-clause-faults
 returns-in-Ok-false-clause-faults g c = c.in-Ok-false.ensures.faults
-
-pub returns-in-Err-read_content-clause-tells : goal.returns-in-Err-read_content-clause-tells
-returns-in-Err-read_content-clause-tells g c = c.in-Err-read_content.ensures.tells
-
-pub returns-in-Err-read_content-clause-unclosed : goal.returns-in-Err-read_content-clause-unclosed
-returns-in-Err-read_content-clause-unclosed g c = c.in-Err-read_content.ensures.unclosed
-
-pub returns-in-Err-read_content-clause-faults : goal.returns-in-Err-read_content-clause-faults
-returns-in-Err-read_content-clause-faults g c = c.in-Err-read_content.ensures.faults
 
 -- what was read of the stream
 pub returns-in-Ok-true-clause-told : goal.returns-in-Ok-true-clause-told

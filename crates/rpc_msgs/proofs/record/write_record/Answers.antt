@@ -1,8 +1,7 @@
 use Rattle.std.proofs.Math.Nat.{le_trans}
 use Rattle.std.proofs.Common.{◌+◌, ◌^◌, length, IsTrue, ◌∙◌}
 use Rattle.rpc_msgs.specs.Words.{word}
-use Rattle.sec_base.proofs.InARow.{put-same}
-use Rattle.rpc_msgs.proofs.InARow.{put-short, sends-again}
+use Rattle.sec_base.proofs.InARow.{put-same, put-short, sends-again}
 use Rattle.rpc_msgs.proofs.record.write_record.Goals as goal
 
 pub returns-in-Ok-clause-told : goal.returns-in-Ok-clause-told

@@ -1,7 +1,7 @@
 use Rattle.std.proofs.Common.{◌+◌, ◌-◌, ◌++◌, ◌≤◌, ◌≡◌, ◌∙◌, ap, ℕ, List, length, take, vec_len, arith}
 use Rattle.std.proofs.lemmas.Grind.{common_steps}
-use Rattle.rpc_msgs.proofs.ContentSteps.{piece-filled, read-behind}
-use Rattle.rpc_msgs.proofs.record.fill_from.Goals as goal
+use Rattle.sec_base.proofs.ContentSteps.{piece-filled, read-behind}
+use Rattle.sec_base.proofs.transfer.fill_from.Goals as goal
 
 pub returns-in-Ok-clause-told : goal.returns-in-Ok-clause-told
 returns-in-Ok-clause-told g c = λ t.

@@ -1,7 +1,7 @@
 use Rattle.std.proofs.Math.Nat.{le_trans}
 use Rattle.std.proofs.Common.{◌<◌, ◌≤◌, ◌≡◌, IsTrue, ◌∙◌, arith}
-use Rattle.rpc_msgs.proofs.ContentSteps.{piece-whole, piece-cut, piece-refused}
-use Rattle.rpc_msgs.proofs.record.read_content.Goals as goal
+use Rattle.sec_base.proofs.ContentSteps.{piece-whole, piece-cut, piece-refused}
+use Rattle.sec_base.proofs.transfer.read_content.Goals as goal
 
 pub returns-in-Ok-clause-told : goal.returns-in-Ok-clause-told
 returns-in-Ok-clause-told g c = λ t.

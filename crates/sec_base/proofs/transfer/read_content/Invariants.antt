@@ -1,6 +1,6 @@
 use Rattle.std.proofs.Common.{◌≡◌, ◌≤◌, ◌+◌, false, IsTrue, vec_len, length, List, ℕ}
-use Rattle.rpc_msgs.specs.Fragments.{Grows}
-use Rattle.rpc_msgs.proofs.record.read_content.Given as goal
+use Rattle.sec_base.specs.Contents.{Grows}
+use Rattle.sec_base.proofs.transfer.read_content.Given as goal
 
 abbrev pub invariant-loop-left : goal.invariant-loop-left
 invariant-loop-left g l = record {

@@ -1,6 +1,6 @@
 use Rattle.std.proofs.Common.{refl}
 use Rattle.std.proofs.Math.Nat.{le_refl}
-use Rattle.rpc_msgs.proofs.record.read_piece.Goals as goal
+use Rattle.sec_base.proofs.transfer.read_piece.Goals as goal
 
 -- what the link keeps, by what was called last
 pub returns-in-Ok-clause-tells : goal.returns-in-Ok-clause-tells

@@ -1,12 +1,12 @@
--- Piece after piece of what a header announces.
+-- Piece after piece of what was announced.
 use Rattle.std.proofs.Common.{◌≡◌, ℕ, ◌+◌, ◌-◌, ◌<◌, ◌≤◌, false, List, [], ◌++◌, length, take, replicate, ap, sym, subst, ◌∙◌, arith, append_assoc, Result, Ok, Err}
 use Rattle.std.proofs.Math.Seq.{take-append-add}
 use Rattle.std.proofs.lemmas.List.{length-append, length-take-le, take_all, take_at, take-take, take-append-le}
 use Rattle.sec_base.specs.Link.{Wire}
 use Rattle.sec_base.specs.Streams.{Took}
-use Rattle.rpc_msgs.specs.Fragments.{Grows, TakesPiece, TakesContent}
-use Rattle.rpc_msgs.specs.declared.record.RecordRefusal.{RecordRefusal}
-use Rattle.rpc_msgs.specs.declared.record.RecordRefusal.TheVariants.{LinkFault, TooLong, TooManyFragments, Torn, NoMemory}
+use Rattle.sec_base.specs.Contents.{Grows, TakesPiece, TakesContent}
+use Rattle.sec_base.specs.declared.transfer.ContentRefusal.{ContentRefusal}
+use Rattle.sec_base.specs.declared.transfer.ContentRefusal.TheVariants.{LinkFault, NoMemory}
 use Rattle.sec_base.proofs.InARow.{took-again}
 
 grows-again : {a b c : Wire} {xs ys zs part more : List ℕ} → Grows a b xs ys part → Grows b c ys zs more → Grows a c xs zs (part ++ more)
@@ -26,11 +26,8 @@ piece-cut c zs part left whole size count sum fits less g t =
     (part ++ t.0, omega (arith, length-append part t.0, t.1), t.2 less, grows-again g t.3)
 
 -- a piece was not read
-pub piece-refused : {a b : Wire} (c : Wire) {xs ys : List ℕ} (zs part : List ℕ) (left whole size : ℕ) → length part + left ≡ whole → size ≤ left → Grows a b xs ys part → (refusal : RecordRefusal) → TakesPiece b c ys zs size (Err refusal) → TakesContent a c xs zs whole (Err refusal)
+pub piece-refused : {a b : Wire} (c : Wire) {xs ys : List ℕ} (zs part : List ℕ) (left whole size : ℕ) → length part + left ≡ whole → size ≤ left → Grows a b xs ys part → (refusal : ContentRefusal) → TakesPiece b c ys zs size (Err refusal) → TakesContent a c xs zs whole (Err refusal)
 piece-refused c zs part left whole size sum fits g LinkFault t = (part ++ t.0, omega (arith, length-append part t.0, t.1), took-again g.took t.2)
-piece-refused c zs part left whole size sum fits g TooLong t = elim t [ ]
-piece-refused c zs part left whole size sum fits g TooManyFragments t = elim t [ ]
-piece-refused c zs part left whole size sum fits g Torn t = elim t [ ]
 piece-refused c zs part left whole size sum fits g NoMemory t = (part ++ t.0, omega (arith, length-append part t.0, t.1), took-again g.took t.2)
 
 -- zeros behind octets, for those that are to be read
@@ -40,7 +37,7 @@ behind-zeros before padded at more count size e =
     ap (take at) e ∙ (ap (λ (zs : List ℕ). take at (zs ++ replicate count 0)) all ∙ take_at before (replicate count 0) at size)
 
 -- a piece in place of these was read behind what stood before them
-pub piece-behind : (a b : Wire) (before front after : List ℕ) (size most : ℕ) (r : Result ℕ RecordRefusal) → front ≡ before → size ≡ most → TakesPiece a b front after size r → TakesPiece a b before after most r
+pub piece-behind : (a b : Wire) (before front after : List ℕ) (size most : ℕ) (r : Result ℕ ContentRefusal) → front ≡ before → size ≡ most → TakesPiece a b front after size r → TakesPiece a b before after most r
 piece-behind a b before front after size most r e f t =
     subst (λ (n : ℕ). TakesPiece a b before after n r) f (subst (λ (zs : List ℕ). TakesPiece a b zs after size r) e t)
 
