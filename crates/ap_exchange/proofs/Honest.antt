@@ -91,6 +91,7 @@ judged_with credential stamp bindings part client server = Ok (record {
   stamp = stamp;
   hash = hash_of bindings;
   ends = end_of part;
+  first = 0;
 })
 
 claim_again : (own : Name) (now : ℕ) (expected : Option (List ℕ)) (keytab : List Entry) (credential : Granted) (stamp : ℕ) (draws : List ℕ) (bindings : Option (List ℕ)) → length draws ≡ 66 → RequestFits credential stamp draws bindings → (fit : Fits keytab own now expected credential stamp bindings) → claim_judged own now expected credential.session fit.part (authenticator_of credential stamp draws bindings) ≡ Ok (honest_judged credential stamp bindings fit.part)
@@ -124,7 +125,7 @@ unfolding reply_taken part_taken reply_opened answer_token
 honest_reply credential stamp draws bindings part drawn long made =
     let j : Judged = honest_judged credential stamp bindings part in
     let subkey : Key = drawn_subkey (type_of_key credential.session) drawn in (
-      reply_done (waiting credential stamp draws bindings) (Some subkey),
+      reply_done (waiting credential stamp draws bindings) (Some subkey) (Some 0),
       rw (
         replied_again (ap_rep_of j drawn) made.token made.message,
         data_again refusals.ReplyClosed credential.session None reply_usage (drawn_confounder drawn) (reply_octets j drawn) made.opens,

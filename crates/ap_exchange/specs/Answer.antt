@@ -62,6 +62,7 @@ answer_done j draws = record {
   acceptor = j.acceptor;
   hash = j.hash;
   ends = j.ends;
+  first = j.first;
 }
 
 -- what the acceptor is left with, and the token with its reply

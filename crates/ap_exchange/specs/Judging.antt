@@ -20,7 +20,7 @@ use Rattle.ap_exchange.specs.declared.refusal.ApRefusal.TheVariants as refusals
 use Rattle.ap_exchange.specs.declared.judged.Judged.{Judged}
 use Rattle.ap_exchange.specs.Steps.{◌>>=◌, due}
 use Rattle.ap_exchange.specs.Keys.{subkey_in}
-use Rattle.ap_exchange.specs.Request.{label_of}
+use Rattle.ap_exchange.specs.Request.{label_of, number_stated}
 use Rattle.ap_exchange.specs.Exchange.{name_in_realm, exchange_of}
 
 -- 300 seconds
@@ -112,6 +112,7 @@ judged_as own session part said hash = record {
   stamp = stamp_of said;
   hash = hash;
   ends = end_of part;
+  first = number_stated said.seq_number;
 }
 
 -- what a request is judged as whose ticket and authenticator say this

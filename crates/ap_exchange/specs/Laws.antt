@@ -73,7 +73,7 @@ pub record TakesBy (end : ApInit) (token : List ℕ) (done : MechDone) : Type 0 
   -- and that, with the subkey where there is one, is what the initiator is left with
   pub subkey : Option Key
   pub subkey_is : subkey_in said.subkey ≡ Ok subkey
-  pub done_is : done ≡ reply_done end subkey
+  pub done_is : done ≡ reply_done end subkey said.seq_number
 
 -- the facts of an initiator and of an acceptor fit: the ticket is the acceptor's, opens under a key
 -- that the keytab finds, holds the credential's client and session key, and is in its time; the
@@ -108,6 +108,7 @@ honest_judged credential stamp bindings part = record {
   stamp = stamp;
   hash = hash_of bindings;
   ends = end_of part;
+  first = 0;
 }
 
 -- two ends are left with the same: the key, whether it is the acceptor's subkey, both names and the

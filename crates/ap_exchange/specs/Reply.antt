@@ -19,7 +19,7 @@ use Rattle.ap_exchange.specs.declared.request.ApInit.{ApInit}
 use Rattle.ap_exchange.specs.Steps.{◌>>=◌, der_in, due}
 use Rattle.ap_exchange.specs.Tokens.{inner_of, ap_rep_id, error_id, is_kind, message_of}
 use Rattle.ap_exchange.specs.Keys.{reply_usage, subkey_in, data_opened}
-use Rattle.ap_exchange.specs.Request.{seconds_of, micros_of}
+use Rattle.ap_exchange.specs.Request.{seconds_of, micros_of, number_stated}
 
 -- an error in place of a reply: the peer's code is handed on
 unfoldable pub error_told : List ℕ → Result ApRep ApRefusal
@@ -55,15 +55,16 @@ abbrev pub is_sent : Option Key → Bool
 is_sent None = false
 is_sent (Some subkey) = true
 
--- what the initiator is left with
-abbrev pub reply_done : ApInit → Option Key → MechDone
-reply_done end subkey = record {
+-- what the initiator is left with, by the acceptor's subkey and the number that it states
+abbrev pub reply_done : ApInit → Option Key → Option ℕ → MechDone
+reply_done end subkey number = record {
   key = key_agreed end.subkey subkey;
   subkey = is_sent subkey;
   initiator = end.initiator;
   acceptor = end.acceptor;
   hash = end.hash;
   ends = greatest_moment;
+  first = number_stated number;
 }
 
 -- what an opened reply is taken as
@@ -71,7 +72,7 @@ unfoldable pub part_taken : ApInit → EncApRepPart → Result MechDone ApRefusa
 part_taken end said = do
   subkey ← subkey_in said.subkey
   stamped ← due refusals.ReplyStamp (is_stamped end said)
-  Ok (reply_done end subkey)
+  Ok (reply_done end subkey said.seq_number)
 
 -- what the initiator is left with once it takes the reply in a token, or the first refusal
 unfoldable pub reply_taken : ApInit → List ℕ → Result MechDone ApRefusal

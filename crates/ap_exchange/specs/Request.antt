@@ -1,6 +1,6 @@
 -- The request of an initiator, RFC 4120 section 3.2.2 and RFC 4121 section 4.1.1.
 use Rattle.std.specs.Prelude.{◌≡◌, true, ℕ, ◌*◌, ◌/◌, ◌%◌, pos, List, [], ◌∷◌, ◌++◌, length, Option}
-use Rattle.std.specs.Prelude.{Some, None, Result, Ok}
+use Rattle.std.specs.Prelude.{Some, None, unwrap_or, Result, Ok}
 use Rattle.gss_base.specs.Name.{Name}
 use Rattle.gss_base.specs.Bindings.{hash_of}
 use Rattle.gss_base.specs.Principal.{text_form}
@@ -42,6 +42,11 @@ seconds_of moment = moment / 1000000 * 1000000
 -- the microseconds of a moment, beside its whole seconds
 abbrev pub micros_of : ℕ → ℕ
 micros_of moment = moment % 1000000
+
+-- the number of an end's first token, as its message states it, else 0 (RFC 4120 sections 5.5.1 and
+-- 5.5.2, RFC 4121 section 4.2)
+abbrev pub number_stated : Option ℕ → ℕ
+number_stated number = unwrap_or number 0
 
 -- the checksum of RFC 4121 section 4.1.1: the hash's length, the hash, the flags, both numbers in
 -- 32 bits with the least significant octet first. The flags are 2 mutual authentication, 16

@@ -71,6 +71,7 @@ impl Judged {
             acceptor: self.acceptor,
             hash: self.hash,
             ends: self.ends,
+            first: self.first,
         };
         Ok((done, token))
     }

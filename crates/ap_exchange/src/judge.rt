@@ -186,6 +186,7 @@ fn claim_judged(
         stamp: stamp_of(said),
         hash,
         ends: part.endtime.later(SKEW),
+        first: said.seq_number.unwrap_or(0),
     })
 }
 

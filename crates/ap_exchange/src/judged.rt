@@ -22,6 +22,8 @@ pub struct Judged {
     pub hash: [u8; 16],
     /// When the context ends: 300 seconds after the ticket, or at the greatest moment.
     pub ends: Moment,
+    /// The number of the initiator's first token, as the authenticator states it: 0 where it states none (RFC 4120 section 5.5.1).
+    pub first: u32,
 }
 
 impl Judged {

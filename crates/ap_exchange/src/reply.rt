@@ -90,6 +90,7 @@ fn part_taken(end: &ApInit, said: &EncApRepPart) -> Result<MechDone, ApRefusal>
         acceptor: end.acceptor,
         hash: end.hash,
         ends: Moment::greatest(),
+        first: said.seq_number.unwrap_or(0),
     })
 }
 

@@ -17,4 +17,7 @@ pub struct MechDone {
     pub hash: [u8; 16],
     /// When the context ends; at the initiator the greatest moment.
     pub ends: Moment,
+    /// The number of the other end's first token, as its message of the exchange states it: 0 where it states none (RFC 4120 sections 5.5.1
+    /// and 5.5.2).
+    pub first: u32,
 }

@@ -39,6 +39,7 @@ done_of user password draws = record {
   acceptor = [];
   hash = hash_of None;
   ends = greatest_moment;
+  first = 0;
 }
 
 -- a name of at most 255 octets, else it is refused behind so many

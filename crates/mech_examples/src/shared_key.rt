@@ -112,6 +112,7 @@ fn done_of(label: Label, user: &Text, password: &Text, draws: &[u8; 66]) -> Mech
         acceptor: nobody(),
         hash: binding_hash(None),
         ends: Moment::greatest(),
+        first: 0,
     }
 }
 

@@ -37,6 +37,7 @@ asks-once s (steps.Refused (books.Neg refusal)) = refl
 asks-once s (steps.Refused (books.Stale greatest)) = refl
 asks-once s (steps.Refused (books.Repeat place)) = refl
 asks-once s (steps.Refused books.CacheFull) = refl
+asks-once s (steps.Refused books.Journal) = refl
 asks-once s steps.NoMemory = refl
 
 undecided-none : (s : Shown) (id : Option ℕ) (token : List ℕ) (now : ℕ) (drawn : List ℕ) (answer : Negotiated) → IsDecided (asking (AskedStep id token now drawn answer) (stepped s steps.NoMemory)) → ⊥

@@ -53,6 +53,7 @@ fn tell_answer(
         stamp,
         hash: [0; 16],
         ends: stamp,
+        first: 0,
     };
     let _answer = judged.answer(alloc, drawn)?;
     Ok(())

@@ -78,7 +78,7 @@ accept-finishes accept text theirs now third a b c d = rw (a, b, c, d) refl
 
 abbrev finished_as : WaitModel → InitFinished
 finished_as wait = record {
-  done = record { key = wait.key; subkey = false; initiator = wait.user; acceptor = []; hash = wait.hash; ends = greatest_moment };
+  done = record { key = wait.key; subkey = false; initiator = wait.user; acceptor = []; hash = wait.hash; ends = greatest_moment; first = 0 };
   found = signature_making wait.server wait.auth ∷ [];
 }
 

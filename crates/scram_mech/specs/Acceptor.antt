@@ -98,6 +98,7 @@ finish_with accept third now auth = record {
     acceptor = [];
     hash = hash_of (carried third.binding);
     ends = min (now + 86400000000) greatest_moment;
+    first = 0;
   };
   token = final_text (signature_of accept.line.server auth);
   makes = signature_making accept.line.server auth ∷ [];

@@ -129,6 +129,7 @@ init_finished wait text = do
       hash =
           wait.hash;
       ends = greatest_moment;
+      first = 0;
     };
     found = signature_making wait.server wait.auth ∷ [];
   })

@@ -202,6 +202,7 @@ impl ScramAccept {
             acceptor: nobody(),
             hash,
             ends: now.later(LIFE),
+            first: 0,
         };
         Ok((done, token))
     }

@@ -276,6 +276,7 @@ impl ScramWait {
             acceptor: nobody(),
             hash: self.hash,
             ends: Moment::greatest(),
+            first: 0,
         })
     }
 }

@@ -4,6 +4,7 @@ pub mod InitSteps
 pub mod AcceptSteps
 pub mod Listed
 pub mod Sizes
+pub mod ReadBack
 pub mod Short
 pub mod ShortInit
 pub mod ShortTexts
