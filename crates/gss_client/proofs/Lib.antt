@@ -11,5 +11,6 @@ pub mod Texts
 pub mod WholeTalk
 mod Counts
 mod Finishing
+mod Verifying
 pub mod PlainReplies
 pub mod PlainTurns

@@ -1,3 +1,4 @@
+pub mod Again
 pub mod Calling
 pub mod Creation
 pub mod Conversation

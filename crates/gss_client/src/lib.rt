@@ -1,6 +1,7 @@
 //! The client: a session of RPCSEC_GSS over a link.
 #![tactic(auto)]
 
+mod again;
 mod answer;
 mod calling;
 mod conversation;
@@ -14,6 +15,7 @@ mod results;
 mod session;
 mod start;
 
+pub use again::{Judged, answers_call};
 pub use calling::creation_call;
 pub use conversation::{Conversation, Parting, Talk};
 pub use creation::{Created, Offer, creation_step};

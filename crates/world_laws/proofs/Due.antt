@@ -118,6 +118,7 @@ stepped-due s (steps.Refused (books.Neg refusal)) = refl
 stepped-due s (steps.Refused (books.Stale greatest)) = refl
 stepped-due s (steps.Refused (books.Repeat place)) = refl
 stepped-due s (steps.Refused books.CacheFull) = refl
+stepped-due s (steps.Refused books.Journal) = refl
 stepped-due s steps.NoMemory = refl
 
 step-says : (octets : List ℕ) (kept : KeptAnswers) (width : ℕ) (call : CallValue) (id : Option ℕ) (token : List ℕ) (found : Option Negotiated)

@@ -19,14 +19,14 @@ use Rattle.gss_client.specs.Session.{SessionState}
 use Rattle.world_laws.specs.Stages as stages
 use Rattle.world_laws.specs.Deeds.{Deed}
 use Rattle.world_laws.specs.State.{World}
-use Rattle.world_laws.specs.Initiators.{Moved, started_by, starts, initiated, verified, window_found, created_by, takes, calls}
+use Rattle.world_laws.specs.Initiators.{Moved, started_by, starts, initiated, verified, window_found, created_by, takes, calls, leaves}
 use Rattle.world_laws.specs.Events.{Moves}
 use Rattle.world_laws.specs.Premises.{Marking, Unforged}
 use Rattle.world_laws.proofs.Invariants.{Below, Known}
 use Rattle.world_laws.proofs.FoundKept.{Stays, EndFound, OutcomeFound, Founds, StageFound, moved-found}
 use Rattle.world_laws.proofs.FoundSteps.{Verified, Built, StepFound, step-found, going-found, done-found}
 use Rattle.world_laws.proofs.FoundCreating.{Stepped, Behind, behind}
-use Rattle.world_laws.proofs.Happening.{Move, Starting, Taking, Calling}
+use Rattle.world_laws.proofs.Happening.{Move, Starting, Taking, Calling, Leaving}
 
 -- ---- stages
 
@@ -154,12 +154,24 @@ taking laws marking old i first xid end octets built there good f = record {
 calling : (marking : Marking) (old : World) (i : ℕ) (s : SessionState) (procedure : ℕ) (args : List ℕ) → ((own : PlainSetup) → slice_get old.facts i ≡ Some own → OutcomeFound marking old own s.outcome) → MoveFound marking old i (calls s procedure args)
 calling marking old i s procedure args f = record { did = λ found. stands-found marking old i _ f; lost = left-found marking old i s f }
 
+leaving : (marking : Marking) (old : World) (i : ℕ) (s : SessionState) → ((own : PlainSetup) → slice_get old.facts i ≡ Some own → OutcomeFound marking old own s.outcome) → MoveFound marking old i (leaves s)
+leaving marking old i s f = record { did = λ found. left-found marking old i s f; lost = left-found marking old i s f }
+
 pub move-found : (laws : Below) (marking : Marking) (old : World) (i : ℕ) (moved : Moved) → Known old → Founds marking old → Built marking old → Move old i moved → MoveFound marking old i moved
 move-found laws marking old i moved known f built (Starting own there is) = subst (MoveFound marking old i) (sym is) (starting laws marking old i own)
 move-found laws marking old i moved known f built (Taking first xid end octets there is) =
     subst (MoveFound marking old i) (sym is) (taking laws marking old i first xid end octets built (known.asks i xid end there).0 (known.asks i xid end there).1 (f.asks i xid end there))
 move-found laws marking old i moved known f built (Calling s procedure args there left served proper is) =
     subst (MoveFound marking old i) (sym is) (calling marking old i s procedure args (λ own facts. f.completed i own s.outcome (record {
+      there = facts;
+      stage = stages.Stands s;
+      stands = there;
+      session = s;
+      in_session = refl;
+      outcome_is = refl;
+    })))
+move-found laws marking old i moved known f built (Leaving s procedure args there left last served proper is) =
+    subst (MoveFound marking old i) (sym is) (leaving marking old i s (λ own facts. f.completed i own s.outcome (record {
       there = facts;
       stage = stages.Stands s;
       stands = there;

@@ -18,13 +18,13 @@ use Rattle.world_laws.specs.Stages.{StageSays}
 use Rattle.world_laws.specs.Stages as stages
 use Rattle.world_laws.specs.Deeds.{Deed, quiet}
 use Rattle.world_laws.specs.State.{InHand, Context, World, moved_to}
-use Rattle.world_laws.specs.Initiators.{Moved, calls}
+use Rattle.world_laws.specs.Initiators.{Moved, calls, leaves}
 use Rattle.world_laws.specs.Lanes.{in_hand, ruling_of, question_of, told_width, with_lane, LaneMoves}
 use Rattle.world_laws.specs.Events.{Moves, Happens, Run}
 use Rattle.world_laws.specs.Premises.{Marking, Listed, BuiltKey, WasSettled, IsWordMic, WasMade, session_in, Completed}
 use Rattle.world_laws.proofs.Slices.{set-same, set-other, get-front}
 use Rattle.world_laws.proofs.Due.{due-says}
-use Rattle.world_laws.proofs.Happening.{Move, Starting, Taking, Calling, Came, Idling, Moving, Laning, came}
+use Rattle.world_laws.proofs.Happening.{Move, Starting, Taking, Calling, Leaving, Came, Idling, Moving, Laning, came}
 use Rattle.history_laws.proofs.Histories.{Fronts, no-front, entry-stays}
 use Rattle.history_laws.proofs.Answering.{IsPastFor, answers-front, answers-setup}
 
@@ -102,6 +102,11 @@ move-sessions w i moved (Calling session procedure args there left served proper
     (λ (m : Moved). StandsAt (slice_set w.stages i m.stage) j outcome × StandsAt (slice_set w.stages i m.lost) j outcome) (sym is) (
       stands-again w.stages i j (stages.Stands session) (calls session procedure args).stage session _ outcome there refl refl refl s,
       stands-again w.stages i j (stages.Stands session) (calls session procedure args).lost session _ outcome there refl refl refl s,
+    )
+move-sessions w i moved (Leaving session procedure args there left last served proper is) j outcome s = subst
+    (λ (m : Moved). StandsAt (slice_set w.stages i m.stage) j outcome × StandsAt (slice_set w.stages i m.lost) j outcome) (sym is) (
+      stands-again w.stages i j (stages.Stands session) (leaves session).stage session _ outcome there refl refl refl s,
+      stands-again w.stages i j (stages.Stands session) (leaves session).lost session _ outcome there refl refl refl s,
     )
 
 moved-grows : (w : World) (i : ℕ) (stage : StageSays) (makes : List MechMaking) → ((j : ℕ) (outcome : Outcome) → StandsAt w.stages j outcome → StandsAt (slice_set w.stages i stage) j outcome)

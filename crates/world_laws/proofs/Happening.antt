@@ -1,5 +1,5 @@
 -- What an event came to: nothing, an initiator's move, or a lane's.
-use Rattle.std.proofs.Common.{◌≡◌, ℕ, ◌≤◌, Bool, true, false, nat_le, List, slice_get, Option, Some, None, refl}
+use Rattle.std.proofs.Common.{◌≡◌, ℕ, ◌≤◌, ◌==◌, Bool, true, false, nat_le, List, slice_get, Option, Some, None, refl}
 use Rattle.spnego_core.specs.Ends.{PlainSetup, EndSays}
 use Rattle.accept_book.specs.Served.{are_args}
 use Rattle.gss_client.specs.Session.{SessionState}
@@ -9,9 +9,9 @@ use Rattle.world_laws.specs.Stages.{StageSays}
 use Rattle.world_laws.specs.Stages as stages
 use Rattle.world_laws.specs.Deeds.{Deed}
 use Rattle.world_laws.specs.State.{InHand, World}
-use Rattle.world_laws.specs.Initiators.{Moved, starts, takes, calls}
+use Rattle.world_laws.specs.Initiators.{Moved, starts, takes, calls, leaves}
 use Rattle.world_laws.specs.Lanes.{in_hand, LaneMoves}
-use Rattle.world_laws.specs.Events.{Idles, Moves, StartsBy, DeliversBy, CallsBy, LanesBy, Happens}
+use Rattle.world_laws.specs.Events.{Idles, Moves, StartsBy, DeliversBy, CallsWith, CallsBy, LanesBy, Happens}
 
 -- an initiator's move, from where it is
 pub data Move (w : World) (i : ℕ) (moved : Moved) : Type 0 where
@@ -19,6 +19,8 @@ pub data Move (w : World) (i : ℕ) (moved : Moved) : Type 0 where
   Taking : (first xid : ℕ) (end : EndSays) (octets : List ℕ) → slice_get w.stages i ≡ Some (stages.Asks xid end) → moved ≡ takes first xid end octets → Move w i moved
   Calling : (s : SessionState) (procedure : ℕ) (args : List ℕ) → slice_get w.stages i ≡ Some (stages.Stands s) → nat_le s.number 0x7fffffff ≡ true → procedure ≤ 4 → are_args procedure args ≡ true
       → moved ≡ calls s procedure args → Move w i moved
+  Leaving : (s : SessionState) (procedure : ℕ) (args : List ℕ) → slice_get w.stages i ≡ Some (stages.Stands s) → nat_le s.number 0x7fffffff ≡ false → (s.number == 0x80000000) ≡ true → procedure ≤ 4 → are_args procedure args ≡ true
+      → moved ≡ leaves s → Move w i moved
 
 pub data Came (old : World) (deed : Deed) (new : World) : Type 0 where
   Idling : Idles old deed new → Came old deed new
@@ -41,17 +43,18 @@ delivered old i octets first (Some (stages.Stands s)) deed new there did = Idlin
 delivered old i octets first (Some (stages.Left s)) deed new there did = Idling did
 delivered old i octets first (Some stages.Over) deed new there did = Idling did
 
-numbered : (old : World) (i : ℕ) (s : SessionState) (procedure : ℕ) (args : List ℕ) (deed : Deed) (new : World) (b : Bool) → slice_get old.stages i ≡ Some (stages.Stands s) → procedure ≤ 4 → are_args procedure args ≡ true
-    → nat_le s.number 0x7fffffff ≡ b → CallsBy old i procedure args (Some (stages.Stands s)) deed new → Came old deed new
-numbered old i s procedure args deed new true there served proper left did = Moving i (calls s procedure args) (Calling s procedure args there left served proper refl) (rw left at did)
-numbered old i s procedure args deed new false there served proper left did = Idling (rw left at did)
+numbered : (old : World) (i : ℕ) (s : SessionState) (procedure : ℕ) (args : List ℕ) (deed : Deed) (new : World) (b c : Bool) → slice_get old.stages i ≡ Some (stages.Stands s) → procedure ≤ 4 → are_args procedure args ≡ true
+    → nat_le s.number 0x7fffffff ≡ b → (s.number == 0x80000000) ≡ c → CallsWith b c old i s procedure args deed new → Came old deed new
+numbered old i s procedure args deed new true c there served proper left last did = Moving i (calls s procedure args) (Calling s procedure args there left served proper refl) did
+numbered old i s procedure args deed new false true there served proper left last did = Moving i (leaves s) (Leaving s procedure args there left last served proper refl) did
+numbered old i s procedure args deed new false false there served proper left last did = Idling did
 
 called : (old : World) (i procedure : ℕ) (args : List ℕ) (stage : Option StageSays) (deed : Deed) (new : World) → slice_get old.stages i ≡ stage → procedure ≤ 4 → are_args procedure args ≡ true
     → CallsBy old i procedure args stage deed new → Came old deed new
 called old i procedure args None deed new there served proper did = Idling did
 called old i procedure args (Some (stages.Ready own)) deed new there served proper did = Idling did
 called old i procedure args (Some (stages.Asks xid end)) deed new there served proper did = Idling did
-called old i procedure args (Some (stages.Stands s)) deed new there served proper did = numbered old i s procedure args deed new (nat_le s.number 0x7fffffff) there served proper refl did
+called old i procedure args (Some (stages.Stands s)) deed new there served proper did = numbered old i s procedure args deed new (nat_le s.number 0x7fffffff) (s.number == 0x80000000) there served proper refl refl did
 called old i procedure args (Some (stages.Left s)) deed new there served proper did = Idling did
 called old i procedure args (Some stages.Over) deed new there served proper did = Idling did
 

@@ -1,5 +1,5 @@
 -- What is held of the contexts, of a world before its first event, and over each event.
-use Rattle.std.proofs.Common.{◌≡◌, ◌≢◌, ◌∙◌, ℕ, Bool, true, false, nat_le, max, List, [], ◌++◌, slice_get, Option, Some, None, option_map, option_to_list, append-nil, refl, sym, ap, subst, inl, inr}
+use Rattle.std.proofs.Common.{◌≡◌, ◌≢◌, ◌∙◌, ℕ, ◌==◌, Bool, true, false, nat_le, max, List, [], ◌++◌, slice_get, Option, Some, None, option_map, option_to_list, append-nil, refl, sym, ap, subst, inl, inr}
 use Rattle.std.proofs.lemmas.Option.{none-some, same_Some}
 use Rattle.spnego_core.specs.declared.accept_end.AcceptEnd.{AcceptEnd}
 use Rattle.spnego_core.specs.declared.outcome.Outcome.{Outcome}
@@ -28,7 +28,7 @@ use Rattle.world_laws.specs.Stages.{StageSays}
 use Rattle.world_laws.specs.Stages as stages
 use Rattle.world_laws.specs.Deeds.{Deed, quiet}
 use Rattle.world_laws.specs.State.{InHand, Context, World, moved_to}
-use Rattle.world_laws.specs.Initiators.{Moved, calls}
+use Rattle.world_laws.specs.Initiators.{Moved, calls, leaves}
 use Rattle.world_laws.specs.Lanes.{told_width, in_hand, ruling_of, question_of, hand_after, accepted_in, context_with, unless_short, fixes_by, with_lane, Follows, AnswersAtOnce, Asks, LaneMoves}
 use Rattle.world_laws.specs.Events.{IsBook, Idles, Moves, StartsBy, DeliversBy, CallsWith, CallsBy, LanesBy, HappensBy, Happens, Begins}
 use Rattle.world_laws.proofs.Invariants.{Below, Held}
@@ -164,16 +164,17 @@ deliver-held old i octets first (Some (stages.Stands s)) deed new held did = idl
 deliver-held old i octets first (Some (stages.Left s)) deed new held did = idles-held old deed new held did
 deliver-held old i octets first (Some stages.Over) deed new held did = idles-held old deed new held did
 
-with-held : (left : Bool) (old : World) (i : ℕ) (s : SessionState) (procedure : ℕ) (args : List ℕ) (deed : Deed) (new : World) → Held old → CallsWith left old i s procedure args deed new → Held new
-with-held true old i s procedure args deed new held did = moved-held old i (calls s procedure args) deed new held did
-with-held false old i s procedure args deed new held did = idles-held old deed new held did
+with-held : (left last : Bool) (old : World) (i : ℕ) (s : SessionState) (procedure : ℕ) (args : List ℕ) (deed : Deed) (new : World) → Held old → CallsWith left last old i s procedure args deed new → Held new
+with-held true last old i s procedure args deed new held did = moved-held old i (calls s procedure args) deed new held did
+with-held false true old i s procedure args deed new held did = moved-held old i (leaves s) deed new held did
+with-held false false old i s procedure args deed new held did = idles-held old deed new held did
 
 call-held : (old : World) (i procedure : ℕ) (args : List ℕ) (stage : Option StageSays) (deed : Deed) (new : World) → Held old → CallsBy old i procedure args stage deed new → Held new
 call-held old i procedure args None deed new held did = idles-held old deed new held did
 call-held old i procedure args (Some (stages.Ready own)) deed new held did = idles-held old deed new held did
 call-held old i procedure args (Some (stages.Asks xid end)) deed new held did = idles-held old deed new held did
 call-held old i procedure args (Some (stages.Stands s)) deed new held did =
-    with-held (nat_le s.number 0x7fffffff) old i s procedure args deed new held did
+    with-held (nat_le s.number 0x7fffffff) (s.number == 0x80000000) old i s procedure args deed new held did
 call-held old i procedure args (Some (stages.Left s)) deed new held did = idles-held old deed new held did
 call-held old i procedure args (Some stages.Over) deed new held did = idles-held old deed new held did
 

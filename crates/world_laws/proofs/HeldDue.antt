@@ -64,6 +64,7 @@ refused-now s (books.Neg refusal) = decides s.now _ _
 refused-now s (books.Stale greatest) = decides s.now _ _
 refused-now s (books.Repeat place) = decides s.now _ _
 refused-now s books.CacheFull = decides s.now _ _
+refused-now s books.Journal = decides s.now _ _
 
 stepped-now : (s : Shown) (answer : NegAnswer) → IsNow s.now (stepped s answer)
 stepped-now s (steps.Going id token) = decides s.now _ _

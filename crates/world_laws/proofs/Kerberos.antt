@@ -34,7 +34,7 @@ use Rattle.world_laws.specs.Agreement.{Partner, HasPartner}
 use Rattle.world_laws.specs.Setups.{Proper}
 use Rattle.world_laws.proofs.Invariants.{Held, MadeRequest, MadeAnswer, KrbFixed, KrbDone, Owning, Found}
 use Rattle.world_laws.proofs.Makers.{RequestOf, AnswerOf, from-request, from-answer}
-use Rattle.world_laws.proofs.Spelled.{Heard, Answered, heard, answered}
+use Rattle.spnego_core.proofs.ReadBack.{Heard, Answered, heard, answered}
 
 -- ---- small facts
 
@@ -127,10 +127,10 @@ among-found : (end : ApInit) (token : List ℕ) (m : Making) → reply_found end
 among-found end token m e = subst (λ (ms : List Making). AmongMakings (map typed ms) (typed m)) (sym e) (inl refl)
 
 -- two outcomes with the same fields
-same-outcome : (credential : Granted) (own : PlainSetup) (request : Judged) (draws : List ℕ) (subkey : Option Key) → subkey ≡ Some (acceptor_subkey request draws)
+same-outcome : (credential : Granted) (own : PlainSetup) (request : Judged) (draws : List ℕ) (subkey : Option Key) (number : Option ℕ) → subkey ≡ Some (acceptor_subkey request draws)
     → request.initiator ≡ label_of credential.client → request.acceptor ≡ label_of credential.server → request.hash ≡ hash_of own.bindings
-    → outcome_of kinds.Kerberos (reply_done (waiting credential own.stamp own.draws own.bindings) subkey) ≡ outcome_of kinds.Kerberos (answer_done request draws)
-same-outcome credential own request draws subkey s i a h = rw (s, i, a, h) refl
+    → outcome_of kinds.Kerberos (reply_done (waiting credential own.stamp own.draws own.bindings) subkey number) ≡ outcome_of kinds.Kerberos (answer_done request draws)
+same-outcome credential own request draws subkey number s i a h = rw (s, i, a, h) refl
 
 -- what its answer says, where the request's stamp has a spelling
 answer-says : (end : ApInit) (token : List ℕ) (done : MechDone) (t : TakesBy end token done) (request : Judged) (draws : List ℕ) → request.stamp < 253402300800 * 1000000 → t.octets ≡ reply_octets request draws → Answered request draws end.stamp t.subkey
@@ -147,8 +147,8 @@ finished-by w i own credential end token done outcome x place request draws wait
     let hash : request.hash ≡ hash_of own.bindings = a.hash ∙ ap (λ (o : PlainSetup). hash_of o.bindings) same in
     let initiator : request.initiator ≡ label_of credential.client = a.initiator ∙ ap (λ (c : Granted). label_of c.client) cred in
     let acceptor : request.acceptor ≡ label_of credential.server = a.acceptor ∙ ap (λ (c : Granted). label_of c.server) cred in
-    let left : outcome ≡ outcome_of kinds.Kerberos (reply_done (waiting credential own.stamp own.draws own.bindings) t.subkey) =
-    is ∙ ap (λ (d : MechDone). outcome_of kinds.Kerberos d) t.done_is ∙ ap (λ (e : ApInit). outcome_of kinds.Kerberos (reply_done e t.subkey)) waits in
+    let left : outcome ≡ outcome_of kinds.Kerberos (reply_done (waiting credential own.stamp own.draws own.bindings) t.subkey t.said.seq_number) =
+    is ∙ ap (λ (d : MechDone). outcome_of kinds.Kerberos d) t.done_is ∙ ap (λ (e : ApInit). outcome_of kinds.Kerberos (reply_done e t.subkey t.said.seq_number)) waits in
     record {
       place = place;
       context = x;
@@ -157,7 +157,7 @@ finished-by w i own credential end token done outcome x place request draws wait
       basis = basis;
       session = sym session ∙ ap (λ (e : ApInit). e.session) waits;
       stamp = said.stamp_is ∙ ap (λ (e : ApInit). e.stamp) waits;
-      agree = left ∙ (same-outcome credential own request draws t.subkey said.subkey_is initiator acceptor hash ∙ sym fixed);
+      agree = left ∙ (same-outcome credential own request draws t.subkey t.said.seq_number said.subkey_is initiator acceptor hash ∙ sym fixed);
     }
 
 -- the initiator of the request is this one

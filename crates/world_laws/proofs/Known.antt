@@ -16,7 +16,7 @@ use Rattle.world_laws.specs.Lanes.{in_hand, LaneMoves}
 use Rattle.world_laws.specs.Events.{Moves, Begins, Happens}
 use Rattle.world_laws.proofs.Invariants.{Below, Known}
 use Rattle.world_laws.proofs.Slices.{set-cases}
-use Rattle.world_laws.proofs.Happening.{Move, Starting, Taking, Calling, Came, Idling, Moving, Laning, came}
+use Rattle.world_laws.proofs.Happening.{Move, Starting, Taking, Calling, Leaving, Came, Idling, Moving, Laning, came}
 use Rattle.world_laws.proofs.Moving.{StartedBy, starts-by, Went, Stood, takes-by}
 
 -- ---- at the start
@@ -80,11 +80,13 @@ move-known laws w i moved k (Taking first xid end octets there is) = subst (λ (
   ]
 ])
 move-known laws w i moved k (Calling s procedure args there left served proper is) = subst (λ (m : Moved). KnownStage w.facts i m.stage × KnownStage w.facts i m.lost) (sym is) (tt, tt)
+move-known laws w i moved k (Leaving s procedure args there left last served proper is) = subst (λ (m : Moved). KnownStage w.facts i m.stage × KnownStage w.facts i m.lost) (sym is) (tt, tt)
 
 move-there : (w : World) (i : ℕ) (moved : Moved) → Move w i moved → (stage : StageSays) × (slice_get w.stages i ≡ Some stage)
 move-there w i moved (Starting own there is) = (_, there)
 move-there w i moved (Taking first xid end octets there is) = (_, there)
 move-there w i moved (Calling s procedure args there left served proper is) = (_, there)
+move-there w i moved (Leaving s procedure args there left last served proper is) = (_, there)
 
 -- ---- a step
 

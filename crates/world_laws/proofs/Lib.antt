@@ -37,7 +37,6 @@ pub mod Once
 pub mod RulingPlan
 pub mod OwnTexts
 pub mod OnceOwners
-pub mod Spelled
 pub mod Kerberos
 pub mod KerberosAgrees
 pub mod ListOctets

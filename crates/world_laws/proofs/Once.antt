@@ -17,13 +17,13 @@ use Rattle.world_laws.specs.Stages.{StageSays}
 use Rattle.world_laws.specs.Stages as stages
 use Rattle.world_laws.specs.Deeds.{Deed}
 use Rattle.world_laws.specs.State.{InHand, World}
-use Rattle.world_laws.specs.Initiators.{Moved, refused, starts, takes, calls}
+use Rattle.world_laws.specs.Initiators.{Moved, refused, starts, takes, calls, leaves}
 use Rattle.world_laws.specs.Lanes.{in_hand, LaneMoves}
 use Rattle.world_laws.specs.Setups.{Proper}
 use Rattle.world_laws.specs.Events.{Moves, Begins, Happens}
 use Rattle.world_laws.proofs.Invariants.{Below, Known, Held, MadeRequest, MadeProof, MayAsk, FreshFacts, Once}
 use Rattle.world_laws.proofs.Growing.{Grows, grows}
-use Rattle.world_laws.proofs.Happening.{Move, Starting, Taking, Calling, Came, Idling, Moving, Laning, came}
+use Rattle.world_laws.proofs.Happening.{Move, Starting, Taking, Calling, Leaving, Came, Idling, Moving, Laning, came}
 use Rattle.world_laws.proofs.Known.{known-step, goes-on}
 use Rattle.world_laws.proofs.Makers.{tag-request, tag-proof, tag-list_mic}
 use Rattle.world_laws.proofs.Moving.{StartedBy, starts-by, Went, Stood, takes-by}
@@ -31,7 +31,7 @@ use Rattle.world_laws.proofs.OnceKept.{OnceAsking, OnceStanding, OnceAt, OneOf, 
 use Rattle.world_laws.proofs.OnceMakers.{OneOwner, NoneOf, none-of, proof-kind, others-none, calls-none, contexts-none}
 use Rattle.world_laws.proofs.OnceOwners.{one-owner}
 use Rattle.world_laws.proofs.OnceSteps.{OneProof, one-proof, start-first}
-use Rattle.world_laws.proofs.Owning.{taken-law, call-made, mover}
+use Rattle.world_laws.proofs.Owning.{taken-law, call-made, leave-among, mover}
 use Rattle.world_laws.proofs.OwningStep.{asks-owned}
 
 pub once-start : (w : World) → Begins w → Once w
@@ -217,6 +217,17 @@ call-comes laws w i own s procedure args there stands served proper ones once =
       lost = record { ones = ones-more own w.makings [] (none-of own) ones; at = standing-more own w.makings [] s.outcome (none-of own) once };
     }
 
+leave-comes : (laws : Below) (w : World) (i : ℕ) (own : PlainSetup) (s : SessionState) (procedure : ℕ) (args : List ℕ) → slice_get w.facts i ≡ Some own → slice_get w.stages i ≡ Some (stages.Stands s) → procedure ≤ 4
+    → are_args procedure args ≡ true → OneOf own w.makings → OnceStanding own w.makings s.outcome → MoveComes w i (leaves s)
+leave-comes laws w i own s procedure args there stands served proper ones once =
+    let n = calls-none laws.scram w i own own (leaves s).makes (λ making a. call-made w i own s procedure args making there stands served proper (leave-among s procedure args making a)) in
+    record {
+      own = own;
+      there = there;
+      stage = record { ones = ones-more own w.makings (leaves s).makes n ones; at = standing-more own w.makings (leaves s).makes s.outcome n once };
+      lost = record { ones = ones-more own w.makings [] (none-of own) ones; at = standing-more own w.makings [] s.outcome (none-of own) once };
+    }
+
 move-comes : (laws : Below) (w : World) (i : ℕ) (moved : Moved) → Known w → OnceAll w.facts w.stages w.makings → Move w i moved → MoveComes w i moved
 move-comes laws w i moved k h (Starting own there is) =
     let here = k.ready i own there in
@@ -243,6 +254,9 @@ move-comes laws w i moved k h (Taking first xid end octets there is) =
 move-comes laws w i moved k h (Calling s procedure args there left served proper is) =
     let p = k.placed i (stages.Stands s) there in
     subst (MoveComes w i) (sym is) (call-comes laws w i p.0 s procedure args p.1 there served proper (h.ones i p.0 p.1) (h.at i p.0 (stages.Stands s) p.1 there))
+move-comes laws w i moved k h (Leaving s procedure args there left last served proper is) =
+    let p = k.placed i (stages.Stands s) there in
+    subst (MoveComes w i) (sym is) (leave-comes laws w i p.0 s procedure args p.1 there served proper (h.ones i p.0 p.1) (h.at i p.0 (stages.Stands s) p.1 there))
 
 -- ---- each event
 

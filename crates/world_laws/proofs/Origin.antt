@@ -97,7 +97,7 @@ origin-by : (laws : Below) (marking : Marking) (old : World) (events : List Worl
     → Agreement marking new → Origin marking old events new run
 origin-by laws marking old events new run c proper fresh kept agrees = record {
   calls = λ place id seq procedure digest x at listed id_is guarded. (let has = (agrees.contexts listed.place x listed.there guarded).has in
-      came-from old events new run x seq (Means procedure digest)
+      came-from old events new run x seq (Means seq procedure digest)
       (call-traced (and_run no-call old events new run) laws.tokens marking new id seq procedure digest listed.place x c.held c.calls (c.evidence.calls place id seq procedure digest at) listed.there id_is guarded has
       (holds laws marking new proper fresh kept c.proofs listed.place x listed.there guarded has)));
   ends = λ place id seq x at listed id_is guarded. (let has = (agrees.contexts listed.place x listed.there guarded).has in

@@ -1,5 +1,6 @@
 -- What each event adds to the calls that were made.
-use Rattle.std.proofs.Common.{◌≡◌, ◌≢◌, ◌⊎◌, inl, inr, ℕ, Bool, true, false, nat_le, refl, sym, ◌∙◌, ap, subst, List, [], ◌++◌, append-nil, slice_get, Option, Some, None, option_to_list, Ok, Err}
+use Rattle.std.proofs.Common.{◌≡◌, ◌≢◌, ◌⊎◌, inl, inr, ℕ, Bool, true, false, nat_le, refl, sym, ◌∙◌, ap, subst, List, [], ◌++◌, append-nil, slice_get, Option, Some, None, option_to_list, Ok, Err, arith, ◌==◌}
+use Rattle.std.proofs.lemmas.Bool.Decides.{nat_tests}
 use Rattle.scram_mech.specs.MechMaking.{MechMaking, AmongMakings}
 use Rattle.spnego_core.specs.Ends.{PlainSetup, EndSays}
 use Rattle.spnego_core.specs.InitLaws.{own_of, answers_next, InitLaw}
@@ -15,7 +16,7 @@ use Rattle.world_laws.specs.Stages.{StageSays}
 use Rattle.world_laws.specs.Stages as stages
 use Rattle.world_laws.specs.Deeds.{Deed}
 use Rattle.world_laws.specs.State.{InHand, World}
-use Rattle.world_laws.specs.Initiators.{Moved, starts, takes, calls}
+use Rattle.world_laws.specs.Initiators.{Moved, starts, takes, calls, leaves}
 use Rattle.world_laws.specs.Lanes.{told_width, in_hand, ruling_of, question_of, hand_after, makes_by, fixes_by, Follows, LaneMoves}
 use Rattle.world_laws.specs.Events.{Idles, Moves, StartsBy, DeliversBy, CallsWith, CallsBy, LanesBy, HappensBy, IsProper, Happens}
 use Rattle.world_laws.proofs.Invariants.{Below, Known, Held, ByContext}
@@ -23,7 +24,7 @@ use Rattle.world_laws.proofs.Due.{due-says}
 use Rattle.world_laws.proofs.Growing.{Grows, grows, completed-stays}
 use Rattle.world_laws.proofs.Happening.{Came, came}
 use Rattle.world_laws.proofs.Moving.{starts-by, takes-by}
-use Rattle.world_laws.proofs.Owning.{proof-made, request-made, taken-law, context-grows}
+use Rattle.world_laws.proofs.Owning.{proof-made, request-made, taken-law, leave-among, context-grows}
 use Rattle.world_laws.proofs.OwningLane.{given, step-owned, leased, admit-owned}
 use Rattle.world_laws.proofs.OriginCalls.{Uncalled, uncalled-request, uncalled-proof, uncalled-list, uncalled-context, Called, IsPast, CalledMaking, Fitting, Calls, and_now, now-fits, now-same, came-past, now-past}
 
@@ -133,6 +134,12 @@ now-lane called laws old lane octets now draws (Some hand) deed new h g there di
 answer-there : (answer : Happened) → Some answer ≢ None
 answer-there answer e = cc
 
+below-last : (n : ℕ) → nat_le n 0x7fffffff ≡ true → nat_le n 0x80000000 ≡ true
+below-last n e = grind (arith, nat_tests)
+
+at-last : (n : ℕ) → (n == 0x80000000) ≡ true → nat_le n 0x80000000 ≡ true
+at-last n e = grind (arith, nat_tests)
+
 now-call : (called : Called) (laws : Below) (old : World) (i procedure : ℕ) (args : List ℕ) (s : SessionState) (deed : Deed) (new : World) → Known old → Grows old new → slice_get old.stages i ≡ Some (stages.Stands s)
     → nat_le s.number 0x7fffffff ≡ true → Moves old i (calls s procedure args) deed new → Now (and_now called old (CallBy i procedure args) deed) old new
 now-call called laws old i procedure args s deed new k g there left (inl m) =
@@ -149,27 +156,57 @@ now-call called laws old i procedure args s deed new k g there left (inl m) =
           event_is = refl;
           session = s;
           stands = there;
-          left = left;
+          left = below-last s.number left;
           number_is = refl;
           answered = λ e. answer-there (calls s procedure args).answer (sym (ap (λ (d : Deed). d.answer) m.0) ∙ e);
         });
         completed = completed-stays old new i p.0 s.outcome g (record { there = p.1; stage = stages.Stands s; stands = there; session = s; in_session = refl; outcome_is = refl });
         made = a;
+        spent = λ over. absurd (let e = sym left ∙ over in cc);
       });
     }
 now-call called laws old i procedure args s deed new k g there left (inr m) = record { makes = []; is = ap (λ (w : World). w.makings) m.1; of = λ making a. absurd a }
 
-now-standing : (called : Called) (laws : Below) (old : World) (i procedure : ℕ) (args : List ℕ) (s : SessionState) (deed : Deed) (new : World) (b : Bool) → Known old → Grows old new → slice_get old.stages i ≡ Some (stages.Stands s)
-    → nat_le s.number 0x7fffffff ≡ b → CallsWith b old i s procedure args deed new → Now (and_now called old (CallBy i procedure args) deed) old new
-now-standing called laws old i procedure args s deed new true k g there left did = now-call called laws old i procedure args s deed new k g there left did
-now-standing called laws old i procedure args s deed new false k g there left did = now-idle _ old deed new did
+-- of the end of a context after its last call
+now-leave : (called : Called) (laws : Below) (old : World) (i procedure : ℕ) (args : List ℕ) (s : SessionState) (deed : Deed) (new : World) → Known old → Grows old new → slice_get old.stages i ≡ Some (stages.Stands s)
+    → (s.number == 0x80000000) ≡ true → Moves old i (leaves s) deed new → Now (and_now called old (CallBy i procedure args) deed) old new
+now-leave called laws old i procedure args s deed new k g there last (inl m) =
+    let p = k.placed i (stages.Stands s) there in record {
+      makes = (leaves s).makes;
+      is = ap (λ (w : World). w.makings) m.1;
+      of = λ making a. inl (record {
+        i = i;
+        own = p.0;
+        session = s;
+        procedure = procedure;
+        args = args;
+        was = inr (record {
+          event_is = refl;
+          session = s;
+          stands = there;
+          left = at-last s.number last;
+          number_is = refl;
+          answered = λ e. answer-there (leaves s).answer (sym (ap (λ (d : Deed). d.answer) m.0) ∙ e);
+        });
+        completed = completed-stays old new i p.0 s.outcome g (record { there = p.1; stage = stages.Stands s; stands = there; session = s; in_session = refl; outcome_is = refl });
+        made = leave-among s procedure args making a;
+        spent = λ over. (elim a [ inl e ↦ e | inr none ↦ absurd none ]);
+      });
+    }
+now-leave called laws old i procedure args s deed new k g there last (inr m) = record { makes = []; is = ap (λ (w : World). w.makings) m.1; of = λ making a. absurd a }
+
+now-standing : (called : Called) (laws : Below) (old : World) (i procedure : ℕ) (args : List ℕ) (s : SessionState) (deed : Deed) (new : World) (b c : Bool) → Known old → Grows old new → slice_get old.stages i ≡ Some (stages.Stands s)
+    → nat_le s.number 0x7fffffff ≡ b → (s.number == 0x80000000) ≡ c → CallsWith b c old i s procedure args deed new → Now (and_now called old (CallBy i procedure args) deed) old new
+now-standing called laws old i procedure args s deed new true c k g there left last did = now-call called laws old i procedure args s deed new k g there left did
+now-standing called laws old i procedure args s deed new false true k g there left last did = now-leave called laws old i procedure args s deed new k g there last did
+now-standing called laws old i procedure args s deed new false false k g there left last did = now-idle _ old deed new did
 
 now-calls : (called : Called) (laws : Below) (old : World) (i procedure : ℕ) (args : List ℕ) (stage : Option StageSays) (deed : Deed) (new : World) → Known old → Grows old new → slice_get old.stages i ≡ stage
     → CallsBy old i procedure args stage deed new → Now (and_now called old (CallBy i procedure args) deed) old new
 now-calls called laws old i procedure args None deed new k g there did = now-idle _ old deed new did
 now-calls called laws old i procedure args (Some (stages.Ready own)) deed new k g there did = now-idle _ old deed new did
 now-calls called laws old i procedure args (Some (stages.Asks xid end)) deed new k g there did = now-idle _ old deed new did
-now-calls called laws old i procedure args (Some (stages.Stands s)) deed new k g there did = now-standing called laws old i procedure args s deed new (nat_le s.number 0x7fffffff) k g there refl did
+now-calls called laws old i procedure args (Some (stages.Stands s)) deed new k g there did = now-standing called laws old i procedure args s deed new (nat_le s.number 0x7fffffff) (s.number == 0x80000000) k g there refl refl did
 now-calls called laws old i procedure args (Some (stages.Left s)) deed new k g there did = now-idle _ old deed new did
 now-calls called laws old i procedure args (Some stages.Over) deed new k g there did = now-idle _ old deed new did
 
@@ -192,6 +229,7 @@ called-on called more old new m on g c = record {
   was = on c.i c.session.number c.procedure c.args c.was;
   completed = completed-stays old new c.i c.own c.session.outcome g c.completed;
   made = c.made;
+  spent = c.spent;
 }
 
 made-more : (called : Called) (old : World) (event : WorldEvent) (deed : Deed) (new : World) → Grows old new → Calls called old → Now (and_now called old event deed) old new
@@ -236,6 +274,7 @@ calls-named called other w to from c = record {
       was = to by.i by.session.number by.procedure by.args by.was;
       completed = by.completed;
       made = by.made;
+      spent = by.spent;
     })
     | inr un ↦ inr un
   ];

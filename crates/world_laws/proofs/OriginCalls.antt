@@ -1,5 +1,5 @@
 -- The calls that were made: what was handed out for each, and its number, which no other call of the initiator has.
-use Rattle.std.proofs.Common.{◌≡◌, ◌≢◌, ◌⊎◌, inl, inr, ℕ, ◌<◌, ◌≤◌, Bool, true, nat_le, sym, ◌∙◌, ap, subst, arith, List, map, slice_get, slice_set, Option, Some, None}
+use Rattle.std.proofs.Common.{◌≡◌, ◌≢◌, ◌⊎◌, inl, inr, ℕ, ◌<◌, ◌≤◌, ◌==◌, Bool, true, false, nat_le, refl, sym, ◌∙◌, ap, subst, arith, List, map, slice_get, slice_set, Option, Some, None}
 use Rattle.std.proofs.lemmas.Bool.{cases_eq}
 use Rattle.std.proofs.lemmas.Bool.Decides.{nat_tests}
 use Rattle.scram_mech.specs.Laws.{Laws as ScramLaws}
@@ -14,13 +14,13 @@ use Rattle.world_laws.specs.Stages.{StageSays}
 use Rattle.world_laws.specs.Stages as stages
 use Rattle.world_laws.specs.Deeds.{Deed}
 use Rattle.world_laws.specs.State.{Context, World}
-use Rattle.world_laws.specs.Initiators.{Moved, calls, call_makings}
+use Rattle.world_laws.specs.Initiators.{Moved, header_making, calls, call_makings, leaves}
 use Rattle.world_laws.specs.Events.{Moves, CallsWith, CallsBy, HappensBy, IsProper, Begins}
 use Rattle.world_laws.specs.Origin.{IsCall}
 use Rattle.world_laws.specs.Premises.{Completed}
 use Rattle.world_laws.proofs.Invariants.{MadeRequest, MadeProof, MadeListMic, ContextMade}
 use Rattle.world_laws.proofs.Slices.{set-same, set-other}
-use Rattle.world_laws.proofs.Happening.{Move, Starting, Taking, Calling, Came, Idling, Moving, Laning}
+use Rattle.world_laws.proofs.Happening.{Move, Starting, Taking, Calling, Leaving, Came, Idling, Moving, Laning}
 use Rattle.world_laws.proofs.Makers.{tag, tag-request, tag-proof, tag-list_mic, tag-answer, tag-signature, tag-accept_mic, tag-result}
 
 -- ---- what is handed out for no call: of an initiator's MICs that over its own list alone, and nothing sealed
@@ -79,9 +79,11 @@ pub record CalledMaking (called : Called) (w : World) (m : MechMaking) : Type 0 
   pub was : called i session.number procedure args
   pub completed : Completed w i own session.outcome
   pub made : AmongMakings (map typed (call_makings session procedure args)) m
+  -- after the last call the header of the destruction alone
+  pub spent : nat_le session.number 0x7fffffff ≡ false → m ≡ typed (header_making session 3 1 0)
 
 pub record Fitting (number procedure : ℕ) (args : List ℕ) : Type 0 where
-  pub low : number ≤ 0x7fffffff
+  pub low : number ≤ 0x80000000
   pub served : procedure ≤ 4
   pub proper : are_args procedure args ≡ true
 
@@ -110,7 +112,7 @@ pub now-fits : (old : World) (event : WorldEvent) (deed : Deed) (i number proced
 now-fits old event deed i number procedure args proper c =
     let p : IsProper (CallBy i procedure args) = subst IsProper c.event_is proper in
     let left = c.left in
-    let low : number ≤ 0x7fffffff = grind (arith, nat_tests) in
+    let low : number ≤ 0x80000000 = grind (arith, nat_tests) in
     record { low = low; served = p.0; proper = p.1 }
 
 same-event : (i j p q : ℕ) (a b : List ℕ) → CallBy i p a ≡ CallBy j q b → (p ≡ q) × (a ≡ b)
@@ -148,6 +150,10 @@ move-past old i moved deed new (Calling s procedure args there left served prope
     (past-set old.stages i (stages.Stands s) moved.stage there (λ n p. subst (λ (v : Moved). IsPast (Some v.stage) n) (sym is) (omega (arith, p))) j number past)
 move-past old i moved deed new (Calling s procedure args there left served proper is) (inr m) j number past = subst (λ (w : World). IsPast (slice_get w.stages j) number) (sym m.1)
     (past-set old.stages i (stages.Stands s) moved.lost there (λ n p. subst (λ (v : Moved). IsPast (Some v.lost) n) (sym is) tt) j number past)
+move-past old i moved deed new (Leaving s procedure args there left last served proper is) (inl m) j number past = subst (λ (w : World). IsPast (slice_get w.stages j) number) (sym m.1)
+    (past-set old.stages i (stages.Stands s) moved.stage there (λ n p. subst (λ (v : Moved). IsPast (Some v.stage) n) (sym is) tt) j number past)
+move-past old i moved deed new (Leaving s procedure args there left last served proper is) (inr m) j number past = subst (λ (w : World). IsPast (slice_get w.stages j) number) (sym m.1)
+    (past-set old.stages i (stages.Stands s) moved.lost there (λ n p. subst (λ (v : Moved). IsPast (Some v.lost) n) (sym is) tt) j number past)
 
 pub came-past : (old : World) (deed : Deed) (new : World) → Came old deed new → (j number : ℕ) → IsPast (slice_get old.stages j) number → IsPast (slice_get new.stages j) number
 came-past old deed new (Idling i) j number past = subst (λ (w : World). IsPast (slice_get w.stages j) number) (sym i.1) past
@@ -162,18 +168,26 @@ answered-past old i s procedure args deed new there answered (inl m) = subst (λ
     (subst (λ (stage : Option StageSays). IsPast stage s.number) (sym (set-same old.stages i (stages.Stands (session_after s)) (stages.Stands s) there)) (omega arith))
 answered-past old i s procedure args deed new there answered (inr m) = absurd (answered (ap (λ (d : Deed). d.answer) m.0))
 
--- the move of a call that may be made
-with-number : (old : World) (i : ℕ) (s : SessionState) (procedure : ℕ) (args : List ℕ) (deed : Deed) (new : World) → nat_le s.number 0x7fffffff ≡ true
-    → CallsWith (nat_le s.number 0x7fffffff) old i s procedure args deed new → Moves old i (calls s procedure args) deed new
-with-number old i s procedure args deed new e did = subst (λ (b : Bool). CallsWith b old i s procedure args deed new) e did
+-- who ended its context has left it
+ended-past : (old : World) (i : ℕ) (s : SessionState) (deed : Deed) (new : World) (number : ℕ) → slice_get old.stages i ≡ Some (stages.Stands s) → Moves old i (leaves s) deed new → IsPast (slice_get new.stages i) number
+ended-past old i s deed new number there (inl m) = subst (λ (w : World). IsPast (slice_get w.stages i) number) (sym m.1)
+    (subst (λ (stage : Option StageSays). IsPast stage number) (sym (set-same old.stages i (stages.Left s) (stages.Stands s) there)) tt)
+ended-past old i s deed new number there (inr m) = subst (λ (w : World). IsPast (slice_get w.stages i) number) (sym m.1)
+    (subst (λ (stage : Option StageSays). IsPast stage number) (sym (set-same old.stages i (stages.Left s) (stages.Stands s) there)) tt)
 
-call-moves : (old : World) (event : WorldEvent) (deed : Deed) (new : World) (i number procedure : ℕ) (args : List ℕ) → HappensBy old event deed new → (c : IsCall old event deed i number procedure args)
-    → Moves old i (calls c.session procedure args) deed new
-call-moves old event deed new i number procedure args did c =
-    let by : CallsBy old i procedure args (slice_get old.stages i) deed new = subst (λ (e : WorldEvent). HappensBy old e deed new) c.event_is did in
-    with-number old i c.session procedure args deed new (subst (λ (n : ℕ). nat_le n 0x7fffffff ≡ true) (sym c.number_is) c.left)
-    (subst (λ (stage : Option StageSays). CallsBy old i procedure args stage deed new) c.stands by)
+-- no number is between those of calls and the one after them
+no-number : (n : ℕ) → nat_le n 0x80000000 ≡ true → nat_le n 0x7fffffff ≡ false → (n == 0x80000000) ≡ false → ⊥
+no-number n low left last = grind (arith, nat_tests)
+
+with-past : (old : World) (i : ℕ) (s : SessionState) (procedure : ℕ) (args : List ℕ) (deed : Deed) (new : World) (b c : Bool) → slice_get old.stages i ≡ Some (stages.Stands s) → deed.answer ≢ None → nat_le s.number 0x80000000 ≡ true
+    → nat_le s.number 0x7fffffff ≡ b → (s.number == 0x80000000) ≡ c → CallsWith b c old i s procedure args deed new → IsPast (slice_get new.stages i) s.number
+with-past old i s procedure args deed new true c there answered low left last did = answered-past old i s procedure args deed new there answered did
+with-past old i s procedure args deed new false true there answered low left last did = ended-past old i s deed new s.number there did
+with-past old i s procedure args deed new false false there answered low left last did = absurd (no-number s.number low left last)
 
 pub now-past : (old : World) (event : WorldEvent) (deed : Deed) (new : World) (i number procedure : ℕ) (args : List ℕ) → HappensBy old event deed new → IsCall old event deed i number procedure args → IsPast (slice_get new.stages i) number
-now-past old event deed new i number procedure args did c = subst (IsPast (slice_get new.stages i)) c.number_is
-    (answered-past old i c.session procedure args deed new c.stands c.answered (call-moves old event deed new i number procedure args did c))
+now-past old event deed new i number procedure args did c =
+    let by : CallsBy old i procedure args (slice_get old.stages i) deed new = subst (λ (e : WorldEvent). HappensBy old e deed new) c.event_is did in
+    subst (IsPast (slice_get new.stages i)) c.number_is
+    (with-past old i c.session procedure args deed new (nat_le c.session.number 0x7fffffff) (c.session.number == 0x80000000) c.stands c.answered (subst (λ (n : ℕ). nat_le n 0x80000000 ≡ true) (sym c.number_is) c.left) refl refl
+    (subst (λ (stage : Option StageSays). CallsBy old i procedure args stage deed new) c.stands by))

@@ -1,5 +1,5 @@
 -- Whose call a record is, that was found verified under a key: by its header, and by its body.
-use Rattle.std.proofs.Common.{◌≡◌, ◌⊎◌, inl, inr, ℕ, ◌+◌, ◌*◌, ◌<◌, ◌≤◌, ◌^◌, true, refl, sym, ◌∙◌, ap, subst, arith, List, [], ◌∷◌, ◌++◌, length, length-append, drop}
+use Rattle.std.proofs.Common.{◌≡◌, ◌⊎◌, inl, inr, ℕ, ◌+◌, ◌*◌, ◌<◌, ◌≤◌, ◌^◌, Bool, true, false, nat_le, refl, sym, ◌∙◌, ap, subst, arith, List, [], ◌∷◌, ◌++◌, length, length-append, drop}
 use Rattle.krb_derive.specs.declared.key.Key.{Key}
 use Rattle.krb_derive.specs.Making.{check_making, sealed_making}
 use Rattle.krb_tokens.specs.declared.end.Side.TheVariants.{Initiator}
@@ -62,6 +62,7 @@ pub record HeaderFrom (called : Called) (w : World) (key : Key) (call : CallValu
   pub service_low : 1 ≤ cred.service
   pub service_high : cred.service ≤ 3
   pub of_data : cred.proc ≡ 0 → (procedure ≡ call.procedure) × (cred.service ≡ 1 → procedure ≡ 0)
+  pub left : cred.proc ≡ 0 → nat_le session.number 0x7fffffff ≡ true
 
 no-body : (header args : List ℕ) (n : ℕ) → AreShort args → word_of 4 header ≡ 0 → 48 ≤ length header → header ≡ word n ++ args → ⊥
 no-body header args n short zero_is long is =
@@ -72,8 +73,9 @@ no-body header args n short zero_is long is =
     omega (arith, few, size, four, long)
 
 header-of-call : (called : Called) (w : World) (key : Key) (header : List ℕ) (call : CallValue) (cred : CredValue) (m : MechMaking) (by : CalledMaking called w m) → Calls called w → Told header call cred
-    → (h : HeaderMaking by.session by.procedure m) → header ≡ header_of by.session h.proc h.service h.named → by.session.outcome.key ≡ key → HeaderFrom called w key call cred
-header-of-call called w key header call cred m by calls t h is key_is =
+    → (h : HeaderMaking by.session by.procedure m) → header ≡ header_of by.session h.proc h.service h.named → by.session.outcome.key ≡ key
+    → (nat_le by.session.number 0x7fffffff ≡ false → header ≡ header_of by.session 3 1 0) → HeaderFrom called w key call cred
+header-of-call called w key header call cred m by calls t h is key_is spent =
     let f : Fitting by.session.number by.procedure by.args = calls.fits by.i by.session.number by.procedure by.args by.was in
     let low = f.low in
     let served = f.served in
@@ -98,11 +100,17 @@ header-of-call called w key header call cred m by calls t h is key_is =
       service_low = omega (arith, service_is, service_low);
       service_high = omega (arith, service_is, service_high);
       of_data = λ z. (let d = h.of_data (sym proc_is ∙ z) in (sym d.0 ∙ sym procedure_is, λ q. d.1 (sym service_is ∙ q)));
+      left = λ z. is-left (nat_le by.session.number 0x7fffffff) refl z;
     }
   where
     small-name : (name procedure : ℕ) → (name ≡ procedure) ⊎ (name ≡ 0) → procedure ≤ 4 → name < 2 ^ 32
     small-name name procedure (inl e) served = omega (arith, e, served)
     small-name name procedure (inr e) served = omega (arith, e)
+
+    -- what is handed out after the last call is no header of data
+    is-left : (b : Bool) → nat_le by.session.number 0x7fffffff ≡ b → cred.proc ≡ 0 → nat_le by.session.number 0x7fffffff ≡ true
+    is-left true e z = e
+    is-left false e z = absurd (let three : cred.proc ≡ 3 = t.proc ∙ (ap (word_of 36) (spent e) ∙ header-proc by.session 3 1 0 (omega arith)) in omega (arith, z, three))
 
 header-by : (called : Called) (tokens : TokenLaws) (w : World) (key : Key) (header tail : List ℕ) (call : CallValue) (cred : CredValue) → Calls called w → Told header call cred → length tail ≡ 16
     → (by : CalledMaking called w (typed (check_making key 25 (header ++ tail))))
@@ -111,6 +119,7 @@ header-by : (called : Called) (tokens : TokenLaws) (w : World) (key : Key) (head
 header-by called tokens w key header tail call cred calls t long by (inl h) =
     let same = check-octets key by.session.outcome.key header (header_of by.session h.proc h.service h.named) tail (mic_header (own_end by.session) (2 * by.session.number)) long (tokens.long_mic (own_end by.session) (2 * by.session.number)) h.is in
     header-of-call called w key header call cred _ by calls t h same.0 same.1
+    (λ over. (check-octets key by.session.outcome.key header (header_of by.session 3 1 0) tail (mic_header (own_end by.session) (2 * by.session.number)) long (tokens.long_mic (own_end by.session) (2 * by.session.number)) (by.spent over)).0)
 header-by called tokens w key header tail call cred calls t long by (inr (inl b)) =
     let same = check-octets key by.session.outcome.key header (word by.session.number ++ by.args) tail (mic_header (own_end by.session) (2 * by.session.number + 1)) long (tokens.long_mic (own_end by.session) (2 * by.session.number + 1)) b in
     let f : Fitting by.session.number by.procedure by.args = calls.fits by.i by.session.number by.procedure by.args by.was in

@@ -1,5 +1,5 @@
 -- A call in the log was made by the context's initiator, and so was an end by a call.
-use Rattle.std.proofs.Common.{◌≡◌, inl, inr, ℕ, ◌≤◌, Bool, true, false, refl, sym, ◌∙◌, ap, subst, arith, List, [], ◌∷◌, ◌++◌, length, take, map, slice_get, Some, Result, Ok, Err, is_ok}
+use Rattle.std.proofs.Common.{◌≡◌, inl, inr, ℕ, ◌≤◌, Bool, true, false, nat_le, refl, sym, ◌∙◌, ap, subst, arith, List, [], ◌∷◌, ◌++◌, length, take, map, slice_get, Some, Result, Ok, Err, is_ok}
 use Rattle.std.specs.Prelude.{◌==◌, ◌&&◌}
 use Rattle.std.proofs.lemmas.Bool.{eqb-true}
 use Rattle.std.proofs.lemmas.Bool.Decides.{nat_tests}
@@ -29,6 +29,7 @@ use Rattle.world_laws.proofs.Invariants.{Held}
 use Rattle.world_laws.proofs.Kerberos.{same-context}
 use Rattle.world_laws.proofs.Due.{shown, Admitting}
 use Rattle.world_laws.proofs.OriginReading.{told}
+use Rattle.world_laws.proofs.Owning.{among-back}
 use Rattle.world_laws.proofs.OriginWords.{args-short}
 use Rattle.rpcsec_bodies.specs.Carried.{IsCheckedBody, IsSealedBody}
 use Rattle.world_laws.proofs.OriginShown.{BodyBy, body-by, NumberedBy, numbered-by}
@@ -42,10 +43,6 @@ among-front : (front back : List Making) (m : MechMaking) → AmongMakings (map 
 among-front [] back m a = absurd a
 among-front (x ∷ front) back m (inl e) = inl e
 among-front (x ∷ front) back m (inr a) = inr (among-front front back m a)
-
-among-back : (front back : List Making) (m : MechMaking) → AmongMakings (map typed back) m → AmongMakings (map typed (front ++ back)) m
-among-back [] back m a = a
-among-back (x ∷ front) back m a = inr (among-back front back m a)
 
 one-among : (makings : List Making) (x : Making) → makings ≡ x ∷ [] → AmongMakings (map typed makings) (typed x)
 one-among makings x e = subst (λ (ms : List Making). AmongMakings (map typed ms) (typed x)) (sym e) (inl refl)
@@ -184,14 +181,14 @@ context-made marking w id lease found place x held b there id_is =
 
 call-by : (called : Called) (tokens : TokenLaws) (marking : Marking) (w : World) (seq procedure : ℕ) (digest : List ℕ) (x : Context) (octets : List ℕ) (kept : KeptAnswers) (lease : Lease) → Calls called w → (has : HasInitiator w x)
     → Holds w lease.outcome.key has.initiator → x.fixed.outcome.key ≡ lease.outcome.key → (due : Admitting octets kept told_width lease seq procedure digest) → (due.cred.proc == 0) ≡ true
-    → ((m : MechMaking) → AmongMakings (map typed (found_in_call lease octets (secure_call_in octets))) m → WasMade w m) → Traced called w x seq (Means procedure digest)
+    → ((m : MechMaking) → AmongMakings (map typed (found_in_call lease octets (secure_call_in octets))) m → WasMade w m) → Traced called w x seq (Means seq procedure digest)
 call-by called tokens marking w seq procedure digest x octets kept lease calls has holds key due of_data made =
     by (header-call called tokens w lease octets kept due.call due.cred calls due.read due.cred_read due.verified (λ m a. made m (in-call-header lease octets due.call due.cred m is a)))
   where
     is : secure_call_in octets ≡ Some (due.call, due.cred)
     is = call-is octets due.call due.cred due.read due.cred_read
 
-    by : HeaderFrom called w lease.outcome.key due.call due.cred → Traced called w x seq (Means procedure digest)
+    by : HeaderFrom called w lease.outcome.key due.call due.cred → Traced called w x seq (Means seq procedure digest)
     by h =
         let d = h.of_data (eqb-true due.cred.proc 0 of_data) in
         let same : h.args ≡ due.args = args-by called tokens w lease has.initiator due.call due.cred due.args calls holds h d.0 d.1 due.proper
@@ -204,11 +201,11 @@ call-by called tokens marking w seq procedure digest x octets kept lease calls h
           procedure = h.procedure;
           args = h.args;
           was = called-by called h.i has.initiator h.session.number seq h.procedure h.args (holds h.i h.own h.session.outcome h.completed h.key_is) (h.number_is ∙ sym due.seq_is) h.was;
-          meant = (d.0 ∙ sym due.procedure_is, ap sha1 same ∙ sym due.digest_is);
+          meant = (subst (λ (n : ℕ). nat_le n 0x7fffffff ≡ true) (h.number_is ∙ sym due.seq_is) (h.left (eqb-true due.cred.proc 0 of_data)), d.0 ∙ sym due.procedure_is, ap sha1 same ∙ sym due.digest_is);
         }
 
 pub call-traced : (called : Called) (tokens : TokenLaws) (marking : Marking) (w : World) (id seq procedure : ℕ) (digest : List ℕ) (place : ℕ) (x : Context) → Held w → Calls called w → CallBacked marking w id seq procedure digest
-    → slice_get w.fixed place ≡ Some x → x.id ≡ id → GuardedBasis marking x.fixed.basis → (has : HasInitiator w x) → Holds w x.fixed.outcome.key has.initiator → Traced called w x seq (Means procedure digest)
+    → slice_get w.fixed place ≡ Some x → x.id ≡ id → GuardedBasis marking x.fixed.basis → (has : HasInitiator w x) → Holds w x.fixed.outcome.key has.initiator → Traced called w x seq (Means seq procedure digest)
 call-traced called tokens marking w id seq procedure digest place x held calls c there id_is guarded has holds =
     let same : c.backed.context ≡ x = context-made marking w id c.lease (found_in_call c.lease c.octets (secure_call_in c.octets)) place x held c.backed there id_is in
     let key : x.fixed.outcome.key ≡ c.lease.outcome.key = sym (ap (λ (z : Context). z.fixed.outcome.key) same) ∙ ap (λ (o : Outcome). o.key) c.backed.outcome_is in

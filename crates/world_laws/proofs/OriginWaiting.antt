@@ -24,7 +24,7 @@ use Rattle.world_laws.specs.Premises.{session_in, Completed}
 use Rattle.world_laws.proofs.Invariants.{Below, Known, MadeProof}
 use Rattle.world_laws.proofs.Slices.{set-cases}
 use Rattle.world_laws.proofs.Growing.{Grows, grows, makings-grow}
-use Rattle.world_laws.proofs.Happening.{Move, Starting, Taking, Calling, Came, Idling, Moving, Laning, came}
+use Rattle.world_laws.proofs.Happening.{Move, Starting, Taking, Calling, Leaving, Came, Idling, Moving, Laning, came}
 use Rattle.world_laws.proofs.Moving.{starts-by, takes-by}
 use Rattle.world_laws.proofs.Owning.{proof-made, taken-law}
 use Rattle.world_laws.proofs.OriginSteps.{waits_of, waits_in, HasProof, Proving, ReadyBy, step-proving, start-waits}
@@ -177,6 +177,12 @@ moves-proofs laws old i moved deed new k g (Calling s procedure args stands left
     proofs-set old new i moved.stage g (ap (λ (w : World). w.stages) m.1)
     (λ own there. subst (λ (v : Moved). StageProof new own v.stage) (sym is) (λ scram. handed-on old new own g (p.handed i own (stages.Stands s) there stands scram))) p
 moves-proofs laws old i moved deed new k g (Calling s procedure args stands left served proper is) (inr m) p =
+    proofs-set old new i moved.lost g (ap (λ (w : World). w.stages) m.1)
+    (λ own there. subst (λ (v : Moved). StageProof new own v.lost) (sym is) (λ scram. handed-on old new own g (p.handed i own (stages.Stands s) there stands scram))) p
+moves-proofs laws old i moved deed new k g (Leaving s procedure args stands left last served proper is) (inl m) p =
+    proofs-set old new i moved.stage g (ap (λ (w : World). w.stages) m.1)
+    (λ own there. subst (λ (v : Moved). StageProof new own v.stage) (sym is) (λ scram. handed-on old new own g (p.handed i own (stages.Stands s) there stands scram))) p
+moves-proofs laws old i moved deed new k g (Leaving s procedure args stands left last served proper is) (inr m) p =
     proofs-set old new i moved.lost g (ap (λ (w : World). w.stages) m.1)
     (λ own there. subst (λ (v : Moved). StageProof new own v.lost) (sym is) (λ scram. handed-on old new own g (p.handed i own (stages.Stands s) there stands scram))) p
 

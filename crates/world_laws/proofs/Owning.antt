@@ -1,6 +1,7 @@
 -- Whoever handed out a making stays its owner; what initiators hand out.
-use Rattle.std.proofs.Common.{◌≡◌, ◌⊎◌, inl, inr, ℕ, ◌≤◌, true, refl, sym, ap, subst, List, [], ◌++◌, map, slice_get, Option, Some, Ok}
+use Rattle.std.proofs.Common.{◌≡◌, ◌⊎◌, inl, inr, ℕ, ◌≤◌, ◌==◌, cond, true, refl, sym, ap, subst, List, [], ◌∷◌, ◌++◌, map, slice_get, Option, Some, Ok}
 use Rattle.gss_base.specs.declared.mech.MechKind.{MechKind}
+use Rattle.krb_derive.specs.Making.{Making}
 use Rattle.scram_mech.specs.Initiator.{InitModel}
 use Rattle.scram_mech.specs.MechMaking.{MechMaking, AmongMakings, typed}
 use Rattle.spnego_core.specs.Ends.{PlainSetup, EndSays}
@@ -12,11 +13,11 @@ use Rattle.gss_client.specs.Session.{SessionState}
 use Rattle.world_laws.specs.Stages as stages
 use Rattle.world_laws.specs.Deeds.{Deed}
 use Rattle.world_laws.specs.State.{World}
-use Rattle.world_laws.specs.Initiators.{Moved, refused, starts, takes, call_makings}
+use Rattle.world_laws.specs.Initiators.{Moved, refused, starts, takes, header_making, call_makings, leaves}
 use Rattle.world_laws.specs.Events.{Moves, Begins}
 use Rattle.world_laws.proofs.Invariants.{Below, Known, MadeRequest, MadeProof, MadeCall, InitMade, ByInitiator, ByContext, Owning}
 use Rattle.world_laws.proofs.Growing.{Grows, fixed-grow, completed-stays}
-use Rattle.world_laws.proofs.Happening.{Move, Starting, Taking, Calling}
+use Rattle.world_laws.proofs.Happening.{Move, Starting, Taking, Calling, Leaving}
 use Rattle.world_laws.proofs.Moving.{StartedBy, starts-by, takes-by}
 
 abbrev pub Owned : World → MechMaking → Type 0
@@ -107,6 +108,15 @@ call-made w i own s procedure args making there stands served proper a = record 
 }
 
 -- where the move is from, what its initiator was begun with, and that it hands out no more than that initiator may
+pub among-back : (front back : List Making) (m : MechMaking) → AmongMakings (map typed back) m → AmongMakings (map typed (front ++ back)) m
+among-back [] back m a = a
+among-back (x ∷ front) back m a = inr (among-back front back m a)
+
+-- the header of a destruction is among what is handed out for each call
+pub leave-among : (s : SessionState) (procedure : ℕ) (args : List ℕ) (m : MechMaking) → AmongMakings (leaves s).makes m → AmongMakings (map typed (call_makings s procedure args)) m
+leave-among s procedure args m (inl e) = among-back (cond (procedure == 0) (header_making s 0 1 procedure ∷ []) []) _ m (inr (inr (inl e)))
+leave-among s procedure args m (inr none) = absurd none
+
 pub record Mover (w : World) (i : ℕ) (moved : Moved) : Type 0 where
   pub own : PlainSetup
   pub there : slice_get w.facts i ≡ Some own
@@ -140,6 +150,10 @@ mover laws w i moved k (Taking first xid end octets there is) = subst (Mover w i
 mover laws w i moved k (Calling s procedure args there left served proper is) =
     let p = k.placed i (stages.Stands s) there in
     subst (Mover w i) (sym is) (record { own = p.0; there = p.1; made = λ making a. inr (inr (inr (call-made w i p.0 s procedure args making p.1 there served proper a))) })
+mover laws w i moved k (Leaving s procedure args there left last served proper is) =
+    let p = k.placed i (stages.Stands s) there in
+    subst (Mover w i) (sym is)
+    (record { own = p.0; there = p.1; made = λ making a. inr (inr (inr (call-made w i p.0 s procedure args making p.1 there served proper (leave-among s procedure args making a)))) })
 
 pub move-owned : (laws : Below) (w : World) (i : ℕ) (moved : Moved) → Known w → Move w i moved → (making : MechMaking) → AmongMakings moved.makes making → ByInitiator w making
 move-owned laws w i moved k move making a =

@@ -1,5 +1,5 @@
 -- What is refused forges nothing.
-use Rattle.std.proofs.Common.{◌≡◌, inl, inr, ℕ, Bool, true, false, nat_le, refl, sym, ◌∙◌, ap, subst, List, [], slice_get, Option, Some, None, Result, Ok, Err}
+use Rattle.std.proofs.Common.{◌≡◌, inl, inr, ℕ, ◌==◌, Bool, true, false, nat_le, refl, sym, ◌∙◌, ap, subst, List, [], slice_get, Option, Some, None, Result, Ok, Err}
 use Rattle.std.proofs.lemmas.Option.{none-some, same_Some}
 use Rattle.scram_mech.specs.MechMaking.{MechMaking, AmongMakings}
 use Rattle.spnego_core.specs.declared.refusal.NegRefusal.{NegRefusal}
@@ -17,7 +17,7 @@ use Rattle.world_laws.specs.Stages.{StageSays}
 use Rattle.world_laws.specs.Stages as stages
 use Rattle.world_laws.specs.Deeds.{Deed}
 use Rattle.world_laws.specs.State.{World}
-use Rattle.world_laws.specs.Initiators.{Moved, did, started_by, starts, created_by, takes, calls}
+use Rattle.world_laws.specs.Initiators.{Moved, did, started_by, starts, created_by, takes, calls, leaves}
 use Rattle.world_laws.specs.Events.{Idles, Moves, StartsBy, DeliversBy, CallsWith, CallsBy, Happens}
 use Rattle.world_laws.specs.Premises.{Marking, Unforged}
 use Rattle.world_laws.specs.Headline.{IsQuiet, QuietLaw}
@@ -74,15 +74,16 @@ reply-none old i octets first (Some stages.Over) deed new refused d = idles-none
 
 -- ---- a call
 
-number-none : (left : Bool) (old : World) (i : ℕ) (s : SessionState) (procedure : ℕ) (args : List ℕ) (deed : Deed) (new : World) → CallsWith left old i s procedure args deed new → FindsNone deed
-number-none true old i s procedure args deed new d = moves-none old i (calls s procedure args) deed new (λ e. refl) d
-number-none false old i s procedure args deed new d = idles-none old deed new d
+number-none : (left last : Bool) (old : World) (i : ℕ) (s : SessionState) (procedure : ℕ) (args : List ℕ) (deed : Deed) (new : World) → CallsWith left last old i s procedure args deed new → FindsNone deed
+number-none true last old i s procedure args deed new d = moves-none old i (calls s procedure args) deed new (λ e. refl) d
+number-none false true old i s procedure args deed new d = moves-none old i (leaves s) deed new (λ e. refl) d
+number-none false false old i s procedure args deed new d = idles-none old deed new d
 
 call-none : (old : World) (i procedure : ℕ) (args : List ℕ) (stage : Option StageSays) (deed : Deed) (new : World) → CallsBy old i procedure args stage deed new → FindsNone deed
 call-none old i procedure args None deed new d = idles-none old deed new d
 call-none old i procedure args (Some (stages.Ready own)) deed new d = idles-none old deed new d
 call-none old i procedure args (Some (stages.Asks xid end)) deed new d = idles-none old deed new d
-call-none old i procedure args (Some (stages.Stands s)) deed new d = number-none (nat_le s.number 0x7fffffff) old i s procedure args deed new d
+call-none old i procedure args (Some (stages.Stands s)) deed new d = number-none (nat_le s.number 0x7fffffff) (s.number == 0x80000000) old i s procedure args deed new d
 call-none old i procedure args (Some (stages.Left s)) deed new d = idles-none old deed new d
 call-none old i procedure args (Some stages.Over) deed new d = idles-none old deed new d
 

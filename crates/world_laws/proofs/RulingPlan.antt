@@ -122,6 +122,7 @@ stepped-is s (steps.Refused (books.Neg refusal)) = refl
 stepped-is s (steps.Refused (books.Stale greatest)) = refl
 stepped-is s (steps.Refused (books.Repeat place)) = refl
 stepped-is s (steps.Refused books.CacheFull) = refl
+stepped-is s (steps.Refused books.Journal) = refl
 stepped-is s steps.NoMemory = refl
 
 step-is : (s : Shown) (id : Option ℕ) (token : List ℕ) (negotiated : Option Negotiated)

@@ -47,7 +47,7 @@ same-account own u p v q e f = (cc, cc)
 -- ---- an initiator that is done
 
 abbrev done_with : WaitModel → MechDone
-done_with wait = record { key = wait.key; subkey = false; initiator = wait.user; acceptor = []; hash = wait.hash; ends = greatest_moment }
+done_with wait = record { key = wait.key; subkey = false; initiator = wait.user; acceptor = []; hash = wait.hash; ends = greatest_moment; first = 0 }
 
 abbrev given : InitFinished → Result InitFinished ScramRefusal
 given f = Ok f

@@ -24,10 +24,10 @@ use Rattle.world_laws.proofs.Invariants.{Below, Known, Held, MadeCall, MechFinis
 use Rattle.world_laws.proofs.FoundKept.{Stays, Founds, finished-grows, of-found}
 use Rattle.world_laws.proofs.FoundSteps.{Verified, Built, StepFound, step-found}
 use Rattle.world_laws.proofs.Growing.{Grows, grows, was-made-grows, completed-stays}
-use Rattle.world_laws.proofs.Happening.{Move, Starting, Taking, Calling, Came, Idling, Moving, Laning, came}
+use Rattle.world_laws.proofs.Happening.{Move, Starting, Taking, Calling, Leaving, Came, Idling, Moving, Laning, came}
 use Rattle.world_laws.proofs.Makers.{tag, tag-request, tag-proof, not-context}
 use Rattle.world_laws.proofs.Moving.{StartedBy, Went, Stood, starts-by, takes-by}
-use Rattle.world_laws.proofs.Owning.{proof-made, request-made, call-made, taken-law}
+use Rattle.world_laws.proofs.Owning.{proof-made, request-made, call-made, leave-among, taken-law}
 use Rattle.world_laws.proofs.OwningStep.{asks-owned}
 use Rattle.world_laws.proofs.Slices.{set-same}
 
@@ -215,6 +215,14 @@ move-signed laws marking last old new i moved making g known f built verified is
       own = p.0;
       there = p.1;
       made = call-made old i p.0 s procedure args making p.1 there served proper (subst (λ (m : Moved). AmongMakings m.makes making) e a);
+    }))
+move-signed laws marking last old new i moved making g known f built verified is untold (Leaving s procedure args there left ended served proper e) a t =
+    let p = known.placed i (stages.Stands s) there in
+    inr (caller-on old new making g (record {
+      i = i;
+      own = p.0;
+      there = p.1;
+      made = call-made old i p.0 s procedure args making p.1 there served proper (leave-among s procedure args making (subst (λ (m : Moved). AmongMakings m.makes making) e a));
     }))
 
 -- ---- an event

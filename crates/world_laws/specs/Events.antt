@@ -1,6 +1,6 @@
 -- Events, and runs of them.
-use Rattle.std.specs.Prelude.{◌≡◌, ◌⊎◌, ℕ, ◌≤◌, Bool, true, false, nat_le, List, [], ◌∷◌, length}
-use Rattle.std.specs.Prelude.{slice_get, Option, Some, None}
+use Rattle.std.specs.Prelude.{◌≡◌, ◌⊎◌, ℕ, ◌≤◌, ◌==◌, Bool, true, false, nat_le, List, [], ◌∷◌}
+use Rattle.std.specs.Prelude.{length, slice_get, Option, Some, None}
 use Rattle.spnego_core.specs.Ends.{PlainSetup}
 use Rattle.spnego_core.specs.InitMech.{is_own_list}
 use Rattle.accept_book.specs.Booking.{BookOf, by_outcome}
@@ -14,7 +14,7 @@ use Rattle.world_laws.specs.Stages.{StageSays}
 use Rattle.world_laws.specs.Stages as stages
 use Rattle.world_laws.specs.Deeds.{Deed, quiet, nothing}
 use Rattle.world_laws.specs.State.{InHand, World, moved_to}
-use Rattle.world_laws.specs.Initiators.{Moved, did, starts, takes, calls}
+use Rattle.world_laws.specs.Initiators.{Moved, did, starts, takes, calls, leaves}
 use Rattle.world_laws.specs.Lanes.{in_hand, LaneMoves}
 use Rattle.world_laws.specs.Setups.{Proper}
 
@@ -53,18 +53,21 @@ DeliversBy old i octets first (Some (stages.Stands s)) deed new = Idles old deed
 DeliversBy old i octets first (Some (stages.Left s)) deed new = Idles old deed new
 DeliversBy old i octets first (Some stages.Over) deed new = Idles old deed new
 
--- no number is left after 0x7fffffff
-abbrev pub CallsWith : Bool → World → ℕ → SessionState → ℕ → List ℕ → Deed → World → Type 0
-CallsWith true old i s procedure args deed new = Moves old i (calls s procedure args) deed new
-CallsWith false old i s procedure args deed new = Idles old deed new
+-- a session whose number is one of a call makes that call, and one with the number after these ends
+-- its context
+abbrev pub CallsWith : Bool → Bool → World → ℕ → SessionState → ℕ → List ℕ → Deed → World → Type 0
+CallsWith true last old i s procedure args deed new = Moves old i (calls s procedure args) deed new
+CallsWith false true old i s procedure args deed new = Moves old i (leaves s) deed new
+CallsWith false false old i s procedure args deed new = Idles old deed new
 
--- a call: an initiator whose context stands makes it, if a number is left; else nothing is done
+-- a call: an initiator whose context stands makes it, or ends its context if no number is left for
+-- one; else nothing is done
 abbrev pub CallsBy : World → ℕ → ℕ → List ℕ → Option StageSays → Deed → World → Type 0
 CallsBy old i procedure args None deed new = Idles old deed new
 CallsBy old i procedure args (Some (stages.Ready own)) deed new = Idles old deed new
 CallsBy old i procedure args (Some (stages.Asks xid end)) deed new = Idles old deed new
 CallsBy old i procedure args (Some (stages.Stands s)) deed new =
-    CallsWith (nat_le s.number 0x7fffffff) old i s procedure args deed new
+    CallsWith (nat_le s.number 0x7fffffff) (s.number == 0x80000000) old i s procedure args deed new
 CallsBy old i procedure args (Some (stages.Left s)) deed new = Idles old deed new
 CallsBy old i procedure args (Some stages.Over) deed new = Idles old deed new
 

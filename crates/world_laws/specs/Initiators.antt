@@ -15,7 +15,7 @@ use Rattle.gss_client.specs.declared.refusal.ClientRefusal.{ClientRefusal}
 use Rattle.gss_client.specs.Creation.{CreatedSays}
 use Rattle.gss_client.specs.Creation as created
 use Rattle.rpcsec_bodies.specs.declared.service.Service.TheVariants.{Integrity}
-use Rattle.gss_client.specs.Calling.{creation_call, header_of, data_call, own_end}
+use Rattle.gss_client.specs.Calling.{creation_call, header_of, data_call, destroy_call, own_end}
 use Rattle.gss_client.specs.Judging.{GrantedValue, granted_in, creation_step}
 use Rattle.gss_client.specs.Session.{SessionState, session_after, xid_after}
 use Rattle.gss_client.specs.Talk.{begun}
@@ -143,5 +143,16 @@ calls s procedure args = record {
   lost = stages.Left s;
   answer = Sent (data_call s procedure args (replicate 16 0));
   makes = map typed (call_makings s procedure args);
+  found = [];
+}
+
+-- what an initiator does whose session has no number left for a call: it ends its context, with the
+-- number after those of calls, and has left it, also if memory is wanted (RFC 2203, 5.3.1)
+abbrev pub leaves : SessionState → Moved
+leaves s = record {
+  stage = stages.Left s;
+  lost = stages.Left s;
+  answer = Sent (destroy_call s);
+  makes = typed (header_making s 3 1 0) ∷ [];
   found = [];
 }

@@ -17,13 +17,13 @@ use Rattle.world_laws.specs.Premises.{Marking, Listed, GuardedBasis, NoForgery, 
 use Rattle.world_laws.specs.Agreement.{HasInitiator}
 
 -- the event is a call of this initiator with this number, procedure and arguments, and its record
--- was handed out
+-- was handed out; with 0x80000000, the number after those of calls, it is the end of its context
 pub record IsCall (old : World) (event : WorldEvent) (deed : Deed) (i number procedure : ℕ)
     (args : List ℕ) : Type 0 where
   pub event_is : event ≡ CallBy i procedure args
   pub session : SessionState
   pub stands : slice_get old.stages i ≡ Some (Stands session)
-  pub left : nat_le number 0x7fffffff ≡ true
+  pub left : nat_le number 0x80000000 ≡ true
   pub number_is : session.number ≡ number
   pub answered : deed.answer ≢ None
 
@@ -48,9 +48,11 @@ pub record CameFrom (old : World) (events : List WorldEvent) (new : World) (run 
   pub called : WasCalled old events new run has.initiator number procedure args
   pub meant : means procedure args
 
--- the call has the procedure in the log, and arguments whose SHA-1 is the digest in the log
-abbrev pub Means : ℕ → List ℕ → ℕ → List ℕ → Type 0
-Means procedure digest called args = (called ≡ procedure) × (sha1 args ≡ digest)
+-- the number is a call's, and the call has the procedure in the log, and arguments whose SHA-1 is
+-- the digest in the log
+abbrev pub Means : ℕ → ℕ → List ℕ → ℕ → List ℕ → Type 0
+Means number procedure digest called args =
+    (nat_le number 0x7fffffff ≡ true) × (called ≡ procedure) × (sha1 args ≡ digest)
 
 -- each call in the log, and each end by a call, of a context that is built on a guarded key
 pub record Origin (marking : Marking) (old : World) (events : List WorldEvent) (new : World)
@@ -58,7 +60,7 @@ pub record Origin (marking : Marking) (old : World) (events : List WorldEvent) (
   pub calls : (place id seq procedure : ℕ) (digest : List ℕ) (x : Context)
       → entry_at place new.book.core.history ≡ Some (Call id seq procedure digest)
       → Listed new.fixed x → x.id ≡ id → GuardedBasis marking x.fixed.basis
-      → CameFrom old events new run x seq (Means procedure digest)
+      → CameFrom old events new run x seq (Means seq procedure digest)
   pub ends : (place id seq : ℕ) (x : Context)
       → entry_at place new.book.core.history ≡ Some (Ended id (Destroyed seq))
       → Listed new.fixed x → x.id ≡ id → GuardedBasis marking x.fixed.basis

@@ -1,5 +1,5 @@
 -- What an initiator over the objects of Kerberos and SCRAM does is what one by their credentials does.
-use Rattle.std.proofs.Common.{◌≡◌, refl, sym, ap, subst, ◌∙◌, ℕ, Bool, true, false, nat_le, List, [], Option, Some, None, Result, Ok, Err}
+use Rattle.std.proofs.Common.{◌≡◌, refl, sym, ap, subst, ◌∙◌, ℕ, ◌==◌, Bool, true, false, nat_le, List, [], Option, Some, None, Result, Ok, Err}
 use Rattle.spnego_core.specs.declared.outcome.Outcome.{Outcome}
 use Rattle.spnego_core.specs.declared.refusal.NegRefusal.{NegRefusal}
 use Rattle.spnego_core.specs.Ends.{PlainSetup, EndSays}
@@ -71,9 +71,10 @@ taking first xid end octets (Ok what) (Err refusal) never = absurd never
 taking first xid end octets (Err refusal) (Ok plain) never = absurd never
 taking first xid end octets (Err refusal) (Err plain) same = record { stage = refl; lost = refl; answer = refl }
 
-calling : (left : Bool) (s : SessionState) (procedure : ℕ) (args : List ℕ) → MoveAs (moves.called_with left s procedure args) (called_with left s procedure args)
-calling true s procedure args = record { stage = refl; lost = refl; answer = refl }
-calling false s procedure args = tt
+calling : (left last : Bool) (s : SessionState) (procedure : ℕ) (args : List ℕ) → MoveAs (moves.called_with left last s procedure args) (called_with left last s procedure args)
+calling true last s procedure args = record { stage = refl; lost = refl; answer = refl }
+calling false true s procedure args = record { stage = refl; lost = refl; answer = refl }
+calling false false s procedure args = tt
 
 -- ---- by where the initiator is
 
@@ -95,7 +96,8 @@ taken-as law first octets stage Over alike = subst (λ (s : StageMeans). MoveAs 
 pub called-as : (procedure : ℕ) (args : List ℕ) (stage : StageMeans) (plain : StageSays) → StageAs stage plain → MoveAs (moves.called_from procedure args stage) (called_from procedure args plain)
 called-as procedure args stage (Ready own) alike = subst (λ (s : StageMeans). MoveAs (moves.called_from procedure args s) None) (sym alike) tt
 called-as procedure args stage (Asks xid end) alike = subst (λ (s : StageMeans). MoveAs (moves.called_from procedure args s) None) (sym alike.stage_is) tt
-called-as procedure args stage (Stands session) alike = subst (λ (s : StageMeans). MoveAs (moves.called_from procedure args s) (called_from procedure args (Stands session))) (sym alike) (calling (nat_le session.number 0x7fffffff) session procedure args)
+called-as procedure args stage (Stands session) alike = subst (λ (s : StageMeans). MoveAs (moves.called_from procedure args s) (called_from procedure args (Stands session))) (sym alike)
+    (calling (nat_le session.number 0x7fffffff) (session.number == 0x80000000) session procedure args)
 called-as procedure args stage (Left session) alike = subst (λ (s : StageMeans). MoveAs (moves.called_from procedure args s) None) (sym alike) tt
 called-as procedure args stage Over alike = subst (λ (s : StageMeans). MoveAs (moves.called_from procedure args s) None) (sym alike) tt
 

@@ -111,7 +111,7 @@ waiting u = wait_with (init_end u) (secret u) (auth_of u)
 
 abbrev pub finished : Users → InitFinished
 finished u = record {
-  done = record { key = (waiting u).key; subkey = false; initiator = u.user; acceptor = []; hash = (waiting u).hash; ends = greatest_moment };
+  done = record { key = (waiting u).key; subkey = false; initiator = u.user; acceptor = []; hash = (waiting u).hash; ends = greatest_moment; first = 0 };
   found = signature_making (waiting u).server (auth_of u) ∷ [];
 }
 

@@ -1,5 +1,5 @@
 -- What an event makes of the parts of a world is an event of the world.
-use Rattle.std.proofs.Common.{◌≡◌, ◌⊎◌, inl, inr, ℕ, refl, sym, ap, subst, arith, ◌∙◌, Bool, true, false, nat_le, is_some, IsSome, List, [], ◌∷◌, ◌++◌, append-nil, slice_get, Option, Some, None, Result, Ok, Err, IfOk, IsErr}
+use Rattle.std.proofs.Common.{◌≡◌, ◌⊎◌, inl, inr, ℕ, ◌==◌, refl, sym, ap, subst, arith, ◌∙◌, Bool, true, false, nat_le, is_some, IsSome, List, [], ◌∷◌, ◌++◌, append-nil, slice_get, Option, Some, None, Result, Ok, Err, IfOk, IsErr}
 use Rattle.scram_mech.specs.MechMaking.{MechMaking}
 use Rattle.spnego_core.specs.Ends.{PlainSetup}
 use Rattle.spnego_core.specs.InitMech.{is_own_list}
@@ -71,17 +71,18 @@ delivers-as w i octets first deed new (Some (stages.Stands s)) m = m
 delivers-as w i octets first deed new (Some (stages.Left s)) m = m
 delivers-as w i octets first deed new (Some stages.Over) m = m
 
-with-as : (left : Bool) (w : World) (i : ℕ) (s : SessionState) (procedure : ℕ) (args : List ℕ) (deed : Deed) (new : World) → MovesOr (called_with left s procedure args) w i deed new
-    → CallsWith left w i s procedure args deed new
-with-as true w i s procedure args deed new m = m
-with-as false w i s procedure args deed new m = m
+with-as : (left last : Bool) (w : World) (i : ℕ) (s : SessionState) (procedure : ℕ) (args : List ℕ) (deed : Deed) (new : World) → MovesOr (called_with left last s procedure args) w i deed new
+    → CallsWith left last w i s procedure args deed new
+with-as true last w i s procedure args deed new m = m
+with-as false true w i s procedure args deed new m = m
+with-as false false w i s procedure args deed new m = m
 
 calls-as : (w : World) (i procedure : ℕ) (args : List ℕ) (deed : Deed) (new : World) (stage : Option StageSays) → MovesOr (of_stage (called_from procedure args) stage) w i deed new
     → CallsBy w i procedure args stage deed new
 calls-as w i procedure args deed new None m = m
 calls-as w i procedure args deed new (Some (stages.Ready own)) m = m
 calls-as w i procedure args deed new (Some (stages.Asks xid end)) m = m
-calls-as w i procedure args deed new (Some (stages.Stands s)) m = with-as (nat_le s.number 0x7fffffff) w i s procedure args deed new m
+calls-as w i procedure args deed new (Some (stages.Stands s)) m = with-as (nat_le s.number 0x7fffffff) (s.number == 0x80000000) w i s procedure args deed new m
 calls-as w i procedure args deed new (Some (stages.Left s)) m = m
 calls-as w i procedure args deed new (Some stages.Over) m = m
 

@@ -1,6 +1,6 @@
 -- What initiators over objects do: they start, take replies to their creation calls, and call.
 -- It isn't needed to read the headline.
-use Rattle.std.specs.Prelude.{◌≡◌, ◌⊎◌, ℕ, Bool, true, false, nat_le, List, [], replicate}
+use Rattle.std.specs.Prelude.{◌≡◌, ◌⊎◌, ℕ, ◌==◌, Bool, true, false, nat_le, List, [], replicate}
 use Rattle.std.specs.Prelude.{slice_set, Option, Some, None, Result, Ok, Err}
 use Rattle.spnego_core.specs.declared.refusal.NegRefusal.{NegRefusal}
 use Rattle.init_ends.specs.Ends.{SetupMeans, EndMeans}
@@ -9,7 +9,7 @@ use Rattle.rpcsec_bodies.specs.declared.service.Service.TheVariants.{Integrity}
 use Rattle.gss_client.specs.declared.refusal.ClientRefusal.{ClientRefusal}
 use Rattle.gss_client.specs.Creation.{CreatedMeans}
 use Rattle.gss_client.specs.Creation as created
-use Rattle.gss_client.specs.Calling.{creation_call, data_call}
+use Rattle.gss_client.specs.Calling.{creation_call, data_call, destroy_call}
 use Rattle.gss_client.specs.Judging.{creation_by}
 use Rattle.gss_client.specs.Session.{SessionState, session_after, xid_after}
 use Rattle.gss_client.specs.Talk.{begun}
@@ -74,6 +74,10 @@ calls s procedure args = record {
   answer = Sent (data_call s procedure args (replicate 16 0));
 }
 
+-- what an initiator does whose session has the number after those of calls: it ends its context
+abbrev pub leaves : SessionState → MovedMeans
+leaves s = record { stage = Left s; lost = Left s; answer = Sent (destroy_call s) }
+
 -- ---- the move of an initiator by its stage, where the event is for it
 
 -- a start, which is for one that wasn't started
@@ -93,17 +97,19 @@ taken_from first octets (Stands s) = None
 taken_from first octets (Left s) = None
 taken_from first octets Over = None
 
--- no number is left after 0x7fffffff
-abbrev pub called_with : Bool → SessionState → ℕ → List ℕ → Option MovedMeans
-called_with true s procedure args = Some (calls s procedure args)
-called_with false s procedure args = None
+-- a session whose number is one of a call makes that call, and one with the number after these ends
+-- its context
+abbrev pub called_with : Bool → Bool → SessionState → ℕ → List ℕ → Option MovedMeans
+called_with true last s procedure args = Some (calls s procedure args)
+called_with false true s procedure args = Some (leaves s)
+called_with false false s procedure args = None
 
 -- a call, which is for one whose context stands
 abbrev pub called_from : ℕ → List ℕ → StageMeans → Option MovedMeans
 called_from procedure args (Ready setup) = None
 called_from procedure args (Asks xid end) = None
 called_from procedure args (Stands s) =
-    called_with (nat_le s.number 0x7fffffff) s procedure args
+    called_with (nat_le s.number 0x7fffffff) (s.number == 0x80000000) s procedure args
 called_from procedure args (Left s) = None
 called_from procedure args Over = None
 
@@ -113,10 +119,11 @@ TurnsTo None answer old new = (answer ≡ Some Nothing) × (new ≡ old)
 TurnsTo (Some moved) answer old new =
     ((answer ≡ Some moved.answer) × (new ≡ moved.stage)) ⊎ ((answer ≡ None) × (new ≡ moved.lost))
 
--- the same of a call of a session that stands, by whether a number is left for it
-abbrev pub CallsTo : Bool → SessionState → ℕ → List ℕ → StageMeans → Option Happened → Type 0
-CallsTo left s procedure args new answer =
-    TurnsTo (called_with left s procedure args) answer (Stands s) new
+-- the same of a call of a session that stands, by its number
+abbrev pub CallsTo : SessionState → ℕ → List ℕ → StageMeans → Option Happened → Type 0
+CallsTo s procedure args new answer =
+    TurnsTo (called_with (nat_le s.number 0x7fffffff) (s.number == 0x80000000) s procedure args)
+    answer (Stands s) new
 
 -- the initiator of a place, where there is one
 abbrev pub of_stage : (StageMeans → Option MovedMeans) → Option StageMeans → Option MovedMeans

@@ -1,7 +1,7 @@
 -- What an event makes of the parts of a world that it shows.
 -- It isn't needed to read the headline.
-use Rattle.std.specs.Prelude.{◌≡◌, ◌⊎◌, ℕ, Bool, true, false, nat_le, List, slice_set, Option, Some}
-use Rattle.std.specs.Prelude.{None}
+use Rattle.std.specs.Prelude.{◌≡◌, ◌⊎◌, ℕ, ◌==◌, Bool, true, false, nat_le, List, slice_set}
+use Rattle.std.specs.Prelude.{Option, Some, None}
 use Rattle.accept_book.specs.Booking.{BookOf}
 use Rattle.gss_client.specs.Session.{SessionState}
 use Rattle.world_laws.specs.declared.event.Happened.{Happened}
@@ -10,7 +10,7 @@ use Rattle.world_laws.specs.Stages.{StageSays}
 use Rattle.world_laws.specs.Stages as stages
 use Rattle.world_laws.specs.State.{InHand}
 use Rattle.world_laws.specs.Events.{IsBook}
-use Rattle.world_laws.specs.Initiators.{Moved, starts, takes, calls}
+use Rattle.world_laws.specs.Initiators.{Moved, starts, takes, calls, leaves}
 use Rattle.world_runs.specs.Turning.{Turned}
 
 -- ---- the move of an initiator by its stage, where the event is for it
@@ -32,17 +32,19 @@ taken_from first octets (stages.Stands s) = None
 taken_from first octets (stages.Left s) = None
 taken_from first octets stages.Over = None
 
--- no number is left after 0x7fffffff
-abbrev pub called_with : Bool → SessionState → ℕ → List ℕ → Option Moved
-called_with true s procedure args = Some (calls s procedure args)
-called_with false s procedure args = None
+-- a session whose number is one of a call makes that call, and one with the number after these ends
+-- its context
+abbrev pub called_with : Bool → Bool → SessionState → ℕ → List ℕ → Option Moved
+called_with true last s procedure args = Some (calls s procedure args)
+called_with false true s procedure args = Some (leaves s)
+called_with false false s procedure args = None
 
 -- a call, which is for one whose context stands
 abbrev pub called_from : ℕ → List ℕ → StageSays → Option Moved
 called_from procedure args (stages.Ready own) = None
 called_from procedure args (stages.Asks xid end) = None
 called_from procedure args (stages.Stands s) =
-    called_with (nat_le s.number 0x7fffffff) s procedure args
+    called_with (nat_le s.number 0x7fffffff) (s.number == 0x80000000) s procedure args
 called_from procedure args (stages.Left s) = None
 called_from procedure args stages.Over = None
 

@@ -7,7 +7,7 @@ ghost use Rattle.gss_client.specs.Calling.{creation_call};
 ghost use Rattle.gss_client.specs.Creation.{offer_means};
 ghost use Rattle.gss_client.specs.Exchanging.{FitsOffer};
 ghost use Rattle.world_runs.specs.Objects as stages;
-ghost use Rattle.world_runs.specs.ObjectMoves.{starts, takes, calls};
+ghost use Rattle.world_runs.specs.ObjectMoves.{starts, takes, calls, leaves};
 ghost use Rattle.world_runs.specs.Moving.{Goes, IsLost, IsMove, moves_means};
 
 use crate::stage::Stage;
@@ -148,5 +148,19 @@ pub(crate) fn call(alloc: Global, session: Session, procedure: u32, args: &[u8])
             stage: Stage::Left(session),
             happened: Err(NoMemory),
         },
+    }
+}
+
+/// An initiator whose session has no number left for a call ends its context, with the number after those of calls, and has left it.
+pub(crate) fn leave(alloc: Global, session: Session) -> Moves
+    ensures { IsMove (leaves session) (moves_means result meaning) }
+{
+    let happened = match session.write_destroy(alloc) {
+        Ok(record) => Ok(Happened::Sent(record)),
+        Err(NoMemory) => Err(NoMemory),
+    };
+    Moves {
+        stage: Stage::Left(session),
+        happened,
     }
 }

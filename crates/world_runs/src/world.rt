@@ -104,19 +104,19 @@ fn deliver_from(alloc: Global, stage: Stage, bytes: &[u8], first: u32) -> Moves
     }
 }
 
-/// The next call of a context, if a number is left.
+/// The next call of a context, or its end if no number is left for a call.
 fn call_with(alloc: Global, session: Session, procedure: u32, args: &[u8]) -> Moves
     requires { length args.now ≤ 65540 }
-    ensures { CallsTo (nat_le session.number 0x7fffffff) session procedure args.now
-        (stage_means result.stage meaning) (happened_of result.happened) }
+    ensures { CallsTo session procedure args.now (stage_means result.stage meaning)
+        (happened_of result.happened) }
 {
     if session.next_number() > 0x7fffffff {
-        return stays(Stage::Stands(session));
+        return initiators::leave(alloc, session);
     }
     initiators::call(alloc, session, procedure, args)
 }
 
-/// An initiator calls, if its context stands and a number is left.
+/// An initiator calls, if its context stands, or ends its context if no number is left.
 fn call_from(alloc: Global, stage: Stage, procedure: u32, args: &[u8]) -> Moves
     requires { length args.now ≤ 65540 }
     ensures { TurnsTo (called_from procedure args.now (stage_means stage meaning))
