@@ -1,0 +1,24 @@
+use Rattle.std.proofs.Common.{◌≡◌, ◌∙◌, arith, ap, sym, subst, refl, ℕ, List, [], ◌∷◌, Option, Some, None, IsTrue, Ok, Err}
+use Rattle.std.proofs.lemmas.List.{append-nil}
+use Rattle.sasl_gssapi.specs.Ends.{init_by, step_by}
+use Rattle.sasl_command.specs.Turns.{beside}
+use Rattle.sasl_command.specs.Asking.{Begun, Chosen, Asks}
+use Rattle.sasl_command.proofs.Turning.{leads-one}
+use Rattle.sasl_command.proofs.AskTurns.{replied-more, replied-done, reached-after, spoke-at}
+use Rattle.sasl_command.proofs.asking.reach.Goals as goal
+
+pub returns-in-Ok-Done-clause-told : goal.returns-in-Ok-Done-clause-told
+returns-in-Ok-Done-clause-told g c = λ t wish sending a.
+    leads-one (Asks wish sending) (Begun (init_by c.args.end (λ b. (goal.Mech-dyn g b).meaning b.1))) (Chosen c.in-Ok-Done.layer)
+    (replied-done wish sending (init_by c.args.end (λ b. (goal.Mech-dyn g b).meaning b.1)) c.in-Ok-Done.layer _ (step_by c.in-Ok-Done.field-0 (λ b. (goal.Mech-dyn g b).meaning b.1)) (ap (λ s. step_by s (λ b. (goal.Mech-dyn g b).meaning b.1)) c.in-Ok-Done.field-0-is) (c.in-Ok-Done.ensures.told t wish sending a))
+
+pub returns-in-Err-clause-told : goal.returns-in-Err-clause-told
+returns-in-Err-clause-told g c = λ t wish sending a.
+    spoke-at wish sending (Begun (init_by c.args.end (λ b. (goal.Mech-dyn g b).meaning b.1))) c.in-Err.end (c.in-Err.ensures.told t wish sending a)
+
+pub returns-in-Ok-More-clause-told : goal.returns-in-Ok-More-clause-told
+returns-in-Ok-More-clause-told g c = λ t wish sending a.
+    let tells : IsTrue (g.L.Link.tells c.reply.new.link) = rw c.in-Ok-More.ensures.tells t in
+    reached-after wish sending (Begun (init_by c.args.end (λ b. (goal.Mech-dyn g b).meaning b.1))) (Begun (init_by c.in-Ok-More.next (λ b. (goal.Mech-dyn g b).meaning b.1))) (beside a (g.L.Link.wire c.args.link.now)) (beside a (g.L.Link.wire c.reply.new.link)) (beside a (g.L.Link.wire c.choose.new.link)) c.choose.result
+    (replied-more wish sending (init_by c.args.end (λ b. (goal.Mech-dyn g b).meaning b.1)) (init_by c.in-Ok-More.next (λ b. (goal.Mech-dyn g b).meaning b.1)) _ (step_by c.in-Ok-More.field-0 (λ b. (goal.Mech-dyn g b).meaning b.1)) (ap (λ s. step_by s (λ b. (goal.Mech-dyn g b).meaning b.1)) c.in-Ok-More.field-0-is) (c.in-Ok-More.ensures.told t wish sending a))
+    (c.choose.ensures.told tells wish sending a)
