@@ -1,0 +1,18 @@
+use Rattle.std.proofs.Common.{slice_set, ◌∙◌, sym, ap, Some, arith}
+use Rattle.again_calls.specs.Kept.{PlaceOf, with_act, changed}
+use Rattle.again_calls.proofs.Placing.{answered-at, answered-none}
+use Rattle.again_calls.proofs.acts.Acts.keep.Goals as goal
+
+pub index_mut-requires : goal.index_mut-requires
+index_mut-requires c =
+    let f = answered-at (Some c.args.id) c.self.inside.places.items c.args.self.now c.index_of.result c.in-Some.at c.self.view_is c.index_of.ensures c.in-Some.is in
+    omega (arith, f.within, c.self.inside.places.ok)
+
+pub returns-in-Some : goal.returns-in-Some
+returns-in-Some c =
+    let f = answered-at (Some c.args.id) c.self.inside.places.items c.args.self.now c.index_of.result c.in-Some.at c.self.view_is c.index_of.ensures c.in-Some.is in
+    let e = c.add.ensures ∙ ap (with_act c.args.act) c.index_mut.ensures.value in
+    ap (λ (p : PlaceOf). slice_set c.self.inside.places.items c.in-Some.at p) e ∙ (f.makes (with_act c.args.act) c.index_mut.result.now ∙ ap (changed (with_act c.args.act) (Some c.args.id)) c.self.view_is)
+
+pub returns-in-None : goal.returns-in-None
+returns-in-None c = sym ((answered-none (Some c.args.id) c.args.self.now c.index_of.result c.index_of.ensures c.in-None.is).makes (with_act c.args.act))

@@ -1,0 +1,234 @@
+-- A book that nobody else asks: its log grows by the receipts of its answers, and no more contexts live than may.
+use Rattle.std.proofs.Common.{◌≡◌, ℕ, ◌+◌, ◌<◌, ◌≤◌, ◌&&◌, max, Bool, true, false, nat_lt, nat_le, List, [], ◌∷◌, ◌++◌, length, Option, None, Some, IsSomeAnd, Result, Ok, Err, refl, sym, ap, ◌∙◌, arith, length-append, append-nil, inl, inr, subst}
+use Rattle.std.specs.Prelude.{if◌then◌else◌, is_none}
+use Rattle.std.proofs.lemmas.Bool.{ltb-true, true≢false}
+use Rattle.std.proofs.lemmas.Bool.Decides.{nat_tests}
+use Rattle.gss_base.specs.declared.mark.Mark.{Mark}
+use Rattle.spnego_core.specs.declared.outcome.Outcome.{Outcome}
+use Rattle.spnego_core.specs.declared.refusal.NegRefusal.{NegRefusal}
+use Rattle.spnego_core.specs.declared.setup.AcceptSetup.{AcceptSetup}
+use Rattle.spnego_core.specs.declared.accept_end.AcceptEnd.{AcceptEnd}
+use Rattle.spnego_core.specs.declared.accept_end.AcceptEnd.TheVariants as ends
+use Rattle.spnego_core.specs.declared.accept_end.AcceptStep.{AcceptStep}
+use Rattle.spnego_core.specs.Accepting.{Accepted, accept_step}
+use Rattle.context_table.specs.declared.slot.Slot.{Slot}
+use Rattle.context_table.specs.Places.{Places, slot_in, slot_at, live_of, state_of, IsPast}
+use Rattle.accept_core.specs.declared.answer.AdmitRefusal.{AdmitRefusal}
+use Rattle.accept_core.specs.declared.answer.MarkRefusal.{MarkRefusal}
+use Rattle.accept_core.specs.declared.answer.Next.{Next}
+use Rattle.accept_core.specs.declared.answer.Next.TheVariants as nexts
+use Rattle.accept_core.specs.declared.entry.Admitted.{Admitted}
+use Rattle.accept_core.specs.declared.entry.EndCause.{EndCause}
+use Rattle.accept_core.specs.declared.entry.EndCause.TheVariants.{Destroyed, Refused}
+use Rattle.accept_core.specs.declared.entry.Entry.{Entry}
+use Rattle.accept_core.specs.declared.entry.Entry.TheVariants.{Call, Ended}
+use Rattle.accept_core.specs.declared.entry.Receipt.{Receipt}
+use Rattle.accept_core.specs.Answers.{or_refused, after, admitted, receipt_of}
+use Rattle.accept_core.specs.Entering.{gained, id_of, started, noted, finished, entered, mark_refused}
+use Rattle.accept_core.specs.History.{Standing, Unknown, Open, Whole, Over, standing, living, taken_of}
+use Rattle.accept_core.proofs.Steps.{gained-none, gained-more}
+use Rattle.accept_book.specs.Booking.{BookOf, Stands, Outcomes, raised, mark_of, next_of, settled_of, after_refusal, by_mark, by_step, later_step, begun, opened_by, gone_on_by, negotiated}
+use Rattle.accept_book.specs.BookAnswers.{BookStepped}
+use Rattle.accept_book.specs.declared.book_answer.Lease.{Lease}
+use Rattle.accept_book.specs.declared.book_answer.Negotiated.{Negotiated}
+use Rattle.accept_book.specs.RecordShown.{Asked, AskedStep, AskedLook, AskedAdmit, AskedEnd}
+use Rattle.gss_server.specs.Asking.{Asking, BookAnswers}
+use Rattle.history_laws.specs.Receipts.{receipts_in}
+use Rattle.history_laws.proofs.Answering.{memory-cases, answers-live}
+use Rattle.history_laws.proofs.Growth.{fronts-one, answers-width}
+use Rattle.history_laws.proofs.InPlace.{in-place}
+use Rattle.history_laws.proofs.Past.{past-of}
+use Rattle.again_laws.specs.Laws.{log_of, WithinLaw}
+use Rattle.again_laws.specs.Sole.{onto, IsCall, IsEnd, IsOwn, IsSole, Within}
+
+-- ---- the log grows by the receipts
+
+onto-last : (rs : List Receipt) (r : Receipt) (h : List Entry) → onto (rs ++ r ∷ []) h ≡ r.entry ∷ onto rs h
+onto-last [] r h = refl
+onto-last (x ∷ rs) r h = onto-last rs r (x.entry ∷ h)
+
+onto-gained : (more h : List Entry) → onto (gained (length h) (more ++ h)) h ≡ more ++ h
+onto-gained [] h = ap (λ (rs : List Receipt). onto rs h) (gained-none (length h) h (omega arith))
+onto-gained (entry ∷ more) h =
+    ap (λ (rs : List Receipt). onto rs h) (gained-more (length h) (more ++ h) entry (omega (arith, length-append more h)))
+    ∙ (onto-last (gained (length h) (more ++ h)) (record { place = length (more ++ h); entry = entry }) h ∙ ap (λ (l : List Entry). entry ∷ l) (onto-gained more h))
+
+one-gained : (old new : BookOf) (one : Asked) → BookAnswers old one new → receipts_in one ≡ gained (length old.core.history) new.core.history
+one-gained old new one b = sym (append-nil (receipts_in one)) ∙ in-place (one ∷ []) old new (new, b, refl)
+
+book-grows : (old : BookOf) (one : Asked) (new : BookOf) → BookAnswers old one new → log_of new ≡ onto (receipts_in one) (log_of old)
+book-grows old one new b =
+    let f = fronts-one old new one b in
+    f.is ∙ (sym (onto-gained f.more (log_of old))
+    ∙ (ap (λ (h : List Entry). onto (gained (length (log_of old)) h) (log_of old)) (sym f.is) ∙ ap (λ (rs : List Receipt). onto rs (log_of old)) (sym (one-gained old new one b))))
+
+own-call : (refusal : Option AdmitRefusal) (h : List Entry) (lease : Lease) (seq procedure : ℕ) (args : List ℕ) (answer : Result Admitted AdmitRefusal) → answer ≡ or_refused refusal (admitted h (Call lease.id seq procedure args)) → IsCall lease seq procedure args answer
+own-call None h lease seq procedure args answer is = subst (λ (a : Result Admitted AdmitRefusal). IsCall lease seq procedure args a) (sym is) refl
+own-call (Some refusal) h lease seq procedure args answer is = subst (λ (a : Result Admitted AdmitRefusal). IsCall lease seq procedure args a) (sym is) tt
+
+own-end : (refusal : Option AdmitRefusal) (h : List Entry) (lease : Lease) (seq : ℕ) (answer : Result Receipt AdmitRefusal) → answer ≡ or_refused refusal (receipt_of h (Ended lease.id (Destroyed seq))) → IsEnd lease seq answer
+own-end None h lease seq answer is = subst (λ (a : Result Receipt AdmitRefusal). IsEnd lease seq a) (sym is) refl
+own-end (Some refusal) h lease seq answer is = subst (λ (a : Result Receipt AdmitRefusal). IsEnd lease seq a) (sym is) tt
+
+pub book-sole : IsSole BookAnswers log_of
+book-sole = record { grows = book-grows; own = own }
+  where
+    own : (old : BookOf) (one : Asked) (new : BookOf) → BookAnswers old one new → IsOwn one
+    own old (AskedStep id token now draws answer) new b = tt
+    own old (AskedLook id now answer) new b = tt
+    own old (AskedAdmit lease seq procedure args answer) new b = own-call _ old.core.history lease seq procedure args answer b.answer
+    own old (AskedEnd lease seq answer) new b = own-end _ old.core.history lease seq answer b.answer
+
+-- ---- no more contexts live than may
+
+pub within-living : (contexts : ℕ) (h : List Entry) → Within contexts h → living h ≤ contexts
+within-living contexts [] w = omega arith
+within-living contexts (entry ∷ h) w = w.0
+
+within-ended : (contexts id : ℕ) (cause : EndCause) (h : List Entry) → Within contexts h → Within contexts (Ended id cause ∷ h)
+within-ended contexts id cause h w = (omega (arith, within-living contexts h w), w)
+
+-- a first token's context has a place, or one that is past its end gives it up
+abbrev IsPlaced : ℕ → Option ℕ → Bool → Option ℕ → List Entry → Type 0
+IsPlaced contexts None true past h = living h < contexts
+IsPlaced contexts None false None h = ⊥
+IsPlaced contexts None false (Some other) h = 0 < contexts
+IsPlaced contexts (Some id) place past h = Unit {0}
+
+within-started : (contexts : ℕ) (id : Option ℕ) (place : Bool) (past : Option ℕ) (now : ℕ) (h : List Entry) → IsPlaced contexts id place past h → Within contexts h → Within contexts (started id place past now h)
+within-started contexts None true past now h is w = (omega (arith, is), w)
+within-started contexts None false None now h is w = absurd is
+within-started contexts None false (Some other) now h is w = (omega (arith, is, within-living contexts h w), (omega (arith, within-living contexts h w), w))
+within-started contexts (Some id) place past now h is w = w
+
+within-noted : (contexts : ℕ) (mark : Option Mark) (id now : ℕ) (h : List Entry) → Within contexts h → Within contexts (noted mark id now h)
+within-noted contexts None id now h w = w
+within-noted contexts (Some mark) id now h w = (within-living contexts h w, w)
+
+within-finished : (contexts : ℕ) (first : Bool) (step : Next AcceptEnd Outcome) (id now : ℕ) (h : List Entry) → Within contexts h → Within contexts (finished first step id now h)
+within-finished contexts true (nexts.Going state) id now h w = w
+within-finished contexts false (nexts.Going state) id now h w = (within-living contexts h w, w)
+within-finished contexts true (nexts.Settled mech names value until) id now h w = (within-living contexts h w, w)
+within-finished contexts false (nexts.Settled mech names value until) id now h w = (within-living contexts h w, w)
+
+within-entered : (contexts : ℕ) (id : Option ℕ) (place : Bool) (past : Option ℕ) (mark : Option Mark) (step : Next AcceptEnd Outcome) (now : ℕ) (h : List Entry) → IsPlaced contexts id place past h → Within contexts h → Within contexts (entered id place past mark step now h)
+within-entered contexts id place past mark step now h is w =
+    within-finished contexts (is_none id) step (id_of id h) now (noted mark (id_of id h) now (started id place past now h))
+    (within-noted contexts mark (id_of id h) now (started id place past now h) (within-started contexts id place past now h is w))
+
+within-refusal : (contexts : ℕ) (id : Option ℕ) (h : List Entry) → Within contexts h → Within contexts (after_refusal id h)
+within-refusal contexts None h w = w
+within-refusal contexts (Some id) h w = within-ended contexts id Refused h w
+
+within-mark : (contexts : ℕ) (book : Stands) (id past : Option ℕ) (mark : Option Mark) (step : AcceptStep) (refusal : Option MarkRefusal) → IsPlaced contexts id (nat_lt (live_of book.table) book.table.limit) past book.history → Within contexts book.history
+    → Within contexts (by_mark book id past mark step refusal).history
+within-mark contexts book id past mark step None is w = within-entered contexts id (nat_lt (live_of book.table) book.table.limit) past mark (next_of step) book.greatest book.history is w
+within-mark contexts book id past mark step (Some refusal) is w = within-refusal contexts id book.history w
+
+within-step : (contexts : ℕ) (book : Stands) (id past : Option ℕ) (taken : Result Accepted NegRefusal) → IsPlaced contexts id (nat_lt (live_of book.table) book.table.limit) past book.history → Within contexts book.history
+    → Within contexts (by_step book id past taken).history
+within-step contexts book id past (Err refusal) is w = within-refusal contexts id book.history w
+within-step contexts book id past (Ok accepted) is w =
+    within-mark contexts book id past (mark_of accepted.step) (settled_of accepted.step) (mark_refused book.capacity book.greatest (taken_of book.history) (mark_of accepted.step)) is w
+
+within-either : (contexts : ℕ) (b : Bool) (x y : Outcomes) → (b ≡ true → Within contexts x.history) → (b ≡ false → Within contexts y.history) → Within contexts (if b then x else y).history
+within-either contexts true x y p q = p refl
+within-either contexts false x y p q = q refl
+
+some-live : {N S : Type 0} (slots : List (Slot N S)) (id now : ℕ) → IsSomeAnd (slot_in slots id) (λ slot. slot.ends < now) → 0 < length slots
+some-live [] id now is = absurd is
+some-live (slot ∷ slots) id now is = omega arith
+
+-- there is room in the table, or the least that is past gives its place
+placed-by : (contexts now : ℕ) (book : Stands) (past : Option ℕ) (place : Bool) → nat_lt (live_of book.table) book.table.limit ≡ place → book.table.limit ≡ contexts → live_of book.table ≡ living book.history → IsPast book.table now past
+    → (nat_le book.table.limit (live_of book.table) && is_none past) ≡ false → Within contexts book.history → IsPlaced contexts None place past book.history
+placed-by contexts now book past true test limit live is_past full w = omega (arith, ltb-true (live_of book.table) book.table.limit test, limit, live)
+placed-by contexts now book None false test limit live is_past full w =
+    let crowded : nat_le book.table.limit (live_of book.table) ≡ true = grind (arith, nat_tests) in
+    absurd (true≢false (rw crowded at full))
+placed-by contexts now book (Some other) false test limit live is_past full w =
+    omega (arith, some-live book.table.slots other now is_past.0, live, within-living contexts book.history w)
+
+within-begun : (contexts now' : ℕ) (setup : AcceptSetup) (book : Stands) (past : Option ℕ) (token : List ℕ) (now : ℕ) (draws : List ℕ) → book.table.limit ≡ contexts → live_of book.table ≡ living book.history → IsPast book.table now' past → Within contexts book.history
+    → Within contexts (begun setup book past token now draws).history
+within-begun contexts now' setup book past token now draws limit live is_past w =
+    within-either contexts (nat_lt book.limit (length book.history + 4)) _ _ (λ e. w) (λ e.
+    within-either contexts (nat_le book.table.limit (live_of book.table) && is_none past) _ _ (λ f. w) (λ f.
+    within-step contexts book None past (accept_step setup ends.New token now draws) (placed-by contexts now' book past (nat_lt (live_of book.table) book.table.limit) refl limit live is_past f w) w))
+
+within-opened : (contexts : ℕ) (setup : AcceptSetup) (book : Stands) (id : ℕ) (past : Option ℕ) (token : List ℕ) (now : ℕ) (draws : List ℕ) → Within contexts book.history → Within contexts (opened_by setup book id past token now draws).history
+within-opened contexts setup book id past token now draws w =
+    within-either contexts (nat_lt book.limit (length book.history + 4)) _ _ (λ e. w) (λ e.
+    within-step contexts book (Some id) past (later_step setup (state_of (slot_at book.table id)) token now draws) tt w)
+
+within-gone : (contexts : ℕ) (stands : Standing) (setup : AcceptSetup) (book : Stands) (id : ℕ) (past : Option ℕ) (token : List ℕ) (now : ℕ) (draws : List ℕ) → Within contexts book.history → Within contexts (gone_on_by stands setup book id past token now draws).history
+within-gone contexts Unknown setup book id past token now draws w = w
+within-gone contexts (Open at) setup book id past token now draws w = within-opened contexts setup book id past token now draws w
+within-gone contexts (Whole mech names until) setup book id past token now draws w = w
+within-gone contexts Over setup book id past token now draws w = w
+
+within-negotiated : (contexts now' : ℕ) (setup : AcceptSetup) (book : Stands) (id past : Option ℕ) (token : List ℕ) (now : ℕ) (draws : List ℕ) → book.table.limit ≡ contexts → live_of book.table ≡ living book.history → IsPast book.table now' past → Within contexts book.history
+    → Within contexts (negotiated setup book id past token now draws).history
+within-negotiated contexts now' setup book None past token now draws limit live is_past w = within-begun contexts now' setup book past token now draws limit live is_past w
+within-negotiated contexts now' setup book (Some id) past token now draws limit live is_past w = within-gone contexts (standing id book.history) setup book id past token now draws w
+
+-- ---- along a chain
+
+record Roomy (contexts : ℕ) (book : BookOf) : Type 0 where
+  limit : book.core.table.limit ≡ contexts
+  live : live_of book.core.table ≡ living book.core.history
+  within : Within contexts book.core.history
+
+after-call : (contexts : ℕ) (refusal : Option AdmitRefusal) (id seq procedure : ℕ) (args : List ℕ) (h : List Entry) → Within contexts h → Within contexts (after refusal (Call id seq procedure args) h)
+after-call contexts None id seq procedure args h w = (within-living contexts h w, w)
+after-call contexts (Some refusal) id seq procedure args h w = w
+
+after-end : (contexts : ℕ) (refusal : Option AdmitRefusal) (id : ℕ) (cause : EndCause) (h : List Entry) → Within contexts h → Within contexts (after refusal (Ended id cause) h)
+after-end contexts None id cause h w = within-ended contexts id cause h w
+after-end contexts (Some refusal) id cause h w = w
+
+stepped-within : (contexts : ℕ) (old new : BookOf) (id : Option ℕ) (token : List ℕ) (now : ℕ) (draws : List ℕ) (answer : Negotiated) → Roomy contexts old → BookStepped old new id token now draws answer → Within contexts new.core.history
+stepped-within contexts old new id token now draws answer r b =
+    let past = past-of old.core.table (max old.core.cache.greatest now) in
+    elim (memory-cases answer.answer) [
+      | inl short ↦ subst (λ (h : List Entry). Within contexts h) (sym (b.comes.memory short).history) (within-refusal contexts id old.core.history r.within)
+      | inr enough ↦ subst (λ (h : List Entry). Within contexts h) (sym (b.comes.outcome past.0 past.1 enough).history)
+          (within-negotiated contexts (max old.core.cache.greatest now) old.setup (raised old.core now) id past.0 token now draws r.limit r.live past.1 r.within)
+    ]
+
+answers-within : (contexts : ℕ) (old new : BookOf) (one : Asked) → Roomy contexts old → BookAnswers old one new → Within contexts new.core.history
+answers-within contexts old new (AskedStep id token now draws answer) r b = stepped-within contexts old new id token now draws answer r b
+answers-within contexts old new (AskedLook id now answer) r b = subst (λ (h : List Entry). Within contexts h) (sym b.looked.history) r.within
+answers-within contexts old new (AskedAdmit lease seq procedure args answer) r b = subst (λ (h : List Entry). Within contexts h) (sym b.history) (after-call contexts _ lease.id seq procedure args old.core.history r.within)
+answers-within contexts old new (AskedEnd lease seq answer) r b = subst (λ (h : List Entry). Within contexts h) (sym b.history) (after-end contexts _ lease.id (Destroyed seq) old.core.history r.within)
+
+answers-limit : (old new : BookOf) (one : Asked) → BookAnswers old one new → new.core.table.limit ≡ old.core.table.limit
+answers-limit old new (AskedStep id token now draws answer) b = b.notes.contexts
+answers-limit old new (AskedLook id now answer) b = ap (λ (t : Places AcceptEnd Outcome). t.limit) b.looked.table
+answers-limit old new (AskedAdmit lease seq procedure args answer) b = b.keeps.contexts
+answers-limit old new (AskedEnd lease seq answer) b = b.keeps.contexts
+
+roomy-all : (contexts : ℕ) (first last : BookOf) (asked : List Asked) → Roomy contexts first → Asking BookAnswers first asked last → Within contexts last.core.history
+roomy-all contexts first last [] r h = subst (λ (b : BookOf). Within contexts b.core.history) (sym h) r.within
+roomy-all contexts first last (one ∷ more) r h =
+    roomy-all contexts h.0 last more (record {
+      limit = answers-limit first h.0 one h.1 ∙ r.limit;
+      live = answers-live first h.0 one r.live h.1;
+      within = answers-within contexts first h.0 one r h.1;
+    }) h.2
+
+pub within-book : WithinLaw
+within-book first last asked empty h =
+    roomy-all first.core.table.limit first last asked (record {
+      limit = refl;
+      live = ap (length {A = Slot AcceptEnd Outcome}) empty.slots ∙ sym (ap living empty.history);
+      within = subst (λ (x : List Entry). Within first.core.table.limit x) (sym empty.history) tt;
+    }) h
+
+pub same-width : (first last : BookOf) (asked : List Asked) → Asking BookAnswers first asked last → last.core.width ≡ first.core.width
+same-width first last [] h = ap (λ (b : BookOf). b.core.width) h
+same-width first last (one ∷ more) h = same-width h.0 last more h.2 ∙ answers-width first h.0 one h.1
+
+pub wider : (few contexts : ℕ) (h : List Entry) → few ≤ contexts → Within few h → Within contexts h
+wider few contexts [] le w = tt
+wider few contexts (entry ∷ h) le w = (omega (arith, le, w.0), wider few contexts h le w.1)

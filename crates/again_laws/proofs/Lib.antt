@@ -1,0 +1,12 @@
+mod Places
+mod Rows
+mod Acts
+mod Steps
+mod Posts
+mod Under
+mod Counting
+mod Apart
+mod Windows
+mod Rises
+mod Books
+mod Once

@@ -1,0 +1,4 @@
+mod Judgements
+mod Listening
+mod Turns
+mod Loops

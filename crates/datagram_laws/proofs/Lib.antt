@@ -1,0 +1,4 @@
+mod Numbered
+mod Ruled
+mod Only
+mod Sends

@@ -1,0 +1,3 @@
+pub mod Done
+pub mod Replies
+pub mod Sessions

@@ -1,0 +1,32 @@
+use Rattle.std.proofs.Common.{◌≡◌, List, [], ◌∷◌, ◌++◌, ap, ◌∙◌, subst, flat_map}
+use Rattle.accept_book.specs.Booking.{BookOf}
+use Rattle.accept_core.specs.Legal.{Legal}
+use Rattle.accept_core.specs.declared.entry.Limits.{Limits}
+use Rattle.gss_server.specs.declared.answer.Kept.{Kept}
+use Rattle.datagram_serving.proofs.Once.{all-kept}
+use Rattle.datagram_serving.proofs.serving.serve_by.Goals as goal
+
+pub returns-clause-told : goal.returns-clause-told
+returns-clause-told g c =
+    let made = c.serve-end.ensures.served in
+    let all : c.serve-end.new.keeper.all.items ≡ made.kept = made.given ∙ (ap (λ (l : List Kept). l ++ flat_map (λ (one : Kept). one ∷ []) made.kept) c.new-keeper.ensures ∙ all-kept made.kept) in
+    let book = c.into_gate.ensures in
+    let limits = c.serve-end.ensures.gate_kept.limits in
+    let log = c.into_log.ensures in
+    rw all (record {
+      gate_new = c.serve-end.new.gate;
+      stop = c.serve-end.result;
+      served = made.holds;
+      ends = c.end_of.ensures;
+      timed = made.timed;
+      drawn = made.drawn;
+      entries = log.entries ∙ ap (λ (b : BookOf). b.core.history) book;
+      legal = subst (λ (b : BookOf). Legal b.core.width b.core.history) book log.legal;
+      book_width = log.width ∙ ap (λ (b : BookOf). b.core.width) book;
+      under = record {
+        width = log.width ∙ (ap (λ (b : BookOf). b.core.width) book ∙ ap (λ (l : Limits). l.width) limits);
+        limit = log.limit ∙ (ap (λ (b : BookOf). b.core.limit) book ∙ ap (λ (l : Limits). l.log) limits);
+        contexts = log.contexts ∙ (ap (λ (b : BookOf). b.core.table.limit) book ∙ ap (λ (l : Limits). l.contexts) limits);
+        marks = log.marks ∙ (ap (λ (b : BookOf). b.core.cache.capacity) book ∙ ap (λ (l : Limits). l.marks) limits);
+      };
+    })
