@@ -64,6 +64,7 @@ stepped-none s (steps.Refused (books.Neg refusal)) = refl
 stepped-none s (steps.Refused (books.Stale greatest)) = refl
 stepped-none s (steps.Refused (books.Repeat place)) = refl
 stepped-none s (steps.Refused books.CacheFull) = refl
+stepped-none s (steps.Refused books.Journal) = refl
 stepped-none s steps.NoMemory = refl
 
 step-at : (s : Shown) (id : Option ℕ) (token : List ℕ) (negotiated : Option Negotiated) → At 1 (ask_step s id token negotiated)

@@ -1,5 +1,5 @@
--- No token is refused for want of memory.
-use Rattle.std.proofs.Common.{◌≡◌, ℕ, ◌+◌, Bool, true, false, nat_lt, nat_le, if◌then◌else◌, List, length, Option, None, Some, refl, subst}
+-- No token is refused for want of memory, and none by a journal.
+use Rattle.std.proofs.Common.{◌≡◌, ◌≢◌, ℕ, ◌+◌, Bool, true, false, nat_lt, nat_le, if◌then◌else◌, List, length, Option, None, Some, refl, subst}
 use Rattle.std.specs.Prelude.{Result, Ok, Err, is_none, ◌&&◌}
 use Rattle.gss_base.specs.declared.mark.Mark.{Mark}
 use Rattle.spnego_core.specs.declared.refusal.NegRefusal.{NegRefusal}
@@ -23,9 +23,10 @@ use Rattle.accept_core.specs.History.{Standing, Unknown, Open, Whole, Over, stan
 use Rattle.accept_core.specs.Entering.{id_of, mark_refused}
 use Rattle.accept_book.specs.Booking.{Stands, Outcomes, answer_after, answer_with, mark_of, settled_of, refusal_of_mark, by_mark, by_step, later_step, begun, opened_by, gone_on_by, negotiated}
 
--- an answer has a reason where it refuses by an end
+-- an answer has a reason where it refuses by an end, and no journal refused it
 unfoldable Reasoned : NegAnswer → Type 0
 Reasoned (answers.Refused (refusals.Neg refusal)) = neg_wants_memory refusal ≡ false
+Reasoned (answers.Refused refusals.Journal) = ⊥
 Reasoned answer = Unit {0}
 
 after-reasoned : (id : ℕ) (after : Answered) → Reasoned (answer_after id after)
@@ -95,3 +96,12 @@ pub reasons : AcceptLaws → (setup : AcceptSetup) (book : Stands) (id past : Op
     → (negotiated setup book id past token now draws).answer ≡ answers.Refused (refusals.Neg refusal) → neg_wants_memory refusal ≡ false
 reasons laws setup book id past token now draws refusal =
     reason-of (negotiated setup book id past token now draws).answer refusal (negotiated-reasoned laws setup book id past token now draws)
+
+no-journal : (answer : NegAnswer) → Reasoned answer → answer ≡ answers.Refused refusals.Journal → ⊥
+unfolding Reasoned
+no-journal answer h is = subst Reasoned is h
+
+pub unjournaled : AcceptLaws → (setup : AcceptSetup) (book : Stands) (id past : Option ℕ) (token : List ℕ) (now : ℕ) (draws : List ℕ)
+    → (negotiated setup book id past token now draws).answer ≢ answers.Refused refusals.Journal
+unjournaled laws setup book id past token now draws =
+    no-journal (negotiated setup book id past token now draws).answer (negotiated-reasoned laws setup book id past token now draws)

@@ -201,3 +201,7 @@ pub record BookLaws : Type 0 where
       (now : ℕ) (draws : List ℕ) (refusal : NegRefusal)
       → (negotiated setup book id past token now draws).answer
       ≡ answers.Refused (refusals.Neg refusal) → neg_wants_memory refusal ≡ false
+  -- no token is refused by a journal: a book has none
+  pub unjournaled : (setup : AcceptSetup) (book : Stands) (id past : Option ℕ) (token : List ℕ)
+      (now : ℕ) (draws : List ℕ)
+      → (negotiated setup book id past token now draws).answer ≢ answers.Refused refusals.Journal

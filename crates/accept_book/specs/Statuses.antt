@@ -61,6 +61,7 @@ book_number (books.Neg refusal) = neg_number refusal
 book_number (books.Stale greatest) = 21
 book_number (books.Repeat at) = 20
 book_number books.CacheFull = 22
+book_number books.Journal = 27
 
 -- the major status of a routine error
 abbrev pub major_status : ℕ → ℕ

@@ -35,6 +35,9 @@ pub enum BookRefusal {
     Repeat { place: u64 },
     /// As many marks as the limit are held.
     CacheFull,
+    /// A journal of authenticators couldn't keep this one. No book gives it (`prove_book_laws`): a journal behind a book does, of a token that
+    /// the book took.
+    Journal,
 }
 
 impl BookRefusal {
@@ -51,6 +54,7 @@ impl BookRefusal {
             BookRefusal::Stale { greatest: _ } => 21,
             BookRefusal::Repeat { place: _ } => 20,
             BookRefusal::CacheFull => 22,
+            BookRefusal::Journal => 27,
         }
     }
 }

@@ -32,7 +32,8 @@ pub fn made_calls_are_honest()
 {}
 
 /// Does nothing; its contract holds what a token's step hands out, finds verified and fixes: nothing where the token is refused; a context is fixed
-/// with one authenticator, by the request that was judged; what a lease, its entry and its context have is what was fixed; and good ends stay good.
+/// with one authenticator, by the request that was judged; what a lease, its entry and its context have is what was fixed; good ends stay good; and no
+/// token is refused by a journal.
 pub fn prove_book_laws()
     ensures { BookLaws }
 {

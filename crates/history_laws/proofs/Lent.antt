@@ -98,6 +98,7 @@ stepped-only s (steps.Refused (books.Neg refusal)) = tt
 stepped-only s (steps.Refused (books.Stale greatest)) = tt
 stepped-only s (steps.Refused (books.Repeat place)) = tt
 stepped-only s (steps.Refused books.CacheFull) = tt
+stepped-only s (steps.Refused books.Journal) = tt
 stepped-only s steps.NoMemory = tt
 
 step-only : (s : Shown) (id : Option ℕ) (token : List ℕ) (negotiated : Option Negotiated) → Only None (ask_step s id token negotiated).asked

@@ -191,6 +191,8 @@ StepSeen before id token now draws (answers.Refused (refusals.Repeat place)) rec
     (r : MarkRefused before id token now draws receipts) × StandsAt before.log place r.mark
 StepSeen before id token now draws (answers.Refused refusals.CacheFull) receipts =
     (r : MarkRefused before id token now draws receipts) × IsFull before now r.mark
+-- no book has a journal
+StepSeen before id token now draws (answers.Refused refusals.Journal) receipts = ⊥
 StepSeen before id token now draws (answers.Going own reply) receipts =
     StepTaken before id token now draws (answers.Going own reply) receipts
 StepSeen before id token now draws (answers.Settled lease reply) receipts =

@@ -1,5 +1,5 @@
 -- What the desks of a run asked is one history, and each desk's records are scripts of its own questions.
-use Rattle.std.proofs.Common.{◌≡◌, ◌∙◌, inl, inr, ℕ, zero, suc, ◌<◌, ◌≤◌, refl, ap, sym, subst, arith, append_assoc, append-nil, List, [], ◌∷◌, ◌++◌, length, reverse, slice_get, Option, Some, None}
+use Rattle.std.proofs.Common.{◌≡◌, ◌∙◌, inl, inr, ℕ, Bool, is_some, zero, suc, ◌<◌, ◌≤◌, refl, ap, sym, subst, arith, append_assoc, append-nil, List, [], ◌∷◌, ◌++◌, length, reverse, slice_get, Option, Some, None}
 use Rattle.std.proofs.lemmas.List.{length-append}
 use Rattle.std.proofs.lemmas.Option.{none-some, same_Some}
 use Rattle.sec_base.specs.declared.port.Port as ports
@@ -22,8 +22,9 @@ use Rattle.gss_server.specs.declared.keeper.Keeper as keepers
 use Rattle.gss_server.proofs.Turning.{all-push}
 use Rattle.book_seats.specs.Notes.{Note, asked_by, questions_of}
 use Rattle.server_desks.specs.Desks.{ServedOf, ServedLink, LinksServed, DeskServed, run_limit}
-use Rattle.server_seating.specs.SideBySide.{Noted}
-use Rattle.server_command.proofs.Lending.{noted, get-past}
+use Rattle.server_seating.specs.SideBySide.{DeskAsked, DeskTold, unasked, Noted}
+use Rattle.server_seating.proofs.Heard.{AllHear, noted-all, none-heard, parts}
+use Rattle.server_command.proofs.Lending.{get-past}
 use Rattle.server_command.specs.Through.{IsOpened}
 use Rattle.server_desks.specs.Courses.{IsLogOf}
 use Rattle.server_desks.specs.declared.desk.Desk.{Desk}
@@ -36,24 +37,25 @@ use Rattle.server_laws.specs.Served.{IsOver, Meanwhile}
 use Rattle.server_laws.specs.ServerRun.{opened_book, hand_of, hands_of, hands_in, DeskHad, AreTheirs, LogIsRun, ServerIsRun}
 use Rattle.server_laws.proofs.Beside.{Scripts, beside}
 use Rattle.server_laws.proofs.Openings.{history-goes}
-use Rattle.server_laws.proofs.Turns.{record-script}
+use Rattle.server_laws.proofs.Turns.{heard-script}
 
 -- ---- one connection
 
 abbrev OverAt : ℕ → List ℕ → Kept → Type 0
 OverAt width octets one = IsOver (ruling_for width octets one)
 
-each-script : (width : ℕ) (records : List Fragments) (kept : List Kept) → AllExact width records kept → AllInOrder (OverAt width) records kept → Scripts (hands_of records kept) (asked_in width records kept)
-each-script width [] kept exact over = refl
-each-script width (cut ∷ records) [] exact over = refl
-each-script width (cut ∷ records) (one ∷ kept) exact over = (
-  asked_for width (octets_in cut) one,
-  asked_in width records kept,
-  refl,
-  exact.0.1,
-  record-script width (hand_of (octets_in cut) one) over.0,
-  each-script width records kept exact.1 over.1,
-)
+each-script : (width : ℕ) (records : List Fragments) (kept : List Kept) (firsts : List Asked) → AllExact width records kept → AllInOrder (OverAt width) records kept → AllHear firsts (asked_in width records kept) → Scripts (hands_of records kept) firsts
+each-script width [] kept firsts exact over h = none-heard firsts h
+each-script width (cut ∷ records) [] firsts exact over h = none-heard firsts h
+each-script width (cut ∷ records) (one ∷ kept) firsts exact over h =
+    let p = parts firsts (asked_for width (octets_in cut) one) (asked_in width records kept) h in (
+      p.early,
+      p.late,
+      p.is,
+      exact.0.1,
+      heard-script width (hand_of (octets_in cut) one) p.early over.0 p.first,
+      each-script width records kept p.late exact.1 over.1 p.second,
+    )
 
 decided-over : (width : ℕ) (records : List Fragments) (kept : List Kept) → AllDecided width records kept → AllInOrder (OverAt width) records kept
 decided-over width [] kept decided = tt
@@ -86,34 +88,35 @@ scripts-join (hand ∷ front) later first second f s =
     (f.0, f.1 ++ second, ap (λ xs. xs ++ second) f.2 ∙ append_assoc f.0 f.1 second, f.3, f.4, scripts-join front later f.1 second f.5 s)
 
 -- the questions of records, behind those that a desk asked before
-record Asks (before : ℕ × List Asked) (hands : List InHand) (after : ℕ × List Asked) : Type 0 where
+record Asks (before : DeskAsked) (hands : List InHand) (after : DeskAsked) : Type 0 where
   asked : List Asked
-  after_is : after ≡ (before.0, before.1 ++ asked)
+  asked_is : after.asked ≡ before.asked ++ asked
   scripts : Scripts hands asked
 
-asks-join : (before middle after : ℕ × List Asked) (front later : List InHand) → Asks before front middle → Asks middle later after → Asks before (front ++ later) after
+asks-join : (before middle after : DeskAsked) (front later : List InHand) → Asks before front middle → Asks middle later after → Asks before (front ++ later) after
 asks-join before middle after front later f s = record {
   asked = f.asked ++ s.asked;
-  after_is = s.after_is ∙ (ap (λ (x : ℕ × List Asked). (x.0, x.1 ++ s.asked)) f.after_is ∙ ap (λ xs. (before.0, xs)) (append_assoc before.1 f.asked s.asked));
+  asked_is = s.asked_is ∙ (ap (λ xs. xs ++ s.asked) f.asked_is ∙ append_assoc before.asked f.asked s.asked);
   scripts = scripts-join front later f.asked s.asked f.scripts s.scripts;
 }
 
-link-asks : {L : Type 0} (width : ℕ) (link : links.Ghosts L) (before : ℕ × List Asked) (old : L) (one : ServedOf L) (after : ℕ × List Asked) (s : ServedLink Noted width link before old one after)
+link-asks : {L : Type 0} (journaled : Bool) (width : ℕ) (link : links.Ghosts L) (before : DeskAsked) (old : L) (one : ServedOf L) (after : DeskAsked) (s : ServedLink (Noted journaled) width link before old one after)
     → Asks before (hands_of s.served.records one.answers) after
-link-asks width link before old one after s = record {
-  asked = asked_in width s.served.records one.answers;
-  after_is = noted before after (asked_in width s.served.records one.answers) s.served.asked;
-  scripts = each-script width s.served.records one.answers s.served.exact (answered-over one.served.end width s.served.records one.answers s.served.counted s.served.answered);
-}
+link-asks journaled width link before old one after s =
+    let n = noted-all journaled before after (asked_in width s.served.records one.answers) s.served.asked in record {
+      asked = n.firsts;
+      asked_is = n.asked_is;
+      scripts = each-script width s.served.records one.answers n.firsts s.served.exact (answered-over one.served.end width s.served.records one.answers s.served.counted s.served.answered) n.hear;
+    }
 
-links-ask : {L : Type 0} (width : ℕ) (link : links.Ghosts L) (before : ℕ × List Asked) (olds : List L) (served : List (ServedOf L)) (after : ℕ × List Asked)
-    (s : LinksServed Noted width link before olds served after) → Asks before (hands_in Noted width link before olds served after s) after
-links-ask width link before [] [] after s = record { asked = []; after_is = s ∙ ap (λ xs. (before.0, xs)) (sym (append-nil before.1)); scripts = refl }
-links-ask width link before [] (one ∷ more) after s = absurd s
-links-ask width link before (old ∷ olds) [] after s = absurd s
-links-ask width link before (old ∷ olds) (one ∷ more) after s =
-    asks-join before s.0 after (hands_of s.1.served.records one.answers) (hands_in Noted width link s.0 olds more after s.2) (link-asks width link before old one s.0 s.1)
-    (links-ask width link s.0 olds more after s.2)
+links-ask : {L : Type 0} (journaled : Bool) (width : ℕ) (link : links.Ghosts L) (before : DeskAsked) (olds : List L) (served : List (ServedOf L)) (after : DeskAsked)
+    (s : LinksServed (Noted journaled) width link before olds served after) → Asks before (hands_in (Noted journaled) width link before olds served after s) after
+links-ask journaled width link before [] [] after s = record { asked = []; asked_is = ap (λ (d : DeskAsked). d.asked) s ∙ sym (append-nil before.asked); scripts = refl }
+links-ask journaled width link before [] (one ∷ more) after s = absurd s
+links-ask journaled width link before (old ∷ olds) [] after s = absurd s
+links-ask journaled width link before (old ∷ olds) (one ∷ more) after s =
+    asks-join before s.0 after (hands_of s.1.served.records one.answers) (hands_in (Noted journaled) width link s.0 olds more after s.2) (link-asks journaled width link before old one s.0 s.1)
+    (links-ask journaled width link s.0 olds more after s.2)
 
 -- ---- each desk
 
@@ -165,16 +168,17 @@ own-by Had olds ends news i asked (Some old) (Some ending) (Some new) count ends
 
 -- ---- the run of the server
 
-desk-had : {P C D K M L Q R : Type 0} (width most : ℕ) (port : ports.Ghosts P L) (link : links.Ghosts L) (clock : clocks.Ghosts C) (draw : draws.Ghosts D) (keeper : keepers.Ghosts K Kept Q)
+desk-had : {P C D K M L Q R : Type 0} (journaled : Bool) (faults faults' width most : ℕ) (port : ports.Ghosts P L) (link : links.Ghosts L) (clock : clocks.Ghosts C) (draw : draws.Ghosts D) (keeper : keepers.Ghosts K Kept Q)
     (kept : keepers.Ghosts M (Served L) R) (i : ℕ) (old : Desk P C D K M) (ending : DeskEnd) (new : Desk P C D K M) (asked : List Asked)
-    → DeskServed Noted width most port link clock draw keeper kept (i, []) old ending new (i, asked)
-    → (hands : List InHand) × Scripts hands asked × DeskHad Noted width most port link clock draw keeper kept (i, []) old ending new (i, asked) hands
-desk-had width most port link clock draw keeper kept i old ending new asked s =
-    let a = links-ask width link (i, []) s.went.links s.went.served (i, asked) s.went.each in (
-      hands_in Noted width link (i, []) s.went.links s.went.served (i, asked) s.went.each,
-      subst (λ (xs : List Asked). Scripts (hands_in Noted width link (i, []) s.went.links s.went.served (i, asked) s.went.each) xs)
-          (sym (ap (λ (x : ℕ × List Asked). x.1) a.after_is)) a.scripts,
-      record { served = s; are = refl },
+    → DeskTold journaled faults faults' width most port link clock draw keeper kept i old ending new asked
+    → (hands : List InHand) × Scripts hands asked × DeskHad journaled faults faults' width most port link clock draw keeper kept i old ending new asked hands
+desk-had journaled faults faults' width most port link clock draw keeper kept i old ending new asked t =
+    let s = t.served in
+    let after : DeskAsked = record { desk = i; asked = asked; failed = t.failed } in
+    let a = links-ask journaled width link (unasked i) s.went.links s.went.served after s.went.each in (
+      hands_in (Noted journaled) width link (unasked i) s.went.links s.went.served after s.went.each,
+      subst (λ (xs : List Asked). Scripts (hands_in (Noted journaled) width link (unasked i) s.went.links s.went.served after s.went.each) xs) (sym a.asked_is) a.scripts,
+      record { told = t; are = refl },
     )
 
 server-by : (Are : (ℕ → List InHand) → Type 0) (options : Options) (keys : Keys) (start desks : ℕ) (first last : BookOf) (log : LogOf) (notes : List Note) (hands : ℕ → List InHand)
@@ -195,12 +199,12 @@ server-by Are options keys start desks first last log notes hands opens closed c
 
 pub server-run : {P C D K M L Q R : Type 0} (port : ports.Ghosts P L) (link : links.Ghosts L) (clock : clocks.Ghosts C) (draw : draws.Ghosts D) (keeper : keepers.Ghosts K Kept Q)
     (kept : keepers.Ghosts M (Served L) R) → ServerIsRun port link clock draw keeper kept
-server-run {P} {C} {D} {K} {M} port link clock draw keeper kept options keys start olds end news log one legal w lane meanwhile is free =
+server-run {P} {C} {D} {K} {M} port link clock draw keeper kept options keys start faults faults' olds end news log one legal w lane meanwhile is free =
     let own : (i : ℕ) → Own (λ (old : Desk P C D K M) (ending : DeskEnd) (new : Desk P C D K M) (hands : List InHand).
-    DeskHad Noted options.window (run_limit options.connections (length olds)) port link clock draw keeper kept (i, []) old ending new (i, asked_by i one.all) hands) olds one.ends news i (asked_by i one.all) =
+    DeskHad (is_some options.files.journal) faults faults' options.window (run_limit options.connections (length olds)) port link clock draw keeper kept i old ending new (asked_by i one.all) hands) olds one.ends news i (asked_by i one.all) =
     λ i. own-by (λ (old : Desk P C D K M) (ending : DeskEnd) (new : Desk P C D K M) (hands : List InHand).
-    DeskHad Noted options.window (run_limit options.connections (length olds)) port link clock draw keeper kept (i, []) old ending new (i, asked_by i one.all) hands) olds one.ends news i (asked_by i one.all)
+    DeskHad (is_some options.files.journal) faults faults' options.window (run_limit options.connections (length olds)) port link clock draw keeper kept i old ending new (asked_by i one.all) hands) olds one.ends news i (asked_by i one.all)
     (slice_get olds i) (slice_get one.ends i) (slice_get news i) one.count one.ends_count refl refl refl
-    (λ old new ending a b c. desk-had options.window (run_limit options.connections (length olds)) port link clock draw keeper kept i old ending new (asked_by i one.all) (one.each i old new ending a b c)) in
-    server-by (AreTheirs options.window (run_limit options.connections (length olds)) port link clock draw keeper kept olds one.ends news one.all) options keys start (length olds) one.first one.last log one.all (λ i. (own i).hands)
+    (λ old new ending a b c. desk-had (is_some options.files.journal) faults faults' options.window (run_limit options.connections (length olds)) port link clock draw keeper kept i old ending new (asked_by i one.all) (one.each i old new ending a b c)) in
+    server-by (AreTheirs (is_some options.files.journal) faults faults' options.window (run_limit options.connections (length olds)) port link clock draw keeper kept olds one.ends news one.all) options keys start (length olds) one.first one.last log one.all (λ i. (own i).hands)
     one.opened one.closed one.chain legal (record { each = λ i old new ending a b c. (own i).theirs old new ending a b c; others = λ i le. (own i).past le }) (λ i below. (own i).scripts below) (λ i le. (own i).past le) one.others w lane meanwhile is free

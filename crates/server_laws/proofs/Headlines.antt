@@ -84,11 +84,11 @@ free initiators book desks = record { apart = λ i j first next same. same; free
 
 pub server-headline : Laws → Headline → {F P C D K M L Q R : Type 0} (shelf : shelves.Ghosts F) (port : ports.Ghosts P L) (link : links.Ghosts L) (clock : clocks.Ghosts C) (draw : draws.Ghosts D)
     (keeper : keepers.Ghosts K Kept Q) (kept : keepers.Ghosts M (Served L) R) → ServerHeadline shelf port link clock draw keeper kept
-server-headline laws headline shelf port link clock draw keeper kept options keys start before after olds end news log files one legal initiators meanwhile are =
+server-headline laws headline shelf port link clock draw keeper kept options keys start faults faults' before after olds end news log files one legal initiators meanwhile are =
     let book = opened_book options keys start in
     let w = world_of initiators book (length olds) in
     let begin : Begins w = begins initiators book (length olds) refl (opened options keys start) (keys-lines laws shelf before after options.files options.name keys files) are.lists are.setups in
-    let is = server-run port link clock draw keeper kept options keys start olds end news log one legal w (λ desk. desk) meanwhile refl (free initiators book (length olds)) in
+    let is = server-run port link clock draw keeper kept options keys start faults faults' olds end news log one legal w (λ desk. desk) meanwhile refl (free initiators book (length olds)) in
     let logged : is.runs.next.book.core.history ≡ reverse log.entries = ap (λ (b : BookOf). b.core.history) is.runs.booked ∙ is.logged in record {
       begins = begin;
       is = is;

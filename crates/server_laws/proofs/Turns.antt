@@ -8,7 +8,7 @@ use Rattle.accept_book.specs.declared.book_answer.Lease.{Lease}
 use Rattle.accept_book.specs.declared.book_answer.Negotiated.{Negotiated}
 use Rattle.accept_core.specs.declared.entry.Admitted.{Admitted}
 use Rattle.accept_core.specs.declared.entry.Receipt.{Receipt}
-use Rattle.accept_book.specs.RecordShown.{KeptAnswers, Question, Negotiate, Look, Admit, End, Asked, AskedStep, AskedLook, AskedAdmit, AskedEnd, Ruling}
+use Rattle.accept_book.specs.RecordShown.{KeptAnswers, Question, Negotiate, Look, Admit, End, Asked, AskedStep, AskedLook, AskedAdmit, AskedEnd, Ruling, decided}
 use Rattle.accept_book.specs.RecordRule.{record_ruling}
 use Rattle.gss_server.specs.Answers.{may_wait}
 use Rattle.gss_server.specs.Asking.{Asking, BookAnswers}
@@ -22,11 +22,12 @@ use Rattle.world_laws.specs.State.{InHand, World}
 use Rattle.world_runs.specs.Turning.{AtOnce, ByBook, Turned}
 use Rattle.world_runs.proofs.LaneTurns.{hand_with, lane-moved}
 use Rattle.history_laws.proofs.Past.{past-of}
-use Rattle.world_laws.proofs.RulingPlan.{Late, Rules, Admits, Ends, Plan, Decides, Steps, Looks, Ruled, ruled, plan_by, late_by, rulings, record-planned}
+use Rattle.world_laws.proofs.RulingPlan.{Late, Rules, Admits, Ends, Plan, Decides, Steps, Looks, Decision, Ruled, ruled, plan_by, late_by, rulings, record-planned}
 use Rattle.world_runs.proofs.RulingTurns.{ruling_after}
 use Rattle.world_laws.proofs.Slices.{set-same}
 use Rattle.server_laws.specs.Beside.{asked_in}
 use Rattle.server_laws.specs.Served.{LegalAnswers, IsOver, Answered, Serves, ruling_at}
+use Rattle.server_seating.proofs.Heard.{Hears, AllHear, none-heard}
 use Rattle.server_laws.proofs.Widths.{same-asked, same-over}
 
 -- ---- one question, or none
@@ -205,6 +206,90 @@ pub record-script : (width : ℕ) (hand : InHand) → IsOver (ruling_at width ha
 record-script width hand over =
     subst (λ (xs : List Asked). Script hand.octets hand.kept.now hand.kept.draws xs) (same-asked hand.octets hand.kept told_width width)
     (told-script hand.octets hand.kept (same-over hand.octets hand.kept width told_width over))
+
+-- ---- what the book was asked where its answers were told otherwise
+
+-- a record over whose question the book decides, or has no memory, is over
+over-of : (rule : ℕ) (reply : Option (List ℕ)) → IsOver (decided rule reply)
+over-of zero None = inr refl
+over-of zero (Some octets) = inr refl
+over-of (suc rule) reply = inl (omega arith)
+
+same-look : (first : Asked) (id now : ℕ) (answer : Result Lease LookRefusal) → Hears first (AskedLook id now answer) → first ≡ AskedLook id now answer
+same-look first id now answer (inl same) = sym same
+same-look first id now answer (inr held) = absurd (let bad : AskedLook id now answer ≡ AskedStep held.1.id held.1.token held.1.now held.1.draws (record { answer = held.0; receipts = held.1.step.receipts }) = held.1.told in cc)
+
+same-admit : (first : Asked) (lease : Lease) (seq procedure : ℕ) (args : List ℕ) (answer : Result Admitted AdmitRefusal) → Hears first (AskedAdmit lease seq procedure args answer) → first ≡ AskedAdmit lease seq procedure args answer
+same-admit first lease seq procedure args answer (inl same) = sym same
+same-admit first lease seq procedure args answer (inr held) =
+    absurd (let bad : AskedAdmit lease seq procedure args answer ≡ AskedStep held.1.id held.1.token held.1.now held.1.draws (record { answer = held.0; receipts = held.1.step.receipts }) = held.1.told in cc)
+
+same-end : (first : Asked) (lease : Lease) (seq : ℕ) (answer : Result Receipt AdmitRefusal) → Hears first (AskedEnd lease seq answer) → first ≡ AskedEnd lease seq answer
+same-end first lease seq answer (inl same) = sym same
+same-end first lease seq answer (inr held) =
+    absurd (let bad : AskedEnd lease seq answer ≡ AskedStep held.1.id held.1.token held.1.now held.1.draws (record { answer = held.0; receipts = held.1.step.receipts }) = held.1.told in cc)
+
+-- the step of the book, where a step was told
+record Step (first : Asked) (id : Option ℕ) (token : List ℕ) (now : ℕ) (draws : List ℕ) : Type 0 where
+  answer : Negotiated
+  is : first ≡ AskedStep id token now draws answer
+
+step-heard : (first : Asked) (id : Option ℕ) (token : List ℕ) (now : ℕ) (draws : List ℕ) (answer : Negotiated) → Hears first (AskedStep id token now draws answer) → Step first id token now draws
+step-heard first id token now draws answer (inl same) = record { answer = answer; is = sym same }
+step-heard first id token now draws answer (inr held) =
+    let told : AskedStep id token now draws answer ≡ AskedStep held.1.id held.1.token held.1.now held.1.draws (record { answer = held.0; receipts = held.1.step.receipts }) = held.1.told in
+    let asked : first ≡ AskedStep held.1.id held.1.token held.1.now held.1.draws held.1.step = held.1.asked in
+    let a : held.1.id ≡ id = cc in
+    let b : held.1.token ≡ token = cc in
+    let c : held.1.now ≡ now = cc in
+    let d : held.1.draws ≡ draws = cc in
+    record { answer = held.1.step; is = asked ∙ (λ i. AskedStep (a i) (b i) (c i) (d i) held.1.step) }
+
+late-heard : (late : Late) (a : Option (Result Admitted AdmitRefusal)) (e : Option (Result Receipt AdmitRefusal)) (firsts : List Asked) → AllHear firsts (late_by late a e).asked → firsts ≡ (late_by late a e).asked
+late-heard (Rules d) a e firsts h = none-heard firsts h
+late-heard (Admits lease seq procedure args by) None e firsts h = none-heard firsts h
+late-heard (Admits lease seq procedure args by) (Some answer) e [] h = absurd h
+late-heard (Admits lease seq procedure args by) (Some answer) e (first ∷ firsts) h = λ i. same-admit first lease seq procedure args answer h.0 i ∷ none-heard firsts h.1 i
+late-heard (Ends lease seq by) a None firsts h = none-heard firsts h
+late-heard (Ends lease seq by) a (Some answer) [] h = absurd h
+late-heard (Ends lease seq by) a (Some answer) (first ∷ firsts) h = λ i. same-end first lease seq answer h.0 i ∷ none-heard firsts h.1 i
+
+look-heard : (id at : ℕ) (by : Result Lease LookRefusal → Late) (l : Option (Result Lease LookRefusal)) (a : Option (Result Admitted AdmitRefusal)) (e : Option (Result Receipt AdmitRefusal)) (firsts : List Asked)
+    → AllHear firsts (plan_by (Looks id at by) None l a e).asked → firsts ≡ (plan_by (Looks id at by) None l a e).asked
+look-heard id at by None a e firsts h = none-heard firsts h
+look-heard id at by (Some looked) a e [] h = absurd h
+look-heard id at by (Some looked) a e (first ∷ firsts) h = λ i. same-look first id at looked h.0 i ∷ late-heard (by looked) a e firsts h.1 i
+
+step-script : (octets : List ℕ) (now : ℕ) (draws : List ℕ) (id : Option ℕ) (token : List ℕ) (at : ℕ) (drawn : List ℕ) (by : Negotiated → Decision) (answer : Negotiated) (firsts : List Asked)
+    → Is octets now draws (Steps id token at drawn by) → AllHear firsts (AskedStep id token at drawn answer ∷ []) → Script octets now draws firsts
+step-script octets now draws id token at drawn by answer [] is h = absurd h
+step-script octets now draws id token at drawn by answer (first ∷ firsts) is h =
+    let s = step-heard first id token at drawn answer h.0 in
+    subst (λ (xs : List Asked). Script octets now draws xs) (λ i. sym s.is i ∷ sym (none-heard firsts h.1) i)
+    (one-script octets now draws (AskedStep id token at drawn s.answer) _ (due-of _ _ (Negotiate id token at drawn) (is None None None None) refl)
+    (is (Some s.answer) None None None) (over-of (by s.answer).rule (by s.answer).reply))
+
+plan-heard : (octets : List ℕ) (now : ℕ) (draws : List ℕ) (plan : Plan)
+    (n : Option Negotiated) (l : Option (Result Lease LookRefusal)) (a : Option (Result Admitted AdmitRefusal)) (e : Option (Result Receipt AdmitRefusal)) (firsts : List Asked)
+    → Is octets now draws plan → IsOver (plan_by plan n l a e) → AllHear firsts (plan_by plan n l a e).asked → Script octets now draws firsts
+plan-heard octets now draws (Decides d) n l a e firsts is over h =
+    subst (λ (xs : List Asked). Script octets now draws xs) (sym (none-heard firsts h)) (plan-script octets now draws (Decides d) n l a e is over)
+plan-heard octets now draws (Steps id token at drawn by) None l a e firsts is over h = absurd (waits-on (Negotiate id token at drawn) [] refl over)
+plan-heard octets now draws (Steps id token at drawn by) (Some answer) l a e firsts is over h = step-script octets now draws id token at drawn by answer firsts is h
+plan-heard octets now draws (Looks id at by) n l a e firsts is over h =
+    subst (λ (xs : List Asked). Script octets now draws xs) (sym (look-heard id at by l a e firsts h)) (plan-script octets now draws (Looks id at by) n l a e is over)
+
+told-heard : (octets : List ℕ) (kept : KeptAnswers) (firsts : List Asked) → IsOver (record_ruling octets kept told_width) → AllHear firsts (record_ruling octets kept told_width).asked → Script octets kept.now kept.draws firsts
+told-heard octets kept firsts over h =
+    let p = record-planned octets kept.now kept.draws told_width in
+    let is : record_ruling octets kept told_width ≡ plan_by p.plan kept.negotiated kept.looked kept.admitted kept.ended = p.is kept.negotiated kept.looked kept.admitted kept.ended in
+    plan-heard octets kept.now kept.draws p.plan kept.negotiated kept.looked kept.admitted kept.ended firsts p.is (subst IsOver is over) (subst (λ (r : Ruling). AllHear firsts r.asked) is h)
+
+-- the questions of a record, as the book answered them
+pub heard-script : (width : ℕ) (hand : InHand) (firsts : List Asked) → IsOver (ruling_at width hand) → AllHear firsts (ruling_at width hand).asked → Script hand.octets hand.kept.now hand.kept.draws firsts
+heard-script width hand firsts over h =
+    told-heard hand.octets hand.kept firsts (same-over hand.octets hand.kept width told_width over)
+    (subst (λ (xs : List Asked). AllHear firsts xs) (sym (same-asked hand.octets hand.kept told_width width)) h)
 
 -- ---- the turns of a record
 

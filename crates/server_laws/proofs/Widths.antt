@@ -59,6 +59,7 @@ stepped-same s v (steps.Refused (books.Neg refusal)) = refl
 stepped-same s v (steps.Refused (books.Stale greatest)) = refl
 stepped-same s v (steps.Refused (books.Repeat place)) = refl
 stepped-same s v (steps.Refused books.CacheFull) = refl
+stepped-same s v (steps.Refused books.Journal) = refl
 stepped-same s v steps.NoMemory = refl
 
 step-same : (s : Shown) (v : ℕ) (id : Option ℕ) (token : List ℕ) (n : Option Negotiated) → Same (ask_step s id token n) (ask_step (at_width s v) id token n)

@@ -1,6 +1,6 @@
 -- The headline of a server: what the log says that its run returns.
 use Rattle.std.specs.Prelude.{◌≡◌, ℕ, true, List, [], length, map, replicate, reverse, slice_get}
-use Rattle.std.specs.Prelude.{Ok, Some, None}
+use Rattle.std.specs.Prelude.{is_some, Ok, Some, None}
 use Rattle.sec_base.specs.declared.port.Port as ports
 use Rattle.sec_base.specs.declared.link.Link as links
 use Rattle.sec_base.specs.declared.clock.Clock as clocks
@@ -87,13 +87,15 @@ abbrev pub ServerHeadline : {F P C D K M L Q R : Type 0} → shelves.Ghosts F �
     → links.Ghosts L → clocks.Ghosts C → draws.Ghosts D → keepers.Ghosts K Kept Q
     → keepers.Ghosts M (Served L) R → Type 0
 ServerHeadline {F} {P} {C} {D} {K} {M} shelf port link clock draw keeper kept =
-    (options : Options) (keys : Keys) (start : ℕ) (before after : F) (olds : List (Desk P C D K M))
-    (end : RunEnd) (news : List (Desk P C D K M)) (log : LogOf)
+    (options : Options) (keys : Keys) (start faults faults' : ℕ) (before after : F)
+    (olds : List (Desk P C D K M)) (end : RunEnd) (news : List (Desk P C D K M)) (log : LogOf)
     → KeysFrom shelf before after options.files options.name (Ok keys)
-    → (one : OneHistory options keys start port link clock draw keeper kept olds end news log)
+    → (one : OneHistory options keys start faults faults' port link clock draw keeper kept olds end
+    news log)
     → Legal log.width (reverse log.entries)
     → (initiators : List PlainSetup) (meanwhile : (w : World) → Meanwhile w)
     → AreInitiators initiators → OfThatLog
-    (AreTheirs options.window (run_limit options.connections (length olds)) port link clock draw
-    keeper kept olds one.ends news one.all) meanwhile one.all
+    (AreTheirs (is_some options.files.journal) faults faults' options.window
+    (run_limit options.connections (length olds)) port link clock draw keeper kept olds one.ends
+    news one.all) meanwhile one.all
     (world_of initiators (opened_book options keys start) (length olds)) (reverse log.entries)

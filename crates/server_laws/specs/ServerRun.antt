@@ -1,6 +1,6 @@
 -- The log that a run of the server returns is that of a run of the world.
 use Rattle.std.specs.Prelude.{◌≡◌, ◌≤◌, ℕ, List, [], ◌∷◌, ◌++◌, length, reverse, slice_get}
-use Rattle.std.specs.Prelude.{Some, None}
+use Rattle.std.specs.Prelude.{Bool, is_some, Some, None}
 use Rattle.sec_base.specs.declared.port.Port as ports
 use Rattle.sec_base.specs.declared.link.Link as links
 use Rattle.sec_base.specs.declared.clock.Clock as clocks
@@ -18,9 +18,9 @@ use Rattle.gss_server.specs.declared.answer.Kept.{Kept}
 use Rattle.gss_server.specs.declared.connection.Served.{Served}
 use Rattle.gss_server.specs.declared.keeper.Keeper as keepers
 use Rattle.book_seats.specs.Notes.{Note, asked_by}
-use Rattle.server_desks.specs.Desks.{ServedOf, LinksServed, DeskServed, run_limit}
+use Rattle.server_desks.specs.Desks.{ServedOf, LinksServed, run_limit}
 use Rattle.server_command.specs.Through.{IsOpened, OneHistory}
-use Rattle.server_seating.specs.SideBySide.{Noted}
+use Rattle.server_seating.specs.SideBySide.{DeskTold, unasked, Noted}
 use Rattle.server_desks.specs.declared.desk.Desk.{Desk}
 use Rattle.server_desks.specs.declared.desk.DeskEnd.{DeskEnd}
 use Rattle.server_options.specs.declared.ending.RunEnd.{RunEnd}
@@ -95,26 +95,27 @@ hands_in Answers width link before (old ∷ olds) (one ∷ more) after each =
     ++ hands_in Answers width link each.0 olds more after each.2
 
 -- a desk served links, and these are the records of all of them, in order
-pub record DeskHad {S P C D K M L Q R : Type 0} (Answers : S → Asked → S → Type 0) (width most : ℕ)
+pub record DeskHad {P C D K M L Q R : Type 0} (journaled : Bool) (faults faults' width most : ℕ)
     (port : ports.Ghosts P L) (link : links.Ghosts L) (clock : clocks.Ghosts C)
     (draw : draws.Ghosts D) (keeper : keepers.Ghosts K Kept Q)
-    (kept : keepers.Ghosts M (Served L) R) (before : S) (old : Desk P C D K M) (end : DeskEnd)
-    (new : Desk P C D K M) (after : S) (hands : List InHand) : Type 0 where
-  pub served : DeskServed Answers width most port link clock draw keeper kept before old end new
-      after
-  pub are : hands ≡ hands_in Answers width link before served.went.links served.went.served after
-      served.went.each
+    (kept : keepers.Ghosts M (Served L) R) (i : ℕ) (old : Desk P C D K M) (end : DeskEnd)
+    (new : Desk P C D K M) (asked : List Asked) (hands : List InHand) : Type 0 where
+  pub told : DeskTold journaled faults faults' width most port link clock draw keeper kept i old end
+      new asked
+  pub are : hands ≡ hands_in (Noted journaled) width link (unasked i) told.served.went.links
+      told.served.went.served (record { desk = i; asked = asked; failed = told.failed })
+      told.served.went.each
 
 -- each desk's records are those of the links that it served, and there are no others
-pub record AreTheirs {P C D K M L Q R : Type 0} (width most : ℕ) (port : ports.Ghosts P L)
-    (link : links.Ghosts L) (clock : clocks.Ghosts C) (draw : draws.Ghosts D)
-    (keeper : keepers.Ghosts K Kept Q) (kept : keepers.Ghosts M (Served L) R)
-    (olds : List (Desk P C D K M)) (ends : List DeskEnd) (news : List (Desk P C D K M))
-    (notes : List Note) (hands : ℕ → List InHand) : Type 0 where
+pub record AreTheirs {P C D K M L Q R : Type 0} (journaled : Bool) (faults faults' width most : ℕ)
+    (port : ports.Ghosts P L) (link : links.Ghosts L) (clock : clocks.Ghosts C)
+    (draw : draws.Ghosts D) (keeper : keepers.Ghosts K Kept Q)
+    (kept : keepers.Ghosts M (Served L) R) (olds : List (Desk P C D K M)) (ends : List DeskEnd)
+    (news : List (Desk P C D K M)) (notes : List Note) (hands : ℕ → List InHand) : Type 0 where
   pub each : (i : ℕ) (old new : Desk P C D K M) (ending : DeskEnd) → slice_get olds i ≡ Some old
       → slice_get ends i ≡ Some ending → slice_get news i ≡ Some new
-      → DeskHad Noted width most port link clock draw keeper kept (i, []) old ending new
-      (i, asked_by i notes) (hands i)
+      → DeskHad journaled faults faults' width most port link clock draw keeper kept i old ending
+      new (asked_by i notes) (hands i)
   pub others : (i : ℕ) → length olds ≤ i → hands i ≡ []
 
 -- a run of the world in which the desks' lanes serve such records side by side, by this history, to
@@ -136,11 +137,13 @@ abbrev pub ServerIsRun : {P C D K M L Q R : Type 0} → ports.Ghosts P L → lin
     → clocks.Ghosts C → draws.Ghosts D → keepers.Ghosts K Kept Q → keepers.Ghosts M (Served L) R
     → Type 0
 ServerIsRun {P} {C} {D} {K} {M} port link clock draw keeper kept =
-    (options : Options) (keys : Keys) (start : ℕ) (olds : List (Desk P C D K M)) (end : RunEnd)
-    (news : List (Desk P C D K M)) (log : LogOf)
-    (one : OneHistory options keys start port link clock draw keeper kept olds end news log)
+    (options : Options) (keys : Keys) (start faults faults' : ℕ) (olds : List (Desk P C D K M))
+    (end : RunEnd) (news : List (Desk P C D K M)) (log : LogOf)
+    (one : OneHistory options keys start faults faults' port link clock draw keeper kept olds end
+    news log)
     → Legal log.width (reverse log.entries) → (w : World) (lane : ℕ → ℕ)
     (meanwhile : (w : World) → Meanwhile w) → w.book ≡ opened_book options keys start
     → AreFree w lane (length olds) → LogIsRun
-    (AreTheirs options.window (run_limit options.connections (length olds)) port link clock draw
-    keeper kept olds one.ends news one.all) lane meanwhile one.all w (reverse log.entries)
+    (AreTheirs (is_some options.files.journal) faults faults' options.window
+    (run_limit options.connections (length olds)) port link clock draw keeper kept olds one.ends
+    news one.all) lane meanwhile one.all w (reverse log.entries)

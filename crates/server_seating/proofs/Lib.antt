@@ -1,3 +1,4 @@
+pub mod Heard
 mod Lengths
 mod Noting
 mod Sides

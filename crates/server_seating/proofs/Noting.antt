@@ -1,5 +1,5 @@
 -- What a desk asked of its seat is, of the one history, what the desk asked.
-use Rattle.std.proofs.Common.{◌≡◌, ℕ, List, [], ◌∷◌, ◌++◌, append-nil, sym, ap, ◌∙◌, subst}
+use Rattle.std.proofs.Common.{◌≡◌, ℕ, Bool, List, [], ◌∷◌, ◌++◌, append-nil, refl, sym, ap, ◌∙◌, subst}
 use Rattle.sec_base.specs.declared.port.Port as ports
 use Rattle.sec_base.specs.declared.link.Link as links
 use Rattle.sec_base.specs.declared.clock.Clock as clocks
@@ -15,7 +15,8 @@ use Rattle.book_seats.specs.Views.{ClerkOf}
 use Rattle.book_seats.specs.Histories.{AnsweredBy}
 use Rattle.book_seats.proofs.Moves.{of-append, of-own}
 use Rattle.server_desks.specs.Desks.{ServedOf, ServedLink, LinksServed, DeskServed}
-use Rattle.server_seating.specs.SideBySide.{Noted}
+use Rattle.journal_gate.specs.Withheld.{IsTold, JournalAnswers}
+use Rattle.server_seating.specs.SideBySide.{DeskAsked, unasked, Noted}
 use Rattle.server_desks.specs.declared.desk.Desk.{Desk}
 use Rattle.server_desks.specs.declared.desk.DeskEnd.{DeskEnd}
 use Rattle.server_desks.proofs.DeskRuns.{served-as}
@@ -73,21 +74,37 @@ noted-own desk seen between one others =
     ∙ ap (λ (l : List Asked). (asked_by desk seen ++ l) ++ one ∷ []) others
     ∙ ap (λ (l : List Asked). l ++ one ∷ []) (append-nil (asked_by desk seen))
 
-noted-by : (n : ℕ) (begins : BookOf → Type 0) (old : ClerkOf) (one : Asked) (new : ClerkOf) → old.desk ≡ n → AnsweredBy begins old one new → Noted (n, asked_by n old.seen) one (n, asked_by n new.seen)
-noted-by n begins old one new is a =
-    ap (λ (c : ClerkOf). (n, asked_by n c.seen)) a.seen
-    ∙ ap (λ (l : List Asked). (n, l)) (subst (λ (k : ℕ). asked_by k ((old.seen ++ a.between) ++ (old.desk, one) ∷ []) ≡ asked_by k old.seen ++ one ∷ []) is (noted-own old.desk old.seen a.between one a.others))
+-- a question of a seat, and the answer that a gate over it told
+abbrev pub AtGate : {S T : Type 0} → (BookOf → Type 0) → (S → T) → (T → ClerkOf) → (S → Bool) → (S → ℕ) → S → Asked → S → Type 0
+AtGate begins seat_of clerk_of journaled_of amount_of before one after =
+    JournalAnswers (λ old x new. AnsweredBy begins (clerk_of old) x (clerk_of new)) (journaled_of before) (seat_of before) (amount_of before) one (journaled_of after) (seat_of after) (amount_of after)
 
--- a desk that was served at a seat asked what the history has of it
-pub desk-noted : {S P C D K M L Q R : Type 0} {width most : ℕ} {port : ports.Ghosts P L} {link : links.Ghosts L} {clock : clocks.Ghosts C} {draw : draws.Ghosts D} {keeper : keepers.Ghosts K Kept Q} {kept : keepers.Ghosts M (Served L) R}
-    (begins : BookOf → Type 0) (clerk_of : S → ClerkOf) (all : List Note) (n : ℕ) (width' most' : ℕ) (old new d1 d2 : Desk P C D K M) (end : DeskEnd) (s1 s2 : S) (c2 : ClerkOf) → width' ≡ width → most' ≡ most → d1 ≡ old → clerk_of s1 ≡ record { desk = n; seen = [] }
-    → DeskServed (λ before one after. AnsweredBy begins (clerk_of before) one (clerk_of after)) width' most' port link clock draw keeper kept s1 d1 end d2 s2 → c2 ≡ clerk_of s2 → new ≡ d2 → asked_by c2.desk all ≡ asked_by c2.desk c2.seen
-    → DeskServed Noted width most port link clock draw keeper kept (n, []) old end new (n, asked_by n all)
-desk-noted {S} {P} {C} {D} {K} {M} {width = width} {most} {port} {link} {clock} {draw} {keeper} {kept} begins clerk_of all n width' most' old new d1 d2 end s1 s2 c2 wide many begun fresh served back same mine =
-    let mapped = desk-map (λ before one after. AnsweredBy begins (clerk_of before) one (clerk_of after)) Noted (λ s. (n, asked_by n (clerk_of s).seen)) (λ s. (clerk_of s).desk ≡ n)
-    (λ s one t is a. noted-by n begins (clerk_of s) one (clerk_of t) is a) (λ s one t is a. ap (λ (c : ClerkOf). c.desk) a.seen ∙ is) s1 s2 d1 d2 end (ap (λ (c : ClerkOf). c.desk) fresh) served in
-    let first : ◌≡◌ {A = ℕ × List Asked} (n, asked_by n (clerk_of s1).seen) (n, []) = ap (λ (c : ClerkOf). (n, asked_by n c.seen)) fresh in
-    let number : c2.desk ≡ n = ap (λ (c : ClerkOf). c.desk) back ∙ mapped.1 in
-    let mine' : asked_by n all ≡ asked_by n (clerk_of s2).seen = subst (λ (k : ℕ). asked_by k all ≡ asked_by k c2.seen) number mine ∙ ap (λ (c : ClerkOf). asked_by n c.seen) back in
-    let last : ◌≡◌ {A = ℕ × List Asked} (n, asked_by n (clerk_of s2).seen) (n, asked_by n all) = ap (λ (l : List Asked). (n, l)) (sym mine') in
-    subst (λ (x : Desk P C D K M × Desk P C D K M × (ℕ × List Asked) × (ℕ × List Asked) × ℕ × ℕ). DeskServed Noted x.4 x.5 port link clock draw keeper kept x.2 x.0 end x.1 x.3) (λ k. (begun k, sym same k, first k, last k, wide k, many k)) mapped.0
+-- what a desk asked, as the clerk has seen it
+abbrev seen_by : ℕ → ClerkOf → ℕ → DeskAsked
+seen_by n clerk failed = record { desk = n; asked = asked_by n clerk.seen; failed = failed }
+
+noted-by : (n : ℕ) (begins : BookOf → Type 0) (old : ClerkOf) (one : Asked) (new : ClerkOf) → old.desk ≡ n → AnsweredBy begins old one new → asked_by n new.seen ≡ asked_by n old.seen ++ one ∷ []
+noted-by n begins old one new is a =
+    ap (λ (c : ClerkOf). asked_by n c.seen) a.seen
+    ∙ subst (λ (k : ℕ). asked_by k ((old.seen ++ a.between) ++ (old.desk, one) ∷ []) ≡ asked_by k old.seen ++ one ∷ []) is (noted-own old.desk old.seen a.between one a.others)
+
+-- a desk that was served at a gate over a seat asked what the history has of it
+pub desk-noted : {S T P C D K M L Q R : Type 0} {width most : ℕ} {port : ports.Ghosts P L} {link : links.Ghosts L} {clock : clocks.Ghosts C} {draw : draws.Ghosts D} {keeper : keepers.Ghosts K Kept Q} {kept : keepers.Ghosts M (Served L) R}
+    (begins : BookOf → Type 0) (seat_of : S → T) (clerk_of : T → ClerkOf) (journaled_of : S → Bool) (amount_of : S → ℕ) (journaled : Bool) (all : List Note) (n : ℕ) (width' most' : ℕ) (old new d1 d2 : Desk P C D K M) (end : DeskEnd) (s1 s2 : S) (c2 : ClerkOf) (failed : ℕ)
+    → width' ≡ width → most' ≡ most → d1 ≡ old → clerk_of (seat_of s1) ≡ record { desk = n; seen = [] } → journaled_of s1 ≡ journaled → amount_of s1 ≡ 0
+    → DeskServed (AtGate begins seat_of clerk_of journaled_of amount_of) width' most' port link clock draw keeper kept s1 d1 end d2 s2 → c2 ≡ clerk_of (seat_of s2) → failed ≡ amount_of s2 → new ≡ d2 → asked_by c2.desk all ≡ asked_by c2.desk c2.seen
+    → DeskServed (Noted journaled) width most port link clock draw keeper kept (unasked n) old end new (record { desk = n; asked = asked_by n all; failed = failed })
+desk-noted {S} {T} {P} {C} {D} {K} {M} {width = width} {most} {port} {link} {clock} {draw} {keeper} {kept} begins seat_of clerk_of journaled_of amount_of journaled all n width' most' old new d1 d2 end s1 s2 c2 failed wide many begun fresh flag none served back counted same mine =
+    let mapped = desk-map (AtGate begins seat_of clerk_of journaled_of amount_of) (Noted journaled) (λ s. seen_by n (clerk_of (seat_of s)) (amount_of s)) (λ s. ((clerk_of (seat_of s)).desk ≡ n) × (journaled_of s ≡ journaled))
+    (λ s one t is a. record {
+      first = a.first;
+      told = subst (λ (b : Bool). IsTold b a.first (amount_of s) one (amount_of t)) is.1 a.told;
+      desk = refl;
+      asked = noted-by n begins (clerk_of (seat_of s)) a.first (clerk_of (seat_of t)) is.0 a.asked;
+    })
+    (λ s one t is a. (ap (λ (c : ClerkOf). c.desk) a.asked.seen ∙ is.0, a.same ∙ is.1)) s1 s2 d1 d2 end (ap (λ (c : ClerkOf). c.desk) fresh, flag) served in
+    let first : ◌≡◌ {A = DeskAsked} (seen_by n (clerk_of (seat_of s1)) (amount_of s1)) (unasked n) = λ k. seen_by n (fresh k) (none k) in
+    let number : c2.desk ≡ n = ap (λ (c : ClerkOf). c.desk) back ∙ mapped.1.0 in
+    let mine' : asked_by n all ≡ asked_by n (clerk_of (seat_of s2)).seen = subst (λ (k : ℕ). asked_by k all ≡ asked_by k c2.seen) number mine ∙ ap (λ (c : ClerkOf). asked_by n c.seen) back in
+    let last : ◌≡◌ {A = DeskAsked} (seen_by n (clerk_of (seat_of s2)) (amount_of s2)) (record { desk = n; asked = asked_by n all; failed = failed }) = λ k. record { desk = n; asked = sym mine' k; failed = sym counted k } in
+    subst (λ (x : Desk P C D K M × Desk P C D K M × DeskAsked × DeskAsked × ℕ × ℕ). DeskServed (Noted journaled) x.4 x.5 port link clock draw keeper kept x.2 x.0 end x.1 x.3) (λ k. (begun k, sym same k, first k, last k, wide k, many k)) mapped.0

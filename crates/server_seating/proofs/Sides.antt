@@ -1,5 +1,5 @@
 -- What holds of desks that are served side by side.
-use Rattle.std.proofs.Common.{◌≤◌, ℕ, List, sym}
+use Rattle.std.proofs.Common.{◌≤◌, ℕ, Bool, List, sym}
 use Rattle.std.specs.List.{AllByRecursion}
 use Rattle.sec_base.specs.declared.port.Port as ports
 use Rattle.sec_base.specs.declared.link.Link as links
@@ -17,10 +17,10 @@ use Rattle.server_options.specs.declared.ending.RunEnd.{RunEnd}
 use Rattle.server_desks.proofs.DeskRuns.{desk-small}
 use Rattle.server_desks.proofs.InStep.{there, at-place, by-places}
 
-module _ {P C D K M L Q R : Type 0} {begins : BookOf → Type 0} {width most : ℕ} {port : ports.Ghosts P L} {link : links.Ghosts L} {clock : clocks.Ghosts C} {draw : draws.Ghosts D} {keeper : keepers.Ghosts K Kept Q} {kept : keepers.Ghosts M (Served L) R} {olds news : List (Desk P C D K M)} {end : RunEnd} {log : LogOf} where
+module _ {P C D K M L Q R : Type 0} {begins : BookOf → Type 0} {journaled : Bool} {faults faults' width most : ℕ} {port : ports.Ghosts P L} {link : links.Ghosts L} {clock : clocks.Ghosts C} {draw : draws.Ghosts D} {keeper : keepers.Ghosts K Kept Q} {kept : keepers.Ghosts M (Served L) R} {olds news : List (Desk P C D K M)} {end : RunEnd} {log : LogOf} where
   -- desks that began with nothing are small
-  pub side-small : most ≤ 4294967295 → AllByRecursion IsFresh olds → SideBySide begins width most port link clock draw keeper kept olds end news log → AllByRecursion IsSmall news
+  pub side-small : most ≤ 4294967295 → AllByRecursion IsFresh olds → SideBySide begins journaled faults faults' width most port link clock draw keeper kept olds end news log → AllByRecursion IsSmall news
   side-small few fresh s = by-places IsSmall news (λ i new at.
       let old = there news olds i new (sym s.count) at in
       let ending = there olds s.ends i old.0 s.ends_count old.1 in
-      desk-small few (at-place IsFresh olds i old.0 fresh old.1) (s.each i old.0 new ending.0 old.1 ending.1 at))
+      desk-small few (at-place IsFresh olds i old.0 fresh old.1) (s.each i old.0 new ending.0 old.1 ending.1 at).served)

@@ -1,6 +1,7 @@
 //! How one book serves the desks of a server, side by side.
 #![tactic(auto)]
 
+mod place;
 mod seating;
 mod staffing;
 

@@ -1,6 +1,6 @@
 use Rattle.accept_book.proofs.Founds.{refused_is}
 use Rattle.accept_book.proofs.Fixings.{good_steps, good_without, takes, untaken, fixes, fixes_none, completes, first_unknown}
-use Rattle.accept_book.proofs.Reasons.{reasons}
+use Rattle.accept_book.proofs.Reasons.{reasons, unjournaled}
 use Rattle.accept_book.proofs.laws.prove_book_laws.Goals as goal
 
 pub returns : goal.returns
@@ -15,4 +15,5 @@ returns c = record {
   completes = completes c.prove_accept_laws.ensures;
   first = first_unknown;
   reasons = reasons c.prove_accept_laws.ensures;
+  unjournaled = unjournaled c.prove_accept_laws.ensures;
 }

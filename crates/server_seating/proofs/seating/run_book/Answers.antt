@@ -8,7 +8,7 @@ pub returns-in-Ok-clause-count : goal.returns-in-Ok-clause-count
 returns-in-Ok-clause-count g c = omega (arith, c.in-Ok.ensures.served.count, c.run_at_seats.new.desks.ok, c.args.desks.now.ok)
 
 pub returns-in-Ok-clause-named : goal.returns-in-Ok-clause-named
-returns-in-Ok-clause-named g c = let one = c.in-Ok.ensures.served in names-one c.in-Ok.course.end _ one.ends (one.ends_count ∙ sym c.args.desks.now.ok.0) one.ended
+returns-in-Ok-clause-named g c = let one = c.in-Ok.ensures.served in names-one c.in-Ok.done.0.end _ one.ends (one.ends_count ∙ sym c.args.desks.now.ok.0) one.ended
 
 pub returns-in-Ok-clause-begun : goal.returns-in-Ok-clause-begun
 returns-in-Ok-clause-begun g c = let one = c.in-Ok.ensures.served in rw one.ended (begun-behind _ 1 one.ends (λ _. refl))

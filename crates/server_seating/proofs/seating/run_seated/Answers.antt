@@ -1,4 +1,4 @@
-use Rattle.std.proofs.Common.{rules, ◌≡◌, ◌≤◌, ℕ, map, Some, length, slice_get, sym, ap, ◌∙◌, subst}
+use Rattle.std.proofs.Common.{rules, ◌≡◌, ◌≤◌, ℕ, is_some, map, Some, length, slice_get, sym, ap, ◌∙◌, subst}
 use Rattle.accept_book.specs.Booking.{with_setup}
 use Rattle.book_seats.specs.Notes.{asked_by}
 use Rattle.std.proofs.lemmas.List.{length-map}
@@ -27,8 +27,8 @@ returns-clause-served g c =
     let n1 : length c.hire_all.new.staffed.items ≡ length c.replace-olds.result.items = same-length c.hire_all.new.staffed c.replace-olds.result c.hire_all.ensures.count in
     let n2 : length c.seat_all.new.jobs.items ≡ length c.hire_all.new.staffed.items = same-length c.seat_all.new.jobs c.hire_all.new.staffed c.seat_all.ensures.count in
     let n3 : length c.run_desks.new.jobs.items ≡ length c.seat_all.new.jobs.items = same-length c.run_desks.new.jobs c.seat_all.new.jobs c.run_desks.ensures.count in
-    let n4 : length c.rise_all.new.staffed.items ≡ length c.run_desks.new.jobs.items = same-length c.rise_all.new.staffed c.run_desks.new.jobs c.rise_all.ensures.count in
-    let n5 : length c.compare_all.new.desks.items ≡ length c.rise_all.new.staffed.items = same-length c.compare_all.new.desks c.rise_all.new.staffed c.compare_all.ensures.count in
+    let n4 : length c.rise_all.new.risen.items ≡ length c.run_desks.new.jobs.items = same-length c.rise_all.new.risen c.run_desks.new.jobs c.rise_all.ensures.count in
+    let n5 : length c.compare_all.new.desks.items ≡ length c.rise_all.new.risen.items = same-length c.compare_all.new.desks c.rise_all.new.risen c.compare_all.ensures.count in
     let olds : length c.replace-olds.result.items ≡ length c.args.desks.now.items = ap (λ v. length v.items) value in
     let all = c.into_parts-book.result.1.all in
     record {
@@ -46,14 +46,20 @@ returns-clause-served g c =
           let s1 = there c.replace-olds.result.items c.hire_all.new.staffed.items i a n1 at in
           let j1 = there c.hire_all.new.staffed.items c.seat_all.new.jobs.items i s1.0 n2 s1.1 in
           let j2 = there c.seat_all.new.jobs.items c.run_desks.new.jobs.items i j1.0 n3 j1.1 in
-          let s2 = there c.run_desks.new.jobs.items c.rise_all.new.staffed.items i j2.0 n4 j2.1 in
+          let s2 = there c.run_desks.new.jobs.items c.rise_all.new.risen.items i j2.0 n4 j2.1 in
           let r1 = c.hire_all.ensures.each i a s1.0 at s1.1 in
           let r2 = c.seat_all.ensures.each i s1.0 j1.0 s1.1 j1.1 in
           let r3 = c.run_desks.ensures.served i j1.0 j2.0 j1.1 j2.1 in
           let r4 = c.rise_all.ensures.each i j2.0 s2.0 j2.1 s2.1 in
           let r5 = c.compare_all.ensures.each i s2.0 b s2.1 at_b in
           let ended : ending ≡ j2.0.end = get-map (λ job. job.end) c.run_desks.new.jobs.items i j2.0 ending j2.1 at_end in
-          desk-noted g.J.Room.begins (λ s. s.clerk) all i j1.0.width j1.0.connections a b j1.0.desk j2.0.desk ending j1.0.gate j2.0.gate s2.0.clerk r2.3 r2.2 (r2.0 ∙ r1.0) (r2.1 ∙ r1.1) (rw ended r3) r4.1 (r5.0 ∙ r4.0) r5.1;
+          record {
+            failed = s2.0.share.amount;
+            served =
+                desk-noted g.J.Room.begins (λ s. s.gate.seat) (λ s. s.clerk) (λ s. s.gate.journaled) (λ s. s.gate.share.amount) (is_some c.args.journal) all i j1.0.width j1.0.connections a b j1.0.desk j2.0.desk ending j1.0.gate j2.0.gate s2.0.clerk s2.0.share.amount r2.3 r2.2 (r2.0 ∙ r1.0) (r2.1 ∙ r1.1) (r2.4 ∙ c.is_some-journaled.ensures) r2.5
+                (rw ended r3) r4.1 r4.2 (r5.0 ∙ r4.0) r5.1;
+            failing = λ some. rw c.disk_of.ensures.faults (rw c.into_journal.ensures.same (rw c.compare_all.ensures.journal (r5.2 some)));
+          };
       others = λ d few. ap (λ w. asked_by d w.all) (sym c.compare_all.ensures.writer)
           ∙ c.close.ensures.others d (subst (λ (n : ℕ). n ≤ d) (sym (ap (λ w. w.made) c.compare_all.ensures.writer ∙ c.into_parts-book.ensures.desks ∙ c.requires.desks)) (search rules));
       ended = c.course_of.ensures.end ∙ c.end_of-end.ensures ∙ ap (λ jobs. end_behind Served 1 (map (λ job. job.end) jobs)) c.as_slice.ensures.value;
@@ -69,3 +75,15 @@ returns-clause-limits g c =
       contexts = closed.contexts ∙ ap (λ l. l.contexts) limits;
       marks = closed.marks ∙ ap (λ l. l.marks) limits;
     }
+
+pub new-requires-3-clause-kept : goal.new-requires-3-clause-kept
+new-requires-3-clause-kept g c = rw c.in_ok-staffed.ensures.kept c.requires.kept
+
+pub new-requires-3-clause-count : goal.new-requires-3-clause-count
+new-requires-3-clause-count g c = rw c.in_ok-staffed.ensures.kept c.requires.count
+
+pub new-requires-3-clause-unclosed : goal.new-requires-3-clause-unclosed
+new-requires-3-clause-unclosed g c = rw c.in_ok-staffed.ensures.kept c.requires.unclosed
+
+pub returns-clause-disk : goal.returns-clause-disk
+returns-clause-disk g c = c.disk_of.ensures.some ∙ (c.into_journal.ensures.kept ∙ sym c.requires.kept)

@@ -8,6 +8,6 @@ loop-job-preserved g c =
     record {
       can_next = tt;
       finite = tt;
-      moves = moves-more _ _ _ _ _ _ c.in-Some.job (record { desk = c.in-Some.job.desk; clerk = c.rise.result }) i.moves c.in-Some.ensures.steps.0 c.push_reserved.ensures.items (refl, c.rise.ensures);
+      moves = moves-more _ _ _ _ _ _ c.in-Some.job (record { desk = c.in-Some.job.desk; clerk = c.rise.result; share = c.in-Some.job.gate.gate.share }) i.moves c.in-Some.ensures.steps.0 c.push_reserved.ensures.items (refl, c.rise.ensures, refl);
       room = search rules;
     }

@@ -7,6 +7,6 @@ abbrev pub invariant-loop-job : goal.invariant-loop-job
 invariant-loop-job g l = record {
   can_next : (goal.iterator-loop-job g).can_next l.job-iterator;
   finite : (goal.iterator-loop-job g).is_finite l.job-iterator;
-  moves : Moves l.fn.jobs.items (into_iter_items l.job-iterator) l.staffed.items (λ i a b. (b.desk ≡ a.desk) × (b.clerk ≡ a.gate.clerk));
-  room : vec_len l.fn.jobs ≤ vec_capacity l.staffed;
+  moves : Moves l.fn.jobs.items (into_iter_items l.job-iterator) l.risen.items (λ i a b. (b.desk ≡ a.desk) × (b.clerk ≡ a.gate.gate.seat.clerk) × (b.share.amount ≡ a.gate.gate.share.amount));
+  room : vec_len l.fn.jobs ≤ vec_capacity l.risen;
 }

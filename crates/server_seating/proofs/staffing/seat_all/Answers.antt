@@ -1,4 +1,4 @@
-use Rattle.std.proofs.Common.{rules, ap, ◌∙◌}
+use Rattle.std.proofs.Common.{rules, arith, length, ap, ◌∙◌}
 use Rattle.server_desks.proofs.InStep.{moves-more}
 use Rattle.server_seating.proofs.staffing.seat_all.Goals as goal
 
@@ -8,7 +8,15 @@ loop-one-preserved g c =
     record {
       can_next = tt;
       finite = tt;
-      moves = moves-more _ _ _ _ _ _ c.in-Some.one c.new.result i.moves c.in-Some.ensures.steps.0 c.push_reserved.ensures.items
-          (c.new.ensures.desk, ap (λ seat. seat.clerk) c.new.ensures.gate ∙ c.new-seat.ensures, c.new.ensures.connections, c.new.ensures.width);
+      moves = moves-more _ _ _ _ _ _ c.in-Some.one c.new.result i.moves c.in-Some.ensures.steps.0 c.push_reserved.ensures.items (
+        c.new.ensures.desk,
+        ap (λ gate. gate.gate.seat.clerk) c.new.ensures.gate ∙ c.new-seat.ensures,
+        c.new.ensures.connections,
+        c.new.ensures.width,
+        ap (λ gate. gate.gate.journaled) c.new.ensures.gate,
+        ap (λ gate. gate.gate.share.amount) c.new.ensures.gate ∙ c.split_off-share.ensures.amount,
+      );
       room = search rules;
+      parts = omega (arith, ap length c.in-Some.ensures.steps.0, c.split_off-share.ensures.parts_left, i.parts);
+      amount = omega (arith, c.split_off-share.ensures.amount_left, i.amount);
     }

@@ -1,0 +1,9 @@
+//! A gate that has a journal keep each authenticator, behind a lock, before the answer that shows it taken is handed on.
+#![tactic(auto)]
+
+mod behind;
+mod gate;
+mod marks;
+
+pub use behind::{Behind, Opening, disk_of};
+pub use gate::JournalGate;

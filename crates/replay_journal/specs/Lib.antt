@@ -1,0 +1,7 @@
+pub mod Disks
+pub mod Files
+pub mod Images
+pub mod Journals
+pub mod Memory
+pub mod Openings
+pub mod Runs

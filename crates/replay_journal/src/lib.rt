@@ -1,0 +1,16 @@
+//! Authenticators that were taken, kept in a file, so that none is taken twice across a crash.
+#![tactic(auto)]
+
+mod body;
+mod disk;
+mod journal;
+mod laws;
+mod memory;
+mod opening;
+mod renewal;
+
+pub use disk::{Disk, DiskFault};
+pub use journal::{Journal, JournalVerdict};
+pub use laws::prove_once;
+pub use memory::MemDisk;
+pub use opening::{JournalRefusal, Unopened};
