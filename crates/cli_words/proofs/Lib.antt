@@ -4,3 +4,4 @@ pub mod Walking
 pub mod Taken
 pub mod Turns
 pub mod Programs
+pub mod SaslProgram

@@ -49,7 +49,13 @@ server-options = (
                     record { name = codes "log"; some = refl; spelled = refl; by_long = refl; by_id = refl },
                     (
                       record { name = codes "desks"; some = refl; spelled = refl; by_long = refl; by_id = refl },
-                      (record { name = codes "idle"; some = refl; spelled = refl; by_long = refl; by_id = refl }, tt),
+                      (
+                        record { name = codes "idle"; some = refl; spelled = refl; by_long = refl; by_id = refl },
+                        (
+                          record { name = codes "control"; some = refl; spelled = refl; by_long = refl; by_id = refl },
+                          (record { name = codes "journal"; some = refl; spelled = refl; by_long = refl; by_id = refl }, tt),
+                        ),
+                      ),
                     ),
                   ),
                 ),
@@ -68,7 +74,7 @@ server-address = record { by_index = refl; by_id = refl; next = refl }
 
 server-defaults : Each (λ (r : Rule). r.defaults ≡ []) (built server_app).top.rules
 unfolding clap_on_literals
-server-defaults = (refl, (refl, (refl, (refl, (refl, (refl, (refl, (refl, (refl, (refl, (refl, (refl, (refl, (refl, tt))))))))))))))
+server-defaults = (refl, (refl, (refl, (refl, (refl, (refl, (refl, (refl, (refl, (refl, (refl, (refl, (refl, (refl, (refl, (refl, tt))))))))))))))))
 
 server-passing : list_all default_passes (built server_app).top.rules ≡ true
 unfolding clap_on_literals

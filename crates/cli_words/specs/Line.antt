@@ -7,7 +7,8 @@ use Rattle.cli_base.specs.Words.{is_dashed, are_words, value_of, first_word, pla
 abbrev pub server_names : List (List ℕ)
 server_names = codes "--keytab" ∷ codes "--verifiers" ∷ codes "--name" ∷ codes "--bind"
     ∷ codes "--offer" ∷ codes "--window" ∷ codes "--connections" ∷ codes "--contexts"
-    ∷ codes "--marks" ∷ codes "--log" ∷ codes "--desks" ∷ codes "--idle" ∷ []
+    ∷ codes "--marks" ∷ codes "--log" ∷ codes "--desks" ∷ codes "--idle"
+    ∷ codes "--control" ∷ codes "--journal" ∷ []
 
 -- the names of the client's options
 abbrev pub client_names : List (List ℕ)

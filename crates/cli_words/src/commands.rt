@@ -15,7 +15,7 @@ use sec_base::NoMemory;
 use std::alloc::Global;
 
 /// The options of the server: each with its word, which is its id too, and its name, the word without `--`.
-const SERVER_OPTIONS: [(&str, &str); 12] = [
+const SERVER_OPTIONS: [(&str, &str); 14] = [
     ("--keytab", "keytab"),
     ("--verifiers", "verifiers"),
     ("--name", "name"),
@@ -28,6 +28,8 @@ const SERVER_OPTIONS: [(&str, &str); 12] = [
     ("--log", "log"),
     ("--desks", "desks"),
     ("--idle", "idle"),
+    ("--control", "control"),
+    ("--journal", "journal"),
 ];
 
 /// The options of the client, each with its word and its name.
@@ -76,7 +78,7 @@ fn with_options<'a>(
 }
 
 /// The command of this name, with these places and options; its words have no program's name before them.
-fn command_of<'a>(
+pub(crate) fn command_of<'a>(
     alloc: Global,
     name: &'a str,
     places: &[&'a str],
@@ -100,7 +102,7 @@ fn memory_of(_error: Error) -> NoMemory
 }
 
 /// The line of words that a command takes.
-fn read<'a>(command: Command<'a>, words: &'a [&'a str]) -> Result<Line<'a>, NoMemory>
+pub(crate) fn read<'a>(command: Command<'a>, words: &'a [&'a str]) -> Result<Line<'a>, NoMemory>
     requires { IsTaken (app_of command) (texts words.now) }
     ensures { IfOk result (λ line. line ≡ texts words.entry.now) }
 {

@@ -1,11 +1,12 @@
 //! A run of the server over two desks in memory, side by side.
 
-ghost use Rattle.std.specs.Prelude.{◌≡◌, true, IfSome};
+ghost use Rattle.std.specs.Prelude.{◌≡◌, true, is_some, IfSome};
 ghost use Rattle.sec_base.specs.MemPort.{none_closed};
 ghost use Rattle.std.specs.List.{AllByRecursion};
 ghost use Rattle.server_desks.specs.Desks.{IsFresh};
 
 use gss_server::{KeepAll, KeepReceipts, Served};
+use replay_journal::MemDisk;
 use sec_base::{Link, MemClock, MemDraw, MemLink, MemPort, MemShelf, Moment, Text};
 use server_command::run_server;
 use server_desks::Desk;
@@ -68,20 +69,38 @@ fn desks(
     }
 }
 
-/// Says the status of a run with these words over desks, and what it wrote on both streams.
+/// A disk in memory that holds nothing, and fails at the calls of these numbers.
+fn disk_in_memory(alloc: Global, failing: Vec<u64>) -> Option<MemDisk> {
+    MemDisk::new(alloc, Vec::new(alloc), failing).ok()
+}
+
+/// Says the status of a run with these words over desks, with a disk, and what it wrote on both streams.
 fn run<R: Threads + Wait + Sync>(
     rt: &R,
     alloc: Global,
     words: &[Text],
     shelf: &mut MemShelf,
+    disk: &mut Option<MemDisk>,
     desks: &mut Vec<MemDesk>,
     devices: &mut Devices,
     said: &mut Said,
 )
-    requires { AllByRecursion IsFresh desks.old.items }
+    requires fresh { AllByRecursion IsFresh desks.old.items }
+    requires disk { is_some disk.old ≡ true }
+    ensures disk { is_some disk.new ≡ true }
 {
     let Devices { out, err, .. } = devices;
-    let end = run_server(rt, alloc, words, shelf, desks, Moment::start(), out, err);
+    let end = run_server(
+        rt,
+        alloc,
+        words,
+        shelf,
+        disk,
+        desks,
+        Moment::start(),
+        out,
+        err,
+    );
     said.number(end.status as u64);
     devices.say(said);
 }
@@ -111,12 +130,16 @@ pub fn answer<R: Threads + Wait + Sync>(
     let (port, sink) = (numbers(cells), numbers(cells));
     let mut shelf = files.shelf(cells, Vec::new(alloc));
     let mut devices = Devices::new(alloc, Moment::start(), Vec::new(alloc), sink);
+    let Some(disk) = disk_in_memory(alloc, Vec::new(alloc)) else {
+        return said.starve();
+    };
     match desks(alloc, first, second, Vec::new(alloc), port) {
         Some(mut desks) => run(
             rt,
             alloc,
             words.as_slice(),
             &mut shelf,
+            &mut Some(disk),
             &mut desks,
             &mut devices,
             said,
@@ -149,6 +172,9 @@ pub fn answer_failing<R: Threads + Wait + Sync>(
     let (shelf, sink) = (numbers(cells), numbers(cells));
     let mut shelf = files.shelf(cells, shelf);
     let mut devices = Devices::new(alloc, Moment::start(), Vec::new(alloc), sink);
+    let Some(disk) = disk_in_memory(alloc, Vec::new(alloc)) else {
+        return said.starve();
+    };
     match desks(alloc, first, second, link, port) {
         Some(mut desks) => {
             run(
@@ -156,6 +182,7 @@ pub fn answer_failing<R: Threads + Wait + Sync>(
                 alloc,
                 words.as_slice(),
                 &mut shelf,
+                &mut Some(disk),
                 &mut desks,
                 &mut devices,
                 said,

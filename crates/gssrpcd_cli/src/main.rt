@@ -1,11 +1,13 @@
 //! The server's program: makes the real devices and runs the server over them, or a drill, which needs none but the standard streams.
 #![tactic(auto)]
 
-ghost use Rattle.std.specs.Prelude.{◌≡◌, IfOk, Some, map, vec_len};
+ghost use Rattle.std.specs.Prelude.{◌≡◌, IfOk, Some, true, is_some, map, vec_len};
 ghost use Rattle.std.specs.List.{AllByRecursion};
 ghost use Rattle.drill_plan.specs.Sessions.{blank_objects, session_count};
 ghost use Rattle.drill_plan.specs.Words.{plan_of};
+ghost use Rattle.server_command.specs.Runs.{names_journal};
 ghost use Rattle.server_desks.specs.Desks.{IsFresh};
+ghost use Rattle.server_options.specs.Options.{options_of};
 
 use drill_command::run_drill;
 use drill_plan::{Plan, add_object, drill_sessions, is_drill};
@@ -14,16 +16,18 @@ use mech_objects::{KerberosMech, Mech, ScramMech};
 use sec_base::{Clock as Moments, Port, Text};
 use server_command::run_server;
 use server_desks::Desk;
-use server_options::{WordsRefusal, address_of, read_options};
+use server_options::{
+    Order, WordsRefusal, address_of, answer_to, order_of, read_control, read_options, say_unbound,
+};
 use std::alloc::AllocError;
 use std::net::{Net, TcpListener, TcpStream};
 use std::process::ExitCode;
-use std::rt::Clock;
+use std::rt::{Clock, Files};
 use std::sync::Wait;
-use std::thread::Threads;
+use std::thread::{Threads, join};
 use system_devices::{
-    BufferedPort, FileShelf, HeldStreams, RandDraw, StdSink, StdioPort, SystemClock, TcpDoor,
-    TcpPort, WordsRefusal as LineRefusal, command_line,
+    BufferedPort, ControlDoor, ControlPeer, FileDisk, FileShelf, HeldStreams, RandDraw, StdSink,
+    StdioPort, SystemClock, TcpDoor, TcpPort, WordsRefusal as LineRefusal, command_line,
 };
 
 /// The status where the words can't be read, or the random source or the empty file isn't there.
@@ -65,6 +69,21 @@ fn desk<P: Port + Drop>(rt: HostRuntime, port: P, draw: RandDraw) -> SystemDesk<
     Desk::new(port, SystemClock::new(rt), draw, receipts, KeepNothing)
 }
 
+/// The disk of the journal that the words name, none where they name none; an error at want of memory.
+fn journal_disk(rt: HostRuntime, words: &[Text]) -> Result<Option<FileDisk>, AllocError>
+    ensures { IfOk result (λ disk. names_journal (options_of words.now) ≡ true
+        → is_some disk ≡ true) }
+{
+    match read_options(rt.alloc(), words) {
+        Ok(options) => match &options.files.journal {
+            None => Ok(None),
+            Some(name) => Ok(Some(FileDisk::new(rt, rt.alloc(), name.as_str())?)),
+        },
+        Err(WordsRefusal::Usage) => Ok(None),
+        Err(WordsRefusal::NoMemory) => Err(AllocError),
+    }
+}
+
 /// Runs the server over desks, each on a thread of its own where one can be made.
 fn run<R: Threads + Wait + Sync, P: Port + Drop + Send>(
     rt: HostRuntime,
@@ -77,6 +96,9 @@ where
     requires { AllByRecursion IsFresh desks.items }
 {
     let mut desks = desks;
+    let Ok(mut disk) = journal_disk(rt, words) else {
+        return OUT_OF_MEMORY;
+    };
     let mut shelf = FileShelf::new(rt);
     let mut out = StdSink::output(rt.stdout());
     let mut err = StdSink::error(rt.stderr());
@@ -86,6 +108,7 @@ where
         rt.alloc(),
         words,
         &mut shelf,
+        &mut disk,
         &mut desks,
         start,
         &mut out,
@@ -148,7 +171,7 @@ where
 }
 
 /// What the devices of a run have to know of its words.
-#[derive(Clone, Copy)]
+#[derive(Drop)]
 struct Staff {
     /// How many desks there are.
     desks: u32,
@@ -156,6 +179,8 @@ struct Staff {
     connections: u64,
     /// For how many seconds a connection may be silent.
     idle: u32,
+    /// Where the run can be stopped.
+    control: Option<Text>,
 }
 
 /// What words ask for that aren't in the command: the run says what they are before anything is served.
@@ -163,6 +188,7 @@ const UNSERVED: Staff = Staff {
     desks: 1,
     connections: 1,
     idle: 1,
+    control: None,
 };
 
 /// What the words ask for of the devices; None at want of memory.
@@ -172,16 +198,83 @@ fn staff_of(rt: HostRuntime, words: &[Text]) -> Option<Staff> {
             desks: options.desks,
             connections: (options.connections as u64).saturating_mul(options.desks as u64),
             idle: options.idle,
+            control: read_control(rt.alloc(), words).ok()?,
         }),
         Err(WordsRefusal::Usage) => Some(UNSERVED),
         Err(WordsRefusal::NoMemory) => None,
     }
 }
 
+/// Answers those who ask at the control address, one after the other, and stops the listener where one asks for that, who is given; None
+/// where the run ended before.
+fn watch<R>(
+    control: &ControlDoor<'_, HostRuntime>,
+    door: &TcpDoor<'_, R>,
+) -> Option<ControlPeer<HostRuntime>>
+where
+    R: Net<Stream = TcpStream, Listener = TcpListener> + Wait + Drop,
+{
+    for _ in 0..u64::MAX {
+        let mut peer = control.next()?;
+        match order_of(&peer.line()) {
+            Order::Stop => {
+                door.stop();
+                return Some(peer);
+            }
+            Order::Unknown => peer.answer(answer_to(Order::Unknown)),
+        }
+    }
+    None
+}
+
+/// Runs the server over these desks until it ends by itself, or is stopped at the control address. Who asked for the stop is answered once
+/// the run has ended. Where no thread can be made, the run goes on without that address.
+fn run_controlled<R>(
+    rt: HostRuntime,
+    host: R,
+    words: &[Text],
+    desks: Vec<SystemDesk<BufferedPort<TcpPort<'_, R>>>>,
+    door: &TcpDoor<'_, R>,
+    path: &str,
+) -> u8
+where
+    R: Net<Stream = TcpStream, Listener = TcpListener>
+        + Files
+        + Clock
+        + Threads
+        + Wait
+        + Send
+        + Sync
+        + Copy
+        + Drop,
+    requires { AllByRecursion IsFresh desks.items }
+{
+    let Some(control) = ControlDoor::bind(&host, rt, path) else {
+        let mut err = StdSink::error(rt.stderr());
+        return say_unbound(rt.alloc(), &mut err, path);
+    };
+    let (asker, status) = join(
+        &host,
+        || watch(&control, door),
+        || -> u8
+            requires { AllByRecursion IsFresh desks.items }
+        {
+            let status = run(rt, &host, words, desks);
+            control.close();
+            status
+        },
+    );
+    if let Some(asker) = asker {
+        asker.answer(answer_to(Order::Stop));
+    }
+    status
+}
+
 /// Runs the server over the desks that the words ask for at a TCP listener, which listens once the files were read.
 fn over_listener<R>(rt: HostRuntime, host: R, words: &[Text], address: &str) -> u8
 where
     R: Net<Stream = TcpStream, Listener = TcpListener>
+        + Files
         + Clock
         + Threads
         + Wait
@@ -194,9 +287,13 @@ where
         return OUT_OF_MEMORY;
     };
     let door = TcpDoor::at(host, address, staff.connections, staff.idle);
-    match desks_at(rt, &door, staff.desks) {
-        Ok(desks) => run(rt, &host, words, desks),
-        Err(status) => status,
+    let desks = match desks_at(rt, &door, staff.desks) {
+        Ok(desks) => desks,
+        Err(status) => return status,
+    };
+    match staff.control {
+        Some(path) => run_controlled(rt, host, words, desks, &door, path.as_str()),
+        None => run(rt, &host, words, desks),
     }
 }
 
@@ -237,6 +334,7 @@ fn drill(rt: HostRuntime, words: &[Text]) -> u8 {
 fn status<R>(rt: HostRuntime, host: R) -> u8
 where
     R: Net<Stream = TcpStream, Listener = TcpListener>
+        + Files
         + Clock
         + Threads
         + Wait

@@ -1,5 +1,5 @@
 -- A run whose words and files are valid, and where no count rose, serves all connections.
-use Rattle.std.proofs.Common.{arith, ◌≡◌, ◌≢◌, ◌≤◌, ℕ, Bool, true, List, Result, Ok, Err, refl, sym, ◌∙◌, subst}
+use Rattle.std.proofs.Common.{arith, ◌≡◌, ◌≢◌, ◌⊎◌, inl, inr, ◌≤◌, ℕ, Bool, true, List, Result, Ok, Err, refl, sym, ◌∙◌, subst}
 use Rattle.sec_base.specs.Answers.{Gives, Rose}
 use Rattle.sec_base.specs.declared.shelf.NamedFile.{NamedFile}
 use Rattle.gss_base.specs.Name.{Name}
@@ -43,7 +43,7 @@ reads-well {A} (Err stop) due read_in content (Err stops.NoMemory) octets c load
 rose-on : {a b c : ℕ} → Rose a b → b ≤ c → Rose a c
 rose-on r le = λ small. let less = r (omega (arith, small, le)) in omega (arith, less, le)
 
-rose-back : {a b c : ℕ} → a ≤ b → Rose b c → Rose a c
+pub rose-back : {a b c : ℕ} → a ≤ b → Rose b c → Rose a c
 rose-back le r = λ small. let less = r small in omega (arith, less, le)
 
 -- a run that ends by the stop of a read doesn't end so for want of memory
@@ -56,32 +56,37 @@ none-stops value other e = absurd (ok-err value other e)
 ok-same : {A : Type 0} (x y : A) → ◌≡◌ {A = Result A RunEnd} (Ok x) (Ok y) → x ≡ y
 ok-same x y e = cc
 
-ends-by : (keys other : Result Keys RunEnd) (end : RunEnd) → keys ≡ other → EndsBy keys end → EndsBy other end
-ends-by keys other end e h = subst (λ (k : Result Keys RunEnd). EndsBy k end) e h
+ends-by : (Stops : RunEnd → Type 0) (Opens : Type 0) (keys other : Result Keys RunEnd) (end : RunEnd) → keys ≡ other → EndsBy Stops Opens keys end → EndsBy Stops Opens other end
+ends-by Stops Opens keys other end e h = subst (λ (k : Result Keys RunEnd). EndsBy Stops Opens k end) e h
 
-with-verifiers : (tells : Bool) (files : List NamedFile) (before after : List (List ℕ)) (faults faults' : ℕ) (named : Files) (name : Name) (entries : List Entry) (verifiers : Result (List Verifier) RunEnd) (keys : Result Keys RunEnd) (end : RunEnd) → (valid : AreValid tells files named name) → entries ≡ valid.entries
-    → (Rose faults faults' → ⊥) → FromShelf NoMemory tells files before after faults faults' named.verifiers verifiers_in verifiers → keys ≡ keys_with name entries verifiers → EndsBy keys end → end ≢ NoMemory → is_begun end ≡ true
-with-verifiers tells files before after faults faults' named name entries (Ok users) keys end valid same steady second are ends other =
+-- a run with keys whose journal doesn't stop it is begun
+begun-by : (Stops : RunEnd → Type 0) (Opens : Type 0) (end : RunEnd) → (Stops end → ⊥) → Stops end ⊎ (Opens × (end ≢ NoMemory → is_begun end ≡ true)) → end ≢ NoMemory → is_begun end ≡ true
+begun-by Stops Opens end unstopped (inl stops) other = absurd (unstopped stops)
+begun-by Stops Opens end unstopped (inr begun) other = begun.1 other
+
+with-verifiers : (Stops : RunEnd → Type 0) (Opens : Type 0) (tells : Bool) (files : List NamedFile) (before after : List (List ℕ)) (faults faults' : ℕ) (named : Files) (name : Name) (entries : List Entry) (verifiers : Result (List Verifier) RunEnd) (keys : Result Keys RunEnd) (end : RunEnd) → (valid : AreValid tells files named name) → entries ≡ valid.entries
+    → (Rose faults faults' → ⊥) → FromShelf NoMemory tells files before after faults faults' named.verifiers verifiers_in verifiers → keys ≡ keys_with name entries verifiers → EndsBy Stops Opens keys end → (Stops end → ⊥) → end ≢ NoMemory → is_begun end ≡ true
+with-verifiers Stops Opens tells files before after faults faults' named name entries (Ok users) keys end valid same steady second are ends unstopped other =
     let served : is_served name entries ≡ true = rw same valid.served in
     let is : keys ≡ Ok (record { keytab = entries; verifiers = users }) = are ∙ rw served refl in
-    ends-by keys (Ok (record { keytab = entries; verifiers = users })) end is ends other
-with-verifiers tells files before after faults faults' named name entries (Err stop) keys end valid same steady second are ends other =
+    begun-by Stops Opens end unstopped (ends-by Stops Opens keys (Ok (record { keytab = entries; verifiers = users })) end is ends) other
+with-verifiers Stops Opens tells files before after faults faults' named name entries (Err stop) keys end valid same steady second are ends unstopped other =
     absurd (ok-err valid.users stop (sym (reads-well {A = List Verifier} (Err stop) valid.users verifiers_in (file_in files named.verifiers) second.answer valid.lines valid.text (second.loaded.content valid.told) (λ e. steady (second.loaded.fault e))
-    (rw valid.known refl) refl second.given (not-wanted {A = List Verifier} stop end (ends-by keys (Err stop) end are ends) other))))
+    (rw valid.known refl) refl second.given (not-wanted {A = List Verifier} stop end (ends-by Stops Opens keys (Err stop) end are ends) other))))
 
-by-files : (tells : Bool) (files : List NamedFile) (before between after : List (List ℕ)) (faults counted faults' : ℕ) (named : Files) (name : Name) (keytab : Result (List Entry) RunEnd) (keys : Result Keys RunEnd) (end : RunEnd) → AreValid tells files named name → (Rose faults faults' → ⊥)
-    → FromShelf NoMemory tells files before between faults counted named.keytab keytab_in keytab → BehindKeytab tells files between after counted faults' named.verifiers name keytab keys → counted ≤ faults' → EndsBy keys end → end ≢ NoMemory → is_begun end ≡ true
-by-files tells files before between after faults counted faults' named name (Ok entries) keys end valid steady first behind le ends other =
+by-files : (Stops : RunEnd → Type 0) (Opens : Type 0) (tells : Bool) (files : List NamedFile) (before between after : List (List ℕ)) (faults counted faults' : ℕ) (named : Files) (name : Name) (keytab : Result (List Entry) RunEnd) (keys : Result Keys RunEnd) (end : RunEnd) → AreValid tells files named name → (Rose faults faults' → ⊥)
+    → FromShelf NoMemory tells files before between faults counted named.keytab keytab_in keytab → BehindKeytab tells files between after counted faults' named.verifiers name keytab keys → counted ≤ faults' → EndsBy Stops Opens keys end → (Stops end → ⊥) → end ≢ NoMemory → is_begun end ≡ true
+by-files Stops Opens tells files before between after faults counted faults' named name (Ok entries) keys end valid steady first behind le ends unstopped other =
     let same : entries ≡ valid.entries = ok-same entries valid.entries (reads-well {A = List Entry} (Ok entries) valid.entries keytab_in (file_in files named.keytab) first.answer valid.octets valid.content (first.loaded.content valid.told) (λ e. steady (rose-on (first.loaded.fault e) le))
     (rw valid.read refl) refl first.given (none-stops {A = List Entry} entries)) in
-    with-verifiers tells files between after counted faults' named name entries behind.verifiers keys end valid same (λ r. steady (rose-back first.loaded.grows r)) behind.read behind.are ends other
-by-files tells files before between after faults counted faults' named name (Err stop) keys end valid steady first behind le ends other =
+    with-verifiers Stops Opens tells files between after counted faults' named name entries behind.verifiers keys end valid same (λ r. steady (rose-back first.loaded.grows r)) behind.read behind.are ends unstopped other
+by-files Stops Opens tells files before between after faults counted faults' named name (Err stop) keys end valid steady first behind le ends unstopped other =
     absurd (ok-err valid.entries stop (sym (reads-well {A = List Entry} (Err stop) valid.entries keytab_in (file_in files named.keytab) first.answer valid.octets valid.content (first.loaded.content valid.told) (λ e. steady (rose-on (first.loaded.fault e) le))
-    (rw valid.read refl) refl first.given (not-wanted {A = List Entry} stop end (ends-by keys (Err stop) end behind.0 ends) other))))
+    (rw valid.read refl) refl first.given (not-wanted {A = List Entry} stop end (ends-by Stops Opens keys (Err stop) end behind.0 ends) other))))
 
 -- a run that has its keys, in which no desk failed, serves all connections
-pub completed : (tells : Bool) (files : List NamedFile) (before after : List (List ℕ)) (faults faults' : ℕ) (options : Options) (end : RunEnd) → Begins tells files before after faults faults' options end
-    → AreValid tells files options.files options.name → (Rose faults faults' → ⊥) → (is_begun end ≡ true → end ≡ Served) → end ≢ NoMemory → end ≡ Served
-completed tells files before after faults faults' options end begins valid steady served other =
+pub completed : (Stops : RunEnd → Type 0) (Opens : Type 0) (tells : Bool) (files : List NamedFile) (before after : List (List ℕ)) (faults faults' : ℕ) (options : Options) (end : RunEnd) → Begins Stops Opens tells files before after faults faults' options end
+    → AreValid tells files options.files options.name → (Rose faults faults' → ⊥) → (Stops end → ⊥) → (is_begun end ≡ true → end ≡ Served) → end ≢ NoMemory → end ≡ Served
+completed Stops Opens tells files before after faults faults' options end begins valid steady unstopped served other =
     let given = begins.given in
-    served (by-files tells files before given.between after faults given.counted faults' options.files options.name given.keytab begins.keys end valid steady given.read given.behind given.grows begins.ends other)
+    served (by-files Stops Opens tells files before given.between after faults given.counted faults' options.files options.name given.keytab begins.keys end valid steady given.read given.behind given.grows begins.ends unstopped other)

@@ -1,5 +1,5 @@
 -- The desks of a run take numbers only of leases that were given before.
-use Rattle.std.proofs.Common.{◌≡◌, ◌≢◌, ◌⊎◌, ◌∙◌, ℕ, zero, suc, ◌<◌, ◌≤◌, ◌==◌, eq-eqb, ne_eqb, if◌then◌else◌, Bool, true, false, List, [], ◌∷◌, ◌++◌, length, slice_get, Option, Some, None, append_assoc, append-nil, refl, sym, ap, subst, inl, inr, arith}
+use Rattle.std.proofs.Common.{◌≡◌, ◌≢◌, ◌⊎◌, ◌∙◌, ℕ, zero, suc, ◌<◌, ◌≤◌, ◌==◌, eq-eqb, ne_eqb, if◌then◌else◌, Bool, true, false, is_some, List, [], ◌∷◌, ◌++◌, length, slice_get, Option, Some, None, append_assoc, append-nil, refl, sym, ap, subst, inl, inr, arith}
 use Rattle.std.proofs.lemmas.Bool.{cases_eq, cases_lt}
 use Rattle.std.proofs.lemmas.List.{map-append}
 use Rattle.std.proofs.lemmas.Option.{none-some}
@@ -20,7 +20,7 @@ use Rattle.gss_server.specs.declared.keeper.Keeper as keepers
 use Rattle.book_seats.specs.Notes.{Note, asked_by, questions_of}
 use Rattle.book_seats.proofs.Moves.{of-append, of-own, of-else}
 use Rattle.history_laws.specs.Before.{Gives, IsGiven}
-use Rattle.history_laws.specs.Lent.{AllLent}
+use Rattle.history_laws.specs.Lent.{AllLent, Takes}
 use Rattle.history_laws.proofs.Lent.{LentFrom, lent-join, lends-record, at-place}
 use Rattle.server_desks.specs.Desks.{ServedOf, ServedLink, LinksServed, DeskServed, run_limit}
 use Rattle.server_desks.specs.declared.desk.Desk.{Desk}
@@ -29,7 +29,8 @@ use Rattle.server_options.specs.declared.ending.RunEnd.{RunEnd}
 use Rattle.server_options.specs.declared.keys.Keys.{Keys}
 use Rattle.server_options.specs.declared.options.Options.{Options}
 use Rattle.server_command.specs.Through.{OneHistory}
-use Rattle.server_seating.specs.SideBySide.{Noted}
+use Rattle.server_seating.specs.SideBySide.{DeskAsked, DeskTold, unasked, Noted}
+use Rattle.server_seating.proofs.Heard.{Hears, AllHear, noted-all, heard-more}
 
 -- ---- what one desk asked
 
@@ -38,44 +39,63 @@ lent-in width [] kept = tt
 lent-in width (cut ∷ records) [] = tt
 lent-in width (cut ∷ records) (one ∷ kept) = lent-join [] (asked_for width (octets_in cut) one) (asked_in width records kept) (lends-record (octets_in cut) (kept_answers one) width) (lent-in width records kept)
 
--- what was noted of a desk
-pub noted : (before after : ℕ × List Asked) (asked : List Asked) → Asking Noted before asked after → after ≡ (before.0, before.1 ++ asked)
-noted before after [] same = same ∙ ap (λ xs. (before.0, xs)) (sym (append-nil before.1))
-noted before after (one ∷ asked) a =
-    noted a.0 after asked a.2 ∙ (ap (λ (x : ℕ × List Asked). (x.0, x.1 ++ asked)) a.1 ∙ ap (λ xs. (before.0, xs)) (append_assoc before.1 (one ∷ []) asked))
+-- a question that was told otherwise than it was answered takes no number, and gives no lease
+takes-heard : (lease : Lease) (first one : Asked) → Hears first one → Takes lease first → Takes lease one
+takes-heard lease first one (inl same) takes = subst (λ (x : Asked). Takes lease x) (sym same) takes
+takes-heard lease first one (inr held) takes = absurd (subst (λ (x : Asked). Takes lease x) held.1.asked takes)
 
--- the questions behind those that a desk asked before
-record Adds (before after : ℕ × List Asked) : Type 0 where
+gives-heard : (lease : Lease) (first one : Asked) → Hears first one → Gives lease one → Gives lease first
+gives-heard lease first one (inl same) gives = subst (λ (x : Asked). Gives lease x) same gives
+gives-heard lease first one (inr held) gives = absurd (subst (λ (x : Asked). Gives lease x) held.1.told gives)
+
+given-heard : (lease : Lease) (firsts ones : List Asked) → AllHear firsts ones → IsGiven lease ones → IsGiven lease firsts
+given-heard lease [] [] h given = given
+given-heard lease [] (one ∷ ones) h given = absurd h
+given-heard lease (first ∷ firsts) [] h given = absurd h
+given-heard lease (first ∷ firsts) (one ∷ ones) h (inl gives) = inl (gives-heard lease first one h.0 gives)
+given-heard lease (first ∷ firsts) (one ∷ ones) h (inr later) = inr (given-heard lease firsts ones h.1 later)
+
+lent-heard : (olds before firsts ones : List Asked) → AllHear olds before → AllHear firsts ones → LentFrom before ones → LentFrom olds firsts
+lent-heard olds before [] ones b h l = tt
+lent-heard olds before (first ∷ firsts) [] b h l = absurd h
+lent-heard olds before (first ∷ firsts) (one ∷ ones) b h l = (
+  λ lease takes. given-heard lease olds before b (l.0 lease (takes-heard lease first one h.0 takes)),
+  lent-heard (olds ++ first ∷ []) (before ++ one ∷ []) firsts ones (heard-more olds before first one b h.0) h.1 l.1,
+)
+
+-- the questions behind those that a desk asked before, as the book answered them
+record Adds (before after : DeskAsked) : Type 0 where
   asked : List Asked
-  after_is : after ≡ (before.0, before.1 ++ asked)
+  asked_is : after.asked ≡ before.asked ++ asked
   lent : LentFrom [] asked
 
-adds-join : (before middle after : ℕ × List Asked) → Adds before middle → Adds middle after → Adds before after
+adds-join : (before middle after : DeskAsked) → Adds before middle → Adds middle after → Adds before after
 adds-join before middle after f s = record {
   asked = f.asked ++ s.asked;
-  after_is = s.after_is ∙ (ap (λ (x : ℕ × List Asked). (x.0, x.1 ++ s.asked)) f.after_is ∙ ap (λ xs. (before.0, xs)) (append_assoc before.1 f.asked s.asked));
+  asked_is = s.asked_is ∙ (ap (λ xs. xs ++ s.asked) f.asked_is ∙ append_assoc before.asked f.asked s.asked);
   lent = lent-join [] f.asked s.asked f.lent s.lent;
 }
 
-link-adds : {L : Type 0} (width : ℕ) (link : links.Ghosts L) (before : ℕ × List Asked) (old : L) (one : ServedOf L) (after : ℕ × List Asked) → ServedLink Noted width link before old one after → Adds before after
-link-adds width link before old one after s = record {
-  asked = asked_in width s.served.records one.answers;
-  after_is = noted before after (asked_in width s.served.records one.answers) s.served.asked;
-  lent = lent-in width s.served.records one.answers;
-}
+link-adds : {L : Type 0} (journaled : Bool) (width : ℕ) (link : links.Ghosts L) (before : DeskAsked) (old : L) (one : ServedOf L) (after : DeskAsked) → ServedLink (Noted journaled) width link before old one after → Adds before after
+link-adds journaled width link before old one after s =
+    let n = noted-all journaled before after (asked_in width s.served.records one.answers) s.served.asked in record {
+      asked = n.firsts;
+      asked_is = n.asked_is;
+      lent = lent-heard [] [] n.firsts (asked_in width s.served.records one.answers) tt n.hear (lent-in width s.served.records one.answers);
+    }
 
-links-add : {L : Type 0} (width : ℕ) (link : links.Ghosts L) (before : ℕ × List Asked) (olds : List L) (served : List (ServedOf L)) (after : ℕ × List Asked) → LinksServed Noted width link before olds served after → Adds before after
-links-add width link before [] [] after s = record { asked = []; after_is = s ∙ ap (λ xs. (before.0, xs)) (sym (append-nil before.1)); lent = tt }
-links-add width link before [] (one ∷ more) after s = absurd s
-links-add width link before (old ∷ olds) [] after s = absurd s
-links-add width link before (old ∷ olds) (one ∷ more) after s = adds-join before s.0 after (link-adds width link before old one s.0 s.1) (links-add width link s.0 olds more after s.2)
+links-add : {L : Type 0} (journaled : Bool) (width : ℕ) (link : links.Ghosts L) (before : DeskAsked) (olds : List L) (served : List (ServedOf L)) (after : DeskAsked) → LinksServed (Noted journaled) width link before olds served after → Adds before after
+links-add journaled width link before [] [] after s = record { asked = []; asked_is = ap (λ (d : DeskAsked). d.asked) s ∙ sym (append-nil before.asked); lent = tt }
+links-add journaled width link before [] (one ∷ more) after s = absurd s
+links-add journaled width link before (old ∷ olds) [] after s = absurd s
+links-add journaled width link before (old ∷ olds) (one ∷ more) after s = adds-join before s.0 after (link-adds journaled width link before old one s.0 s.1) (links-add journaled width link s.0 olds more after s.2)
 
-desk-lent : {P C D K M L Q R : Type 0} (width most : ℕ) (port : ports.Ghosts P L) (link : links.Ghosts L) (clock : clocks.Ghosts C) (draw : draws.Ghosts D) (keeper : keepers.Ghosts K Kept Q)
+desk-lent : {P C D K M L Q R : Type 0} (journaled : Bool) (faults faults' width most : ℕ) (port : ports.Ghosts P L) (link : links.Ghosts L) (clock : clocks.Ghosts C) (draw : draws.Ghosts D) (keeper : keepers.Ghosts K Kept Q)
     (kept : keepers.Ghosts M (Served L) R) (i : ℕ) (old : Desk P C D K M) (ending : DeskEnd) (new : Desk P C D K M) (asked : List Asked)
-    → DeskServed Noted width most port link clock draw keeper kept (i, []) old ending new (i, asked) → LentFrom [] asked
-desk-lent width most port link clock draw keeper kept i old ending new asked s =
-    let a = links-add width link (i, []) s.went.links s.went.served (i, asked) s.went.each in
-    subst (λ (xs : List Asked). LentFrom [] xs) (sym (ap (λ (x : ℕ × List Asked). x.1) a.after_is)) a.lent
+    → DeskTold journaled faults faults' width most port link clock draw keeper kept i old ending new asked → LentFrom [] asked
+desk-lent journaled faults faults' width most port link clock draw keeper kept i old ending new asked t =
+    let a = links-add journaled width link (unasked i) t.served.went.links t.served.went.served (record { desk = i; asked = asked; failed = t.failed }) t.served.went.each in
+    subst (λ (xs : List Asked). LentFrom [] xs) (sym a.asked_is) a.lent
 
 -- ---- each desk
 
@@ -138,11 +158,11 @@ all-lent before ((desk, one) ∷ rest) each = (
       (all-lent (before ++ (desk, one) ∷ []) rest (rest-lent desk one before rest each)),
 )
 
-pub lent : {P C D K M L Q R : Type 0} (options : Options) (keys : Keys) (start : ℕ) (port : ports.Ghosts P L) (link : links.Ghosts L) (clock : clocks.Ghosts C) (draw : draws.Ghosts D)
+pub lent : {P C D K M L Q R : Type 0} (options : Options) (keys : Keys) (start faults faults' : ℕ) (port : ports.Ghosts P L) (link : links.Ghosts L) (clock : clocks.Ghosts C) (draw : draws.Ghosts D)
     (keeper : keepers.Ghosts K Kept Q) (kept : keepers.Ghosts M (Served L) R) (olds : List (Desk P C D K M)) (end : RunEnd) (news : List (Desk P C D K M)) (log : LogOf)
-    → (one : OneHistory options keys start port link clock draw keeper kept olds end news log) → AllLent (questions_of one.all)
-lent options keys start port link clock draw keeper kept olds end news log one = at-place (questions_of one.all) (all-lent [] one.all (λ i. elim (cases_lt i (length olds)) [
+    → (one : OneHistory options keys start faults faults' port link clock draw keeper kept olds end news log) → AllLent (questions_of one.all)
+lent options keys start faults faults' port link clock draw keeper kept olds end news log one = at-place (questions_of one.all) (all-lent [] one.all (λ i. elim (cases_lt i (length olds)) [
   | inl below ↦ each-lent olds one.ends news i (asked_by i one.all) (slice_get olds i) (slice_get one.ends i) (slice_get news i) one.count one.ends_count refl refl refl below
-      (λ old new ending a b c. desk-lent options.window (run_limit options.connections (length olds)) port link clock draw keeper kept i old ending new (asked_by i one.all) (one.each i old new ending a b c))
+      (λ old new ending a b c. desk-lent (is_some options.files.journal) faults faults' options.window (run_limit options.connections (length olds)) port link clock draw keeper kept i old ending new (asked_by i one.all) (one.each i old new ending a b c))
   | inr past ↦ subst (λ (xs : List Asked). LentFrom [] xs) (sym (one.others i past)) tt
 ]))

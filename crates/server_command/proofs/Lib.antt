@@ -1,4 +1,5 @@
 pub mod Completions
 pub mod Sides
 pub mod Telling
+pub mod Disks
 pub mod Lending

@@ -1,5 +1,5 @@
 -- What holds of a run of desks that are served side by side.
-use Rattle.std.proofs.Common.{◌≡◌, ◌≢◌, ◌⊎◌, inl, inr, ℕ, true, false, List, slice_get, Some, refl, sym, subst, ◌∙◌}
+use Rattle.std.proofs.Common.{◌≡◌, ◌≢◌, ◌⊎◌, inl, inr, ℕ, Bool, true, false, List, slice_get, Some, refl, sym, subst, ◌∙◌}
 use Rattle.sec_base.specs.Answers.{Rose}
 use Rattle.sec_base.specs.declared.port.Port as ports
 use Rattle.sec_base.specs.declared.link.Link as links
@@ -24,18 +24,19 @@ use Rattle.server_options.specs.declared.options.Options.{Options}
 use Rattle.server_desks.proofs.Ends.{all-done}
 use Rattle.server_desks.proofs.InStep.{there}
 
-module _ {P C D K M L Q R : Type 0} {begins : BookOf → Type 0} {width most : ℕ} {port : ports.Ghosts P L} {link : links.Ghosts L} {clock : clocks.Ghosts C} {draw : draws.Ghosts D} {keeper : keepers.Ghosts K Kept Q} {kept : keepers.Ghosts M (Served L) R} {olds news : List (Desk P C D K M)} {end : RunEnd} {log : LogOf} where
+module _ {P C D K M L Q R : Type 0} {begins : BookOf → Type 0} {journaled : Bool} {faults faults' width most : ℕ} {port : ports.Ghosts P L} {link : links.Ghosts L} {clock : clocks.Ghosts C} {draw : draws.Ghosts D} {keeper : keepers.Ghosts K Kept Q} {kept : keepers.Ghosts M (Served L) R} {olds news : List (Desk P C D K M)} {end : RunEnd} {log : LogOf} where
   -- a run in which no desk failed serves all connections
-  pub side-served : SideBySide begins width most port link clock draw keeper kept olds end news log → ((i : ℕ) (a b : Desk P C D K M) → slice_get olds i ≡ Some a → slice_get news i ≡ Some b → Rose (port.faults a.port) (port.faults b.port) → ⊥) → end ≢ whole.NoMemory → end ≡ whole.Served
+  pub side-served : SideBySide begins journaled faults faults' width most port link clock draw keeper kept olds end news log → ((i : ℕ) (a b : Desk P C D K M) → slice_get olds i ≡ Some a → slice_get news i ≡ Some b → Rose (port.faults a.port) (port.faults b.port) → ⊥) → end ≢ whole.NoMemory → end ≡ whole.Served
   side-served s steady other =
       s.ended ∙ all-done 1 s.ends (λ i at.
       let old = there s.ends olds i PortFault (sym s.ends_count) at in
       let new = there olds news i old.0 s.count old.1 in
-      steady i old.0 new.0 old.1 new.1 ((s.each i old.0 new.0 PortFault old.1 at new.1).failed refl)) (λ e. other (s.ended ∙ e))
+      steady i old.0 new.0 old.1 new.1 ((s.each i old.0 new.0 PortFault old.1 at new.1).served.failed refl)) (λ e. other (s.ended ∙ e))
 
-  -- the book began in another sense
-  began : {Begins : BookOf → Type 0} → ((book : BookOf) → begins book → Begins book) → SideBySide begins width most port link clock draw keeper kept olds end news log → SideBySide Begins width most port link clock draw keeper kept olds end news log
-  began by s = record {
+  -- the book began in another sense, and other counts of faults were seen
+  began : {Begins : BookOf → Type 0} {before after : ℕ} → ((book : BookOf) → begins book → Begins book) → (Rose faults faults' → Rose before after) → SideBySide begins journaled faults faults' width most port link clock draw keeper kept olds end news log
+      → SideBySide Begins journaled before after width most port link clock draw keeper kept olds end news log
+  began by rises s = record {
     all = s.all;
     ends = s.ends;
     first = s.first;
@@ -45,14 +46,19 @@ module _ {P C D K M L Q R : Type 0} {begins : BookOf → Type 0} {width most : �
     closed = s.closed;
     count = s.count;
     ends_count = s.ends_count;
-    each = s.each;
+    each = λ i old new ending a b c.
+        let t = s.each i old new ending a b c in
+        record { failed = t.failed; served = t.served; failing = λ some. rises (t.failing some) };
     others = s.others;
     ended = s.ended;
   }
 
-  -- the book began in another sense, and the desks' limit is written otherwise
-  pub began-as : {Begins : BookOf → Type 0} {limit : ℕ} → ((book : BookOf) → begins book → Begins book) → most ≡ limit → SideBySide begins width most port link clock draw keeper kept olds end news log → SideBySide Begins width limit port link clock draw keeper kept olds end news log
-  began-as {Begins} by same s = subst (λ (n : ℕ). SideBySide Begins width n port link clock draw keeper kept olds end news log) same (began by s)
+  -- the same, with or without a journal as is known of another, and where the desks' limit is written otherwise
+  pub began-as : {Begins : BookOf → Type 0} {before after limit : ℕ} {other : Bool} → ((book : BookOf) → begins book → Begins book) → (Rose faults faults' → Rose before after) → journaled ≡ other → most ≡ limit
+      → SideBySide begins journaled faults faults' width most port link clock draw keeper kept olds end news log → SideBySide Begins other before after width limit port link clock draw keeper kept olds end news log
+  began-as {Begins} {before} {after} {limit} by rises flag same s =
+      subst (λ (b : Bool). SideBySide Begins b before after width limit port link clock draw keeper kept olds end news log) flag
+      (subst (λ (n : ℕ). SideBySide Begins journaled before after width n port link clock draw keeper kept olds end news log) same (began by rises s))
 
 pub begun-served : {end : RunEnd} {Idle Other : Type 0} → ((is_begun end ≡ false) × Idle) ⊎ Other → (Other → end ≡ whole.Served) → is_begun end ≡ true → end ≡ whole.Served
 begun-served (inl idle) served begun = let bad : false ≡ true = sym idle.0 ∙ begun in cc

@@ -24,11 +24,11 @@ use Rattle.server_options.specs.declared.ending.RunEnd.{RunEnd}
 use Rattle.server_options.specs.declared.keys.Keys.{Keys}
 use Rattle.server_options.specs.declared.options.Options.{Options}
 
-pub told : {P C D K M L Q R : Type 0} (options : Options) (keys : Keys) (start : ℕ) (port : ports.Ghosts P L) (link : links.Ghosts L) (clock : clocks.Ghosts C) (draw : draws.Ghosts D)
+pub told : {P C D K M L Q R : Type 0} (options : Options) (keys : Keys) (start faults faults' : ℕ) (port : ports.Ghosts P L) (link : links.Ghosts L) (clock : clocks.Ghosts C) (draw : draws.Ghosts D)
     (keeper : keepers.Ghosts K Kept Q) (kept : keepers.Ghosts M (Served L) R) (olds : List (Desk P C D K M)) (end : RunEnd) (news : List (Desk P C D K M)) (log : LogOf)
-    → OneHistory options keys start port link clock draw keeper kept olds end news log → Legal log.width (reverse log.entries)
-    → ToldByLog options keys start port link clock draw keeper kept olds end news log
-told options keys start port link clock draw keeper kept olds end news log one legal =
+    → OneHistory options keys start faults faults' port link clock draw keeper kept olds end news log → Legal log.width (reverse log.entries)
+    → ToldByLog options keys start faults faults' port link clock draw keeper kept olds end news log
+told options keys start faults faults' port link clock draw keeper kept olds end news log one legal =
     let asked = questions_of one.all in
     let empty : IsEmpty one.first = record { history = one.opened.history; slots = one.opened.empty } in
     let last : Legal one.last.core.width one.last.core.history =
@@ -39,5 +39,5 @@ told options keys start port link clock draw keeper kept olds end news log one l
       in_place = in-place asked one.first one.last one.chain ∙ (λ i. gained (length (one.opened.history i)) (sym one.closed.entries i));
       seen = subst (λ (n : ℕ). AllSeen one.first.setup (limits_of one.first.core) n asked) one.opened.greatest
           (seen-law one.first one.last asked empty one.chain last);
-      lent = lent options keys start port link clock draw keeper kept olds end news log one;
+      lent = lent options keys start faults faults' port link clock draw keeper kept olds end news log one;
     }

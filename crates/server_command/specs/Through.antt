@@ -1,5 +1,5 @@
 -- The book that a run of the server opens, and the history of what its desks ask.
-use Rattle.std.specs.Prelude.{◌≡◌, ℕ, List, [], length}
+use Rattle.std.specs.Prelude.{◌≡◌, ℕ, List, [], length, is_some}
 use Rattle.sec_base.specs.declared.port.Port as ports
 use Rattle.sec_base.specs.declared.link.Link as links
 use Rattle.sec_base.specs.declared.clock.Clock as clocks
@@ -33,11 +33,13 @@ pub record IsOpened (options : Options) (keys : Keys) (start : ℕ) (book : Book
   pub greatest : book.core.cache.greatest ≡ start
 
 -- one book, which is opened for these options and keys, answered all questions of all desks, from
--- its opening to the log that is returned
-abbrev pub OneHistory : {P C D K M L Q R : Type 0} → Options → Keys → ℕ → ports.Ghosts P L
+-- its opening to the log that is returned. Where the options name a journal, desks are told its
+-- refusals; the count of faults of its disk went from one number to another
+abbrev pub OneHistory : {P C D K M L Q R : Type 0} → Options → Keys → ℕ → ℕ → ℕ → ports.Ghosts P L
     → links.Ghosts L → clocks.Ghosts C → draws.Ghosts D → keepers.Ghosts K Kept Q
     → keepers.Ghosts M (Served L) R → List (Desk P C D K M) → RunEnd → List (Desk P C D K M)
     → LogOf → Type 0
-OneHistory options keys start port link clock draw keeper kept olds end news log =
-    SideBySide (IsOpened options keys start) options.window
+OneHistory options keys start faults faults' port link clock draw keeper kept olds end news log =
+    SideBySide (IsOpened options keys start) (is_some options.files.journal) faults faults'
+    options.window
     (run_limit options.connections (length olds)) port link clock draw keeper kept olds end news log

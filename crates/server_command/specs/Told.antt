@@ -26,12 +26,13 @@ use Rattle.server_options.specs.declared.options.Options.{Options}
 -- in the history's order, are the log's entries, each with its place; and each answer is what the
 -- log before it says, for the setup, the limits and the start of the book that was opened. A number
 -- is taken of no lease but one that a look gave before
-pub record ToldByLog {P C D K M L Q R : Type 0} (options : Options) (keys : Keys) (start : ℕ)
-    (port : ports.Ghosts P L) (link : links.Ghosts L) (clock : clocks.Ghosts C)
-    (draw : draws.Ghosts D) (keeper : keepers.Ghosts K Kept Q)
+pub record ToldByLog {P C D K M L Q R : Type 0} (options : Options) (keys : Keys)
+    (start faults faults' : ℕ) (port : ports.Ghosts P L) (link : links.Ghosts L)
+    (clock : clocks.Ghosts C) (draw : draws.Ghosts D) (keeper : keepers.Ghosts K Kept Q)
     (kept : keepers.Ghosts M (Served L) R) (olds : List (Desk P C D K M)) (end : RunEnd)
     (news : List (Desk P C D K M)) (log : LogOf) : Type 0 where
-  pub history : OneHistory options keys start port link clock draw keeper kept olds end news log
+  pub history : OneHistory options keys start faults faults' port link clock draw keeper kept olds
+      end news log
   pub legal : Legal log.width (reverse log.entries)
   pub in_place : flat_map receipts_in (questions_of history.all) ≡ gained 0 (reverse log.entries)
   pub seen : AllSeen history.first.setup (limits_of history.first.core) start

@@ -1,14 +1,15 @@
 //! The run of the server.
 
 ghost use Rattle.std.specs.Prelude.{◌≡◌, ◌≢◌, ◌⊎◌, ◌<◌, ◌≤◌, ◌++◌, ℕ, true};
-ghost use Rattle.std.specs.Prelude.{false, IsTrue, IfOk, Some, Ok, Err, length, vec_len, reverse};
-ghost use Rattle.std.specs.Prelude.{slice_get};
+ghost use Rattle.std.specs.Prelude.{false, IsTrue, IfOk, IfErr, IfSome, None, Some, Ok, Err};
+ghost use Rattle.std.specs.Prelude.{length, vec_len, reverse, slice_get, is_some};
 ghost use Rattle.std.specs.List.{AllByRecursion};
 ghost use Rattle.sec_base.specs.Answers.{Rose};
 ghost use Rattle.cli_base.specs.Lines.{Says};
 ghost use Rattle.accept_core.specs.Logs.{no_log};
 ghost use Rattle.accept_core.specs.Legal.{Legal};
 ghost use Rattle.gss_base.specs.Principal.{text_form};
+ghost use Rattle.journal_gate.specs.Withheld.{journal_faults, disk_faults, is_shut};
 ghost use Rattle.server_desks.specs.Desks.{IsFresh, IsSmall, NamesADesk};
 ghost use Rattle.server_options.specs.Lines.{Named, is_begun, status_of, line_of};
 ghost use Rattle.server_options.specs.Options.{options_of, IsRanged};
@@ -16,16 +17,21 @@ ghost use Rattle.server_seating.specs.Through.{NoBook};
 ghost use Rattle.server_command.specs.Through.{IsOpened, OneHistory};
 ghost use Rattle.server_command.specs.Told.{ToldByLog};
 ghost use Rattle.server_command.specs.Runs.{files_of, names_in, names_of, counts_of, RunBegins};
-ghost use Rattle.server_command.specs.Runs.{HasLimits, HasValid, AsksAtMost};
+ghost use Rattle.server_command.specs.Runs.{HasLimits, HasValid, AsksAtMost, journal_name};
+ghost use Rattle.server_command.specs.Runs.{names_journal, JournalOpens, HasJournal};
+ghost use Rattle.server_command.specs.Runs.{end_of_journal, StopsAt, IsJournal, TellsAt};
 ghost use Rattle.server_options.specs.Keys.{KeysFrom};
 
 use accept_book::{Limits, Log, OwnSeat};
 use gss_base::{Label, Principal};
 use gss_server::{Keeper, Kept, Served};
+use journal_gate::disk_of;
+use replay_journal::{Disk, Journal, JournalRefusal, Unopened};
 use sec_base::{Clock, Draw, Moment, NoMemory, Port, Shelf, Sink, Text};
 use server_desks::{Course, Desk, count_connections, count_records, run_limit, starved};
 use server_options::{
-    Counts, Files, Keys, Names, Options, RunEnd, WordsRefusal, keys_from, read_options, say_end,
+    Counts, Files, KeyFile, Keys, Names, Options, RunEnd, WordsRefusal, keys_from, read_options,
+    say_end,
 };
 use server_seating::run_book;
 use spnego_core::AcceptSetup;
@@ -36,8 +42,9 @@ use std::thread::Threads;
 /// How the run ended.
 #[derive(Drop)]
 pub struct ServerEnd {
-    /// The exit status: 0 all connections were served, 2 the words aren't in the command, 3 keytab or verifiers can't be loaded, 4 one of
-    /// them isn't of its format, or the keytab has no key for the own name, 5 a port failed, 6 a sink failed, 8 there was no memory.
+    /// The exit status: 0 all connections were served, 2 the words aren't in the command, 3 keytab, verifiers or journal can't be loaded, 4
+    /// one of them isn't of its format, the keytab has no key for the own name, or the journal has more recent authenticators than are held, 5 a
+    /// port failed, 6 a sink failed, 8 there was no memory.
     pub status: u8,
     /// How the run ended, before its line was written.
     pub end: RunEnd,
@@ -56,8 +63,22 @@ const NOTHING: Counts = Counts {
 const UNNAMED: Names<'static> = Names {
     keytab: "",
     verifiers: "",
+    journal: "",
     own: "",
 };
+
+/// How many authenticators a journal holds at once.
+const MOST_HELD: usize = 1_000_000;
+
+/// The name of the journal, nothing where none is kept.
+fn journal_name(files: &Files) -> &str
+    ensures { result.now ≡ journal_name files.now.journal }
+{
+    match &files.journal {
+        None => "",
+        Some(name) => name.as_str(),
+    }
+}
 
 /// What the words name: these files, and an own name with this label.
 fn names_in<'a>(files: &'a Files, label: &'a Label) -> Names<'a>
@@ -66,6 +87,7 @@ fn names_in<'a>(files: &'a Files, label: &'a Label) -> Names<'a>
     Names {
         keytab: files.keytab.as_str(),
         verifiers: files.verifiers.as_str(),
+        journal: journal_name(files),
         own: label.text(),
     }
 }
@@ -96,6 +118,93 @@ fn open_book(
     OwnSeat::open(alloc, setup, limits, start)
 }
 
+/// How a run ends whose journal can't be opened.
+fn end_of_journal(why: JournalRefusal) -> RunEnd
+    ensures value { result ≡ end_of_journal why }
+    ensures unbegun { is_begun result ≡ false }
+{
+    let file = KeyFile::Journal;
+    match why {
+        JournalRefusal::DiskFault => RunEnd::CannotLoad { file },
+        JournalRefusal::BadJournal => RunEnd::Bad { file, at: 0 },
+        JournalRefusal::TooMany => RunEnd::Bad {
+            file,
+            at: MOST_HELD,
+        },
+        JournalRefusal::NoMemory => RunEnd::NoMemory,
+    }
+}
+
+/// Opens the journal on the disk, which stays where that fails.
+fn open_on<M: Disk + Drop>(
+    alloc: Global,
+    disk: &mut Option<M>,
+    start: Moment,
+) -> Result<Journal<M>, RunEnd>
+    requires filled { is_some disk.old ≡ true }
+    ensures taken { IfOk result (λ _. disk.new ≡ None) }
+    ensures unclosed { IfOk result (λ journal. journal.closed ≡ false) }
+    ensures faults { IfOk result
+        (λ journal. disk_faults M.faults disk.old ≤ M.faults journal.disk) }
+    ensures accepted { IfOk result
+        (λ _. TellsAt M.Disk disk.old → IsJournal M.Disk disk.old start) }
+    ensures stays { IfErr result (λ _. is_some disk.new ≡ true) }
+    ensures unbegun { IfErr result (λ end. is_begun end ≡ false) }
+    ensures stops { IfErr result (λ end. StopsAt M.Disk disk.old disk.new start end) }
+{
+    match disk.take() {
+        None => unreachable!(),
+        Some(held) => match Journal::open(alloc, held, MOST_HELD, start) {
+            Ok(journal) => Ok(journal),
+            Err(unopened) => {
+                let Unopened { disk: back, why } = unopened;
+                *disk = Some(back);
+                Err(end_of_journal(why))
+            }
+        },
+    }
+}
+
+/// Opens the journal, where the words name one.
+fn open_journal<M: Disk + Drop>(
+    alloc: Global,
+    files: &Files,
+    disk: &mut Option<M>,
+    start: Moment,
+) -> Result<Option<Journal<M>>, RunEnd>
+    requires filled { is_some files.now.journal ≡ true → is_some disk.old ≡ true }
+    ensures named { IfOk result (λ journal. is_some journal ≡ is_some files.now.journal) }
+    ensures taken { is_some files.now.journal ≡ true → IfOk result (λ _. disk.new ≡ None) }
+    ensures untouched { is_some files.now.journal ≡ false → disk.new ≡ disk.old }
+    ensures unclosed { IfOk result (λ journal. is_shut journal → ⊥) }
+    ensures faults { is_some files.now.journal ≡ true
+        → IfOk result (λ journal. disk_faults M.faults disk.old ≤ journal_faults M.faults journal) }
+    ensures accepted { is_some files.now.journal ≡ true → IfOk result
+        (λ _. TellsAt M.Disk disk.old → IsJournal M.Disk disk.old start) }
+    ensures stays { IfErr result (λ _. is_some disk.new ≡ true) }
+    ensures unbegun { IfErr result (λ end. is_begun end ≡ false) }
+    ensures stops { IfErr result (λ end. (is_some files.now.journal ≡ true)
+        × StopsAt M.Disk disk.old disk.new start end) }
+{
+    if files.journal.is_none() {
+        return Ok(None);
+    }
+    match open_on(alloc, disk, start) {
+        Ok(journal) => Ok(Some(journal)),
+        Err(end) => Err(end),
+    }
+}
+
+/// Puts a disk back.
+fn put_back<M: Drop>(disk: &mut Option<M>, back: Option<M>)
+    ensures none { is_some back ≡ false → disk.new ≡ disk.old }
+    ensures some { is_some back ≡ true → disk.new ≡ back }
+{
+    if let Some(held) = back {
+        *disk = Some(held);
+    }
+}
+
 /// Opens the book and serves the desks.
 fn open_and_serve<
     R: Threads + Wait + Sync,
@@ -104,11 +213,14 @@ fn open_and_serve<
     D: Draw + Drop + Send,
     K: Keeper<Kept> + Drop + Send,
     S: Keeper<Served<P::Link>> + Drop + Send,
+    M: Disk + Drop + Send,
 >(
     rt: &R,
     alloc: Global,
     options: Options,
     keys: Keys,
+    journal: Option<Journal<M>>,
+    disk: &mut Option<M>,
     desks: &mut Vec<Desk<P, C, D, K, S>>,
     start: Moment,
 ) -> Course
@@ -116,22 +228,34 @@ where
     P::Link: Drop + Send,
     requires fresh { AllByRecursion IsFresh desks.old.items }
     requires ranged { IsRanged options }
+    requires journaled { is_some journal ≡ is_some options.files.journal }
+    requires unclosed { is_shut journal → ⊥ }
+    ensures back { is_some options.files.journal ≡ true → is_some disk.new ≡ true }
+    ensures untouched { is_some options.files.journal ≡ false → disk.new ≡ disk.old }
     ensures count { vec_len desks.new ≡ vec_len desks.old }
     ensures named { NamesADesk result.end (vec_len desks.old) }
     ensures begun { result.end ≢ RunEnd.NoMemory → is_begun result.end ≡ true }
     ensures small { AllByRecursion IsSmall desks.new.items }
     ensures legal { Legal result.log.width (reverse result.log.entries) }
     ensures limits { is_begun result.end ≡ true → HasLimits options result.log }
-    ensures booked { ((result.end ≡ RunEnd.NoMemory)
-        × NoBook desks.old.items desks.new.items result.log)
-        ⊎ OneHistory options keys start P.Port P.Link.Link C.Clock D.Draw K.Keeper S.Keeper
-        desks.old.items result.end desks.new.items result.log }
+    ensures booked { (before : ℕ)
+        → (is_some journal ≡ true → before ≤ journal_faults M.faults journal)
+        → ((result.end ≡ RunEnd.NoMemory) × NoBook desks.old.items desks.new.items result.log)
+        ⊎ OneHistory options keys start before (disk_faults M.faults disk.new) P.Port P.Link.Link
+        C.Clock D.Draw K.Keeper S.Keeper desks.old.items result.end desks.new.items result.log }
 {
     let connections = run_limit(options.connections, desks.len());
     let width = options.window;
     match open_book(alloc, options, keys, start) {
-        Ok(book) => run_book(rt, alloc, book, desks, connections, width),
-        Err(_) => starved(alloc),
+        Ok(book) => {
+            let (course, back) = run_book(rt, alloc, book, journal, desks, connections, width);
+            put_back(disk, back);
+            course
+        }
+        Err(_) => {
+            put_back(disk, disk_of(journal));
+            starved(alloc)
+        }
     }
 }
 
@@ -220,12 +344,14 @@ fn run_with<
     D: Draw + Drop + Send,
     K: Keeper<Kept> + Drop + Send,
     S: Keeper<Served<P::Link>> + Drop + Send,
+    M: Disk + Drop + Send,
     O: Sink,
 >(
     rt: &R,
     alloc: Global,
     options: Options,
     shelf: &mut F,
+    disk: &mut Option<M>,
     desks: &mut Vec<Desk<P, C, D, K, S>>,
     start: Moment,
     err: &mut O,
@@ -234,7 +360,11 @@ where
     P::Link: Drop + Send,
     requires fresh { AllByRecursion IsFresh desks.old.items }
     requires ranged { IsRanged options }
-    ensures begins { RunBegins F.Shelf shelf.old shelf.new options result.end }
+    requires filled { is_some options.files.journal ≡ true → is_some disk.old ≡ true }
+    ensures back { is_some disk.new ≡ is_some disk.old }
+    ensures untouched { is_some options.files.journal ≡ false → disk.new ≡ disk.old }
+    ensures begins { RunBegins F.Shelf M.Disk shelf.old shelf.new disk.old disk.new start options
+        result.end }
     ensures legal { Legal result.log.width (reverse result.log.entries) }
     ensures limits { is_begun result.end ≡ true → HasLimits options result.log }
     ensures status { result.status ≢ 6 → result.status ≢ 8 → result.status ≡ status_of result.end }
@@ -251,26 +381,33 @@ where
     ensures booked { ((is_begun result.end ≡ false)
         × NoBook desks.old.items desks.new.items result.log)
         ⊎ ((keys : Keys) × KeysFrom F.Shelf shelf.old shelf.new options.files options.name (Ok keys)
-        × OneHistory options keys start P.Port P.Link.Link C.Clock D.Draw K.Keeper S.Keeper
+        × OneHistory options keys start (disk_faults M.faults disk.old)
+        (disk_faults M.faults disk.new) P.Port P.Link.Link C.Clock D.Draw K.Keeper S.Keeper
         desks.old.items result.end desks.new.items result.log) }
     ensures seen { ((is_begun result.end ≡ false)
         × NoBook desks.old.items desks.new.items result.log)
         ⊎ ((keys : Keys) × KeysFrom F.Shelf shelf.old shelf.new options.files options.name (Ok keys)
-        × ToldByLog options keys start P.Port P.Link.Link C.Clock D.Draw K.Keeper S.Keeper
+        × ToldByLog options keys start (disk_faults M.faults disk.old)
+        (disk_faults M.faults disk.new) P.Port P.Link.Link C.Clock D.Draw K.Keeper S.Keeper
         desks.old.items result.end desks.new.items result.log) }
 {
     match keys_from(alloc, shelf, &options.files, &options.name) {
-        Ok(keys) => {
-            let course = open_and_serve(rt, alloc, options, keys, desks, start);
-            finish(alloc, desks.as_slice(), course, err)
-        }
+        Ok(keys) => match open_journal(alloc, &options.files, disk, start) {
+            Ok(journal) => {
+                let course = open_and_serve(rt, alloc, options, keys, journal, disk, desks, start);
+                finish(alloc, desks.as_slice(), course, err)
+            }
+            Err(end) => unready(alloc, &options.files, &options.name, end, err),
+        },
         Err(end) => unready(alloc, &options.files, &options.name, end, err),
     }
 }
 
 /// Runs the server over its desks, side by side where threads can be made, and says on `err` how it ended. The words are
 /// `ADDRESS --keytab FILE --verifiers FILE --name PRINCIPAL [--bind TEXT] [--offer LIST] [--window N] [--connections N] [--contexts N] [--marks N]
-/// [--log N] [--desks N] [--idle SECONDS]`. How many desks there are, and how long a connection may be silent, whoever made them knows.
+/// [--log N] [--desks N] [--idle SECONDS] [--control PATH] [--journal FILE]`. How many desks there are, how long a connection may be silent, and
+/// where the run can be stopped, whoever made them knows. Where the words name a journal, the disk is its file: it is opened once the keys were
+/// found, and is back at the return.
 pub fn run_server<
     R: Threads + Wait + Sync,
     F: Shelf,
@@ -279,12 +416,14 @@ pub fn run_server<
     D: Draw + Drop + Send,
     K: Keeper<Kept> + Drop + Send,
     S: Keeper<Served<P::Link>> + Drop + Send,
+    M: Disk + Drop + Send,
     O: Sink,
 >(
     rt: &R,
     alloc: Global,
     words: &[Text],
     shelf: &mut F,
+    disk: &mut Option<M>,
     desks: &mut Vec<Desk<P, C, D, K, S>>,
     start: Moment,
     out: &mut O,
@@ -293,6 +432,8 @@ pub fn run_server<
 where
     P::Link: Drop + Send,
     requires fresh { AllByRecursion IsFresh desks.old.items }
+    // There is a disk where the words name a journal.
+    requires filled { names_journal (options_of words.now) ≡ true → is_some disk.old ≡ true }
     // The status and the line on `err`: those of the end, unless there was no memory for the line, or the sink failed.
     ensures status { result.status ≢ 6 → result.status ≢ 8 → result.status ≡ status_of result.end }
     ensures sink_fault { result.status ≡ 6 → Rose (O.faults err.old) (O.faults err.new) }
@@ -312,15 +453,22 @@ where
     ensures unloaded { result.end ≡ RunEnd.Usage → F.asked shelf.new ≡ F.asked shelf.old }
     ensures named_files { AsksAtMost F.Shelf shelf.old shelf.new
         (files_of (options_of words.now)) }
-    // Words in the command: the run ends by what keytab and verifiers come to.
+    // Words in the command: the run ends by what keytab and verifiers come to, and then by the journal.
     ensures begins { (options : Options) → options_of words.now ≡ Ok options
-        → result.end ≢ RunEnd.NoMemory → RunBegins F.Shelf shelf.old shelf.new options result.end }
+        → result.end ≢ RunEnd.NoMemory → RunBegins F.Shelf M.Disk shelf.old shelf.new disk.old
+        disk.new start options result.end }
+    // The disk is back; it was used for nothing where the words name no journal.
+    ensures back { is_some disk.new ≡ is_some disk.old }
+    ensures untouched { names_journal (options_of words.now) ≡ false → disk.new ≡ disk.old }
     // There are as many desks as there were, and the line of a failed port names one of them.
     ensures count { vec_len desks.new ≡ vec_len desks.old }
     ensures named { NamesADesk result.end (vec_len desks.old) }
-    // With files that can be used, and no count that rose, all connections are served, want of memory aside.
+    // With files and a journal that can be used, and no count that rose, all connections are served, want of memory aside.
     ensures complete { (options : Options) → options_of words.now ≡ Ok options
-        → HasValid F.Shelf shelf.old options → (Rose (F.faults shelf.old) (F.faults shelf.new) → ⊥)
+        → HasValid F.Shelf shelf.old options
+        → HasJournal M.Disk disk.old start options
+        → (Rose (F.faults shelf.old) (F.faults shelf.new) → ⊥)
+        → (Rose (disk_faults M.faults disk.old) (disk_faults M.faults disk.new) → ⊥)
         → ((i : ℕ) (a b : _) → slice_get desks.old.items i ≡ Some a
         → slice_get desks.new.items i ≡ Some b → Rose (P.faults a.port) (P.faults b.port) → ⊥)
         → result.end ≢ RunEnd.NoMemory → result.end ≡ RunEnd.Served }
@@ -329,14 +477,16 @@ where
     ensures limits { (options : Options) → options_of words.now ≡ Ok options
         → is_begun result.end ≡ true → HasLimits options result.log }
     // One book, of the setup that words, keytab and verifiers give, gave all answers to the desks, in one order, from its opening to the log that is
-    // returned: of each desk the questions of its connections, in the desk's order, and no others. Its offer is that of the words, in their order. Each
+    // returned: of each desk the questions of its connections, in the desk's order, and no others. With a journal a desk is told, in the place of an
+    // answer by which the book took an authenticator, that the journal refuses it; that its disk failed only where the disk's count of faults rose. Its offer is that of the words, in their order. Each
     // desk served the first links of its port, in order; where it is done, all of them or as many as the run serves. Or no book was opened: then the
     // desks are as they were, and the log is empty and has no limits.
     ensures booked { (options : Options) → options_of words.now ≡ Ok options
         → ((is_begun result.end ≡ false) × NoBook desks.old.items desks.new.items result.log)
         ⊎ ((keys : Keys)
         × KeysFrom F.Shelf shelf.old shelf.new options.files options.name (Ok keys)
-        × OneHistory options keys start P.Port P.Link.Link C.Clock D.Draw K.Keeper S.Keeper
+        × OneHistory options keys start (disk_faults M.faults disk.old)
+        (disk_faults M.faults disk.new) P.Port P.Link.Link C.Clock D.Draw K.Keeper S.Keeper
         desks.old.items result.end desks.new.items result.log) }
     // All of it is told by that log: it is legal, the receipts of all answers, in the history's order, are its entries, and each answer to a desk is
     // what the log before it says.
@@ -344,11 +494,12 @@ where
         → ((is_begun result.end ≡ false) × NoBook desks.old.items desks.new.items result.log)
         ⊎ ((keys : Keys)
         × KeysFrom F.Shelf shelf.old shelf.new options.files options.name (Ok keys)
-        × ToldByLog options keys start P.Port P.Link.Link C.Clock D.Draw K.Keeper S.Keeper
+        × ToldByLog options keys start (disk_faults M.faults disk.old)
+        (disk_faults M.faults disk.new) P.Port P.Link.Link C.Clock D.Draw K.Keeper S.Keeper
         desks.old.items result.end desks.new.items result.log) }
 {
     match read_options(alloc, words) {
-        Ok(options) => run_with(rt, alloc, options, shelf, desks, start, err),
+        Ok(options) => run_with(rt, alloc, options, shelf, disk, desks, start, err),
         Err(WordsRefusal::Usage) => refused(alloc, RunEnd::Usage, err),
         Err(WordsRefusal::NoMemory) => refused(alloc, RunEnd::NoMemory, err),
     }

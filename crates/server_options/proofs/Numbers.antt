@@ -78,11 +78,11 @@ all-given files af name an bound ab offer ao numbers w c k m l d i keys offered 
     subst (λ a. Gives refusals.NoMemory options_by all a) (sym (joined af an ab ao w c k m l d i)) (gives-made options_by all _ pairs)
 
 pub words-given : (words : List (List ℕ)) (files : Result Files WordsRefusal) (name : Result Name WordsRefusal) (bound : Result (Option (List ℕ)) WordsRefusal) (offer : Result (List MechKind) WordsRefusal) (numbers : Result Numbers WordsRefusal) (keys : Result (Files × Name) WordsRefusal) (offered : Result (Option (List ℕ) × List MechKind) WordsRefusal) (owned : Result ((Files × Name) × (Option (List ℕ) × List MechKind)) WordsRefusal) (all : Result Parts WordsRefusal)
-    → Gives refusals.NoMemory (λ x. x) files (files_given (value_of (codes "--keytab") words) (value_of (codes "--verifiers") words)) → Gives refusals.NoMemory (λ x. x) name (name_given (value_of (codes "--name") words)) → Gives refusals.NoMemory (λ x. x) bound (data_given (value_of (codes "--bind") words)) → Gives refusals.NoMemory (λ x. x) offer (offer_given (value_of (codes "--offer") words)) → numbers ≡ numbers_given words
+    → Gives refusals.NoMemory (λ x. x) files (files_given (value_of (codes "--keytab") words) (value_of (codes "--verifiers") words) (value_of (codes "--journal") words)) → Gives refusals.NoMemory (λ x. x) name (name_given (value_of (codes "--name") words)) → Gives refusals.NoMemory (λ x. x) bound (data_given (value_of (codes "--bind") words)) → Gives refusals.NoMemory (λ x. x) offer (offer_given (value_of (codes "--offer") words)) → numbers ≡ numbers_given words
     → IsBoth files name keys → IsBoth bound offer offered → IsBoth keys offered owned → IsBoth owned numbers all → Gives refusals.NoMemory options_by all (options_in words)
 unfolding options_in
 words-given words files name bound offer numbers keys offered owned all =
-    all-given files (files_given (value_of (codes "--keytab") words) (value_of (codes "--verifiers") words)) name (name_given (value_of (codes "--name") words)) bound (data_given (value_of (codes "--bind") words)) offer (offer_given (value_of (codes "--offer") words)) numbers (number_given 1 1024 128 (value_of (codes "--window") words)) (number_given 1 1000000 1000 (value_of (codes "--connections") words)) (number_given 1 65536 1024 (value_of (codes "--contexts") words)) (number_given 1 1000000 65536 (value_of (codes "--marks") words)) (number_given 16 4000000 262144 (value_of (codes "--log") words)) (number_given 1 1024 64 (value_of (codes "--desks") words)) (number_given 1 86400 60 (value_of (codes "--idle") words)) keys offered owned all
+    all-given files (files_given (value_of (codes "--keytab") words) (value_of (codes "--verifiers") words) (value_of (codes "--journal") words)) name (name_given (value_of (codes "--name") words)) bound (data_given (value_of (codes "--bind") words)) offer (offer_given (value_of (codes "--offer") words)) numbers (number_given 1 1024 128 (value_of (codes "--window") words)) (number_given 1 1000000 1000 (value_of (codes "--connections") words)) (number_given 1 65536 1024 (value_of (codes "--contexts") words)) (number_given 1 1000000 65536 (value_of (codes "--marks") words)) (number_given 16 4000000 262144 (value_of (codes "--log") words)) (number_given 1 1024 64 (value_of (codes "--desks") words)) (number_given 1 86400 60 (value_of (codes "--idle") words)) keys offered owned all
 
 pub ok-of : (all : Result Parts WordsRefusal) (answer : Result Options WordsRefusal) (p : Parts) (o : Options) → Gives refusals.NoMemory options_by all answer → all ≡ Ok p → o ≡ options_by p → answer ≡ Ok o
 ok-of all answer p o given e is = let made : answer ≡ Ok (options_by p) = subst (λ (r : Result Parts WordsRefusal). Gives refusals.NoMemory options_by r answer) e given in rw is made

@@ -1,3 +1,4 @@
+pub mod Control
 pub mod Keys
 pub mod Lines
 pub mod Options

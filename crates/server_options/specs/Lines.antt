@@ -6,7 +6,7 @@ use Rattle.cli_base.specs.Lines.{memory_line}
 use Rattle.cli_base.specs.declared.files.FileStop.TheVariants as stops
 use Rattle.server_options.specs.declared.ending.Counts.{Counts}
 use Rattle.server_options.specs.declared.ending.KeyFile.{KeyFile}
-use Rattle.server_options.specs.declared.ending.KeyFile.TheVariants.{Keytab, Verifiers}
+use Rattle.server_options.specs.declared.ending.KeyFile.TheVariants.{Keytab, Verifiers, Journal}
 use Rattle.server_options.specs.declared.ending.RunEnd.{RunEnd}
 use Rattle.server_options.specs.declared.ending.RunEnd.TheVariants.{Usage, CannotLoad, Bad, NoKey}
 use Rattle.server_options.specs.declared.ending.RunEnd.TheVariants.{PortFault, NoMemory, Served}
@@ -24,6 +24,10 @@ no_key_line name = codes "no key for " ++ (name ++ codes "\n")
 abbrev pub port_line : ℕ → List ℕ
 port_line desk = codes "port fault at desk " ++ (decimal desk ++ codes "\n")
 
+-- the line of a control address that can't be listened at
+abbrev pub unbound_line : List ℕ → List ℕ
+unbound_line path = codes "cannot listen at " ++ (path ++ codes "\n")
+
 -- the line of a run that served all: how many connections, records, and entries of the log
 abbrev pub served_line : Counts → List ℕ
 served_line counts =
@@ -40,7 +44,7 @@ status_of (PortFault desk) = 5
 status_of NoMemory = 8
 status_of Served = 0
 
--- desks were served: the words were in the command, and the keys were there
+-- desks were served: the words were in the command, the keys were there, and the journal was open
 abbrev pub is_begun : RunEnd → Bool
 is_begun (PortFault desk) = true
 is_begun NoMemory = false
@@ -50,16 +54,18 @@ is_begun (Bad file at) = false
 is_begun NoKey = false
 is_begun Served = true
 
--- what a run's words name, as its line says it: the files of the keys, and the own name
+-- what a run's words name, as its line says it: the files, and the own name
 pub record Named : Type 0 where
   pub keytab : List ℕ
   pub verifiers : List ℕ
+  pub journal : List ℕ
   pub own : List ℕ
 
 -- the name of a file
 abbrev pub file_of : Named → KeyFile → List ℕ
 file_of names Keytab = names.keytab
 file_of names Verifiers = names.verifiers
+file_of names Journal = names.journal
 
 -- the line of an end, by what the words name and what was served
 abbrev pub line_of : Named → Counts → RunEnd → List ℕ

@@ -20,7 +20,8 @@ use Rattle.server_options.specs.declared.options.Options.{Options}
 abbrev pub names : List (List ℕ)
 names = codes "--keytab" ∷ codes "--verifiers" ∷ codes "--name" ∷ codes "--bind" ∷ codes "--offer"
     ∷ codes "--window" ∷ codes "--connections" ∷ codes "--contexts" ∷ codes "--marks"
-    ∷ codes "--log" ∷ codes "--desks" ∷ codes "--idle" ∷ []
+    ∷ codes "--log" ∷ codes "--desks" ∷ codes "--idle" ∷ codes "--control" ∷ codes "--journal"
+    ∷ []
 
 -- two words are the same
 abbrev pub same : List ℕ → List ℕ → Bool
@@ -45,12 +46,13 @@ abbrev pub name_by : Result Name NameRefusal → Result Name WordsRefusal
 name_by (Ok name) = Ok name
 name_by (Err refusal) = Err Usage
 
--- the files of the keys, both of which are required
-abbrev pub files_given : Option (List ℕ) → Option (List ℕ) → Result Files WordsRefusal
-files_given None verifiers = Err Usage
-files_given (Some keytab) None = Err Usage
-files_given (Some keytab) (Some verifiers) =
-    Ok (record { keytab = keytab; verifiers = verifiers })
+-- the files: those of the keys, both of which are required, and the journal, where one is kept
+abbrev pub files_given : Option (List ℕ) → Option (List ℕ) → Option (List ℕ)
+    → Result Files WordsRefusal
+files_given None verifiers journal = Err Usage
+files_given (Some keytab) None journal = Err Usage
+files_given (Some keytab) (Some verifiers) journal =
+    Ok (record { keytab = keytab; verifiers = verifiers; journal = journal })
 
 -- the own name, which is required
 abbrev pub name_given : Option (List ℕ) → Result Name WordsRefusal
@@ -97,6 +99,7 @@ numbers_given words = do
 unfoldable pub options_in : List (List ℕ) → Result Options WordsRefusal
 options_in words = do
   files ← files_given (value_of (codes "--keytab") words) (value_of (codes "--verifiers") words)
+      (value_of (codes "--journal") words)
   name ← name_given (value_of (codes "--name") words)
   bound ← data_given (value_of (codes "--bind") words)
   offer ← offer_given (value_of (codes "--offer") words)

@@ -4,7 +4,7 @@ ghost use Rattle.std.specs.Prelude.{◌≡◌, ◌≢◌, ◌≤◌, IsTrue};
 ghost use Rattle.sec_base.specs.Answers.{Rose};
 ghost use Rattle.cli_base.specs.Lines.{Says};
 ghost use Rattle.server_options.specs.Lines.{file_of, no_key_line, served_line, status_of};
-ghost use Rattle.server_options.specs.Lines.{line_of};
+ghost use Rattle.server_options.specs.Lines.{line_of, unbound_line};
 
 use cli_base::{FileStop, OUT_OF_MEMORY, say, say_made, say_stop};
 use sec_base::Sink;
@@ -15,11 +15,12 @@ use std::marker::Model;
 pub const USAGE: &str =
     "usage: gssrpcd ADDRESS --keytab FILE --verifiers FILE --name PRINCIPAL [options]\n";
 
-/// A file of the server's keys.
+/// A file of the server: one of its keys, or its journal.
 #[derive(Clone, Copy, Debug, PartialEq, Eq)]
 pub enum KeyFile {
     Keytab,
     Verifiers,
+    Journal,
 }
 
 /// How the run ended, before its line was written.
@@ -27,9 +28,10 @@ pub enum KeyFile {
 pub enum RunEnd {
     /// The words aren't in the command.
     Usage,
-    /// This file can't be loaded, and the shelf's count of faults rose.
+    /// This file can't be loaded, and the shelf's count of faults rose; or this journal can't be opened, and the disk's count rose.
     CannotLoad { file: KeyFile },
-    /// This file has too many octets, or isn't of its format: a keytab from this place on, verifiers in the line of this number.
+    /// This file has too many octets, or isn't of its format: a keytab from this place on, verifiers in the line of this number. A journal
+    /// isn't of its format where the place is 0, and has more recent authenticators than may be held where it is their greatest number.
     Bad { file: KeyFile, at: usize },
     /// The keytab has no key for the own name.
     NoKey,
@@ -49,11 +51,12 @@ pub struct Counts {
     pub entries: u64,
 }
 
-/// What the words of a run name, as its line says it: the files of the keys, and the own name's text form. Each is empty where the words aren't in the command.
+/// What the words of a run name, as its line says it: the files, and the own name's text form. Each is empty where the words aren't in the command or name none.
 #[derive(Drop)]
 pub struct Names<'a> {
     pub keytab: &'a str,
     pub verifiers: &'a str,
+    pub journal: &'a str,
     pub own: &'a str,
 }
 
@@ -62,8 +65,12 @@ impl<'a> Model for Names<'a> {
 
     ghost Value = { Named };
 
-    ghost view = { λ n.
-        record { keytab = n.keytab.now; verifiers = n.verifiers.now; own = n.own.now } };
+    ghost view = { λ n. record {
+      keytab = n.keytab.now;
+      verifiers = n.verifiers.now;
+      journal = n.journal.now;
+      own = n.own.now;
+    } };
 }
 
 impl<'a> Names<'a> {
@@ -74,6 +81,7 @@ impl<'a> Names<'a> {
         match file {
             KeyFile::Keytab => self.keytab,
             KeyFile::Verifiers => self.verifiers,
+            KeyFile::Journal => self.journal,
         }
     }
 }
@@ -86,6 +94,16 @@ fn say_unkeyed<O: Sink>(alloc: Global, err: &mut O, own: &str) -> u8
         → Says (O.written err.old) (O.written err.new) result (no_key_line own.now) }
 {
     say_made(err, 4, format!(in alloc; "no key for {own}\n"))
+}
+
+/// Says that the control address can't be listened at.
+pub fn say_unbound<O: Sink>(alloc: Global, err: &mut O, path: &str) -> u8
+    ensures status { result ≢ 6 → result ≢ 8 → result ≡ 5 }
+    ensures fault { result ≡ 6 → Rose (O.faults err.old) (O.faults err.new) }
+    ensures said { IsTrue (O.tells err.old)
+        → Says (O.written err.old) (O.written err.new) result (unbound_line path.now) }
+{
+    say_made(err, 5, format!(in alloc; "cannot listen at {path}\n"))
 }
 
 /// Writes the line of an end, and answers its status; 8 also where there was no memory for the line, and 6 where it can't be written.

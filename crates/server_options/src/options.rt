@@ -16,12 +16,14 @@ use gss_base::{Bindings, MechKind, NameRefusal, Principal};
 use sec_base::{Items, Text};
 use std::alloc::Global;
 
-/// The files of the server's keys.
+/// The files of the server: those of its keys, and its journal.
 #[derive(Drop)]
 pub struct Files {
     pub keytab: Text,
     /// The users of SCRAM.
     pub verifiers: Text,
+    /// The journal of the authenticators that were taken, where one is kept.
+    pub journal: Option<Text>,
 }
 
 /// What the words of the server ask for.
@@ -75,12 +77,14 @@ fn is_command(words: &[Text]) -> bool
                 "--log",
                 "--desks",
                 "--idle",
+                "--control",
+                "--journal",
             ],
         )
 }
 
 /// Refuses words that don't have the form of the command.
-fn demand_form(words: &[Text]) -> Result<(), WordsRefusal>
+pub(crate) fn demand_form(words: &[Text]) -> Result<(), WordsRefusal>
     ensures { result ≡ formed words.now }
 {
     demand(is_command(words))
@@ -97,10 +101,22 @@ fn name_of(alloc: Global, text: &str) -> Result<Principal, WordsRefusal>
     }
 }
 
-/// The files of the keys, both of which are required.
+/// The name of the journal, where one is kept.
+fn journal_given(alloc: Global, line: &Line<'_>) -> Result<Option<Text>, WordsRefusal>
+    ensures { Gives WordsRefusal.NoMemory (λ name. name) result
+        (Ok (value_of (codes "--journal") line.now)) }
+{
+    match line.value("--journal") {
+        None => Ok(None),
+        Some(name) => Ok(Some(Text::of(alloc, name)?)),
+    }
+}
+
+/// The files: those of the keys, both of which are required, and the journal.
 fn files_given(alloc: Global, line: &Line<'_>) -> Result<Files, WordsRefusal>
     ensures { Gives WordsRefusal.NoMemory (λ files. files) result (files_given
-        (value_of (codes "--keytab") line.now) (value_of (codes "--verifiers") line.now)) }
+        (value_of (codes "--keytab") line.now) (value_of (codes "--verifiers") line.now)
+        (value_of (codes "--journal") line.now)) }
 {
     match line.value("--keytab") {
         None => Err(WordsRefusal::Usage),
@@ -109,7 +125,12 @@ fn files_given(alloc: Global, line: &Line<'_>) -> Result<Files, WordsRefusal>
             Some(verifiers) => {
                 let keytab = Text::of(alloc, keytab)?;
                 let verifiers = Text::of(alloc, verifiers)?;
-                Ok(Files { keytab, verifiers })
+                let journal = journal_given(alloc, line)?;
+                Ok(Files {
+                    keytab,
+                    verifiers,
+                    journal,
+                })
             }
         },
     }

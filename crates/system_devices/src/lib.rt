@@ -3,7 +3,9 @@
 #![tactic(auto)]
 
 mod again;
+mod control;
 mod dialed_link;
+mod file_disk;
 mod file_shelf;
 mod patient_link;
 mod rand_draw;
@@ -15,7 +17,9 @@ mod tcp_link;
 mod tcp_port;
 mod words;
 
+pub use control::{ControlDoor, ControlPeer, LINE};
 pub use dialed_link::DialedLink;
+pub use file_disk::FileDisk;
 pub use file_shelf::FileShelf;
 pub use patient_link::PatientLink;
 pub use rand_draw::RandDraw;

@@ -3,10 +3,12 @@
 ghost use Rattle.std.specs.Prelude.{◌≡◌, ◌≤◌, false, length};
 ghost use Rattle.sec_base.specs.Answers.{Rose};
 
-use crate::tcp_link::TcpLink;
+use crate::again::Moved;
+use crate::tcp_link::{SLICE, TcpLink};
 use sec_base::{Link, LinkFault};
 use std::net::TcpStream;
 use std::rt::Clock;
+use std::sync::atomic::{AtomicBool, Ordering};
 use std::time::{Duration, Instant};
 
 /// For each so many octets of a record or of a reply its time is a second longer.
@@ -14,6 +16,9 @@ const OCTETS_A_SECOND: u64 = 1024;
 
 /// The shortest wait, in milliseconds. (The system takes none at all for a wait without end.)
 const SHORTEST: u64 = 1;
+
+/// How many milliseconds a reply that was begun has once the listener was stopped.
+const GRACE: u64 = 500;
 
 /// What moved last.
 #[derive(Clone, Copy)]
@@ -25,25 +30,34 @@ enum Turn {
 
 /// A TCP connection whose peer can't hold it by an octet now and then. It may be silent for so many seconds. So many seconds, and a
 /// second more for each 1,024 octets, may go by from a record's first octets to its reply's, and from those to the reply's last. After
-/// that each call answers a fault. It tells nothing of its octets.
+/// that each call answers a fault. Once its listener was stopped, which a call that waits sees within half a second, it reads as ended,
+/// and what is written has half a second more. It tells nothing of its octets.
 #[derive(Drop)]
-pub struct PatientLink<R: Clock + Drop> {
+pub struct PatientLink<'a, R: Clock + Drop> {
     link: TcpLink<R>,
     rt: R,
     idle: Duration,
+    stopped: &'a AtomicBool,
     turn: Turn,
     // when that began to move, and how many octets of it moved so far
     since: Option<Instant>,
     octets: u64,
-    // whether the connection's calls wait for less than `idle`
-    hurried: bool,
+    // when a write first saw that the listener was stopped
+    parting: Option<Instant>,
+    // for how long the connection's calls wait now
+    wait: Duration,
     faults: u64,
 }
 
-impl<R: Clock + Copy + Drop> PatientLink<R> {
-    /// A link over this connection, which may be silent for `idle` seconds.
-    pub(crate) fn over(rt: R, stream: TcpStream, idle: u32) -> PatientLink<R>
-        ensures { ⟦<PatientLink<R> as Link>⟧.closed result ≡ false }
+impl<'a, R: Clock + Copy + Drop> PatientLink<'a, R> {
+    /// A link over this connection, which may be silent for `idle` seconds. The flag is its listener's.
+    pub(crate) fn over(
+        rt: R,
+        stream: TcpStream,
+        idle: u32,
+        stopped: &'a AtomicBool,
+    ) -> PatientLink<'a, R>
+        ensures { ⟦<PatientLink<'a, R> as Link>⟧.closed result ≡ false }
     {
         let mut link = TcpLink::none(rt);
         link.take(Some(stream));
@@ -51,45 +65,53 @@ impl<R: Clock + Copy + Drop> PatientLink<R> {
             link,
             rt,
             idle: Duration::from_secs(idle as u64),
+            stopped,
             turn: Turn::Nothing,
             since: None,
             octets: 0,
-            hurried: true,
+            parting: None,
+            wait: Duration::ZERO,
             faults: 0,
         }
     }
 
-    /// Has the next call wait for as long as the connection may be silent; false where that can't be set.
-    fn relax(&mut self) -> bool
-        ensures link { self.new.link ≡ self.old.link }
-        ensures faults { self.new.faults ≡ self.old.faults }
-    {
-        if !self.hurried {
-            return true;
-        }
-        self.hurried = false;
-        self.link.wait_for(self.idle)
+    /// Whether the listener was stopped.
+    fn is_stopped(&self) -> bool {
+        self.stopped.load(Ordering::SeqCst)
     }
 
-    /// Has the next call wait for as long as what moves may still take; false where its time is over, or that can't be set. Where the
-    /// clock can't be read, it may take all of its time.
-    fn hurry(&mut self) -> bool
+    /// How long what moves may take.
+    fn time(&self) -> Duration {
+        self.idle
+            .saturating_add(Duration::from_secs(self.octets / OCTETS_A_SECOND))
+    }
+
+    /// How many waits that takes, of half a second each.
+    fn waits(&self) -> u64 {
+        self.time().as_secs().saturating_mul(1000 / SLICE)
+    }
+
+    /// How much is left of so long since then; None where nothing is. Where the clock can't be read, it is all of it.
+    fn left(&self, whole: Duration, since: Option<Instant>) -> Option<Duration> {
+        match (since, Instant::now(&self.rt)) {
+            (Some(since), Ok(now)) => whole.checked_sub(now.duration_since(since)),
+            _ => Some(whole),
+        }
+    }
+
+    /// Has the next call wait for so long, and for at most half a second; false where that can't be set.
+    fn allow(&mut self, left: Duration) -> bool
         ensures link { self.new.link ≡ self.old.link }
         ensures faults { self.new.faults ≡ self.old.faults }
     {
-        self.hurried = true;
-        let more = Duration::from_secs(self.octets / OCTETS_A_SECOND);
-        let whole = self.idle.saturating_add(more);
-        let left = match (&self.since, Instant::now(&self.rt)) {
-            (Some(since), Ok(now)) => whole.checked_sub(now.duration_since(*since)),
-            _ => Some(whole),
-        };
-        match left {
-            Some(left) => self
-                .link
-                .wait_for(left.max(Duration::from_millis(SHORTEST))),
-            None => false,
+        let wait = left
+            .min(Duration::from_millis(SLICE))
+            .max(Duration::from_millis(SHORTEST));
+        if wait == self.wait {
+            return true;
         }
+        self.wait = wait;
+        self.link.wait_for(wait)
     }
 
     /// Takes note of what begins to move.
@@ -102,28 +124,37 @@ impl<R: Clock + Copy + Drop> PatientLink<R> {
         self.octets = 0;
     }
 
-    /// Has a read wait as long as it may.
+    /// Has a read wait as long as it may; false where its time is over.
     fn await_record(&mut self) -> bool
         ensures link { self.new.link ≡ self.old.link }
         ensures faults { self.new.faults ≡ self.old.faults }
     {
-        match self.turn {
-            Turn::Record => self.hurry(),
-            _ => self.relax(),
+        let left = match self.turn {
+            Turn::Record => self.left(self.time(), self.since),
+            _ => Some(self.idle),
+        };
+        match left {
+            Some(left) => self.allow(left),
+            None => false,
         }
     }
 
-    /// Has a write wait as long as it may.
+    /// Has a write wait as long as it may; false where its time is over.
     fn await_reply(&mut self) -> bool
         ensures link { self.new.link ≡ self.old.link }
         ensures faults { self.new.faults ≡ self.old.faults }
     {
-        match self.turn {
-            Turn::Reply => self.hurry(),
-            _ => {
-                self.begin(Turn::Reply);
-                self.relax()
-            }
+        if self.is_stopped() && self.parting.is_none() {
+            self.parting = Instant::now(&self.rt).ok();
+        }
+        let left = if self.is_stopped() {
+            self.left(Duration::from_millis(GRACE), self.parting)
+        } else {
+            self.left(self.time(), self.since)
+        };
+        match left {
+            Some(left) => self.allow(left),
+            None => false,
         }
     }
 
@@ -139,6 +170,17 @@ impl<R: Clock + Copy + Drop> PatientLink<R> {
         self.octets = self.octets.saturating_add(count as u64);
     }
 
+    /// Takes note of octets that are written.
+    fn gives(&mut self)
+        ensures link { self.new.link ≡ self.old.link }
+        ensures faults { self.new.faults ≡ self.old.faults }
+    {
+        match self.turn {
+            Turn::Reply => {}
+            _ => self.begin(Turn::Reply),
+        }
+    }
+
     /// Counts a fault.
     fn fault(&mut self) -> LinkFault
         ensures link { self.new.link ≡ self.old.link }
@@ -150,7 +192,7 @@ impl<R: Clock + Copy + Drop> PatientLink<R> {
     }
 }
 
-impl<R: Clock + Copy + Drop> Link for PatientLink<R> {
+impl<R: Clock + Copy + Drop> Link for PatientLink<'_, R> {
     ghost use Rattle.std.specs.Prelude.{false, []};
 
     ghost faults = { λ l. l.faults };
@@ -162,32 +204,44 @@ impl<R: Clock + Copy + Drop> Link for PatientLink<R> {
     ghost closed = { λ l. ⟦<TcpLink<R> as Link>⟧.closed l.link };
 
     fn read(&mut self, buf: &mut [u8]) -> Result<usize, LinkFault> {
-        if !self.await_record() {
-            return Err(self.fault());
-        }
-        match self.link.read(buf) {
-            Ok(count) => {
-                self.took(count);
-                Ok(count)
+        for _ in 0..self.waits() {
+            if self.is_stopped() {
+                return Ok(0);
             }
-            Err(_) => Err(self.fault()),
+            if !self.await_record() {
+                break;
+            }
+            match self.link.read_waiting(buf) {
+                Moved::Octets(count) => {
+                    self.took(count);
+                    return Ok(count);
+                }
+                Moved::None => {}
+                Moved::Fault => break,
+            }
         }
+        Err(self.fault())
     }
 
     fn write(&mut self, buf: &[u8]) -> Result<usize, LinkFault> {
-        if !self.await_reply() {
-            return Err(self.fault());
-        }
-        match self.link.write(buf) {
-            Ok(count) => {
-                self.octets = self.octets.saturating_add(count as u64);
-                Ok(count)
+        self.gives();
+        for _ in 0..=self.waits() {
+            if !self.await_reply() {
+                break;
             }
-            Err(_) => Err(self.fault()),
+            match self.link.write_waiting(buf) {
+                Moved::Octets(count) => {
+                    self.octets = self.octets.saturating_add(count as u64);
+                    return Ok(count);
+                }
+                Moved::None => {}
+                Moved::Fault => break,
+            }
         }
+        Err(self.fault())
     }
 
     fn close(&mut self) {
-        self.link.close();
+        self.link.part(Some(self.stopped));
     }
 }

@@ -1,18 +1,24 @@
 //! A TCP connection.
 
-ghost use Rattle.std.specs.Prelude.{◌≡◌, ◌≤◌, false, length};
+ghost use Rattle.std.specs.Prelude.{◌≡◌, ◌<◌, ◌≤◌, ℕ, true, false, length};
 
-use crate::again::{read_on, write_on};
+use crate::again::{Moved, read_in_time, read_on, write_in_time, write_on};
 use sec_base::{Link, LinkFault};
 use std::net::{Shutdown, TcpStream};
 use std::rt::Clock as SystemTimeSource;
+use std::sync::atomic::{AtomicBool, Ordering};
 use std::time::{Duration, Instant};
 
 /// How many seconds a read or a write may wait.
 const PATIENCE: u64 = 60;
 
-/// How many seconds a close waits for the peer's end.
-const PARTING: u64 = 2;
+/// How many milliseconds a close waits for the peer's end, and how many where the listener was stopped.
+const PARTING: u64 = 2000;
+
+const PARTING_AT_STOP: u64 = 500;
+
+/// How many milliseconds a call waits before it looks whether the listener was stopped.
+pub(crate) const SLICE: u64 = 500;
 
 /// How many octets a close reads and drops before it waits no more for the peer's end.
 const MOST_DROPPED: usize = 4_194_304;
@@ -47,27 +53,49 @@ fn prepared(stream: TcpStream) -> Option<TcpStream> {
     }
 }
 
-/// How long a close that began then may still wait; None where that is over, or the clock can't be read.
-fn time_left<R: SystemTimeSource>(rt: &R, since: &Instant) -> Option<Duration> {
+/// Whether a listener was stopped, where there is one.
+fn is_stopped(stopped: Option<&AtomicBool>) -> bool {
+    match stopped {
+        Some(stopped) => stopped.load(Ordering::SeqCst),
+        None => false,
+    }
+}
+
+/// How long a close that began then may wait before it looks again; None where its time is over, or the clock can't be read.
+fn time_left<R: SystemTimeSource>(
+    rt: &R,
+    since: &Instant,
+    stopped: Option<&AtomicBool>,
+) -> Option<Duration> {
     let gone = since.elapsed(rt).ok()?;
-    let left = Duration::from_secs(PARTING).saturating_sub(gone);
-    if left.is_zero() { None } else { Some(left) }
+    let most = if is_stopped(stopped) {
+        PARTING_AT_STOP
+    } else {
+        PARTING
+    };
+    let left = Duration::from_millis(most).saturating_sub(gone);
+    if left.is_zero() {
+        None
+    } else {
+        Some(left.min(Duration::from_millis(SLICE)))
+    }
 }
 
 /// Reads and drops what still comes, until the peer's end, or for as long as a close may.
-fn drop_rest<R: SystemTimeSource>(rt: &R, stream: &mut TcpStream) {
+fn drop_rest<R: SystemTimeSource>(rt: &R, stream: &mut TcpStream, stopped: Option<&AtomicBool>) {
     let Ok(since) = Instant::now(rt) else {
         return;
     };
     let mut piece = [0; PIECE];
     let mut left = MOST_DROPPED;
     for _ in 0..MOST_DROPPED {
-        let wait = time_left(rt, &since);
+        let wait = time_left(rt, &since, stopped);
         if wait.is_none() || stream.set_read_timeout(wait).is_err() {
             return;
         }
-        match read_on(stream, &mut piece) {
-            Some(count) if 0 < count && count < left => left -= count,
+        match read_in_time(stream, &mut piece) {
+            Moved::Octets(count) if 0 < count && count < left => left -= count,
+            Moved::None => {}
             _ => return,
         }
     }
@@ -107,6 +135,43 @@ impl<R: SystemTimeSource + Drop> TcpLink<R> {
             }
             None => false,
         }
+    }
+
+    /// Reads octets, and says where none came while it waited.
+    pub(crate) fn read_waiting(&mut self, buf: &mut [u8]) -> Moved
+        ensures count { (count : ℕ) → result ≡ Moved.Octets count → count ≤ length buf.old }
+        ensures closed { self.new.closed ≡ self.old.closed }
+    {
+        match &mut self.stream {
+            Some(stream) => read_in_time(stream, buf),
+            None => Moved::Fault,
+        }
+    }
+
+    /// Writes the first octets of `buf`, and says where none were taken while it waited.
+    pub(crate) fn write_waiting(&mut self, buf: &[u8]) -> Moved
+        ensures count { (count : ℕ) → result ≡ Moved.Octets count → count ≤ length buf.now }
+        ensures some { (count : ℕ) → result ≡ Moved.Octets count → 0 < length buf.now → 0 < count }
+        ensures closed { self.new.closed ≡ self.old.closed }
+    {
+        match &mut self.stream {
+            Some(stream) => write_in_time(stream, buf),
+            None => Moved::Fault,
+        }
+    }
+
+    /// Ends the connection. The wait for the peer's end is short where the listener was or is stopped, of which the flag tells.
+    pub(crate) fn part(&mut self, stopped: Option<&AtomicBool>)
+        ensures closed { self.new.closed ≡ true }
+        ensures faults { self.new.faults ≡ self.old.faults }
+    {
+        if let Some(stream) = &mut self.stream {
+            if stream.shutdown(Shutdown::Write).is_ok() {
+                drop_rest(&self.rt, stream, stopped);
+            }
+        }
+        self.stream = None;
+        self.closed = true;
     }
 }
 
@@ -150,12 +215,6 @@ impl<R: SystemTimeSource + Drop> Link for TcpLink<R> {
     }
 
     fn close(&mut self) {
-        if let Some(stream) = &mut self.stream {
-            if stream.shutdown(Shutdown::Write).is_ok() {
-                drop_rest(&self.rt, stream);
-            }
-        }
-        self.stream = None;
-        self.closed = true;
+        self.part(None);
     }
 }

@@ -3,7 +3,8 @@ use Rattle.server_options.specs.declared.ending.Counts.{Counts}
 use Rattle.server_options.specs.declared.options.Options.{Options}
 use Rattle.cli_base.specs.declared.given.WordsRefusal.{WordsRefusal}
 use Rattle.server_options.specs.Lines.{Named}
-use Rattle.server_command.specs.Runs.{AreValid}
+use Rattle.server_command.specs.Runs.{AreValid, HasJournal}
+use Rattle.server_command.proofs.Disks.{unstopped}
 use Rattle.server_command.proofs.Completions.{completed}
 use Rattle.server_command.proofs.Sides.{begun-served, side-served}
 use Rattle.server_command.proofs.server.run_server.Goals as goal
@@ -12,7 +13,7 @@ nothing : Counts
 nothing = record { connections = 0; records = 0; entries = 0 }
 
 unnamed : Named
-unnamed = record { keytab = []; verifiers = []; own = [] }
+unnamed = record { keytab = []; verifiers = []; journal = []; own = [] }
 
 same-options : {one other : Options} {read : Result Options WordsRefusal} → read ≡ Ok one → read ≡ Ok other → other ≡ one
 same-options here there = cc
@@ -84,9 +85,11 @@ pub returns-in-Err-NoMemory-clause-said : goal.returns-in-Err-NoMemory-clause-sa
 returns-in-Err-NoMemory-clause-said g c = λ t. rw c.refused-in-Err-NoMemory.ensures.end (c.refused-in-Err-NoMemory.ensures.said t unnamed nothing)
 
 pub returns-in-Ok-clause-complete : goal.returns-in-Ok-clause-complete
-returns-in-Ok-clause-complete g c = λ options is valid steady ports other.
-    completed _ _ _ _ _ _ c.in-Ok.options c.run_with.result.end c.run_with.ensures.begins
+returns-in-Ok-clause-complete g c = λ options is valid journal steady kept ports other.
+    completed _ _ _ _ _ _ _ _ c.in-Ok.options c.run_with.result.end c.run_with.ensures.begins
     (subst (λ (o : Options). AreValid (g.F.Shelf.tells c.args.shelf.now) (g.F.Shelf.files c.args.shelf.now) o.files o.name) (same-options c.in-Ok.ensures.value is) valid) steady
+    (unstopped g.M.Disk c.args.disk.now c.run_with.new.disk c.args.start c.in-Ok.options c.run_with.result.end
+    (subst (λ (o : Options). HasJournal g.M.Disk c.args.disk.now c.args.start o) (same-options c.in-Ok.ensures.value is) journal) kept other)
     (begun-served c.run_with.ensures.booked (λ one. side-served one.2 ports other)) other
 
 pub returns-in-Ok-clause-seen : goal.returns-in-Ok-clause-seen
