@@ -13,11 +13,15 @@
 #include <sys/random.h>
 #include <time.h>
 
+#define UNUSED __attribute__((unused))
+
 static gss_OID_desc scram_oid = {6, "\x2b\x06\x01\x05\x05\x0e"};
 
 typedef struct { size_t len; char text[]; } name_t;
 typedef struct { name_t *user; size_t password_len; char *password; } cred_t;
 typedef struct { pthread_mutex_t lock; vm_scram end; int initiator, ready; name_t *own; } ctx_t;
+
+enum { NO_RANDOM = 100 }; /* what the plug-in adds to the library's statuses */
 
 static pthread_mutex_t host_lock = PTHREAD_MUTEX_INITIALIZER;
 static vm_verifiers host;
@@ -35,6 +39,8 @@ static name_t *name_of(const void *text, size_t len) {
     if (n) { n->len = len; memcpy(n->text, text, len); n->text[len] = 0; }
     return n;
 }
+static name_t *copy_of(gss_name_t name) { return name ? name_of(((name_t *)name)->text, ((name_t *)name)->len) : NULL; }
+static bool is_named(const name_t *n, const void *text, size_t len) { return n->len == len && !memcmp(n->text, text, len); }
 
 /* a slice's pointer is never NULL, though its length may be 0 */
 static const uint8_t *at_of(gss_buffer_t b) { return b && b->value ? b->value : (const uint8_t *)""; }
@@ -61,21 +67,31 @@ static void gone(void *at, size_t len) {
     free(at);
 }
 
+/* what is handed out: a buffer that has nothing, one with octets and a NUL behind them, a name, and a set */
+static void empty(gss_buffer_t out) { out->value = NULL; out->length = 0; }
 static OM_uint32 buffer(OM_uint32 *minor, gss_buffer_t out, const void *at, size_t len) {
     *minor = 0;
-    out->value = malloc(len ? len : 1);
-    if (!out->value) { out->length = 0; return GSS_S_FAILURE; }
+    empty(out);
+    if (!(out->value = calloc(1, len + 1))) return GSS_S_FAILURE;
     memcpy(out->value, at, len);
     out->length = len;
     return GSS_S_COMPLETE;
 }
+static OM_uint32 named(OM_uint32 *minor, gss_name_t *out, name_t *made) {
+    *minor = 0;
+    *out = (gss_name_t)made;
+    return made ? GSS_S_COMPLETE : GSS_S_FAILURE;
+}
+static OM_uint32 set_of(OM_uint32 *minor, gss_OID_set *out, gss_const_OID *members, size_t count) {
+    OM_uint32 unused, major = gss_create_empty_oid_set(minor, out);
+    for (size_t i = 0; i < count && major == GSS_S_COMPLETE; i++) major = gss_add_oid_set_member(minor, (gss_OID)members[i], out);
+    if (major != GSS_S_COMPLETE) gss_release_oid_set(&unused, out);
+    return major;
+}
 
 /* ---- names ---- */
-OM_uint32 gss_import_name(OM_uint32 *minor, gss_buffer_t in, gss_OID type, gss_name_t *out) {
-    (void)type;
-    *minor = 0;
-    *out = (gss_name_t)name_of(in->value, in->length);
-    return *out ? GSS_S_COMPLETE : GSS_S_FAILURE;
+OM_uint32 gss_import_name(OM_uint32 *minor, gss_buffer_t in, UNUSED gss_OID type, gss_name_t *out) {
+    return named(minor, out, name_of(at_of(in), len_of(in)));
 }
 OM_uint32 gss_display_name(OM_uint32 *minor, gss_name_t name, gss_buffer_t out, gss_OID *type) {
     name_t *n = (name_t *)name;
@@ -83,52 +99,51 @@ OM_uint32 gss_display_name(OM_uint32 *minor, gss_name_t name, gss_buffer_t out, 
     return buffer(minor, out, n->text, n->len);
 }
 OM_uint32 gss_release_name(OM_uint32 *minor, gss_name_t *name) {
-    *minor = 0;
     free(*name);
-    *name = GSS_C_NO_NAME;
+    named(minor, name, NULL);
     return GSS_S_COMPLETE;
 }
-OM_uint32 gss_duplicate_name(OM_uint32 *minor, const gss_name_t name, gss_name_t *out) {
-    name_t *n = (name_t *)name;
-    *minor = 0;
-    *out = (gss_name_t)name_of(n->text, n->len);
-    return *out ? GSS_S_COMPLETE : GSS_S_FAILURE;
-}
-OM_uint32 gss_canonicalize_name(OM_uint32 *minor, const gss_name_t name, const gss_OID mech, gss_name_t *out) {
-    (void)mech;
-    return gss_duplicate_name(minor, name, out);
+OM_uint32 gss_duplicate_name(OM_uint32 *minor, const gss_name_t name, gss_name_t *out) { return named(minor, out, copy_of(name)); }
+OM_uint32 gss_canonicalize_name(OM_uint32 *minor, const gss_name_t name, UNUSED const gss_OID mech, gss_name_t *out) {
+    return named(minor, out, copy_of(name));
 }
 OM_uint32 gss_compare_name(OM_uint32 *minor, gss_name_t a, gss_name_t b, int *equal) {
-    name_t *x = (name_t *)a, *y = (name_t *)b;
     *minor = 0;
-    *equal = x->len == y->len && !memcmp(x->text, y->text, x->len);
+    *equal = is_named((name_t *)a, ((name_t *)b)->text, ((name_t *)b)->len);
     return GSS_S_COMPLETE;
 }
-OM_uint32 gss_inquire_name(OM_uint32 *minor, gss_name_t name, int *is_mn, gss_OID *mech, gss_buffer_set_t *attributes) {
-    (void)name;
+OM_uint32 gss_inquire_name(OM_uint32 *minor, UNUSED gss_name_t name, int *is_mn, gss_OID *mech, gss_buffer_set_t *attributes) {
     *minor = 0;
     if (is_mn) *is_mn = 1;
     if (mech) *mech = &scram_oid;
     if (attributes) *attributes = GSS_C_NO_BUFFER_SET;
     return GSS_S_COMPLETE;
 }
-OM_uint32 gss_inquire_names_for_mech(OM_uint32 *minor, gss_OID mech, gss_OID_set *types) {
-    (void)mech;
-    OM_uint32 major = gss_create_empty_oid_set(minor, types);
-    if (major == GSS_S_COMPLETE) major = gss_add_oid_set_member(minor, GSS_C_NT_USER_NAME, types);
-    if (major == GSS_S_COMPLETE) major = gss_add_oid_set_member(minor, GSS_C_NT_HOSTBASED_SERVICE, types);
-    return major;
+OM_uint32 gss_inquire_names_for_mech(OM_uint32 *minor, UNUSED gss_OID mech, gss_OID_set *types) {
+    return set_of(minor, types, (gss_const_OID[]){GSS_C_NT_USER_NAME, GSS_C_NT_HOSTBASED_SERVICE}, 2);
 }
 
-/* ---- credentials ---- */
+/* ---- credentials: an acceptor's has no user ---- */
+static void dropped(cred_t *c) {
+    if (c) { gone(c->password, c->password_len); free(c->user); free(c); }
+}
 static cred_t *cred_of(const void *user, size_t user_len, const void *password, size_t password_len) {
     cred_t *c = calloc(1, sizeof *c);
     if (!c) return NULL;
     c->user = name_of(user, user_len);
     c->password = malloc(password_len + 1);
-    c->password_len = password_len;
-    if (!c->user || !c->password) { free(c->user); free(c->password); free(c); return NULL; }
-    memcpy(c->password, password, password_len);
+    if (!c->user || !c->password) { dropped(c); return NULL; }
+    memcpy(c->password, password, c->password_len = password_len);
+    return c;
+}
+/* the credential of the file of a user, where it is this one's or anybody's */
+static cred_t *own_cred(const name_t *wanted) {
+    size_t len = 0;
+    uint8_t *at = file_of("VM_SCRAM_USER", &len), *colon = at ? memchr(at, ':', len) : NULL;
+    size_t text = len && at && at[len - 1] == '\n' ? len - 1 : len;
+    bool fits = colon && (!wanted || is_named(wanted, at, colon - at));
+    cred_t *c = fits ? cred_of(at, colon - at, colon + 1, at + text - colon - 1) : NULL;
+    gone(at, len);
     return c;
 }
 static int host_opened(void) {
@@ -151,56 +166,40 @@ static OM_uint32 granted(OM_uint32 *minor, cred_t *c, gss_cred_id_t *out, gss_OI
     if (time) *time = GSS_C_INDEFINITE;
     return GSS_S_COMPLETE;
 }
-OM_uint32 gss_acquire_cred(OM_uint32 *minor, gss_name_t want, OM_uint32 time_req, gss_OID_set desired, gss_cred_usage_t usage, gss_cred_id_t *out,
-                           gss_OID_set *mechs, OM_uint32 *time) {
-    (void)time_req; (void)desired;
-    *minor = 0;
-    if (usage == GSS_C_ACCEPT) return host_opened() ? granted(minor, cred_of("", 0, "", 0), out, mechs, time) : GSS_S_NO_CRED;
-    size_t len = 0;
-    uint8_t *at = file_of("VM_SCRAM_USER", &len);
-    if (!at) return GSS_S_NO_CRED;
-    uint8_t *colon = memchr(at, ':', len);
-    size_t text = len;
-    if (text && at[text - 1] == '\n') text--;
-    OM_uint32 major = GSS_S_NO_CRED;
-    name_t *w = (name_t *)want;
-    if (colon && (!w || (w->len == (size_t)(colon - at) && !memcmp(w->text, at, w->len))))
-        major = granted(minor, cred_of(at, colon - at, colon + 1, at + text - colon - 1), out, mechs, time);
-    gone(at, len);
-    return major;
+OM_uint32 gss_acquire_cred(OM_uint32 *minor, gss_name_t want, UNUSED OM_uint32 time_req, UNUSED gss_OID_set desired, gss_cred_usage_t usage,
+                           gss_cred_id_t *out, gss_OID_set *mechs, OM_uint32 *time) {
+    cred_t *c = usage != GSS_C_ACCEPT ? own_cred((name_t *)want) : host_opened() ? cred_of("", 0, "", 0) : NULL;
+    return granted(minor, c, out, mechs, time);
 }
-OM_uint32 gssspi_acquire_cred_with_password(OM_uint32 *minor, const gss_name_t name, const gss_buffer_t password, OM_uint32 time_req, const gss_OID_set desired,
-                                            int usage, gss_cred_id_t *out, gss_OID_set *mechs, OM_uint32 *time) {
-    (void)time_req; (void)desired;
-    *minor = 0;
-    name_t *n = (name_t *)name;
-    if (usage == GSS_C_ACCEPT || !n) return GSS_S_NO_CRED;
-    return granted(minor, cred_of(n->text, n->len, password->value, password->length), out, mechs, time);
+OM_uint32 gssspi_acquire_cred_with_password(OM_uint32 *minor, const gss_name_t name, const gss_buffer_t password, UNUSED OM_uint32 time_req,
+                                            UNUSED const gss_OID_set desired, int usage, gss_cred_id_t *out, gss_OID_set *mechs, OM_uint32 *time) {
+    name_t *n = usage == GSS_C_ACCEPT ? NULL : (name_t *)name;
+    return granted(minor, n ? cred_of(n->text, n->len, at_of(password), len_of(password)) : NULL, out, mechs, time);
 }
 OM_uint32 gss_release_cred(OM_uint32 *minor, gss_cred_id_t *cred) {
-    cred_t *c = (cred_t *)*cred;
     *minor = 0;
-    if (c) { gone(c->password, c->password_len); free(c->user); free(c); }
+    dropped((cred_t *)*cred);
     *cred = GSS_C_NO_CREDENTIAL;
     return GSS_S_COMPLETE;
 }
 OM_uint32 gss_inquire_cred(OM_uint32 *minor, gss_cred_id_t cred, gss_name_t *name, OM_uint32 *time, gss_cred_usage_t *usage, gss_OID_set *mechs) {
     cred_t *c = (cred_t *)cred;
+    bool initiates = c && c->user->len;
     *minor = 0;
-    if (name) *name = c && c->user->len ? (gss_name_t)name_of(c->user->text, c->user->len) : GSS_C_NO_NAME;
+    if (name) *name = initiates ? (gss_name_t)copy_of((gss_name_t)c->user) : GSS_C_NO_NAME;
     if (time) *time = GSS_C_INDEFINITE;
-    if (usage) *usage = c && c->user->len ? GSS_C_INITIATE : GSS_C_ACCEPT;
+    if (usage) *usage = initiates ? GSS_C_INITIATE : GSS_C_ACCEPT;
     if (mechs) *mechs = GSS_C_NO_OID_SET;
     return GSS_S_COMPLETE;
 }
 
 /* ---- contexts ---- */
-static OM_uint32 freed(ctx_t *c) {
+static void freed(ctx_t *c) {
+    if (!c) return;
     vm_scram_free(&c->end);
     pthread_mutex_destroy(&c->lock);
     free(c->own);
     free(c);
-    return GSS_S_COMPLETE;
 }
 static ctx_t *ctx_of(int initiator) {
     ctx_t *c = calloc(1, sizeof *c);
@@ -223,16 +222,19 @@ static OM_uint32 major_of(OM_uint32 *minor, uint32_t status) {
     default: return GSS_S_FAILURE;
     }
 }
-static OM_uint32 token_out(OM_uint32 *minor, ctx_t *c, gss_buffer_t out) {
-    size_t len = vm_scram_token_len(&c->end);
-    out->length = 0;
-    out->value = NULL;
-    if (!len) return GSS_S_COMPLETE;
-    if (!(out->value = malloc(len))) return GSS_S_FAILURE;
+/* what a step hands out: the token that is due, if one is, the mechanism and its services */
+#define FLAGS (GSS_C_MUTUAL_FLAG | GSS_C_INTEG_FLAG | GSS_C_CONF_FLAG | GSS_C_PROT_READY_FLAG)
+static OM_uint32 stepped(OM_uint32 *minor, ctx_t *c, uint32_t status, gss_buffer_t out, gss_OID *mech, OM_uint32 *flags) {
+    OM_uint32 major = major_of(minor, status);
+    size_t len = GSS_ERROR(major) ? 0 : vm_scram_token_len(&c->end);
+    if (len && !(out->value = malloc(len))) return major_of(minor, VM_NO_MEMORY);
     out->length = len;
-    return major_of(minor, vm_scram_token(&c->end, out->value, len));
+    if (len && (status = vm_scram_token(&c->end, out->value, len)) != VM_DONE) return major_of(minor, status);
+    if (mech) *mech = &scram_oid;
+    if (flags) *flags = FLAGS;
+    return major;
 }
-static const uint8_t unused_nonce[18];
+static const uint8_t unused_nonce[VM_NONCE_OCTETS];
 /* the seconds that a context lasts yet; an initiator's doesn't end by itself */
 static OM_uint32 left_of(ctx_t *c) {
     uint64_t ends = 0, now = now_micros();
@@ -242,89 +244,77 @@ static OM_uint32 left_of(ctx_t *c) {
     if (status != VM_DONE || ends <= now) return 0;
     return (ends - now) / 1000000 >= GSS_C_INDEFINITE ? GSS_C_INDEFINITE : (OM_uint32)((ends - now) / 1000000);
 }
-#define FLAGS (GSS_C_MUTUAL_FLAG | GSS_C_INTEG_FLAG | GSS_C_CONF_FLAG | GSS_C_PROT_READY_FLAG)
-
-OM_uint32 gss_init_sec_context(OM_uint32 *minor, gss_cred_id_t cred, gss_ctx_id_t *ctx, gss_name_t target, gss_OID mech, OM_uint32 req, OM_uint32 time_req,
-                               gss_channel_bindings_t bindings, gss_buffer_t in, gss_OID *actual, gss_buffer_t out, OM_uint32 *flags, OM_uint32 *time) {
-    (void)target; (void)mech; (void)req; (void)time_req;
+/* an initiator's context by a credential, with the library's status; NULL where it doesn't begin */
+static ctx_t *begun(cred_t *k, gss_buffer_t data, uint32_t *status) {
+    uint8_t nonce[VM_NONCE_OCTETS];
+    ctx_t *c = ctx_of(1);
+    *status = !c ? VM_NO_MEMORY : !drawn(nonce, sizeof nonce) ? NO_RANDOM : VM_DONE;
+    if (*status == VM_DONE)
+        *status = vm_scram_init(&c->end, (uint8_t *)k->user->text, k->user->len, (uint8_t *)k->password, k->password_len, nonce, at_of(data), len_of(data));
+    if (*status != VM_MORE) { freed(c); return NULL; }
+    c->own = copy_of((gss_name_t)k->user);
+    return c;
+}
+OM_uint32 gss_init_sec_context(OM_uint32 *minor, gss_cred_id_t cred, gss_ctx_id_t *ctx, UNUSED gss_name_t target, UNUSED gss_OID mech,
+                               UNUSED OM_uint32 req, UNUSED OM_uint32 time_req, gss_channel_bindings_t bindings, gss_buffer_t in, gss_OID *actual,
+                               gss_buffer_t out, OM_uint32 *flags, OM_uint32 *time) {
     ctx_t *c = (ctx_t *)*ctx;
     uint32_t status;
-    gss_cred_id_t own = GSS_C_NO_CREDENTIAL;
     *minor = 0;
-    out->length = 0;
-    out->value = NULL;
-    if (!c) {
-        uint8_t nonce[18];
-        if (cred == GSS_C_NO_CREDENTIAL) {
-            OM_uint32 major = gss_acquire_cred(minor, GSS_C_NO_NAME, 0, GSS_C_NO_OID_SET, GSS_C_INITIATE, &own, NULL, NULL);
-            if (major != GSS_S_COMPLETE) return major;
-            cred = own;
-        }
-        cred_t *k = (cred_t *)cred;
-        if (!(c = ctx_of(1)) || !drawn(nonce, sizeof nonce)) {
-            OM_uint32 unused;
-            if (c) freed(c);
-            gss_release_cred(&unused, &own);
-            return GSS_S_FAILURE;
-        }
-        status = vm_scram_init(&c->end, (uint8_t *)k->user->text, k->user->len, (uint8_t *)k->password, k->password_len, nonce,
-                               at_of(data_of(bindings)), len_of(data_of(bindings)));
-        if (status == VM_MORE) { c->own = name_of(k->user->text, k->user->len); *ctx = (gss_ctx_id_t)c; } else freed(c), c = NULL;
-        OM_uint32 ignored;
-        gss_release_cred(&ignored, &own);
-        if (!c) return major_of(minor, status);
-    } else {
-        pthread_mutex_lock(&c->lock);
+    empty(out);
+    if (c) {
         vm_verifiers none = {0};
+        pthread_mutex_lock(&c->lock);
         status = vm_scram_step(&c->end, &none, at_of(in), len_of(in), 0, unused_nonce);
-        c->ready = status == VM_DONE;
+        c->ready |= status == VM_DONE;
         pthread_mutex_unlock(&c->lock);
+    } else {
+        cred_t *own = cred ? NULL : own_cred(NULL), *k = cred ? (cred_t *)cred : own;
+        if (!k) return GSS_S_NO_CRED;
+        *ctx = (gss_ctx_id_t)(c = begun(k, data_of(bindings), &status));
+        dropped(own);
     }
-    OM_uint32 major = major_of(minor, status);
-    if (!GSS_ERROR(major) && token_out(minor, c, out) != GSS_S_COMPLETE) major = GSS_S_FAILURE;
-    if (actual) *actual = &scram_oid;
-    if (flags) *flags = FLAGS;
     if (time) *time = GSS_C_INDEFINITE;
-    return major;
+    return stepped(minor, c, status, out, actual, flags);
 }
-OM_uint32 gss_accept_sec_context(OM_uint32 *minor, gss_ctx_id_t *ctx, gss_cred_id_t cred, gss_buffer_t in, gss_channel_bindings_t bindings, gss_name_t *source,
-                                 gss_OID *mech, gss_buffer_t out, OM_uint32 *flags, OM_uint32 *time, gss_cred_id_t *delegated) {
-    (void)cred;
-    ctx_t *c = (ctx_t *)*ctx;
-    uint8_t nonce[18];
-    *minor = 0;
-    out->length = 0;
-    out->value = NULL;
-    if (!host_opened()) return GSS_S_NO_CRED;
-    if (!drawn(nonce, sizeof nonce)) return GSS_S_FAILURE;
-    if (!c) {
-        if (!(c = ctx_of(0)) || vm_scram_accept(&c->end, at_of(data_of(bindings)), len_of(data_of(bindings))) != VM_DONE) { if (c) freed(c); return GSS_S_FAILURE; }
-        *ctx = (gss_ctx_id_t)c;
-    }
-    pthread_mutex_lock(&c->lock);
+/* a step of the acceptor, which finds its user among the verifiers of all contexts */
+static uint32_t accepted(ctx_t *c, gss_buffer_t in, const uint8_t *nonce) {
     pthread_mutex_lock(&host_lock);
     uint32_t status = vm_scram_step(&c->end, &host, at_of(in), len_of(in), now_micros(), nonce);
     pthread_mutex_unlock(&host_lock);
-    c->ready = status == VM_DONE;
-    OM_uint32 major = major_of(minor, status);
-    if (!GSS_ERROR(major) && token_out(minor, c, out) != GSS_S_COMPLETE) major = GSS_S_FAILURE;
-    if (status == VM_DONE) {
-        uint8_t name[255];
-        size_t len = 0;
-        if (vm_scram_initiator(&c->end, name, 255, &len) == VM_DONE) c->own = name_of(name, len);
-        if (source) *source = c->own ? (gss_name_t)name_of(c->own->text, c->own->len) : GSS_C_NO_NAME;
+    uint8_t name[VM_NAME_MOST];
+    size_t len = 0;
+    c->ready |= status == VM_DONE;
+    if (status == VM_DONE && vm_scram_initiator(&c->end, name, sizeof name, &len) == VM_DONE) c->own = name_of(name, len);
+    return status;
+}
+OM_uint32 gss_accept_sec_context(OM_uint32 *minor, gss_ctx_id_t *ctx, UNUSED gss_cred_id_t cred, gss_buffer_t in, gss_channel_bindings_t bindings,
+                                 gss_name_t *source, gss_OID *mech, gss_buffer_t out, OM_uint32 *flags, OM_uint32 *time, gss_cred_id_t *delegated) {
+    ctx_t *c = (ctx_t *)*ctx;
+    uint8_t nonce[VM_NONCE_OCTETS];
+    *minor = 0;
+    empty(out);
+    if (!host_opened()) return GSS_S_NO_CRED;
+    if (!drawn(nonce, sizeof nonce)) return major_of(minor, NO_RANDOM);
+    if (!c) {
+        c = ctx_of(0);
+        uint32_t begins = c ? vm_scram_accept(&c->end, at_of(data_of(bindings)), len_of(data_of(bindings))) : VM_NO_MEMORY;
+        if (begins != VM_DONE) { freed(c); return major_of(minor, begins); }
+        *ctx = (gss_ctx_id_t)c;
     }
+    pthread_mutex_lock(&c->lock);
+    uint32_t status = accepted(c, in, nonce);
+    OM_uint32 major = stepped(minor, c, status, out, mech, flags);
     pthread_mutex_unlock(&c->lock);
-    if (mech) *mech = &scram_oid;
-    if (flags) *flags = FLAGS;
+    if (source) *source = (gss_name_t)copy_of((gss_name_t)c->own);
     if (time) *time = status == VM_DONE ? left_of(c) : 0;
     if (delegated) *delegated = GSS_C_NO_CREDENTIAL;
     return major;
 }
 OM_uint32 gss_delete_sec_context(OM_uint32 *minor, gss_ctx_id_t *ctx, gss_buffer_t out) {
     *minor = 0;
-    if (out) { out->length = 0; out->value = NULL; }
-    if (*ctx) freed((ctx_t *)*ctx);
+    if (out) empty(out);
+    freed((ctx_t *)*ctx);
     *ctx = GSS_C_NO_CONTEXT;
     return GSS_S_COMPLETE;
 }
@@ -332,7 +322,7 @@ OM_uint32 gss_inquire_context(OM_uint32 *minor, gss_ctx_id_t ctx, gss_name_t *so
                               int *local, int *open) {
     ctx_t *c = (ctx_t *)ctx;
     *minor = 0;
-    if (source) *source = c->own ? (gss_name_t)name_of(c->own->text, c->own->len) : GSS_C_NO_NAME;
+    if (source) *source = (gss_name_t)copy_of((gss_name_t)c->own);
     if (target) *target = (gss_name_t)name_of("", 0);
     if (time) *time = left_of(c);
     if (mech) *mech = &scram_oid;
@@ -348,8 +338,7 @@ OM_uint32 gss_context_time(OM_uint32 *minor, gss_ctx_id_t ctx, OM_uint32 *time) 
 }
 
 /* ---- messages ---- */
-OM_uint32 gss_get_mic(OM_uint32 *minor, gss_ctx_id_t ctx, gss_qop_t qop, gss_buffer_t message, gss_buffer_t out) {
-    (void)qop;
+OM_uint32 gss_get_mic(OM_uint32 *minor, gss_ctx_id_t ctx, UNUSED gss_qop_t qop, gss_buffer_t message, gss_buffer_t out) {
     ctx_t *c = (ctx_t *)ctx;
     uint8_t mic[28];
     pthread_mutex_lock(&c->lock);
@@ -365,19 +354,17 @@ OM_uint32 gss_verify_mic(OM_uint32 *minor, gss_ctx_id_t ctx, gss_buffer_t messag
     if (qop) *qop = GSS_C_QOP_DEFAULT;
     return major_of(minor, status);
 }
-OM_uint32 gss_wrap(OM_uint32 *minor, gss_ctx_id_t ctx, int conf, gss_qop_t qop, gss_buffer_t message, int *state, gss_buffer_t out) {
-    (void)qop;
+OM_uint32 gss_wrap(OM_uint32 *minor, gss_ctx_id_t ctx, int conf, UNUSED gss_qop_t qop, gss_buffer_t message, int *state, gss_buffer_t out) {
     ctx_t *c = (ctx_t *)ctx;
     uint8_t confounder[16];
     size_t room = len_of(message) + VM_WRAP_MORE;
     *minor = 0;
-    out->length = 0;
-    out->value = NULL;
+    empty(out);
     if (!drawn(confounder, sizeof confounder) || !(out->value = malloc(room))) return GSS_S_FAILURE;
     pthread_mutex_lock(&c->lock);
     uint32_t status = vm_scram_wrap(&c->end, conf != 0, confounder, at_of(message), len_of(message), out->value, room, &out->length);
     pthread_mutex_unlock(&c->lock);
-    if (status != VM_DONE) { free(out->value); out->value = NULL; out->length = 0; }
+    if (status != VM_DONE) { free(out->value); empty(out); }
     if (state) *state = conf != 0;
     return major_of(minor, status);
 }
@@ -385,18 +372,17 @@ OM_uint32 gss_unwrap(OM_uint32 *minor, gss_ctx_id_t ctx, gss_buffer_t token, gss
     ctx_t *c = (ctx_t *)ctx;
     bool sealed = false;
     *minor = 0;
-    out->length = 0;
+    empty(out);
     if (!(out->value = malloc(len_of(token) + 1))) return GSS_S_FAILURE;
     pthread_mutex_lock(&c->lock);
     uint32_t status = vm_scram_unwrap(&c->end, at_of(token), len_of(token), out->value, len_of(token) + 1, &out->length, &sealed);
     pthread_mutex_unlock(&c->lock);
-    if (status != VM_DONE) { free(out->value); out->value = NULL; out->length = 0; }
+    if (status != VM_DONE) { free(out->value); empty(out); }
     if (state) *state = sealed;
     if (qop) *qop = GSS_C_QOP_DEFAULT;
     return major_of(minor, status);
 }
-OM_uint32 gss_wrap_size_limit(OM_uint32 *minor, gss_ctx_id_t ctx, int conf, gss_qop_t qop, OM_uint32 size, OM_uint32 *most) {
-    (void)ctx; (void)conf; (void)qop;
+OM_uint32 gss_wrap_size_limit(OM_uint32 *minor, UNUSED gss_ctx_id_t ctx, UNUSED int conf, UNUSED gss_qop_t qop, OM_uint32 size, OM_uint32 *most) {
     *minor = 0;
     *most = size > VM_WRAP_MORE ? size - VM_WRAP_MORE : 0;
     return GSS_S_COMPLETE;
@@ -420,13 +406,13 @@ static size_t moved(gss_iov_buffer_desc *iov, int count, bool whole, bool out, u
     }
     return len;
 }
+/* gives a piece so many octets, and where `fill` the room for them; a piece that isn't there has none */
 static bool roomy(gss_iov_buffer_desc *b, size_t len, bool fill) {
     if (!b) return len == 0;
-    if (!fill) { b->buffer.length = len; return true; }
-    if (b->type & GSS_IOV_BUFFER_FLAG_ALLOCATE) {
-        if (!(b->buffer.value = malloc(len ? len : 1))) return false;
-        b->type |= GSS_IOV_BUFFER_FLAG_ALLOCATED;
-    } else if (b->buffer.length < len) return false;
+    bool is_made = fill && b->type & GSS_IOV_BUFFER_FLAG_ALLOCATE;
+    if (fill && !is_made && b->buffer.length < len) return false;
+    if (is_made && !(b->buffer.value = malloc(len ? len : 1))) return false;
+    if (is_made) b->type |= GSS_IOV_BUFFER_FLAG_ALLOCATED;
     b->buffer.length = len;
     return true;
 }
@@ -434,11 +420,9 @@ static bool roomy(gss_iov_buffer_desc *b, size_t len, bool fill) {
 static bool framed(gss_iov_buffer_desc *iov, int count, int conf, bool fill) {
     gss_iov_buffer_desc *only = piece_of(iov, count, GSS_IOV_BUFFER_TYPE_SIGN_ONLY);
     return !(only && only->buffer.length) && roomy(piece_of(iov, count, GSS_IOV_BUFFER_TYPE_HEADER), conf ? 32 : 16, fill)
-        && roomy(piece_of(iov, count, GSS_IOV_BUFFER_TYPE_TRAILER), conf ? 28 : 12, fill)
-        && (!piece_of(iov, count, GSS_IOV_BUFFER_TYPE_PADDING) || roomy(piece_of(iov, count, GSS_IOV_BUFFER_TYPE_PADDING), 0, fill));
+        && roomy(piece_of(iov, count, GSS_IOV_BUFFER_TYPE_TRAILER), conf ? 28 : 12, fill) && roomy(piece_of(iov, count, GSS_IOV_BUFFER_TYPE_PADDING), 0, fill);
 }
-OM_uint32 gss_wrap_iov_length(OM_uint32 *minor, gss_ctx_id_t ctx, int conf, gss_qop_t qop, int *state, gss_iov_buffer_desc *iov, int count) {
-    (void)ctx; (void)qop;
+OM_uint32 gss_wrap_iov_length(OM_uint32 *minor, UNUSED gss_ctx_id_t ctx, int conf, UNUSED gss_qop_t qop, int *state, gss_iov_buffer_desc *iov, int count) {
     *minor = 0;
     if (state) *state = conf != 0;
     return framed(iov, count, conf, false) ? GSS_S_COMPLETE : GSS_S_FAILURE;
@@ -478,10 +462,7 @@ OM_uint32 gss_unwrap_iov(OM_uint32 *minor, gss_ctx_id_t ctx, int *state, gss_qop
 }
 
 /* ---- the mechanism itself ---- */
-OM_uint32 gss_indicate_mechs(OM_uint32 *minor, gss_OID_set *set) {
-    OM_uint32 major = gss_create_empty_oid_set(minor, set);
-    return major == GSS_S_COMPLETE ? gss_add_oid_set_member(minor, &scram_oid, set) : major;
-}
+OM_uint32 gss_indicate_mechs(OM_uint32 *minor, gss_OID_set *set) { return set_of(minor, set, (gss_const_OID[]){&scram_oid}, 1); }
 static const struct { uint32_t status; const char *text; } texts[] = {
     {VM_NO_MEMORY, "no memory was to be had"}, {VM_EMPTY, "there is no context"}, {VM_NOT_DUE, "the context isn't where this call may come"},
     {VM_NO_VERIFIERS, "the acceptor has no verifiers"}, {VM_NOT_TEXT, "the user or the password is no UTF-8"},
@@ -495,10 +476,9 @@ static const struct { uint32_t status; const char *text; } texts[] = {
     {VM_TOKEN_FILLER, "the token has a wrong filler"}, {VM_TOKEN_CHECKSUM, "the token's checksum is another"},
     {VM_TOKEN_EXTRA, "the token's extra count is wrong"}, {VM_TOKEN_HEADER, "the token's inner header is another"},
 };
-OM_uint32 gss_display_status(OM_uint32 *minor, OM_uint32 value, int type, gss_OID mech, OM_uint32 *context, gss_buffer_t out) {
-    (void)mech;
+OM_uint32 gss_display_status(OM_uint32 *minor, OM_uint32 value, int type, UNUSED gss_OID mech, OM_uint32 *context, gss_buffer_t out) {
     char text[128];
-    const char *said = "no text";
+    const char *said = value == NO_RANDOM ? "no random octets were to be had" : "no text";
     *context = 0;
     if (type != GSS_C_MECH_CODE) return GSS_S_BAD_STATUS;
     for (size_t i = 0; i < sizeof texts / sizeof *texts; i++)
@@ -506,19 +486,15 @@ OM_uint32 gss_display_status(OM_uint32 *minor, OM_uint32 value, int type, gss_OI
     int len = snprintf(text, sizeof text, "SCRAM-SHA-1 %u: %s", (unsigned)value, said);
     return buffer(minor, out, text, (size_t)len);
 }
-OM_uint32 gss_inquire_attrs_for_mech(OM_uint32 *minor, gss_const_OID mech, gss_OID_set *attrs, gss_OID_set *known) {
-    (void)mech;
+OM_uint32 gss_inquire_attrs_for_mech(OM_uint32 *minor, UNUSED gss_const_OID mech, gss_OID_set *attrs, gss_OID_set *known) {
     gss_const_OID own[] = {GSS_C_MA_MECH_CONCRETE, GSS_C_MA_AUTH_INIT, GSS_C_MA_AUTH_TARG, GSS_C_MA_INTEG_PROT, GSS_C_MA_CONF_PROT, GSS_C_MA_MIC, GSS_C_MA_WRAP};
-    OM_uint32 major = GSS_S_COMPLETE;
-    if (attrs) major = gss_create_empty_oid_set(minor, attrs);
-    for (size_t i = 0; attrs && i < sizeof own / sizeof *own && major == GSS_S_COMPLETE; i++) major = gss_add_oid_set_member(minor, (gss_OID)own[i], attrs);
+    *minor = 0;
     if (known) *known = GSS_C_NO_OID_SET;
-    return major;
+    return attrs ? set_of(minor, attrs, own, sizeof own / sizeof *own) : GSS_S_COMPLETE;
 }
-OM_uint32 gss_inquire_saslname_for_mech(OM_uint32 *minor, const gss_OID mech, gss_buffer_t sasl, gss_buffer_t name, gss_buffer_t description) {
-    (void)mech;
-    if (sasl && buffer(minor, sasl, "SCRAM-SHA-1", 11)) return GSS_S_FAILURE;
-    if (name && buffer(minor, name, "scram-sha-1", 11)) return GSS_S_FAILURE;
-    if (description && buffer(minor, description, "SCRAM-SHA-1 (RFC 5802)", 22)) return GSS_S_FAILURE;
-    return GSS_S_COMPLETE;
+OM_uint32 gss_inquire_saslname_for_mech(OM_uint32 *minor, UNUSED const gss_OID mech, gss_buffer_t sasl, gss_buffer_t name, gss_buffer_t description) {
+    *minor = 0;
+    bool fails = (sasl && buffer(minor, sasl, "SCRAM-SHA-1", 11)) || (name && buffer(minor, name, "scram-sha-1", 11))
+        || (description && buffer(minor, description, "SCRAM-SHA-1 (RFC 5802)", 22));
+    return fails ? GSS_S_FAILURE : GSS_S_COMPLETE;
 }
