@@ -2,8 +2,9 @@
  *
  *   outside_client PORT SERVER SERVICE CALLS [CONTEXTS [NULLS]]
  *
- * SERVER is a principal, as rpc/localhost@REALM.TEST; SERVICE is integrity or privacy. Each context makes CALLS calls of each procedure
- * from ECHO to COUNT, whose results are compared with what they are to be, and NULLS calls of NULL, and is destroyed. The environment's
+ * SERVER is a principal, as rpc/localhost@REALM.TEST; SERVICE is none, integrity or privacy. Each context makes CALLS calls of each procedure
+ * from ECHO to COUNT, whose results are compared with what they are to be, and NULLS calls of NULL, and is destroyed. By none, which the
+ * server takes of NULL alone, there are only these. The environment's
  * POSTS is how many posts there were before; with BESIDE others post meanwhile, so that only the order of numbers is compared. The status
  * is 0 where all were right. */
 #include <gssapi/gssapi.h>
@@ -140,17 +141,24 @@ static int context(int port, gss_name_t server, int service, int calls, int null
         clnt_pcreateerror("no context");
         return 0;
     }
-    int right = all_calls(client, calls, first, posts) && nulls(client, null_calls, spent);
+    int right = (service == RPCSEC_GSS_SVC_NONE || all_calls(client, calls, first, posts)) && nulls(client, null_calls, spent);
     auth_destroy(client->cl_auth);
     clnt_destroy(client);
     return right;
+}
+
+static int service_of(const char *word)
+{
+    if (strcmp(word, "none") == 0)
+        return RPCSEC_GSS_SVC_NONE;
+    return strcmp(word, "privacy") == 0 ? RPCSEC_GSS_SVC_PRIVACY : RPCSEC_GSS_SVC_INTEGRITY;
 }
 
 int main(int argc, char **argv)
 {
     if (argc < 5)
         return 2;
-    int service = strcmp(argv[3], "privacy") == 0 ? RPCSEC_GSS_SVC_PRIVACY : RPCSEC_GSS_SVC_INTEGRITY;
+    int service = service_of(argv[3]);
     int calls = atoi(argv[4]), contexts = argc > 5 ? atoi(argv[5]) : 1, null_calls = argc > 6 ? atoi(argv[6]) : 0;
     gss_name_t server = name_of(argv[2]);
     u_int posts = 0;

@@ -1,4 +1,5 @@
 /* A server of the program over a system's own libraries: RPCSEC_GSS by libtirpc, contexts by the SPNEGO of MIT Kerberos.
+ * Compiled with MIT_RPC, RPCSEC_GSS is by libgssrpc, the RPC library of MIT Kerberos.
  *
  *   outside_server PORT SERVER
  *
@@ -8,10 +9,16 @@
 #include <gssapi/gssapi.h>
 #include <gssapi/gssapi_ext.h>
 #include <gssapi/gssapi_krb5.h>
+#ifdef MIT_RPC
+#include <gssrpc/rpc.h>
+#define AUTH_OF(transport) (transport)->xp_auth
+#else
 #include <rpc/rpc.h>
 #include <rpc/auth_gss.h>
 #include <rpc/svc_auth_gss.h>
 #include <rpc/svc_mt.h>
+#define AUTH_OF(transport) &SVC_XP_AUTH(transport)
+#endif
 #include <arpa/inet.h>
 #include <dlfcn.h>
 #include <stdio.h>
@@ -25,7 +32,7 @@ enum { PROGRAM = 0x20004753, VERSION = 1, NOTHING = 0, ECHO = 1, WHOAMI = 2, POS
 
 static gss_OID_desc spnego = { 6, "\x2b\x06\x01\x05\x05\x02" };
 
-/* Stands in for the library's function of this name: libtirpc asks for credentials of the default mechanisms, among which SPNEGO isn't. */
+/* Stands in for the library's function of this name: both libraries ask for credentials of the default mechanisms, among which SPNEGO isn't. */
 OM_uint32 gss_acquire_cred(OM_uint32 *minor, gss_name_t name, OM_uint32 seconds, gss_OID_set mechanisms, gss_cred_usage_t usage, gss_cred_id_t *credential, gss_OID_set *got, OM_uint32 *lasts)
 {
     gss_OID_set_desc negotiated = { 1, &spnego };
@@ -84,7 +91,7 @@ static void answer_octets(SVCXPRT *transport, int procedure)
 
 static void answer_name(SVCXPRT *transport)
 {
-    char *name = svcauth_gss_get_principal(&SVC_XP_AUTH(transport));
+    char *name = svcauth_gss_get_principal(AUTH_OF(transport));
     if (name == NULL) {
         svcerr_systemerr(transport);
         return;

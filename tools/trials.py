@@ -10,11 +10,13 @@ import tempfile
 import time
 
 HERE = os.path.dirname(os.path.abspath(__file__))
-PROGRAMS = ("gssrpcd_cli", "gssrpc_cli", "gss_files")
+PROGRAMS = ("gssrpcd_cli", "gssrpc_cli", "gss_files", "gsssasl_cli")
 KEY, OTHER_KEY = "000102030405060708090a0b0c0d0e0f", "ff0102030405060708090a0b0c0d0e0f"
 SERVER, CLIENT = "rpc/localhost@REALM.TEST", "alice@REALM.TEST"
 CONFIG = "[libdefaults]\n default_realm = REALM.TEST\n dns_lookup_kdc = false\n dns_canonicalize_hostname = false\n"
 LIBRARIES = ["-I/usr/include/tirpc", "-ltirpc", "-lgssapi_krb5"]
+# The RPC library of MIT Kerberos in place of libtirpc.
+MIT_LIBRARIES = ["-DMIT_RPC", "-lgssrpc", "-lgssapi_krb5"]
 # The status where the system lacks what a trial needs.
 LACKING = 77
 # Ports below those that the system gives to connections (ip_local_port_range of Linux).
@@ -108,13 +110,13 @@ def make_other_ticket(folder):
     return path
 
 
-def compiled(folder, name, flags=()):
-    """Compiles the program in C of this name over libtirpc and MIT Kerberos; None where the system can't."""
+def compiled(folder, name, flags=(), libraries=LIBRARIES):
+    """Compiles the program in C of this name over an RPC library and MIT Kerberos; None where the system can't."""
     program, compiler = os.path.join(folder, name), shutil.which("cc")
     if compiler is None:
         print("there is no C compiler")
         return None
-    words = [compiler, "-O2", *flags, tool(name + ".c"), "-o", program, *LIBRARIES]
+    words = [compiler, "-O2", *flags, tool(name + ".c"), "-o", program, *libraries]
     done = subprocess.run(words, capture_output=True, text=True)
     if done.returncode != 0:
         print(f"{name} can't be built, for which libtirpc and MIT Kerberos are needed (Debian: gcc, libtirpc-dev, libkrb5-dev)")
@@ -129,10 +131,10 @@ def tell(right):
     return 0 if right else 1
 
 
-def over_outside(name, flags, is_realm, is_right):
+def over_outside(name, flags, is_realm, is_right, libraries=LIBRARIES):
     """Tries something with a program in C that isn't of this project, over files of gss_files or of a realm: the trial's status."""
     with tempfile.TemporaryDirectory() as folder:
-        program = compiled(folder, name, flags)
+        program = compiled(folder, name, flags, libraries)
         if program is None:
             return LACKING
         if not are_built():
