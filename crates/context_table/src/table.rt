@@ -1,15 +1,18 @@
 //! A table of contexts whose slots stay where they are.
 ghost use Rattle.std.specs.Prelude.{◌≡◌, ◌≢◌, ℕ, ◌+◌, ◌<◌, ◌≤◌, ◌↔◌, List, [], ◌∷◌, IfOk, IfSome};
-ghost use Rattle.std.specs.Prelude.{IsSome, IsSomeAnd, IsTrue, is_some, is_none, None, Some};
-ghost use Rattle.std.specs.Prelude.{if◌then◌else◌};
+ghost use Rattle.std.specs.Prelude.{IsSome, IsSomeAnd, IsTrue, is_some, is_none, None, Some, false};
+ghost use Rattle.std.specs.Prelude.{if◌then◌else◌, ◌++◌, length, slice_get};
 ghost use Rattle.seq_window.specs.Marks.{Shows, verdict_of};
-ghost use Rattle.context_table.specs.Slots.{IsOpened};
+ghost use Rattle.context_table.specs.Slots.{IsOpened, is_whole};
 ghost use Rattle.context_table.specs.Places.{slot_at, live_of, KeepsOthers, phase_of, is_complete};
 ghost use Rattle.context_table.specs.Places.{state_of, held_after, with_state, settled_as, WideAt};
 ghost use Rattle.context_table.specs.Places.{HasValue, IsHeld, ShowsAt, width_at, IsFreshAt, Marks};
-ghost use Rattle.context_table.specs.Places.{IsPast};
+ghost use Rattle.context_table.specs.Places.{IsPast, IsWaiting};
+ghost use Rattle.context_table.specs.Queues.{touched};
+ghost use Rattle.use_order.specs.Orders.{without};
 
 use crate::order::{find, first_past, turn};
+use crate::queue::{earlier, first_end, first_waiting, leave, touch_if};
 use crate::slot::{
     Phase, Slot, SlotState, begin_slot, clear_slot, hold_slot, is_complete, mark_slot, phase_in,
     set_state, settle_slot, value_in,
@@ -18,6 +21,7 @@ use sec_base::{Moment, NoMemory};
 use seq_window::{Verdict, Window};
 use std::alloc::Global;
 use std::marker::Model;
+use use_order::UseOrder;
 
 /// A map from the ids of contexts to their slots.
 ///
@@ -29,17 +33,21 @@ pub struct Table<N, S> {
     live: usize,
     order: Vec<u32>,
     slots: Vec<Slot<N, S>>,
+    opening: UseOrder,
+    used: UseOrder,
+    soonest: Moment,
 }
 
 impl<N, S> Model for Table<N, S> {
     ghost use Rattle.context_table.specs.Places.{Places};
-    ghost use Rattle.context_table.specs.Order.{places_of, IsTable};
+    ghost use Rattle.context_table.specs.Queues.{table_of, IsAging};
 
     ghost Value = { Places N S };
 
-    ghost view = { λ t. places_of t.limit t.width t.live t.order.items t.slots.items };
+    ghost view = { λ t. table_of t.limit t.width t.live t.order.items t.slots.items t.used.cells };
 
-    ghost invariant = { λ t. IsTable t.limit t.width t.live t.order.items t.slots.items };
+    ghost invariant = { λ t. IsAging t.limit t.width t.live t.order.items t.slots.items
+        t.opening t.used t.soonest };
 }
 
 impl<N: Drop, S: Drop> Table<N, S> {
@@ -51,9 +59,12 @@ impl<N: Drop, S: Drop> Table<N, S> {
         ensures limit { IfOk result (λ table. table.limit ≡ limit) }
         ensures width { IfOk result (λ table. table.width ≡ width) }
         ensures empty { IfOk result (λ table. table.slots ≡ []) }
+        ensures unused { IfOk result (λ table. table.used ≡ []) }
     {
         let mut order = Vec::with_capacity(alloc, limit)?;
         let mut slots = Vec::with_capacity(alloc, limit)?;
+        let opening = UseOrder::new(alloc, limit as u32)?;
+        let used = UseOrder::new(alloc, limit as u32)?;
         for cell in 0..limit as u32 {
             let window = Window::new(alloc, width)?;
             order.push_reserved(cell);
@@ -70,6 +81,9 @@ impl<N: Drop, S: Drop> Table<N, S> {
             live: 0,
             order,
             slots,
+            opening,
+            used,
+            soonest: Moment::greatest(),
         })
     }
 
@@ -99,6 +113,7 @@ impl<N: Drop, S: Drop> Table<N, S> {
             (λ slot. IsOpened slot id (SlotState.Negotiating state) ends self.old.width) }
         ensures others { KeepsOthers self.old self.new id }
         ensures live { live_of self.new ≡ live_of self.old + 1 }
+        ensures used { self.new.used ≡ self.old.used }
     {
         self.begin(id, SlotState::Negotiating(state), ends);
     }
@@ -111,20 +126,25 @@ impl<N: Drop, S: Drop> Table<N, S> {
             (λ slot. IsOpened slot id SlotState.Held ends self.old.width) }
         ensures others { KeepsOthers self.old self.new id }
         ensures live { live_of self.new ≡ live_of self.old + 1 }
+        ensures used { self.new.used ≡ self.old.used }
     {
         self.begin(id, SlotState::Held, ends);
     }
 
     fn begin(&mut self, id: u64, state: SlotState<N, S>, ends: Moment)
         requires room { live_of self.old < self.old.limit }
+        requires unsettled { is_whole state ≡ false }
         requires above { (other : ℕ) → IsSome (slot_at self.old other) → other < id }
         ensures slot { IsSomeAnd (slot_at self.new id)
             (λ slot. IsOpened slot id state ends self.old.width) }
         ensures others { KeepsOthers self.old self.new id }
         ensures live { live_of self.new ≡ live_of self.old + 1 }
+        ensures used { self.new.used ≡ self.old.used }
     {
         let cell = self.order[self.live] as usize;
         begin_slot(&mut self.slots[cell], id, state, ends);
+        self.opening.push(cell as u32);
+        self.soonest = earlier(self.soonest, ends);
         self.live += 1;
     }
 
@@ -134,6 +154,7 @@ impl<N: Drop, S: Drop> Table<N, S> {
         ensures slot { slot_at self.new id ≡ held_after (slot_at self.old id) }
         ensures others { KeepsOthers self.old self.new id }
         ensures live { live_of self.new ≡ live_of self.old }
+        ensures used { self.new.used ≡ self.old.used }
     {
         match find(self.order.as_slice(), self.slots.as_slice(), self.live, id) {
             None => None,
@@ -151,6 +172,7 @@ impl<N: Drop, S: Drop> Table<N, S> {
             ≡ with_state (slot_at self.old id) (SlotState.Negotiating state) }
         ensures others { KeepsOthers self.old self.new id }
         ensures live { live_of self.new ≡ live_of self.old }
+        ensures used { self.new.used ≡ self.old.used }
     {
         match find(self.order.as_slice(), self.slots.as_slice(), self.live, id) {
             None => unreachable!(),
@@ -168,12 +190,16 @@ impl<N: Drop, S: Drop> Table<N, S> {
             ≡ settled_as (slot_at self.old id) (SlotState.Complete value) ends }
         ensures others { KeepsOthers self.old self.new id }
         ensures live { live_of self.new ≡ live_of self.old }
+        ensures used { self.new.used ≡ self.old.used ++ id ∷ [] }
     {
         match find(self.order.as_slice(), self.slots.as_slice(), self.live, id) {
             None => unreachable!(),
             Some(place) => {
                 let cell = self.order[place] as usize;
                 settle_slot(&mut self.slots[cell], SlotState::Complete(value), ends);
+                self.opening.remove(cell as u32);
+                self.used.push(cell as u32);
+                self.soonest = earlier(self.soonest, ends);
             }
         }
     }
@@ -222,11 +248,14 @@ impl<N: Drop, S: Drop> Table<N, S> {
         ensures slot { Marks (slot_at self.old id) (slot_at self.new id) n }
         ensures others { KeepsOthers self.old self.new id }
         ensures live { live_of self.new ≡ live_of self.old }
+        ensures used { self.new.used ≡ touched id self.old.used }
     {
         match find(self.order.as_slice(), self.slots.as_slice(), self.live, id) {
             None => unreachable!(),
             Some(place) => {
                 let cell = self.order[place] as usize;
+                let whole = is_complete(&self.slots[cell]);
+                touch_if(&mut self.used, whole, cell as u32);
                 mark_slot(&mut self.slots[cell], n);
             }
         }
@@ -239,11 +268,14 @@ impl<N: Drop, S: Drop> Table<N, S> {
         ensures gone { slot_at self.new id ≡ None }
         ensures others { KeepsOthers self.old self.new id }
         ensures live { live_of self.new + (if result then 1 else 0) ≡ live_of self.old }
+        ensures used { self.new.used ≡ without id self.old.used }
     {
         match find(self.order.as_slice(), self.slots.as_slice(), self.live, id) {
             None => false,
             Some(place) => {
                 let cell = self.order[place] as usize;
+                let whole = is_complete(&self.slots[cell]);
+                leave(&mut self.opening, &mut self.used, whole, cell as u32);
                 clear_slot(&mut self.slots[cell]);
                 turn(&mut self.order, place, self.live);
                 self.live -= 1;
@@ -252,10 +284,47 @@ impl<N: Drop, S: Drop> Table<N, S> {
         }
     }
 
+    /// How many contexts are complete.
+    pub fn whole(&self) -> usize
+        ensures { result ≡ length self.now.used }
+    {
+        self.used.len()
+    }
+
+    /// The complete context that was used longest ago, None where none is complete.
+    pub fn oldest(&self) -> Option<u64>
+        ensures { result ≡ slice_get self.now.used 0 }
+    {
+        match self.used.first() {
+            None => None,
+            Some(cell) => Some(self.slots[cell as usize].id),
+        }
+    }
+
+    /// The least id whose context negotiates and isn't held, None where there is none.
+    pub fn waiting(&self) -> Option<u64>
+        ensures { IsWaiting self.now result }
+    {
+        first_waiting(&self.opening, self.slots.as_slice())
+    }
+
+    /// Looks for the end that comes first, unless `now` lies before all that was known of: `past`
+    /// reads no context until then.
+    pub fn look_ahead(&mut self, now: Moment)
+        ensures { self.new ≡ self.old }
+    {
+        if self.soonest.total() < now.total() {
+            self.soonest = first_end(self.order.as_slice(), self.slots.as_slice(), self.live);
+        }
+    }
+
     /// The least id whose end lies before `now`, None where there is none.
     pub fn past(&self, now: Moment) -> Option<u64>
         ensures { IsPast self.now now result }
     {
+        if now.total() <= self.soonest.total() {
+            return None;
+        }
         first_past(self.order.as_slice(), self.slots.as_slice(), self.live, now)
     }
 }
