@@ -14,7 +14,7 @@ use Rattle.accept_core.specs.declared.answer.MarkRefusal.{MarkRefusal}
 use Rattle.accept_core.specs.History.{taken_of}
 use Rattle.accept_core.specs.Entering.{mark_refused}
 use Rattle.accept_core.specs.Stepping.{Context, context_of, kept_slot}
-use Rattle.accept_book.specs.Booking.{Change, Same, Ends, Becomes, changed, Changed, without, lapsed_by, Stands, by_mark, by_step, mark_of, settled_of}
+use Rattle.accept_book.specs.Booking.{Change, Same, Ends, Becomes, changed, Changed, without, Stands, by_mark, by_step, mark_of, settled_of}
 
 pub changed_same : (table : Places AcceptEnd Outcome) → Changed table Same table
 changed_same table = λ id. refl
@@ -29,19 +29,16 @@ kept_if : (b : Bool) (slot : Option (Slot AcceptEnd Outcome)) → context_of (if
 kept_if true slot = refl
 kept_if false slot = refl
 
-kept_context : (id : Option ℕ) (place : Bool) (past : Option ℕ) (other : ℕ) (slot : Option (Slot AcceptEnd Outcome))
-    → context_of (kept_slot id place past other slot) ≡ without (lapsed_by id place past) other (context_of slot)
-kept_context None true past other slot = refl
-kept_context None false None other slot = refl
-kept_context None false (Some gone) other slot = kept_if (gone == other) slot
-kept_context (Some id) place past other slot = refl
+kept_context : (gone : Option ℕ) (other : ℕ) (slot : Option (Slot AcceptEnd Outcome)) → context_of (kept_slot gone other slot) ≡ without gone other (context_of slot)
+kept_context None other slot = refl
+kept_context (Some gone) other slot = kept_if (gone == other) slot
 
-pub changed_entered : (old new : Places AcceptEnd Outcome) (id : Option ℕ) (place : Bool) (past : Option ℕ) (own : ℕ) (after : Context AcceptEnd Outcome)
-    → context_of (slot_at new own) ≡ Some after → ((other : ℕ) → own ≢ other → slot_at new other ≡ kept_slot id place past other (slot_at old other))
-    → Changed old (Becomes (lapsed_by id place past) own after) new
-changed_entered old new id place past own after is others = λ other. elim (cases_eq own other) [
+pub changed_entered : (old new : Places AcceptEnd Outcome) (gone : Option ℕ) (own : ℕ) (after : Context AcceptEnd Outcome)
+    → context_of (slot_at new own) ≡ Some after → ((other : ℕ) → own ≢ other → slot_at new other ≡ kept_slot gone other (slot_at old other))
+    → Changed old (Becomes gone own after) new
+changed_entered old new gone own after is others = λ other. elim (cases_eq own other) [
   | inl e ↦ rw (eq-eqb own other e) (ap context_of (ap (slot_at new) (sym e)) ∙ is)
-  | inr ne ↦ rw (ne_eqb own other ne) (ap context_of (others other ne) ∙ kept_context id place past other (slot_at old other))
+  | inr ne ↦ rw (ne_eqb own other ne) (ap context_of (others other ne) ∙ kept_context gone other (slot_at old other))
 ]
 
 -- ---- a later token's change is of its own context alone

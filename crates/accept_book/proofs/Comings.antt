@@ -1,8 +1,8 @@
 -- What a book comes to by a token.
-use Rattle.std.proofs.Common.{◌≡◌, ◌≢◌, ◌∙◌, ℕ, true, false, List, length, Option, None, Some, refl, sym, ap, subst}
-use Rattle.std.specs.Prelude.{◌+◌, ◌<◌, ◌≤◌, Bool, ◌&&◌, nat_lt, nat_le, if◌then◌else◌, max, is_none, Result, Ok, Err}
+use Rattle.std.proofs.Common.{◌≡◌, ◌≢◌, ◌∙◌, ℕ, true, false, List, length, Option, None, Some, refl, sym, ap, subst, inl, inr}
+use Rattle.std.specs.Prelude.{◌+◌, ◌≤◌, Bool, ◌&&◌, nat_lt, nat_le, if◌then◌else◌, max, is_none, Result, Ok, Err}
 use Rattle.sec_base.specs.Answers.{Gives}
-use Rattle.std.proofs.lemmas.Bool.{le-ltb, lt-leb}
+use Rattle.std.proofs.lemmas.Bool.{cases_lt, le-leb, le-ltb, lt-leb}
 use Rattle.gss_base.specs.declared.mark.Mark.{Mark}
 use Rattle.spnego_core.specs.declared.setup.AcceptSetup.{AcceptSetup}
 use Rattle.spnego_core.specs.declared.accept_end.AcceptEnd.{AcceptEnd}
@@ -14,7 +14,7 @@ use Rattle.spnego_core.specs.declared.outcome.Outcome.{Outcome}
 use Rattle.spnego_core.specs.declared.refusal.NegRefusal.{NegRefusal}
 use Rattle.spnego_core.specs.declared.refusal.NegRefusal.TheVariants as short
 use Rattle.spnego_core.specs.Accepting.{Accepted, accept_step, step_of, mark_asked, step_after}
-use Rattle.context_table.specs.Places.{Places, slot_at, live_of, state_of, held_after, KeepsOthers, IsPast}
+use Rattle.context_table.specs.Places.{Places, slot_at, live_of, state_of, held_after, KeepsOthers}
 use Rattle.accept_core.specs.declared.entry.Entry.{Entry}
 use Rattle.accept_core.specs.declared.answer.MarkRefusal.{MarkRefusal}
 use Rattle.accept_core.specs.declared.answer.Next.{Next}
@@ -27,19 +27,20 @@ use Rattle.accept_core.specs.History.{Standing, living}
 use Rattle.accept_core.specs.Answers.{taken_by}
 use Rattle.accept_core.specs.Entering.{id_of, entered, mark_refused_in, after_mark, given, gained}
 use Rattle.accept_core.specs.Replays.{Accepting}
-use Rattle.accept_core.specs.Stepping.{has_place, context_of, context_after, until_of, kept_slot, SameWindows}
-use Rattle.accept_book.specs.Booking.{Becomes, Ends, Changed, change_refused, lapsed_by, after_refusal, Stands, stands_of, raised, Outcomes, spends, leaves, refusal_of_mark, answer_with, next_of, mark_of, settled_of, by_mark, taken, by_step, by_stepped, begun, begun_by, opened_by, negotiated, with_setup}
+use Rattle.accept_core.specs.Stepping.{goes_by, IsNext, IsNoRoom, context_of, context_after, until_of, kept_slot, SameWindows}
+use Rattle.accept_book.specs.Booking.{Becomes, Ends, Changed, change_refused, after_refusal, Stands, stands_of, raised, Outcomes, spends, leaves, refusal_of_mark, answer_with, next_of, mark_of, settled_of, by_mark, taken, by_step, by_stepped, begun, begun_by, opened_by, negotiated, with_setup}
 use Rattle.accept_book.specs.BookAnswers.{IsOutcome, ComesTo, BookStepped}
 use Rattle.accept_book.specs.FirstSteps.{IsFirstStep}
 use Rattle.accept_book.specs.Tokens.{TookToken}
 use Rattle.accept_book.proofs.Changes.{changed_same, changed_entered, changed_held, owns_step}
 use Rattle.accept_book.proofs.Contexts.{same_windows, windows_held}
-use Rattle.accept_book.proofs.Opening.{past_held, opened_step}
+use Rattle.accept_book.proofs.Opening.{opened_step}
+use Rattle.accept_core.proofs.Goings.{next-same}
 
 -- ---- one outcome for another
 
 pub comes_same : (book : Stands) (id : Option ℕ) (f g : Option ℕ → Outcomes) (result : Negotiated) (new : Accepting AcceptEnd Outcome)
-    → ((past : Option ℕ) → IsPast book.table book.greatest past → f past ≡ g past) → ComesTo book id f result new → ComesTo book id g result new
+    → ((past : Option ℕ) → (id ≡ None → IsNext book.table book.greatest past) → f past ≡ g past) → ComesTo book id f result new → ComesTo book id g result new
 comes_same book id f g result new same comes = record {
   outcome = λ past is_past some. subst (λ (o : Outcomes). IsOutcome book o result new) (same past is_past) (comes.outcome past is_past some);
   memory = comes.memory;
@@ -75,7 +76,7 @@ not_short refusal e = cc
 -- and leaves the book as it was
 pub comes_left : (core : Accepting AcceptEnd Outcome) (id : Option ℕ) (comes : Option ℕ → Outcomes) (refusal : BookRefusal) (result : Negotiated)
     → result.answer ≡ answers.Refused refusal → ((h : List Entry) → given result.receipts ≡ gained (length h) h)
-    → ((past : Option ℕ) → IsPast core.table core.cache.greatest past → leaves core.history refusal ≡ comes past) → ComesTo (stands_of core) id comes result core
+    → ((past : Option ℕ) → (id ≡ None → IsNext core.table core.cache.greatest past) → leaves core.history refusal ≡ comes past) → ComesTo (stands_of core) id comes result core
 comes_left core id comes refusal result is receipts same = record {
   outcome = λ past is_past some. subst (λ (o : Outcomes). IsOutcome (stands_of core) o result core) (same past is_past)
       (record { answer = is; history = refl; contexts = changed_same core.table });
@@ -88,15 +89,15 @@ comes_left core id comes refusal result is receipts same = record {
 
 taken_outcome : (core new : Accepting AcceptEnd Outcome) (id past : Option ℕ) (mark : Option Mark) (step : AcceptStep) (own : ℕ) (result : Negotiated) (refusal : Option MarkRefusal)
     → true ≡ is_none refusal → own ≡ id_of id core.history → result.answer ≡ answer_with own step
-    → new.history ≡ after_mark refusal core.history (entered id (has_place core.table) past mark (next_of step) core.cache.greatest core.history)
+    → new.history ≡ after_mark refusal core.history (entered id (goes_by id (next_of step) past core.history core.table) mark (next_of step) core.cache.greatest core.history)
     → context_of (slot_at new.table own) ≡ Some (context_after (until_of id core.cache.greatest core.table) (next_of step))
-    → ((other : ℕ) → own ≢ other → slot_at new.table other ≡ kept_slot id (has_place core.table) past other (slot_at core.table other))
+    → ((other : ℕ) → own ≢ other → slot_at new.table other ≡ kept_slot (goes_by id (next_of step) past core.history core.table) other (slot_at core.table other))
     → IsOutcome (stands_of core) (by_mark (stands_of core) id past mark step refusal) result new
 taken_outcome core new id past mark step own result None took is answer history context others = record {
   answer = answer ∙ ap (λ (k : ℕ). answer_with k step) is;
   history = history;
-  contexts = subst (λ (k : ℕ). Changed core.table (Becomes (lapsed_by id (has_place core.table) past) k (context_after (until_of id core.cache.greatest core.table) (next_of step))) new.table) is
-      (changed_entered core.table new.table id (has_place core.table) past own _ context others);
+  contexts = subst (λ (k : ℕ). Changed core.table (Becomes (goes_by id (next_of step) past core.history core.table) k (context_after (until_of id core.cache.greatest core.table) (next_of step))) new.table) is
+      (changed_entered core.table new.table (goes_by id (next_of step) past core.history core.table) own _ context others);
 }
 taken_outcome core new id past mark step own result (Some refusal) took is answer history context others =
     let z : true ≡ false = took in absurd cc
@@ -104,17 +105,18 @@ taken_outcome core new id past mark step own result (Some refusal) took is answe
 -- whose mark isn't refused
 pub comes_taken : (core new : Accepting AcceptEnd Outcome) (id : Option ℕ) (mark : Option Mark) (step : AcceptStep) (next : Next AcceptEnd Outcome) (own : ℕ) (result : Negotiated)
     → true ≡ is_none (mark_refused_in core mark) → own ≡ id_of id core.history → next ≡ next_of step → result.answer ≡ answer_with own step → result.answer ≢ answers.NoMemory
-    → ((past : Option ℕ) → IsPast core.table core.cache.greatest past → new.history
-    ≡ after_mark (mark_refused_in core mark) core.history (entered id (has_place core.table) past mark next core.cache.greatest core.history))
+    → ((past : Option ℕ) → (id ≡ None → IsNext core.table core.cache.greatest past) → new.history
+    ≡ after_mark (mark_refused_in core mark) core.history (entered id (goes_by id next past core.history core.table) mark next core.cache.greatest core.history))
     → context_of (slot_at new.table own) ≡ Some (context_after (until_of id core.cache.greatest core.table) next)
-    → ((past : Option ℕ) → IsPast core.table core.cache.greatest past → (other : ℕ) → own ≢ other
-    → slot_at new.table other ≡ kept_slot id (has_place core.table) past other (slot_at core.table other))
+    → ((past : Option ℕ) → (id ≡ None → IsNext core.table core.cache.greatest past) → (other : ℕ) → own ≢ other
+    → slot_at new.table other ≡ kept_slot (goes_by id next past core.history core.table) other (slot_at core.table other))
     → given result.receipts ≡ gained (length core.history) new.history → SameWindows core.table new.table
     → ComesTo (stands_of core) id (λ past. taken (stands_of core) id past mark step) result new
 comes_taken core new id mark step next own result took is next_is answer some history context others receipts windows = record {
   outcome = λ past is_past some. taken_outcome core new id past mark step own result (mark_refused_in core mark) took is answer
-      (history past is_past ∙ ap (λ (n : Next AcceptEnd Outcome). after_mark (mark_refused_in core mark) core.history (entered id (has_place core.table) past mark n core.cache.greatest core.history)) next_is)
-      (context ∙ ap (λ (n : Next AcceptEnd Outcome). Some (context_after (until_of id core.cache.greatest core.table) n)) next_is) (others past is_past);
+      (history past is_past ∙ ap (λ (n : Next AcceptEnd Outcome). after_mark (mark_refused_in core mark) core.history (entered id (goes_by id n past core.history core.table) mark n core.cache.greatest core.history)) next_is)
+      (context ∙ ap (λ (n : Next AcceptEnd Outcome). Some (context_after (until_of id core.cache.greatest core.table) n)) next_is)
+      (λ other ne. others past is_past other ne ∙ ap (λ (n : Next AcceptEnd Outcome). kept_slot (goes_by id n past core.history core.table) other (slot_at core.table other)) next_is);
   memory = λ none. absurd (some none);
   receipts = receipts;
   windows = windows;
@@ -142,6 +144,9 @@ comes_marked book id pause step next mark result new step_is mark_is next_is =
 
 -- ---- a context whose state was taken
 
+later : (id : ℕ) (table : Places AcceptEnd Outcome) (now : ℕ) (past : Option ℕ) → ◌≡◌ {A = Option ℕ} (Some id) None → IsNext table now past
+later id table now past e = absurd cc
+
 pub comes_held : (core held new : Accepting AcceptEnd Outcome) (setup : AcceptSetup) (id : ℕ) (token : List ℕ) (now : ℕ) (draws : List ℕ) (stands : Standing) (end : AcceptEnd) (result : Negotiated)
     → length core.history + 4 ≤ core.limit → Ok end ≡ taken_by stands (state_of (slot_at core.table id)) → held.history ≡ core.history
     → held.cache.capacity ≡ core.cache.capacity → held.cache.greatest ≡ core.cache.greatest → slot_at held.table id ≡ held_after (slot_at core.table id)
@@ -150,9 +155,9 @@ pub comes_held : (core held new : Accepting AcceptEnd Outcome) (setup : AcceptSe
     → ComesTo (stands_of core) (Some id) (λ past. opened_by setup (stands_of core) id past token now draws) result new
 comes_held core held new setup id token now draws stands end result room took history capacity greatest slot others comes = record {
   outcome = λ past is_past some.
-      (let o = comes.outcome past (past_held core.table held.table id held.cache.greatest past slot others (subst (λ (g : ℕ). IsPast core.table g past) (sym greatest) is_past)) some in
+      (let o = comes.outcome past (later id held.table held.cache.greatest past) some in
       subst (λ (x : Outcomes). IsOutcome (stands_of core) x result new)
-      (opened_step setup (stands_of held) (stands_of core) id past token now draws stands end room took history capacity greatest slot)
+      (opened_step setup (stands_of held) (stands_of core) id past token now draws stands end room took history capacity others.limit greatest slot)
       (record {
         answer = o.answer;
         history = o.history;
@@ -187,27 +192,37 @@ no_place true = refl
 no_place false = refl
 
 begun_step : (core : Accepting AcceptEnd Outcome) (stepped : Result AcceptStep NegRefusal) (past : Option ℕ) → length core.history + 4 ≤ core.limit
-    → (IsPast core.table core.cache.greatest None → live_of core.table < core.table.limit) → IsPast core.table core.cache.greatest past
+    → (IsNoRoom core.table core.cache.greatest → ⊥) → IsNext core.table core.cache.greatest past
     → by_stepped (stands_of core) None past stepped ≡ begun_by (stands_of core) past stepped
-begun_step core stepped None room place is_past =
-    sym (rw (le-ltb core.limit (length core.history + 4) room, lt-leb core.table.limit (live_of core.table) (place is_past)) refl)
-begun_step core stepped (Some gone) room place is_past =
+begun_step core stepped None room never is_past =
+    elim (cases_lt (live_of core.table) core.table.limit) [
+      | inl free ↦ sym (rw (le-ltb core.limit (length core.history + 4) room, lt-leb core.table.limit (live_of core.table) free) refl)
+      | inr full ↦ absurd (never (record { full = full; next = is_past }))
+    ]
+begun_step core stepped (Some gone) room never is_past =
     sym (rw (le-ltb core.limit (length core.history + 4) room, no_place (nat_le core.table.limit (live_of core.table))) refl)
 
 pub comes_begun : (core new : Accepting AcceptEnd Outcome) (stepped : Result AcceptStep NegRefusal) (result : Negotiated)
-    → length core.history + 4 ≤ core.limit → (IsPast core.table core.cache.greatest None → live_of core.table < core.table.limit)
+    → length core.history + 4 ≤ core.limit → (IsNoRoom core.table core.cache.greatest → ⊥)
     → ComesTo (stands_of core) None (λ past. by_stepped (stands_of core) None past stepped) result new
     → ComesTo (stands_of core) None (λ past. begun_by (stands_of core) past stepped) result new
-comes_begun core new stepped result room place =
+comes_begun core new stepped result room never =
     comes_same (stands_of core) None (λ (past : Option ℕ). by_stepped (stands_of core) None past stepped) (λ (past : Option ℕ). begun_by (stands_of core) past stepped) result new
-    (λ past is_past. begun_step core stepped past room place is_past)
+    (λ past is_past. begun_step core stepped past room never (is_past refl))
+
+-- of a table in which no context gives its place
+pub begun_full : (core : Accepting AcceptEnd Outcome) (stepped : Result AcceptStep NegRefusal) (past : Option ℕ) → length core.history + 4 ≤ core.limit
+    → IsNoRoom core.table core.cache.greatest → IsNext core.table core.cache.greatest past
+    → leaves core.history refusals.TableFull ≡ begun_by (stands_of core) past stepped
+begun_full core stepped past room none is_past =
+    sym (rw (le-ltb core.limit (length core.history + 4) room, le-leb core.table.limit (live_of core.table) none.full, next-same core.table core.cache.greatest past None is_past none.next) refl)
 
 -- for which there is no room
 pub comes_turned : (core : Accepting AcceptEnd Outcome) (comes : Option ℕ → Outcomes) (refusal : BookRefusal) (result : Negotiated)
     → (result.answer ≢ answers.NoMemory → result.answer ≡ answers.Refused refusal) → ((h : List Entry) → given result.receipts ≡ gained (length h) h)
-    → ((past : Option ℕ) → IsPast core.table core.cache.greatest past → leaves core.history refusal ≡ comes past) → ComesTo (stands_of core) None comes result core
+    → ((past : Option ℕ) → IsNext core.table core.cache.greatest past → leaves core.history refusal ≡ comes past) → ComesTo (stands_of core) None comes result core
 comes_turned core comes refusal result is receipts same = record {
-  outcome = λ past is_past some. subst (λ (o : Outcomes). IsOutcome (stands_of core) o result core) (same past is_past)
+  outcome = λ past is_past some. subst (λ (o : Outcomes). IsOutcome (stands_of core) o result core) (same past (is_past refl))
       (record { answer = is some; history = refl; contexts = changed_same core.table });
   memory = λ none. record { answer = none; history = refl; contexts = changed_same core.table };
   receipts = receipts core.history;
@@ -256,17 +271,18 @@ comes_made book setup stepped token now draws result new gives wants comes = rec
 
 -- a first token that was stepped beforehand: the moment is taken note of, and then what was stepped is taken
 pub comes_first : (old noted new : Accepting AcceptEnd Outcome) (setup : AcceptSetup) (stepped : Result AcceptStep NegRefusal) (token : List ℕ) (now : ℕ) (draws : List ℕ) (result : Negotiated)
-    → noted.history ≡ old.history → noted.limit ≡ old.limit → noted.width ≡ old.width → noted.table ≡ old.table → noted.cache.capacity ≡ old.cache.capacity
+    → noted.history ≡ old.history → noted.limit ≡ old.limit → noted.width ≡ old.width → noted.keeping ≡ old.keeping → noted.table ≡ old.table → noted.cache.capacity ≡ old.cache.capacity
     → noted.cache.greatest ≡ max old.cache.greatest now
     → TookToken noted new None (λ past. begun_by (stands_of noted) past stepped) result → (stepped ≡ Err short.NoMemory → result.answer ≡ answers.NoMemory)
     → live_of new.table ≡ living new.history → IsFirstStep setup token now draws stepped → BookStepped (with_setup setup old) (with_setup setup new) None token now draws result
-comes_first old noted new setup stepped token now draws result history limit width table capacity greatest took wants lives made = record {
+comes_first old noted new setup stepped token now draws result history limit width keeping table capacity greatest took wants lives made = record {
   comes = comes_raised old noted new setup None token now draws result history limit table capacity greatest
       (comes_made (stands_of noted) setup stepped token now draws result new made.exact wants took.comes);
   notes = record {
     setup = refl;
     limit = took.keeps.limit ∙ limit;
     width = took.keeps.width ∙ width;
+    keeping = took.keeps.keeping ∙ keeping;
     contexts = took.keeps.contexts ∙ ap (λ (t : Places AcceptEnd Outcome). t.limit) table;
     capacity = took.keeps.capacity ∙ capacity;
     greatest = took.keeps.greatest ∙ greatest;

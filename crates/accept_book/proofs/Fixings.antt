@@ -1,5 +1,5 @@
 -- What a step of a book fixes, and where that stands afterwards.
-use Rattle.std.proofs.Common.{◌≡◌, ◌⊎◌, ◌∙◌, ℕ, ◌≤◌, Bool, true, false, not, ◌==◌, nat_lt, if◌then◌else◌, List, [], ◌∷◌, length, map, Option, None, Some, refl, sym, ap, subst, inl, inr, arith}
+use Rattle.std.proofs.Common.{◌≡◌, ◌⊎◌, ◌∙◌, ℕ, ◌≤◌, Bool, true, false, not, ◌==◌, if◌then◌else◌, List, [], ◌∷◌, length, map, Option, None, Some, refl, sym, ap, subst, inl, inr, arith}
 use Rattle.std.specs.Prelude.{Result, Ok, Err, is_none}
 use Rattle.std.proofs.lemmas.Bool.{cases_Bool, eq-eqb, ne_eqb}
 use Rattle.gss_base.specs.declared.mark.Mark.{Mark}
@@ -41,7 +41,7 @@ use Rattle.spnego_core.specs.Choice.{is_first_named, best}
 use Rattle.spnego_core.specs.AcceptMech.{request_taken, text_taken, proof_taken, accept_taken}
 use Rattle.spnego_core.specs.Accepting.{Fixed, Accepted, finished, gone_on, run, begun as mech_begun, token_for, started as mech_started, chose, begins, proceeds, settled, closes, accept_step}
 use Rattle.spnego_core.specs.AcceptLaws.{AcceptLaws, ByKerberos, ByScram, AfterStep, AfterAnswered, Stands as StandsBy, settled_of as owed_by}
-use Rattle.context_table.specs.Places.{Places, slot_at, live_of}
+use Rattle.context_table.specs.Places.{Places, slot_at}
 use Rattle.accept_core.specs.declared.entry.Entry.{Entry}
 use Rattle.accept_core.specs.declared.entry.Entry.TheVariants.{Auth, Settled}
 use Rattle.accept_core.specs.declared.answer.Next.{Next}
@@ -52,8 +52,8 @@ use Rattle.accept_book.specs.declared.book_answer.NegAnswer.TheVariants as answe
 use Rattle.accept_core.specs.History.{taken_of, entry_at, standing, Unknown}
 use Rattle.accept_core.specs.Legal.{Legal}
 use Rattle.accept_core.specs.Entering.{id_of, lapsed, started, noted, finished as history_finished, entered}
-use Rattle.accept_core.specs.Stepping.{Context, context_of, context_after, until_of}
-use Rattle.accept_book.specs.Booking.{Stands, Change, Becomes, changed, without, Changed, change_refused, Outcomes, lapsed_by, mark_of, next_of, settled_of, answer_with, names_of, negotiated}
+use Rattle.accept_core.specs.Stepping.{goes_by, Context, context_of, context_after, until_of}
+use Rattle.accept_book.specs.Booking.{Stands, Change, Becomes, changed, without, Changed, change_refused, Outcomes, mark_of, next_of, settled_of, answer_with, names_of, negotiated}
 use Rattle.accept_book.specs.Found.{step_taken, found_of, fixes_of, stepped_from}
 use Rattle.accept_book.specs.BookLaws.{GoodContext, AllGood, Lasting, fixed_end, fixed_in, fixed_after, Takes, AddsAuth, AddsBy, FixesContext, FixesNone, Completes}
 use Rattle.accept_core.proofs.Appended.{silent}
@@ -179,12 +179,12 @@ takes setup book id past token now draws accepted e =
       answer = ap (λ (o : Outcomes). o.answer) t.is;
       fixed = λ before.
           ap (λ (o : Outcomes). fixed_in (changed o.change (id_of id book.history) before)) t.is
-          ∙ ap fixed_in (own_is (lapsed_by id (nat_lt (live_of book.table) book.table.limit) past) (id_of id book.history) (context_after (until_of id book.greatest book.table) (next_of (settled_of accepted.step))) before)
+          ∙ ap fixed_in (own_is (goes_by id (next_of (settled_of accepted.step)) past book.history book.table) (id_of id book.history) (context_after (until_of id book.greatest book.table) (next_of (settled_of accepted.step))) before)
           ∙ lasting_next (until_of id book.greatest book.table) accepted.step
           ∙ (leads setup (stepped_from book id) token now draws accepted t.step).lasting;
       others = λ other before ne.
           subst (λ (o : Outcomes). (changed o.change other before ≡ before) ⊎ (changed o.change other before ≡ None)) (sym t.is)
-          (others_are (lapsed_by id (nat_lt (live_of book.table) book.table.limit) past) (id_of id book.history) other (context_after (until_of id book.greatest book.table) (next_of (settled_of accepted.step))) before ne);
+          (others_are (goes_by id (next_of (settled_of accepted.step)) past book.history book.table) (id_of id book.history) other (context_after (until_of id book.greatest book.table) (next_of (settled_of accepted.step))) before ne);
     }
 
 -- ---- the entries of a step
@@ -200,21 +200,21 @@ noted_at true (nexts.Going state) id now entry h = at_head entry h
 noted_at false (nexts.Going state) id now entry h = below entry _ h
 noted_at first (nexts.Settled mech names value lasts) id now entry h = below entry _ h
 
-started_longer : (id : Option ℕ) (place : Bool) (past : Option ℕ) (now : ℕ) (h : List Entry) → length h ≤ length (started id place past now h)
-started_longer None true past now h = omega arith
-started_longer None false None now h = omega arith
-started_longer None false (Some gone) now h = omega arith
-started_longer (Some id) place past now h = omega arith
+started_longer : (id gone : Option ℕ) (now : ℕ) (h : List Entry) → length h ≤ length (started id gone now h)
+started_longer None None now h = omega arith
+started_longer None (Some gone) now h = omega arith
+started_longer (Some id) None now h = omega arith
+started_longer (Some id) (Some gone) now h = omega arith
 
-unmarked_same : (id : Option ℕ) (place : Bool) (past : Option ℕ) (next : Next AcceptEnd Outcome) (now : ℕ) (h : List Entry) → taken_of (entered id place past None next now h) ≡ taken_of h
-unmarked_same None true past (nexts.Going state) now h = refl
-unmarked_same None true past (nexts.Settled mech names value lasts) now h = refl
-unmarked_same None false None (nexts.Going state) now h = refl
-unmarked_same None false None (nexts.Settled mech names value lasts) now h = refl
-unmarked_same None false (Some gone) (nexts.Going state) now h = refl
-unmarked_same None false (Some gone) (nexts.Settled mech names value lasts) now h = refl
-unmarked_same (Some id) place past (nexts.Going state) now h = refl
-unmarked_same (Some id) place past (nexts.Settled mech names value lasts) now h = refl
+unmarked_same : (id gone : Option ℕ) (next : Next AcceptEnd Outcome) (now : ℕ) (h : List Entry) → taken_of (entered id gone None next now h) ≡ taken_of h
+unmarked_same None None (nexts.Going state) now h = refl
+unmarked_same None None (nexts.Settled mech names value lasts) now h = refl
+unmarked_same None (Some gone) (nexts.Going state) now h = refl
+unmarked_same None (Some gone) (nexts.Settled mech names value lasts) now h = refl
+unmarked_same (Some id) None (nexts.Going state) now h = refl
+unmarked_same (Some id) None (nexts.Settled mech names value lasts) now h = refl
+unmarked_same (Some id) (Some gone) (nexts.Going state) now h = refl
+unmarked_same (Some id) (Some gone) (nexts.Settled mech names value lasts) now h = refl
 
 -- ---- what is fixed
 
@@ -230,17 +230,17 @@ unmarked_gone (afters.Done outcome lasts token) = refl
 -- the entries of a step that was taken
 entries_are : (setup : AcceptSetup) (book : Stands) (id past : Option ℕ) (token : List ℕ) (now : ℕ) (draws : List ℕ) (accepted : Accepted) (mark : Option Mark)
     → TakenIs setup book id past token now draws (negotiated setup book id past token now draws) accepted → mark_of accepted.step ≡ mark
-    → (negotiated setup book id past token now draws).history ≡ entered id (nat_lt (live_of book.table) book.table.limit) past mark (next_of (settled_of accepted.step)) book.greatest book.history
+    → (negotiated setup book id past token now draws).history ≡ entered id (goes_by id (next_of (settled_of accepted.step)) past book.history book.table) mark (next_of (settled_of accepted.step)) book.greatest book.history
 entries_are setup book id past token now draws accepted mark t e =
     ap (λ (o : Outcomes). o.history) t.is
-    ∙ ap (λ (m : Option Mark). entered id (nat_lt (live_of book.table) book.table.limit) past m (next_of (settled_of accepted.step)) book.greatest book.history) e
+    ∙ ap (λ (m : Option Mark). entered id (goes_by id (next_of (settled_of accepted.step)) past book.history book.table) m (next_of (settled_of accepted.step)) book.greatest book.history) e
 
-adds_auth : (id : Option ℕ) (place : Bool) (past : Option ℕ) (mark : Mark) (next : Next AcceptEnd Outcome) (now : ℕ) (h new : List Entry)
-    → new ≡ entered id place past (Some mark) next now h → AddsAuth h new (id_of id h) mark now
-adds_auth id place past mark next now h new e = record {
-  place = length (started id place past now h);
-  entry = ap (entry_at (length (started id place past now h))) e ∙ noted_at (is_none id) next (id_of id h) now (Auth (id_of id h) mark now) (started id place past now h);
-  added = started_longer id place past now h;
+adds_auth : (id gone : Option ℕ) (mark : Mark) (next : Next AcceptEnd Outcome) (now : ℕ) (h new : List Entry)
+    → new ≡ entered id gone (Some mark) next now h → AddsAuth h new (id_of id h) mark now
+adds_auth id gone mark next now h new e = record {
+  place = length (started id gone now h);
+  entry = ap (entry_at (length (started id gone now h))) e ∙ noted_at (is_none id) next (id_of id h) now (Auth (id_of id h) mark now) (started id gone now h);
+  added = started_longer id gone now h;
 }
 
 adds : (setup : AcceptSetup) (book : Stands) (id past : Option ℕ) (token : List ℕ) (now : ℕ) (draws : List ℕ) (accepted : Accepted) (fixed : Fixed)
@@ -249,12 +249,12 @@ adds : (setup : AcceptSetup) (book : Stands) (id past : Option ℕ) (token : Lis
     → AddsBy setup (stepped_from book id) now draws accepted fixed book.history (negotiated setup book id past token now draws).history (id_of id book.history) book.greatest by
 adds setup book id past token now draws accepted fixed t (inl by) =
     let mark : mark_of accepted.step ≡ Some (judged_mark by.request) = ap mark_of by.asks ∙ ap Some by.mark_is in
-    adds_auth id (nat_lt (live_of book.table) book.table.limit) past (judged_mark by.request) (next_of (settled_of accepted.step)) book.greatest book.history _
+    adds_auth id (goes_by id (next_of (settled_of accepted.step)) past book.history book.table) (judged_mark by.request) (next_of (settled_of accepted.step)) book.greatest book.history _
     (entries_are setup book id past token now draws accepted (Some (judged_mark by.request)) t mark)
 adds setup book id past token now draws accepted fixed t (inr by) =
     let mark : mark_of accepted.step ≡ None = ap mark_of by.goes_on ∙ unmarked_gone by.after in
     ap taken_of (entries_are setup book id past token now draws accepted None t mark)
-    ∙ unmarked_same id (nat_lt (live_of book.table) book.table.limit) past (next_of (settled_of accepted.step)) book.greatest book.history
+    ∙ unmarked_same id (goes_by id (next_of (settled_of accepted.step)) past book.history book.table) (next_of (settled_of accepted.step)) book.greatest book.history
 
 pub fixes : (laws : AcceptLaws) (setup : AcceptSetup) (book : Stands) (id past : Option ℕ) (token : List ℕ) (now : ℕ) (draws : List ℕ) (fixed : Fixed)
     → AllGood setup book.table → fixes_of (step_taken setup book id past token now draws) ≡ Some fixed → FixesContext setup book id past token now draws fixed
@@ -284,8 +284,8 @@ fixes_none laws setup book id past token now draws accepted good is e =
       makes = law.unfixed e;
       marks =
           ap (λ (o : Outcomes). taken_of o.history) t.is
-          ∙ ap (λ (m : Option Mark). taken_of (entered id (nat_lt (live_of book.table) book.table.limit) past m (next_of (settled_of accepted.step)) book.greatest book.history)) mark
-          ∙ unmarked_same id (nat_lt (live_of book.table) book.table.limit) past (next_of (settled_of accepted.step)) book.greatest book.history;
+          ∙ ap (λ (m : Option Mark). taken_of (entered id (goes_by id (next_of (settled_of accepted.step)) past book.history book.table) m (next_of (settled_of accepted.step)) book.greatest book.history)) mark
+          ∙ unmarked_same id (goes_by id (next_of (settled_of accepted.step)) past book.history book.table) (next_of (settled_of accepted.step)) book.greatest book.history;
     }
 
 -- ---- a context that a token completes
@@ -346,15 +346,15 @@ completes laws setup book id past token now draws lease last good e = go (step_t
           stands = subst (λ (o : Option Accepted). StandsBy setup (stepped_from book id) (found_of o) lease.outcome) (sym is) (stands_step setup (stepped_from book id) accepted.found accepted.step (id_of id book.history) lease last law.after answer);
           id_is = d.id_is;
           fixed = ap (λ (o : Option Accepted). fixed_after (fixes_of o) (fixed_end (stepped_from book id))) is ∙ sym (leads setup (stepped_from book id) token now draws accepted t.step).lasting ∙ d.lasting;
-          earlier = noted (mark_of accepted.step) (id_of id book.history) book.greatest (started id (nat_lt (live_of book.table) book.table.limit) past book.greatest book.history);
+          earlier = noted (mark_of accepted.step) (id_of id book.history) book.greatest (started id (goes_by id (nexts.Settled lease.outcome.mech (names_of lease.outcome) lease.outcome lease.ends) past book.history book.table) book.greatest book.history);
           entry =
               ap (λ (o : Outcomes). o.history) t.is
-              ∙ ap (λ (n : Next AcceptEnd Outcome). entered id (nat_lt (live_of book.table) book.table.limit) past (mark_of accepted.step) n book.greatest book.history) d.next
-              ∙ ap (λ (k : ℕ). Settled k lease.outcome.mech (names_of lease.outcome) lease.ends book.greatest ∷ noted (mark_of accepted.step) (id_of id book.history) book.greatest (started id (nat_lt (live_of book.table) book.table.limit) past book.greatest book.history)) (sym d.id_is);
+              ∙ ap (λ (n : Next AcceptEnd Outcome). entered id (goes_by id n past book.history book.table) (mark_of accepted.step) n book.greatest book.history) d.next
+              ∙ ap (λ (k : ℕ). Settled k lease.outcome.mech (names_of lease.outcome) lease.ends book.greatest ∷ noted (mark_of accepted.step) (id_of id book.history) book.greatest (started id (goes_by id (nexts.Settled lease.outcome.mech (names_of lease.outcome) lease.outcome lease.ends) past book.history book.table) book.greatest book.history)) (sym d.id_is);
           context = λ before.
               ap (λ (o : Outcomes). changed o.change lease.id before) t.is
-              ∙ ap (λ (k : ℕ). changed (Becomes (lapsed_by id (nat_lt (live_of book.table) book.table.limit) past) (id_of id book.history) (context_after (until_of id book.greatest book.table) (next_of (settled_of accepted.step)))) k before) d.id_is
-              ∙ own_is (lapsed_by id (nat_lt (live_of book.table) book.table.limit) past) (id_of id book.history) (context_after (until_of id book.greatest book.table) (next_of (settled_of accepted.step))) before
+              ∙ ap (λ (k : ℕ). changed (Becomes (goes_by id (next_of (settled_of accepted.step)) past book.history book.table) (id_of id book.history) (context_after (until_of id book.greatest book.table) (next_of (settled_of accepted.step)))) k before) d.id_is
+              ∙ own_is (goes_by id (next_of (settled_of accepted.step)) past book.history book.table) (id_of id book.history) (context_after (until_of id book.greatest book.table) (next_of (settled_of accepted.step))) before
               ∙ ap (λ (n : Next AcceptEnd Outcome). Some (context_after (until_of id book.greatest book.table) n)) d.next;
         }
 
@@ -426,7 +426,7 @@ good_steps laws setup book id past token now draws new good is = go (step_taken 
         let law = laws.steps setup (stepped_from book id) token now draws accepted (good_from setup book id good) t.step in
         let change = subst (λ (o : Outcomes). Changed book.table o.change new) t.is is in
         λ other. subst (GoodContext setup) (sym (change other))
-        (good_becomes setup (lapsed_by id (nat_lt (live_of book.table) book.table.limit) past) (id_of id book.history) other (context_after (until_of id book.greatest book.table) (next_of (settled_of accepted.step))) (context_of (slot_at book.table other))
+        (good_becomes setup (goes_by id (next_of (settled_of accepted.step)) past book.history book.table) (id_of id book.history) other (context_after (until_of id book.greatest book.table) (next_of (settled_of accepted.step))) (context_of (slot_at book.table other))
         (good_next setup (stepped_from book id) accepted.found (until_of id book.greatest book.table) accepted.step law.after) (good other))
 
 -- ---- ids

@@ -1,13 +1,13 @@
 -- What a book's calls answer, and what each leaves of the book.
 use Rattle.std.specs.Prelude.{◌≡◌, ◌≢◌, ◌↔◌, ℕ, List, length, Option, None, Result, OnErr, IfOk}
 use Rattle.std.specs.Prelude.{IsOk}
-use Rattle.context_table.specs.Places.{IsPast, slot_at, live_of, HasValue, Marks, KeepsOthers}
+use Rattle.context_table.specs.Places.{slot_at, live_of, HasValue, Marks, KeepsOthers}
 use Rattle.accept_core.specs.History.{standing, living}
 use Rattle.accept_core.specs.Answers.{or_refused, after, admitted, receipt_of}
 use Rattle.accept_core.specs.Entering.{given, gained}
 use Rattle.accept_core.specs.Replays.{Accepting, Keeps}
 use Rattle.accept_book.specs.Looking.{IsLooked}
-use Rattle.accept_core.specs.Stepping.{SameWindows}
+use Rattle.accept_core.specs.Stepping.{SameWindows, IsNext}
 use Rattle.accept_book.specs.Booking.{BookOf, Stands, Outcomes, spends, negotiated, raised, Changed}
 use Rattle.accept_book.specs.Booking.{NotesMoment, LeasedBy, lease_refused, FreeFor}
 use Rattle.accept_core.specs.declared.answer.AdmitRefusal.{AdmitRefusal}
@@ -33,12 +33,12 @@ pub record IsOutcome
   pub contexts : Changed book.table outcome.change new.table
 
 -- what a book comes to by a token, from how it stood: unless memory was wanted, to this outcome by
--- the id that is past, where one is. Where memory was wanted, a later token's context ends, and a
--- first token's isn't opened
+-- the next context that gives its place, where one does, which a first token alone asks for. Where
+-- memory was wanted, a later token's context ends, and a first token's isn't opened
 pub record ComesTo
     (book : Stands) (id : Option ℕ) (comes : Option ℕ → Outcomes) (result : Negotiated)
     (new : Accepting AcceptEnd Outcome) : Type 0 where
-  pub outcome : (past : Option ℕ) → IsPast book.table book.greatest past
+  pub outcome : (past : Option ℕ) → (id ≡ None → IsNext book.table book.greatest past)
       → result.answer ≢ NoMemory → IsOutcome book (comes past) result new
   pub memory : result.answer ≡ NoMemory
       → IsOutcome book (spends id book.history NoMemory) result new

@@ -82,7 +82,7 @@ fixed_after (Some fixed) before = Some (record { outcome = fixed.outcome; ends =
 
 -- it is the acceptor's, from the end that the token's context had, and a later token's context
 -- negotiated. The answer is its answer; its context is then fixed as it says, and every other one
--- is as it was, or is the one that lapsed
+-- is as it was, or is the one that went for the step
 pub record Takes (setup : AcceptSetup) (book : Stands) (id past : Option ℕ) (token : List ℕ)
     (now : ℕ) (draws : List ℕ) (accepted : Accepted) : Type 0 where
   pub step : accept_step setup (stepped_from book id) token now draws ≡ Ok accepted

@@ -45,7 +45,7 @@ use Rattle.accept_core.specs.History.{taken_of}
 use Rattle.accept_core.specs.Answers.{refused, Free}
 use Rattle.accept_core.specs.Entering.{id_of, entered, mark_refused}
 use Rattle.accept_core.specs.Replays.{Accepting, Naming}
-use Rattle.accept_core.specs.Stepping.{has_place, Context, context_of, context_after, until_of}
+use Rattle.accept_core.specs.Stepping.{goes_by, Context, context_of, context_after, until_of}
 
 -- the digest by which the log knows an outcome: SHA-1 of both names, each with an octet 00 after
 -- it, the key's octets, and 01 if the key is the acceptor's subkey, else 00
@@ -149,7 +149,7 @@ token_size (answers.Refused refusal) = 0
 token_size answers.NoMemory = 0
 
 -- ---- what a token comes to, by how a book stands once the moment was taken note of, and by the id
--- that is past, where one is
+-- of the next context that gives its place, where one does
 
 -- how a book stands: its history, the limit of its log, its contexts, how many marks it may hold,
 -- and the greatest moment that was seen
@@ -198,7 +198,7 @@ after_refusal None h = h
 after_refusal (Some id) h = Ended id Refused ∷ h
 
 -- what a token changes of the contexts: nothing, one ends, or one becomes what its step makes of
--- it, before which another may lapse
+-- it, before which another may go for it
 pub data Change : Type 0 where
   Same : Change
   Ends : (id : ℕ) → Change
@@ -228,12 +228,6 @@ abbrev pub change_refused : Option ℕ → Change
 change_refused None = Same
 change_refused (Some id) = Ends id
 
--- the context that lapses: only for a first token, and only where the table is at its limit
-abbrev pub lapsed_by : Option ℕ → Bool → Option ℕ → Option ℕ
-lapsed_by None true past = None
-lapsed_by None false past = past
-lapsed_by (Some id) place past = None
-
 -- an answer, the history after it, and what became of the contexts
 pub record Outcomes : Type 0 where
   pub answer : NegAnswer
@@ -260,8 +254,9 @@ abbrev pub by_mark : Stands → Option ℕ → Option ℕ → Option Mark → Ac
 by_mark book id past mark step (Some refusal) = refuses id book.history (refusal_of_mark refusal)
 by_mark book id past mark step None = record {
   answer = answer_with (id_of id book.history) step;
-  history = entered id (has_place book.table) past mark (next_of step) book.greatest book.history;
-  change = Becomes (lapsed_by id (has_place book.table) past) (id_of id book.history)
+  history = entered id (goes_by id (next_of step) past book.history book.table) mark (next_of step)
+      book.greatest book.history;
+  change = Becomes (goes_by id (next_of step) past book.history book.table) (id_of id book.history)
       (context_after (until_of id book.greatest book.table) (next_of step));
 }
 
@@ -322,7 +317,7 @@ gone_on_by (Whole mech names until) setup book id past token now draws =
 gone_on_by Over setup book id past token now draws = leaves book.history refusals.NoContext
 
 -- what a token comes to: without an id it is the first of a context, else a later one of that id;
--- the second number is the id that is past
+-- the second number is the id of the next context that gives its place, where one does
 abbrev pub negotiated : AcceptSetup → Stands → Option ℕ → Option ℕ → List ℕ → ℕ → List ℕ → Outcomes
 negotiated setup book None past token now draws = begun setup book past token now draws
 negotiated setup book (Some id) past token now draws =
@@ -386,6 +381,7 @@ pub record NotesMoment (old new : BookOf) (now : ℕ) : Type 0 where
   pub setup : new.setup ≡ old.setup
   pub limit : new.core.limit ≡ old.core.limit
   pub width : new.core.width ≡ old.core.width
+  pub keeping : new.core.keeping ≡ old.core.keeping
   pub contexts : new.core.table.limit ≡ old.core.table.limit
   pub capacity : new.core.cache.capacity ≡ old.core.cache.capacity
   pub greatest : new.core.cache.greatest ≡ max old.core.cache.greatest now

@@ -46,8 +46,8 @@ took_by (Open at) setup book id token now draws = later_took setup book id token
 took_by (Whole mech names until) setup book id token now draws = None
 took_by Over setup book id token now draws = None
 
--- the step of a token, where it was taken: setup, book, the token's id, the id that is past, token,
--- moment, draws
+-- the step of a token, where it was taken: setup, book, the token's id, the id of the next context
+-- that gives its place, token, moment, draws
 abbrev pub step_taken : AcceptSetup → Stands → Option ℕ → Option ℕ → List ℕ → ℕ → List ℕ
     → Option Accepted
 step_taken setup book None past token now draws = first_took setup book past token now draws

@@ -8,6 +8,7 @@ pub record IsLooked {N S : Type 0} (old : Accepting N S) (now : ℕ) (new : Acce
     pub history : new.history ≡ old.history
     pub limit : new.limit ≡ old.limit
     pub width : new.width ≡ old.width
+    pub keeping : new.keeping ≡ old.keeping
     pub table : new.table ≡ old.table
     pub capacity : new.cache.capacity ≡ old.cache.capacity
     pub greatest : new.cache.greatest ≡ max old.cache.greatest now

@@ -10,6 +10,7 @@ ghost use Rattle.accept_core.specs.declared.entry.Entry.{Entry};
 ghost use Rattle.accept_core.specs.History.{standing, posts};
 ghost use Rattle.accept_core.specs.Entering.{auth_of, auth_after, given, gained};
 ghost use Rattle.accept_core.specs.Replays.{Keeps, Replays};
+ghost use Rattle.accept_core.specs.Logs.{greatest_log};
 ghost use Rattle.accept_core.specs.Legal.{Legal};
 ghost use Rattle.accept_book.specs.BookAnswers.{ComesTo};
 ghost use Rattle.accept_book.specs.Tokens.{AwaitsStep, TookToken};
@@ -436,12 +437,13 @@ impl Book {
         requires contexts { limits.contexts ≤ 65536 }
         requires some_mark { 0 < limits.marks }
         requires marks { limits.marks ≤ 1000000 }
-        requires entries { limits.log ≤ 4000000 }
+        requires entries { limits.log ≤ greatest_log }
         requires some_width { 0 < limits.width }
         requires width { limits.width ≤ 1024 }
         ensures history { IfOk result (λ book. book.history ≡ []) }
         ensures limit { IfOk result (λ book. book.limit ≡ limits.log) }
         ensures width { IfOk result (λ book. book.width ≡ limits.width) }
+        ensures keeping { IfOk result (λ book. book.keeping ≡ limits.keeping) }
         ensures contexts { IfOk result (λ book. book.table.limit ≡ limits.contexts) }
         ensures empty { IfOk result (λ book. book.table.slots ≡ []) }
         ensures marks { IfOk result (λ book. book.cache.capacity ≡ limits.marks) }
@@ -559,6 +561,7 @@ impl Book {
         ensures entries { reverse result.now.entries ≡ self.now.history }
         ensures width { result.now.width ≡ self.now.width }
         ensures limit { result.now.limit ≡ self.now.limit }
+        ensures keeping { result.now.keeping ≡ self.now.keeping }
         ensures contexts { result.now.contexts ≡ self.now.table.limit }
         ensures marks { result.now.marks ≡ self.now.cache.capacity }
         ensures legal { Legal self.now.width self.now.history }
@@ -573,6 +576,7 @@ impl Book {
         ensures entries { reverse result.entries ≡ self.history }
         ensures width { result.width ≡ self.width }
         ensures limit { result.limit ≡ self.limit }
+        ensures keeping { result.keeping ≡ self.keeping }
         ensures contexts { result.contexts ≡ self.table.limit }
         ensures marks { result.marks ≡ self.cache.capacity }
         ensures legal { Legal self.width self.history }

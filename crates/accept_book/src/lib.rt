@@ -8,7 +8,7 @@ mod own_seat;
 mod rule;
 
 pub use accept_core::{
-    AdmitRefusal, Admitted, EndCause, Entry, Limits, Log, LookRefusal, Receipt, Receipts,
+    AdmitRefusal, Admitted, EndCause, Entry, Keeping, Limits, Log, LookRefusal, Receipt, Receipts,
 };
 pub use book::{Book, names_of, step_first};
 pub use book_answer::{BookRefusal, Lease, NegAnswer, Negotiated};

@@ -1,6 +1,7 @@
 //! A book with what its ends are begun with, for one owner.
 ghost use Rattle.std.specs.Prelude.{◌≡◌, [], ◌<◌, ◌≤◌, IfOk, reverse};
 ghost use Rattle.accept_core.specs.History.{posts};
+ghost use Rattle.accept_core.specs.Logs.{greatest_log};
 ghost use Rattle.accept_core.specs.Legal.{Legal};
 ghost use Rattle.accept_core.specs.Replays.{Replays};
 ghost use Rattle.accept_book.specs.Booking.{by_outcome, token_size, with_setup};
@@ -46,13 +47,14 @@ impl OwnSeat {
         requires contexts { limits.contexts ≤ 65536 }
         requires some_mark { 0 < limits.marks }
         requires marks { limits.marks ≤ 1000000 }
-        requires entries { limits.log ≤ 4000000 }
+        requires entries { limits.log ≤ greatest_log }
         requires some_width { 0 < limits.width }
         requires width { limits.width ≤ 1024 }
         ensures setup { IfOk result (λ book. book.setup ≡ setup) }
         ensures history { IfOk result (λ book. book.core.history ≡ []) }
         ensures limit { IfOk result (λ book. book.core.limit ≡ limits.log) }
         ensures width { IfOk result (λ book. book.core.width ≡ limits.width) }
+        ensures keeping { IfOk result (λ book. book.core.keeping ≡ limits.keeping) }
         ensures contexts { IfOk result (λ book. book.core.table.limit ≡ limits.contexts) }
         ensures empty { IfOk result (λ book. book.core.table.slots ≡ []) }
         ensures marks { IfOk result (λ book. book.core.cache.capacity ≡ limits.marks) }
@@ -125,6 +127,7 @@ impl OwnSeat {
         ensures entries { reverse result.now.entries ≡ self.now.core.history }
         ensures width { result.now.width ≡ self.now.core.width }
         ensures limit { result.now.limit ≡ self.now.core.limit }
+        ensures keeping { result.now.keeping ≡ self.now.core.keeping }
         ensures contexts { result.now.contexts ≡ self.now.core.table.limit }
         ensures marks { result.now.marks ≡ self.now.core.cache.capacity }
         ensures legal { Legal self.now.core.width self.now.core.history }
@@ -139,6 +142,7 @@ impl OwnSeat {
         ensures entries { reverse result.entries ≡ self.core.history }
         ensures width { result.width ≡ self.core.width }
         ensures limit { result.limit ≡ self.core.limit }
+        ensures keeping { result.keeping ≡ self.core.keeping }
         ensures contexts { result.contexts ≡ self.core.table.limit }
         ensures marks { result.marks ≡ self.core.cache.capacity }
         ensures legal { Legal self.core.width self.core.history }

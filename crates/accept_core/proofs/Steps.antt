@@ -14,8 +14,9 @@ use Rattle.context_table.specs.Places.{Places, slot_at, slot_in, WideAt}
 use Rattle.context_table.specs.declared.slot.Slot.{Slot}
 use Rattle.accept_core.specs.declared.entry.Entry.{Entry}
 use Rattle.accept_core.specs.declared.answer.AdmitRefusal.TheVariants as admits
-use Rattle.accept_core.specs.Logs.{LogOf}
+use Rattle.accept_core.specs.Logs.{LogOf, greatest_log}
 use Rattle.accept_core.specs.History.{standing, numbers, opened, is_whole}
+use Rattle.accept_core.specs.Aging.{in_use, most_whole}
 use Rattle.accept_core.specs.Answers.{refused, Free}
 use Rattle.accept_core.specs.Replays.{Naming, Replays, IsCore}
 use Rattle.accept_core.proofs.Appended.{wide-slot}
@@ -24,17 +25,21 @@ use Rattle.accept_core.proofs.Appended.{wide-slot}
 pub added : (entries : List Entry) (entry : Entry) → reverse (entries ++ entry ∷ []) ≡ entry ∷ reverse entries
 added entries entry = reverse-append entries (entry ∷ [])
 
-pub core-added : {N S : Type 0} (naming : Naming S) (log : LogOf) (posted posts-after given given-after : ℕ) (table table-after : Places N S) (cache cache-after : Cached) (entry : Entry)
-    → IsCore naming log posted given table cache → length (reverse log.entries) < log.limit
+pub core-added : {N S : Type 0} (naming : Naming S) (log : LogOf) (posted posts-after given given-after most : ℕ) (table table-after : Places N S) (cache cache-after : Cached) (entry : Entry)
+    → IsCore naming log posted given most table cache → length (reverse log.entries) < log.limit
     → Replays naming log.width posts-after (entry ∷ reverse log.entries) table-after cache-after
     → given-after ≡ opened (entry ∷ reverse log.entries) → table-after.limit ≡ table.limit → cache-after.capacity ≡ cache.capacity
-    → IsCore naming (record log { entries = log.entries ++ entry ∷ [] }) posts-after given-after table-after cache-after
-core-added naming log posted posts-after given given-after table table-after cache cache-after entry core room replays ids contexts marks = record {
+    → table-after.used ≡ in_use (entry ∷ reverse log.entries) → length (in_use (entry ∷ reverse log.entries)) ≤ most
+    → IsCore naming (record log { entries = log.entries ++ entry ∷ [] }) posts-after given-after most table-after cache-after
+core-added naming log posted posts-after given given-after most table table-after cache cache-after entry core room replays ids contexts marks used share = record {
   replays = subst (λ (h : List Entry). Replays naming log.width posts-after h table-after cache-after) (sym (added log.entries entry)) replays;
   ids = ids ∙ ap opened (sym (added log.entries entry));
   few = subst (λ (h : List Entry). length h ≤ log.limit) (sym (added log.entries entry)) (omega (arith, room));
   small = core.small;
   contexts = core.contexts ∙ sym contexts;
+  whole = core.whole ∙ ap most_whole (sym contexts);
+  used = used ∙ ap in_use (sym (added log.entries entry));
+  share = subst (λ (h : List Entry). length (in_use h) ≤ most) (sym (added log.entries entry)) share;
   marks = core.marks ∙ sym marks;
 }
 
@@ -138,9 +143,9 @@ slot-none slots id e = ap (λ (l : List (Slot _ _)). slot_in l id) e
 
 -- a state with an empty log
 pub core-new : {N S : Type 0} (naming : Naming S) (log : LogOf) (table : Places N S) (cache : Cached) → log.entries ≡ [] → table.slots ≡ []
-    → table.width ≡ log.width → Holds cache [] → log.limit ≤ 4000000 → log.contexts ≡ table.limit → log.marks ≡ cache.capacity
-    → IsCore naming log 0 0 table cache
-core-new naming log table cache entries slots wide holds small contexts marks = record {
+    → table.used ≡ [] → table.width ≡ log.width → Holds cache [] → log.limit ≤ greatest_log → log.contexts ≡ table.limit → log.marks ≡ cache.capacity
+    → IsCore naming log 0 0 (most_whole table.limit) table cache
+core-new naming log table cache entries slots unused wide holds small contexts marks = record {
   replays = subst (λ (l : List Entry). Replays naming log.width 0 (reverse l) table cache) (sym entries) (record {
     legal = tt;
     slots = λ id. rw (slot-none table.slots id slots) tt;
@@ -154,5 +159,8 @@ core-new naming log table cache entries slots wide holds small contexts marks = 
   few = subst (λ (l : List Entry). length (reverse l) ≤ log.limit) (sym entries) (omega arith);
   small = small;
   contexts = contexts;
+  whole = refl;
+  used = unused ∙ ap (λ (l : List Entry). in_use (reverse l)) (sym entries);
+  share = subst (λ (l : List Entry). length (in_use (reverse l)) ≤ most_whole table.limit) (sym entries) (omega arith);
   marks = marks;
 }

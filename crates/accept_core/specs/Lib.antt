@@ -1,5 +1,6 @@
 pub mod History
 pub mod Legal
+pub mod Aging
 pub mod Replays
 pub mod Answers
 pub mod Entering
@@ -10,3 +11,4 @@ pub mod Stepping
 pub mod Ready
 pub mod Phases
 pub mod Naming
+pub mod Chains

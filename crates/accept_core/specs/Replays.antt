@@ -9,10 +9,12 @@ use Rattle.context_table.specs.declared.slot.SlotState.{SlotState}
 use Rattle.context_table.specs.declared.slot.SlotState.TheVariants.{Negotiating, Held, Complete}
 use Rattle.context_table.specs.Places.{Places, slot_at, live_of}
 use Rattle.accept_core.specs.declared.entry.Entry.{Entry}
+use Rattle.accept_core.specs.declared.entry.Keeping.{Keeping}
 use Rattle.accept_core.specs.History.{Standing, Unknown, Open, Whole, Over, standing, numbers}
 use Rattle.accept_core.specs.History.{opened, living, posts, latest, taken_of, IsGone}
 use Rattle.accept_core.specs.Legal.{Legal}
-use Rattle.accept_core.specs.Logs.{LogOf}
+use Rattle.accept_core.specs.Logs.{LogOf, greatest_log}
+use Rattle.accept_core.specs.Aging.{in_use, most_whole}
 
 -- what a value of a complete context is known by: its mechanism, and the digest of its names and
 -- key
@@ -60,29 +62,35 @@ pub record Replays {N S : Type 0} (naming : Naming S) (wide posted : ℕ) (h : L
   pub marks : Holds cache (taken_of h)
 
 -- the acceptor's state, as contracts see it: its history, the limit of its log, the width of its
--- windows, its contexts and marks
+-- windows, what of the log is in memory, its contexts and marks
 pub record Accepting (N S : Type 0) : Type 0 where
   pub history : List Entry
   pub limit : ℕ
   pub width : ℕ
+  pub keeping : Keeping
   pub table : Places N S
   pub cache : Cached
 
--- the limits are as before, and so are the greatest moment and the room for marks
+-- the limits and what is kept are as before, and so are the greatest moment and the room for marks
 pub record Keeps {N S : Type 0} (old new : Accepting N S) : Type 0 where
   pub limit : new.limit ≡ old.limit
   pub width : new.width ≡ old.width
+  pub keeping : new.keeping ≡ old.keeping
   pub contexts : new.table.limit ≡ old.table.limit
   pub capacity : new.cache.capacity ≡ old.cache.capacity
   pub greatest : new.cache.greatest ≡ old.cache.greatest
 
--- an acceptor's log, its number of posts, the ids that it gave, its contexts and its marks belong
--- together
-pub record IsCore {N S : Type 0} (naming : Naming S) (log : LogOf) (posted given : ℕ)
+-- an acceptor's log, its number of posts, the ids that it gave, how many contexts may be complete,
+-- its contexts and its marks belong together; the order of use is the history's, and complete
+-- contexts have no more than their share
+pub record IsCore {N S : Type 0} (naming : Naming S) (log : LogOf) (posted given most : ℕ)
     (table : Places N S) (cache : Cached) : Type 0 where
   pub replays : Replays naming log.width posted (reverse log.entries) table cache
   pub ids : given ≡ opened (reverse log.entries)
   pub few : length (reverse log.entries) ≤ log.limit
-  pub small : log.limit ≤ 4000000
+  pub small : log.limit ≤ greatest_log
   pub contexts : log.contexts ≡ table.limit
+  pub whole : most ≡ most_whole table.limit
+  pub used : table.used ≡ in_use (reverse log.entries)
+  pub share : length (in_use (reverse log.entries)) ≤ most
   pub marks : log.marks ≡ cache.capacity

@@ -6,20 +6,23 @@ ghost use Rattle.std.specs.Prelude.{if◌then◌else◌, ◌&&◌, nat_lt, nat_l
 ghost use Rattle.context_table.specs.declared.slot.SlotState.{SlotState};
 ghost use Rattle.seq_window.specs.Marks.{Shows};
 ghost use Rattle.context_table.specs.Places.{slot_at, live_of, KeepsOthers, phase_of, is_complete};
-ghost use Rattle.context_table.specs.Places.{state_of, held_after, IsHeld, IsPast, IsFreshAt};
+ghost use Rattle.context_table.specs.Places.{state_of, held_after, IsHeld, IsFreshAt};
 ghost use Rattle.context_table.specs.Places.{Marks, with_state, settled_as, HasValue};
 ghost use Rattle.accept_core.specs.declared.entry.Entry.{Entry};
 ghost use Rattle.accept_core.specs.History.{standing, has_auth, opened, posts, taken_of};
 ghost use Rattle.accept_core.specs.Legal.{Legal, MayCall, MayEnd};
 ghost use Rattle.gss_base.specs.Mech.{is_kerberos};
 ghost use Rattle.replay_cache.specs.Taking.{cache_verdict};
+ghost use Rattle.accept_core.specs.Logs.{greatest_log};
 ghost use Rattle.accept_core.specs.Replays.{Keeps, Replays, end_of_opened};
 ghost use Rattle.accept_core.specs.Answers.{refused, or_refused, after, admitted, receipt_of, Free};
 ghost use Rattle.accept_core.specs.Answers.{taken_by, LooksBy};
 ghost use Rattle.accept_core.specs.Phases.{PhaseBy};
 ghost use Rattle.accept_core.specs.Ready.{ReadyFor};
 ghost use Rattle.accept_core.specs.Naming.{NamedBy, IsValueAt};
-ghost use Rattle.accept_core.specs.Stepping.{has_place, lapsed_slot, kept_slot, context_of};
+ghost use Rattle.accept_core.specs.Aging.{in_use, most_whole};
+ghost use Rattle.accept_core.specs.Stepping.{settles, is_crowded, is_full, IsNext, Goes, goes_by};
+ghost use Rattle.accept_core.specs.Stepping.{IsNoRoom, kept_slot, context_of};
 ghost use Rattle.accept_core.specs.Stepping.{context_after, slot_after, until_of, SameWindow};
 ghost use Rattle.accept_core.specs.Stepping.{Stays};
 ghost use Rattle.accept_core.specs.Entering.{id_of, lapsed, started, noted, finished, entered};
@@ -46,8 +49,9 @@ use std::marker::Model;
 #[derive(Drop)]
 pub struct Core<N, S: Named> {
     log: Log,
-    posts: u32,
+    posts: u64,
     given: u64,
+    most: usize,
     table: Table<N, S>,
     cache: Cache,
 }
@@ -62,12 +66,13 @@ impl<N, S: Named> Model for Core<N, S> {
       history = reverse c.log.entries;
       limit = c.log.limit;
       width = c.log.width;
+      keeping = c.log.keeping;
       table = c.table;
       cache = c.cache;
     } };
 
     ghost invariant = { λ c. IsCore (record { mech = S.mech_of; names = S.names_of })
-        c.log c.posts c.given c.table c.cache };
+        c.log c.posts c.given c.most c.table c.cache };
 }
 
 impl<N: Drop, S: Named + Drop> Core<N, S> {
@@ -76,12 +81,13 @@ impl<N: Drop, S: Named + Drop> Core<N, S> {
         requires contexts { limits.contexts ≤ 65536 }
         requires some_mark { 0 < limits.marks }
         requires marks { limits.marks ≤ 1000000 }
-        requires entries { limits.log ≤ 4000000 }
+        requires entries { limits.log ≤ greatest_log }
         requires some_width { 0 < limits.width }
         requires width { limits.width ≤ 1024 }
         ensures history { IfOk result (λ core. core.history ≡ []) }
         ensures limit { IfOk result (λ core. core.limit ≡ limits.log) }
         ensures width { IfOk result (λ core. core.width ≡ limits.width) }
+        ensures keeping { IfOk result (λ core. core.keeping ≡ limits.keeping) }
         ensures contexts { IfOk result (λ core. core.table.limit ≡ limits.contexts) }
         ensures empty { IfOk result (λ core. core.table.slots ≡ []) }
         ensures marks { IfOk result (λ core. core.cache.capacity ≡ limits.marks) }
@@ -94,6 +100,7 @@ impl<N: Drop, S: Named + Drop> Core<N, S> {
             log,
             posts: 0,
             given: 0,
+            most: most_whole(limits.contexts),
             table,
             cache,
         })
@@ -154,6 +161,7 @@ impl<N: Drop, S: Named + Drop> Core<N, S> {
         ensures history { self.new.history ≡ self.old.history }
         ensures limit { self.new.limit ≡ self.old.limit }
         ensures width { self.new.width ≡ self.old.width }
+        ensures keeping { self.new.keeping ≡ self.old.keeping }
         ensures table { self.new.table ≡ self.old.table }
         ensures capacity { self.new.cache.capacity ≡ self.old.cache.capacity }
         ensures greatest { self.new.cache.greatest ≡ max self.old.cache.greatest now }
@@ -264,32 +272,97 @@ impl<N: Drop, S: Named + Drop> Core<N, S> {
         id
     }
 
-    // Makes a place for a context, where the table is at its limit and a context is past its end.
-    fn make_place(&mut self)
-        requires place { IsPast self.old.table self.old.cache.greatest None
-            → live_of self.old.table < self.old.table.limit }
+    // Which context goes for a step, where one does.
+    fn victim(&self, first: bool, settles: bool) -> Option<u64>
+        ensures goes { Goes settles first self.now.history self.now.table self.now.cache.greatest
+            result }
+        ensures few { live_of self.now.table ≤ self.now.table.limit }
+    {
+        let live = self.table.live();
+        if self.is_crowded(settles) {
+            return self.table.oldest();
+        }
+        if first && self.log.contexts() <= live as u64 {
+            return self.next();
+        }
+        None
+    }
+
+    // The context that gives its place to a new one: one that is past its end, else the one that
+    // waits and was opened first. In a table of one place none waits for that.
+    fn next(&self) -> Option<u64>
+        ensures { IsNext self.now.table self.now.cache.greatest result }
+    {
+        match self.table.past(self.cache.greatest()) {
+            Some(id) => Some(id),
+            None => {
+                if self.log.contexts() < 2 {
+                    None
+                } else {
+                    self.table.waiting()
+                }
+            }
+        }
+    }
+
+    // Whether no context gives its place to a new one. One that waits is found at once, so the ends
+    // are looked at only where none does.
+    fn has_no_next(&self) -> bool
+        ensures next { result ≡ true → IsNext self.now.table self.now.cache.greatest None }
+        ensures none { IsNext self.now.table self.now.cache.greatest None → result ≡ true }
+    {
+        if 1 < self.log.contexts() {
+            match self.table.waiting() {
+                Some(_) => return false,
+                None => {}
+            }
+        }
+        match self.table.past(self.cache.greatest()) {
+            Some(_) => false,
+            None => true,
+        }
+    }
+
+    // Where a first token finds no free place: that none is past its end is known without a walk
+    // until one is.
+    fn look_ahead(&mut self, first: bool, settles: bool)
+        ensures { self.new ≡ self.old }
+    {
+        if self.is_full(first) && !self.is_crowded(settles) {
+            self.table.look_ahead(self.cache.greatest());
+        }
+    }
+
+    // Ends the context that goes for a step.
+    fn let_go(&mut self, first: bool, settles: bool)
         requires room { length self.old.history < self.old.limit }
-        ensures history { (past : Option ℕ) → IsPast self.old.table self.old.cache.greatest past
-            → self.new.history ≡ lapsed (has_place self.old.table) past self.old.history }
+        ensures history { (gone : Option ℕ)
+            → Goes settles first self.old.history self.old.table self.old.cache.greatest gone
+            → self.new.history ≡ lapsed gone self.old.history }
         ensures keeps { Keeps self.old self.new }
-        ensures live { live_of self.new.table < self.new.table.limit }
+        ensures place { first ≡ true → (IsNoRoom self.old.table self.old.cache.greatest → ⊥)
+            → live_of self.new.table < self.new.table.limit }
+        ensures share { settles ≡ true
+            → length (in_use self.new.history) < most_whole self.new.table.limit }
+        ensures held { first ≡ false → (id : ℕ) → IsHeld (slot_at self.old.table id)
+            → slot_at self.new.table id ≡ slot_at self.old.table id }
         ensures given { opened self.new.history ≡ opened self.old.history }
         ensures taken { taken_of self.new.history ≡ taken_of self.old.history }
         ensures grows { length self.old.history ≤ length self.new.history }
         ensures count { length self.new.history ≤ length self.old.history + 1 }
-        ensures slots { (past : Option ℕ) → IsPast self.old.table self.old.cache.greatest past
+        ensures slots { (gone : Option ℕ)
+            → Goes settles first self.old.history self.old.table self.old.cache.greatest gone
             → (other : ℕ) → slot_at self.new.table other
-            ≡ lapsed_slot (has_place self.old.table) past other (slot_at self.old.table other) }
+            ≡ kept_slot gone other (slot_at self.old.table other) }
         ensures stays { (other : ℕ)
             → Stays (slot_at self.old.table other) (slot_at self.new.table other) }
         ensures auths { (other : ℕ)
             → has_auth other self.new.history ≡ has_auth other self.old.history }
         ensures unopened { slot_at self.old.table (opened self.old.history + 1) ≡ None }
     {
-        if self.table.live() < self.log.contexts() as usize {
-            return;
-        }
-        match self.table.past(self.cache.greatest()) {
+        // The history says that what goes lives: the value is opened for that.
+        let _log = &self.log;
+        match self.victim(first, settles) {
             None => {}
             Some(id) => {
                 let _ = self.close(id, EndCause::Lapsed);
@@ -297,22 +370,56 @@ impl<N: Drop, S: Named + Drop> Core<N, S> {
         }
     }
 
-    // The context of a step: a first token opens one.
-    fn start(&mut self, id: Option<u64>) -> u64
+    // Ends the context that goes for a step, once the ends of all are known.
+    fn make_place(&mut self, first: bool, settles: bool)
+        requires room { length self.old.history < self.old.limit }
+        ensures history { (gone : Option ℕ)
+            → Goes settles first self.old.history self.old.table self.old.cache.greatest gone
+            → self.new.history ≡ lapsed gone self.old.history }
+        ensures keeps { Keeps self.old self.new }
+        ensures place { first ≡ true → (IsNoRoom self.old.table self.old.cache.greatest → ⊥)
+            → live_of self.new.table < self.new.table.limit }
+        ensures share { settles ≡ true
+            → length (in_use self.new.history) < most_whole self.new.table.limit }
+        ensures held { first ≡ false → (id : ℕ) → IsHeld (slot_at self.old.table id)
+            → slot_at self.new.table id ≡ slot_at self.old.table id }
+        ensures given { opened self.new.history ≡ opened self.old.history }
+        ensures taken { taken_of self.new.history ≡ taken_of self.old.history }
+        ensures grows { length self.old.history ≤ length self.new.history }
+        ensures count { length self.new.history ≤ length self.old.history + 1 }
+        ensures slots { (gone : Option ℕ)
+            → Goes settles first self.old.history self.old.table self.old.cache.greatest gone
+            → (other : ℕ) → slot_at self.new.table other
+            ≡ kept_slot gone other (slot_at self.old.table other) }
+        ensures stays { (other : ℕ)
+            → Stays (slot_at self.old.table other) (slot_at self.new.table other) }
+        ensures auths { (other : ℕ)
+            → has_auth other self.new.history ≡ has_auth other self.old.history }
+        ensures unopened { slot_at self.old.table (opened self.old.history + 1) ≡ None }
+    {
+        self.look_ahead(first, settles);
+        self.let_go(first, settles);
+    }
+
+    // The context of a step, once the one that goes for it has ended: a first token opens one.
+    fn start(&mut self, id: Option<u64>, settles: bool) -> u64
         requires ready { ReadyFor self.old id }
         ensures id { result ≡ id_of id self.old.history }
-        ensures history { (past : Option ℕ) → IsPast self.old.table self.old.cache.greatest past
-            → self.new.history ≡ started id (has_place self.old.table) past
-            self.old.cache.greatest self.old.history }
+        ensures history { (gone : Option ℕ) → Goes settles (is_none id) self.old.history
+            self.old.table self.old.cache.greatest gone
+            → self.new.history ≡ started id gone self.old.cache.greatest self.old.history }
         ensures keeps { Keeps self.old self.new }
+        ensures share { settles ≡ true
+            → length (in_use self.new.history) < most_whole self.new.table.limit }
         ensures held { IsHeld (slot_at self.new.table result) }
         ensures taken { taken_of self.new.history ≡ taken_of self.old.history }
         ensures auth { has_auth result self.new.history ≡ auth_of id self.old.history }
         ensures grows { length self.old.history ≤ length self.new.history }
         ensures count { length self.new.history ≤ length self.old.history + 2 }
-        ensures slots { (past : Option ℕ) → IsPast self.old.table self.old.cache.greatest past
+        ensures slots { (gone : Option ℕ) → Goes settles (is_none id) self.old.history
+            self.old.table self.old.cache.greatest gone
             → (other : ℕ) → result ≢ other → slot_at self.new.table other
-            ≡ kept_slot id (has_place self.old.table) past other (slot_at self.old.table other) }
+            ≡ kept_slot gone other (slot_at self.old.table other) }
         ensures stays { (other : ℕ) → result ≢ other
             → Stays (slot_at self.old.table other) (slot_at self.new.table other) }
         ensures auths { (other : ℕ)
@@ -325,12 +432,11 @@ impl<N: Drop, S: Named + Drop> Core<N, S> {
         ensures window { SameWindow (slot_at self.old.table result)
             (slot_at self.new.table result) }
     {
+        let first = id.is_none();
+        self.make_place(first, settles);
         match id {
             Some(id) => id,
-            None => {
-                self.make_place();
-                self.open()
-            }
+            None => self.open(),
         }
     }
 
@@ -383,6 +489,8 @@ impl<N: Drop, S: Named + Drop> Core<N, S> {
         requires room { length self.old.history < self.old.limit }
         requires settles { SettlesBy (record { mech = S.mech_of; names = S.names_of }) step
             (has_auth id self.old.history) }
+        requires share { settles step ≡ true
+            → length (in_use self.old.history) < most_whole self.old.table.limit }
         ensures history { self.new.history
             ≡ finished first step id self.old.cache.greatest self.old.history }
         ensures keeps { Keeps self.old self.new }
@@ -454,6 +562,7 @@ impl<N: Drop, S: Named + Drop> Core<N, S> {
         requires auth { has_auth id self.old.history ≡ is_kerberos mech }
         requires mech { S.mech_of value ≡ mech }
         requires names { S.names_of value ≡ names }
+        requires share { length (in_use self.old.history) < most_whole self.old.table.limit }
         ensures history { self.new.history
             ≡ Entry.Settled id mech names ends self.old.cache.greatest ∷ self.old.history }
         ensures keeps { Keeps self.old self.new }
@@ -473,7 +582,7 @@ impl<N: Drop, S: Named + Drop> Core<N, S> {
     }
 
     // How many calls of procedure 3 the log has.
-    fn post_count(&self) -> u32
+    fn post_count(&self) -> u64
         ensures { result ≡ posts self.now.history }
     {
         self.posts
@@ -486,12 +595,18 @@ impl<N: Drop, S: Named + Drop> Core<N, S> {
         self.log.limit() < self.log.len() + 4
     }
 
-    // Whether a step asks for the place of a context that is past its end, as a first one may.
-    fn is_crowded(&self, first: bool) -> bool
-        ensures { result
-            ≡ (first && nat_le self.now.table.limit (live_of self.now.table)) }
+    // Whether a step is a first one, and no place is free.
+    fn is_full(&self, first: bool) -> bool
+        ensures { result ≡ is_full first self.now.table }
     {
         first && self.log.contexts() <= self.table.live() as u64
+    }
+
+    // Whether a step settles, and complete contexts have their share.
+    fn is_crowded(&self, settles: bool) -> bool
+        ensures { result ≡ is_crowded settles self.now.history self.now.table.limit }
+    {
+        settles && self.most <= self.table.whole()
     }
 
     /// Whether a step may be taken, a first one where `first`.
@@ -500,20 +615,17 @@ impl<N: Drop, S: Named + Drop> Core<N, S> {
             ↔ (self.now.limit < length self.now.history + 4) }
         ensures table_full { (result ≡ Err RoomRefusal.TableFull)
             ↔ ((length self.now.history + 4 ≤ self.now.limit) × (first ≡ true)
-            × (self.now.table.limit ≤ live_of self.now.table)
-            × IsPast self.now.table self.now.cache.greatest None) }
+            × IsNoRoom self.now.table self.now.cache.greatest) }
         ensures places { IsOk result → length self.now.history + 4 ≤ self.now.limit }
         ensures place { IsOk result → first ≡ true
-            → IsPast self.now.table self.now.cache.greatest None
-            → live_of self.now.table < self.now.table.limit }
+            → IsNoRoom self.now.table self.now.cache.greatest → ⊥ }
     {
         if self.is_log_full() {
             return Err(RoomRefusal::LogFull);
         }
-        if self.is_crowded(first) {
-            match self.table.past(self.cache.greatest()) {
-                None => return Err(RoomRefusal::TableFull),
-                Some(_) => {}
+        if self.is_full(first) {
+            if self.has_no_next() {
+                return Err(RoomRefusal::TableFull);
             }
         }
         Ok(())
@@ -568,11 +680,14 @@ impl<N: Drop, S: Named + Drop> Core<N, S> {
         ensures refusal { IfErr result (λ refusal. mark_refused_in self.old mark ≡ Some refusal) }
         ensures unchanged { OnErr result (self.new ≡ self.old) }
 
-        // The entries of the step, and their receipts.
-        ensures history { (past : Option ℕ) → IsPast self.old.table self.old.cache.greatest past
+        // The entries of the step, and their receipts. One context at most goes for it: where it
+        // settles and complete ones have their share, the one of them that was used longest ago,
+        // else where a first token finds no place, the next.
+        ensures history { (next : Option ℕ)
+            → (id ≡ None → IsNext self.old.table self.old.cache.greatest next)
             → self.new.history ≡ after_mark (mark_refused_in self.old mark) self.old.history
-            (entered id (has_place self.old.table) past mark step self.old.cache.greatest
-            self.old.history) }
+            (entered id (goes_by id step next self.old.history self.old.table) mark step
+            self.old.cache.greatest self.old.history) }
         ensures receipts { IfOk result (λ entered.
             given entered.receipts ≡ gained (length self.old.history) self.new.history) }
 
@@ -584,9 +699,10 @@ impl<N: Drop, S: Named + Drop> Core<N, S> {
         ensures window { IfOk result (λ entered.
             SameWindow (slot_at self.old.table entered.id) (slot_at self.new.table entered.id)) }
         ensures others { IfOk result (λ entered.
-            (past : Option ℕ) → IsPast self.old.table self.old.cache.greatest past
+            (next : Option ℕ) → (id ≡ None → IsNext self.old.table self.old.cache.greatest next)
             → (other : ℕ) → entered.id ≢ other → slot_at self.new.table other
-            ≡ kept_slot id (has_place self.old.table) past other (slot_at self.old.table other)) }
+            ≡ kept_slot (goes_by id step next self.old.history self.old.table) other
+            (slot_at self.old.table other)) }
         ensures stays { IfOk result (λ entered. (other : ℕ) → entered.id ≢ other
             → Stays (slot_at self.old.table other) (slot_at self.new.table other)) }
         ensures auth { IfOk result (λ entered.
@@ -598,9 +714,10 @@ impl<N: Drop, S: Named + Drop> Core<N, S> {
         match self.mark_refusal(&mark) {
             Some(refusal) => Err(refusal),
             None => {
-                let from = self.log.len() as usize;
+                let from = self.log.len();
                 let first = id.is_none();
-                let id = self.start(id);
+                let settled = is_settled(&step);
+                let id = self.start(id, settled);
                 self.note(id, mark);
                 self.finish(id, first, step);
                 let receipts = self.receipts_since(from);
@@ -610,12 +727,12 @@ impl<N: Drop, S: Named + Drop> Core<N, S> {
     }
 
     // The entries of the log from a place on.
-    fn receipts_since(&self, from: usize) -> Receipts
+    fn receipts_since(&self, from: u64) -> Receipts
         requires from { from ≤ length self.now.history }
         requires few { length self.now.history ≤ from + 4 }
         ensures { given result ≡ gained from self.now.history }
     {
-        receipts_of(self.log.entries(), from)
+        self.log.since(from)
     }
 
     /// The value of a complete context and its end.
@@ -659,12 +776,14 @@ impl<N: Drop, S: Named + Drop> Core<N, S> {
         ensures entries { reverse result.now.entries ≡ self.now.history }
         ensures width { result.now.width ≡ self.now.width }
         ensures limit { result.now.limit ≡ self.now.limit }
+        ensures keeping { result.now.keeping ≡ self.now.keeping }
         ensures contexts { result.now.contexts ≡ self.now.table.limit }
         ensures marks { result.now.marks ≡ self.now.cache.capacity }
         ensures legal { Legal self.now.width self.now.history }
         ensures replays { Replays (record { mech = S.mech_of; names = S.names_of })
             self.now.width (posts self.now.history) self.now.history self.now.table
             self.now.cache }
+        ensures share { length (in_use self.now.history) ≤ most_whole self.now.table.limit }
     {
         &self.log
     }
@@ -674,6 +793,7 @@ impl<N: Drop, S: Named + Drop> Core<N, S> {
         ensures entries { reverse result.entries ≡ self.history }
         ensures width { result.width ≡ self.width }
         ensures limit { result.limit ≡ self.limit }
+        ensures keeping { result.keeping ≡ self.keeping }
         ensures contexts { result.contexts ≡ self.table.limit }
         ensures marks { result.marks ≡ self.cache.capacity }
         ensures legal { Legal self.width self.history }
@@ -682,6 +802,7 @@ impl<N: Drop, S: Named + Drop> Core<N, S> {
             log,
             posts: _,
             given: _,
+            most: _,
             table: _,
             cache: _,
         } = self;
@@ -728,40 +849,27 @@ impl<N: Drop, S: Named + Drop> Core<N, S> {
     }
 }
 
-// The entries from a place on, each with its place; there are at most four.
-fn receipts_of(entries: &[Entry], from: usize) -> Receipts
-    requires from { from ≤ length entries.now }
-    requires few { length entries.now ≤ from + 4 }
-    ensures { given result ≡ gained from (reverse entries.now) }
+// How many of so many contexts may be complete.
+fn most_whole(limit: usize) -> usize
+    requires { limit ≤ 65536 }
+    ensures { result ≡ most_whole limit }
 {
-    let mut list = [blank(), blank(), blank(), blank()];
-    let mut count = 0u8;
-    for place in from..entries.len() {
-        list[count as usize] = Receipt {
-            place: place as u64,
-            entry: entries[place],
-        };
-        count += 1;
-    }
-    Receipts { count, list }
+    (limit * 3 / 4).max(1)
 }
 
-/// A receipt of nothing, for the places of a list behind its count.
-pub fn blank() -> Receipt
-    ensures { result ≡ record { place = 0; entry = Entry.Ended 0 EndCause.Lapsed } }
+// Whether a step makes its context complete.
+fn is_settled<N, S>(step: &Next<N, S>) -> bool
+    ensures { result ≡ settles step.now }
 {
-    Receipt {
-        place: 0,
-        entry: Entry::Ended {
-            id: 0,
-            cause: EndCause::Lapsed,
-        },
+    match step {
+        Next::Going(_) => false,
+        Next::Settled { .. } => true,
     }
 }
 
 // The count of calls of procedure 3, one more of a procedure included.
-fn with_post(posts: u32, procedure: u32) -> u32
-    requires { posts < 4294967295 }
+fn with_post(posts: u64, procedure: u32) -> u64
+    requires { posts < 18446744073709551615 }
     ensures { result ≡ (if procedure == 3 then posts + 1 else posts) }
 {
     if procedure == 3 { posts + 1 } else { posts }

@@ -56,7 +56,7 @@ pub enum Entry {
     },
 }
 
-// A log of the greatest limit takes at most 320 MB.
+// A log that keeps 4,000,000 entries takes at most 320 MB.
 const _: () = prove!(size_of::<Entry>() <= 80);
 
 /// An entry that a step added, and its place in the log.
@@ -77,14 +77,23 @@ pub struct Receipts {
 #[derive(Clone, Copy)]
 pub struct Admitted {
     pub receipt: Receipt,
-    pub posts: u32,
+    pub posts: u64,
 }
 
-/// The limits under which an acceptor keeps its contexts, marks and log, and the width of its windows.
+/// What a log has in memory of its entries beside the newest four: all of them, and their digest.
+#[derive(Clone, Copy)]
+pub struct Keeping {
+    pub entries: bool,
+    pub digest: bool,
+}
+
+/// The limits under which an acceptor keeps its contexts, marks and log, the width of its windows, and
+/// what its log has in memory.
 #[derive(Clone, Copy)]
 pub struct Limits {
     pub contexts: usize,
     pub marks: usize,
     pub log: usize,
     pub width: u32,
+    pub keeping: Keeping,
 }

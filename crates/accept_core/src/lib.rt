@@ -5,13 +5,15 @@
 
 mod acceptance;
 mod answer;
+mod chain;
 mod entry;
+mod erased;
 pub mod laws;
 mod log;
 mod named;
 
-pub use acceptance::{Core, blank};
+pub use acceptance::Core;
 pub use answer::{AdmitRefusal, Entered, LookRefusal, MarkRefusal, Next, RoomRefusal, TakeRefusal};
-pub use entry::{Admitted, EndCause, Entry, Limits, Receipt, Receipts};
-pub use log::Log;
+pub use entry::{Admitted, EndCause, Entry, Keeping, Limits, Receipt, Receipts};
+pub use log::{Log, blank};
 pub use named::Named;

@@ -12,7 +12,7 @@ pub struct Act {
     pub xid: u32,
     pub procedure: u32,
     pub args: [u8; 20],
-    pub posts: u32,
+    pub posts: u64,
 }
 
 /// The place of a context, with its last calls, oldest first; or a free place.

@@ -1,8 +1,7 @@
 -- A book that nobody else asks: its log grows by the receipts of its answers, and no more contexts live than may.
-use Rattle.std.proofs.Common.{◌≡◌, ℕ, ◌+◌, ◌<◌, ◌≤◌, ◌&&◌, max, Bool, true, false, nat_lt, nat_le, List, [], ◌∷◌, ◌++◌, length, Option, None, Some, IsSomeAnd, Result, Ok, Err, refl, sym, ap, ◌∙◌, arith, length-append, append-nil, inl, inr, subst}
+use Rattle.std.proofs.Common.{◌≡◌, ◌⊎◌, ℕ, ◌+◌, ◌<◌, ◌≤◌, ◌&&◌, max, Bool, true, false, nat_lt, nat_le, List, [], ◌∷◌, ◌++◌, length, Option, None, Some, IsSomeAnd, Result, Ok, Err, refl, sym, ap, ◌∙◌, arith, length-append, append-nil, inl, inr, subst}
 use Rattle.std.specs.Prelude.{if◌then◌else◌, is_none}
-use Rattle.std.proofs.lemmas.Bool.{ltb-true, true≢false}
-use Rattle.std.proofs.lemmas.Bool.Decides.{nat_tests}
+use Rattle.std.proofs.lemmas.Bool.{cases_lt, le-leb, true≢false}
 use Rattle.gss_base.specs.declared.mark.Mark.{Mark}
 use Rattle.spnego_core.specs.declared.outcome.Outcome.{Outcome}
 use Rattle.spnego_core.specs.declared.refusal.NegRefusal.{NegRefusal}
@@ -12,7 +11,9 @@ use Rattle.spnego_core.specs.declared.accept_end.AcceptEnd.TheVariants as ends
 use Rattle.spnego_core.specs.declared.accept_end.AcceptStep.{AcceptStep}
 use Rattle.spnego_core.specs.Accepting.{Accepted, accept_step}
 use Rattle.context_table.specs.declared.slot.Slot.{Slot}
-use Rattle.context_table.specs.Places.{Places, slot_in, slot_at, live_of, state_of, IsPast}
+use Rattle.context_table.specs.Places.{Places, slot_in, slot_at, live_of, state_of, is_waiting}
+use Rattle.accept_core.specs.Stepping.{goes_by, Goes, IsNext, IsNoRoom, settles}
+use Rattle.accept_core.proofs.Goings.{goes-by-next, none-place, next-same}
 use Rattle.accept_core.specs.declared.answer.AdmitRefusal.{AdmitRefusal}
 use Rattle.accept_core.specs.declared.answer.MarkRefusal.{MarkRefusal}
 use Rattle.accept_core.specs.declared.answer.Next.{Next}
@@ -37,7 +38,7 @@ use Rattle.history_laws.specs.Receipts.{receipts_in}
 use Rattle.history_laws.proofs.Answering.{memory-cases, answers-live}
 use Rattle.history_laws.proofs.Growth.{fronts-one, answers-width}
 use Rattle.history_laws.proofs.InPlace.{in-place}
-use Rattle.history_laws.proofs.Past.{past-of}
+use Rattle.accept_core.proofs.Nexts.{next-of}
 use Rattle.again_laws.specs.Laws.{log_of, WithinLaw}
 use Rattle.again_laws.specs.Sole.{onto, IsCall, IsEnd, IsOwn, IsSole, Within}
 
@@ -88,18 +89,17 @@ within-living contexts (entry ∷ h) w = w.0
 within-ended : (contexts id : ℕ) (cause : EndCause) (h : List Entry) → Within contexts h → Within contexts (Ended id cause ∷ h)
 within-ended contexts id cause h w = (omega (arith, within-living contexts h w), w)
 
--- a first token's context has a place, or one that is past its end gives it up
-abbrev IsPlaced : ℕ → Option ℕ → Bool → Option ℕ → List Entry → Type 0
-IsPlaced contexts None true past h = living h < contexts
-IsPlaced contexts None false None h = ⊥
-IsPlaced contexts None false (Some other) h = 0 < contexts
-IsPlaced contexts (Some id) place past h = Unit {0}
+-- a first token's context has a place, or another gives it up
+abbrev IsPlaced : ℕ → Option ℕ → Option ℕ → List Entry → Type 0
+IsPlaced contexts None None h = living h < contexts
+IsPlaced contexts None (Some other) h = 0 < contexts
+IsPlaced contexts (Some id) gone h = Unit {0}
 
-within-started : (contexts : ℕ) (id : Option ℕ) (place : Bool) (past : Option ℕ) (now : ℕ) (h : List Entry) → IsPlaced contexts id place past h → Within contexts h → Within contexts (started id place past now h)
-within-started contexts None true past now h is w = (omega (arith, is), w)
-within-started contexts None false None now h is w = absurd is
-within-started contexts None false (Some other) now h is w = (omega (arith, is, within-living contexts h w), (omega (arith, within-living contexts h w), w))
-within-started contexts (Some id) place past now h is w = w
+within-started : (contexts : ℕ) (id gone : Option ℕ) (now : ℕ) (h : List Entry) → IsPlaced contexts id gone h → Within contexts h → Within contexts (started id gone now h)
+within-started contexts None None now h is w = (omega (arith, is), w)
+within-started contexts None (Some other) now h is w = (omega (arith, is, within-living contexts h w), (omega (arith, within-living contexts h w), w))
+within-started contexts (Some id) None now h is w = w
+within-started contexts (Some id) (Some other) now h is w = (omega (arith, within-living contexts h w), w)
 
 within-noted : (contexts : ℕ) (mark : Option Mark) (id now : ℕ) (h : List Entry) → Within contexts h → Within contexts (noted mark id now h)
 within-noted contexts None id now h w = w
@@ -111,21 +111,25 @@ within-finished contexts false (nexts.Going state) id now h w = (within-living c
 within-finished contexts true (nexts.Settled mech names value until) id now h w = (within-living contexts h w, w)
 within-finished contexts false (nexts.Settled mech names value until) id now h w = (within-living contexts h w, w)
 
-within-entered : (contexts : ℕ) (id : Option ℕ) (place : Bool) (past : Option ℕ) (mark : Option Mark) (step : Next AcceptEnd Outcome) (now : ℕ) (h : List Entry) → IsPlaced contexts id place past h → Within contexts h → Within contexts (entered id place past mark step now h)
-within-entered contexts id place past mark step now h is w =
-    within-finished contexts (is_none id) step (id_of id h) now (noted mark (id_of id h) now (started id place past now h))
-    (within-noted contexts mark (id_of id h) now (started id place past now h) (within-started contexts id place past now h is w))
+within-entered : (contexts : ℕ) (id gone : Option ℕ) (mark : Option Mark) (step : Next AcceptEnd Outcome) (now : ℕ) (h : List Entry) → IsPlaced contexts id gone h → Within contexts h → Within contexts (entered id gone mark step now h)
+within-entered contexts id gone mark step now h is w =
+    within-finished contexts (is_none id) step (id_of id h) now (noted mark (id_of id h) now (started id gone now h))
+    (within-noted contexts mark (id_of id h) now (started id gone now h) (within-started contexts id gone now h is w))
 
 within-refusal : (contexts : ℕ) (id : Option ℕ) (h : List Entry) → Within contexts h → Within contexts (after_refusal id h)
 within-refusal contexts None h w = w
 within-refusal contexts (Some id) h w = within-ended contexts id Refused h w
 
-within-mark : (contexts : ℕ) (book : Stands) (id past : Option ℕ) (mark : Option Mark) (step : AcceptStep) (refusal : Option MarkRefusal) → IsPlaced contexts id (nat_lt (live_of book.table) book.table.limit) past book.history → Within contexts book.history
+-- whatever step it is
+abbrev ArePlaced : ℕ → Stands → Option ℕ → Option ℕ → Type 0
+ArePlaced contexts book id past = (step : Next AcceptEnd Outcome) → IsPlaced contexts id (goes_by id step past book.history book.table) book.history
+
+within-mark : (contexts : ℕ) (book : Stands) (id past : Option ℕ) (mark : Option Mark) (step : AcceptStep) (refusal : Option MarkRefusal) → ArePlaced contexts book id past → Within contexts book.history
     → Within contexts (by_mark book id past mark step refusal).history
-within-mark contexts book id past mark step None is w = within-entered contexts id (nat_lt (live_of book.table) book.table.limit) past mark (next_of step) book.greatest book.history is w
+within-mark contexts book id past mark step None is w = within-entered contexts id (goes_by id (next_of step) past book.history book.table) mark (next_of step) book.greatest book.history (is (next_of step)) w
 within-mark contexts book id past mark step (Some refusal) is w = within-refusal contexts id book.history w
 
-within-step : (contexts : ℕ) (book : Stands) (id past : Option ℕ) (taken : Result Accepted NegRefusal) → IsPlaced contexts id (nat_lt (live_of book.table) book.table.limit) past book.history → Within contexts book.history
+within-step : (contexts : ℕ) (book : Stands) (id past : Option ℕ) (taken : Result Accepted NegRefusal) → ArePlaced contexts book id past → Within contexts book.history
     → Within contexts (by_step book id past taken).history
 within-step contexts book id past (Err refusal) is w = within-refusal contexts id book.history w
 within-step contexts book id past (Ok accepted) is w =
@@ -139,27 +143,58 @@ some-live : {N S : Type 0} (slots : List (Slot N S)) (id now : ℕ) → IsSomeAn
 some-live [] id now is = absurd is
 some-live (slot ∷ slots) id now is = omega arith
 
--- there is room in the table, or the least that is past gives its place
-placed-by : (contexts now : ℕ) (book : Stands) (past : Option ℕ) (place : Bool) → nat_lt (live_of book.table) book.table.limit ≡ place → book.table.limit ≡ contexts → live_of book.table ≡ living book.history → IsPast book.table now past
-    → (nat_le book.table.limit (live_of book.table) && is_none past) ≡ false → Within contexts book.history → IsPlaced contexts None place past book.history
-placed-by contexts now book past true test limit live is_past full w = omega (arith, ltb-true (live_of book.table) book.table.limit test, limit, live)
-placed-by contexts now book None false test limit live is_past full w =
-    let crowded : nat_le book.table.limit (live_of book.table) ≡ true = grind (arith, nat_tests) in
-    absurd (true≢false (rw crowded at full))
-placed-by contexts now book (Some other) false test limit live is_past full w =
-    omega (arith, some-live book.table.slots other now is_past.0, live, within-living contexts book.history w)
+some-waits : {N S : Type 0} (slots : List (Slot N S)) (id : ℕ) → is_waiting (slot_in slots id) ≡ true → 0 < length slots
+some-waits [] id is = absurd (true≢false (sym is))
+some-waits (slot ∷ slots) id is = omega arith
 
-within-begun : (contexts now' : ℕ) (setup : AcceptSetup) (book : Stands) (past : Option ℕ) (token : List ℕ) (now : ℕ) (draws : List ℕ) → book.table.limit ≡ contexts → live_of book.table ≡ living book.history → IsPast book.table now' past → Within contexts book.history
+next-live : {N S : Type 0} (table : Places N S) (now id : ℕ) → IsNext table now (Some id) → 0 < live_of table
+next-live table now id (inl past) = some-live table.slots id now past.0
+next-live table now id (inr waits) = some-waits table.slots id (waits.2).0
+
+test-false : (a b : Bool) → a ≡ true → (a && b) ≡ false → b ≡ false
+test-false true b t f = f
+test-false false b t f = absurd (true≢false (sym t))
+
+off : true ≡ false → ⊥
+off e = true≢false e
+
+-- there is room in the table, or the next gives its place
+roomy : (book : Stands) (past : Option ℕ) (now : ℕ) → IsNext book.table now past → (nat_le book.table.limit (live_of book.table) && is_none past) ≡ false → IsNoRoom book.table now → ⊥
+roomy book past now is full none =
+    let same : past ≡ None = next-same book.table now past None is none.next in
+    off (sym (ap is_none same) ∙ test-false (nat_le book.table.limit (live_of book.table)) (is_none past) (le-leb book.table.limit (live_of book.table) none.full) full)
+
+some-place : (book : Stands) (past : Option ℕ) (now : ℕ) → IsNext book.table now past → (nat_le book.table.limit (live_of book.table) && is_none past) ≡ false → (0 < book.table.limit) ⊎ (0 < live_of book.table)
+some-place book None now is full =
+    elim (cases_lt (live_of book.table) book.table.limit) [
+      | inl less ↦ inl (omega (arith, less))
+      | inr most ↦ absurd (off (test-false (nat_le book.table.limit (live_of book.table)) true (le-leb book.table.limit (live_of book.table) most) full))
+    ]
+some-place book (Some id) now is full = inr (next-live book.table now id is)
+
+placed-by : (contexts now : ℕ) (book : Stands) (past : Option ℕ) (step : Next AcceptEnd Outcome) (gone : Option ℕ) → goes_by None step past book.history book.table ≡ gone → book.table.limit ≡ contexts → live_of book.table ≡ living book.history
+    → IsNext book.table now past → (nat_le book.table.limit (live_of book.table) && is_none past) ≡ false → Within contexts book.history → IsPlaced contexts None gone book.history
+placed-by contexts now book past step None e limit live is_past full w =
+    let goes : Goes (settles step) true book.history book.table now None =
+    subst (λ (o : Option ℕ). Goes (settles step) true book.history book.table now o) e (goes-by-next None step past book.history book.table now (λ first. is_past)) in
+    omega (arith, none-place (settles step) true book.history book.table now goes refl (roomy book past now is_past full), limit, live)
+placed-by contexts now book past step (Some other) e limit live is_past full w =
+    elim (some-place book past now is_past full) [
+      | inl some ↦ omega (arith, some, limit)
+      | inr lives ↦ omega (arith, lives, live, within-living contexts book.history w)
+    ]
+
+within-begun : (contexts now' : ℕ) (setup : AcceptSetup) (book : Stands) (past : Option ℕ) (token : List ℕ) (now : ℕ) (draws : List ℕ) → book.table.limit ≡ contexts → live_of book.table ≡ living book.history → IsNext book.table now' past → Within contexts book.history
     → Within contexts (begun setup book past token now draws).history
 within-begun contexts now' setup book past token now draws limit live is_past w =
     within-either contexts (nat_lt book.limit (length book.history + 4)) _ _ (λ e. w) (λ e.
     within-either contexts (nat_le book.table.limit (live_of book.table) && is_none past) _ _ (λ f. w) (λ f.
-    within-step contexts book None past (accept_step setup ends.New token now draws) (placed-by contexts now' book past (nat_lt (live_of book.table) book.table.limit) refl limit live is_past f w) w))
+    within-step contexts book None past (accept_step setup ends.New token now draws) (λ step. placed-by contexts now' book past step _ refl limit live is_past f w) w))
 
 within-opened : (contexts : ℕ) (setup : AcceptSetup) (book : Stands) (id : ℕ) (past : Option ℕ) (token : List ℕ) (now : ℕ) (draws : List ℕ) → Within contexts book.history → Within contexts (opened_by setup book id past token now draws).history
 within-opened contexts setup book id past token now draws w =
     within-either contexts (nat_lt book.limit (length book.history + 4)) _ _ (λ e. w) (λ e.
-    within-step contexts book (Some id) past (later_step setup (state_of (slot_at book.table id)) token now draws) tt w)
+    within-step contexts book (Some id) past (later_step setup (state_of (slot_at book.table id)) token now draws) (λ step. tt) w)
 
 within-gone : (contexts : ℕ) (stands : Standing) (setup : AcceptSetup) (book : Stands) (id : ℕ) (past : Option ℕ) (token : List ℕ) (now : ℕ) (draws : List ℕ) → Within contexts book.history → Within contexts (gone_on_by stands setup book id past token now draws).history
 within-gone contexts Unknown setup book id past token now draws w = w
@@ -167,7 +202,7 @@ within-gone contexts (Open at) setup book id past token now draws w = within-ope
 within-gone contexts (Whole mech names until) setup book id past token now draws w = w
 within-gone contexts Over setup book id past token now draws w = w
 
-within-negotiated : (contexts now' : ℕ) (setup : AcceptSetup) (book : Stands) (id past : Option ℕ) (token : List ℕ) (now : ℕ) (draws : List ℕ) → book.table.limit ≡ contexts → live_of book.table ≡ living book.history → IsPast book.table now' past → Within contexts book.history
+within-negotiated : (contexts now' : ℕ) (setup : AcceptSetup) (book : Stands) (id past : Option ℕ) (token : List ℕ) (now : ℕ) (draws : List ℕ) → book.table.limit ≡ contexts → live_of book.table ≡ living book.history → IsNext book.table now' past → Within contexts book.history
     → Within contexts (negotiated setup book id past token now draws).history
 within-negotiated contexts now' setup book None past token now draws limit live is_past w = within-begun contexts now' setup book past token now draws limit live is_past w
 within-negotiated contexts now' setup book (Some id) past token now draws limit live is_past w = within-gone contexts (standing id book.history) setup book id past token now draws w
@@ -189,10 +224,10 @@ after-end contexts (Some refusal) id cause h w = w
 
 stepped-within : (contexts : ℕ) (old new : BookOf) (id : Option ℕ) (token : List ℕ) (now : ℕ) (draws : List ℕ) (answer : Negotiated) → Roomy contexts old → BookStepped old new id token now draws answer → Within contexts new.core.history
 stepped-within contexts old new id token now draws answer r b =
-    let past = past-of old.core.table (max old.core.cache.greatest now) in
+    let past = next-of old.core.table (max old.core.cache.greatest now) in
     elim (memory-cases answer.answer) [
       | inl short ↦ subst (λ (h : List Entry). Within contexts h) (sym (b.comes.memory short).history) (within-refusal contexts id old.core.history r.within)
-      | inr enough ↦ subst (λ (h : List Entry). Within contexts h) (sym (b.comes.outcome past.0 past.1 enough).history)
+      | inr enough ↦ subst (λ (h : List Entry). Within contexts h) (sym (b.comes.outcome past.0 (λ first. past.1) enough).history)
           (within-negotiated contexts (max old.core.cache.greatest now) old.setup (raised old.core now) id past.0 token now draws r.limit r.live past.1 r.within)
     ]
 

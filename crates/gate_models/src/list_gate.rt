@@ -241,7 +241,7 @@ impl ListGate {
 }
 
 impl Gate for ListGate {
-    ghost use Rattle.std.specs.Prelude.{◌-◌, true, vec_len};
+    ghost use Rattle.std.specs.Prelude.{◌-◌, true, false, vec_len};
     ghost use Rattle.gate_models.specs.ListGate.{answers_left};
     ghost use Rattle.gate_models.specs.Listed.{ListAnswers};
 
@@ -251,7 +251,13 @@ impl Gate for ListGate {
 
     ghost told = { λ gate. gate.told.items };
 
-    ghost limits = { λ _. record { contexts = 0; marks = 0; log = 0; width = 0 } };
+    ghost limits = { λ _. record {
+      contexts = 0;
+      marks = 0;
+      log = 0;
+      width = 0;
+      keeping = record { entries = false; digest = false };
+    } };
 
     ghost answers = { λ old asked new. ListAnswers old.answers.items asked new.answers.items };
 

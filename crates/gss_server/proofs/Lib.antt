@@ -7,3 +7,4 @@ pub mod Turning
 pub mod Replying
 pub mod Takings
 pub mod Unasked
+mod LowWords

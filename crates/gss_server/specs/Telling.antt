@@ -50,4 +50,5 @@ limits_of core = record {
   marks = core.cache.capacity;
   log = core.limit;
   width = core.width;
+  keeping = core.keeping;
 }

@@ -6,6 +6,7 @@ ghost use Rattle.accept_book.specs.RecordShown.{by, signed, end_of, result_body}
 ghost use Rattle.accept_book.specs.RecordRule.{result_reply};
 ghost use Rattle.accept_book.specs.Served.{result_of};
 ghost use Rattle.gss_server.specs.Answers.{IsSaid};
+ghost use Rattle.rpc_msgs.specs.Words.{word};
 ghost use Rattle.gss_server.specs.Hearing.{shown};
 
 use crate::answer::Reply;
@@ -31,7 +32,7 @@ pub(crate) fn say_result(
     lease: &Lease,
     keys: &LentKeys<'_>,
     args: &[u8],
-    posts: u32,
+    posts: u64,
 ) -> Said
     requires { length args.now ≤ 65540 }
     ensures says { IsSaid result (by Rule.Done
@@ -55,7 +56,7 @@ fn make_reply(
     lease: &Lease,
     keys: &LentKeys<'_>,
     args: &[u8],
-    posts: u32,
+    posts: u64,
 ) -> Result<Octets, NoMemory>
     requires { length args.now ≤ 65540 }
     ensures value { IfOk result (λ octets. Some octets
@@ -119,7 +120,7 @@ fn result_octets(
     procedure: u32,
     args: &[u8],
     lease: &Lease,
-    posts: u32,
+    posts: u64,
 ) -> Result<Octets, NoMemory>
     requires { length args.now ≤ 65540 }
     ensures value { IfOk result (λ octets. octets
@@ -131,13 +132,14 @@ fn result_octets(
     Ok(out.finish())
 }
 
-/// Appends the result of a procedure: ECHO's argument, the initiator's name, or the number of posts.
+/// Appends the result of a procedure: ECHO's argument, the initiator's name, or the low 32 bits of the
+/// number of posts.
 fn put_result(
     out: &mut XdrWriter,
     procedure: u32,
     args: &[u8],
     lease: &Lease,
-    posts: u32,
+    posts: u64,
 ) -> Result<(), NoMemory>
     ensures value { OnOk result (out.new
         ≡ out.old ++ result_of procedure args.now lease.now.outcome.initiator posts) }
@@ -148,6 +150,13 @@ fn put_result(
         NULL => Ok(()),
         ECHO => out.octets(args),
         WHOAMI => out.opaque(name),
-        _ => out.word(posts),
+        _ => out.word(low_word(posts)),
     }
+}
+
+/// The low 32 bits of a count, whose word has the count's octets.
+fn low_word(count: u64) -> u32
+    ensures { word result ≡ word count }
+{
+    (count % 4_294_967_296) as u32
 }

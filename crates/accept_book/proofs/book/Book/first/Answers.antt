@@ -14,5 +14,5 @@ begin-answer-requires-clause-short c = c.requires.3.short
 pub returns-clause-stepped : goal.returns-clause-stepped
 returns-clause-stepped c = λ setup token draws made.
     rw (← c.self.view_is) (comes_first c.self.inside.core c.raise.new.self c.begin-answer.new.core setup c.args.stepped token c.args.now draws c.begin-answer.result
-    c.raise.ensures.history c.raise.ensures.limit c.raise.ensures.width c.raise.ensures.table c.raise.ensures.capacity c.raise.ensures.greatest
+    c.raise.ensures.history c.raise.ensures.limit c.raise.ensures.width c.raise.ensures.keeping c.raise.ensures.table c.raise.ensures.capacity c.raise.ensures.greatest
     c.begin-answer.ensures.took c.begin-answer.ensures.memory.1 c.log.ensures.replays.live made)

@@ -1,0 +1,26 @@
+-- Entries that are erased have no bytes: any list of them is made of nothing. Assumes `Logic`.
+use Rattle.std.proofs.Common.{List, [], ◌∷◌, refl}
+use seplogic.Ra.Ura.{Ura}
+use mir.Val.{Val, vstruct, vnil}
+use types.Logic.{Logic}
+use types.Kit.{Goal, Step, step, Item, ‵, ◌$◌, fjoin}
+use denote.Steps.{nothing, owned}
+use denote.Struct.Struct.{Shape, Struct, Struct-Makes}
+use Rattle.accept_core.specs.declared.entry.Entry.{Entry}
+use Rattle.accept_core.specs.contracts.erased.Erased.{the_row as Row}
+
+-- the machine's value of a struct without bytes
+abbrev pub no_bytes : Val
+no_bytes = vstruct vnil
+
+abbrev no_fields : Shape
+no_fields = record { name = []; args = []; types = []; fields = [] }
+
+-- entries as a value of `Erased`
+abbrev pub erased : List Entry → Row.Denot
+erased entries = record { entries = entries }
+
+-- it is owned, whatever its entries are
+pub erases : {M : Type 1} {𝓤 : Ura M} {𝓛 : Logic 𝓤} {K : Type 0} {Γ : List (Item 𝓤)} {G : Goal 𝓤 𝓛.H} → K → (entries : List Entry) → Step K 𝓛 (‵ (Row.own_val (erased entries) (no_bytes ∷ [])) ∷ Γ) G Γ G
+erases {𝓛 = 𝓛} t entries = step (λ after.
+    nothing t $ owned t (Struct no_fields) _ (Struct-Makes 𝓛 no_fields tt) tt (no_bytes ∷ []) (tt, (refl, tt)) $ fjoin t $ after)
