@@ -2,7 +2,8 @@
 use Rattle.std.proofs.Common.{◌≡◌, ◌≢◌, ◌⊎◌, ◌∙◌, inl, inr, ℕ, refl, sym, ap, subst, List, max, Option, Some, None}
 use Rattle.spnego_core.specs.declared.accept_end.AcceptEnd.{AcceptEnd}
 use Rattle.spnego_core.specs.declared.outcome.Outcome.{Outcome}
-use Rattle.context_table.specs.Places.{Places, IsPast, live_of}
+use Rattle.context_table.specs.Places.{Places, live_of}
+use Rattle.accept_core.specs.Stepping.{IsNext}
 use Rattle.accept_book.specs.declared.book_answer.NegAnswer.{NegAnswer}
 use Rattle.accept_book.specs.declared.book_answer.NegAnswer.TheVariants as answers
 use Rattle.accept_book.specs.declared.book_answer.Negotiated.{Negotiated}
@@ -22,25 +23,25 @@ memory-cases (answers.Settled lease token) = inr (λ e. cc)
 memory-cases (answers.Refused refusal) = inr (λ e. cc)
 memory-cases answers.NoMemory = inl refl
 
-stepped-front : (old new : BookOf) (id past : Option ℕ) (token : List ℕ) (now : ℕ) (draws : List ℕ) (answer : Negotiated) → IsPast old.core.table (max old.core.cache.greatest now) past
+stepped-front : (old new : BookOf) (id past : Option ℕ) (token : List ℕ) (now : ℕ) (draws : List ℕ) (answer : Negotiated) → IsNext old.core.table (max old.core.cache.greatest now) past
     → BookStepped old new id token now draws answer → Fronts old.core.history new.core.history
 stepped-front old new id past token now draws answer is_past b = elim (memory-cases answer.answer) [
   | inl short ↦ subst (Fronts old.core.history) (sym (b.comes.memory short).history) (refusal-front id old.core.history)
-  | inr enough ↦ subst (Fronts old.core.history) (sym (b.comes.outcome past is_past enough).history) (negotiated-front old.setup (raised old.core now) id past token now draws)
+  | inr enough ↦ subst (Fronts old.core.history) (sym (b.comes.outcome past (λ first. is_past) enough).history) (negotiated-front old.setup (raised old.core now) id past token now draws)
 ]
 
 after-front : {R : Type 0} (refusal : Option R) (entry : Entry) (h : List Entry) → Fronts h (after refusal entry h)
 after-front None entry h = one-front entry h h (no-front h)
 after-front (Some refusal) entry h = no-front h
 
--- the moment of a step
-abbrev pub IsPastFor : BookOf → Option ℕ → Asked → Type 0
-IsPastFor old past (AskedStep id token now draws answer) = IsPast old.core.table (max old.core.cache.greatest now) past
-IsPastFor old past (AskedLook id now answer) = Unit {0}
-IsPastFor old past (AskedAdmit lease seq procedure args answer) = Unit {0}
-IsPastFor old past (AskedEnd lease seq answer) = Unit {0}
+-- the context that gives its place to a new one, at the moment of a step
+abbrev pub IsNextFor : BookOf → Option ℕ → Asked → Type 0
+IsNextFor old past (AskedStep id token now draws answer) = IsNext old.core.table (max old.core.cache.greatest now) past
+IsNextFor old past (AskedLook id now answer) = Unit {0}
+IsNextFor old past (AskedAdmit lease seq procedure args answer) = Unit {0}
+IsNextFor old past (AskedEnd lease seq answer) = Unit {0}
 
-pub answers-front : (old new : BookOf) (past : Option ℕ) (asked : Asked) → IsPastFor old past asked → BookAnswers old asked new → Fronts old.core.history new.core.history
+pub answers-front : (old new : BookOf) (past : Option ℕ) (asked : Asked) → IsNextFor old past asked → BookAnswers old asked new → Fronts old.core.history new.core.history
 answers-front old new past (AskedStep id token now draws answer) is_past b = stepped-front old new id past token now draws answer is_past b
 answers-front old new past (AskedLook id now answer) is_past b = same-front old.core.history new.core.history b.looked.history
 answers-front old new past (AskedAdmit lease seq procedure args answer) is_past b = subst (Fronts old.core.history) (sym b.history) (after-front _ _ old.core.history)

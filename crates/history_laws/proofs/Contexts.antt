@@ -1,5 +1,6 @@
 -- The contexts of a book are what its log says and what the machine makes by their steps, and so they stay by each token.
 use Rattle.std.proofs.Common.{◌≡◌, ◌≢◌, ◌∙◌, ℕ, ◌+◌, Bool, true, false, ◌==◌, refl, ap, sym, subst, inl, inr, List, ◌∷◌, length, Option, Some, None, Result, Ok, Err}
+use Rattle.std.specs.List.{slice_get}
 use Rattle.std.specs.Prelude.{◌&&◌, if◌then◌else◌, nat_lt, nat_le, is_none}
 use Rattle.std.proofs.lemmas.Bool.{cases_eq, eq-eqb, ne_eqb, eqb-true, true≢false}
 use Rattle.gss_base.specs.declared.mark.Mark.{Mark}
@@ -25,11 +26,12 @@ use Rattle.accept_core.specs.declared.entry.Entry.TheVariants.{Opened}
 use Rattle.accept_core.specs.History.{Standing, Unknown, Open, Whole, Over, standing, opened, taken_of, IsGone}
 use Rattle.accept_core.specs.Entering.{lapsed, noted, finished, mark_refused}
 use Rattle.accept_core.specs.Replays.{end_of_opened}
-use Rattle.accept_core.specs.Stepping.{has_place, Context, context_of, context_after, until_of, ends_at}
+use Rattle.accept_core.specs.Aging.{in_use}
+use Rattle.accept_core.specs.Stepping.{goes_by, gone_of, is_crowded, settles, Context, context_of, context_after, until_of, ends_at}
 use Rattle.accept_book.specs.declared.book_answer.BookRefusal.{BookRefusal}
 use Rattle.accept_book.specs.declared.book_answer.BookRefusal.TheVariants as refusals
 use Rattle.accept_book.specs.declared.book_answer.NegAnswer.TheVariants as answers
-use Rattle.accept_book.specs.Booking.{names_of, Stands, Outcomes, changed, without, lapsed_by, leaves, spends, next_answered, next_of, mark_of, settled_of, by_mark, by_step, later_step, begun, opened_by, gone_on_by, negotiated}
+use Rattle.accept_book.specs.Booking.{names_of, Stands, Outcomes, changed, without, leaves, spends, next_answered, next_of, mark_of, settled_of, by_mark, by_step, later_step, begun, opened_by, gone_on_by, negotiated}
 use Rattle.history_laws.specs.Before.{Step, is_for, Made, Negotiates, Settles, made_by, then_step}
 use Rattle.history_laws.proofs.Steps.{made_with, for-own}
 
@@ -152,11 +154,10 @@ not-settled : (setup : AcceptSetup) (mades : ℕ → Option Made) (step : Step) 
 not-settled setup mades step accepted own id outcome until f e same =
     let g : Some (Negotiates f.end) ≡ Some (Settles outcome until) = sym f.was ∙ (ap mades same ∙ e) in absurd cc
 
-lapse-each : (place : Bool) (past : Option ℕ) (id : ℕ) (h : List Entry) (made : Option Made) (before : Option Known) → Matches made (standing id h) before
-    → Matches made (standing id (lapsed place past h)) (without (lapsed_by None place past) id before)
-lapse-each true past id h made before m = m
-lapse-each false None id h made before m = m
-lapse-each false (Some gone) id h made before m = gone-each (gone == id) before made (standing id h) m
+lapse-each : (gone : Option ℕ) (id : ℕ) (h : List Entry) (made : Option Made) (before : Option Known) → Matches made (standing id h) before
+    → Matches made (standing id (lapsed gone h)) (without gone id before)
+lapse-each None id h made before m = m
+lapse-each (Some gone) id h made before m = gone-each (gone == id) before made (standing id h) m
 
 opened-own : (own now : ℕ) (h : List Entry) → standing own (Opened own now ∷ h) ≡ Open now
 opened-own own now h = rw (eq-eqb own own refl) refl
@@ -193,19 +194,19 @@ fits-first : (setup : AcceptSetup) (book : Stands) (mades : ℕ → Option Made)
 fits-first setup book mades step past accepted r f =
     let own = opened book.history + 1 in
     let now = book.greatest in
-    let place = has_place book.table in
     let next = next_of (settled_of accepted.step) in
-    let before = lapsed place past book.history in
+    let gone = goes_by None next past book.history book.table in
+    let before = lapsed gone book.history in
     let mark = mark_of accepted.step in
     let opens = noted mark own now (Opened own now ∷ before) in
     let after = context_after (until_of None now book.table) next in
     fits-by setup book mades step accepted own (by_mark book None past mark (settled_of accepted.step) None) after f
     (λ id. for-own id own (settled_of accepted.step))
-    (becomes-own (lapsed_by None place past) own after (context_of (slot_at book.table own)))
+    (becomes-own gone own after (context_of (slot_at book.table own)))
     (own-context true next own now (end_of_opened now) now opens (named-of (settled_of accepted.step)) (standing-noted mark own now own (Opened own now ∷ before) ∙ opened-own own now before) refl)
-    (λ id ne. rw (ne_eqb own id ne) (subst (λ (s : Standing). Matches (mades id) s (without (lapsed_by None place past) id (context_of (slot_at book.table id))))
+    (λ id ne. rw (ne_eqb own id ne) (subst (λ (s : Standing). Matches (mades id) s (without gone id (context_of (slot_at book.table id))))
     (sym (standing-finished true next own now id opens ne ∙ (standing-noted mark own now id (Opened own now ∷ before) ∙ opened-other own now id before ne)))
-    (lapse-each place past id book.history (mades id) (context_of (slot_at book.table id)) (r.each id))))
+    (lapse-each gone id book.history (mades id) (context_of (slot_at book.table id)) (r.each id))))
 
 -- ---- a later token, of a context that negotiates
 
@@ -236,6 +237,13 @@ opens book mades id at r is =
     let o = slot-opens (mades id) at (slot_at book.table id) (subst (λ (s : Standing). Matches (mades id) s (context_of (slot_at book.table id))) is (r.each id)) in
     record { end = o.0; was = o.1; state = o.2; ends = o.3 }
 
+-- a step that goes on ends none
+own-later : (past : Option ℕ) (limit : ℕ) (next : Next AcceptEnd Outcome) (mark : Option Mark) (id now until at : ℕ) (h : List Entry) → Named next → standing id h ≡ Open at → until ≡ end_of_opened at
+    → Matches (Some (made_by next)) (standing id (finished false next id now (noted mark id now (lapsed (gone_of (is_crowded (settles next) h limit) false (slice_get (in_use h) 0) past) h)))) (Some (context_after until next))
+own-later past limit (nexts.Going state) mark id now until at h named is ends =
+    own-context false (nexts.Going state) id now until at (noted mark id now h) named (standing-noted mark id now id h ∙ is) ends
+own-later past limit (nexts.Settled mech names outcome lasts) mark id now until at h named is ends = own-settled mech names outcome lasts id now (noted mark id now (lapsed (gone_of (is_crowded true h limit) false (slice_get (in_use h) 0) past) h)) named.0 named.1
+
 fits-later : (setup : AcceptSetup) (book : Stands) (mades : ℕ → Option Made) (step : Step) (id : ℕ) (past : Option ℕ) (accepted : Accepted) (at : ℕ) → Ready book mades
     → standing id book.history ≡ Open at → From setup (mades id) step accepted
     → Fits setup book mades step (by_mark book (Some id) past (mark_of accepted.step) (settled_of accepted.step) None)
@@ -243,16 +251,19 @@ fits-later setup book mades step id past accepted at r is f =
     let now = book.greatest in
     let next = next_of (settled_of accepted.step) in
     let mark = mark_of accepted.step in
-    let marked = noted mark id now book.history in
+    let gone = goes_by (Some id) next past book.history book.table in
+    let before = lapsed gone book.history in
+    let marked = noted mark id now before in
     let until = ends_at (slot_at book.table id) in
     let after = context_after until next in
     let o = opens book mades id at r is in
     fits-by setup book mades step accepted id (by_mark book (Some id) past mark (settled_of accepted.step) None) after f
     (λ k. for-own k id (settled_of accepted.step))
-    (becomes-own None id after (context_of (slot_at book.table id)))
-    (own-context false next id now until at marked (named-of (settled_of accepted.step)) (standing-noted mark id now id book.history ∙ is) o.ends)
-    (λ k ne. rw (ne_eqb id k ne) (subst (λ (s : Standing). Matches (mades k) s (context_of (slot_at book.table k)))
-    (sym (standing-finished false next id now k marked ne ∙ standing-noted mark id now k book.history)) (r.each k)))
+    (becomes-own gone id after (context_of (slot_at book.table id)))
+    (own-later past book.table.limit next mark id now until at book.history (named-of (settled_of accepted.step)) is o.ends)
+    (λ k ne. rw (ne_eqb id k ne) (subst (λ (s : Standing). Matches (mades k) s (without gone k (context_of (slot_at book.table k))))
+    (sym (standing-finished false next id now k marked ne ∙ standing-noted mark id now k before))
+    (lapse-each gone k book.history (mades k) (context_of (slot_at book.table k)) (r.each k))))
 
 -- ---- all tokens
 

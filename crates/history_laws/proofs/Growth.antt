@@ -5,18 +5,18 @@ use Rattle.accept_core.specs.declared.entry.Entry.{Entry}
 use Rattle.accept_book.specs.Booking.{BookOf}
 use Rattle.accept_book.specs.RecordShown.{Asked, AskedStep, AskedLook, AskedAdmit, AskedEnd}
 use Rattle.gss_server.specs.Asking.{Asking, BookAnswers}
-use Rattle.history_laws.proofs.Answering.{IsPastFor, answers-front}
+use Rattle.history_laws.proofs.Answering.{IsNextFor, answers-front}
 use Rattle.history_laws.proofs.Histories.{Fronts}
-use Rattle.history_laws.proofs.Past.{past-of}
+use Rattle.accept_core.proofs.Nexts.{next-of}
 
-pub past-for : (old : BookOf) (one : Asked) → (past : Option ℕ) × IsPastFor old past one
-past-for old (AskedStep id token now draws answer) = past-of old.core.table (max old.core.cache.greatest now)
-past-for old (AskedLook id now answer) = (None, tt)
-past-for old (AskedAdmit lease seq procedure args answer) = (None, tt)
-past-for old (AskedEnd lease seq answer) = (None, tt)
+pub next-for : (old : BookOf) (one : Asked) → (past : Option ℕ) × IsNextFor old past one
+next-for old (AskedStep id token now draws answer) = next-of old.core.table (max old.core.cache.greatest now)
+next-for old (AskedLook id now answer) = (None, tt)
+next-for old (AskedAdmit lease seq procedure args answer) = (None, tt)
+next-for old (AskedEnd lease seq answer) = (None, tt)
 
 pub fronts-one : (old new : BookOf) (one : Asked) → BookAnswers old one new → Fronts old.core.history new.core.history
-fronts-one old new one b = let past = past-for old one in answers-front old new past.0 one past.1 b
+fronts-one old new one b = let past = next-for old one in answers-front old new past.0 one past.1 b
 
 fronts-then : (old mid new : List Entry) → Fronts old mid → Fronts mid new → Fronts old new
 fronts-then old mid new first second = record { more = second.more ++ first.more; is = second.is ∙ ap (λ (h : List Entry). second.more ++ h) first.is ∙ sym (append_assoc second.more first.more old) }

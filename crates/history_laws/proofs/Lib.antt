@@ -1,6 +1,6 @@
 pub mod LogWalk
 pub mod Histories
-pub mod Past
+pub mod Counts
 pub mod Answering
 pub mod Growth
 pub mod InPlace

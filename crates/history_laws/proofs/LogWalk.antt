@@ -19,6 +19,7 @@ use Rattle.accept_core.specs.declared.entry.EndCause.TheVariants as causes
 use Rattle.accept_core.specs.declared.entry.Entry.{Entry}
 use Rattle.accept_core.specs.declared.entry.Entry.TheVariants.{Opened, Auth, Went, Settled, Call, Ended}
 use Rattle.accept_core.specs.History.{Standing, Unknown, Open, Whole, Over, standing, taken_of}
+use Rattle.accept_core.specs.Stepping.{goes_by}
 use Rattle.accept_core.specs.Entering.{id_of, lapsed, started, noted, finished, entered, mark_refused}
 use Rattle.accept_book.specs.Booking.{Stands, Outcomes, mark_of, next_of, settled_of, after_refusal, by_mark, by_step, later_step, begun, opened_by, gone_on_by, negotiated}
 
@@ -41,14 +42,13 @@ pub record Walk (Grows : List Entry → List Entry → Type 0) : Type 0 where
   pub none : (h : List Entry) → Grows h h
   pub one : (entry : Entry) (old new : List Entry) → (IsSaid entry → ⊥) → Grows old new → Grows old (entry ∷ new)
 
-lapsed-walk : {Grows : List Entry → List Entry → Type 0} (w : Walk Grows) (place : Bool) (past : Option ℕ) (h : List Entry) → Grows h (lapsed place past h)
-lapsed-walk w true past h = w.none h
-lapsed-walk w false None h = w.none h
-lapsed-walk w false (Some id) h = w.one (Ended id causes.Lapsed) h h (λ s. s) (w.none h)
+lapsed-walk : {Grows : List Entry → List Entry → Type 0} (w : Walk Grows) (gone : Option ℕ) (h : List Entry) → Grows h (lapsed gone h)
+lapsed-walk w None h = w.none h
+lapsed-walk w (Some id) h = w.one (Ended id causes.Lapsed) h h (λ s. s) (w.none h)
 
-started-walk : {Grows : List Entry → List Entry → Type 0} (w : Walk Grows) (id : Option ℕ) (place : Bool) (past : Option ℕ) (now : ℕ) (h : List Entry) → Grows h (started id place past now h)
-started-walk w None place past now h = w.one _ h (lapsed place past h) (λ s. s) (lapsed-walk w place past h)
-started-walk w (Some id) place past now h = w.none h
+started-walk : {Grows : List Entry → List Entry → Type 0} (w : Walk Grows) (id gone : Option ℕ) (now : ℕ) (h : List Entry) → Grows h (started id gone now h)
+started-walk w None gone now h = w.one _ h (lapsed gone h) (λ s. s) (lapsed-walk w gone h)
+started-walk w (Some id) gone now h = lapsed-walk w gone h
 
 noted-walk : {Grows : List Entry → List Entry → Type 0} (w : Walk Grows) (mark : Option Mark) (id now : ℕ) (old h : List Entry) → Grows old h → Grows old (noted mark id now h)
 noted-walk w None id now old h f = f
@@ -61,11 +61,11 @@ finished-walk w false (nexts.Going state) id now old h f = w.one (Went id now) o
 finished-walk w true (nexts.Settled mech names value until) id now old h f = w.one (Settled id mech names until now) old h (λ s. s) f
 finished-walk w false (nexts.Settled mech names value until) id now old h f = w.one (Settled id mech names until now) old h (λ s. s) f
 
-entered-walk : {Grows : List Entry → List Entry → Type 0} (w : Walk Grows) (id : Option ℕ) (place : Bool) (past : Option ℕ) (mark : Option Mark) (step : Next AcceptEnd Outcome) (now : ℕ)
-    (h : List Entry) → Grows h (entered id place past mark step now h)
-entered-walk w id place past mark step now h =
-    finished-walk w (is_none id) step (id_of id h) now h (noted mark (id_of id h) now (started id place past now h))
-    (noted-walk w mark (id_of id h) now h (started id place past now h) (started-walk w id place past now h))
+entered-walk : {Grows : List Entry → List Entry → Type 0} (w : Walk Grows) (id gone : Option ℕ) (mark : Option Mark) (step : Next AcceptEnd Outcome) (now : ℕ)
+    (h : List Entry) → Grows h (entered id gone mark step now h)
+entered-walk w id gone mark step now h =
+    finished-walk w (is_none id) step (id_of id h) now h (noted mark (id_of id h) now (started id gone now h))
+    (noted-walk w mark (id_of id h) now h (started id gone now h) (started-walk w id gone now h))
 
 pub refusal-walk : {Grows : List Entry → List Entry → Type 0} (w : Walk Grows) (id : Option ℕ) (h : List Entry) → Grows h (after_refusal id h)
 refusal-walk w None h = w.none h
@@ -73,7 +73,7 @@ refusal-walk w (Some id) h = w.one (Ended id causes.Refused) h h (λ s. s) (w.no
 
 mark-walk : {Grows : List Entry → List Entry → Type 0} (w : Walk Grows) (book : Stands) (id past : Option ℕ) (mark : Option Mark) (step : AcceptStep) (refusal : Option MarkRefusal)
     → Grows book.history (by_mark book id past mark step refusal).history
-mark-walk w book id past mark step None = entered-walk w id (nat_lt (live_of book.table) book.table.limit) past mark (next_of step) book.greatest book.history
+mark-walk w book id past mark step None = entered-walk w id (goes_by id (next_of step) past book.history book.table) mark (next_of step) book.greatest book.history
 mark-walk w book id past mark step (Some refusal) = refusal-walk w id book.history
 
 step-walk : {Grows : List Entry → List Entry → Type 0} (w : Walk Grows) (book : Stands) (id past : Option ℕ) (taken : Result Accepted NegRefusal)

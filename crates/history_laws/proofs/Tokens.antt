@@ -1,5 +1,6 @@
 -- What a token comes to is what stands before it.
-use Rattle.std.proofs.Common.{◌≡◌, ◌∙◌, ℕ, ◌+◌, ◌<◌, ◌≤◌, max, Bool, true, false, refl, ap, sym, subst, arith, List, [], length, Option, Some, None, Result, Ok, Err}
+use Rattle.std.proofs.Common.{◌≡◌, ◌∙◌, ℕ, ◌+◌, ◌<◌, ◌≤◌, max, Bool, true, false, refl, ap, sym, subst, inl, inr, arith, List, [], length, Option, Some, None, Result, Ok, Err}
+use Rattle.std.specs.List.{slice_get}
 use Rattle.std.specs.Prelude.{◌&&◌, if◌then◌else◌, nat_lt, nat_le, is_none, IfSome, IsSomeAnd}
 use Rattle.std.proofs.lemmas.Bool.{ltb-true, ltb-false, leb-true, leb-false, and_parts, eq-eqb, true≢false}
 use Rattle.std.proofs.lemmas.Option.{none-some}
@@ -13,20 +14,23 @@ use Rattle.spnego_core.specs.Accepting.{Accepted, accept_step}
 use Rattle.context_table.specs.declared.slot.Slot.{Slot}
 use Rattle.context_table.specs.declared.slot.SlotState.{SlotState}
 use Rattle.context_table.specs.declared.slot.SlotState.TheVariants.{Negotiating, Held, Complete}
-use Rattle.context_table.specs.Places.{slot_at, live_of, state_of, IsPast}
+use Rattle.context_table.specs.Slots.{waits}
+use Rattle.context_table.specs.Places.{slot_at, live_of, state_of, IsPast, IsWaiting, is_waiting}
 use Rattle.accept_core.specs.declared.answer.MarkRefusal.{MarkRefusal}
 use Rattle.accept_core.specs.declared.answer.MarkRefusal.TheVariants as marks
 use Rattle.accept_core.specs.declared.entry.Entry.{Entry}
 use Rattle.accept_core.specs.declared.entry.Receipt.{Receipt}
 use Rattle.accept_core.specs.History.{Standing, Unknown, Open, Whole, Over, standing, living, taken_of, IsGone, IsOpen, is_whole}
 use Rattle.accept_core.specs.Entering.{gained, id_of, entered, mark_refused}
-use Rattle.accept_core.specs.Stepping.{context_of}
+use Rattle.accept_core.specs.declared.answer.Next.{Next}
+use Rattle.accept_core.specs.Aging.{in_use}
+use Rattle.accept_core.specs.Stepping.{context_of, IsNext, gone_of, is_crowded, settles}
 use Rattle.accept_core.proofs.Steps.{gained-none}
 use Rattle.accept_book.specs.declared.book_answer.NegAnswer.{NegAnswer}
 use Rattle.accept_book.specs.declared.book_answer.NegAnswer.TheVariants as answers
 use Rattle.accept_book.specs.Booking.{BookOf, Stands, Outcomes, raised, mark_of, next_of, settled_of, answer_with, refusal_of_mark, by_mark, by_step, later_step, begun, opened_by, gone_on_by, negotiated}
 use Rattle.accept_book.specs.RecordShown.{Asked}
-use Rattle.history_laws.specs.Before.{Before, Made, is_for, made_in, ends_by, IsOver, Lasts, PastBy}
+use Rattle.history_laws.specs.Before.{Before, Made, is_for, made_in, ends_by, IsOver, Lasts, PastBy, OpenBy, NextBy}
 use Rattle.history_laws.specs.Seen.{IsDue, StepsTo, MarkRefused, StandsAt, IsFull, StepTaken, StepSeen}
 use Rattle.history_laws.proofs.Contexts.{MatchesState, Matches, Ready, opens, later-is}
 use Rattle.history_laws.proofs.Marks.{RefusedMark, why-refused, held-stands}
@@ -62,12 +66,53 @@ past-by book mades (Some id) r h = (
   λ other lt. slot-lasts (mades other) (standing other book.history) (slot_at book.table other) book.greatest (r.each other) (h.1 other lt),
 )
 
+off : false ≡ true → ⊥
+off e = true≢false (sym e)
+
+-- ---- which context negotiates and was opened first, by the log
+
+state-waits : (made : Option Made) (stands : Standing) (state : SlotState AcceptEnd Outcome) (until : ℕ) → MatchesState made stands state until → waits state ≡ true → IsOpen stands
+state-waits made stands (Negotiating end) until m w = subst IsOpen (sym m.1) tt
+state-waits made stands Held until m w = absurd m
+state-waits made stands (Complete outcome) until m w = absurd (off w)
+
+state-rests : (made : Option Made) (stands : Standing) (state : SlotState AcceptEnd Outcome) (until : ℕ) → MatchesState made stands state until → waits state ≡ false → IsOpen stands → ⊥
+state-rests made stands (Negotiating end) until m w still = true≢false w
+state-rests made stands Held until m w still = m
+state-rests made stands (Complete outcome) until m w still = subst IsOpen m.0 still
+
+gone-closed : (stands : Standing) → IsGone stands → IsOpen stands → ⊥
+gone-closed Unknown g still = still
+gone-closed (Open at) g still = g
+gone-closed (Whole mech names ends) g still = g
+gone-closed Over g still = still
+
+slot-waits : (made : Option Made) (stands : Standing) (slot : Option (Slot AcceptEnd Outcome)) → Matches made stands (context_of slot) → is_waiting slot ≡ true → IsOpen stands
+slot-waits made stands None m w = absurd (off w)
+slot-waits made stands (Some slot) m w = state-waits made stands slot.state slot.ends m w
+
+slot-rests : (made : Option Made) (stands : Standing) (slot : Option (Slot AcceptEnd Outcome)) → Matches made stands (context_of slot) → is_waiting slot ≡ false → IsOpen stands → ⊥
+slot-rests made stands None m w still = gone-closed stands m still
+slot-rests made stands (Some slot) m w still = state-rests made stands slot.state slot.ends m w still
+
+open-by : (book : Stands) (mades : ℕ → Option Made) (waiting : Option ℕ) → Ready book mades → IsWaiting book.table waiting → OpenBy book.history waiting
+open-by book mades None r none = λ id still. slot-rests (mades id) (standing id book.history) (slot_at book.table id) (r.each id) (none id) still
+open-by book mades (Some id) r w = (
+  slot-waits (mades id) (standing id book.history) (slot_at book.table id) (r.each id) w.0,
+  λ other lt still. slot-rests (mades other) (standing other book.history) (slot_at book.table other) (r.each other) (w.1 other lt) still,
+)
+
+next-by : (book : Stands) (mades : ℕ → Option Made) (past : Option ℕ) → Ready book mades → IsNext book.table book.greatest past → NextBy book.table.limit book.history book.greatest past
+next-by book mades None r n = (past-by book mades None r n.0, λ many. open-by book mades None r (n.1 many))
+next-by book mades (Some id) r (inl is) = inl (past-by book mades (Some id) r is)
+next-by book mades (Some id) r (inr w) = inr (past-by book mades None r w.0, w.1, open-by book mades (Some id) r w.2)
+
 -- ---- what is seen of an outcome
 
 -- what stands before a token: its book, the questions so far, and the contexts as they are seen, which are as many as the log says
 pub record Stood (book : BookOf) (asked : List Asked) (now : ℕ) (past : Option ℕ) : Type 0 where
   pub ready : Ready (raised book.core now) (λ id. made_in book.setup id asked)
-  pub is_past : IsPast book.core.table (max book.core.cache.greatest now) past
+  pub is_past : IsNext book.core.table (max book.core.cache.greatest now) past
   pub lives : live_of book.core.table ≡ living book.core.history
 
 abbrev pub SeenOf : BookOf → List Asked → Option ℕ → List ℕ → ℕ → List ℕ → Outcomes → Type 0
@@ -82,9 +127,6 @@ nothing-gained : (h : List Entry) → gained (length h) h ≡ []
 nothing-gained h = gained-none (length h) h (omega arith)
 
 -- ---- a step
-
-off : false ≡ true → ⊥
-off e = true≢false (sym e)
 
 -- an answer of a step that was taken isn't a refusal
 answered-own : (own : ℕ) (step : _) (answer : NegAnswer) → answer ≡ answer_with own step → is_for own answer ≡ true
@@ -115,6 +157,11 @@ refused-seen book asked id token now draws receipts accepted marks.CacheFull ste
     let r = refused w.mark w.is in
     (r.0, subst (λ (m : Mark). IsFull (before_in book asked) now m) (sym r.1) (record { new = w.why.0; many = w.why.1 }))
 
+-- the context that goes, by how many live
+abbrev goes_lives : BookOf → Option ℕ → Next AcceptEnd Outcome → Option ℕ → ℕ → Option ℕ
+goes_lives book id step next live =
+    gone_of (is_crowded (settles step) book.core.history book.core.table.limit) (is_none id && nat_le book.core.table.limit live) (slice_get (in_use book.core.history) 0) next
+
 seen-mark : (book : BookOf) (asked : List Asked) (id past : Option ℕ) (token : List ℕ) (now : ℕ) (draws : List ℕ) (accepted : Accepted) (refusal : Option MarkRefusal) → Stood book asked now past
     → StepsTo (before_in book asked) id token now draws (Ok accepted)
     → mark_refused book.core.cache.capacity (max book.core.cache.greatest now) (taken_of book.core.history) (mark_of accepted.step) ≡ refusal
@@ -132,8 +179,8 @@ seen-mark book asked id past token now draws accepted None stood step e =
       unmarked = e;
       says = refl;
       past = past;
-      is_past = past-by (raised book.core now) (λ k. made_in book.setup k asked) past stood.ready stood.is_past;
-      gains = ap (λ (n : ℕ). gained (length book.core.history) (entered id (nat_lt n book.core.table.limit) past (mark_of accepted.step) (next_of (settled_of accepted.step)) (max book.core.cache.greatest now) book.core.history)) stood.lives;
+      is_past = next-by (raised book.core now) (λ k. made_in book.setup k asked) past stood.ready stood.is_past;
+      gains = ap (λ (n : ℕ). gained (length book.core.history) (entered id (goes_lives book id (next_of (settled_of accepted.step)) past n) (mark_of accepted.step) (next_of (settled_of accepted.step)) (max book.core.cache.greatest now) book.core.history)) stood.lives;
     })
 
 seen-step : (book : BookOf) (asked : List Asked) (id past : Option ℕ) (token : List ℕ) (now : ℕ) (draws : List ℕ) (answer : Result Accepted NegRefusal) → Stood book asked now past
@@ -144,9 +191,9 @@ seen-step book asked id past token now draws (Ok accepted) stood step =
 
 -- ---- a first token
 
-full-past : (book : BookOf) (asked : List Asked) (now : ℕ) (past : Option ℕ) → is_none past ≡ true → Stood book asked now past → PastBy book.core.history (max book.core.cache.greatest now) None
-full-past book asked now None e stood = past-by (raised book.core now) (λ k. made_in book.setup k asked) None stood.ready stood.is_past
-full-past book asked now (Some id) e stood = absurd (off e)
+full-next : (book : BookOf) (asked : List Asked) (now : ℕ) (past : Option ℕ) → is_none past ≡ true → Stood book asked now past → NextBy book.core.table.limit book.core.history (max book.core.cache.greatest now) None
+full-next book asked now None e stood = next-by (raised book.core now) (λ k. made_in book.setup k asked) None stood.ready stood.is_past
+full-next book asked now (Some id) e stood = absurd (off e)
 
 -- as many contexts live by the log as may, or fewer
 full-lives : (book : BookOf) (asked : List Asked) (now : ℕ) (past : Option ℕ) → nat_le book.core.table.limit (live_of book.core.table) ≡ true → Stood book asked now past → book.core.table.limit ≤ living book.core.history
@@ -160,14 +207,19 @@ not-over : (lasts : Option ℕ) (now : ℕ) → Lasts lasts now → IsOver lasts
 not-over None now last over = over
 not-over (Some ends) now last over = omega (arith, last, over)
 
+-- none is next by the log, and one is
+never-next : (contexts : ℕ) (log : List Entry) (now id : ℕ) → NextBy contexts log now None → NextBy contexts log now (Some id) → ⊥
+never-next contexts log now id none (inl over) = not-over (ends_by (standing id log)) now (none.0 id) over.0
+never-next contexts log now id none (inr still) = none.1 still.1 id (still.2).0
+
 place-lives : (book : BookOf) (asked : List Asked) (now : ℕ) (past : Option ℕ) → (nat_le book.core.table.limit (live_of book.core.table) && is_none past) ≡ false → Stood book asked now past
-    → PastBy book.core.history (max book.core.cache.greatest now) None → living book.core.history < book.core.table.limit
+    → NextBy book.core.table.limit book.core.history (max book.core.cache.greatest now) None → living book.core.history < book.core.table.limit
 place-lives book asked now None e stood none =
     subst (λ (n : ℕ). n < book.core.table.limit) stood.lives
     (leb-false book.core.table.limit (live_of book.core.table) (left-false (nat_le book.core.table.limit (live_of book.core.table)) true refl e))
 place-lives book asked now (Some id) e stood none =
-    absurd (not-over (ends_by (standing id book.core.history)) (max book.core.cache.greatest now) (none id)
-    (past-by (raised book.core now) (λ k. made_in book.setup k asked) (Some id) stood.ready stood.is_past).0)
+    absurd (never-next book.core.table.limit book.core.history (max book.core.cache.greatest now) id none
+    (next-by (raised book.core now) (λ k. made_in book.setup k asked) (Some id) stood.ready stood.is_past))
 
 seen-begun : (book : BookOf) (asked : List Asked) (past : Option ℕ) (token : List ℕ) (now : ℕ) (draws : List ℕ) → Stood book asked now past
     → SeenOf book asked None token now draws (begun book.setup (raised book.core now) past token now draws)
@@ -179,7 +231,7 @@ seen-begun book asked past token now draws stood =
     either (SeenOf book asked None token now draws) (nat_le book.core.table.limit (live_of book.core.table) && is_none past) _ _
     (λ full.
     let parts = and_parts (nat_le book.core.table.limit (live_of book.core.table)) (is_none past) full in
-    (refl, due, full-lives book asked now past parts.0 stood, full-past book asked now past parts.1 stood, nothing-gained book.core.history))
+    (refl, due, full-lives book asked now past parts.0 stood, full-next book asked now past parts.1 stood, nothing-gained book.core.history))
     (λ place. seen-step book asked None past token now draws (accept_step book.setup ends.New token now draws) stood
     (record { due = due; placed = λ first none. place-lives book asked now past place stood none; end = ends.New; left = refl; is = refl })))
 

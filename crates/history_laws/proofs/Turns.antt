@@ -37,7 +37,7 @@ use Rattle.history_laws.proofs.Contexts.{Matches, Fits, Ready, fits-memory, fits
 use Rattle.history_laws.proofs.Growth.{fronts-one}
 use Rattle.history_laws.proofs.Histories.{Fronts}
 use Rattle.history_laws.proofs.Leases.{look-seen, number-refused, lease-seen}
-use Rattle.history_laws.proofs.Past.{past-of}
+use Rattle.accept_core.proofs.Nexts.{next-of}
 use Rattle.history_laws.proofs.Steps.{added, made_with, made_after, steps-more, made-more, made-none, given-more}
 use Rattle.history_laws.proofs.Tokens.{SeenOf, seen-negotiated}
 use Rattle.history_laws.proofs.Views.{before_in}
@@ -119,7 +119,7 @@ record Came (old : BookOf) (asked : List Asked) (id : Option ℕ) (token : List 
 came : (old new : BookOf) (asked : List Asked) (id : Option ℕ) (token : List ℕ) (now : ℕ) (draws : List ℕ) (result : Negotiated) → Legal old.core.width old.core.history → Kept old asked
     → BookStepped old new id token now draws result → Came old asked id token now draws result new
 came old new asked id token now draws result legal k b =
-    let past = past-of old.core.table (max old.core.cache.greatest now) in
+    let past = next-of old.core.table (max old.core.cache.greatest now) in
     let ready = ready-in old asked now legal k in
     elim (memory-cases result.answer) [
       | inl short ↦ record {
@@ -132,7 +132,7 @@ came old new asked id token now draws result legal k b =
         outcome = negotiated old.setup (raised old.core now) id past.0 token now draws;
         fits = fits-negotiated old.setup (raised old.core now) (λ k. made_in old.setup k asked) id past.0 token now draws ready;
         seen = seen-negotiated old asked id past.0 token now draws (record { ready = ready; is_past = past.1; lives = k.lives });
-        is = b.comes.outcome past.0 past.1 enough;
+        is = b.comes.outcome past.0 (λ first. past.1) enough;
       }
     ]
 

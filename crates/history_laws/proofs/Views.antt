@@ -31,10 +31,10 @@ setup-all [] old new same = ap (λ (b : BookOf). b.setup) same
 setup-all (one ∷ more) old new a = setup-all more a.0 new a.2 ∙ answers-setup old a.0 one a.1
 
 limits-one : (old new : BookOf) (one : Asked) → BookAnswers old one new → limits_of new.core ≡ limits_of old.core
-limits-one old new (AskedStep id token now draws answer) b = λ i. record { contexts = b.notes.contexts i; marks = b.notes.capacity i; log = b.notes.limit i; width = b.notes.width i }
-limits-one old new (AskedLook id now answer) b = λ i. record { contexts = (b.looked.table i).limit; marks = b.looked.capacity i; log = b.looked.limit i; width = b.looked.width i }
-limits-one old new (AskedAdmit lease seq procedure args answer) b = λ i. record { contexts = b.keeps.contexts i; marks = b.keeps.capacity i; log = b.keeps.limit i; width = b.keeps.width i }
-limits-one old new (AskedEnd lease seq answer) b = λ i. record { contexts = b.keeps.contexts i; marks = b.keeps.capacity i; log = b.keeps.limit i; width = b.keeps.width i }
+limits-one old new (AskedStep id token now draws answer) b = λ i. record { contexts = b.notes.contexts i; marks = b.notes.capacity i; log = b.notes.limit i; width = b.notes.width i; keeping = b.notes.keeping i }
+limits-one old new (AskedLook id now answer) b = λ i. record { contexts = (b.looked.table i).limit; marks = b.looked.capacity i; log = b.looked.limit i; width = b.looked.width i; keeping = b.looked.keeping i }
+limits-one old new (AskedAdmit lease seq procedure args answer) b = λ i. record { contexts = b.keeps.contexts i; marks = b.keeps.capacity i; log = b.keeps.limit i; width = b.keeps.width i; keeping = b.keeps.keeping i }
+limits-one old new (AskedEnd lease seq answer) b = λ i. record { contexts = b.keeps.contexts i; marks = b.keeps.capacity i; log = b.keeps.limit i; width = b.keeps.width i; keeping = b.keeps.keeping i }
 
 limits-all : (asked : List Asked) (old new : BookOf) → Asking BookAnswers old asked new → limits_of new.core ≡ limits_of old.core
 limits-all [] old new same = ap (λ (b : BookOf). limits_of b.core) same

@@ -1,7 +1,8 @@
 -- What a reader knows who has the setup and the limits of a book, and all that it was asked and
 -- answered so far.
-use Rattle.std.specs.Prelude.{◌≡◌, ◌⊎◌, ℕ, ◌<◌, ◌≤◌, ◌==◌, max, nat_lt, Bool, false, List, [], ◌∷◌}
-use Rattle.std.specs.Prelude.{if◌then◌else◌, Option, None, Some, Result, Ok, Err}
+use Rattle.std.specs.Prelude.{◌≡◌, ◌⊎◌, ℕ, ◌<◌, ◌≤◌, ◌==◌, max, nat_le, ◌&&◌, Bool, false, List, []}
+use Rattle.std.specs.Prelude.{◌∷◌, if◌then◌else◌, slice_get, Option, None, Some, is_none, Result}
+use Rattle.std.specs.Prelude.{Ok, Err}
 use Rattle.spnego_core.specs.declared.outcome.Outcome.{Outcome}
 use Rattle.spnego_core.specs.declared.refusal.NegRefusal.{NegRefusal}
 use Rattle.spnego_core.specs.declared.setup.AcceptSetup.{AcceptSetup}
@@ -13,6 +14,9 @@ use Rattle.accept_core.specs.declared.answer.Next.TheVariants as nexts
 use Rattle.accept_core.specs.declared.entry.Entry.{Entry}
 use Rattle.accept_core.specs.declared.entry.Limits.{Limits}
 use Rattle.accept_core.specs.History.{Standing, Unknown, Open, Whole, Over, standing, living}
+use Rattle.accept_core.specs.History.{IsOpen}
+use Rattle.accept_core.specs.Aging.{in_use}
+use Rattle.accept_core.specs.Stepping.{gone_of, is_crowded, settles}
 use Rattle.accept_core.specs.Replays.{end_of_opened}
 use Rattle.accept_book.specs.Booking.{next_of, settled_of}
 use Rattle.accept_book.specs.RecordShown.{Asked, AskedStep, AskedLook, AskedAdmit, AskedEnd}
@@ -116,10 +120,6 @@ before_of setup limits start asked = record {
 abbrev pub moment_of : Before → ℕ → ℕ
 moment_of before now = max before.greatest now
 
--- by the log fewer contexts live than may
-abbrev pub has_room : Before → Bool
-has_room before = nat_lt (living before.log) before.limits.contexts
-
 -- what the machine has made of a token's context: of a first token's it is a new end
 abbrev pub made_before : Before → Option ℕ → Option Made
 made_before before None = Some (Negotiates ends.New)
@@ -149,6 +149,28 @@ abbrev pub PastBy : List Entry → ℕ → Option ℕ → Type 0
 PastBy log now None = (id : ℕ) → Lasts (ends_by (standing id log)) now
 PastBy log now (Some id) = IsOver (ends_by (standing id log)) now
     × ((other : ℕ) → other < id → Lasts (ends_by (standing other log)) now)
+
+-- the least id whose context negotiates by the log, and so was opened first; or there is none
+abbrev pub OpenBy : List Entry → Option ℕ → Type 0
+OpenBy log None = (id : ℕ) → IsOpen (standing id log) → ⊥
+OpenBy log (Some id) =
+    IsOpen (standing id log) × ((other : ℕ) → other < id → IsOpen (standing other log) → ⊥)
+
+-- by the log the context that gives its place to a new one, with so many places: one that is past
+-- its end, else the one that negotiates and was opened first; of one place only the former
+abbrev pub NextBy : ℕ → List Entry → ℕ → Option ℕ → Type 0
+NextBy contexts log now None = PastBy log now None × (1 < contexts → OpenBy log None)
+NextBy contexts log now (Some id) =
+    PastBy log now (Some id) ⊎ (PastBy log now None × (1 < contexts) × OpenBy log (Some id))
+
+-- by the log the context that goes for a step of an id: where it settles and complete ones have
+-- their share, the one of them that was used longest ago; else where a first token finds as many
+-- that live as may, the next
+abbrev pub goes_before : Before → Option ℕ → Next AcceptEnd Outcome → Option ℕ → Option ℕ
+goes_before before id step next =
+    gone_of (is_crowded (settles step) before.log before.limits.contexts)
+    (is_none id && nat_le before.limits.contexts (living before.log))
+    (slice_get (in_use before.log) 0) next
 
 -- ---- leases
 

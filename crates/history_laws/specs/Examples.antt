@@ -1,5 +1,5 @@
 -- Short histories by hand: what an answer has to be, and what it can't be.
-use Rattle.std.specs.Prelude.{◌≡◌, ℕ, List, [], ◌∷◌, Some, None, Ok, Err}
+use Rattle.std.specs.Prelude.{◌≡◌, ℕ, false, List, [], ◌∷◌, Some, None, Ok, Err}
 use Rattle.gss_base.specs.declared.mech.MechKind.TheVariants.{Scram}
 use Rattle.spnego_core.specs.declared.setup.AcceptSetup.{AcceptSetup}
 use Rattle.accept_core.specs.declared.answer.LookRefusal.TheVariants.{NoContext, NotReady, Expired}
@@ -16,15 +16,29 @@ use Rattle.history_laws.specs.Before.{Before, greatest_of}
 use Rattle.history_laws.specs.Receipts.{logged}
 use Rattle.history_laws.specs.Seen.{LookSeen, StepSeen}
 
--- a log of at most eight entries, of which two contexts may live
-abbrev pub with_log : AcceptSetup → List Entry → Before
-with_log setup log = record {
+-- a log of at most eight entries, of so many contexts that may live
+abbrev pub of_places : ℕ → AcceptSetup → List Entry → Before
+of_places contexts setup log = record {
   setup = setup;
-  limits = record { contexts = 2; marks = 2; log = 8; width = 4 };
+  limits = record {
+    contexts = contexts;
+    marks = 2;
+    log = 8;
+    width = 4;
+    keeping = record { entries = false; digest = false };
+  };
   greatest = 1000;
   log = log;
   asked = [];
 }
+
+-- two may live
+abbrev pub with_log : AcceptSetup → List Entry → Before
+with_log setup log = of_places 2 setup log
+
+-- one may live
+abbrev pub of_one : AcceptSetup → List Entry → Before
+of_one setup log = of_places 1 setup log
 
 -- context 1 was opened, and is complete until 1500
 abbrev pub begun : List Entry
@@ -33,7 +47,7 @@ begun = Opened 1 1000 ∷ []
 abbrev pub complete : List Entry
 complete = Settled 1 Scram [] 1500 1000 ∷ begun
 
--- as many contexts live as may: the second one was opened too
+-- as many contexts live as may: the second one was opened too, and negotiates
 abbrev pub crowded : List Entry
 crowded = Opened 2 1000 ∷ complete
 
@@ -68,21 +82,36 @@ pub record Examples : Type 0 where
   pub one_lives : living complete ≡ 1
   pub two_live : living crowded ≡ 2
   pub one_ended : living (Ended 1 (Destroyed 9) ∷ crowded) ≡ 1
-  -- a first token is turned away where two live, and neither is past its end; no step is taken
-  -- there. It isn't turned away where one lives, nor once one is past its end
+  -- of one place a first token is turned away whose context isn't past its end; no step is taken
+  -- there. It isn't turned away once that is, nor where fewer live than may, nor where of two one
+  -- negotiates
   pub full : (setup : AcceptSetup) (token draws : List ℕ)
-      → StepSeen (with_log setup crowded) None token 1500 draws
+      → StepSeen (of_one setup complete) None token 1500 draws
       (answers.Refused refusals.TableFull) []
   pub not_full : (setup : AcceptSetup) (token draws reply : List ℕ) (receipts : List Receipt)
-      → StepSeen (with_log setup crowded) None token 1500 draws (answers.Going 3 reply) receipts
+      → StepSeen (of_one setup complete) None token 1500 draws (answers.Going 2 reply) receipts
       → ⊥
   pub roomy : (setup : AcceptSetup) (token draws : List ℕ)
       → StepSeen (with_log setup complete) None token 1500 draws
       (answers.Refused refusals.TableFull) [] → ⊥
   pub one_past : (setup : AcceptSetup) (token draws : List ℕ)
-      → StepSeen (with_log setup crowded) None token 1501 draws
+      → StepSeen (of_one setup complete) None token 1501 draws
       (answers.Refused refusals.TableFull) [] → ⊥
-  -- no context lapses for a new one's place while fewer live than may, though it is past its end
+  pub one_waits : (setup : AcceptSetup) (token draws : List ℕ)
+      → StepSeen (with_log setup crowded) None token 1500 draws
+      (answers.Refused refusals.TableFull) [] → ⊥
+  -- a first token that goes on ends no complete context that isn't past its end: the one that
+  -- negotiates goes
+  pub stays : (setup : AcceptSetup) (token draws reply : List ℕ)
+      → StepSeen (with_log setup crowded) None token 1500 draws (answers.Going 3 reply)
+      ((record { place = 3; entry = Ended 1 Lapsed })
+      ∷ (record { place = 4; entry = Opened 3 1500 }) ∷ []) → ⊥
+  -- one that settles where complete ones have their share, one of two places, ends the complete one
+  pub shared : (setup : AcceptSetup) (token draws reply : List ℕ) (lease : Lease)
+      (more : List Receipt)
+      → StepSeen (with_log setup complete) None token 1500 draws (answers.Settled lease reply)
+      ((record { place = 2; entry = Opened 2 1500 }) ∷ more) → ⊥
+  -- no context goes for a new one's place while fewer live than may, though it is past its end
   pub kept : (setup : AcceptSetup) (token draws reply : List ℕ)
       → StepSeen (with_log setup complete) None token 1501 draws (answers.Going 2 reply)
       ((record { place = 2; entry = Ended 1 Lapsed })

@@ -1,5 +1,6 @@
 pub mod Receipts
 pub mod Before
+pub mod Counting
 pub mod Seen
 pub mod Says
 pub mod Lent

@@ -32,7 +32,7 @@ use Rattle.accept_book.specs.RecordShown.{Asked, AskedStep, AskedLook, AskedAdmi
 use Rattle.gss_server.specs.Asking.{Asking, BookAnswers}
 use Rattle.gss_server.specs.Telling.{limits_of}
 use Rattle.history_laws.specs.Before.{Before, Made, Negotiates, Settles, made_in, made_before}
-use Rattle.history_laws.specs.Before.{moment_of, before_of, has_room, PastBy, IsGiven}
+use Rattle.history_laws.specs.Before.{moment_of, before_of, goes_before, NextBy, IsGiven}
 
 -- ---- a look
 
@@ -105,12 +105,12 @@ pub record IsDue (before : Before) (id : Option ℕ) : Type 0 where
   pub room : length before.log + 4 ≤ before.limits.log
 
 -- the machine's answer to the token, from the end that the earlier steps of its id left; a first
--- token has none, and is answered from a new end. It has a place: if no context is past its end,
+-- token has none, and is answered from a new end. It has a place: if no context gives its own,
 -- fewer live than may
 pub record StepsTo (before : Before) (id : Option ℕ) (token : List ℕ) (now : ℕ) (draws : List ℕ)
     (answer : Result Accepted NegRefusal) : Type 0 where
   pub due : IsDue before id
-  pub placed : id ≡ None → PastBy before.log (moment_of before now) None
+  pub placed : id ≡ None → NextBy before.limits.contexts before.log (moment_of before now) None
       → living before.log < before.limits.contexts
   pub end : AcceptEnd
   pub left : made_before before id ≡ Some (Negotiates end)
@@ -151,9 +151,10 @@ pub record IsFull (before : Before) (now : ℕ) (mark : Mark) : Type 0 where
 
 -- the step was taken: its mark, where it asks for one, isn't refused. The answer is the machine's,
 -- with the token's id or the next one; and the log gained the step's entries, oldest first: the end
--- of the context that lapsed for a new one's place, if one did; that the new one was opened; the
--- mark, where there is one; and that the context goes on, if it isn't new, or is settled. A context
--- lapses only where as many live as may, and it is the least id that is past its end
+-- of the context that went for it, if one did; that the new one was opened; the mark, where there
+-- is one; and that the context goes on, if it isn't new, or is settled. Which context goes is said
+-- by the log: one goes only where the step settles and complete ones have their share, or where a
+-- first token finds as many that live as may
 pub record StepTaken (before : Before) (id : Option ℕ) (token : List ℕ) (now : ℕ) (draws : List ℕ)
     (answer : NegAnswer) (receipts : List Receipt) : Type 0 where
   pub accepted : Accepted
@@ -162,10 +163,10 @@ pub record StepTaken (before : Before) (id : Option ℕ) (token : List ℕ) (now
       (mark_of accepted.step) ≡ None
   pub says : answer ≡ answer_with (id_of id before.log) (settled_of accepted.step)
   pub past : Option ℕ
-  pub is_past : PastBy before.log (moment_of before now) past
-  pub gains : receipts ≡ gained (length before.log) (entered id (has_room before) past
-      (mark_of accepted.step) (next_of (settled_of accepted.step)) (moment_of before now)
-      before.log)
+  pub is_past : NextBy before.limits.contexts before.log (moment_of before now) past
+  pub gains : receipts ≡ gained (length before.log) (entered id
+      (goes_before before id (next_of (settled_of accepted.step)) past) (mark_of accepted.step)
+      (next_of (settled_of accepted.step)) (moment_of before now) before.log)
 
 -- a token: by its answer, and the receipts that it has
 abbrev pub StepSeen : Before → Option ℕ → List ℕ → ℕ → List ℕ → NegAnswer → List Receipt → Type 0
@@ -179,10 +180,11 @@ StepSeen before id token now draws (answers.Refused refusals.AlreadyComplete) re
 StepSeen before id token now draws (answers.Refused refusals.LogFull) receipts =
     IfSome id (λ number. IsOpen (standing number before.log))
     × (before.limits.log < length before.log + 4) × (receipts ≡ [])
--- a first token, as many contexts live as may, and none is past its end
+-- a first token, as many contexts live as may, and none gives its place: none is past its end, and
+-- none negotiates, but where there is one place alone
 StepSeen before id token now draws (answers.Refused refusals.TableFull) receipts =
     (id ≡ None) × IsDue before id × (before.limits.contexts ≤ living before.log)
-    × PastBy before.log (moment_of before now) None × (receipts ≡ [])
+    × NextBy before.limits.contexts before.log (moment_of before now) None × (receipts ≡ [])
 StepSeen before id token now draws (answers.Refused (refusals.Neg refusal)) receipts =
     TokenRefused before id token now draws refusal receipts
 StepSeen before id token now draws (answers.Refused (refusals.Stale greatest)) receipts =

@@ -1,5 +1,6 @@
 //! A book's history: its questions and answers, and its log.
 
+ghost use Rattle.history_laws.specs.Counting.{FullOfOne};
 ghost use Rattle.history_laws.specs.Examples.{Examples};
 ghost use Rattle.history_laws.specs.Receipts.{InPlaceLaw};
 ghost use Rattle.history_laws.specs.Says.{SaysLaw};
@@ -19,6 +20,11 @@ pub fn prove_says()
 /// before it, say.
 pub fn prove_history()
     ensures { SeenLaw }
+{}
+
+/// Does nothing; its contract holds that where as many contexts live as may, and none negotiates, one may live at most.
+pub fn prove_full_of_one()
+    ensures { FullOfOne }
 {}
 
 /// Short histories by hand: what an answer has to be, and what it can't be.

@@ -3,4 +3,6 @@
 
 mod history;
 
-pub use history::{histories_by_hand, prove_history, prove_receipts, prove_says};
+pub use history::{
+    histories_by_hand, prove_full_of_one, prove_history, prove_receipts, prove_says,
+};
