@@ -12,7 +12,7 @@ use Rattle.gss_client.specs.declared.refusal.ClientRefusal.TheVariants.{BadReply
 use Rattle.gss_client.specs.declared.refusal.ReplyWhy.TheVariants.{Verifier, Steps, Width}
 use Rattle.gss_client.specs.Creation.{OfferSays, CreatedSays}
 use Rattle.gss_client.specs.Creation as created
-use Rattle.rpcsec_bodies.specs.declared.service.Service.{Service}
+use Rattle.gss_client.specs.declared.terms.Terms.{Terms}
 use Rattle.gss_client.specs.Calling.{creation_call}
 use Rattle.gss_client.specs.Judging.{◌>>=◌, due, GrantedValue, granted_in, negotiated, is_verified, by_step, creation_by, creation_step}
 use Rattle.gss_client.specs.Laws.{CountLaw}
@@ -55,10 +55,10 @@ goes-heard : (end : EndSays) (xid : ℕ) (written rest : List ℕ) (heard : Resu
 goes-heard end xid written rest (Ok reply) next e = goes-reply end xid reply next e
 goes-heard end xid written rest (Err refusal) next e = cc
 
-goes-turn : (service : Service) (xid proc : ℕ) (offer next : OfferSays) (stream : List ℕ) → (turns service xid proc offer stream).answer ≡ Ok (created.Going next) → replies_left next.end < replies_left offer.end
+goes-turn : (terms : Terms) (xid proc : ℕ) (offer next : OfferSays) (stream : List ℕ) → (turns terms xid proc offer stream).answer ≡ Ok (created.Going next) → replies_left next.end < replies_left offer.end
 unfolding turns_by
-goes-turn service xid proc offer next stream e =
-    let one : Said (List ℕ) = exchanges (creation_call service xid proc offer.handle offer.token) stream in
+goes-turn terms xid proc offer next stream e =
+    let one : Said (List ℕ) = exchanges (creation_call terms xid proc offer.handle offer.token) stream in
     goes-heard offer.end xid one.written one.rest one.answer next e
 
 -- ---- turn after turn
@@ -70,28 +70,28 @@ some-left (ends.Talks talking) = omega arith
 some-left (ends.Signed signed) = omega arith
 
 -- what follows a turn, by two ways to go on that agree on what it leads to
-same-next : (service : Service) (first xid : ℕ) (one two : OfferSays → Talking SessionState) (what : CreatedSays) (stream : List ℕ) → ((next : OfferSays) → what ≡ created.Going next → one next stream ≡ two next stream) → by_turn service first xid one what stream ≡ by_turn service first xid two what stream
-same-next service first xid one two (created.Going offer) stream same = same offer refl
-same-next service first xid one two (created.Stands outcome handle) stream same = refl
+same-next : (terms : Terms) (first xid : ℕ) (one two : OfferSays → Talking SessionState) (what : CreatedSays) (stream : List ℕ) → ((next : OfferSays) → what ≡ created.Going next → one next stream ≡ two next stream) → by_turn terms first xid one what stream ≡ by_turn terms first xid two what stream
+same-next terms first xid one two (created.Going offer) stream same = same offer refl
+same-next terms first xid one two (created.Stands outcome handle) stream same = refl
 
-same-after : (service : Service) (first xid : ℕ) (one two : OfferSays → Talking SessionState) (written rest : List ℕ) (answer : Result CreatedSays ClientRefusal) → ((next : OfferSays) → answer ≡ Ok (created.Going next) → one next rest ≡ two next rest) → goes_on written rest (by_turn service first xid one) answer ≡ goes_on written rest (by_turn service first xid two) answer
-same-after service first xid one two written rest (Ok what) same = ap (λ (s : Said SessionState). after written s) (same-next service first xid one two what rest (λ next e. same next (ap (λ (c : CreatedSays). Ok c) e)))
-same-after service first xid one two written rest (Err refusal) same = refl
+same-after : (terms : Terms) (first xid : ℕ) (one two : OfferSays → Talking SessionState) (written rest : List ℕ) (answer : Result CreatedSays ClientRefusal) → ((next : OfferSays) → answer ≡ Ok (created.Going next) → one next rest ≡ two next rest) → goes_on written rest (by_turn terms first xid one) answer ≡ goes_on written rest (by_turn terms first xid two) answer
+same-after terms first xid one two written rest (Ok what) same = ap (λ (s : Said SessionState). after written s) (same-next terms first xid one two what rest (λ next e. same next (ap (λ (c : CreatedSays). Ok c) e)))
+same-after terms first xid one two written rest (Err refusal) same = refl
 
-one-turn : (left : ℕ) (service : Service) (first xid proc : ℕ) (offer : OfferSays) (stream : List ℕ) → creates (suc left) service first xid proc offer stream ≡ goes_on (turns service xid proc offer stream).written (turns service xid proc offer stream).rest (by_turn service first xid (creates left service first (xid_after xid) 2)) (turns service xid proc offer stream).answer
+one-turn : (left : ℕ) (terms : Terms) (first xid proc : ℕ) (offer : OfferSays) (stream : List ℕ) → creates (suc left) terms first xid proc offer stream ≡ goes_on (turns terms xid proc offer stream).written (turns terms xid proc offer stream).rest (by_turn terms first xid (creates left terms first (xid_after xid) 2)) (turns terms xid proc offer stream).answer
 unfolding creates_by
-one-turn left service first xid proc offer stream = refl
+one-turn left terms first xid proc offer stream = refl
 
-any-two : (left other : ℕ) (service : Service) (first xid proc : ℕ) (offer : OfferSays) (stream : List ℕ) → replies_left offer.end ≤ left → replies_left offer.end ≤ other → creates left service first xid proc offer stream ≡ creates other service first xid proc offer stream
-any-two zero other service first xid proc offer stream enough many = absurd (omega (arith, some-left offer.end))
-any-two (suc left) zero service first xid proc offer stream enough many = absurd (omega (arith, some-left offer.end))
-any-two (suc left) (suc other) service first xid proc offer stream enough many =
-    one-turn left service first xid proc offer stream
-    ∙ (same-after service first xid (creates left service first (xid_after xid) 2) (creates other service first (xid_after xid) 2) (turns service xid proc offer stream).written (turns service xid proc offer stream).rest (turns service xid proc offer stream).answer
+any-two : (left other : ℕ) (terms : Terms) (first xid proc : ℕ) (offer : OfferSays) (stream : List ℕ) → replies_left offer.end ≤ left → replies_left offer.end ≤ other → creates left terms first xid proc offer stream ≡ creates other terms first xid proc offer stream
+any-two zero other terms first xid proc offer stream enough many = absurd (omega (arith, some-left offer.end))
+any-two (suc left) zero terms first xid proc offer stream enough many = absurd (omega (arith, some-left offer.end))
+any-two (suc left) (suc other) terms first xid proc offer stream enough many =
+    one-turn left terms first xid proc offer stream
+    ∙ (same-after terms first xid (creates left terms first (xid_after xid) 2) (creates other terms first (xid_after xid) 2) (turns terms xid proc offer stream).written (turns terms xid proc offer stream).rest (turns terms xid proc offer stream).answer
     (λ next e.
-    let less : replies_left next.end < replies_left offer.end = goes-turn service xid proc offer next stream e in
-    any-two left other service first (xid_after xid) 2 next (turns service xid proc offer stream).rest (omega (arith, less, enough)) (omega (arith, less, many)))
-    ∙ sym (one-turn other service first xid proc offer stream))
+    let less : replies_left next.end < replies_left offer.end = goes-turn terms xid proc offer next stream e in
+    any-two left other terms first (xid_after xid) 2 next (turns terms xid proc offer stream).rest (omega (arith, less, enough)) (omega (arith, less, many)))
+    ∙ sym (one-turn other terms first xid proc offer stream))
 
 pub count-law : CountLaw
-count-law left service first xid proc offer stream enough = any-two left (replies_left offer.end) service first xid proc offer stream enough (omega arith)
+count-law left terms first xid proc offer stream enough = any-two left (replies_left offer.end) terms first xid proc offer stream enough (omega arith)

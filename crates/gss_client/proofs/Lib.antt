@@ -7,8 +7,10 @@ pub mod Nearer
 pub mod ResultStands
 pub mod AnyCount
 pub mod InConversation
+mod InConference
 pub mod Texts
 pub mod WholeTalk
+mod WholeConference
 mod Counts
 mod Finishing
 mod Verifying

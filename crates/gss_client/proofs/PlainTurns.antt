@@ -11,12 +11,12 @@ use Rattle.init_ends.specs.Initiating.{end_start, end_step}
 use Rattle.init_ends.specs.Plain.{objects_of, StandsAs, StartsAs}
 use Rattle.init_ends.proofs.PlainSteps.{plain_law}
 use Rattle.gss_client.specs.declared.conversation.Parting.{Parting}
-use Rattle.gss_client.specs.declared.procedure.Procedure.{Procedure}
+use Rattle.gss_client.specs.Query.{QuerySays}
 use Rattle.gss_client.specs.declared.refusal.ClientRefusal.{ClientRefusal}
 use Rattle.gss_client.specs.declared.refusal.ClientRefusal.TheVariants.{Negotiation}
 use Rattle.gss_client.specs.Creation.{CreatedMeans, CreatedSays, OfferMeans, OfferSays}
 use Rattle.gss_client.specs.Creation as created
-use Rattle.rpcsec_bodies.specs.declared.service.Service.{Service}
+use Rattle.gss_client.specs.declared.terms.Terms.{Terms}
 use Rattle.gss_client.specs.Calling.{creation_call}
 use Rattle.gss_client.specs.Conversing.{TalkedBy, Talked}
 use Rattle.gss_client.specs.Exchanging.{Talks}
@@ -49,12 +49,12 @@ called-as end plain xid h call due stream e =
     subst (λ (c : List ℕ). SaysAs ((exchanges call >>= λ reply. judges (creation_by end_step end xid reply)) stream) ((exchanges c >>= λ reply. judges (creation_step plain xid reply)) stream)) e
     (heard-as end plain xid h (exchanges call stream).written (exchanges call stream).rest (exchanges call stream).answer)
 
-turned-as : (service : Service) (xid proc : ℕ) (offer : OfferMeans) (own : OfferSays) (stream : List ℕ) → StandsAs offer.end own.end → offer.handle ≡ own.handle → offer.token ≡ own.token
-    → SaysAs (turns_by end_step service xid proc offer stream) (turns service xid proc own stream)
+turned-as : (terms : Terms) (xid proc : ℕ) (offer : OfferMeans) (own : OfferSays) (stream : List ℕ) → StandsAs offer.end own.end → offer.handle ≡ own.handle → offer.token ≡ own.token
+    → SaysAs (turns_by end_step terms xid proc offer stream) (turns terms xid proc own stream)
 unfolding turns_by
-turned-as service xid proc offer own stream h e f =
-    called-as offer.end own.end xid h (creation_call service xid proc offer.handle offer.token) (creation_call service xid proc own.handle own.token) stream
-    (ap (λ (handle : List ℕ). creation_call service xid proc handle offer.token) e ∙ ap (creation_call service xid proc own.handle) f)
+turned-as terms xid proc offer own stream h e f =
+    called-as offer.end own.end xid h (creation_call terms xid proc offer.handle offer.token) (creation_call terms xid proc own.handle own.token) stream
+    (ap (λ (handle : List ℕ). creation_call terms xid proc handle offer.token) e ∙ ap (creation_call terms xid proc own.handle) f)
 
 -- ---- what follows a turn
 
@@ -62,50 +62,50 @@ turned-as service xid proc offer own stream h e f =
 abbrev Agree : (OfferMeans → Talking SessionState) → (OfferSays → Talking SessionState) → Type 0
 Agree one two = (offer : OfferMeans) (own : OfferSays) (stream : List ℕ) → StandsAs offer.end own.end → offer.handle ≡ own.handle → offer.token ≡ own.token → one offer stream ≡ two own stream
 
-led-as : (service : Service) (first xid : ℕ) (one : OfferMeans → Talking SessionState) (two : OfferSays → Talking SessionState) → Agree one two → (what : CreatedMeans) (plain : CreatedSays) (stream : List ℕ) → LeadsAs what plain
-    → by_turn service first xid one what stream ≡ by_turn service first xid two plain stream
-led-as service first xid one two same (created.Going offer) (created.Going own) stream h = same offer own stream h.0 h.1 h.2
-led-as service first xid one two same (created.Going offer) (created.Stands outcome handle) stream h = absurd h
-led-as service first xid one two same (created.Stands outcome handle) (created.Going own) stream h = absurd h
-led-as service first xid one two same (created.Stands outcome handle) (created.Stands agreed given) stream h =
-    ap (λ (o : Outcome). judges (Ok (begun service first (xid_after xid) o handle)) stream) h.0 ∙ ap (λ (octets : List ℕ). judges (Ok (begun service first (xid_after xid) agreed octets)) stream) h.1
+led-as : (terms : Terms) (first xid : ℕ) (one : OfferMeans → Talking SessionState) (two : OfferSays → Talking SessionState) → Agree one two → (what : CreatedMeans) (plain : CreatedSays) (stream : List ℕ) → LeadsAs what plain
+    → by_turn terms first xid one what stream ≡ by_turn terms first xid two plain stream
+led-as terms first xid one two same (created.Going offer) (created.Going own) stream h = same offer own stream h.0 h.1 h.2
+led-as terms first xid one two same (created.Going offer) (created.Stands outcome handle) stream h = absurd h
+led-as terms first xid one two same (created.Stands outcome handle) (created.Going own) stream h = absurd h
+led-as terms first xid one two same (created.Stands outcome handle) (created.Stands agreed given) stream h =
+    ap (λ (o : Outcome). judges (Ok (begun terms first (xid_after xid) o handle)) stream) h.0 ∙ ap (λ (octets : List ℕ). judges (Ok (begun terms first (xid_after xid) agreed octets)) stream) h.1
 
-answered-as : (service : Service) (first xid : ℕ) (one : OfferMeans → Talking SessionState) (two : OfferSays → Talking SessionState) → Agree one two → (written rest : List ℕ) (x : Result CreatedMeans ClientRefusal) (y : Result CreatedSays ClientRefusal) → CreatesAs x y
-    → goes_on written rest (by_turn service first xid one) x ≡ goes_on written rest (by_turn service first xid two) y
-answered-as service first xid one two same written rest (Ok what) (Ok plain) h = ap (λ (s : Said SessionState). after written s) (led-as service first xid one two same what plain rest h)
-answered-as service first xid one two same written rest (Ok what) (Err refusal) h = absurd h
-answered-as service first xid one two same written rest (Err refusal) (Ok plain) h = absurd h
-answered-as service first xid one two same written rest (Err refusal) (Err other) h = ap (λ (r : ClientRefusal). said written (Err r) rest) h
+answered-as : (terms : Terms) (first xid : ℕ) (one : OfferMeans → Talking SessionState) (two : OfferSays → Talking SessionState) → Agree one two → (written rest : List ℕ) (x : Result CreatedMeans ClientRefusal) (y : Result CreatedSays ClientRefusal) → CreatesAs x y
+    → goes_on written rest (by_turn terms first xid one) x ≡ goes_on written rest (by_turn terms first xid two) y
+answered-as terms first xid one two same written rest (Ok what) (Ok plain) h = ap (λ (s : Said SessionState). after written s) (led-as terms first xid one two same what plain rest h)
+answered-as terms first xid one two same written rest (Ok what) (Err refusal) h = absurd h
+answered-as terms first xid one two same written rest (Err refusal) (Ok plain) h = absurd h
+answered-as terms first xid one two same written rest (Err refusal) (Err other) h = ap (λ (r : ClientRefusal). said written (Err r) rest) h
 
-followed-as : (service : Service) (first xid : ℕ) (one : OfferMeans → Talking SessionState) (two : OfferSays → Talking SessionState) → Agree one two → (a : Said CreatedMeans) (b : Said CreatedSays) → SaysAs a b
-    → goes_on a.written a.rest (by_turn service first xid one) a.answer ≡ goes_on b.written b.rest (by_turn service first xid two) b.answer
-followed-as service first xid one two same a b h =
-    ap (λ (written : List ℕ). goes_on written a.rest (by_turn service first xid one) a.answer) h.written
-    ∙ (ap (λ (rest : List ℕ). goes_on b.written rest (by_turn service first xid one) a.answer) h.left
-    ∙ answered-as service first xid one two same b.written b.rest a.answer b.answer h.answers)
+followed-as : (terms : Terms) (first xid : ℕ) (one : OfferMeans → Talking SessionState) (two : OfferSays → Talking SessionState) → Agree one two → (a : Said CreatedMeans) (b : Said CreatedSays) → SaysAs a b
+    → goes_on a.written a.rest (by_turn terms first xid one) a.answer ≡ goes_on b.written b.rest (by_turn terms first xid two) b.answer
+followed-as terms first xid one two same a b h =
+    ap (λ (written : List ℕ). goes_on written a.rest (by_turn terms first xid one) a.answer) h.written
+    ∙ (ap (λ (rest : List ℕ). goes_on b.written rest (by_turn terms first xid one) a.answer) h.left
+    ∙ answered-as terms first xid one two same b.written b.rest a.answer b.answer h.answers)
 
 -- ---- turn after turn
 
-created-as : (left : ℕ) (service : Service) (first xid proc : ℕ) → Agree (creates_by end_step left service first xid proc) (creates left service first xid proc)
+created-as : (left : ℕ) (terms : Terms) (first xid proc : ℕ) → Agree (creates_by end_step left terms first xid proc) (creates left terms first xid proc)
 unfolding creates_by
-created-as zero service first xid proc offer own stream h e f = refl
-created-as (suc left) service first xid proc offer own stream h e f =
-    followed-as service first xid (creates_by end_step left service first (xid_after xid) 2) (creates left service first (xid_after xid) 2) (created-as left service first (xid_after xid) 2)
-    (turns_by end_step service xid proc offer stream) (turns service xid proc own stream) (turned-as service xid proc offer own stream h e f)
+created-as zero terms first xid proc offer own stream h e f = refl
+created-as (suc left) terms first xid proc offer own stream h e f =
+    followed-as terms first xid (creates_by end_step left terms first (xid_after xid) 2) (creates left terms first (xid_after xid) 2) (created-as left terms first (xid_after xid) 2)
+    (turns_by end_step terms xid proc offer stream) (turns terms xid proc own stream) (turned-as terms xid proc offer own stream h e f)
 
 -- ---- the whole creation
 
-begun-as : (service : Service) (first : ℕ) (r : Result (EndMeans × List ℕ) NegRefusal) (s : Result Started NegRefusal) (stream : List ℕ) → StartsAs r (sent_of s) → begins_over service first r stream ≡ begins service first s stream
-begun-as service first (Ok started) (Ok plain) stream h =
-    created-as 16 service first 1 1 (record { end = started.0; handle = []; token = started.1 }) (record { end = plain.end; handle = []; token = plain.token }) stream h.0 refl h.1
-    ∙ count-law 16 service first 1 1 (record { end = plain.end; handle = []; token = plain.token }) stream (omega (arith, few-left plain.end))
-begun-as service first (Ok started) (Err refusal) stream h = absurd h
-begun-as service first (Err refusal) (Ok plain) stream h = absurd h
-begun-as service first (Err refusal) (Err other) stream h = ap (λ (r : NegRefusal). judges (Err (Negotiation r)) stream) h
+begun-as : (terms : Terms) (first : ℕ) (r : Result (EndMeans × List ℕ) NegRefusal) (s : Result Started NegRefusal) (stream : List ℕ) → StartsAs r (sent_of s) → begins_over terms first r stream ≡ begins terms first s stream
+begun-as terms first (Ok started) (Ok plain) stream h =
+    created-as 16 terms first 1 1 (record { end = started.0; handle = []; token = started.1 }) (record { end = plain.end; handle = []; token = plain.token }) stream h.0 refl h.1
+    ∙ count-law 16 terms first 1 1 (record { end = plain.end; handle = []; token = plain.token }) stream (omega (arith, few-left plain.end))
+begun-as terms first (Ok started) (Err refusal) stream h = absurd h
+begun-as terms first (Err refusal) (Ok plain) stream h = absurd h
+begun-as terms first (Err refusal) (Err other) stream h = ap (λ (r : NegRefusal). judges (Err (Negotiation r)) stream) h
 
 whole-as : (start : StartSays) (stream : List ℕ) → created_over (objects_start start) stream ≡ created_from start stream
 unfolding created_over created_from
-whole-as start stream = begun-as start.service start.first (end_start (objects_of start.setup)) (init_start start.setup) stream (plain_law.starts start.setup)
+whole-as start stream = begun-as start.terms start.first (end_start (objects_of start.setup)) (init_start start.setup) stream (plain_law.starts start.setup)
 
 pub plain_creation : PlainCreation
 plain_creation = record { replies = replied-as; whole = whole-as }
@@ -118,7 +118,7 @@ created-is start own e = ap created_over e ∙ fun_ext (whole-as own)
 pub created-plain : (start : StartMeans) (own : StartSays) (a b : Wire) (r : Result SessionState ClientRefusal) → start ≡ objects_start own → Talks (created_over start) a b r → Talks (created_from own) a b r
 created-plain start own a b r e t = subst (λ (part : Talking SessionState). Talks part a b r) (created-is start own e) t
 
-pub talked-plain : (tells : Bool) (given given' : List ℕ) (start : StartMeans) (own : StartSays) (times : ℕ) (procedure : Procedure) (args : List ℕ) (a b : Wire) (outcome : Option Outcome) (results : List (List ℕ)) (parting : Parting) → start ≡ objects_start own
-    → TalkedBy tells given given' (created_over start) times procedure args a b outcome results parting → Talked tells given given' own times procedure args a b outcome results parting
-talked-plain tells given given' start own times procedure args a b outcome results parting e t =
-    subst (λ (creation : Talking SessionState). TalkedBy tells given given' creation times procedure args a b outcome results parting) (created-is start own e) t
+pub talked-plain : (tells : Bool) (given given' : List ℕ) (start : StartMeans) (own : StartSays) (times : ℕ) (query : QuerySays) (args : List ℕ) (a b : Wire) (outcome : Option Outcome) (results : List (List ℕ)) (parting : Parting) → start ≡ objects_start own
+    → TalkedBy tells given given' (created_over start) times query args a b outcome results parting → Talked tells given given' own times query args a b outcome results parting
+talked-plain tells given given' start own times query args a b outcome results parting e t =
+    subst (λ (creation : Talking SessionState). TalkedBy tells given given' creation times query args a b outcome results parting) (created-is start own e) t

@@ -97,7 +97,7 @@ verified-is outcome number xid octets answer e =
       stat = eqb-true _ _ (held (Refused (Accept p.value.stat)) _ r.value r.first);
     })
 
-stands-in : (s : SessionState) (octets result : List ℕ) → call_result s.outcome s.service s.number s.xid octets ≡ Ok result → StandsIn s octets result
+stands-in : (s : SessionState) (octets result : List ℕ) → call_result s.outcome s.terms.service s.number s.xid octets ≡ Ok result → StandsIn s octets result
 unfolding call_result
 stands-in s octets result e =
     let p = both (verified_in s.outcome s.number s.xid octets) _ result e in
@@ -109,13 +109,13 @@ stands-in s octets result e =
       body = p.value.result;
       reply = v.granted.reply ∙ (ap (λ (n : ℕ). Ok (accepted s.xid n p.value.verf p.value.stat v.granted.low v.granted.high p.value.result)) v.flavour ∙ ap (λ (n : ℕ). Ok (accepted s.xid 6 p.value.verf n v.granted.low v.granted.high p.value.result)) v.stat);
       proved = v.proved;
-      held = held-by (token_end s.outcome Initiator) s.service s.number p.value.result result (content-is _ result p.second);
+      held = held-by (token_end s.outcome Initiator) s.terms.service s.number p.value.result result (content-is _ result p.second);
     }
 
 pub result-law : ResultLaw
 unfolding result_taken
 result-law s next octets result e =
-    let p = both (call_result s.outcome s.service s.number s.xid octets) _ (next, result) e in
+    let p = both (call_result s.outcome s.terms.service s.number s.xid octets) _ (next, result) e in
     let pair : (session_after s, p.value) ≡ (next, result) = cc in
     let is : p.value ≡ result = ap (λ (q : SessionState × List ℕ). q.1) pair in
     stands-in s octets result (p.first ∙ ap (λ (o : List ℕ). Ok o) is)

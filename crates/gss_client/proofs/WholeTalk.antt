@@ -5,7 +5,7 @@ use Rattle.sec_base.specs.Link.{Wire}
 use Rattle.spnego_core.specs.declared.outcome.Outcome.{Outcome}
 use Rattle.gss_client.specs.declared.conversation.Parting.{Parting}
 use Rattle.gss_client.specs.declared.conversation.Parting.TheVariants.{Refused}
-use Rattle.gss_client.specs.declared.procedure.Procedure.{Procedure}
+use Rattle.gss_client.specs.Query.{QuerySays}
 use Rattle.gss_client.specs.declared.refusal.ClientRefusal.{ClientRefusal}
 use Rattle.gss_client.specs.declared.refusal.ClientRefusal.TheVariants.{LinkFault, NoMemory}
 use Rattle.gss_client.specs.Conversation.{converses, Talk, by_session, by_creation, talk_by}
@@ -16,23 +16,23 @@ use Rattle.gss_client.specs.Talking.{Said, Talking}
 use Rattle.gss_client.proofs.Parts.{went-again}
 
 -- what the talk says of the creation
-abbrev by_said : ℕ → Procedure → List ℕ → List ℕ → Said SessionState → Talk
-by_said times procedure args draws one = by_creation times procedure args draws one.written one.rest one.answer
+abbrev by_said : ℕ → QuerySays → List ℕ → List ℕ → Said SessionState → Talk
+by_said times query args draws one = by_creation times query args draws one.written one.rest one.answer
 
-talk-is : (creation : Talking SessionState) (times : ℕ) (procedure : Procedure) (args draws stream : List ℕ) → talk_by creation times procedure args draws stream ≡ by_said times procedure args draws (creation stream)
+talk-is : (creation : Talking SessionState) (times : ℕ) (query : QuerySays) (args draws stream : List ℕ) → talk_by creation times query args draws stream ≡ by_said times query args draws (creation stream)
 unfolding talk_by
-talk-is creation times procedure args draws stream = refl
+talk-is creation times query args draws stream = refl
 
-conversed-then : (tells : Bool) (given given' : List ℕ) (creation : Talking SessionState) (times : ℕ) (procedure : Procedure) (args : List ℕ) (a b c : Wire) (s : SessionState) (results : List (List ℕ)) (parting : Parting) (later : List ℕ) (d : Done creation a b s) (f : Conferred tells given given' times procedure args s b c results parting)
-    → talk_by creation times procedure args (f.drawn ++ later) ((d.took ++ f.took) ++ c.coming) ≡ by_session d.wrote (Some s.outcome) (converses times procedure args s (f.drawn ++ later) (f.took ++ c.coming))
-conversed-then tells given given' creation times procedure args a b c s results parting later d f =
-    talk-is creation times procedure args (f.drawn ++ later) ((d.took ++ f.took) ++ c.coming)
-    ∙ ap (by_said times procedure args (f.drawn ++ later)) (ap creation (append_assoc d.took f.took c.coming) ∙ d.whole (f.took ++ c.coming))
+conversed-then : (tells : Bool) (given given' : List ℕ) (creation : Talking SessionState) (times : ℕ) (query : QuerySays) (args : List ℕ) (a b c : Wire) (s : SessionState) (results : List (List ℕ)) (parting : Parting) (later : List ℕ) (d : Done creation a b s) (f : Conferred tells given given' times query args s b c results parting)
+    → talk_by creation times query args (f.drawn ++ later) ((d.took ++ f.took) ++ c.coming) ≡ by_session d.wrote (Some s.outcome) (converses times query args s (f.drawn ++ later) (f.took ++ c.coming))
+conversed-then tells given given' creation times query args a b c s results parting later d f =
+    talk-is creation times query args (f.drawn ++ later) ((d.took ++ f.took) ++ c.coming)
+    ∙ ap (by_said times query args (f.drawn ++ later)) (ap creation (append_assoc d.took f.took c.coming) ∙ d.whole (f.took ++ c.coming))
 
-held : (tells : Bool) (given given' : List ℕ) (creation : Talking SessionState) (times : ℕ) (procedure : Procedure) (args : List ℕ) (a b c : Wire) (s : SessionState) (results : List (List ℕ)) (parting : Parting) → Done creation a b s → Conferred tells given given' times procedure args s b c results parting → TalkedBy tells given given' creation times procedure args a c (Some s.outcome) results parting
-held tells given given' creation times procedure args a b c s results parting d f =
-    let all : (later : List ℕ) → talk_by creation times procedure args (f.drawn ++ later) ((d.took ++ f.took) ++ c.coming) ≡ by_session d.wrote (Some s.outcome) (converses times procedure args s (f.drawn ++ later) (f.took ++ c.coming)) =
-    λ later. conversed-then tells given given' creation times procedure args a b c s results parting later d f in
+held : (tells : Bool) (given given' : List ℕ) (creation : Talking SessionState) (times : ℕ) (query : QuerySays) (args : List ℕ) (a b c : Wire) (s : SessionState) (results : List (List ℕ)) (parting : Parting) → Done creation a b s → Conferred tells given given' times query args s b c results parting → TalkedBy tells given given' creation times query args a c (Some s.outcome) results parting
+held tells given given' creation times query args a b c s results parting d f =
+    let all : (later : List ℕ) → talk_by creation times query args (f.drawn ++ later) ((d.took ++ f.took) ++ c.coming) ≡ by_session d.wrote (Some s.outcome) (converses times query args s (f.drawn ++ later) (f.took ++ c.coming)) =
+    λ later. conversed-then tells given given' creation times query args a b c s results parting later d f in
     record {
       took = d.took ++ f.took;
       wrote = d.wrote ++ f.wrote;
@@ -54,22 +54,22 @@ held tells given given' creation times procedure args a b c s results parting d 
       heard = λ unrefused later. ap (λ (t : Talk). t.rest) (all later) ∙ f.heard unrefused later;
     }
 
-pub talked : (tells : Bool) (given given' : List ℕ) (creation : Talking SessionState) (times : ℕ) (procedure : Procedure) (args : List ℕ) (a b c : Wire) (s : SessionState) (outcome : Outcome) → outcome ≡ s.outcome → (results : List (List ℕ)) (parting : Parting) → Done creation a b s → Conferred tells given given' times procedure args s b c results parting → TalkedBy tells given given' creation times procedure args a c (Some outcome) results parting
-talked tells given given' creation times procedure args a b c s outcome is results parting d f =
-    subst (λ (o : Outcome). TalkedBy tells given given' creation times procedure args a c (Some o) results parting) (sym is) (held tells given given' creation times procedure args a b c s results parting d f)
+pub talked : (tells : Bool) (given given' : List ℕ) (creation : Talking SessionState) (times : ℕ) (query : QuerySays) (args : List ℕ) (a b c : Wire) (s : SessionState) (outcome : Outcome) → outcome ≡ s.outcome → (results : List (List ℕ)) (parting : Parting) → Done creation a b s → Conferred tells given given' times query args s b c results parting → TalkedBy tells given given' creation times query args a c (Some outcome) results parting
+talked tells given given' creation times query args a b c s outcome is results parting d f =
+    subst (λ (o : Outcome). TalkedBy tells given given' creation times query args a c (Some o) results parting) (sym is) (held tells given given' creation times query args a b c s results parting d f)
 
 -- what the creation wrote is a front of what the talk writes
-further : (times : ℕ) (procedure : Procedure) (args draws written rest : List ℕ) (answer : Result SessionState ClientRefusal) → IsFront written (by_creation times procedure args draws written rest answer).written
-further times procedure args draws written rest (Ok s) = ((converses times procedure args s draws rest).written, refl)
-further times procedure args draws written rest (Err refusal) = ([], sym (append-nil written))
+further : (times : ℕ) (query : QuerySays) (args draws written rest : List ℕ) (answer : Result SessionState ClientRefusal) → IsFront written (by_creation times query args draws written rest answer).written
+further times query args draws written rest (Ok s) = ((converses times query args s draws rest).written, refl)
+further times query args draws written rest (Err refusal) = ([], sym (append-nil written))
 
-unheld : (tells : Bool) (given : List ℕ) (creation : Talking SessionState) (times : ℕ) (procedure : Procedure) (args : List ℕ) (a c : Wire) (refusal : ClientRefusal) → Stopped creation a c refusal → TalkedBy tells given given creation times procedure args a c None [] (Refused refusal)
-unheld tells given creation times procedure args a c refusal d =
+unheld : (tells : Bool) (given : List ℕ) (creation : Talking SessionState) (times : ℕ) (query : QuerySays) (args : List ℕ) (a c : Wire) (refusal : ClientRefusal) → Stopped creation a c refusal → TalkedBy tells given given creation times query args a c None [] (Refused refusal)
+unheld tells given creation times query args a c refusal d =
     let one : Said SessionState = creation (d.took ++ c.coming) in
-    let all : (later : List ℕ) → talk_by creation times procedure args later (d.took ++ c.coming) ≡ by_said times procedure args later one =
-    λ later. talk-is creation times procedure args later (d.took ++ c.coming) in
-    let none : (refusal ≢ LinkFault) → (refusal ≢ NoMemory) → (later : List ℕ) → talk_by creation times procedure args later (d.took ++ c.coming) ≡ record { written = one.written; outcome = None; results = []; parting = Refused refusal; undrawn = later; rest = one.rest } =
-    λ fault memory later. all later ∙ ap (by_creation times procedure args later one.written one.rest) (d.cause fault memory) in
+    let all : (later : List ℕ) → talk_by creation times query args later (d.took ++ c.coming) ≡ by_said times query args later one =
+    λ later. talk-is creation times query args later (d.took ++ c.coming) in
+    let none : (refusal ≢ LinkFault) → (refusal ≢ NoMemory) → (later : List ℕ) → talk_by creation times query args later (d.took ++ c.coming) ≡ record { written = one.written; outcome = None; results = []; parting = Refused refusal; undrawn = later; rest = one.rest } =
+    λ fault memory later. all later ∙ ap (by_creation times query args later one.written one.rest) (d.cause fault memory) in
     record {
       took = d.took;
       wrote = d.wrote;
@@ -77,11 +77,11 @@ unheld tells given creation times procedure args a c refusal d =
       went = d.went;
       draws = λ t. sym (append-nil given);
       front = λ later.
-          let f : IsFront one.written (by_said times procedure args later one).written = further times procedure args later one.written one.rest one.answer in
+          let f : IsFront one.written (by_said times query args later one).written = further times query args later one.written one.rest one.answer in
           record {
             written = (d.front.0 ++ f.0, ap (λ (t : Talk). t.written) (all later) ∙ (f.1 ∙ (ap (λ (zs : List ℕ). zs ++ f.0) d.front.1 ∙ append_assoc d.wrote d.front.0 f.0)));
             outcome_is = inl refl;
-            results_are = ((talk_by creation times procedure args later (d.took ++ c.coming)).results, refl);
+            results_are = ((talk_by creation times query args later (d.took ++ c.coming)).results, refl);
           };
       whole = λ fault memory later.
           let lf : refusal ≢ LinkFault = λ is. fault (ap Refused is) in
@@ -96,5 +96,5 @@ unheld tells given creation times procedure args a c refusal d =
       heard = λ unrefused. absurd (unrefused refusal refl);
     }
 
-pub untalked : (tells : Bool) (given : List ℕ) (creation : Talking SessionState) (times : ℕ) (procedure : Procedure) (args : List ℕ) (a c : Wire) (refusal : ClientRefusal) (results : List (List ℕ)) → results ≡ [] → Stopped creation a c refusal → TalkedBy tells given given creation times procedure args a c None results (Refused refusal)
-untalked tells given creation times procedure args a c refusal results none d = subst (λ (rs : List (List ℕ)). TalkedBy tells given given creation times procedure args a c None rs (Refused refusal)) (sym none) (unheld tells given creation times procedure args a c refusal d)
+pub untalked : (tells : Bool) (given : List ℕ) (creation : Talking SessionState) (times : ℕ) (query : QuerySays) (args : List ℕ) (a c : Wire) (refusal : ClientRefusal) (results : List (List ℕ)) → results ≡ [] → Stopped creation a c refusal → TalkedBy tells given given creation times query args a c None results (Refused refusal)
+untalked tells given creation times query args a c refusal results none d = subst (λ (rs : List (List ℕ)). TalkedBy tells given given creation times query args a c None rs (Refused refusal)) (sym none) (unheld tells given creation times query args a c refusal d)

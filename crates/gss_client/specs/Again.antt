@@ -17,7 +17,7 @@ use Rattle.gss_client.specs.Session.{SessionState}
 abbrev pub later : ℕ → SessionState → SessionState
 later count s = record {
   outcome = s.outcome;
-  service = s.service;
+  terms = s.terms;
   handle = s.handle;
   number = s.number + count;
   xid = s.xid;
@@ -48,7 +48,7 @@ verdict_of (Err why) = refuses why
 abbrev pub judged_at : SessionState → AnswerValue → ℕ → Verdict
 judged_at s answer number = verdict_of (do
   success ← succeeded answer
-  body_result (token_end s.outcome Initiator) number answer.result s.service)
+  body_result (token_end s.outcome Initiator) number answer.result s.terms.service)
 
 -- C12: by the number that the verifier is over, if there is one
 abbrev pub judged_by : SessionState → AnswerValue → Option ℕ → Verdict

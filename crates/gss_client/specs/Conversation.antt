@@ -7,10 +7,9 @@ use Rattle.spnego_core.specs.declared.outcome.Outcome.{Outcome}
 use Rattle.gss_client.specs.declared.conversation.Parting.{Parting}
 use Rattle.gss_client.specs.declared.conversation.Parting.TheVariants.{Finished, Spent, Foreign}
 use Rattle.gss_client.specs.declared.conversation.Parting.TheVariants.{Refused}
-use Rattle.gss_client.specs.declared.procedure.Procedure.{Procedure}
+use Rattle.gss_client.specs.Query.{QuerySays}
 use Rattle.gss_client.specs.declared.refusal.ClientRefusal.{ClientRefusal}
 use Rattle.gss_client.specs.Start.{StartSays}
-use Rattle.gss_client.specs.Procedure.{procedure_number, is_result}
 use Rattle.gss_client.specs.Session.{SessionState}
 use Rattle.gss_client.specs.Talk.{created_from, calls, destroys}
 use Rattle.gss_client.specs.Talking.{Said, Talking}
@@ -53,25 +52,25 @@ leaves due undrawn s = conversed s.written [] (parted due s.answer) undrawn s.re
 
 -- a call was answered: its result counts if it is one of the procedure, and the conversation goes
 -- on; else it ends here, and nothing more is written
-abbrev pub goes_on : Procedure → List ℕ → List ℕ → List ℕ
+abbrev pub goes_on : QuerySays → List ℕ → List ℕ → List ℕ
     → (SessionState → List ℕ → List ℕ → Conversed) → Result (SessionState × List ℕ) ClientRefusal
     → Conversed
-goes_on procedure written undrawn rest next (Ok called) =
-    if is_result procedure called.1 then behind written (called.1 ∷ []) (next called.0 undrawn rest)
+goes_on query written undrawn rest next (Ok called) =
+    if query.is_result called.1 then behind written (called.1 ∷ []) (next called.0 undrawn rest)
     else conversed written [] Foreign undrawn rest
-goes_on procedure written undrawn rest next (Err refusal) =
+goes_on query written undrawn rest next (Err refusal) =
     conversed written [] (Refused refusal) undrawn rest
 
 -- so many calls of a procedure with these arguments, each with the next 16 random octets as its
 -- confounder, and then the destruction. Where a call is due and the numbers are spent, it isn't
 -- made, and the context is destroyed.
-unfoldable pub converses : ℕ → Procedure → List ℕ → SessionState → List ℕ → List ℕ → Conversed
-converses zero procedure args s draws stream = leaves Finished draws (destroys s stream)
-converses (suc left) procedure args s draws stream =
+unfoldable pub converses : ℕ → QuerySays → List ℕ → SessionState → List ℕ → List ℕ → Conversed
+converses zero query args s draws stream = leaves Finished draws (destroys s stream)
+converses (suc left) query args s draws stream =
     if s.number == 0x80000000 then leaves Spent draws (destroys s stream)
     else (let said : Said (SessionState × List ℕ) =
-    calls s (procedure_number procedure) args (take 16 draws) stream in
-    goes_on procedure said.written (drop 16 draws) said.rest (converses left procedure args)
+    calls s query.number args (take 16 draws) stream in
+    goes_on query said.written (drop 16 draws) said.rest (converses left query args)
     said.answer)
 
 -- ---- a whole session
@@ -99,11 +98,11 @@ by_session written outcome c =
     }
 
 -- a talk by what its creation answered: with a session its calls follow, without one it ends
-abbrev pub by_creation : ℕ → Procedure → List ℕ → List ℕ → List ℕ → List ℕ
+abbrev pub by_creation : ℕ → QuerySays → List ℕ → List ℕ → List ℕ → List ℕ
     → Result SessionState ClientRefusal → Talk
-by_creation times procedure args draws written rest (Ok s) =
-    by_session written (Some s.outcome) (converses times procedure args s draws rest)
-by_creation times procedure args draws written rest (Err refusal) =
+by_creation times query args draws written rest (Ok s) =
+    by_session written (Some s.outcome) (converses times query args s draws rest)
+by_creation times query args draws written rest (Err refusal) =
     record {
       written = written;
       outcome = None;
@@ -115,13 +114,13 @@ by_creation times procedure args draws written rest (Err refusal) =
     }
 
 -- this creation of a context, so many calls, and the destruction
-unfoldable pub talk_by : Talking SessionState → ℕ → Procedure → List ℕ → List ℕ → List ℕ → Talk
-talk_by creation times procedure args draws stream =
+unfoldable pub talk_by : Talking SessionState → ℕ → QuerySays → List ℕ → List ℕ → List ℕ → Talk
+talk_by creation times query args draws stream =
     let said : Said SessionState = creation stream in
-    by_creation times procedure args draws said.written said.rest said.answer
+    by_creation times query args draws said.written said.rest said.answer
 
 -- the creation of a context from this start, by plain credentials, so many calls, and the
 -- destruction
-abbrev pub talk : StartSays → ℕ → Procedure → List ℕ → List ℕ → List ℕ → Talk
-talk start times procedure args draws stream =
-    talk_by (created_from start) times procedure args draws stream
+abbrev pub talk : StartSays → ℕ → QuerySays → List ℕ → List ℕ → List ℕ → Talk
+talk start times query args draws stream =
+    talk_by (created_from start) times query args draws stream

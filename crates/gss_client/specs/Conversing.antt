@@ -4,7 +4,7 @@ use Rattle.sec_base.specs.Link.{Wire}
 use Rattle.spnego_core.specs.declared.outcome.Outcome.{Outcome}
 use Rattle.gss_client.specs.declared.conversation.Parting.{Parting}
 use Rattle.gss_client.specs.declared.conversation.Parting.TheVariants.{Refused}
-use Rattle.gss_client.specs.declared.procedure.Procedure.{Procedure}
+use Rattle.gss_client.specs.Query.{QuerySays}
 use Rattle.gss_client.specs.declared.refusal.ClientRefusal.{ClientRefusal}
 use Rattle.gss_client.specs.declared.refusal.ClientRefusal.TheVariants.{LinkFault, NoMemory}
 use Rattle.gss_client.specs.Start.{StartSays}
@@ -31,7 +31,7 @@ pub record IsConversed (wrote : List ℕ) (results : List (List ℕ)) (parting :
 -- the conversation is the one of the octets that were drawn, whatever follows them, and of those
 -- that were taken and are to come. After a fault of the link or want of memory a front of it was
 -- written and answered. Where it wasn't refused, it took no octet more than it heard.
-pub record Conferred (tells : Bool) (given given' : List ℕ) (times : ℕ) (procedure : Procedure)
+pub record Conferred (tells : Bool) (given given' : List ℕ) (times : ℕ) (query : QuerySays)
     (args : List ℕ) (s : SessionState) (old new : Wire) (results : List (List ℕ))
     (parting : Parting) : Type 0 where
   pub took : List ℕ
@@ -40,13 +40,13 @@ pub record Conferred (tells : Bool) (given given' : List ℕ) (times : ℕ) (pro
   pub went : Went old new took wrote
   pub draws : IsTrue tells → given' ≡ given ++ drawn
   pub front : (later : List ℕ) → IsFront wrote
-      (converses times procedure args s (drawn ++ later) (took ++ new.coming)).written × IsFront
-      results (converses times procedure args s (drawn ++ later) (took ++ new.coming)).results
+      (converses times query args s (drawn ++ later) (took ++ new.coming)).written × IsFront
+      results (converses times query args s (drawn ++ later) (took ++ new.coming)).results
   pub whole : parting ≢ Refused LinkFault
       → parting ≢ Refused NoMemory → (later : List ℕ) → IsConversed wrote results parting later
-      (converses times procedure args s (drawn ++ later) (took ++ new.coming))
+      (converses times query args s (drawn ++ later) (took ++ new.coming))
   pub heard : ((refusal : ClientRefusal) → parting ≢ Refused refusal) → (later : List ℕ)
-      → (converses times procedure args s (drawn ++ later) (took ++ new.coming)).rest ≡ new.coming
+      → (converses times query args s (drawn ++ later) (took ++ new.coming)).rest ≡ new.coming
 
 -- the context was destroyed, and the end is the one that was due; or the destruction was refused
 abbrev pub Leaves : SessionState → Wire → Wire → Parting → Parting → Type 0
@@ -74,7 +74,7 @@ pub record IsTalkFront (wrote : List ℕ) (outcome : Option Outcome) (results : 
 
 -- the same for the whole talk, whose context is created so
 pub record TalkedBy (tells : Bool) (given given' : List ℕ) (creation : Talking SessionState)
-    (times : ℕ) (procedure : Procedure) (args : List ℕ) (old new : Wire) (outcome : Option Outcome)
+    (times : ℕ) (query : QuerySays) (args : List ℕ) (old new : Wire) (outcome : Option Outcome)
     (results : List (List ℕ)) (parting : Parting) : Type 0 where
   pub took : List ℕ
   pub wrote : List ℕ
@@ -82,16 +82,16 @@ pub record TalkedBy (tells : Bool) (given given' : List ℕ) (creation : Talking
   pub went : Went old new took wrote
   pub draws : IsTrue tells → given' ≡ given ++ drawn
   pub front : (later : List ℕ) → IsTalkFront wrote outcome results
-      (talk_by creation times procedure args (drawn ++ later) (took ++ new.coming))
+      (talk_by creation times query args (drawn ++ later) (took ++ new.coming))
   pub whole : parting ≢ Refused LinkFault
       → parting ≢ Refused NoMemory → (later : List ℕ) → IsTalk wrote outcome results parting later
-      (talk_by creation times procedure args (drawn ++ later) (took ++ new.coming))
+      (talk_by creation times query args (drawn ++ later) (took ++ new.coming))
   pub heard : ((refusal : ClientRefusal) → parting ≢ Refused refusal) → (later : List ℕ)
-      → (talk_by creation times procedure args (drawn ++ later) (took ++ new.coming)).rest
+      → (talk_by creation times query args (drawn ++ later) (took ++ new.coming)).rest
       ≡ new.coming
 
 -- the same of a start by plain credentials
-abbrev pub Talked : Bool → List ℕ → List ℕ → StartSays → ℕ → Procedure → List ℕ → Wire → Wire
+abbrev pub Talked : Bool → List ℕ → List ℕ → StartSays → ℕ → QuerySays → List ℕ → Wire → Wire
     → Option Outcome → List (List ℕ) → Parting → Type 0
-Talked tells given given' start times procedure args old new outcome results parting = TalkedBy
-    tells given given' (created_from start) times procedure args old new outcome results parting
+Talked tells given given' start times query args old new outcome results parting = TalkedBy
+    tells given given' (created_from start) times query args old new outcome results parting

@@ -205,7 +205,7 @@ call_result outcome service number xid octets = do
 -- the session behind the call, and its result
 unfoldable pub result_taken : SessionState → List ℕ → Result (SessionState × List ℕ) ClientRefusal
 result_taken s octets = do
-  result ← call_result s.outcome s.service s.number s.xid octets
+  result ← call_result s.outcome s.terms.service s.number s.xid octets
   Ok (session_after s, result)
 
 -- ---- the reply to a destruction

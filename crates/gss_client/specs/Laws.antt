@@ -8,7 +8,7 @@ use Rattle.rpc_msgs.specs.Replies.{accepted}
 use Rattle.rpc_msgs.specs.ReplyReading.{reply_at}
 use Rattle.rpc_msgs.specs.Words.{word}
 use Rattle.rpcsec_bodies.specs.Carried.{IsBody}
-use Rattle.rpcsec_bodies.specs.declared.service.Service.{Service}
+use Rattle.gss_client.specs.declared.terms.Terms.{Terms}
 use Rattle.spnego_core.specs.Ends.{EndSays}
 use Rattle.spnego_core.specs.Outcome.{token_end}
 use Rattle.init_ends.specs.Ends.{EndMeans}
@@ -31,7 +31,7 @@ pub record StandsIn (s : SessionState) (octets result : List ℕ) : Type 0 where
   pub body : List ℕ
   pub reply : reply_at octets ≡ Ok (accepted s.xid RPCSEC_GSS verf SUCCESS low high body)
   pub proved : checked_mic (token_end s.outcome Initiator) verf (word s.number) ≡ Ok tt
-  pub held : IsBody (token_end s.outcome Initiator) s.service s.number body result
+  pub held : IsBody (token_end s.outcome Initiator) s.terms.service s.number body result
 
 -- each result that a session takes stands in a reply to its call
 abbrev pub ResultLaw : Type 0
@@ -41,10 +41,10 @@ ResultLaw = (s next : SessionState) (octets result : List ℕ)
 -- a creation that is begun with as many turns as its end takes replies is the same by every greater
 -- count: it never ends for want of turns
 abbrev pub CountLaw : Type 0
-CountLaw = (left : ℕ) (service : Service) (first xid proc : ℕ) (offer : OfferSays)
+CountLaw = (left : ℕ) (terms : Terms) (first xid proc : ℕ) (offer : OfferSays)
     (stream : List ℕ) → replies_left offer.end ≤ left
-    → creates left service first xid proc offer stream
-    ≡ creates (replies_left offer.end) service first xid proc offer stream
+    → creates left terms first xid proc offer stream
+    ≡ creates (replies_left offer.end) terms first xid proc offer stream
 
 -- ---- objects, and plain credentials
 

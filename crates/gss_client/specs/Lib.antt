@@ -1,13 +1,16 @@
 pub mod Again
 pub mod Calling
+pub mod Conferring
 pub mod Creation
 pub mod Conversation
 pub mod Conversing
 pub mod Exchanging
 pub mod Hearing
+pub mod Holding
 pub mod Judging
 pub mod Laws
 pub mod Procedure
+pub mod Query
 pub mod Rank
 pub mod Session
 pub mod Start

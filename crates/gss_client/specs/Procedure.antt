@@ -6,6 +6,7 @@ use Rattle.rpc_msgs.specs.declared.xdr_reader.XdrRefusal.{XdrRefusal}
 use Rattle.rpc_msgs.specs.Xdr.{whole, opaque_at, end_at, ◌>>=◌}
 use Rattle.gss_client.specs.declared.procedure.Procedure.{Procedure}
 use Rattle.gss_client.specs.declared.procedure.Procedure.TheVariants as procedures
+use Rattle.gss_client.specs.Query.{QuerySays}
 
 -- the number of a procedure in a call
 abbrev pub procedure_number : Procedure → ℕ
@@ -34,3 +35,10 @@ is_result procedures.Echo octets = is_ok (opaque_alone 65536 octets)
 is_result procedures.Whoami octets = is_text (opaque_alone 1024 octets)
 is_result procedures.Post octets = length octets == 4
 is_result procedures.Count octets = length octets == 4
+
+-- what a client asks by a procedure
+abbrev pub query_of : Procedure → QuerySays
+query_of procedure = record {
+  number = procedure_number procedure;
+  is_result = is_result procedure;
+}

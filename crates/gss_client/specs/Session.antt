@@ -1,13 +1,13 @@
 -- A session: a context that stands, and where its calls are.
 use Rattle.std.specs.Prelude.{ℕ, ◌+◌, ◌%◌, ◌^◌, List}
 use Rattle.spnego_core.specs.declared.outcome.Outcome.{Outcome}
-use Rattle.rpcsec_bodies.specs.declared.service.Service.{Service}
+use Rattle.gss_client.specs.declared.terms.Terms.{Terms}
 
--- what was agreed; how calls are protected; the server's handle; the number of the next call, and
--- its transaction number
+-- what was agreed; what is called, and how calls are protected; the server's handle; the number of
+-- the next call, and its transaction number
 pub record SessionState : Type 0 where
   pub outcome : Outcome
-  pub service : Service
+  pub terms : Terms
   pub handle : List ℕ
   pub number : ℕ
   pub xid : ℕ
@@ -20,7 +20,7 @@ xid_after xid = (xid + 1) % 2 ^ 32
 abbrev pub session_after : SessionState → SessionState
 session_after s = record {
   outcome = s.outcome;
-  service = s.service;
+  terms = s.terms;
   handle = s.handle;
   number =
       s.number + 1;

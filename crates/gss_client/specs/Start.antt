@@ -5,12 +5,13 @@ use Rattle.mech_objects.specs.Meaning.{MechSays}
 use Rattle.init_ends.specs.Ends.{SetupMeans, setup_by}
 use Rattle.init_ends.specs.Plain.{objects_of}
 use Rattle.gss_client.specs.declared.start.Start.{Start}
-use Rattle.rpcsec_bodies.specs.declared.service.Service.{Service}
+use Rattle.gss_client.specs.declared.terms.Terms.{Terms}
 
--- what its initiator is begun with, how its calls are protected, and the number of its first call
+-- what its initiator is begun with, what is called and how that is protected, and the number of the
+-- first call
 pub record StartOf (S : Type 0) : Type 0 where
   pub setup : S
-  pub service : Service
+  pub terms : Terms
   pub first : ℕ
 
 -- by plain credentials
@@ -24,10 +25,10 @@ StartMeans = StartOf SetupMeans
 -- the start over the objects of Kerberos and SCRAM that got a plain start's credentials
 abbrev pub objects_start : StartSays → StartMeans
 objects_start start =
-    record { setup = objects_of start.setup; service = start.service; first = start.first }
+    record { setup = objects_of start.setup; terms = start.terms; first = start.first }
 
 -- what the code's start is, by what its objects are
 abbrev pub start_means : {X : Type 0} → {D : X → Type 0} → Start X D
     → ((x : X) × D x → MechSays) → StartMeans
 start_means start says =
-    record { setup = setup_by start.setup says; service = start.service; first = start.first }
+    record { setup = setup_by start.setup says; terms = start.terms; first = start.first }

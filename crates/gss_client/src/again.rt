@@ -45,7 +45,7 @@ impl Session {
     {
         Session {
             outcome: self.outcome,
-            service: self.service,
+            terms: self.terms,
             handle: self.handle,
             number: self.number + 1,
             xid: self.xid,
@@ -101,7 +101,14 @@ impl Session {
         }
         let end = self.outcome.token_end(Side::Initiator);
         let body = answer.result;
-        match unprotect(alloc, &end, &self.keys.lent(), self.service, number, body) {
+        match unprotect(
+            alloc,
+            &end,
+            &self.keys.lent(),
+            self.terms.service,
+            number,
+            body,
+        ) {
             Ok(result) => Judged::Takes(result),
             Err(BodyRefusal::Protection) => Judged::Spoils(ReplyWhy::Body),
             Err(BodyRefusal::Number) => Judged::Spoils(ReplyWhy::Number),

@@ -9,10 +9,11 @@ ghost use Rattle.gss_client.specs.Calling.{destroy_call};
 ghost use Rattle.gss_client.specs.Exchanging.{IsHandle};
 
 use crate::session::Session;
+use crate::terms::Terms;
 use krb_tokens::Side;
-use rpc_msgs::numbers::{AUTH_NONE, NULL, PROGRAM, RPCSEC_GSS, VERSION};
+use rpc_msgs::numbers::{AUTH_NONE, NULL, RPCSEC_GSS};
 use rpc_msgs::{XdrWriter, write_call, write_header};
-use rpcsec_bodies::{Service, protect};
+use rpcsec_bodies::protect;
 use rpcsec_msgs::numbers::{RPC_GSS_SVC_NONE, RPCSEC_GSS_DATA, RPCSEC_GSS_DESTROY};
 use rpcsec_msgs::{GssCred, write_cred};
 use sec_base::{NoMemory, Octets};
@@ -54,6 +55,7 @@ fn argument(alloc: Global, token: &[u8]) -> Result<Octets, NoMemory>
 /// A call, with room for it in a record.
 fn call(
     alloc: Global,
+    terms: Terms,
     xid: u32,
     procedure: u32,
     cred: &[u8],
@@ -64,21 +66,29 @@ fn call(
     requires cred { length cred.now ≤ 400 }
     requires verf { length verf.now ≤ 400 }
     requires args { length args.now ≤ 130000 }
-    ensures value { IfOk result (λ o. o ≡ call_octets (secure_call xid PROGRAM VERSION procedure
-        cred.now (record { flavour = flavour; body = verf.now }) args.now)) }
+    ensures value { IfOk result (λ o. o ≡ call_octets (secure_call xid terms.program terms.version
+        procedure cred.now (record { flavour = flavour; body = verf.now }) args.now)) }
     ensures size { IfOk result (λ o. length o ≤ 131072) }
 {
     write_call(
-        alloc, xid, PROGRAM, VERSION, procedure, cred, flavour, verf, args,
+        alloc,
+        xid,
+        terms.program,
+        terms.version,
+        procedure,
+        cred,
+        flavour,
+        verf,
+        args,
     )
 }
 
-/// The record of a creation call, RFC 2203 section 5.2.2: `proc` is 1 in a first call, whose handle has no octets, and 2 afterwards. `service` is the
+/// The record of a creation call, RFC 2203 section 5.2.2: `proc` is 1 in a first call, whose handle has no octets, and 2 afterwards. `terms` are the
 /// session's. The token has at most 65,536 octets and the handle 64, so that the record has at most 131,072.
 #[tactic(auto, unfolding(crate::specs::Calling::creation_call))]
 pub fn creation_call(
     alloc: Global,
-    service: Service,
+    terms: Terms,
     xid: u32,
     proc: u32,
     handle: &[u8],
@@ -86,14 +96,15 @@ pub fn creation_call(
 ) -> Result<Octets, NoMemory>
     requires handle { IsHandle handle.now }
     requires token { length token.now ≤ 65536 }
-    ensures value { IfOk result (λ o. o ≡ creation_call service xid proc handle.now token.now) }
+    ensures value { IfOk result (λ o. o ≡ creation_call terms xid proc handle.now token.now) }
     ensures size { IfOk result (λ o. length o ≤ 131072) }
 {
-    let cred = credential(alloc, proc, 0, service.number(), handle)?;
+    let cred = credential(alloc, proc, 0, terms.service.number(), handle)?;
     match argument(alloc, token) {
         Ok(args) => {
             let record = call(
                 alloc,
+                terms,
                 xid,
                 NULL,
                 cred.as_slice(),
@@ -130,13 +141,16 @@ fn signed_call(
     let cred = credential(alloc, proc, session.number, service, handle)?;
     let spelled = cred.as_slice();
     let xid = session.xid;
-    match write_header(alloc, xid, PROGRAM, VERSION, procedure, spelled) {
+    let terms = session.terms;
+    match write_header(alloc, xid, terms.program, terms.version, procedure, spelled) {
         Ok(header) => {
             let end = session.outcome.token_end(Side::Initiator);
             let number = 2 * session.number as u64;
             let mic = end.make_mic_by(&session.keys.lent(), number, header.as_slice());
             drop(header);
-            let record = call(alloc, xid, procedure, spelled, RPCSEC_GSS, &mic, body);
+            let record = call(
+                alloc, terms, xid, procedure, spelled, RPCSEC_GSS, &mic, body,
+            );
             drop(cred);
             record
         }
@@ -164,7 +178,7 @@ pub(crate) fn data_call(
         alloc,
         &session.outcome.token_end(Side::Initiator),
         &session.keys.lent(),
-        session.service,
+        session.terms.service,
         session.number,
         confounder,
         args,
@@ -173,7 +187,7 @@ pub(crate) fn data_call(
         alloc,
         session,
         RPCSEC_GSS_DATA,
-        session.service.number(),
+        session.terms.service.number(),
         procedure,
         body.as_slice(),
     )

@@ -8,7 +8,7 @@ ghost use Rattle.gss_client.specs.Conversing.{Conferred, Leaves, TalkedBy, Talke
 ghost use Rattle.gss_client.specs.Start.{StartSays, objects_start, start_means};
 ghost use Rattle.gss_client.specs.Talk.{created_over};
 
-use crate::procedure::Procedure;
+use crate::query::Query;
 use crate::refusal::ClientRefusal;
 use crate::session::Session;
 use crate::start::Start;
@@ -17,7 +17,7 @@ use spnego_core::Outcome;
 use std::alloc::Global;
 
 /// The number after that of the last call.
-const END: u32 = 0x8000_0000;
+pub(crate) const END: u32 = 0x8000_0000;
 
 /// How a conversation ended.
 #[derive(Clone, Copy, Debug)]
@@ -51,7 +51,7 @@ pub struct Talk {
 }
 
 /// Adds a result, for which there is room.
-fn add(results: &mut Vec<Octets>, one: Octets)
+pub(crate) fn add(results: &mut Vec<Octets>, one: Octets)
     requires { vec_len results.old + 1 ≤ vec_capacity results.old }
     ensures { results.new.items ≡ results.old.items ++ one ∷ [] }
 {
@@ -61,20 +61,21 @@ fn add(results: &mut Vec<Octets>, one: Octets)
 impl Session {
     /// Calls a procedure so many times with the same arguments, as long as there are numbers, and destroys the context. Each call takes the
     /// next 16 octets of `draw` as its confounder, whatever the service.
-    pub fn converse<L: Link, D: Draw>(
+    pub fn converse<L: Link, D: Draw, Q: Query>(
         self,
         alloc: Global,
         link: &mut L,
         draw: &mut D,
-        procedure: Procedure,
+        query: &Q,
         args: &[u8],
         times: u32,
     ) -> Conversation
         requires unclosed { L.closed link.old ≡ false }
         requires args { length args.now ≤ 65540 }
         ensures told { IsTrue (L.tells link.old)
-            → Conferred (D.tells draw.new) (D.given draw.old) (D.given draw.new) times procedure
-            args.now self (L.wire link.old) (L.wire link.new) result.results.items result.parting }
+            → Conferred (D.tells draw.new) (D.given draw.old) (D.given draw.new) times
+            (Q.says query.now) args.now self (L.wire link.old) (L.wire link.new)
+            result.results.items result.parting }
         ensures fault { result.parting ≡ Parting.Refused ClientRefusal.LinkFault
             → Rose (L.faults link.old) (L.faults link.new) }
         ensures tells { L.tells link.new ≡ L.tells link.old }
@@ -96,9 +97,9 @@ impl Session {
             }
             let mut confounder = [0; 16];
             draw.fill(&mut confounder);
-            match session.call(alloc, link, procedure.number(), args, &confounder) {
+            match session.call(alloc, link, query.number(), args, &confounder) {
                 Ok((next, result)) => {
-                    if !procedure.is_result(result.as_slice()) {
+                    if !query.is_result(result.as_slice()) {
                         drop(next);
                         drop(result);
                         let parting = Parting::Foreign;
@@ -118,12 +119,12 @@ impl Session {
     }
 
     /// Holds a whole session: creates a context, calls a procedure so many times, and destroys the context.
-    pub fn hold<L: Link, D: Draw>(
+    pub fn hold<L: Link, D: Draw, Q: Query>(
         alloc: Global,
         link: &mut L,
         draw: &mut D,
         start: Start,
-        procedure: Procedure,
+        query: &Q,
         args: &[u8],
         times: u32,
     ) -> Talk
@@ -133,13 +134,14 @@ impl Session {
         requires last { start.first ≤ 0x7fffffff }
         requires args { length args.now ≤ 65540 }
         ensures told { IsTrue (L.tells link.old) → TalkedBy (D.tells draw.new) (D.given draw.old)
-            (D.given draw.new) (created_over (start_means start meaning)) times procedure args.now
-            (L.wire link.old) (L.wire link.new) result.outcome result.results.items result.parting }
+            (D.given draw.new) (created_over (start_means start meaning)) times (Q.says query.now)
+            args.now (L.wire link.old) (L.wire link.new) result.outcome result.results.items
+            result.parting }
         // By the objects of Kerberos and SCRAM: as by their credentials.
         ensures plain { (own : StartSays) → start_means start meaning ≡ objects_start own
             → IsTrue (L.tells link.old) → Talked (D.tells draw.new) (D.given draw.old)
-            (D.given draw.new) own times procedure args.now (L.wire link.old) (L.wire link.new)
-            result.outcome result.results.items result.parting }
+            (D.given draw.new) own times (Q.says query.now) args.now (L.wire link.old)
+            (L.wire link.new) result.outcome result.results.items result.parting }
         ensures fault { result.parting ≡ Parting.Refused ClientRefusal.LinkFault
             → Rose (L.faults link.old) (L.faults link.new) }
         ensures tells { L.tells link.new ≡ L.tells link.old }
@@ -159,7 +161,7 @@ impl Session {
         };
         let outcome = *session.outcome();
         let Conversation { results, parting } = session.converse(
-            alloc, link, draw, procedure, args, times,
+            alloc, link, draw, query, args, times,
         );
         Talk {
             outcome: Some(outcome),
@@ -169,7 +171,7 @@ impl Session {
     }
 
     /// Destroys the context at the end of a conversation.
-    fn part<L: Link>(self, alloc: Global, link: &mut L, due: Parting) -> Parting
+    pub(crate) fn part<L: Link>(self, alloc: Global, link: &mut L, due: Parting) -> Parting
         requires unclosed { L.closed link.old ≡ false }
         ensures told { IsTrue (L.tells link.old)
             → Leaves self (L.wire link.old) (L.wire link.new) due result }

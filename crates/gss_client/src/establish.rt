@@ -18,8 +18,8 @@ use crate::exchange::exchange;
 use crate::refusal::{ClientRefusal, ReplyWhy, not_negotiated};
 use crate::session::{Session, xid_after};
 use crate::start::Start;
+use crate::terms::Terms;
 use init_ends::InitEnd;
-use rpcsec_bodies::Service;
 use rpcsec_msgs::numbers::{RPCSEC_GSS_CONTINUE_INIT, RPCSEC_GSS_INIT};
 use sec_base::{Link, NoMemory, Octets};
 use std::alloc::Global;
@@ -31,7 +31,7 @@ pub const MOST_REPLIES: u32 = 16;
 fn call_with<L: Link>(
     alloc: Global,
     link: &mut L,
-    service: Service,
+    terms: Terms,
     xid: u32,
     proc: u32,
     handle: &[u8],
@@ -41,7 +41,7 @@ fn call_with<L: Link>(
     requires handle { IsHandle handle.now }
     requires token { length token.now ≤ 65536 }
     ensures told { IsTrue (L.tells link.old)
-        → Talks (exchanges (creation_call service xid proc handle.now token.now))
+        → Talks (exchanges (creation_call terms xid proc handle.now token.now))
         (L.wire link.old) (L.wire link.new) result }
     ensures fault { IsErrOf result ClientRefusal.LinkFault
         → Rose (L.faults link.old) (L.faults link.new) }
@@ -49,7 +49,7 @@ fn call_with<L: Link>(
     ensures unclosed { L.closed link.new ≡ false }
     ensures faults { L.faults link.old ≤ L.faults link.new }
 {
-    match creation_call(alloc, service, xid, proc, handle, token) {
+    match creation_call(alloc, terms, xid, proc, handle, token) {
         Ok(call) => exchange(alloc, link, call.as_slice()),
         Err(NoMemory) => Err(ClientRefusal::NoMemory),
     }
@@ -59,7 +59,7 @@ fn call_with<L: Link>(
 fn turn<L: Link>(
     alloc: Global,
     link: &mut L,
-    service: Service,
+    terms: Terms,
     xid: u32,
     proc: u32,
     offer: Offer,
@@ -68,7 +68,7 @@ fn turn<L: Link>(
     requires fits { FitsOffer (offer_means offer meaning) }
     requires held { holds (end_by offer.end meaning) ≡ true }
     ensures told { IsTrue (L.tells link.old)
-        → Talks (turns_by end_step service xid proc (offer_means offer meaning))
+        → Talks (turns_by end_step terms xid proc (offer_means offer meaning))
         (L.wire link.old) (L.wire link.new) (reply_means result meaning) }
     ensures held { IfOk result (λ c. holds_created (created_means c meaning) ≡ true) }
     ensures fits { IfOk result (λ c. FitsCreated (created_means c meaning)) }
@@ -82,7 +82,7 @@ fn turn<L: Link>(
     match call_with(
         alloc,
         link,
-        service,
+        terms,
         xid,
         proc,
         handle.as_slice(),
@@ -107,7 +107,7 @@ fn turn<L: Link>(
 fn establish<L: Link>(
     alloc: Global,
     link: &mut L,
-    service: Service,
+    terms: Terms,
     first: u32,
     xid: u32,
     proc: u32,
@@ -119,7 +119,7 @@ fn establish<L: Link>(
     requires held { holds (end_by offer.end meaning) ≡ true }
     requires last { first ≤ 0x7fffffff }
     ensures told { IsTrue (L.tells link.old)
-        → Talks (creates_by end_step left service first xid proc (offer_means offer meaning))
+        → Talks (creates_by end_step left terms first xid proc (offer_means offer meaning))
         (L.wire link.old) (L.wire link.new) result }
     ensures fault { IsErrOf result ClientRefusal.LinkFault
         → Rose (L.faults link.old) (L.faults link.new) }
@@ -130,11 +130,11 @@ fn establish<L: Link>(
     if left == 0 {
         return spend(offer.end, ClientRefusal::BadReply(ReplyWhy::Steps));
     }
-    match turn(alloc, link, service, xid, proc, offer) {
+    match turn(alloc, link, terms, xid, proc, offer) {
         Ok(Created::Going(next)) => establish(
             alloc,
             link,
-            service,
+            terms,
             first,
             xid_after(xid),
             RPCSEC_GSS_CONTINUE_INIT,
@@ -142,7 +142,7 @@ fn establish<L: Link>(
             left - 1,
         ),
         Ok(Created::Stands(outcome, handle)) => Ok(Session::begun(
-            service,
+            terms,
             first,
             xid_after(xid),
             outcome,
@@ -177,7 +177,7 @@ impl Session {
     {
         let Start {
             setup,
-            service,
+            terms,
             first,
         } = start;
         let (end, token) = match InitEnd::start(alloc, setup) {
@@ -189,7 +189,7 @@ impl Session {
         establish(
             alloc,
             link,
-            service,
+            terms,
             first,
             1,
             RPCSEC_GSS_INIT,

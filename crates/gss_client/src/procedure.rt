@@ -3,8 +3,9 @@
 ghost use Rattle.std.specs.Prelude.{◌≡◌};
 ghost use Rattle.std.specs.Str.{is_utf8};
 ghost use Rattle.rpc_msgs.specs.Xdr.{Answers};
-ghost use Rattle.gss_client.specs.Procedure.{procedure_number, opaque_alone, is_result};
+ghost use Rattle.gss_client.specs.Procedure.{opaque_alone};
 
+use crate::query::Query;
 use rpc_msgs::numbers::{COUNT, ECHO, NULL, POST, WHOAMI};
 use rpc_msgs::{XdrReader, XdrRefusal};
 use std::str::from_utf8;
@@ -27,11 +28,12 @@ pub enum Procedure {
     Count,
 }
 
-impl Procedure {
-    /// Its number in a call.
-    pub fn number(self) -> u32
-        ensures { result ≡ procedure_number self }
-    {
+impl Query for Procedure {
+    ghost use Rattle.gss_client.specs.Procedure.{query_of};
+
+    ghost says = { query_of };
+
+    fn number(&self) -> u32 {
         match self {
             Procedure::Null => NULL,
             Procedure::Echo => ECHO,
@@ -41,11 +43,8 @@ impl Procedure {
         }
     }
 
-    /// Whether octets are a result of it, spelled so and used up.
     #[tactic(auto, unfolding(crate::specs::Procedure::is_result))]
-    pub fn is_result(self, octets: &[u8]) -> bool
-        ensures { result ≡ is_result self octets.now }
-    {
+    fn is_result(&self, octets: &[u8]) -> bool {
         match self {
             Procedure::Null => octets.is_empty(),
             Procedure::Echo => opaque_alone(65_536, octets).is_ok(),

@@ -13,6 +13,7 @@ use crate::calling::{data_call, destroy_call};
 use crate::exchange::exchange;
 use crate::refusal::ClientRefusal;
 use crate::results::{call_result, destroyed_in};
+use crate::terms::Terms;
 use krb_tokens::{KeyCache, Side};
 use rpcsec_bodies::Service;
 use sec_base::{Link, NoMemory, Octets};
@@ -24,7 +25,7 @@ use std::marker::Model;
 #[derive(Drop)]
 pub struct Session {
     pub(crate) outcome: Outcome,
-    pub(crate) service: Service,
+    pub(crate) terms: Terms,
     pub(crate) handle: Octets,
     pub(crate) number: u32,
     pub(crate) xid: u32,
@@ -40,7 +41,7 @@ impl Model for Session {
 
     ghost view = { λ s. record {
       outcome = s.outcome;
-      service = s.service;
+      terms = s.terms;
       handle =
           s.handle;
       number = s.number;
@@ -71,21 +72,15 @@ fn keys_of(outcome: &Outcome, service: Service) -> KeyCache {
 impl Session {
     /// The session of a context that stands, by the server's handle of at most 64 octets: its next call has the number `first`, at most 0x80000000, and
     /// the transaction number `xid`. Where calls go by a `Link`, `create` begins it.
-    pub fn begun(
-        service: Service,
-        first: u32,
-        xid: u32,
-        outcome: Outcome,
-        handle: Octets,
-    ) -> Session
+    pub fn begun(terms: Terms, first: u32, xid: u32, outcome: Outcome, handle: Octets) -> Session
         requires number { first ≤ 0x80000000 }
         requires handle { IsHandle handle }
-        ensures { result ≡ begun service first xid outcome handle }
+        ensures { result ≡ begun terms first xid outcome handle }
     {
-        let keys = keys_of(&outcome, service);
+        let keys = keys_of(&outcome, terms.service);
         Session {
             outcome,
-            service,
+            terms,
             handle,
             number: first,
             xid,
@@ -132,7 +127,7 @@ impl Session {
     {
         Session {
             outcome: self.outcome,
-            service: self.service,
+            terms: self.terms,
             handle: self.handle,
             number: self.number + 1,
             xid: xid_after(self.xid),
@@ -208,7 +203,7 @@ impl Session {
             alloc,
             &self.keys,
             &self.outcome,
-            self.service,
+            self.terms.service,
             self.number,
             self.xid,
             reply,
@@ -257,7 +252,7 @@ impl Session {
                 alloc,
                 &self.keys,
                 &self.outcome,
-                self.service,
+                self.terms.service,
                 self.number,
                 self.xid,
                 reply.as_slice(),

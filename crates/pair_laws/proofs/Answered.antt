@@ -6,7 +6,8 @@ use Rattle.std.proofs.lemmas.Bool.Decides.{nat_tests}
 use Rattle.std.proofs.lemmas.List.{length-take, length-drop}
 use Rattle.std.proofs.lemmas.Nat.{from_be_bytes-to_be_bytes_8}
 use Rattle.rpc_msgs.specs.Words.{word, opaque}
-use Rattle.rpc_msgs.specs.Calls.{CallValue, secure_call, call_at}
+use Rattle.rpc_msgs.specs.declared.numbers.TheConstants.{PROGRAM}
+use Rattle.rpc_msgs.specs.Calls.{CallValue, secure_call, header_octets, call_octets, call_at}
 use Rattle.rpc_msgs.specs.declared.call.CallRefusal.{CallRefusal}
 use Rattle.rpc_msgs.proofs.CallLaws.{call-only}
 use Rattle.rpc_msgs.specs.Replies.{ReplyValue, accepted, reply_octets}
@@ -35,6 +36,7 @@ use Rattle.accept_book.specs.RecordRule.{record_ruling}
 use Rattle.accept_book.specs.declared.book_answer.Lease.{Lease}
 use Rattle.accept_book.proofs.HonestMakings.{mic-made, sealed-made, made-honest}
 use Rattle.rpcsec_bodies.specs.declared.service.Service.{Service}
+use Rattle.gss_client.specs.declared.terms.Terms.{Terms}
 use Rattle.rpcsec_bodies.specs.declared.service.Service.TheVariants as services
 use Rattle.rpcsec_bodies.specs.Opening.{unprotected}
 use Rattle.rpcsec_bodies.specs.Protection.{protected}
@@ -50,7 +52,7 @@ use Rattle.gss_client.proofs.CallLengths.{cred-fits}
 use Rattle.gss_server.specs.Connections.{framed}
 use Rattle.gss_server.proofs.BodyLengths.{result-fits}
 use Rattle.gss_server.proofs.ReplyLengths.{accepted-fits}
-use Rattle.pair_laws.specs.HonestCalls.{session_on, HonestCall, IsAdmitted, IsAnswered}
+use Rattle.pair_laws.specs.HonestCalls.{IsToServer, session_on, HonestCall, IsAdmitted, IsAnswered}
 use Rattle.pair_laws.proofs.Creating.{exchanged}
 use Rattle.pair_laws.proofs.Ruling.{few-services}
 
@@ -72,9 +74,16 @@ carries s args confounder services.Privacy few size block octets =
       },
     ))
 
-pub is-made : (s : SessionState) (procedure : ℕ) (args confounder : List ℕ) → data_call s procedure args confounder ≡ made_call (own_end s) (2 * s.number) s.xid procedure (record { proc = 0; seq = s.number; service = number_of s.service; context = s.handle }) (body_of s args confounder s.service)
+-- a call of this program and version, as `made_call` has it for the server's
+abbrev made_to : ℕ → ℕ → TokenEnd → ℕ → ℕ → ℕ → CredValue → List ℕ → List ℕ
+made_to program version end number xid procedure cred body = call_octets (secure_call xid program version procedure (cred_octets cred) (record { flavour = 6; body = mic_of end number (header_octets xid program version procedure (record { flavour = 6; body = cred_octets cred })) }) body)
+
+pub is-made : (s : SessionState) (procedure : ℕ) (args confounder : List ℕ) → IsToServer s.terms → data_call s procedure args confounder ≡ made_call (own_end s) (2 * s.number) s.xid procedure (record { proc = 0; seq = s.number; service = number_of s.terms.service; context = s.handle }) (body_of s args confounder s.terms.service)
 unfolding data_call signed_call verifier_of header_of
-is-made s procedure args confounder = refl
+is-made s procedure args confounder called =
+    let cred : CredValue = record { proc = 0; seq = s.number; service = number_of s.terms.service; context = s.handle } in
+    ap (λ (program : ℕ). made_to program s.terms.version (own_end s) (2 * s.number) s.xid procedure cred (body_of s args confounder s.terms.service)) called.program
+    ∙ ap (λ (version : ℕ). made_to PROGRAM version (own_end s) (2 * s.number) s.xid procedure cred (body_of s args confounder s.terms.service)) called.version
 
 weak : (service : Service) (procedure : ℕ) → (service ≡ services.None → procedure ≡ 0) → number_of service ≡ 1 → procedure ≡ 0
 weak services.None procedure h e = h refl
@@ -166,12 +175,12 @@ reply-reads lease service n xid confounder result h =
     (h, lit< tt, lit< tt, lit< tt, lit< tt)
 
 -- the session takes the result from it
-result-read : (keys : SealKeys) (lease : Lease) (service : Service) (n xid : ℕ) (confounder result : List ℕ) → ForSealing keys lease.outcome.key 22 → n < 2 ^ 32 → xid < 2 ^ 32 → length result ≤ 65540 → length confounder ≡ 16 → IsOctets (confounder ++ (word n ++ result))
-    → result_taken (session_on lease service n xid) (reply_octets (replying lease service n xid confounder result)) ≡ Ok (session_after (session_on lease service n xid), result)
+result-read : (keys : SealKeys) (lease : Lease) (terms : Terms) (n xid : ℕ) (confounder result : List ℕ) → ForSealing keys lease.outcome.key 22 → n < 2 ^ 32 → xid < 2 ^ 32 → length result ≤ 65540 → length confounder ≡ 16 → IsOctets (confounder ++ (word n ++ result))
+    → result_taken (session_on lease terms n xid) (reply_octets (replying lease terms.service n xid confounder result)) ≡ Ok (session_after (session_on lease terms n xid), result)
 unfolding result_taken call_result verified_in answer_in
-result-read keys lease service n xid confounder result for h x few block octets =
+result-read keys lease terms n xid confounder result for h x few block octets =
     let good : checked_mic (token_end lease.outcome Initiator) (mic_of (end_of lease) (2 * n) (word n)) (word n) ≡ Ok tt = mic-taken (end_of lease) (2 * n) (word n) in
-    rw (reply-reads lease service n xid confounder result x) (rw (eqb-same xid) (rw (good) (rw (body-read keys lease service n confounder result for h few block octets) refl)))
+    rw (reply-reads lease terms.service n xid confounder result x) (rw (eqb-same xid) (rw (good) (rw (body-read keys lease terms.service n confounder result for h few block octets) refl)))
 
 taken : (s : SessionState) (procedure : ℕ) (args confounder reply rest result : List ℕ) → length reply ≤ 131072 → result_taken s reply ≡ Ok (session_after s, result) → calls s procedure args confounder (last_fragment reply ++ rest) ≡ said (last_fragment (data_call s procedure args confounder)) (Ok (session_after s, result)) rest
 unfolding calls
@@ -183,53 +192,53 @@ drawn-block : (draws : List ℕ) → length draws ≡ 82 → length (take 16 (dr
 drawn-block draws h = omega (arith, length-take 16 (drop 66 draws), length-drop 66 draws)
 
 -- the call that the session makes is honest
-pub record MadeHonest (lease : Lease) (service : Service) (number xid procedure : ℕ) (args confounder : List ℕ) : Type 0 where
-  pub honest : Honest (data_call (session_on lease service number xid) procedure args confounder) (caller_of lease) number procedure args
+pub record MadeHonest (lease : Lease) (terms : Terms) (number xid procedure : ℕ) (args confounder : List ℕ) : Type 0 where
+  pub honest : Honest (data_call (session_on lease terms number xid) procedure args confounder) (caller_of lease) number procedure args
   pub handle : handle_id honest.cred.context ≡ Some lease.id
 
-pub call-honest : (lease : Lease) (service : Service) (number xid procedure : ℕ) (args confounder : List ℕ) → HonestCall lease service number xid procedure args confounder → MadeHonest lease service number xid procedure args confounder
-call-honest lease service number xid procedure args confounder h =
-    let s : SessionState = session_on lease service number xid in
-    let body : List ℕ = body_of s args confounder service in
-    let made : List ℕ = made_call (own_end s) (2 * number) xid procedure (data_cred lease service number) body in
+pub call-honest : (lease : Lease) (terms : Terms) (number xid procedure : ℕ) (args confounder : List ℕ) → HonestCall lease terms number xid procedure args confounder → MadeHonest lease terms number xid procedure args confounder
+call-honest lease terms number xid procedure args confounder h =
+    let s : SessionState = session_on lease terms number xid in
+    let body : List ℕ = body_of s args confounder terms.service in
+    let made : List ℕ = made_call (own_end s) (2 * number) xid procedure (data_cred lease terms.service number) body in
     let honest : Honest made (caller_of lease) number procedure args =
-    made-honest (own_end s) (2 * number) xid number procedure (number_of service) (handle_of lease.id) args body (omega (arith, h.number_left)) h.xid_fits (omega (arith, h.number_left)) h.served (weak service procedure h.protected) (handle-length lease.id) h.proper
-    (carries s args confounder service h.number_left h.size h.block h.octets) in
-    let call : CallValue = made_value (own_end s) (2 * number) xid procedure (data_cred lease service number) body in
-    let same_call : call ≡ honest.call = heard-call made (caller_of lease) number procedure args call honest (made-read (own_end s) (2 * number) xid procedure lease service number body h.xid_fits h.served) in
-    let same_cred : data_cred lease service number ≡ honest.cred = heard-cred made (caller_of lease) number procedure args call (data_cred lease service number) honest same_call (cred-read lease service number (omega (arith, h.number_left))) in
+    made-honest (own_end s) (2 * number) xid number procedure (number_of terms.service) (handle_of lease.id) args body (omega (arith, h.number_left)) h.xid_fits (omega (arith, h.number_left)) h.served (weak terms.service procedure h.protected) (handle-length lease.id) h.proper
+    (carries s args confounder terms.service h.number_left h.size h.block h.octets) in
+    let call : CallValue = made_value (own_end s) (2 * number) xid procedure (data_cred lease terms.service number) body in
+    let same_call : call ≡ honest.call = heard-call made (caller_of lease) number procedure args call honest (made-read (own_end s) (2 * number) xid procedure lease terms.service number body h.xid_fits h.served) in
+    let same_cred : data_cred lease terms.service number ≡ honest.cred = heard-cred made (caller_of lease) number procedure args call (data_cred lease terms.service number) honest same_call (cred-read lease terms.service number (omega (arith, h.number_left))) in
     let m : (x : Honest made (caller_of lease) number procedure args) × (handle_id x.cred.context ≡ Some lease.id) = (honest, ap (λ (c : CredValue). handle_id c.context) (sym same_cred) ∙ id-again lease.id h.id) in
-    let n = subst (λ (zs : List ℕ). (x : Honest zs (caller_of lease) number procedure args) × (handle_id x.cred.context ≡ Some lease.id)) (sym (is-made s procedure args confounder)) m in
+    let n = subst (λ (zs : List ℕ). (x : Honest zs (caller_of lease) number procedure args) × (handle_id x.cred.context ≡ Some lease.id)) (sym (is-made s procedure args confounder h.called)) m in
     record { honest = n.0; handle = n.1 }
 
-pub answered : (keys : SealKeys) (lease : Lease) → HonestLaw lease → ForSealing keys lease.outcome.key 22 → (service : Service) (number xid procedure : ℕ) (args confounder : List ℕ) (kept : KeptAnswers) (width : ℕ) (rest : List ℕ) → HonestCall lease service number xid procedure args confounder
-    → (a : IsAdmitted lease number procedure args kept) → IsAnswered lease service number xid procedure args confounder kept width a.admitted.posts rest
-answered keys lease law for service number xid procedure args confounder kept width rest h a =
-    let s : SessionState = session_on lease service number xid in
-    let body : List ℕ = body_of s args confounder service in
-    let made : List ℕ = made_call (own_end s) (2 * number) xid procedure (data_cred lease service number) body in
+pub answered : (keys : SealKeys) (lease : Lease) → HonestLaw lease → ForSealing keys lease.outcome.key 22 → (terms : Terms) (number xid procedure : ℕ) (args confounder : List ℕ) (kept : KeptAnswers) (width : ℕ) (rest : List ℕ) → HonestCall lease terms number xid procedure args confounder
+    → (a : IsAdmitted lease number procedure args kept) → IsAnswered lease terms number xid procedure args confounder kept width a.admitted.posts rest
+answered keys lease law for terms number xid procedure args confounder kept width rest h a =
+    let s : SessionState = session_on lease terms number xid in
+    let body : List ℕ = body_of s args confounder terms.service in
+    let made : List ℕ = made_call (own_end s) (2 * number) xid procedure (data_cred lease terms.service number) body in
     let result : List ℕ = result_of procedure args lease.outcome.initiator a.admitted.posts in
     let block : List ℕ = take 16 (drop 66 kept.draws) in
     let honest : Honest made (caller_of lease) number procedure args =
-    made-honest (own_end s) (2 * number) xid number procedure (number_of service) (handle_of lease.id) args body (omega (arith, h.number_left)) h.xid_fits (omega (arith, h.number_left)) h.served (weak service procedure h.protected) (handle-length lease.id) h.proper
-    (carries s args confounder service h.number_left h.size h.block h.octets) in
-    let call : CallValue = made_value (own_end s) (2 * number) xid procedure (data_cred lease service number) body in
-    let same_call : call ≡ honest.call = heard-call made (caller_of lease) number procedure args call honest (made-read (own_end s) (2 * number) xid procedure lease service number body h.xid_fits h.served) in
-    let same_cred : data_cred lease service number ≡ honest.cred = heard-cred made (caller_of lease) number procedure args call (data_cred lease service number) honest same_call (cred-read lease service number (omega (arith, h.number_left))) in
+    made-honest (own_end s) (2 * number) xid number procedure (number_of terms.service) (handle_of lease.id) args body (omega (arith, h.number_left)) h.xid_fits (omega (arith, h.number_left)) h.served (weak terms.service procedure h.protected) (handle-length lease.id) h.proper
+    (carries s args confounder terms.service h.number_left h.size h.block h.octets) in
+    let call : CallValue = made_value (own_end s) (2 * number) xid procedure (data_cred lease terms.service number) body in
+    let same_call : call ≡ honest.call = heard-call made (caller_of lease) number procedure args call honest (made-read (own_end s) (2 * number) xid procedure lease terms.service number body h.xid_fits h.served) in
+    let same_cred : data_cred lease terms.service number ≡ honest.cred = heard-cred made (caller_of lease) number procedure args call (data_cred lease terms.service number) honest same_call (cred-read lease terms.service number (omega (arith, h.number_left))) in
     let handle : handle_id honest.cred.context ≡ Some lease.id = ap (λ (c : CredValue). handle_id c.context) (sym same_cred) ∙ id-again lease.id h.id in
     let ruled = law made kept width number procedure args honest lease.id handle a.looked in
-    let same : data_call s procedure args confounder ≡ made = is-made s procedure args confounder in
+    let same : data_call s procedure args confounder ≡ made = is-made s procedure args confounder h.called in
     let rule : (record_ruling made kept width).rule ≡ 23 = eqb-true (record_ruling made kept width).rule 23 (ruled.done (Ok a.admitted) a.is_admitted) in
-    let reply : (record_ruling made kept width).reply ≡ Some (reply_octets (replying lease service number xid block result)) =
+    let reply : (record_ruling made kept width).reply ≡ Some (reply_octets (replying lease terms.service number xid block result)) =
     ruled.reply a.admitted a.is_admitted
     ∙ (ap (λ (x : ℕ). Some (reply_octets (accepted x 6 (mic_of (end_of lease) (2 * number) (word number)) 0 0 0 (result_body (end_of lease) honest.cred block result)))) (ap (λ (c : CallValue). c.xid) (sym same_call))
     ∙ ap (λ (c : CredValue). Some (reply_octets (accepted xid 6 (mic_of (end_of lease) (2 * number) (word number)) 0 0 0 (result_body (end_of lease) c block result)))) (sym same_cred)) in
     let few : length result ≤ 65540 = result-fits procedure args lease.outcome.initiator a.admitted.posts h.size h.name in
     let size : length block ≡ 16 = drawn-block kept.draws a.drawn in
-    let octets : List ℕ = reply_octets (replying lease service number xid block result) in
+    let octets : List ℕ = reply_octets (replying lease terms.service number xid block result) in
     record {
       rule = ap (λ (zs : List ℕ). (record_ruling zs kept width).rule) same ∙ rule;
       result = ap (λ (zs : List ℕ). calls s procedure args confounder (framed (record_ruling zs kept width).reply ++ rest)) same
           ∙ (ap (λ (r : Option (List ℕ)). calls s procedure args confounder (framed r ++ rest)) reply
-          ∙ taken s procedure args confounder octets rest result (replying-fits lease service number xid block result few size) (result-read keys lease service number xid block result for (omega (arith, h.number_left)) h.xid_fits few size a.octets));
+          ∙ taken s procedure args confounder octets rest result (replying-fits lease terms.service number xid block result few size) (result-read keys lease terms number xid block result for (omega (arith, h.number_left)) h.xid_fits few size a.octets));
     }

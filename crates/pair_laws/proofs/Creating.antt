@@ -7,7 +7,7 @@ use Rattle.gss_client.specs.declared.refusal.ClientRefusal.{ClientRefusal}
 use Rattle.gss_client.specs.Start.{StartSays}
 use Rattle.gss_client.specs.Creation.{OfferSays, CreatedSays}
 use Rattle.gss_client.specs.Creation as created
-use Rattle.rpcsec_bodies.specs.declared.service.Service.{Service}
+use Rattle.gss_client.specs.declared.terms.Terms.{Terms}
 use Rattle.gss_client.specs.Calling.{creation_call}
 use Rattle.gss_client.specs.Hearing.{whole, next_of}
 use Rattle.gss_client.specs.Judging.{creation_by, creation_step}
@@ -39,20 +39,20 @@ pub exchange-front : (call stream : List ℕ) → Fronts (last_fragment call) (e
 unfolding exchanges
 exchange-front call stream = record { more = (listens stream).written; same = refl }
 
-turn-front : (service : Service) (xid proc : ℕ) (offer : OfferSays) (stream : List ℕ) → Fronts (last_fragment (creation_call service xid proc offer.handle offer.token)) (turns service xid proc offer stream)
+turn-front : (terms : Terms) (xid proc : ℕ) (offer : OfferSays) (stream : List ℕ) → Fronts (last_fragment (creation_call terms xid proc offer.handle offer.token)) (turns terms xid proc offer stream)
 unfolding turns_by
-turn-front service xid proc offer stream =
-    let call : List ℕ = creation_call service xid proc offer.handle offer.token in
+turn-front terms xid proc offer stream =
+    let call : List ℕ = creation_call terms xid proc offer.handle offer.token in
     let f = exchange-front call stream in
     goes-front (last_fragment call) (exchanges call stream).written (exchanges call stream).rest (λ octets. judges (creation_step offer.end xid octets)) (exchanges call stream).answer f.more f.same
 
-pub creates-front : (left : ℕ) (service : Service) (first xid proc : ℕ) (offer : OfferSays) (stream : List ℕ) → Fronts (last_fragment (creation_call service xid proc offer.handle offer.token)) (creates (suc left) service first xid proc offer stream)
+pub creates-front : (left : ℕ) (terms : Terms) (first xid proc : ℕ) (offer : OfferSays) (stream : List ℕ) → Fronts (last_fragment (creation_call terms xid proc offer.handle offer.token)) (creates (suc left) terms first xid proc offer stream)
 unfolding creates_by
-creates-front left service first xid proc offer stream =
-    let f = turn-front service xid proc offer stream in
-    goes-front (last_fragment (creation_call service xid proc offer.handle offer.token)) (turns service xid proc offer stream).written (turns service xid proc offer stream).rest (by_turn service first xid (creates left service first (xid_after xid) 2)) (turns service xid proc offer stream).answer f.more f.same
+creates-front left terms first xid proc offer stream =
+    let f = turn-front terms xid proc offer stream in
+    goes-front (last_fragment (creation_call terms xid proc offer.handle offer.token)) (turns terms xid proc offer stream).written (turns terms xid proc offer stream).rest (by_turn terms first xid (creates left terms first (xid_after xid) 2)) (turns terms xid proc offer stream).answer f.more f.same
 
-pub created-is : (start : StartSays) (started : Started) (stream : List ℕ) → init_start start.setup ≡ Ok started → created_from start stream ≡ creates (replies_left started.end) start.service start.first 1 1 (record { end = started.end; handle = []; token = started.token }) stream
+pub created-is : (start : StartSays) (started : Started) (stream : List ℕ) → init_start start.setup ≡ Ok started → created_from start stream ≡ creates (replies_left started.end) start.terms start.first 1 1 (record { end = started.end; handle = []; token = started.token }) stream
 unfolding created_from
 created-is start started stream starts = rw starts refl
 
@@ -62,19 +62,19 @@ pub exchanged : (call reply rest : List ℕ) → length reply ≤ 131072 → exc
 unfolding exchanges
 exchanged call reply rest few = rw (listens-first reply rest few, append-nil (last_fragment call)) refl
 
-turned : (service : Service) (xid proc : ℕ) (offer : OfferSays) (reply rest : List ℕ) (what : CreatedSays) → length reply ≤ 131072 → creation_step offer.end xid reply ≡ Ok what → turns service xid proc offer (last_fragment reply ++ rest) ≡ said (last_fragment (creation_call service xid proc offer.handle offer.token)) (Ok what) rest
+turned : (terms : Terms) (xid proc : ℕ) (offer : OfferSays) (reply rest : List ℕ) (what : CreatedSays) → length reply ≤ 131072 → creation_step offer.end xid reply ≡ Ok what → turns terms xid proc offer (last_fragment reply ++ rest) ≡ said (last_fragment (creation_call terms xid proc offer.handle offer.token)) (Ok what) rest
 unfolding turns_by
-turned service xid proc offer reply rest what few judged =
-    rw (exchanged (creation_call service xid proc offer.handle offer.token) reply rest few, judged, append-nil (last_fragment (creation_call service xid proc offer.handle offer.token))) refl
+turned terms xid proc offer reply rest what few judged =
+    rw (exchanged (creation_call terms xid proc offer.handle offer.token) reply rest few, judged, append-nil (last_fragment (creation_call terms xid proc offer.handle offer.token))) refl
 
-pub established : (left : ℕ) (service : Service) (first xid proc : ℕ) (offer : OfferSays) (reply rest : List ℕ) (outcome : Outcome) (handle : List ℕ) → length reply ≤ 131072 → creation_step offer.end xid reply ≡ Ok (created.Stands outcome handle)
-    → creates (suc left) service first xid proc offer (last_fragment reply ++ rest) ≡ said (last_fragment (creation_call service xid proc offer.handle offer.token)) (Ok (begun service first (xid_after xid) outcome handle)) rest
+pub established : (left : ℕ) (terms : Terms) (first xid proc : ℕ) (offer : OfferSays) (reply rest : List ℕ) (outcome : Outcome) (handle : List ℕ) → length reply ≤ 131072 → creation_step offer.end xid reply ≡ Ok (created.Stands outcome handle)
+    → creates (suc left) terms first xid proc offer (last_fragment reply ++ rest) ≡ said (last_fragment (creation_call terms xid proc offer.handle offer.token)) (Ok (begun terms first (xid_after xid) outcome handle)) rest
 unfolding creates_by
-established left service first xid proc offer reply rest outcome handle few judged =
-    rw (turned service xid proc offer reply rest (created.Stands outcome handle) few judged, append-nil (last_fragment (creation_call service xid proc offer.handle offer.token))) refl
+established left terms first xid proc offer reply rest outcome handle few judged =
+    rw (turned terms xid proc offer reply rest (created.Stands outcome handle) few judged, append-nil (last_fragment (creation_call terms xid proc offer.handle offer.token))) refl
 
 -- a turn before the others
-pub continued : (left : ℕ) (service : Service) (first xid proc : ℕ) (offer next : OfferSays) (reply rest : List ℕ) → length reply ≤ 131072 → creation_step offer.end xid reply ≡ Ok (created.Going next)
-    → creates (suc left) service first xid proc offer (last_fragment reply ++ rest) ≡ after (last_fragment (creation_call service xid proc offer.handle offer.token)) (creates left service first (xid_after xid) 2 next rest)
+pub continued : (left : ℕ) (terms : Terms) (first xid proc : ℕ) (offer next : OfferSays) (reply rest : List ℕ) → length reply ≤ 131072 → creation_step offer.end xid reply ≡ Ok (created.Going next)
+    → creates (suc left) terms first xid proc offer (last_fragment reply ++ rest) ≡ after (last_fragment (creation_call terms xid proc offer.handle offer.token)) (creates left terms first (xid_after xid) 2 next rest)
 unfolding creates_by
-continued left service first xid proc offer next reply rest few judged = rw (turned service xid proc offer reply rest (created.Going next) few judged) refl
+continued left terms first xid proc offer next reply rest few judged = rw (turned terms xid proc offer reply rest (created.Going next) few judged) refl

@@ -82,13 +82,14 @@ creation-runs width lasts start kind count moment stream more old new front back
     let started = x.pair.started in
     let left : ℕ = replies_left started.end in
     let offer : OfferSays = record { end = started.end; handle = []; token = started.token } in
-    let is : created_from start stream ≡ creates left start.service start.first 1 1 offer stream = created-is start started stream x.pair.starts in
+    let is : created_from start stream ≡ creates left start.terms start.first 1 1 offer stream = created-is start started stream x.pair.starts in
     let four : left ≡ 4 = opens-four start.setup started x.pair.starts in
     let few : length front ≤ 4 = omega (arith, occasions-long front, x.pair.counted, tokens-few old.setup start.setup kind) in
     let live = no-slots old.core.table.slots x.rests.empty in
     let places : live_of old.core.table < old.core.table.limit = omega (arith, live, x.table) in
     let turns : length (occasions_on front []) ≤ left = subst (λ (os : List Occasion). length os ≤ left) (sym (append-nil occasions)) (omega (arith, x.pair.counted, tokens-few old.setup start.setup kind, four)) in
-    let d : Due old.setup width lasts left start.service start.first 1 None ends.New started.end started.token front [] back records tail rest stream more a.outcome count moment false old new = record {
+    let d : Due old.setup width lasts left start.terms start.first 1 None ends.New started.end started.token front [] back records tail rest stream more a.outcome count moment false old new = record {
+      called = x.called;
       some_width = x.some_width;
       width_fits = x.width_fits;
       xids = omega (arith, few);
@@ -100,6 +101,7 @@ creation-runs width lasts start kind count moment stream more old new front back
       comes = refl;
       fits = refl;
       ready = ready-at-rest count moment old.core x.rests;
+      unused = x.rests.unused;
       set = refl;
       log = x.log;
       table = λ none. places;
@@ -112,7 +114,7 @@ creation-runs width lasts start kind count moment stream more old new front back
       written = sym (ap (λ (s : Said SessionState). s.written ++ more) is) ∙ x.written;
       heard = x.heard;
     } in
-    let o = opens-on old.setup width lasts left start.service start.first 1 None ends.New started.end started.token front back records tail rest stream more a.outcome count moment false old new d in
+    let o = opens-on old.setup width lasts left start.terms start.first 1 None ends.New started.end started.token front back records tail rest stream more a.outcome count moment false old new d in
     record {
       exchange = record {
         converses = record {
@@ -127,6 +129,7 @@ creation-runs width lasts start kind count moment stream more old new front back
         answers = answers_of front;
         later = [];
         kept = sym (append-nil (answers_of front));
+        called = x.called;
         some_width = x.some_width;
         width_fits = x.width_fits;
         kind = kind;
@@ -159,7 +162,7 @@ creation-runs width lasts start kind count moment stream more old new front back
       lasting = o.stays;
       grown = o.grown;
       posted = o.posted;
-      holds = λ later h. holds-after count moment o.marked o.middle.core o.own o.ready later h;
+      holds = λ later h. holds-after count moment o.marked o.middle.core o.own o.ready o.used later h;
       unused = o.ready.uncalled (count + 1) (omega arith);
       agreed = a.outcome;
       created = subst (λ (s : Said SessionState). CreatesOn s a.outcome) (sym is) o.created;

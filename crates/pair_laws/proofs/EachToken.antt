@@ -16,7 +16,7 @@ use Rattle.spnego_core.specs.Exchange.{Occasion, HonestPair}
 use Rattle.accept_book.specs.Booking.{BookOf}
 use Rattle.accept_core.specs.Entering.{id_of}
 use Rattle.accept_book.specs.RecordShown.{KeptAnswers}
-use Rattle.rpcsec_bodies.specs.declared.service.Service.{Service}
+use Rattle.gss_client.specs.declared.terms.Terms.{Terms}
 use Rattle.gss_client.specs.Start.{StartSays}
 use Rattle.gss_client.specs.Creation.{OfferSays}
 use Rattle.gss_client.specs.Calling.{creation_call}
@@ -25,6 +25,7 @@ use Rattle.gss_client.specs.Session.{SessionState}
 use Rattle.gss_client.specs.Talk.{creates, created_from}
 use Rattle.gss_client.specs.Talking.{Said}
 use Rattle.gss_server.specs.Connections.{octets_of}
+use Rattle.pair_laws.specs.HonestCalls.{IsToServer}
 use Rattle.pair_laws.specs.Creation.{IsAt, idle, padded}
 use Rattle.pair_laws.specs.Honest.{occasion_of}
 use Rattle.pair_laws.specs.Resting.{RestsAt}
@@ -45,6 +46,7 @@ use Rattle.pair_laws.proofs.Walks.{walked}
 pub record IsShortCreation (width lasts : ℕ) (start : StartSays) (kind : MechKind) (count moment : ℕ)
     (tokens : ℕ) (stream more : List ℕ) (old new : BookOf) (front : List Turn)
     (records : List Fragments) (tail rest : List ℕ) : Type 0 where
+  pub called : IsToServer start.terms
   pub rests : RestsAt count moment old.core
   pub some_width : 0 < width
   pub width_fits : width < 2 ^ 32
@@ -85,26 +87,26 @@ occasions-long (turn ∷ front) = ap suc (occasions-long front)
 -- ---- turn by turn
 
 -- once the turns are through, a token that is due is written, and it is none of what is no record
-never-due : (setup : AcceptSetup) (width lasts left : ℕ) (service : Service) (first xid : ℕ) (id : Option ℕ) (acceptor : AcceptEnd) (initiator : EndSays) (token : List ℕ) (front : List Turn) (next : Occasion) (extra : List Occasion) (records : List Fragments) (tail rest stream more : List ℕ) (outcome : Outcome) (count moment : ℕ) (marked : Bool) (old new : BookOf) → IsNoRecord tail
-    → Due setup width lasts left service first xid id acceptor initiator token front (next ∷ extra) [] records tail rest stream more outcome count moment marked old new → ⊥
-never-due setup width lasts zero service first xid id acceptor initiator token [] next extra records tail rest stream more outcome count moment marked old new none d = let few : suc (length extra) ≤ 0 = d.turns in omega (arith, few)
-never-due setup width lasts zero service first xid id acceptor initiator token (turn ∷ front) next extra records tail rest stream more outcome count moment marked old new none d =
+never-due : (setup : AcceptSetup) (width lasts left : ℕ) (terms : Terms) (first xid : ℕ) (id : Option ℕ) (acceptor : AcceptEnd) (initiator : EndSays) (token : List ℕ) (front : List Turn) (next : Occasion) (extra : List Occasion) (records : List Fragments) (tail rest stream more : List ℕ) (outcome : Outcome) (count moment : ℕ) (marked : Bool) (old new : BookOf) → IsNoRecord tail
+    → Due setup width lasts left terms first xid id acceptor initiator token front (next ∷ extra) [] records tail rest stream more outcome count moment marked old new → ⊥
+never-due setup width lasts zero terms first xid id acceptor initiator token [] next extra records tail rest stream more outcome count moment marked old new none d = let few : suc (length extra) ≤ 0 = d.turns in omega (arith, few)
+never-due setup width lasts zero terms first xid id acceptor initiator token (turn ∷ front) next extra records tail rest stream more outcome count moment marked old new none d =
     let few : suc (length (occasions_on front (next ∷ extra))) ≤ 0 = d.turns in omega (arith, few)
-never-due setup width lasts (suc left) service first xid id acceptor initiator token [] next extra (cut ∷ records) tail rest stream more outcome count moment marked old new none d = absurd d.cuts
-never-due setup width lasts (suc left) service first xid id acceptor initiator token [] next extra [] tail rest stream more outcome count moment marked old new none d =
+never-due setup width lasts (suc left) terms first xid id acceptor initiator token [] next extra (cut ∷ records) tail rest stream more outcome count moment marked old new none d = absurd d.cuts
+never-due setup width lasts (suc left) terms first xid id acceptor initiator token [] next extra [] tail rest stream more outcome count moment marked old new none d =
     let offer : OfferSays = record { end = initiator; handle = handle_for id; token = token } in
-    let call : List ℕ = creation_call service xid (proc_for id) (handle_for id) token in
-    let f = creates-front left service first xid (proc_for id) offer stream in
-    none-first call (f.more ++ more) tail (creation-fits service xid id token d.few) none (sym (ap (λ (zs : List ℕ). zs ++ more) f.same ∙ append_assoc (last_fragment call) f.more more) ∙ d.written)
-never-due setup width lasts (suc left) service first xid id acceptor initiator token (turn ∷ front) next extra [] tail rest stream more outcome count moment marked old new none d = absurd d.cuts
-never-due setup width lasts (suc left) service first xid id acceptor initiator token (turn ∷ []) next extra (cut ∷ records) tail rest stream more outcome count moment marked old new none d =
+    let call : List ℕ = creation_call terms xid (proc_for id) (handle_for id) token in
+    let f = creates-front left terms first xid (proc_for id) offer stream in
+    none-first call (f.more ++ more) tail (creation-fits terms xid id token d.few) none (sym (ap (λ (zs : List ℕ). zs ++ more) f.same ∙ append_assoc (last_fragment call) f.more more) ∙ d.written)
+never-due setup width lasts (suc left) terms first xid id acceptor initiator token (turn ∷ front) next extra [] tail rest stream more outcome count moment marked old new none d = absurd d.cuts
+never-due setup width lasts (suc left) terms first xid id acceptor initiator token (turn ∷ []) next extra (cut ∷ records) tail rest stream more outcome count moment marked old new none d =
     let g = d.completes.0 in
-    let t = steps-on setup width lasts left service first xid id acceptor initiator token turn [] (next ∷ extra) [] cut records tail rest stream more outcome count moment marked old new d g d.walks.0 d.walks.1 d.completes.1 d.walks.2 in
-    never-due setup width lasts left service first (xid + 1) (Some (id_of id turn.before.core.history)) g.acceptor_after g.initiator_after g.further [] next extra records tail rest t.behind more outcome count moment (marked_after marked t.opened.asked) turn.after new none t.due
-never-due setup width lasts (suc left) service first xid id acceptor initiator token (turn ∷ two ∷ later) next extra (cut ∷ records) tail rest stream more outcome count moment marked old new none d =
+    let t = steps-on setup width lasts left terms first xid id acceptor initiator token turn [] (next ∷ extra) [] cut records tail rest stream more outcome count moment marked old new d g d.walks.0 d.walks.1 d.completes.1 d.walks.2 in
+    never-due setup width lasts left terms first (xid + 1) (Some (id_of id turn.before.core.history)) g.acceptor_after g.initiator_after g.further [] next extra records tail rest t.behind more outcome count moment (marked_after marked t.opened.asked) turn.after new none t.due
+never-due setup width lasts (suc left) terms first xid id acceptor initiator token (turn ∷ two ∷ later) next extra (cut ∷ records) tail rest stream more outcome count moment marked old new none d =
     let g = d.completes.0 in
-    let t = steps-on setup width lasts left service first xid id acceptor initiator token turn (two ∷ later) (next ∷ extra) [] cut records tail rest stream more outcome count moment marked old new d g d.walks.0 d.walks.1 d.completes.1 d.walks.2 in
-    never-due setup width lasts left service first (xid + 1) (Some (id_of id turn.before.core.history)) g.acceptor_after g.initiator_after g.further (two ∷ later) next extra records tail rest t.behind more outcome count moment (marked_after marked t.opened.asked) turn.after new none t.due
+    let t = steps-on setup width lasts left terms first xid id acceptor initiator token turn (two ∷ later) (next ∷ extra) [] cut records tail rest stream more outcome count moment marked old new d g d.walks.0 d.walks.1 d.completes.1 d.walks.2 in
+    never-due setup width lasts left terms first (xid + 1) (Some (id_of id turn.before.core.history)) g.acceptor_after g.initiator_after g.further (two ∷ later) next extra records tail rest t.behind more outcome count moment (marked_after marked t.opened.asked) turn.after new none t.due
 
 never-short : (width lasts : ℕ) (start : StartSays) (kind : MechKind) (count moment tokens : ℕ) (stream more : List ℕ) (old new : BookOf) (front : List Turn) (records : List Fragments) (tail rest : List ℕ)
     → IsShortCreation width lasts start kind count moment tokens stream more old new front records tail rest → length front < tokens → ⊥
@@ -113,7 +115,7 @@ never-short width lasts start kind count moment tokens stream more old new front
     let started = x.pair.started in
     let left : ℕ = replies_left started.end in
     let offer : OfferSays = record { end = started.end; handle = []; token = started.token } in
-    let is : created_from start stream ≡ creates left start.service start.first 1 1 offer stream = created-is start started stream x.pair.starts in
+    let is : created_from start stream ≡ creates left start.terms start.first 1 1 offer stream = created-is start started stream x.pair.starts in
     let four : left ≡ 4 = opens-four start.setup started x.pair.starts in
     let long : length occasions ≡ length front = occasions-long front in
     let p = padded-on moment tokens occasions (omega (arith, long, less)) in
@@ -126,8 +128,9 @@ never-short width lasts start kind count moment tokens stream more old new front
     let live = no-slots old.core.table.slots x.rests.empty in
     let places : live_of old.core.table < old.core.table.limit = omega (arith, live, x.table) in
     let same : front ≡ front ++ [] = sym (append-nil front) in
-    never-due old.setup width lasts left start.service start.first 1 None ends.New started.end started.token front (idle moment) extra records tail rest stream more a.outcome count moment false old new x.none
+    never-due old.setup width lasts left start.terms start.first 1 None ends.New started.end started.token front (idle moment) extra records tail rest stream more a.outcome count moment false old new x.none
     (record {
+      called = x.called;
       some_width = x.some_width;
       width_fits = x.width_fits;
       xids = omega (arith, few);
@@ -139,6 +142,7 @@ never-short width lasts start kind count moment tokens stream more old new front
       comes = refl;
       fits = refl;
       ready = ready-at-rest count moment old.core x.rests;
+      unused = x.rests.unused;
       set = refl;
       log = x.log;
       table = λ none. places;

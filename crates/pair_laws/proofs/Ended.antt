@@ -4,7 +4,8 @@ use Rattle.std.proofs.Math.Seq.{take-append_seam}
 use Rattle.std.proofs.lemmas.Nat.{from_be_bytes-to_be_bytes_8}
 use Rattle.rpc_msgs.specs.Words.{word}
 use Rattle.rpc_msgs.specs.Auths.{auth_octets}
-use Rattle.rpc_msgs.specs.Calls.{CallValue, secure_call, call_at}
+use Rattle.rpc_msgs.specs.Calls.{CallValue, secure_call, header_octets, call_octets, call_at}
+use Rattle.rpc_msgs.specs.declared.numbers.TheConstants.{PROGRAM, VERSION}
 use Rattle.rpc_msgs.proofs.CallLaws.{call-only}
 use Rattle.rpc_msgs.specs.Replies.{ReplyValue, accepted, reply_octets}
 use Rattle.rpc_msgs.specs.ReplyReading.{reply_at}
@@ -35,6 +36,7 @@ use Rattle.pair_laws.specs.Turns.{IsAnsweredBy, IsEndTurn}
 use Rattle.pair_laws.proofs.Living.{seen, over, others-kept, moment-noted}
 use Rattle.accept_book.specs.declared.book_answer.Lease.{Lease}
 use Rattle.rpcsec_bodies.specs.declared.service.Service.{Service}
+use Rattle.gss_client.specs.declared.terms.Terms.{Terms}
 use Rattle.gss_client.specs.Calling.{header_of, verifier_of, signed_call, destroy_call}
 use Rattle.gss_client.specs.Judging.{answer_in, verified_in, destroyed_in}
 use Rattle.gss_client.specs.Session.{SessionState}
@@ -42,7 +44,7 @@ use Rattle.gss_client.specs.Talk.{destroys}
 use Rattle.gss_client.specs.Talking.{said}
 use Rattle.gss_client.proofs.CallLengths.{cred-fits, call-fits}
 use Rattle.gss_server.proofs.ReplyLengths.{accepted-fits}
-use Rattle.pair_laws.specs.HonestCalls.{session_on}
+use Rattle.pair_laws.specs.HonestCalls.{IsToServer, session_on}
 use Rattle.pair_laws.specs.Ending.{HonestEnd, IsTaken, IsDestroyed}
 use Rattle.pair_laws.proofs.Answered.{handle-length, eqb-same}
 use Rattle.rpcsec_bodies.proofs.Lengths.{mic-size}
@@ -53,41 +55,55 @@ use Rattle.pair_laws.proofs.Creating.{exchanged}
 abbrev end_cred : Lease → ℕ → CredValue
 end_cred lease number = record { proc = 3; seq = number; service = 1; context = handle_of lease.id }
 
-abbrev front_of : Lease → Service → ℕ → ℕ → List ℕ
-front_of lease service number xid = header_of (session_on lease service number xid) 3 1 0
+-- the call that ends a context of this program and version
+abbrev ended_to : ℕ → ℕ → Lease → ℕ → ℕ → List ℕ
+ended_to program version lease number xid = call_octets (secure_call xid program version 0 (cred_octets (end_cred lease number)) (record { flavour = 6; body = mic_of (caller_of lease) (2 * number) (header_octets xid program version 0 (record { flavour = 6; body = cred_octets (end_cred lease number) })) }) [])
 
-abbrev call_of : Lease → Service → ℕ → ℕ → CallValue
-call_of lease service number xid = secure_call xid 0x20004753 1 0 (cred_octets (end_cred lease number)) (record { flavour = 6; body = mic_of (caller_of lease) (2 * number) (front_of lease service number xid) }) []
+-- the same of the server's
+abbrev front_of : Lease → ℕ → ℕ → List ℕ
+front_of lease number xid = header_octets xid PROGRAM VERSION 0 (record { flavour = 6; body = cred_octets (end_cred lease number) })
 
-end-read : (lease : Lease) (service : Service) (number xid : ℕ) → number ≤ 0x80000000 → xid < 2 ^ 32 → call_at (destroy_call (session_on lease service number xid)) ≡ Ok (call_of lease service number xid)
+abbrev call_of : Lease → ℕ → ℕ → CallValue
+call_of lease number xid = secure_call xid PROGRAM VERSION 0 (cred_octets (end_cred lease number)) (record { flavour = 6; body = mic_of (caller_of lease) (2 * number) (front_of lease number xid) }) []
+
+abbrev record_of : Lease → ℕ → ℕ → List ℕ
+record_of lease number xid = call_octets (call_of lease number xid)
+
+end-spelled : (lease : Lease) (terms : Terms) (number xid : ℕ) → IsToServer terms → destroy_call (session_on lease terms number xid) ≡ record_of lease number xid
 unfolding destroy_call signed_call verifier_of header_of
-end-read lease service number xid few x = call-only (call_of lease service number xid) (record {
+end-spelled lease terms number xid called =
+    ap (λ (program : ℕ). ended_to program terms.version lease number xid) called.program
+    ∙ ap (λ (version : ℕ). ended_to PROGRAM version lease number xid) called.version
+
+end-read : (lease : Lease) (number xid : ℕ) → number ≤ 0x80000000 → xid < 2 ^ 32 → call_at (record_of lease number xid) ≡ Ok (call_of lease number xid)
+end-read lease number xid few x = call-only (call_of lease number xid) (record {
   xid = x;
   program = lit< tt;
   version = lit< tt;
   procedure = lit< tt;
   cred = record { flavour = lit< tt; body = cred-fits (end_cred lease number) (omega (arith, handle-length lease.id)) };
-  verf = record { flavour = lit< tt; body = omega (arith, mic-size (caller_of lease) (2 * number) (front_of lease service number xid)) };
+  verf = record { flavour = lit< tt; body = omega (arith, mic-size (caller_of lease) (2 * number) (front_of lease number xid)) };
   header = refl;
 })
 
-pub end-fits : (lease : Lease) (service : Service) (number xid : ℕ) → length (destroy_call (session_on lease service number xid)) ≤ 131072
+pub end-fits : (lease : Lease) (terms : Terms) (number xid : ℕ) → length (destroy_call (session_on lease terms number xid)) ≤ 131072
 unfolding destroy_call signed_call verifier_of header_of
-end-fits lease service number xid =
-    call-fits xid 0x20004753 1 0 (cred_octets (end_cred lease number)) (call_of lease service number xid).verf [] (cred-fits (end_cred lease number) (omega (arith, handle-length lease.id))) (omega (arith, mic-size (caller_of lease) (2 * number) (front_of lease service number xid))) (omega arith)
+end-fits lease terms number xid =
+    let front : List ℕ = header_of (session_on lease terms number xid) 3 1 0 in
+    call-fits xid terms.program terms.version 0 (cred_octets (end_cred lease number)) (record { flavour = 6; body = mic_of (caller_of lease) (2 * number) front }) [] (cred-fits (end_cred lease number) (omega (arith, handle-length lease.id))) (omega (arith, mic-size (caller_of lease) (2 * number) front)) (omega arith)
 
 end-cred : (lease : Lease) (number : ℕ) → number ≤ 0x80000000 → cred_at (cred_octets (end_cred lease number)) ≡ Ok (end_cred lease number)
 end-cred lease number h =
     cred-only (end_cred lease number) (record { proc = lit≤ tt; seq = omega (arith, h); service = lit< tt; served = refl; context = omega (arith, handle-length lease.id) })
 
-abbrev shown : Lease → Service → ℕ → ℕ → KeptAnswers → ℕ → Shown
-shown lease service number xid kept width = record { record_octets = destroy_call (session_on lease service number xid); call = call_of lease service number xid; now = kept.now; draws = kept.draws; width = width }
+abbrev shown : Lease → ℕ → ℕ → KeptAnswers → ℕ → Shown
+shown lease number xid kept width = record { record_octets = record_of lease number xid; call = call_of lease number xid; now = kept.now; draws = kept.draws; width = width }
 
-end-verified : (lease : Lease) (service : Service) (number xid : ℕ) (kept : KeptAnswers) (width : ℕ) → is_verified (shown lease service number xid kept width) lease ≡ true
-unfolding is_verified destroy_call signed_call verifier_of header_of
-end-verified lease service number xid kept width =
-    let front = front_of lease service number xid in
-    let seam : take (length front) (front ++ (auth_octets (call_of lease service number xid).verf ++ [])) ≡ front = take-append_seam front (auth_octets (call_of lease service number xid).verf ++ []) in
+end-verified : (lease : Lease) (number xid : ℕ) (kept : KeptAnswers) (width : ℕ) → is_verified (shown lease number xid kept width) lease ≡ true
+unfolding is_verified
+end-verified lease number xid kept width =
+    let front = front_of lease number xid in
+    let seam : take (length front) (front ++ (auth_octets (call_of lease number xid).verf ++ [])) ≡ front = take-append_seam front (auth_octets (call_of lease number xid).verf ++ []) in
     let good : checked_mic (end_of lease) (mic_of (caller_of lease) (2 * number) front) front ≡ Ok tt = mic-taken (caller_of lease) (2 * number) front in
     rw (seam, good) refl
 
@@ -96,12 +112,17 @@ end-verified lease service number xid kept width =
 abbrev replying : Lease → ℕ → ℕ → ReplyValue
 replying lease number xid = accepted xid 6 (mic_of (end_of lease) (2 * number) (word number)) 0 0 0 []
 
-end-rule : (lease : Lease) (service : Service) (number xid : ℕ) (kept : KeptAnswers) (width : ℕ) (rest : List ℕ) → HonestEnd lease number xid → (t : IsTaken lease kept)
-    → record_ruling (destroy_call (session_on lease service number xid)) kept width
+made-rule : (lease : Lease) (number xid : ℕ) (kept : KeptAnswers) (width : ℕ) → HonestEnd lease number xid → (t : IsTaken lease kept)
+    → record_ruling (record_of lease number xid) kept width
     ≡ record { rule = 24; reply = Some (reply_octets (replying lease number xid)); asked = AskedLook lease.id kept.now (Ok lease) ∷ AskedEnd lease number (Ok t.receipt) ∷ []; due = None }
 unfolding record_ruling call_ruling destroy_ruling
-end-rule lease service number xid kept width rest h t =
-    rw (end-read lease service number xid h.number_fits h.xid_fits) (rw (end-cred lease number h.number_fits) (rw (from_be_bytes-to_be_bytes_8 lease.id h.id, t.looked) (rw (end-verified lease service number xid kept width, t.ended) refl)))
+made-rule lease number xid kept width h t =
+    rw (end-read lease number xid h.number_fits h.xid_fits) (rw (end-cred lease number h.number_fits) (rw (from_be_bytes-to_be_bytes_8 lease.id h.id, t.looked) (rw (end-verified lease number xid kept width, t.ended) refl)))
+
+end-rule : (lease : Lease) (terms : Terms) (number xid : ℕ) (kept : KeptAnswers) (width : ℕ) → IsToServer terms → HonestEnd lease number xid → (t : IsTaken lease kept)
+    → record_ruling (destroy_call (session_on lease terms number xid)) kept width
+    ≡ record { rule = 24; reply = Some (reply_octets (replying lease number xid)); asked = AskedLook lease.id kept.now (Ok lease) ∷ AskedEnd lease number (Ok t.receipt) ∷ []; due = None }
+end-rule lease terms number xid kept width called h t = ap (λ (o : List ℕ). record_ruling o kept width) (end-spelled lease terms number xid called) ∙ made-rule lease number xid kept width h t
 
 replying-reads : (lease : Lease) (number xid : ℕ) → xid < 2 ^ 32 → reply_at (reply_octets (replying lease number xid)) ≡ Ok (replying lease number xid)
 replying-reads lease number xid h =
@@ -116,57 +137,61 @@ end-judged lease service number xid h =
 replying-fits : (lease : Lease) (number xid : ℕ) → length (reply_octets (replying lease number xid)) ≤ 131072
 replying-fits lease number xid = accepted-fits xid 6 (mic_of (end_of lease) (2 * number) (word number)) 0 0 0 [] (omega (arith, mic-size (end_of lease) (2 * number) (word number))) (omega arith)
 
-end-heard : (s : SessionState) (reply rest : List ℕ) → length reply ≤ 131072 → destroyed_in s.outcome s.service s.number s.xid reply ≡ Ok tt → destroys s (last_fragment reply ++ rest) ≡ said (last_fragment (destroy_call s)) (Ok tt) rest
+end-heard : (s : SessionState) (reply rest : List ℕ) → length reply ≤ 131072 → destroyed_in s.outcome s.terms.service s.number s.xid reply ≡ Ok tt → destroys s (last_fragment reply ++ rest) ≡ said (last_fragment (destroy_call s)) (Ok tt) rest
 unfolding destroys
 end-heard s reply rest few judged = rw (exchanged (destroy_call s) reply rest few, judged, append-nil (last_fragment (destroy_call s))) refl
 
-pub ended : (lease : Lease) (service : Service) (number xid : ℕ) (kept : KeptAnswers) (width : ℕ) (rest : List ℕ) → HonestEnd lease number xid → (t : IsTaken lease kept) → IsDestroyed lease service number xid kept width t.receipt rest
-ended lease service number xid kept width rest h t =
-    let r = end-rule lease service number xid kept width rest h t in record {
+pub ended : (lease : Lease) (terms : Terms) (number xid : ℕ) (kept : KeptAnswers) (width : ℕ) (rest : List ℕ) → IsToServer terms → HonestEnd lease number xid → (t : IsTaken lease kept) → IsDestroyed lease terms number xid kept width t.receipt rest
+ended lease terms number xid kept width rest called h t =
+    let r = end-rule lease terms number xid kept width called h t in record {
       rule = rw r refl;
       asked = rw r refl;
-      result = rw r (end-heard (session_on lease service number xid) (reply_octets (replying lease number xid)) rest (replying-fits lease number xid) (end-judged lease service number xid h.xid_fits));
+      result = rw r (end-heard (session_on lease terms number xid) (reply_octets (replying lease number xid)) rest (replying-fits lease number xid) (end-judged lease terms.service number xid h.xid_fits));
     }
 
 -- ---- over a book
 
 -- it asks for its context first
-end-looks : (lease : Lease) (service : Service) (number xid : ℕ) (kept : KeptAnswers) (width : ℕ) → HonestEnd lease number xid
-    → record_ruling (destroy_call (session_on lease service number xid)) kept width ≡ ask_look (shown lease service number xid kept width) (end_cred lease number) lease.id kept.admitted kept.ended kept.looked
+made-looks : (lease : Lease) (number xid : ℕ) (kept : KeptAnswers) (width : ℕ) → HonestEnd lease number xid
+    → record_ruling (record_of lease number xid) kept width ≡ ask_look (shown lease number xid kept width) (end_cred lease number) lease.id kept.admitted kept.ended kept.looked
 unfolding record_ruling call_ruling
-end-looks lease service number xid kept width h =
-    rw (end-read lease service number xid h.number_fits h.xid_fits) (rw (end-cred lease number h.number_fits) (rw (from_be_bytes-to_be_bytes_8 lease.id h.id) refl))
+made-looks lease number xid kept width h =
+    rw (end-read lease number xid h.number_fits h.xid_fits) (rw (end-cred lease number h.number_fits) (rw (from_be_bytes-to_be_bytes_8 lease.id h.id) refl))
+
+end-looks : (lease : Lease) (terms : Terms) (number xid : ℕ) (kept : KeptAnswers) (width : ℕ) → IsToServer terms → HonestEnd lease number xid
+    → record_ruling (destroy_call (session_on lease terms number xid)) kept width ≡ ask_look (shown lease number xid kept width) (end_cred lease number) lease.id kept.admitted kept.ended kept.looked
+end-looks lease terms number xid kept width called h = ap (λ (o : List ℕ). record_ruling o kept width) (end-spelled lease terms number xid called) ∙ made-looks lease number xid kept width h
 
 -- and then for its end
-end-asks : (lease : Lease) (service : Service) (number xid : ℕ) (kept : KeptAnswers) (width : ℕ) → HonestEnd lease number xid → kept.looked ≡ Some (Ok lease)
-    → record_ruling (destroy_call (session_on lease service number xid)) kept width
-    ≡ asking (AskedLook lease.id kept.now (Ok lease)) (ask_end (shown lease service number xid kept width) (end_cred lease number) lease kept.ended)
+end-asks : (lease : Lease) (terms : Terms) (number xid : ℕ) (kept : KeptAnswers) (width : ℕ) → IsToServer terms → HonestEnd lease number xid → kept.looked ≡ Some (Ok lease)
+    → record_ruling (destroy_call (session_on lease terms number xid)) kept width
+    ≡ asking (AskedLook lease.id kept.now (Ok lease)) (ask_end (shown lease number xid kept width) (end_cred lease number) lease kept.ended)
 unfolding destroy_ruling
-end-asks lease service number xid kept width h look =
-    end-looks lease service number xid kept width h
-    ∙ ap (λ a. ask_look (shown lease service number xid kept width) (end_cred lease number) lease.id kept.admitted kept.ended a) look
-    ∙ rw (end-verified lease service number xid kept width) refl
+end-asks lease terms number xid kept width called h look =
+    end-looks lease terms number xid kept width called h
+    ∙ ap (λ a. ask_look (shown lease number xid kept width) (end_cred lease number) lease.id kept.admitted kept.ended a) look
+    ∙ rw (end-verified lease number xid kept width) refl
 
-pub end-turn : (lease : Lease) (service : Service) (next xid : ℕ) (kept : KeptAnswers) (width : ℕ) (old new : BookOf) → HonestEnd lease next xid
-    → IsAnsweredBy width lease.ends (destroy_call (session_on lease service next xid)) kept old new → IsLiveAt old lease next → IsEndTurn old new lease next kept
-end-turn lease service next xid kept width old new h by live = by-look kept.looked refl
+pub end-turn : (lease : Lease) (terms : Terms) (next xid : ℕ) (kept : KeptAnswers) (width : ℕ) (old new : BookOf) → IsToServer terms → HonestEnd lease next xid
+    → IsAnsweredBy width lease.ends (destroy_call (session_on lease terms next xid)) kept old new → IsLiveAt old lease next → IsEndTurn old new lease next kept
+end-turn lease terms next xid kept width old new called h by live = by-look kept.looked refl
   where
     s : Shown
-    s = shown lease service next xid kept width
+    s = shown lease next xid kept width
 
     cred : CredValue
     cred = end_cred lease next
 
-    first : record_ruling (destroy_call (session_on lease service next xid)) kept width ≡ ask_look s cred lease.id kept.admitted kept.ended kept.looked
-    first = end-looks lease service next xid kept width h
+    first : record_ruling (destroy_call (session_on lease terms next xid)) kept width ≡ ask_look s cred lease.id kept.admitted kept.ended kept.looked
+    first = end-looks lease terms next xid kept width called h
 
     by-end : kept.looked ≡ Some (Ok lease) → (answer : Option (Result Receipt AdmitRefusal)) → kept.ended ≡ answer → IsEndTurn old new lease next kept
     by-end look None e =
-        let r = end-asks lease service next xid kept width h look in
+        let r = end-asks lease terms next xid kept width called h look in
         let d : IsDecided (asking (AskedLook lease.id kept.now (Ok lease)) (ask_end s cred lease None)) = subst IsDecided (r ∙ ap (λ a. asking (AskedLook lease.id kept.now (Ok lease)) (ask_end s cred lease a)) e) by.decided in
         absurd (omega (arith, d))
     by-end look (Some answer) e =
-        let r = end-asks lease service next xid kept width h look ∙ ap (λ a. asking (AskedLook lease.id kept.now (Ok lease)) (ask_end s cred lease a)) e in
+        let r = end-asks lease terms next xid kept width called h look ∙ ap (λ a. asking (AskedLook lease.id kept.now (Ok lease)) (ask_end s cred lease a)) e in
         let c : Asking BookAnswers old (AskedLook lease.id kept.now (Ok lease) ∷ AskedEnd lease next answer ∷ (ended_ruling s cred lease answer).asked) new = subst (λ (x : Ruling). Asking BookAnswers old x.asked new) r by.asked in
         let v = seen old c.0 lease kept.now (Ok lease) next c.1 by.lasting live in
         let roomy : length c.0.core.history < c.0.core.limit = rw (v.history, c.1.looked.limit) by.room in

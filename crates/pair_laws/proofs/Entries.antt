@@ -1,6 +1,6 @@
 -- What a step of a creation enters into the history, and what each word on histories says of it.
 use Rattle.std.proofs.Common.{◌≡◌, ℕ, ◌+◌, ◌≤◌, Bool, true, false, refl, ap, ◌∙◌, arith, List, [], ◌∷◌, ◌++◌, length, Option, Some, None}
-use Rattle.std.specs.Prelude.{is_none}
+use Rattle.std.specs.Prelude.{is_none, if◌then◌else◌}
 use Rattle.std.specs.List.{AllByRecursion}
 use Rattle.gss_base.specs.declared.mark.Mark.{Mark}
 use Rattle.gss_base.specs.declared.mech.MechKind.{MechKind}
@@ -12,6 +12,8 @@ use Rattle.accept_core.specs.declared.answer.Next.TheVariants as nexts
 use Rattle.accept_core.specs.declared.entry.Entry.{Entry}
 use Rattle.accept_core.specs.declared.entry.Entry.TheVariants.{Opened, Settled}
 use Rattle.accept_book.specs.Booking.{taken}
+use Rattle.accept_core.specs.Aging.{in_use}
+use Rattle.accept_core.specs.Stepping.{settles}
 use Rattle.accept_core.specs.Entering.{id_of, lapsed, started, noted, finished, entered}
 use Rattle.accept_core.specs.History.{opened, numbers, posts, taken_of}
 
@@ -27,19 +29,18 @@ number-noted : (n : ℕ) (mark : Option Mark) (id now : ℕ) (h : List Entry) �
 number-noted n None id now h = refl
 number-noted n (Some mark) id now h = refl
 
-number-lapsed : (n : ℕ) (place : Bool) (past : Option ℕ) (h : List Entry) → numbers n (lapsed place past h) ≡ numbers n h
-number-lapsed n true past h = refl
-number-lapsed n false None h = refl
-number-lapsed n false (Some id) h = refl
+number-lapsed : (n : ℕ) (gone : Option ℕ) (h : List Entry) → numbers n (lapsed gone h) ≡ numbers n h
+number-lapsed n None h = refl
+number-lapsed n (Some id) h = refl
 
-number-started : (n : ℕ) (id : Option ℕ) (place : Bool) (past : Option ℕ) (now : ℕ) (h : List Entry) → numbers n (started id place past now h) ≡ numbers n h
-number-started n None place past now h = number-lapsed n place past h
-number-started n (Some id) place past now h = refl
+number-started : (n : ℕ) (id gone : Option ℕ) (now : ℕ) (h : List Entry) → numbers n (started id gone now h) ≡ numbers n h
+number-started n None gone now h = number-lapsed n gone h
+number-started n (Some id) gone now h = number-lapsed n gone h
 
-pub number-entered : (n : ℕ) (id : Option ℕ) (place : Bool) (past : Option ℕ) (mark : Option Mark) (next : Next AcceptEnd Outcome) (now : ℕ) (h : List Entry) → numbers n (entered id place past mark next now h) ≡ numbers n h
-number-entered n id place past mark next now h =
-    number-finished n (is_none id) next (id_of id h) now (noted mark (id_of id h) now (started id place past now h))
-    ∙ (number-noted n mark (id_of id h) now (started id place past now h) ∙ number-started n id place past now h)
+pub number-entered : (n : ℕ) (id gone : Option ℕ) (mark : Option Mark) (next : Next AcceptEnd Outcome) (now : ℕ) (h : List Entry) → numbers n (entered id gone mark next now h) ≡ numbers n h
+number-entered n id gone mark next now h =
+    number-finished n (is_none id) next (id_of id h) now (noted mark (id_of id h) now (started id gone now h))
+    ∙ (number-noted n mark (id_of id h) now (started id gone now h) ∙ number-started n id gone now h)
 
 posts-finished : (first : Bool) (next : Next AcceptEnd Outcome) (id now : ℕ) (h : List Entry) → posts (finished first next id now h) ≡ posts h
 posts-finished true (nexts.Going end) id now h = refl
@@ -51,19 +52,18 @@ posts-noted : (mark : Option Mark) (id now : ℕ) (h : List Entry) → posts (no
 posts-noted None id now h = refl
 posts-noted (Some mark) id now h = refl
 
-posts-lapsed : (place : Bool) (past : Option ℕ) (h : List Entry) → posts (lapsed place past h) ≡ posts h
-posts-lapsed true past h = refl
-posts-lapsed false None h = refl
-posts-lapsed false (Some id) h = refl
+posts-lapsed : (gone : Option ℕ) (h : List Entry) → posts (lapsed gone h) ≡ posts h
+posts-lapsed None h = refl
+posts-lapsed (Some id) h = refl
 
-posts-started : (id : Option ℕ) (place : Bool) (past : Option ℕ) (now : ℕ) (h : List Entry) → posts (started id place past now h) ≡ posts h
-posts-started None place past now h = posts-lapsed place past h
-posts-started (Some id) place past now h = refl
+posts-started : (id gone : Option ℕ) (now : ℕ) (h : List Entry) → posts (started id gone now h) ≡ posts h
+posts-started None gone now h = posts-lapsed gone h
+posts-started (Some id) gone now h = posts-lapsed gone h
 
-pub posts-entered : (id : Option ℕ) (place : Bool) (past : Option ℕ) (mark : Option Mark) (next : Next AcceptEnd Outcome) (now : ℕ) (h : List Entry) → posts (entered id place past mark next now h) ≡ posts h
-posts-entered id place past mark next now h =
-    posts-finished (is_none id) next (id_of id h) now (noted mark (id_of id h) now (started id place past now h))
-    ∙ (posts-noted mark (id_of id h) now (started id place past now h) ∙ posts-started id place past now h)
+pub posts-entered : (id gone : Option ℕ) (mark : Option Mark) (next : Next AcceptEnd Outcome) (now : ℕ) (h : List Entry) → posts (entered id gone mark next now h) ≡ posts h
+posts-entered id gone mark next now h =
+    posts-finished (is_none id) next (id_of id h) now (noted mark (id_of id h) now (started id gone now h))
+    ∙ (posts-noted mark (id_of id h) now (started id gone now h) ∙ posts-started id gone now h)
 
 open-finished : (first : Bool) (next : Next AcceptEnd Outcome) (id now : ℕ) (h : List Entry) → opened (finished first next id now h) ≡ opened h
 open-finished true (nexts.Going end) id now h = refl
@@ -75,24 +75,23 @@ open-noted : (mark : Option Mark) (id now : ℕ) (h : List Entry) → opened (no
 open-noted None id now h = refl
 open-noted (Some mark) id now h = refl
 
-open-lapsed : (place : Bool) (past : Option ℕ) (h : List Entry) → opened (lapsed place past h) ≡ opened h
-open-lapsed true past h = refl
-open-lapsed false None h = refl
-open-lapsed false (Some id) h = refl
+open-lapsed : (gone : Option ℕ) (h : List Entry) → opened (lapsed gone h) ≡ opened h
+open-lapsed None h = refl
+open-lapsed (Some id) h = refl
 
 -- how many ids were opened before the step of an id, where that is the last one
 abbrev pub opened_for : Option ℕ → ℕ → ℕ
 opened_for None count = count
 opened_for (Some id) count = count + 1
 
-open-started : (id : Option ℕ) (place : Bool) (past : Option ℕ) (now count : ℕ) (h : List Entry) → opened h ≡ opened_for id count → opened (started id place past now h) ≡ count + 1
-open-started None place past now count h e = ap (λ (n : ℕ). n + 1) (open-lapsed place past h ∙ e)
-open-started (Some id) place past now count h e = e
+open-started : (id gone : Option ℕ) (now count : ℕ) (h : List Entry) → opened h ≡ opened_for id count → opened (started id gone now h) ≡ count + 1
+open-started None gone now count h e = ap (λ (n : ℕ). n + 1) (open-lapsed gone h ∙ e)
+open-started (Some id) gone now count h e = open-lapsed gone h ∙ e
 
-pub open-entered : (id : Option ℕ) (place : Bool) (past : Option ℕ) (mark : Option Mark) (next : Next AcceptEnd Outcome) (now count : ℕ) (h : List Entry) → opened h ≡ opened_for id count → opened (entered id place past mark next now h) ≡ count + 1
-open-entered id place past mark next now count h e =
-    open-finished (is_none id) next (id_of id h) now (noted mark (id_of id h) now (started id place past now h))
-    ∙ (open-noted mark (id_of id h) now (started id place past now h) ∙ open-started id place past now count h e)
+pub open-entered : (id gone : Option ℕ) (mark : Option Mark) (next : Next AcceptEnd Outcome) (now count : ℕ) (h : List Entry) → opened h ≡ opened_for id count → opened (entered id gone mark next now h) ≡ count + 1
+open-entered id gone mark next now count h e =
+    open-finished (is_none id) next (id_of id h) now (noted mark (id_of id h) now (started id gone now h))
+    ∙ (open-noted mark (id_of id h) now (started id gone now h) ∙ open-started id gone now count h e)
 
 mark-finished : (first : Bool) (next : Next AcceptEnd Outcome) (id now : ℕ) (h : List Entry) → taken_of (finished first next id now h) ≡ taken_of h
 mark-finished true (nexts.Going end) id now h = refl
@@ -100,14 +99,13 @@ mark-finished false (nexts.Going end) id now h = refl
 mark-finished true (nexts.Settled mech names value ends) id now h = refl
 mark-finished false (nexts.Settled mech names value ends) id now h = refl
 
-mark-lapsed : (place : Bool) (past : Option ℕ) (h : List Entry) → taken_of (lapsed place past h) ≡ taken_of h
-mark-lapsed true past h = refl
-mark-lapsed false None h = refl
-mark-lapsed false (Some id) h = refl
+mark-lapsed : (gone : Option ℕ) (h : List Entry) → taken_of (lapsed gone h) ≡ taken_of h
+mark-lapsed None h = refl
+mark-lapsed (Some id) h = refl
 
-mark-started : (id : Option ℕ) (place : Bool) (past : Option ℕ) (now : ℕ) (h : List Entry) → taken_of (started id place past now h) ≡ taken_of h
-mark-started None place past now h = mark-lapsed place past h
-mark-started (Some id) place past now h = refl
+mark-started : (id gone : Option ℕ) (now : ℕ) (h : List Entry) → taken_of (started id gone now h) ≡ taken_of h
+mark-started None gone now h = mark-lapsed gone h
+mark-started (Some id) gone now h = mark-lapsed gone h
 
 -- the marks with one more, where there is one
 abbrev pub with_mark : Option Mark → ℕ → List TakenMark → List TakenMark
@@ -118,12 +116,12 @@ mark-noted : (mark : Option Mark) (id now : ℕ) (h : List Entry) → taken_of (
 mark-noted None id now h = refl
 mark-noted (Some mark) id now h = refl
 
-pub mark-entered : (id : Option ℕ) (place : Bool) (past : Option ℕ) (mark : Option Mark) (next : Next AcceptEnd Outcome) (now : ℕ) (h : List Entry)
-    → taken_of (entered id place past mark next now h) ≡ with_mark mark (length (started id place past now h)) (taken_of h)
-mark-entered id place past mark next now h =
-    mark-finished (is_none id) next (id_of id h) now (noted mark (id_of id h) now (started id place past now h))
-    ∙ (mark-noted mark (id_of id h) now (started id place past now h)
-    ∙ ap (λ (ts : List TakenMark). with_mark mark (length (started id place past now h)) ts) (mark-started id place past now h))
+pub mark-entered : (id gone : Option ℕ) (mark : Option Mark) (next : Next AcceptEnd Outcome) (now : ℕ) (h : List Entry)
+    → taken_of (entered id gone mark next now h) ≡ with_mark mark (length (started id gone now h)) (taken_of h)
+mark-entered id gone mark next now h =
+    mark-finished (is_none id) next (id_of id h) now (noted mark (id_of id h) now (started id gone now h))
+    ∙ (mark-noted mark (id_of id h) now (started id gone now h)
+    ∙ ap (λ (ts : List TakenMark). with_mark mark (length (started id gone now h)) ts) (mark-started id gone now h))
 
 long-finished : (first : Bool) (next : Next AcceptEnd Outcome) (id now : ℕ) (h : List Entry) → length (finished first next id now h) ≤ length h + 1
 long-finished true (nexts.Going end) id now h = omega arith
@@ -135,20 +133,19 @@ long-noted : (mark : Option Mark) (id now : ℕ) (h : List Entry) → length (no
 long-noted None id now h = omega arith
 long-noted (Some mark) id now h = omega arith
 
-long-lapsed : (place : Bool) (past : Option ℕ) (h : List Entry) → length (lapsed place past h) ≤ length h + 1
-long-lapsed true past h = omega arith
-long-lapsed false None h = omega arith
-long-lapsed false (Some id) h = omega arith
+long-lapsed : (gone : Option ℕ) (h : List Entry) → length (lapsed gone h) ≤ length h + 1
+long-lapsed None h = omega arith
+long-lapsed (Some id) h = omega arith
 
-long-started : (id : Option ℕ) (place : Bool) (past : Option ℕ) (now : ℕ) (h : List Entry) → length (started id place past now h) ≤ length h + 2
-long-started None place past now h = let few = long-lapsed place past h in omega (arith, few)
-long-started (Some id) place past now h = omega arith
+long-started : (id gone : Option ℕ) (now : ℕ) (h : List Entry) → length (started id gone now h) ≤ length h + 2
+long-started None gone now h = let few = long-lapsed gone h in omega (arith, few)
+long-started (Some id) gone now h = let few = long-lapsed gone h in omega (arith, few)
 
-pub long-entered : (id : Option ℕ) (place : Bool) (past : Option ℕ) (mark : Option Mark) (next : Next AcceptEnd Outcome) (now : ℕ) (h : List Entry) → length (entered id place past mark next now h) ≤ length h + 4
-long-entered id place past mark next now h =
-    let one = long-finished (is_none id) next (id_of id h) now (noted mark (id_of id h) now (started id place past now h)) in
-    let two = long-noted mark (id_of id h) now (started id place past now h) in
-    let three = long-started id place past now h in omega (arith, one, two, three)
+pub long-entered : (id gone : Option ℕ) (mark : Option Mark) (next : Next AcceptEnd Outcome) (now : ℕ) (h : List Entry) → length (entered id gone mark next now h) ≤ length h + 4
+long-entered id gone mark next now h =
+    let one = long-finished (is_none id) next (id_of id h) now (noted mark (id_of id h) now (started id gone now h)) in
+    let two = long-noted mark (id_of id h) now (started id gone now h) in
+    let three = long-started id gone now h in omega (arith, one, two, three)
 
 -- ---- the marks
 
@@ -166,12 +163,32 @@ long-more (first ∷ taken) one = omega (arith, long-more taken one)
 
 -- ---- the entries of a creation
 
--- a first token that goes on, and one that is the last
-pub first-going : (place : Bool) (past : Option ℕ) (mark : Option Mark) (end : AcceptEnd) (now own : ℕ) (h : List Entry) → place ≡ true → opened h + 1 ≡ own → entered {S = Outcome} None place past mark (nexts.Going end) now h ≡ noted mark own now (Opened own now ∷ h)
-first-going place past mark end now own h e f =
-    ap (λ (b : Bool). entered {S = Outcome} None b past mark (nexts.Going end) now h) e ∙ ap (λ (n : ℕ). noted mark n now (Opened n now ∷ h)) f
+-- a first token that goes on, and one that is the last, where no context goes for it
+pub first-going : (gone : Option ℕ) (mark : Option Mark) (end : AcceptEnd) (now own : ℕ) (h : List Entry) → gone ≡ None → opened h + 1 ≡ own → entered {S = Outcome} None gone mark (nexts.Going end) now h ≡ noted mark own now (Opened own now ∷ h)
+first-going gone mark end now own h e f =
+    ap (λ (o : Option ℕ). entered {S = Outcome} None o mark (nexts.Going end) now h) e ∙ ap (λ (n : ℕ). noted mark n now (Opened n now ∷ h)) f
 
-pub first-settled : (place : Bool) (past : Option ℕ) (mark : Option Mark) (mech : MechKind) (names : List ℕ) (value : Outcome) (lasts now own : ℕ) (h : List Entry) → place ≡ true → opened h + 1 ≡ own
-    → entered {N = AcceptEnd} None place past mark (nexts.Settled mech names value lasts) now h ≡ Settled own mech names lasts now ∷ noted mark own now (Opened own now ∷ h)
-first-settled place past mark mech names value lasts now own h e f =
-    ap (λ (b : Bool). entered {N = AcceptEnd} None b past mark (nexts.Settled mech names value lasts) now h) e ∙ ap (λ (n : ℕ). Settled n mech names lasts now ∷ noted mark n now (Opened n now ∷ h)) f
+pub first-settled : (gone : Option ℕ) (mark : Option Mark) (mech : MechKind) (names : List ℕ) (value : Outcome) (lasts now own : ℕ) (h : List Entry) → gone ≡ None → opened h + 1 ≡ own
+    → entered {N = AcceptEnd} None gone mark (nexts.Settled mech names value lasts) now h ≡ Settled own mech names lasts now ∷ noted mark own now (Opened own now ∷ h)
+first-settled gone mark mech names value lasts now own h e f =
+    ap (λ (o : Option ℕ). entered {N = AcceptEnd} None o mark (nexts.Settled mech names value lasts) now h) e ∙ ap (λ (n : ℕ). Settled n mech names lasts now ∷ noted mark n now (Opened n now ∷ h)) f
+
+-- what is in use behind a step for which no context goes, where none was
+uses-noted : (mark : Option Mark) (id now : ℕ) (h : List Entry) → in_use (noted mark id now h) ≡ in_use h
+uses-noted None id now h = refl
+uses-noted (Some mark) id now h = refl
+
+uses-finished : (first : Bool) (next : Next AcceptEnd Outcome) (id now : ℕ) (h : List Entry) → in_use h ≡ [] → in_use (finished first next id now h) ≡ (if settles next then id ∷ [] else [])
+uses-finished true (nexts.Going end) id now h e = e
+uses-finished false (nexts.Going end) id now h e = e
+uses-finished true (nexts.Settled mech names value ends) id now h e = ap (λ (xs : List ℕ). xs ++ id ∷ []) e
+uses-finished false (nexts.Settled mech names value ends) id now h e = ap (λ (xs : List ℕ). xs ++ id ∷ []) e
+
+uses-started : (id : Option ℕ) (now : ℕ) (h : List Entry) → in_use (started id None now h) ≡ in_use h
+uses-started None now h = refl
+uses-started (Some id) now h = refl
+
+pub uses-entered : (id : Option ℕ) (mark : Option Mark) (next : Next AcceptEnd Outcome) (now : ℕ) (h : List Entry) → in_use h ≡ [] → in_use (entered id None mark next now h) ≡ (if settles next then id_of id h ∷ [] else [])
+uses-entered id mark next now h e =
+    uses-finished (is_none id) next (id_of id h) now (noted mark (id_of id h) now (started id None now h))
+    (uses-noted mark (id_of id h) now (started id None now h) ∙ (uses-started id now h ∙ e))

@@ -14,8 +14,8 @@ mod Writing
 mod Rows
 mod Opening
 mod Resting
-mod Entries
-mod Readiness
+pub mod Entries
+pub mod Readiness
 mod Walks
 mod Tokens
 mod Opens
@@ -24,6 +24,4 @@ mod EachToken
 mod Whole
 pub mod Linked
 mod Meetings
-mod InConference
-mod WholeConference
 pub mod SpelledAlone

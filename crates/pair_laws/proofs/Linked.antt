@@ -9,7 +9,7 @@ use Rattle.krb_derive.specs.declared.key.Key.{Key}
 use Rattle.krb_derive.specs.declared.sealing.SealKeys.{SealKeys}
 use Rattle.krb_derive.specs.Kept.{ForSealing}
 use Rattle.rpc_msgs.specs.Records.{Fragments}
-use Rattle.rpcsec_bodies.specs.declared.service.Service.{Service}
+use Rattle.gss_client.specs.declared.terms.Terms.{Terms}
 use Rattle.spnego_core.specs.Exchange.{Occasion, HonestPair}
 use Rattle.spnego_core.specs.declared.outcome.Outcome.{Outcome}
 use Rattle.accept_book.specs.Booking.{BookOf}
@@ -23,7 +23,8 @@ use Rattle.gss_client.specs.Talking.{Said}
 use Rattle.gss_client.specs.declared.refusal.ClientRefusal.{ClientRefusal}
 use Rattle.gss_client.specs.Start.{StartSays}
 use Rattle.gss_server.specs.declared.answer.Kept.{Kept}
-use Rattle.pair_laws.specs.Conferring.{DueCall, confers, by_opening, talk_of, talk_behind}
+use Rattle.gss_client.specs.Conferring.{DueCall, confers, by_opening, talk_of, talk_behind}
+use Rattle.pair_laws.specs.HonestCalls.{IsToServer}
 use Rattle.pair_laws.specs.Creation.{IsAt, CreatesOn, IsCreation, Enters, padded}
 use Rattle.pair_laws.specs.Honest.{occasion_of}
 use Rattle.pair_laws.specs.Linked.{kept_of, IsServed, CreatedLaw, IsLinked, LinkedDone}
@@ -90,8 +91,9 @@ each-drawn (one ∷ answers) h = (h zero one refl, each-drawn answers (λ i kept
 -- ---- the session
 
 -- calls with the octets that were drawn for them and others behind, so that there are enough
-pub planned-on : (service : Service) (first : ℕ) (due : List DueCall) (drawn : List ℕ) → first ≤ 0x80000000 → AllByRecursion (IsProper service) due → IsOctets drawn → ArePlanned service first due (drawn ++ replicate (16 * length due) 0)
-planned-on service first due drawn fits each octets = record {
+pub planned-on : (terms : Terms) (first : ℕ) (due : List DueCall) (drawn : List ℕ) → IsToServer terms → first ≤ 0x80000000 → AllByRecursion (IsProper terms) due → IsOctets drawn → ArePlanned terms first due (drawn ++ replicate (16 * length due) 0)
+planned-on terms first due drawn called fits each octets = record {
+  called = called;
   first_fits = fits;
   each = each;
   octets = append-IsOctets drawn (replicate (16 * length due) 0) octets (replicate-IsOctets (16 * length due));
@@ -125,6 +127,7 @@ as-many width lasts tokens start kind count moment due draws stream old new reco
         let w = talk-more due start draws stream in
         let room : length old.core.history + 4 * tokens + length due < old.core.limit = x.log in
         each-token width lasts start kind count moment tokens stream w.more old new a.turns records tail [] (record {
+          called = x.planned.called;
           rests = x.rests;
           some_width = x.some_width;
           width_fits = x.width_fits;
@@ -166,6 +169,7 @@ served-creates width lasts tokens start kind count moment due draws stream old n
       back = back;
       counted = counted;
       creation = record {
+        called = x.planned.called;
         rests = x.rests;
         some_width = x.some_width;
         width_fits = x.width_fits;

@@ -146,6 +146,7 @@ moment-noted old middle new id now result b k s = record {
   setup = s ∙ b.setup;
   limit = k.limit ∙ b.looked.limit;
   width = k.width ∙ b.looked.width;
+  keeping = k.keeping ∙ b.looked.keeping;
   contexts = k.contexts ∙ ap (λ (t : Places AcceptEnd Outcome). t.limit) b.looked.table;
   capacity = k.capacity ∙ b.looked.capacity;
   greatest = k.greatest ∙ b.looked.greatest;

@@ -1,7 +1,7 @@
 -- A book that has places for a token of a creation books it.
 use Rattle.std.proofs.Common.{◌≡◌, ◌≢◌, ◌∙◌, ℕ, ◌<◌, ◌^◌, refl, ap, sym, subst, arith, List, [], ◌∷◌, take, Option, Some, None}
 use Rattle.std.specs.Prelude.{IfSome}
-use Rattle.rpcsec_bodies.specs.declared.service.Service.{Service}
+use Rattle.gss_client.specs.declared.terms.Terms.{Terms}
 use Rattle.accept_book.specs.Booking.{BookOf}
 use Rattle.accept_book.specs.BookAnswers.{BookStepped}
 use Rattle.accept_book.specs.RecordRule.{record_ruling, ask_step, stepped}
@@ -13,13 +13,14 @@ use Rattle.accept_book.specs.declared.book_answer.Negotiated.{Negotiated}
 use Rattle.gss_client.specs.Calling.{creation_call}
 use Rattle.gss_server.specs.Answers.{IsDecided}
 use Rattle.gss_server.specs.Asking.{Asking, BookAnswers}
+use Rattle.pair_laws.specs.HonestCalls.{IsToServer}
 use Rattle.pair_laws.specs.Booked.{IsBooked}
 use Rattle.pair_laws.specs.Opening.{creation_of, FitsCreation, HasPlaces, IsStepped}
 use Rattle.pair_laws.proofs.Ruling.{proc_for, handle_for, IsId, creation_shown, asks}
 
-pub same-call : (service : Service) (xid : ℕ) (id : Option ℕ) (token : List ℕ) → creation_of service xid id token ≡ creation_call service xid (proc_for id) (handle_for id) token
-same-call service xid None token = refl
-same-call service xid (Some id) token = refl
+pub same-call : (terms : Terms) (xid : ℕ) (id : Option ℕ) (token : List ℕ) → creation_of terms xid id token ≡ creation_call terms xid (proc_for id) (handle_for id) token
+same-call terms xid None token = refl
+same-call terms xid (Some id) token = refl
 
 is-id : (id : Option ℕ) → IfSome id (λ number. number < 2 ^ 64) → IsId id
 is-id None h = tt
@@ -51,21 +52,21 @@ pub record AnsweredStep (width : ℕ) (id : Option ℕ) (token octets : List ℕ
   pub stepped : BookStepped old new id token kept.now (take 66 kept.draws) answer
   pub some : answer.answer ≢ steps.NoMemory
 
-pub answered-step : (service : Service) (xid width : ℕ) (id : Option ℕ) (token : List ℕ) (kept : KeptAnswers) (old new : BookOf) → FitsCreation xid id token → IsDecided (record_ruling (creation_of service xid id token) kept width)
-    → Asking BookAnswers old (record_ruling (creation_of service xid id token) kept width).asked new → AnsweredStep width id token (creation_of service xid id token) kept old new
-answered-step service xid width id token kept old new f decided put = by-kept kept.negotiated refl
+pub answered-step : (terms : Terms) (xid width : ℕ) (id : Option ℕ) (token : List ℕ) (kept : KeptAnswers) (old new : BookOf) → IsToServer terms → FitsCreation xid id token → IsDecided (record_ruling (creation_of terms xid id token) kept width)
+    → Asking BookAnswers old (record_ruling (creation_of terms xid id token) kept width).asked new → AnsweredStep width id token (creation_of terms xid id token) kept old new
+answered-step terms xid width id token kept old new called f decided put = by-kept kept.negotiated refl
   where
     shown : Shown
-    shown = creation_shown service xid id token kept width
+    shown = creation_shown terms xid id token kept width
 
     octets : List ℕ
-    octets = creation_of service xid id token
+    octets = creation_of terms xid id token
 
     drawn : List ℕ
     drawn = take 66 kept.draws
 
     ruled : record_ruling octets kept width ≡ ask_step shown id token kept.negotiated
-    ruled = ap (λ (o : List ℕ). record_ruling o kept width) (same-call service xid id token) ∙ asks service xid id token kept width f.xid_fits (is-id id f.id_fits) f.size
+    ruled = ap (λ (o : List ℕ). record_ruling o kept width) (same-call terms xid id token) ∙ asks terms xid id token kept width called f.xid_fits (is-id id f.id_fits) f.size
 
     by-kept : (found : Option Negotiated) → kept.negotiated ≡ found → AnsweredStep width id token octets kept old new
     by-kept None e =
@@ -84,10 +85,10 @@ answered-step service xid width id token kept old new f decided put = by-kept ke
           some = λ none. undecided-none shown id token kept.now drawn answer (subst (λ (a : NegAnswer). IsDecided (asking (AskedStep id token kept.now drawn answer) (stepped shown a))) none due);
         }
 
-pub step-turn : (service : Service) (xid width : ℕ) (id : Option ℕ) (token : List ℕ) (kept : KeptAnswers) (old new : BookOf) → FitsCreation xid id token → IsStepped width (creation_of service xid id token) kept old new → HasPlaces old.setup old.core id token kept
-    → IsBooked old.setup width (creation_of service xid id token) kept (record { before = old.core; after = new.core })
-step-turn service xid width id token kept old new f s p =
-    let a = answered-step service xid width id token kept old new f s.decided s.asked in
+pub step-turn : (terms : Terms) (xid width : ℕ) (id : Option ℕ) (token : List ℕ) (kept : KeptAnswers) (old new : BookOf) → IsToServer terms → FitsCreation xid id token → IsStepped width (creation_of terms xid id token) kept old new → HasPlaces old.setup old.core id token kept
+    → IsBooked old.setup width (creation_of terms xid id token) kept (record { before = old.core; after = new.core })
+step-turn terms xid width id token kept old new called f s p =
+    let a = answered-step terms xid width id token kept old new called f s.decided s.asked in
     let o = a.stepped.comes.outcome p.past p.is_past a.some in record {
       id = id;
       token = token;

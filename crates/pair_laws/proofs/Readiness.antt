@@ -1,6 +1,8 @@
 -- Where a book stands between the tokens of a creation: which marks it has, and which contexts live.
-use Rattle.std.proofs.Common.{◌≡◌, ◌≢◌, ◌⊎◌, ℕ, ◌+◌, ◌<◌, ◌≤◌, Bool, true, false, refl, ap, sym, subst, ◌∙◌, arith, List, [], length, max, Option, Some, None, Result, Ok, Err}
-use Rattle.std.specs.Prelude.{◌==◌, ◌||◌, nat_lt, is_some, if◌then◌else◌}
+use Rattle.std.proofs.Common.{◌≡◌, ◌≢◌, ◌⊎◌, ℕ, ◌+◌, ◌<◌, ◌≤◌, Bool, true, false, refl, ap, sym, subst, ◌∙◌, arith, List, [], ◌∷◌, length, max, Option, Some, None, Result, Ok, Err}
+use Rattle.std.specs.Prelude.{◌==◌, ◌||◌, ◌&&◌, nat_le, is_some, if◌then◌else◌}
+use Rattle.std.specs.List.{slice_get}
+use Rattle.std.proofs.lemmas.Bool.{lt-leb}
 use Rattle.std.specs.List.{AllByRecursion}
 use Rattle.std.proofs.lemmas.Bool.Decides.{nat_tests}
 use Rattle.gss_base.specs.declared.mark.Mark.{Mark}
@@ -23,12 +25,14 @@ use Rattle.spnego_core.specs.declared.accept_end.Answered.TheVariants as afters
 use Rattle.spnego_core.specs.Accepting.{accept_step, step_of, gone_on, step_after, mark_asked}
 use Rattle.spnego_core.specs.Exchange.{passed, passed_of}
 use Rattle.accept_core.specs.declared.entry.Entry.{Entry}
+use Rattle.accept_core.specs.declared.answer.Next.{Next}
 use Rattle.accept_core.specs.Answers.{mark_refusal}
-use Rattle.accept_book.specs.Booking.{Stands, Becomes, Changed, changed, without, Outcomes, Fits, AnsweredFits, StepFits, raised, lapsed_by, next_of, answer_with, mark_of, settled_of, taken, by_mark, negotiated}
+use Rattle.accept_book.specs.Booking.{Stands, Becomes, Changed, changed, without, Outcomes, Fits, AnsweredFits, StepFits, raised, next_of, answer_with, mark_of, settled_of, taken, by_mark, negotiated}
 use Rattle.accept_core.specs.Entering.{id_of, started, entered}
 use Rattle.accept_core.specs.History.{opened, numbers, taken_of}
 use Rattle.accept_core.specs.Replays.{Accepting}
-use Rattle.accept_core.specs.Stepping.{Context, context_of, context_after, until_of}
+use Rattle.accept_core.specs.Aging.{in_use, most_whole}
+use Rattle.accept_core.specs.Stepping.{Context, context_of, context_after, until_of, goes_by, gone_of, settles}
 use Rattle.accept_book.proofs.Fitting.{by_ok}
 use Rattle.pair_laws.specs.Resting.{IsBefore, RestsAt, HoldsOne}
 use Rattle.pair_laws.proofs.Resting.{is-taken, all-later}
@@ -124,11 +128,23 @@ alone-after own gone after old new c other apart none =
     let before : context_of (slot_at old other) ≡ None = ap (λ (s : Option (Slot AcceptEnd Outcome)). context_of s) none in
     no-slot (slot_at new other) (c other ∙ (ap (λ (x : Option (Context AcceptEnd Outcome)). changed (Becomes gone own after) other x) before ∙ rw test (without-none gone other)))
 
+-- where no context is in use, none has its share of the places
+pub none-crowded : (b : Bool) (limit : ℕ) (xs : List ℕ) → xs ≡ [] → (b && nat_le (most_whole limit) (length xs)) ≡ false
+none-crowded true limit xs e = lt-leb (most_whole limit) (length xs) (let none : length xs ≡ 0 = ap (λ (ys : List ℕ). length ys) e in omega (arith, none))
+none-crowded false limit xs e = refl
+
+-- so none goes for a step, where a first token finds a place
+pub none-goes : (id : Option ℕ) (step : Next AcceptEnd Outcome) (past : Option ℕ) (h : List Entry) (table : Places AcceptEnd Outcome) → in_use h ≡ [] → (id ≡ None → live_of table < table.limit) → goes_by id step past h table ≡ None
+none-goes None step past h table unused free =
+    ap (λ (b : Bool). gone_of b (nat_le table.limit (live_of table)) (slice_get (in_use h) 0) past) (none-crowded (settles step) table.limit (in_use h) unused)
+    ∙ ap (λ (b : Bool). gone_of false b (slice_get (in_use h) 0) past) (lt-leb table.limit (live_of table) (free refl))
+none-goes (Some id) step past h table unused free =
+    ap (λ (b : Bool). gone_of b false (slice_get (in_use h) 0) past) (none-crowded (settles step) table.limit (in_use h) unused)
+
 -- what a step makes of the history and of its context
-pub record Entered (id past : Option ℕ) (asked step : AcceptStep) (old new : Accepting AcceptEnd Outcome) (moment : ℕ) : Type 0 where
-  pub place : Bool
-  pub history : new.history ≡ entered id place past (mark_of asked) (next_of step) moment old.history
+pub record Entered (id : Option ℕ) (asked step : AcceptStep) (old new : Accepting AcceptEnd Outcome) (moment : ℕ) : Type 0 where
   pub gone : Option ℕ
+  pub history : new.history ≡ entered id gone (mark_of asked) (next_of step) moment old.history
   pub after : Context AcceptEnd Outcome
   pub contexts : Changed old.table (Becomes gone (id_of id old.history) after) new.table
   pub greatest : new.cache.greatest ≡ max old.cache.greatest moment
@@ -163,13 +179,13 @@ few-after marked (steps.WantsAuth pause) count place taken f h =
     let more = long-more taken (record { mark = mark_asked pause; place = place }) in
     omega (arith, less, more)
 
-pub ready-after : (id past : Option ℕ) (own count moment : ℕ) (marked : Bool) (asked step : AcceptStep) (old new : Accepting AcceptEnd Outcome) → id_of id old.history ≡ count + 1 → Ready id count moment marked old → StepFits asked marked
-    → ((pause : AcceptPause) → asked ≡ steps.WantsAuth pause → (mark_asked pause).at ≡ moment) → Entered id past asked step old new moment → Ready (Some own) count moment (marked_after marked asked) new
-ready-after id past own count moment marked asked step old new own_is r fits at e = record {
+pub ready-after : (id : Option ℕ) (own count moment : ℕ) (marked : Bool) (asked step : AcceptStep) (old new : Accepting AcceptEnd Outcome) → id_of id old.history ≡ count + 1 → Ready id count moment marked old → StepFits asked marked
+    → ((pause : AcceptPause) → asked ≡ steps.WantsAuth pause → (mark_asked pause).at ≡ moment) → Entered id asked step old new moment → Ready (Some own) count moment (marked_after marked asked) new
+ready-after id own count moment marked asked step old new own_is r fits at e = record {
   alone = λ other apart.
       alone-after (count + 1) e.gone e.after old.table new.table (subst (λ (n : ℕ). Changed old.table (Becomes e.gone n e.after) new.table) own_is e.contexts) other apart (r.alone other apart);
-  ids = ap (λ (h : List Entry). opened h) e.history ∙ open-entered id e.place past (mark_of asked) (next_of step) moment count old.history r.ids;
-  uncalled = λ other more. ap (λ (h : List Entry). numbers other h) e.history ∙ (number-entered other id e.place past (mark_of asked) (next_of step) moment old.history ∙ r.uncalled other more);
+  ids = ap (λ (h : List Entry). opened h) e.history ∙ open-entered id e.gone (mark_of asked) (next_of step) moment count old.history r.ids;
+  uncalled = λ other more. ap (λ (h : List Entry). numbers other h) e.history ∙ (number-entered other id e.gone (mark_of asked) (next_of step) moment old.history ∙ r.uncalled other more);
   seen = let s : old.cache.greatest ≤ moment = r.seen in subst (λ (n : ℕ). n ≤ moment) (sym e.greatest) (omega (arith, s));
   marks = λ later h.
       subst (λ (ts : List TakenMark). AllByRecursion (IsBefore later) ts) (sym taken_is) (all-with (IsBefore later) (mark_of asked) place (taken_of old.history) (r.marks later h) (λ one f. before-later later h one (mark-known asked one f)));
@@ -179,18 +195,19 @@ ready-after id past own count moment marked asked step old new own_is r fits at 
 }
   where
     place : ℕ
-    place = length (started id e.place past moment old.history)
+    place = length (started id e.gone moment old.history)
 
     taken_is : taken_of new.history ≡ with_mark (mark_of asked) place (taken_of old.history)
-    taken_is = ap (λ (h : List Entry). taken_of h) e.history ∙ mark-entered id e.place past (mark_of asked) (next_of step) moment old.history
+    taken_is = ap (λ (h : List Entry). taken_of h) e.history ∙ mark-entered id e.gone (mark_of asked) (next_of step) moment old.history
 
     before-later : (later : ℕ) → moment < later → (one : Mark) → (pause : AcceptPause) × (asked ≡ steps.WantsAuth pause) × (one ≡ mark_asked pause) → one.at < later
     before-later later h one k =
         let same : one.at ≡ moment = ap (λ (m : Mark). m.at) k.2 ∙ at k.0 k.1 in omega (arith, h, same)
 
 -- behind the last step one context lives, and there is at most one mark more
-pub holds-after : (count moment : ℕ) (marked : Bool) (core : Accepting AcceptEnd Outcome) (own : ℕ) → Ready (Some own) count moment marked core → (later : ℕ) → moment < later → HoldsOne (count + 1) (count + 1) later core
-holds-after count moment marked core own r later h = record {
+pub holds-after : (count moment : ℕ) (marked : Bool) (core : Accepting AcceptEnd Outcome) (own : ℕ) → Ready (Some own) count moment marked core → in_use core.history ≡ (count + 1) ∷ [] → (later : ℕ) → moment < later → HoldsOne (count + 1) (count + 1) later core
+holds-after count moment marked core own r used later h = record {
+  used = used;
   others = r.alone;
   own = omega arith;
   ids = r.ids;
@@ -210,8 +227,8 @@ holds-after count moment marked core own r later h = record {
 abbrev pub outcome_so : Stands → Option ℕ → Option ℕ → Option Mark → AcceptStep → Outcomes
 outcome_so book id past mark step = record {
   answer = answer_with (id_of id book.history) step;
-  history = entered id (nat_lt (live_of book.table) book.table.limit) past mark (next_of step) book.greatest book.history;
-  change = Becomes (lapsed_by id (nat_lt (live_of book.table) book.table.limit) past) (id_of id book.history) (context_after (until_of id book.greatest book.table) (next_of step));
+  history = entered id (goes_by id (next_of step) past book.history book.table) mark (next_of step) book.greatest book.history;
+  change = Becomes (goes_by id (next_of step) past book.history book.table) (id_of id book.history) (context_after (until_of id book.greatest book.table) (next_of step));
 }
 
 taken-so : (book : Stands) (id past : Option ℕ) (asked step : AcceptStep) → passed asked ≡ step → ((pause : AcceptPause) → asked ≡ steps.WantsAuth pause → cache_verdict book.capacity book.greatest (taken_of book.history) (mark_asked pause) ≡ Taken)

@@ -1,5 +1,5 @@
 -- A book at rest has places for the next session.
-use Rattle.std.proofs.Common.{◌≡◌, ◌≢◌, inl, ℕ, ◌+◌, ◌-◌, ◌<◌, ◌≤◌, Bool, true, false, refl, ap, sym, subst, ◌∙◌, arith, List, [], ◌∷◌, length, max, nat_lt, Option, Some, None}
+use Rattle.std.proofs.Common.{◌≡◌, ◌≢◌, inl, ℕ, ◌+◌, ◌-◌, ◌<◌, ◌≤◌, Bool, true, false, refl, ap, sym, subst, ◌∙◌, arith, List, [], ◌∷◌, ◌++◌, length, max, nat_lt, Option, Some, None}
 use Rattle.std.specs.Prelude.{◌==◌, IfSome, nat_eq}
 use Rattle.std.specs.Cmp.Lexicographic.{pointwise}
 use Rattle.std.specs.List.{AllByRecursion}
@@ -9,20 +9,22 @@ use Rattle.replay_cache.specs.Taking.{skew, same_mark, place_of, is_recent, kept
 use Rattle.replay_cache.specs.declared.cache.CacheVerdict.TheVariants.{Taken}
 use Rattle.replay_cache.specs.declared.cache.TakenMark.{TakenMark}
 use Rattle.context_table.specs.declared.slot.Slot.{Slot}
-use Rattle.context_table.specs.Places.{slot_in, slot_at, live_of, IsPast}
+use Rattle.context_table.specs.Places.{slot_in, slot_at, live_of, is_waiting}
 use Rattle.spnego_core.specs.Accepting.{mark_asked}
 use Rattle.spnego_core.specs.declared.accept_end.AcceptEnd.{AcceptEnd}
 use Rattle.spnego_core.specs.declared.outcome.Outcome.{Outcome}
 use Rattle.spnego_core.specs.declared.setup.AcceptSetup.{AcceptSetup}
 use Rattle.sha1.specs.Sha1.{sha1}
 use Rattle.accept_book.specs.Booking.{BookOf}
+use Rattle.use_order.specs.Orders.{without}
+use Rattle.accept_core.specs.Aging.{in_use}
+use Rattle.accept_core.specs.Stepping.{IsNext}
 use Rattle.accept_core.specs.History.{opened, numbers, taken_of}
 use Rattle.accept_book.specs.RecordShown.{KeptAnswers}
 use Rattle.accept_core.specs.Replays.{Accepting}
 use Rattle.accept_core.specs.declared.entry.Entry.{Entry}
 use Rattle.accept_core.specs.declared.entry.Entry.TheVariants.{Call}
-use Rattle.gss_client.specs.Procedure.{procedure_number}
-use Rattle.pair_laws.specs.Conferring.{DueCall}
+use Rattle.gss_client.specs.Conferring.{DueCall}
 use Rattle.pair_laws.specs.Opening.{HasPlaces}
 use Rattle.pair_laws.specs.Resting.{IsBefore, RestsAt, RestGives, MarksAt, HoldsOne, IsBy}
 use Rattle.pair_laws.specs.Rows.{history_after, greatest_after, RowLeaves, answers_of}
@@ -42,8 +44,11 @@ empty-slots : (slots : List (Slot AcceptEnd Outcome)) (id : ℕ) → length slot
 empty-slots [] id h = refl
 empty-slots (slot ∷ slots) id h = absurd (omega (arith, h))
 
-pub none-past : (core : Accepting AcceptEnd Outcome) → ((id : ℕ) → slot_at core.table id ≡ None) → (now : ℕ) → IsPast core.table now None
-none-past core h now = λ id. subst (λ (s : Option (Slot AcceptEnd Outcome)). IfSome s (λ slot. now ≤ slot.ends)) (sym (h id)) tt
+pub none-next : (core : Accepting AcceptEnd Outcome) → ((id : ℕ) → slot_at core.table id ≡ None) → (now : ℕ) → IsNext core.table now None
+none-next core h now = (
+  λ id. subst (λ (s : Option (Slot AcceptEnd Outcome)). IfSome s (λ slot. now ≤ slot.ends)) (sym (h id)) tt,
+  λ many id. ap (λ (s : Option (Slot AcceptEnd Outcome)). is_waiting s) (h id),
+)
 
 -- ---- the marks
 
@@ -91,15 +96,24 @@ all-later moment later (one ∷ more) h a = (omega (arith, h, a.0), all-later mo
 
 opened-after : (id number : ℕ) (made : List DueCall) (h : List Entry) → opened (history_after id number made h) ≡ opened h
 opened-after id number [] h = refl
-opened-after id number (call ∷ later) h = opened-after id (number + 1) later (Call id number (procedure_number call.procedure) (sha1 call.args) ∷ h)
+opened-after id number (call ∷ later) h = opened-after id (number + 1) later (Call id number call.query.number (sha1 call.args) ∷ h)
 
 taken-after : (id number : ℕ) (made : List DueCall) (h : List Entry) → taken_of (history_after id number made h) ≡ taken_of h
 taken-after id number [] h = refl
-taken-after id number (call ∷ later) h = taken-after id (number + 1) later (Call id number (procedure_number call.procedure) (sha1 call.args) ∷ h)
+taken-after id number (call ∷ later) h = taken-after id (number + 1) later (Call id number call.query.number (sha1 call.args) ∷ h)
 
 called-after : (id number : ℕ) (made : List DueCall) (h : List Entry) (other : ℕ) → (id == other) ≡ false → numbers other (history_after id number made h) ≡ numbers other h
 called-after id number [] h other apart = refl
-called-after id number (call ∷ later) h other apart = called-after id (number + 1) later (Call id number (procedure_number call.procedure) (sha1 call.args) ∷ h) other apart ∙ rw apart refl
+called-after id number (call ∷ later) h other apart = called-after id (number + 1) later (Call id number call.query.number (sha1 call.args) ∷ h) other apart ∙ rw apart refl
+
+same-number : (id : ℕ) → (id == id) ≡ true
+same-number id = grind (arith, nat_tests)
+
+unused-after : (id number : ℕ) (made : List DueCall) (h : List Entry) → in_use h ≡ id ∷ [] → in_use (history_after id number made h) ≡ []
+unused-after id number [] h e = ap (λ (xs : List ℕ). without id xs) e ∙ rw (same-number id) refl
+unused-after id number (call ∷ later) h e =
+    unused-after id (number + 1) later (Call id number call.query.number (sha1 call.args) ∷ h)
+    (ap (λ (xs : List ℕ). without id xs ++ id ∷ []) e ∙ rw (same-number id) refl)
 
 greatest-by : (moment greatest : ℕ) (turns : List Turn) → greatest ≤ moment → AllByRecursion (IsBy moment) (answers_of turns) → greatest_after turns greatest ≤ moment
 greatest-by moment greatest [] h a = h
@@ -114,6 +128,7 @@ apart-ids a b e same = let f : (a == b) ≡ true = grind (arith, nat_tests) in a
 pub rests-again : (id count moment first : ℕ) (made : List DueCall) (turns : List Turn) (old new : BookOf) → HoldsOne id count moment old.core → RowLeaves id first made turns old new → AllByRecursion (IsBy moment) (answers_of turns) → RestsAt count moment new.core
 rests-again id count moment first made turns old new h l by = record {
   empty = λ other. by-id other (id == other) refl;
+  unused = ap (λ (hs : List Entry). in_use hs) l.history ∙ unused-after id first made old.core.history h.used;
   ids = ap (λ (hs : List Entry). opened hs) l.history ∙ (opened-after id first made old.core.history ∙ h.ids);
   uncalled = λ other more. ap (λ (hs : List Entry). numbers other hs) l.history ∙ (called-after id first made old.core.history other (behind-own other more) ∙ h.uncalled other more);
   seen = subst (λ (n : ℕ). n ≤ moment) (sym l.greatest) (greatest-by moment old.core.cache.greatest turns h.seen by);
@@ -136,6 +151,7 @@ rests-again id count moment first made turns old new h l by = record {
 pub rests-begin : (moment : ℕ) (core : Accepting AcceptEnd Outcome) → core.history ≡ [] → live_of core.table ≡ 0 → core.cache.greatest ≤ moment → RestsAt 0 moment core
 rests-begin moment core history live seen = record {
   empty = λ id. empty-slots core.table.slots id live;
+  unused = ap (λ (h : List Entry). in_use h) history;
   ids = ap (λ (h : List Entry). opened h) history;
   uncalled = λ id more. ap (λ (h : List Entry). numbers id h) history;
   seen = seen;
@@ -144,12 +160,12 @@ rests-begin moment core history live seen = record {
 }
 
 pub rests-on : (count moment later : ℕ) (core : Accepting AcceptEnd Outcome) → RestsAt count moment core → moment ≤ later → RestsAt count later core
-rests-on count moment later core r h = record { empty = r.empty; ids = r.ids; uncalled = r.uncalled; seen = omega (arith, r.seen, h); marks = all-later moment later (taken_of core.history) h r.marks; few = r.few }
+rests-on count moment later core r h = record { empty = r.empty; unused = r.unused; ids = r.ids; uncalled = r.uncalled; seen = omega (arith, r.seen, h); marks = all-later moment later (taken_of core.history) h r.marks; few = r.few }
 
 pub rests-give : (count moment : ℕ) (core : Accepting AcceptEnd Outcome) → RestsAt count moment core → RestGives count moment core
 rests-give count moment core r = record {
   live = no-slots core.table.slots r.empty;
-  past = none-past core r.empty;
+  past = none-next core r.empty;
   next = ap (λ (n : ℕ). n + 1) r.ids;
 }
 
@@ -163,7 +179,7 @@ rests-open count moment setup core token kept r now log places room marks =
     let g = rests-give count moment core r in
     let few : live_of core.table < core.table.limit = omega (arith, g.live, places) in record {
       past = None;
-      is_past = g.past (max core.cache.greatest kept.now);
+      is_past = λ first. g.past (max core.cache.greatest kept.now);
       log = log;
       table = λ first. inl few;
       mark = λ pause e.

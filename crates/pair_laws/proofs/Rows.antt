@@ -16,13 +16,12 @@ use Rattle.accept_book.specs.RecordShown.{KeptAnswers, Asked}
 use Rattle.accept_core.specs.Replays.{Accepting}
 use Rattle.accept_book.specs.declared.book_answer.Lease.{Lease}
 use Rattle.accept_core.specs.declared.entry.Entry.{Entry}
-use Rattle.rpcsec_bodies.specs.declared.service.Service.{Service}
-use Rattle.gss_client.specs.Procedure.{procedure_number}
+use Rattle.gss_client.specs.declared.terms.Terms.{Terms}
 use Rattle.gss_server.specs.Asking.{Asking, BookAnswers}
 use Rattle.gss_server.specs.Connections.{octets_of, written_for, asked_for, asked_in}
 use Rattle.gss_server.specs.Hearing.{kept_answers}
 use Rattle.gss_server.specs.declared.answer.Kept.{Kept}
-use Rattle.pair_laws.specs.Conferring.{DueCall}
+use Rattle.gss_client.specs.Conferring.{DueCall}
 use Rattle.pair_laws.specs.Conversing.{IsWithin}
 use Rattle.pair_laws.specs.Running.{Turn, sent_in, IsServed}
 use Rattle.pair_laws.specs.Rows.{IsTurn, InRow, AreAnswered, AreCuts, AreTurns, IsCutAt, IsNoRecord, IsRow, history_after, greatest_after, posts_with, results_by, RowLeaves, RowRuns}
@@ -227,17 +226,17 @@ results-on width lasts lease name [] number turns old new r w = refl
 results-on width lasts lease name (call ∷ later) number [] old new r w = absurd w
 results-on width lasts lease name (call ∷ later) number (turn ∷ turns) old new r w =
     let t = w.0 in
-    let p : ℕ = procedure_number call.procedure in
+    let p : ℕ = call.query.number in
     let count : posts turn.after.core.history ≡ posts_with (posts old.core.history) call = ap (λ (hs : List Entry). posts hs) t.history ∙ ap (λ (b : BookOf). posts_with (posts b.core.history) call) r.0 in
     let others : results_in later name turns ≡ results_by (posts_with (posts old.core.history) call) name later =
     results-on width lasts lease name later (number + 1) turns turn.after new r.2 w.1 ∙ ap (λ (n : ℕ). results_by n name later) count in
     ap (λ (n : ℕ). result_of p call.args name n ∷ results_in later name turns) count ∙ ap (λ (rs : List (List ℕ)). result_of p call.args name (posts_with (posts old.core.history) call) ∷ rs) others
 
-pub row-runs : (keys keys' : SealKeys) (width : ℕ) (lease : Lease) (service : Service) (first xid : ℕ) (due : List DueCall) (draws stream : List ℕ) (old new : BookOf) (turns : List Turn) (rest : List ℕ) → ForSealing keys lease.outcome.key 22 → ForSealing keys' lease.outcome.key 24
-    → IsRow width lease service first xid due draws stream old new turns rest → RowRuns width lease first due turns old new
-row-runs keys keys' width lease service first xid due draws stream old new turns rest for for' r =
+pub row-runs : (keys keys' : SealKeys) (width : ℕ) (lease : Lease) (terms : Terms) (first xid : ℕ) (due : List DueCall) (draws stream : List ℕ) (old new : BookOf) (turns : List Turn) (rest : List ℕ) → ForSealing keys lease.outcome.key 22 → ForSealing keys' lease.outcome.key 24
+    → IsRow width lease terms first xid due draws stream old new turns rest → RowRuns width lease first due turns old new
+row-runs keys keys' width lease terms first xid due draws stream old new turns rest for for' r =
     let word : RowFrom width lease.ends new (length due) old.core turns = record { book = old; is = refl; row = r.row; room = r.room; wide = r.live.wide } in
-    let a = run-all keys keys' width lease (RowFrom width lease.ends new) (by-row width lease new) service for for' r.id r.name due first xid draws stream old.core turns rest r.planned r.xid_fits word r.live.whole r.live.called r.written r.heard in
+    let a = run-all keys keys' width lease (RowFrom width lease.ends new) (by-row width lease new) terms for for' r.id r.name due first xid draws stream old.core turns rest r.planned r.xid_fits word r.live.whole r.live.called r.written r.heard in
     record {
       served = a.serves;
       results = subst (λ (n : ℕ). results_in (take n due) lease.outcome.initiator turns ≡ results_by (posts old.core.history) lease.outcome.initiator (take n due)) a.made_is

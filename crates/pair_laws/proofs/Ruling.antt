@@ -3,7 +3,7 @@ use Rattle.std.proofs.Common.{◌≡◌, ℕ, ◌<◌, ◌≤◌, ◌^◌, lit<,
 use Rattle.std.proofs.lemmas.Nat.{from_be_bytes-to_be_bytes_8}
 use Rattle.rpc_msgs.specs.Words.{opaque}
 use Rattle.rpc_msgs.specs.Xdr.{opaque_at}
-use Rattle.rpc_msgs.specs.Calls.{CallValue, secure_call, call_at}
+use Rattle.rpc_msgs.specs.Calls.{CallValue, secure_call, call_octets, call_at}
 use Rattle.rpc_msgs.proofs.CallLaws.{call-only}
 use Rattle.rpc_msgs.proofs.WordLengths.{length-opaque}
 use Rattle.rpc_msgs.proofs.XdrLaws.{opaque_law}
@@ -15,10 +15,12 @@ use Rattle.accept_book.specs.RecordShown.{KeptAnswers, AskedStep, asking, Shown,
 use Rattle.accept_book.specs.RecordRule.{stepped, ask_step, record_ruling, call_ruling, creation_ruling}
 use Rattle.accept_book.specs.declared.book_answer.Negotiated.{Negotiated}
 use Rattle.rpcsec_bodies.specs.declared.service.Service.{Service}
+use Rattle.gss_client.specs.declared.terms.Terms.{Terms}
 use Rattle.rpcsec_bodies.specs.declared.service.Service.TheVariants as services
 use Rattle.rpc_msgs.specs.declared.numbers.TheConstants.{PROGRAM, VERSION, NULL}
 use Rattle.rpcsec_bodies.specs.Service.{number_of}
 use Rattle.gss_client.specs.Calling.{creation_cred, creation_call}
+use Rattle.pair_laws.specs.HonestCalls.{IsToServer}
 use Rattle.gss_client.proofs.CallLengths.{cred-fits, call-fits}
 
 one-token : (token : List ℕ) → length token ≤ 65536 → one_opaque (opaque token) ≡ Ok token
@@ -47,12 +49,12 @@ abbrev pub IsId : Option ℕ → Type 0
 IsId None = Unit {0}
 IsId (Some id) = id < 2 ^ 64
 
-abbrev cred_of : Service → Option ℕ → CredValue
-cred_of service id = creation_cred service (proc_for id) (handle_for id)
+abbrev cred_of : Terms → Option ℕ → CredValue
+cred_of terms id = creation_cred terms (proc_for id) (handle_for id)
 
 -- the call that is heard
-abbrev pub creation_value : Service → ℕ → Option ℕ → List ℕ → CallValue
-creation_value service xid id token = secure_call xid PROGRAM VERSION NULL (cred_octets (cred_of service id)) (record { flavour = 0; body = [] }) (opaque token)
+abbrev pub creation_value : Terms → ℕ → Option ℕ → List ℕ → CallValue
+creation_value terms xid id token = secure_call xid PROGRAM VERSION NULL (cred_octets (cred_of terms id)) (record { flavour = 0; body = [] }) (opaque token)
 
 handle-length : (id : ℕ) → length (handle_of id) ≡ 8
 handle-length id = refl
@@ -61,37 +63,43 @@ handle-few : (id : Option ℕ) → length (handle_for id) ≤ 64
 handle-few None = lit≤ tt
 handle-few (Some id) = omega (arith, handle-length id)
 
-short-cred : (service : Service) (id : Option ℕ) → length (cred_octets (cred_of service id)) ≤ 400
-short-cred service id = cred-fits (cred_of service id) (handle-few id)
+short-cred : (terms : Terms) (id : Option ℕ) → length (cred_octets (cred_of terms id)) ≤ 400
+short-cred terms id = cred-fits (cred_of terms id) (handle-few id)
 
-reads : (service : Service) (xid : ℕ) (id : Option ℕ) (token : List ℕ) → xid < 2 ^ 32 → call_at (creation_call service xid (proc_for id) (handle_for id) token) ≡ Ok (creation_value service xid id token)
+-- the call of the server's program
+spelled : (terms : Terms) (xid : ℕ) (id : Option ℕ) (token : List ℕ) → IsToServer terms → creation_call terms xid (proc_for id) (handle_for id) token ≡ call_octets (creation_value terms xid id token)
 unfolding creation_call
-reads service xid id token fits = call-only (creation_value service xid id token) (record {
+spelled terms xid id token called =
+    ap (λ (program : ℕ). call_octets (secure_call xid program terms.version NULL (cred_octets (cred_of terms id)) (record { flavour = 0; body = [] }) (opaque token))) called.program
+    ∙ ap (λ (version : ℕ). call_octets (secure_call xid PROGRAM version NULL (cred_octets (cred_of terms id)) (record { flavour = 0; body = [] }) (opaque token))) called.version
+
+reads : (terms : Terms) (xid : ℕ) (id : Option ℕ) (token : List ℕ) → IsToServer terms → xid < 2 ^ 32 → call_at (creation_call terms xid (proc_for id) (handle_for id) token) ≡ Ok (creation_value terms xid id token)
+reads terms xid id token called fits = ap call_at (spelled terms xid id token called) ∙ call-only (creation_value terms xid id token) (record {
   xid = fits;
   program = lit< tt;
   version = lit< tt;
   procedure = lit< tt;
-  cred = record { flavour = lit< tt; body = short-cred service id };
+  cred = record { flavour = lit< tt; body = short-cred terms id };
   verf = record { flavour = lit< tt; body = lit≤ tt };
   header = refl;
 })
 
-cred-is : (service : Service) (id : Option ℕ) → cred_at (cred_octets (cred_of service id)) ≡ Ok (cred_of service id)
-cred-is service None = cred-only (creation_cred service 1 []) (record { proc = lit≤ tt; seq = lit< tt; service = few-services service; served = refl; context = lit≤ tt })
-cred-is service (Some id) = cred-only (creation_cred service 2 (handle_of id)) (record { proc = lit≤ tt; seq = lit< tt; service = few-services service; served = refl; context = omega (arith, handle-length id) })
+cred-is : (terms : Terms) (id : Option ℕ) → cred_at (cred_octets (cred_of terms id)) ≡ Ok (cred_of terms id)
+cred-is terms None = cred-only (creation_cred terms 1 []) (record { proc = lit≤ tt; seq = lit< tt; service = few-services terms.service; served = refl; context = lit≤ tt })
+cred-is terms (Some id) = cred-only (creation_cred terms 2 (handle_of id)) (record { proc = lit≤ tt; seq = lit< tt; service = few-services terms.service; served = refl; context = omega (arith, handle-length id) })
 
-abbrev pub creation_shown : Service → ℕ → Option ℕ → List ℕ → KeptAnswers → ℕ → Shown
-creation_shown service xid id token kept width = record { record_octets = creation_call service xid (proc_for id) (handle_for id) token; call = creation_value service xid id token; now = kept.now; draws = kept.draws; width = width }
+abbrev pub creation_shown : Terms → ℕ → Option ℕ → List ℕ → KeptAnswers → ℕ → Shown
+creation_shown terms xid id token kept width = record { record_octets = creation_call terms xid (proc_for id) (handle_for id) token; call = creation_value terms xid id token; now = kept.now; draws = kept.draws; width = width }
 
 id-again : (id : ℕ) → id < 2 ^ 64 → handle_id (handle_of id) ≡ Some id
 id-again id h = ap Some (from_be_bytes-to_be_bytes_8 id h)
 
 -- the record asks for the step
-pub asks : (service : Service) (xid : ℕ) (id : Option ℕ) (token : List ℕ) (kept : KeptAnswers) (width : ℕ) → xid < 2 ^ 32 → IsId id → length token ≤ 65536
-    → record_ruling (creation_call service xid (proc_for id) (handle_for id) token) kept width ≡ ask_step (creation_shown service xid id token kept width) id token kept.negotiated
+pub asks : (terms : Terms) (xid : ℕ) (id : Option ℕ) (token : List ℕ) (kept : KeptAnswers) (width : ℕ) → IsToServer terms → xid < 2 ^ 32 → IsId id → length token ≤ 65536
+    → record_ruling (creation_call terms xid (proc_for id) (handle_for id) token) kept width ≡ ask_step (creation_shown terms xid id token kept width) id token kept.negotiated
 unfolding record_ruling call_ruling creation_ruling
-asks service xid None token kept width fits is few = rw (reads service xid None token fits) (rw (cred-is service None) (rw (one-token token few) refl))
-asks service xid (Some id) token kept width fits is few = rw (reads service xid (Some id) token fits) (rw (cred-is service (Some id)) (rw (one-token token few, id-again id is) refl))
+asks terms xid None token kept width called fits is few = rw (reads terms xid None token called fits) (rw (cred-is terms None) (rw (one-token token few) refl))
+asks terms xid (Some id) token kept width called fits is few = rw (reads terms xid (Some id) token called fits) (rw (cred-is terms (Some id)) (rw (one-token token few, id-again id is) refl))
 
 -- the one question of a record, and its answer
 pub record IsAsked (id : Option ℕ) (token : List ℕ) (kept : KeptAnswers) (other : Option ℕ) (others : List ℕ) (answer : Negotiated) (ruling : Ruling) (s : Shown) : Type 0 where
@@ -113,18 +121,18 @@ was-asked s id other token others kept (Some found) answer e asked =
       ruled = ap (λ (n : Negotiated). asking (AskedStep id token s.now (take 66 s.draws) n) (stepped s n.answer)) same;
     }
 
-pub asked-step : (service : Service) (xid : ℕ) (id other : Option ℕ) (token others : List ℕ) (kept : KeptAnswers) (width : ℕ) (answer : Negotiated) → xid < 2 ^ 32 → IsId id → length token ≤ 65536
-    → (record_ruling (creation_call service xid (proc_for id) (handle_for id) token) kept width).asked ≡ AskedStep other others kept.now (take 66 kept.draws) answer ∷ []
-    → IsAsked id token kept other others answer (record_ruling (creation_call service xid (proc_for id) (handle_for id) token) kept width) (creation_shown service xid id token kept width)
-asked-step service xid id other token others kept width answer fits is few asked =
-    let a = asks service xid id token kept width fits is few in
-    let w = was-asked (creation_shown service xid id token kept width) id other token others kept kept.negotiated answer refl (sym (ap (λ (r : Ruling). r.asked) a) ∙ asked) in
+pub asked-step : (terms : Terms) (xid : ℕ) (id other : Option ℕ) (token others : List ℕ) (kept : KeptAnswers) (width : ℕ) (answer : Negotiated) → IsToServer terms → xid < 2 ^ 32 → IsId id → length token ≤ 65536
+    → (record_ruling (creation_call terms xid (proc_for id) (handle_for id) token) kept width).asked ≡ AskedStep other others kept.now (take 66 kept.draws) answer ∷ []
+    → IsAsked id token kept other others answer (record_ruling (creation_call terms xid (proc_for id) (handle_for id) token) kept width) (creation_shown terms xid id token kept width)
+asked-step terms xid id other token others kept width answer called fits is few asked =
+    let a = asks terms xid id token kept width called fits is few in
+    let w = was-asked (creation_shown terms xid id token kept width) id other token others kept kept.negotiated answer refl (sym (ap (λ (r : Ruling). r.asked) a) ∙ asked) in
     record { id_is = w.id_is; token_is = w.token_is; is_kept = w.is_kept; ruled = a ∙ w.ruled }
 
 opaque-fits : (token : List ℕ) → length token ≤ 65536 → length (opaque token) ≤ 130000
 opaque-fits token few = omega (arith, length-opaque token)
 
 -- it fits into a record
-pub creation-fits : (service : Service) (xid : ℕ) (id : Option ℕ) (token : List ℕ) → length token ≤ 65536 → length (creation_call service xid (proc_for id) (handle_for id) token) ≤ 131072
+pub creation-fits : (terms : Terms) (xid : ℕ) (id : Option ℕ) (token : List ℕ) → length token ≤ 65536 → length (creation_call terms xid (proc_for id) (handle_for id) token) ≤ 131072
 unfolding creation_call
-creation-fits service xid id token few = call-fits xid PROGRAM VERSION NULL (cred_octets (cred_of service id)) (record { flavour = 0; body = [] }) (opaque token) (short-cred service id) (lit≤ tt) (opaque-fits token few)
+creation-fits terms xid id token few = call-fits xid terms.program terms.version NULL (cred_octets (cred_of terms id)) (record { flavour = 0; body = [] }) (opaque token) (short-cred terms id) (lit≤ tt) (opaque-fits token few)

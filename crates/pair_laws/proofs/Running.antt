@@ -11,17 +11,16 @@ use Rattle.accept_book.specs.Served.{result_of}
 use Rattle.accept_core.specs.History.{posts}
 use Rattle.accept_book.specs.declared.book_answer.Lease.{Lease}
 use Rattle.gss_client.specs.declared.conversation.Parting.TheVariants.{Spent, Foreign}
-use Rattle.gss_client.specs.declared.procedure.Procedure.{Procedure}
+use Rattle.gss_client.specs.Query.{QuerySays}
 use Rattle.gss_client.specs.declared.refusal.ClientRefusal.{ClientRefusal}
 use Rattle.gss_client.specs.Start.{StartSays}
-use Rattle.rpcsec_bodies.specs.declared.service.Service.{Service}
+use Rattle.gss_client.specs.declared.terms.Terms.{Terms}
 use Rattle.gss_client.specs.Conversation.{Conversed, conversed, behind, leaves, goes_on, converses, talk, talk_by, by_session, by_creation}
-use Rattle.gss_client.specs.Procedure.{procedure_number, is_result}
 use Rattle.gss_client.specs.Session.{SessionState}
 use Rattle.gss_client.specs.Talk.{created_from, calls, destroys}
 use Rattle.gss_client.specs.Talking.{Said}
 use Rattle.pair_laws.specs.Booked.{id_in}
-use Rattle.pair_laws.specs.Conferring.{DueCall, confers, by_opening, talk_of, talk_behind}
+use Rattle.gss_client.specs.Conferring.{DueCall, confers, by_opening, talk_of, talk_behind}
 use Rattle.pair_laws.specs.Honest.{HonestExchange}
 use Rattle.pair_laws.specs.HonestCalls.{session_on}
 use Rattle.pair_laws.specs.Laws.{Completes}
@@ -33,36 +32,36 @@ use Rattle.pair_laws.proofs.Sessions.{session-runs}
 
 -- ---- the talk
 
-same-next : (procedure : Procedure) (written undrawn rest : List ℕ) (one other : SessionState → List ℕ → List ℕ → Conversed) (answer : Result (SessionState × List ℕ) ClientRefusal) → ((s : SessionState) (draws stream : List ℕ) → one s draws stream ≡ other s draws stream)
-    → goes_on procedure written undrawn rest one answer ≡ goes_on procedure written undrawn rest other answer
-same-next procedure written undrawn rest one other (Ok called) h = ap (λ (c : Conversed). if is_result procedure called.1 then behind written (called.1 ∷ []) c else conversed written [] Foreign undrawn rest) (h called.0 undrawn rest)
-same-next procedure written undrawn rest one other (Err refusal) h = refl
+same-next : (query : QuerySays) (written undrawn rest : List ℕ) (one other : SessionState → List ℕ → List ℕ → Conversed) (answer : Result (SessionState × List ℕ) ClientRefusal) → ((s : SessionState) (draws stream : List ℕ) → one s draws stream ≡ other s draws stream)
+    → goes_on query written undrawn rest one answer ≡ goes_on query written undrawn rest other answer
+same-next query written undrawn rest one other (Ok called) h = ap (λ (c : Conversed). if query.is_result called.1 then behind written (called.1 ∷ []) c else conversed written [] Foreign undrawn rest) (h called.0 undrawn rest)
+same-next query written undrawn rest one other (Err refusal) h = refl
 
-pub equal-calls : (times : ℕ) (call : DueCall) (s : SessionState) (draws stream : List ℕ) → converses times call.procedure call.args s draws stream ≡ confers (replicate times call) s draws stream
+pub equal-calls : (times : ℕ) (call : DueCall) (s : SessionState) (draws stream : List ℕ) → converses times call.query call.args s draws stream ≡ confers (replicate times call) s draws stream
 unfolding converses confers
 equal-calls zero call s draws stream = refl
 equal-calls (suc left) call s draws stream =
-    let part : Said (SessionState × List ℕ) = calls s (procedure_number call.procedure) call.args (take 16 draws) stream in
+    let part : Said (SessionState × List ℕ) = calls s call.query.number call.args (take 16 draws) stream in
     ap (λ (c : Conversed). if s.number == 0x80000000 then leaves Spent draws (destroys s stream) else c)
-    (same-next call.procedure part.written (drop 16 draws) part.rest (converses left call.procedure call.args) (confers (replicate left call)) part.answer (equal-calls left call))
+    (same-next call.query part.written (drop 16 draws) part.rest (converses left call.query call.args) (confers (replicate left call)) part.answer (equal-calls left call))
 
-same-opening : (times : ℕ) (call : DueCall) (draws written rest : List ℕ) (answer : Result SessionState ClientRefusal) → by_creation times call.procedure call.args draws written rest answer ≡ by_opening (replicate times call) draws written rest answer
+same-opening : (times : ℕ) (call : DueCall) (draws written rest : List ℕ) (answer : Result SessionState ClientRefusal) → by_creation times call.query call.args draws written rest answer ≡ by_opening (replicate times call) draws written rest answer
 same-opening times call draws written rest (Ok s) = ap (λ (c : Conversed). by_session written (Some s.outcome) c) (equal-calls times call s draws rest)
 same-opening times call draws written rest (Err refusal) = refl
 
-pub equal-session : (start : StartSays) (times : ℕ) (call : DueCall) (draws stream : List ℕ) → talk start times call.procedure call.args draws stream ≡ talk_of start (replicate times call) draws stream
+pub equal-session : (start : StartSays) (times : ℕ) (call : DueCall) (draws stream : List ℕ) → talk start times call.query call.args draws stream ≡ talk_of start (replicate times call) draws stream
 unfolding talk_by talk_behind
 equal-session start times call draws stream =
     let made : Said SessionState = created_from start stream in same-opening times call draws made.written made.rest made.answer
 
 -- ---- what comes of it
 
-same-results : (made : ℕ) (call : DueCall) (name : List ℕ) (turns : List Turn) → results_in (replicate made call) name turns ≡ results_of made (procedure_number call.procedure) call.args name turns
+same-results : (made : ℕ) (call : DueCall) (name : List ℕ) (turns : List Turn) → results_in (replicate made call) name turns ≡ results_of made call.query.number call.args name turns
 same-results zero call name turns = refl
 same-results (suc made) call name [] = refl
-same-results (suc made) call name (turn ∷ turns) = ap (λ (rs : List (List ℕ)). result_of (procedure_number call.procedure) call.args name (posts turn.after.core.history) ∷ rs) (same-results made call name turns)
+same-results (suc made) call name (turn ∷ turns) = ap (λ (rs : List (List ℕ)). result_of call.query.number call.args name (posts turn.after.core.history) ∷ rs) (same-results made call name turns)
 
-same-logged : (width : ℕ) (lease : Lease) (made : ℕ) (call : DueCall) (number : ℕ) (turns : List Turn) → AreLogged width lease (replicate made call) number turns → Logged width lease (procedure_number call.procedure) call.args made number turns
+same-logged : (width : ℕ) (lease : Lease) (made : ℕ) (call : DueCall) (number : ℕ) (turns : List Turn) → AreLogged width lease (replicate made call) number turns → Logged width lease call.query.number call.args made number turns
 same-logged width lease zero call number [] a = a
 same-logged width lease zero call number (last ∷ []) a = a
 same-logged width lease zero call number (turn ∷ next ∷ turns) a = a
@@ -73,27 +72,28 @@ same-made : (first times : ℕ) (call : DueCall) → made_of first (replicate ti
 same-made first times call =
     ap (λ (n : ℕ). take (calls_made first n) (replicate times call)) (length-replicate times call) ∙ take-replicate (calls_made first times) times call (few-made first times)
 
-every : (service : Service) (times : ℕ) (call : DueCall) → IsProper service call → AllByRecursion (IsProper service) (replicate times call)
-every service zero call own = tt
-every service (suc left) call own = (own, every service left call own)
+every : (terms : Terms) (times : ℕ) (call : DueCall) → IsProper terms call → AllByRecursion (IsProper terms) (replicate times call)
+every terms zero call own = tt
+every terms (suc left) call own = (own, every terms left call own)
 
-pub runs : (keys keys' : SealKeys) (setup : AcceptSetup) (width : ℕ) (start : StartSays) (stream : List ℕ) (x : HonestExchange setup width start stream) (c : Completes setup width start stream x) (times : ℕ) (procedure : Procedure) (args draws : List ℕ) → ForSealing keys c.outcome.key 22 → ForSealing keys' c.outcome.key 24
-    → (r : HonestRun setup width start stream x c times procedure args draws) → Runs setup width start stream x c times procedure args draws r
-runs keys keys' setup width start stream x c times procedure args draws for for' r =
-    let call : DueCall = record { procedure = procedure; args = args } in
+pub runs : (keys keys' : SealKeys) (setup : AcceptSetup) (width : ℕ) (start : StartSays) (stream : List ℕ) (x : HonestExchange setup width start stream) (c : Completes setup width start stream x) (times : ℕ) (query : QuerySays) (args draws : List ℕ) → ForSealing keys c.outcome.key 22 → ForSealing keys' c.outcome.key 24
+    → (r : HonestRun setup width start stream x c times query args draws) → Runs setup width start stream x c times query args draws r
+runs keys keys' setup width start stream x c times query args draws for for' r =
+    let call : DueCall = record { query = query; args = args } in
     let due : List DueCall = replicate times call in
     let count : length due ≡ times = length-replicate times call in
     let lease : Lease = lease_on (id_in x.books) c.outcome c.lasts in
     let h : HonestSession setup width start stream x c due draws = record {
       turns = r.turns;
       rest = r.rest;
-      written = sym (ap (λ (v : Conversed). v.written) (equal-calls times call (session_on lease start.service start.first (1 + length x.answers)) draws x.converses.rest)) ∙ r.written;
+      written = sym (ap (λ (v : Conversed). v.written) (equal-calls times call (session_on lease start.terms start.first (1 + length x.answers)) draws x.converses.rest)) ∙ r.written;
       heard = r.heard;
       served = r.served;
       unused = r.unused;
       planned = record {
+        called = x.called;
         first_fits = r.plan.first_fits;
-        each = every start.service times call (record { proper = r.plan.proper; protected = r.plan.protected; size = r.plan.size; octets = r.plan.args_octets });
+        each = every start.terms times call (record { asked = r.plan.asked; proper = r.plan.proper; protected = r.plan.protected; size = r.plan.size; octets = r.plan.args_octets });
         octets = r.plan.octets;
         enough = subst (λ (n : ℕ). 16 * n ≤ length draws) (sym count) r.enough;
       };

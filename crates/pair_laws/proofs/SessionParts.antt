@@ -1,6 +1,6 @@
 -- The parts of a session's run: how long its calls and results are, how many calls it makes, and what is written first.
 use Rattle.std.proofs.Common.{◌≡◌, ℕ, zero, suc, ◌+◌, ◌*◌, ◌<◌, ◌≤◌, ◌^◌, ◌/◌, lit<, Bool, true, false, refl, ap, sym, subst, ◌∙◌, arith, nat_le, List, [], ◌∷◌, ◌++◌, length, replicate, Option, Result, Ok, Err, append_assoc}
-use Rattle.std.specs.Prelude.{◌==◌}
+use Rattle.std.specs.Prelude.{◌==◌, if◌then◌else◌}
 use Rattle.std.specs.Int.{byte_at, bytes_high_first}
 use Rattle.std.specs.List.{flat_map}
 use Rattle.std.specs.Str.{is_utf8}
@@ -23,7 +23,7 @@ use Rattle.spnego_core.specs.declared.accept_end.AcceptEnd.{AcceptEnd}
 use Rattle.spnego_core.specs.declared.outcome.Outcome.{Outcome}
 use Rattle.accept_book.specs.Booking.{BookOf}
 use Rattle.accept_core.specs.History.{numbers}
-use Rattle.accept_book.specs.Honest.{IsOctets, data_header}
+use Rattle.accept_book.specs.Honest.{IsOctets}
 use Rattle.accept_core.specs.Replays.{Accepting}
 use Rattle.accept_book.specs.Served.{are_args, result_of}
 use Rattle.accept_book.specs.declared.book_answer.Lease.{Lease}
@@ -33,10 +33,12 @@ use Rattle.gss_client.specs.declared.procedure.Procedure.TheVariants as procedur
 use Rattle.gss_client.specs.declared.refusal.ClientRefusal.{ClientRefusal}
 use Rattle.rpcsec_bodies.specs.declared.service.Service.{Service}
 use Rattle.rpcsec_bodies.specs.Service.{number_of}
-use Rattle.gss_client.specs.Calling.{own_end, body_of, data_call, destroy_call}
+use Rattle.gss_client.specs.Calling.{own_end, header_of, verifier_of, signed_call, body_of, data_call, destroy_call}
 use Rattle.gss_client.specs.Conversation.{Conversed, goes_on}
 use Rattle.gss_client.specs.Judging.{result_taken, destroyed_in}
-use Rattle.gss_client.specs.Procedure.{procedure_number, opaque_alone, is_result}
+use Rattle.gss_client.specs.Procedure.{procedure_number, opaque_alone, is_result, query_of}
+use Rattle.gss_client.specs.Query.{QuerySays}
+use Rattle.gss_client.specs.declared.terms.Terms.{Terms}
 use Rattle.gss_client.specs.Session.{SessionState}
 use Rattle.gss_client.specs.Talk.{calls, destroys}
 use Rattle.gss_client.specs.Talking.{judges, exchanges}
@@ -45,8 +47,8 @@ use Rattle.rpcsec_bodies.proofs.Lengths.{mic-size, protected-fits}
 use Rattle.krb_tokens.specs.Mic.{mic_of}
 use Rattle.pair_laws.specs.HonestCalls.{session_on}
 use Rattle.pair_laws.specs.Live.{IsWhole, IsLiveAt}
-use Rattle.pair_laws.specs.Running.{Turn, sent_in, IsUntouched, calls_made, parting_of}
-use Rattle.pair_laws.proofs.Answered.{is-made, handle-length}
+use Rattle.pair_laws.specs.Running.{Turn, sent_in, IsUntouched, IsServersQuery, calls_made, parting_of}
+use Rattle.pair_laws.proofs.Answered.{handle-length}
 use Rattle.pair_laws.proofs.Completing.{framed-some, same-record, octets_heard, same-behind}
 use Rattle.pair_laws.proofs.Creating.{goes-front, exchange-front}
 
@@ -69,12 +71,14 @@ unfolding opaque
 opaque-octets xs h =
     append-IsOctets (word (length xs)) (xs ++ replicate (padding_length (length xs)) 0) (word-octets (length xs)) (append-IsOctets xs (replicate (padding_length (length xs)) 0) h (replicate-IsOctets (padding_length (length xs))))
 
-pub result-octets : (procedure : Procedure) (args name : List ℕ) (count : ℕ) → IsOctets args → IsOctets name → IsOctets (result_of (procedure_number procedure) args name count)
-result-octets procedures.Null args name count h k = octets_nil
-result-octets procedures.Echo args name count h k = h
-result-octets procedures.Whoami args name count h k = opaque-octets name k
-result-octets procedures.Post args name count h k = word-octets count
-result-octets procedures.Count args name count h k = word-octets count
+pub result-octets : (procedure : ℕ) (args name : List ℕ) (count : ℕ) → IsOctets args → IsOctets name → IsOctets (result_of procedure args name count)
+result-octets procedure args name count h k = chosen (procedure == 0) (procedure == 1) (procedure == 2)
+  where
+    chosen : (null echo whoami : Bool) → IsOctets (if null then [] else if echo then args else if whoami then opaque name else word count)
+    chosen true echo whoami = octets_nil
+    chosen false true whoami = h
+    chosen false false true = opaque-octets name k
+    chosen false false false = word-octets count
 
 -- ---- results
 
@@ -100,6 +104,13 @@ low procedures.Echo = omega arith
 low procedures.Whoami = omega arith
 low procedures.Post = omega arith
 low procedures.Count = omega arith
+
+-- what the five procedures ask is the server's
+pub own-query : (procedure : Procedure) → IsServersQuery (query_of procedure)
+own-query procedure = record {
+  served = low procedure;
+  takes = λ args name count h named. result-fits procedure args name count h named.size named.text;
+}
 
 -- ---- how many calls
 
@@ -149,15 +160,15 @@ body-call : (s : SessionState) (args confounder : List ℕ) (service : Service) 
 body-call s args confounder service few block = protected-fits (own_end s) service s.number confounder args few block
 
 pub data-size : (s : SessionState) (procedure : ℕ) (args confounder : List ℕ) → length s.handle ≤ 64 → length args ≤ 65540 → length confounder ≡ 16 → length (data_call s procedure args confounder) ≤ 131072
+unfolding data_call signed_call verifier_of header_of
 data-size s procedure args confounder handle few block =
-    let cred : CredValue = record { proc = 0; seq = s.number; service = number_of s.service; context = s.handle } in
-    let front : List ℕ = data_header s.xid procedure cred in
-    rw (is-made s procedure args confounder)
-    (call-fits s.xid 0x20004753 1 procedure (cred_octets cred) (record { flavour = 6; body = mic_of (own_end s) (2 * s.number) front }) (body_of s args confounder s.service) (cred-fits cred handle) (omega (arith, mic-size (own_end s) (2 * s.number) front))
-    (body-call s args confounder s.service few block))
+    let cred : CredValue = record { proc = 0; seq = s.number; service = number_of s.terms.service; context = s.handle } in
+    let front : List ℕ = header_of s 0 (number_of s.terms.service) procedure in
+    call-fits s.xid s.terms.program s.terms.version procedure (cred_octets cred) (record { flavour = 6; body = mic_of (own_end s) (2 * s.number) front }) (body_of s args confounder s.terms.service) (cred-fits cred handle) (omega (arith, mic-size (own_end s) (2 * s.number) front))
+    (body-call s args confounder s.terms.service few block)
 
-pub data-fits : (lease : Lease) (service : Service) (number xid procedure : ℕ) (args confounder : List ℕ) → length args ≤ 65540 → length confounder ≡ 16 → length (data_call (session_on lease service number xid) procedure args confounder) ≤ 131072
-data-fits lease service number xid procedure args confounder few block = data-size (session_on lease service number xid) procedure args confounder (omega (arith, handle-length lease.id)) few block
+pub data-fits : (lease : Lease) (terms : Terms) (number xid procedure : ℕ) (args confounder : List ℕ) → length args ≤ 65540 → length confounder ≡ 16 → length (data_call (session_on lease terms number xid) procedure args confounder) ≤ 131072
+data-fits lease terms number xid procedure args confounder few block = data-size (session_on lease terms number xid) procedure args confounder (omega (arith, handle-length lease.id)) few block
 
 -- ---- what is written first
 
@@ -178,14 +189,14 @@ unfolding destroys
 destroys-first s stream =
     let call : List ℕ = destroy_call s in
     let f = exchange-front call stream in
-    let g = goes-front (last_fragment call) (exchanges call stream).written (exchanges call stream).rest (λ octets. judges (destroyed_in s.outcome s.service s.number s.xid octets)) (exchanges call stream).answer f.more f.same in
+    let g = goes-front (last_fragment call) (exchanges call stream).written (exchanges call stream).rest (λ octets. judges (destroyed_in s.outcome s.terms.service s.number s.xid octets)) (exchanges call stream).answer f.more f.same in
     record { more = g.more; same = g.same }
 
-pub on-first : (procedure : Procedure) (front written undrawn rest : List ℕ) (next : SessionState → List ℕ → List ℕ → Conversed) (answer : Result (SessionState × List ℕ) ClientRefusal) → Begins front written → Begins front (goes_on procedure written undrawn rest next answer).written
-on-first procedure front written undrawn rest next (Err refusal) b = record { more = b.more; same = b.same }
-on-first procedure front written undrawn rest next (Ok called) b = by-cases (is_result procedure called.1) refl
+pub on-first : (query : QuerySays) (front written undrawn rest : List ℕ) (next : SessionState → List ℕ → List ℕ → Conversed) (answer : Result (SessionState × List ℕ) ClientRefusal) → Begins front written → Begins front (goes_on query written undrawn rest next answer).written
+on-first query front written undrawn rest next (Err refusal) b = record { more = b.more; same = b.same }
+on-first query front written undrawn rest next (Ok called) b = by-cases (query.is_result called.1) refl
   where
-    by-cases : (fits : Bool) → is_result procedure called.1 ≡ fits → Begins front (goes_on procedure written undrawn rest next (Ok called)).written
+    by-cases : (fits : Bool) → query.is_result called.1 ≡ fits → Begins front (goes_on query written undrawn rest next (Ok called)).written
     by-cases true e =
         rw e (record { more = b.more ++ (next called.0 undrawn rest).written; same = ap (λ (zs : List ℕ). zs ++ (next called.0 undrawn rest).written) b.same ∙ append_assoc front b.more (next called.0 undrawn rest).written })
     by-cases false e = rw e (record { more = b.more; same = b.same })

@@ -26,19 +26,18 @@ use Rattle.accept_core.specs.declared.entry.EndCause.TheVariants.{Destroyed}
 use Rattle.accept_book.proofs.HonestRecords.{honest-ruled}
 use Rattle.gss_client.specs.declared.conversation.Parting.{Parting}
 use Rattle.gss_client.specs.declared.conversation.Parting.TheVariants.{Finished, Spent}
-use Rattle.gss_client.specs.declared.procedure.Procedure.{Procedure}
+use Rattle.gss_client.specs.Query.{QuerySays}
 use Rattle.gss_client.specs.Start.{StartSays}
-use Rattle.rpcsec_bodies.specs.declared.service.Service.{Service}
+use Rattle.gss_client.specs.declared.terms.Terms.{Terms}
 use Rattle.gss_client.specs.Calling.{data_call, destroy_call}
 use Rattle.gss_client.specs.Conversation.{Conversed, conversed, behind, leaves, goes_on}
-use Rattle.gss_client.specs.Procedure.{procedure_number, is_result}
 use Rattle.gss_client.specs.Session.{SessionState, xid_after}
 use Rattle.gss_client.specs.Talk.{calls, destroys}
 use Rattle.gss_client.specs.Talking.{Said, said}
 use Rattle.gss_server.specs.Connections.{framed}
 use Rattle.pair_laws.specs.Booked.{id_in}
 use Rattle.pair_laws.specs.Honest.{HonestExchange}
-use Rattle.pair_laws.specs.HonestCalls.{session_on, HonestCall, IsAdmitted}
+use Rattle.pair_laws.specs.HonestCalls.{IsToServer, session_on, HonestCall, IsAdmitted}
 use Rattle.pair_laws.specs.Ending.{HonestEnd, IsTaken}
 use Rattle.pair_laws.specs.Laws.{Completes}
 use Rattle.pair_laws.specs.Live.{lease_on, IsWhole}
@@ -49,9 +48,9 @@ use Rattle.pair_laws.proofs.CallTurns.{call-turn}
 use Rattle.pair_laws.proofs.Completing.{framed-some, same-behind, few-answers}
 use Rattle.pair_laws.proofs.Ended.{ended, end-turn, end-fits}
 use Rattle.accept_book.specs.Booking.{NotesMoment}
-use Rattle.pair_laws.specs.Conferring.{DueCall, confers, by_opening, talk_behind}
+use Rattle.gss_client.specs.Conferring.{DueCall, confers, by_opening, talk_behind}
 use Rattle.pair_laws.specs.Sessions.{IsProper, ArePlanned, HonestSession, made_of, results_in, AreLogged, SessionRuns}
-use Rattle.pair_laws.proofs.SessionParts.{word-octets, result-octets, result-fits, low, below-spent, is-spent, none-made, none-due, spent-made, spent-due, more-made, more-due, data-fits, calls-first, destroys-first, on-first, first-is, none-left, live-before}
+use Rattle.pair_laws.proofs.SessionParts.{word-octets, result-octets, below-spent, is-spent, none-made, none-due, spent-made, spent-due, more-made, more-due, data-fits, calls-first, destroys-first, on-first, first-is, none-left, live-before}
 
 -- ---- whose turns they are
 
@@ -66,35 +65,35 @@ WereTurns lease [] number [] = ⊥
 WereTurns lease [] number (last ∷ []) = IsEndTurn last.before last.after lease number last.kept
 WereTurns lease [] number (turn ∷ next ∷ turns) = ⊥
 WereTurns lease (call ∷ later) number [] = ⊥
-WereTurns lease (call ∷ later) number (turn ∷ turns) = IsCallTurn turn.before turn.after lease number (procedure_number call.procedure) call.args turn.kept × WereTurns lease later (number + 1) turns
+WereTurns lease (call ∷ later) number (turn ∷ turns) = IsCallTurn turn.before turn.after lease number call.query.number call.args turn.kept × WereTurns lease later (number + 1) turns
 
 -- ---- the destruction
 
-record Leaving (width : ℕ) (lease : Lease) (service : Service) (number xid : ℕ) (parting : Parting) (draws stream : List ℕ) (core : Accepting AcceptEnd Outcome) (turns : List Turn) (rest : List ℕ) : Type 0 where
-  talked : leaves parting draws (destroys (session_on lease service number xid) stream) ≡ conversed (flat_map sent_in turns) [] parting draws rest
+record Leaving (width : ℕ) (lease : Lease) (terms : Terms) (number xid : ℕ) (parting : Parting) (draws stream : List ℕ) (core : Accepting AcceptEnd Outcome) (turns : List Turn) (rest : List ℕ) : Type 0 where
+  talked : leaves parting draws (destroys (session_on lease terms number xid) stream) ≡ conversed (flat_map sent_in turns) [] parting draws rest
   logged : AreLogged width lease [] number turns
   serves : Serves width lease core turns
   were : WereTurns lease [] number turns
 
-ends-on : (width : ℕ) (lease : Lease) (Word : ℕ → Accepting AcceptEnd Outcome → List Turn → Type 0) → Serving width lease Word → (service : Service) (left number xid : ℕ) (parting : Parting) (draws stream : List ℕ) (core : Accepting AcceptEnd Outcome) (turns : List Turn) (rest : List ℕ) → lease.id < 2 ^ 64 → number ≤ 0x80000000 → xid < 2 ^ 32
+ends-on : (width : ℕ) (lease : Lease) (Word : ℕ → Accepting AcceptEnd Outcome → List Turn → Type 0) → Serving width lease Word → (terms : Terms) (left number xid : ℕ) (parting : Parting) (draws stream : List ℕ) (core : Accepting AcceptEnd Outcome) (turns : List Turn) (rest : List ℕ) → IsToServer terms → lease.id < 2 ^ 64 → number ≤ 0x80000000 → xid < 2 ^ 32
     → Word left core turns → IsWhole core lease → greatest (numbers lease.id core.history) < number
-    → (destroys (session_on lease service number xid) stream).written ≡ flat_map sent_in turns → stream ≡ flat_map (heard_in width) turns ++ rest
-    → Leaving width lease service number xid parting draws stream core turns rest
-ends-on width lease Word k service left number xid parting draws stream core [] rest id fits xids w whole few written heard =
-    let f = destroys-first (session_on lease service number xid) stream in absurd (framed-some (destroy_call (session_on lease service number xid)) f.more (sym f.same ∙ written))
-ends-on width lease Word k service left number xid parting draws stream core (turn ∷ turns) rest id fits xids w whole few written heard =
-    let s : SessionState = session_on lease service number xid in
+    → (destroys (session_on lease terms number xid) stream).written ≡ flat_map sent_in turns → stream ≡ flat_map (heard_in width) turns ++ rest
+    → Leaving width lease terms number xid parting draws stream core turns rest
+ends-on width lease Word k terms left number xid parting draws stream core [] rest called id fits xids w whole few written heard =
+    let f = destroys-first (session_on lease terms number xid) stream in absurd (framed-some (destroy_call (session_on lease terms number xid)) f.more (sym f.same ∙ written))
+ends-on width lease Word k terms left number xid parting draws stream core (turn ∷ turns) rest called id fits xids w whole few written heard =
+    let s : SessionState = session_on lease terms number xid in
     let call : List ℕ = destroy_call s in
     let v = k.served left core turn turns w in
     let f = destroys-first s stream in
-    let is : turn.octets ≡ call = first-is turn.octets call (destroys s stream).written f.more (flat_map sent_in turns) v.within (end-fits lease service number xid) written f.same in
+    let is : turn.octets ≡ call = first-is turn.octets call (destroys s stream).written f.more (flat_map sent_in turns) v.within (end-fits lease terms number xid) written f.same in
     let by : IsAnsweredBy width lease.ends call turn.kept turn.before turn.after = subst (λ (o : List ℕ). IsAnsweredBy width lease.ends o turn.kept turn.before turn.after) is v.answered in
     let live = live-before core turn.before lease number whole few v.untouched v.wide in
     let h : HonestEnd lease number xid = record { id = id; number_fits = fits; xid_fits = xids } in
-    let e = end-turn lease service number xid turn.kept width turn.before turn.after h by live in
+    let e = end-turn lease terms number xid turn.kept width turn.before turn.after called h by live in
     let t : IsTaken lease turn.kept = record { looked = e.looked; receipt = receipt_of turn.before.core.history (Ended lease.id (Destroyed number)); ended = e.ended_is } in
     let back : List ℕ = flat_map (heard_in width) turns ++ rest in
-    let d = ended lease service number xid turn.kept width back h t in
+    let d = ended lease terms number xid turn.kept width back called h t in
     let stream_is : stream ≡ framed (record_ruling call turn.kept width).reply ++ back =
     heard ∙ (append_assoc (heard_in width turn) (flat_map (heard_in width) turns) rest ∙ ap (λ (o : List ℕ). framed (record_ruling o turn.kept width).reply ++ back) is) in
     let all : destroys s stream ≡ said (last_fragment call) (Ok tt) back = ap (λ (zs : List ℕ). destroys s zs) stream_is ∙ d.result in
@@ -111,28 +110,28 @@ ends-on width lease Word k service left number xid parting draws stream core (tu
 
 -- ---- the calls
 
-pub record Ran (width : ℕ) (lease : Lease) (service : Service) (due : List DueCall) (number xid : ℕ) (draws stream : List ℕ) (core : Accepting AcceptEnd Outcome) (turns : List Turn) (rest : List ℕ) : Type 0 where
+pub record Ran (width : ℕ) (lease : Lease) (terms : Terms) (due : List DueCall) (number xid : ℕ) (draws stream : List ℕ) (core : Accepting AcceptEnd Outcome) (turns : List Turn) (rest : List ℕ) : Type 0 where
   pub made : ℕ
   pub parting : Parting
   pub made_is : made ≡ calls_made number (length due)
   pub parting_is : parting ≡ parting_of number (length due)
-  pub talked : confers due (session_on lease service number xid) draws stream ≡ conversed (flat_map sent_in turns) (results_in (take made due) lease.outcome.initiator turns) parting (drop (16 * made) draws) rest
+  pub talked : confers due (session_on lease terms number xid) draws stream ≡ conversed (flat_map sent_in turns) (results_in (take made due) lease.outcome.initiator turns) parting (drop (16 * made) draws) rest
   pub logged : AreLogged width lease (take made due) number turns
   pub serves : Serves width lease core turns
   pub were : WereTurns lease (take made due) number turns
 
 -- these calls run, wherever they begin
-abbrev RunFrom : ℕ → Lease → Service → (ℕ → Accepting AcceptEnd Outcome → List Turn → Type 0) → List DueCall → Type 0
-RunFrom width lease service Word due =
-    (number xid : ℕ) (draws stream : List ℕ) (core : Accepting AcceptEnd Outcome) (turns : List Turn) (rest : List ℕ) → ArePlanned service number due draws → xid < 2 ^ 32
+abbrev RunFrom : ℕ → Lease → Terms → (ℕ → Accepting AcceptEnd Outcome → List Turn → Type 0) → List DueCall → Type 0
+RunFrom width lease terms Word due =
+    (number xid : ℕ) (draws stream : List ℕ) (core : Accepting AcceptEnd Outcome) (turns : List Turn) (rest : List ℕ) → ArePlanned terms number due draws → xid < 2 ^ 32
     → Word (length due) core turns → IsWhole core lease → greatest (numbers lease.id core.history) < number
-    → (confers due (session_on lease service number xid) draws stream).written ≡ flat_map sent_in turns → stream ≡ flat_map (heard_in width) turns ++ rest
-    → Ran width lease service due number xid draws stream core turns rest
+    → (confers due (session_on lease terms number xid) draws stream).written ≡ flat_map sent_in turns → stream ≡ flat_map (heard_in width) turns ++ rest
+    → Ran width lease terms due number xid draws stream core turns rest
 
-none-run : (width : ℕ) (lease : Lease) (Word : ℕ → Accepting AcceptEnd Outcome → List Turn → Type 0) → Serving width lease Word → (service : Service) → lease.id < 2 ^ 64 → RunFrom width lease service Word []
+none-run : (width : ℕ) (lease : Lease) (Word : ℕ → Accepting AcceptEnd Outcome → List Turn → Type 0) → Serving width lease Word → (terms : Terms) → lease.id < 2 ^ 64 → RunFrom width lease terms Word []
 unfolding confers
-none-run width lease Word k service id number xid draws stream core turns rest plan xids w whole few written heard =
-    let e = ends-on width lease Word k service zero number xid Finished draws stream core turns rest id plan.first_fits xids w whole few written heard in
+none-run width lease Word k terms id number xid draws stream core turns rest plan xids w whole few written heard =
+    let e = ends-on width lease Word k terms zero number xid Finished draws stream core turns rest plan.called id plan.first_fits xids w whole few written heard in
     record { made = zero; parting = Finished; made_is = none-made number plan.first_fits; parting_is = none-due number plan.first_fits; talked = e.talked; logged = e.logged; serves = e.serves; were = e.were }
 
 spent-is : (call : DueCall) (later : List DueCall) (s : SessionState) (draws stream : List ℕ) → (s.number == 0x80000000) ≡ true → confers (call ∷ later) s draws stream ≡ leaves Spent draws (destroys s stream)
@@ -141,32 +140,33 @@ spent-is call later s draws stream e = rw e refl
 
 call-is : (call : DueCall) (later : List DueCall) (s : SessionState) (draws stream : List ℕ) → (s.number == 0x80000000) ≡ false
     → confers (call ∷ later) s draws stream
-    ≡ goes_on call.procedure (calls s (procedure_number call.procedure) call.args (take 16 draws) stream).written (drop 16 draws) (calls s (procedure_number call.procedure) call.args (take 16 draws) stream).rest (confers later)
-    (calls s (procedure_number call.procedure) call.args (take 16 draws) stream).answer
+    ≡ goes_on call.query (calls s call.query.number call.args (take 16 draws) stream).written (drop 16 draws) (calls s call.query.number call.args (take 16 draws) stream).rest (confers later)
+    (calls s call.query.number call.args (take 16 draws) stream).answer
 unfolding confers
 call-is call later s draws stream e = rw e refl
 
-spent-run : (width : ℕ) (lease : Lease) (Word : ℕ → Accepting AcceptEnd Outcome → List Turn → Type 0) → Serving width lease Word → (service : Service) (call : DueCall) (later : List DueCall) → lease.id < 2 ^ 64 → (number xid : ℕ) (draws stream : List ℕ) (core : Accepting AcceptEnd Outcome) (turns : List Turn) (rest : List ℕ) → (number == 0x80000000) ≡ true → xid < 2 ^ 32
+spent-run : (width : ℕ) (lease : Lease) (Word : ℕ → Accepting AcceptEnd Outcome → List Turn → Type 0) → Serving width lease Word → (terms : Terms) (call : DueCall) (later : List DueCall) → lease.id < 2 ^ 64 → (number xid : ℕ) (draws stream : List ℕ) (core : Accepting AcceptEnd Outcome) (turns : List Turn) (rest : List ℕ) → IsToServer terms → (number == 0x80000000) ≡ true → xid < 2 ^ 32
     → Word (suc (length later)) core turns → IsWhole core lease → greatest (numbers lease.id core.history) < number
-    → (confers (call ∷ later) (session_on lease service number xid) draws stream).written ≡ flat_map sent_in turns → stream ≡ flat_map (heard_in width) turns ++ rest
-    → Ran width lease service (call ∷ later) number xid draws stream core turns rest
-spent-run width lease Word k service call later id number xid draws stream core turns rest spent xids w whole few written heard =
-    let s : SessionState = session_on lease service number xid in
+    → (confers (call ∷ later) (session_on lease terms number xid) draws stream).written ≡ flat_map sent_in turns → stream ≡ flat_map (heard_in width) turns ++ rest
+    → Ran width lease terms (call ∷ later) number xid draws stream core turns rest
+spent-run width lease Word k terms call later id number xid draws stream core turns rest called spent xids w whole few written heard =
+    let s : SessionState = session_on lease terms number xid in
     let n : number ≡ 0x80000000 = is-spent number spent in
     let is = spent-is call later s draws stream spent in
-    let e = ends-on width lease Word k service (suc (length later)) number xid Spent draws stream core turns rest id (omega (arith, n)) xids w whole few (sym (ap (λ (c : Conversed). c.written) is) ∙ written) heard in
+    let e = ends-on width lease Word k terms (suc (length later)) number xid Spent draws stream core turns rest called id (omega (arith, n)) xids w whole few (sym (ap (λ (c : Conversed). c.written) is) ∙ written) heard in
     record { made = zero; parting = Spent; made_is = spent-made number (length later) n; parting_is = spent-due number (length later) n; talked = is ∙ e.talked; logged = e.logged; serves = e.serves; were = e.were }
 
-honest-of : (lease : Lease) (service : Service) (number xid : ℕ) (call : DueCall) (later : List DueCall) (draws : List ℕ) → lease.id < 2 ^ 64 → number < 0x80000000 → xid < 2 ^ 32 → ArePlanned service number (call ∷ later) draws → length lease.outcome.initiator ≤ 255
-    → HonestCall lease service number xid (procedure_number call.procedure) call.args (take 16 draws)
-honest-of lease service number xid call later draws id less xids plan name =
-    let own : IsProper service call = plan.each.0 in
+honest-of : (lease : Lease) (terms : Terms) (number xid : ℕ) (call : DueCall) (later : List DueCall) (draws : List ℕ) → lease.id < 2 ^ 64 → number < 0x80000000 → xid < 2 ^ 32 → ArePlanned terms number (call ∷ later) draws → length lease.outcome.initiator ≤ 255
+    → HonestCall lease terms number xid call.query.number call.args (take 16 draws)
+honest-of lease terms number xid call later draws id less xids plan name =
+    let own : IsProper terms call = plan.each.0 in
     let enough : 16 * suc (length later) ≤ length draws = plan.enough in record {
+      called = plan.called;
       id = id;
       name = name;
       number_left = omega (arith, less);
       xid_fits = xids;
-      served = low call.procedure;
+      served = own.asked.served;
       proper = own.proper;
       protected = own.protected;
       size = own.size;
@@ -174,9 +174,10 @@ honest-of lease service number xid call later draws id less xids plan name =
       octets = append-IsOctets (take 16 draws) (word number ++ call.args) (take-IsOctets 16 draws plan.octets) (append-IsOctets (word number) call.args (word-octets number) own.octets);
     }
 
-plan-after : (service : Service) (number : ℕ) (call : DueCall) (later : List DueCall) (draws : List ℕ) → number < 0x80000000 → ArePlanned service number (call ∷ later) draws → ArePlanned service (number + 1) later (drop 16 draws)
-plan-after service number call later draws less plan =
+plan-after : (terms : Terms) (number : ℕ) (call : DueCall) (later : List DueCall) (draws : List ℕ) → number < 0x80000000 → ArePlanned terms number (call ∷ later) draws → ArePlanned terms (number + 1) later (drop 16 draws)
+plan-after terms number call later draws less plan =
     let enough : 16 * suc (length later) ≤ length draws = plan.enough in record {
+      called = plan.called;
       first_fits = omega (arith, less);
       each = plan.each.1;
       octets = drop-IsOctets 16 draws plan.octets;
@@ -184,37 +185,37 @@ plan-after service number call later draws less plan =
     }
 
 -- a call that was answered, and what follows it
-goes-on : (procedure : Procedure) (undrawn : List ℕ) (next : SessionState → List ℕ → List ℕ → Conversed) (part : Said (SessionState × List ℕ)) (front rest result : List ℕ) (s : SessionState) → part ≡ said front (Ok (s, result)) rest → is_result procedure result ≡ true
-    → goes_on procedure part.written undrawn part.rest next part.answer ≡ behind front (result ∷ []) (next s undrawn rest)
-goes-on procedure undrawn next part front rest result s e good = ap (λ (q : Said (SessionState × List ℕ)). goes_on procedure q.written undrawn q.rest next q.answer) e ∙ rw good refl
+goes-on : (query : QuerySays) (undrawn : List ℕ) (next : SessionState → List ℕ → List ℕ → Conversed) (part : Said (SessionState × List ℕ)) (front rest result : List ℕ) (s : SessionState) → part ≡ said front (Ok (s, result)) rest → query.is_result result ≡ true
+    → goes_on query part.written undrawn part.rest next part.answer ≡ behind front (result ∷ []) (next s undrawn rest)
+goes-on query undrawn next part front rest result s e good = ap (λ (q : Said (SessionState × List ℕ)). goes_on query q.written undrawn q.rest next q.answer) e ∙ rw good refl
 
 joined : (front front' result result' : List ℕ) (later : Conversed) (written : List ℕ) (others : List (List ℕ)) (parting : Parting) (undrawn undrawn' rest : List ℕ) → later ≡ conversed written others parting undrawn rest → front ≡ front' → result ≡ result' → undrawn ≡ undrawn'
     → behind front (result ∷ []) later ≡ conversed (front' ++ written) (result' ∷ others) parting undrawn' rest
 joined front front' result result' later written others parting undrawn undrawn' rest a b c d = rw (a, b, c, d) refl
 
-call-run : (keys keys' : SealKeys) (width : ℕ) (lease : Lease) (Word : ℕ → Accepting AcceptEnd Outcome → List Turn → Type 0) → Serving width lease Word → (service : Service) (due : DueCall) (later : List DueCall) → ForSealing keys lease.outcome.key 22 → ForSealing keys' lease.outcome.key 24 → lease.id < 2 ^ 64 → IsName lease.outcome.initiator → RunFrom width lease service Word later
-    → (number xid : ℕ) (draws stream : List ℕ) (core : Accepting AcceptEnd Outcome) (turn : Turn) (turns : List Turn) (rest : List ℕ) → ArePlanned service number (due ∷ later) draws → (number == 0x80000000) ≡ false → xid < 2 ^ 32
+call-run : (keys keys' : SealKeys) (width : ℕ) (lease : Lease) (Word : ℕ → Accepting AcceptEnd Outcome → List Turn → Type 0) → Serving width lease Word → (terms : Terms) (due : DueCall) (later : List DueCall) → ForSealing keys lease.outcome.key 22 → ForSealing keys' lease.outcome.key 24 → lease.id < 2 ^ 64 → IsName lease.outcome.initiator → RunFrom width lease terms Word later
+    → (number xid : ℕ) (draws stream : List ℕ) (core : Accepting AcceptEnd Outcome) (turn : Turn) (turns : List Turn) (rest : List ℕ) → ArePlanned terms number (due ∷ later) draws → (number == 0x80000000) ≡ false → xid < 2 ^ 32
     → Word (suc (length later)) core (turn ∷ turns) → IsWhole core lease → greatest (numbers lease.id core.history) < number
-    → (confers (due ∷ later) (session_on lease service number xid) draws stream).written ≡ flat_map sent_in (turn ∷ turns) → stream ≡ flat_map (heard_in width) (turn ∷ turns) ++ rest
-    → Ran width lease service (due ∷ later) number xid draws stream core (turn ∷ turns) rest
-call-run keys keys' width lease Word k service due later for for' id named ih number xid draws stream core turn turns rest plan unspent xids w whole few written heard =
-    let s : SessionState = session_on lease service number xid in
-    let p : ℕ = procedure_number due.procedure in
+    → (confers (due ∷ later) (session_on lease terms number xid) draws stream).written ≡ flat_map sent_in (turn ∷ turns) → stream ≡ flat_map (heard_in width) (turn ∷ turns) ++ rest
+    → Ran width lease terms (due ∷ later) number xid draws stream core (turn ∷ turns) rest
+call-run keys keys' width lease Word k terms due later for for' id named ih number xid draws stream core turn turns rest plan unspent xids w whole few written heard =
+    let s : SessionState = session_on lease terms number xid in
+    let p : ℕ = due.query.number in
     let args : List ℕ = due.args in
-    let own : IsProper service due = plan.each.0 in
+    let own : IsProper terms due = plan.each.0 in
     let name : List ℕ = lease.outcome.initiator in
     let block : List ℕ = take 16 draws in
     let call : List ℕ = data_call s p args block in
     let less : number < 0x80000000 = below-spent number plan.first_fits unspent in
-    let h : HonestCall lease service number xid p args block = honest-of lease service number xid due later draws id less xids plan named.size in
+    let h : HonestCall lease terms number xid p args block = honest-of lease terms number xid due later draws id less xids plan named.size in
     let v = k.served (suc (length later)) core turn turns w in
     let part : Said (SessionState × List ℕ) = calls s p args block stream in
     let conv_is = call-is due later s draws stream unspent in
-    let f = on-first due.procedure (last_fragment call) part.written (drop 16 draws) part.rest (confers later) part.answer (calls-first s p args block stream) in
-    let is : turn.octets ≡ call = first-is turn.octets call (confers (due ∷ later) s draws stream).written f.more (flat_map sent_in turns) v.within (data-fits lease service number xid p args block own.size h.block) written (ap (λ (c : Conversed). c.written) conv_is ∙ f.same) in
+    let f = on-first due.query (last_fragment call) part.written (drop 16 draws) part.rest (confers later) part.answer (calls-first s p args block stream) in
+    let is : turn.octets ≡ call = first-is turn.octets call (confers (due ∷ later) s draws stream).written f.more (flat_map sent_in turns) v.within (data-fits lease terms number xid p args block own.size h.block) written (ap (λ (c : Conversed). c.written) conv_is ∙ f.same) in
     let by : IsAnsweredBy width lease.ends call turn.kept turn.before turn.after = subst (λ (o : List ℕ). IsAnsweredBy width lease.ends o turn.kept turn.before turn.after) is v.answered in
     let live = live-before core turn.before lease number whole few v.untouched v.wide in
-    let m = call-honest lease service number xid p args block h in
+    let m = call-honest lease terms number xid p args block h in
     let t = call-turn keys' turn.before turn.after lease number p args call turn.kept width for' m.honest m.handle by live (omega (arith, less)) in
     let entry : Entry = Call lease.id number p (sha1 args) in
     let count : ℕ = posts (entry ∷ turn.before.core.history) in
@@ -225,21 +226,21 @@ call-run keys keys' width lease Word k service due later for for' id named ih nu
       is_admitted = t.admitted_is;
       drawn = v.drawn;
       octets = append-IsOctets (take 16 (drop 66 turn.kept.draws)) (word number ++ result) (take-IsOctets 16 (drop 66 turn.kept.draws) (drop-IsOctets 66 turn.kept.draws v.octets))
-          (append-IsOctets (word number) result (word-octets number) (result-octets due.procedure args name count own.octets named.octets));
+          (append-IsOctets (word number) result (word-octets number) (result-octets p args name count own.octets named.octets));
     } in
     let law : HonestLaw lease = λ octets kept wide n proc given honest own handle look. honest-ruled keys' octets kept wide n proc given lease honest own for' handle look in
     let back : List ℕ = flat_map (heard_in width) turns ++ rest in
-    let d = answered keys lease law for service number xid p args block turn.kept width back h a in
+    let d = answered keys lease law for terms number xid p args block turn.kept width back h a in
     let stream_is : stream ≡ framed (record_ruling call turn.kept width).reply ++ back =
     heard ∙ (append_assoc (heard_in width turn) (flat_map (heard_in width) turns) rest ∙ ap (λ (o : List ℕ). framed (record_ruling o turn.kept width).reply ++ back) is) in
-    let next : SessionState = session_on lease service (number + 1) (xid_after xid) in
+    let next : SessionState = session_on lease terms (number + 1) (xid_after xid) in
     let all : part ≡ said (last_fragment call) (Ok (next, result)) back = ap (λ (zs : List ℕ). calls s p args block zs) stream_is ∙ d.result in
-    let good : is_result due.procedure result ≡ true = result-fits due.procedure args name count own.proper named.size named.text in
+    let good : due.query.is_result result ≡ true = own.asked.takes args name count own.proper named in
     let further : Conversed = confers later next (drop 16 draws) back in
     let whole_is : confers (due ∷ later) s draws stream ≡ behind (last_fragment call) (result ∷ []) further =
-    conv_is ∙ goes-on due.procedure (drop 16 draws) (confers later) part (last_fragment call) back result next all good in
+    conv_is ∙ goes-on due.query (drop 16 draws) (confers later) part (last_fragment call) back result next all good in
     let wrote : last_fragment call ++ further.written ≡ last_fragment call ++ flat_map sent_in turns = sym (ap (λ (c : Conversed). c.written) whole_is) ∙ (written ∙ ap (λ (o : List ℕ). last_fragment o ++ flat_map sent_in turns) is) in
-    let r = ih (number + 1) (xid_after xid) (drop 16 draws) back turn.after.core turns rest (plan-after service number due later draws less plan) (omega arith) (k.later (length later) core turn turns w entry t.history t.notes) t.live.whole t.live.called
+    let r = ih (number + 1) (xid_after xid) (drop 16 draws) back turn.after.core turns rest (plan-after terms number due later draws less plan) (omega arith) (k.later (length later) core turn turns w entry t.history t.notes) t.live.whole t.live.called
     (same-behind (last_fragment call) further.written (flat_map sent_in turns) wrote) refl in
     let others : List (List ℕ) = results_in (take r.made later) name turns in
     let size : 16 + 16 * r.made ≡ 16 * suc r.made = omega arith in
@@ -259,24 +260,24 @@ call-run keys keys' width lease Word k service due later for for' id named ih nu
 -- without a record nothing would have been written
 unwritten : (call : DueCall) (later : List DueCall) (s : SessionState) (draws stream : List ℕ) → (s.number == 0x80000000) ≡ false → (confers (call ∷ later) s draws stream).written ≡ [] → ⊥
 unwritten call later s draws stream unspent written =
-    let p : ℕ = procedure_number call.procedure in
+    let p : ℕ = call.query.number in
     let part : Said (SessionState × List ℕ) = calls s p call.args (take 16 draws) stream in
-    let f = on-first call.procedure (last_fragment (data_call s p call.args (take 16 draws))) part.written (drop 16 draws) part.rest (confers later) part.answer (calls-first s p call.args (take 16 draws) stream) in
+    let f = on-first call.query (last_fragment (data_call s p call.args (take 16 draws))) part.written (drop 16 draws) part.rest (confers later) part.answer (calls-first s p call.args (take 16 draws) stream) in
     framed-some (data_call s p call.args (take 16 draws)) f.more (sym f.same ∙ (sym (ap (λ (c : Conversed). c.written) (call-is call later s draws stream unspent)) ∙ written))
 
-more-run : (keys keys' : SealKeys) (width : ℕ) (lease : Lease) (Word : ℕ → Accepting AcceptEnd Outcome → List Turn → Type 0) → Serving width lease Word → (service : Service) (call : DueCall) (later : List DueCall) → ForSealing keys lease.outcome.key 22 → ForSealing keys' lease.outcome.key 24 → lease.id < 2 ^ 64 → IsName lease.outcome.initiator → RunFrom width lease service Word later
-    → RunFrom width lease service Word (call ∷ later)
-more-run keys keys' width lease Word k service call later for for' id named ih number xid draws stream core turns rest plan xids w whole few written heard = by-cases (number == 0x80000000) refl turns w written heard
+more-run : (keys keys' : SealKeys) (width : ℕ) (lease : Lease) (Word : ℕ → Accepting AcceptEnd Outcome → List Turn → Type 0) → Serving width lease Word → (terms : Terms) (call : DueCall) (later : List DueCall) → ForSealing keys lease.outcome.key 22 → ForSealing keys' lease.outcome.key 24 → lease.id < 2 ^ 64 → IsName lease.outcome.initiator → RunFrom width lease terms Word later
+    → RunFrom width lease terms Word (call ∷ later)
+more-run keys keys' width lease Word k terms call later for for' id named ih number xid draws stream core turns rest plan xids w whole few written heard = by-cases (number == 0x80000000) refl turns w written heard
   where
-    by-cases : (spent : Bool) → (number == 0x80000000) ≡ spent → (turns : List Turn) → Word (suc (length later)) core turns → (confers (call ∷ later) (session_on lease service number xid) draws stream).written ≡ flat_map sent_in turns → stream ≡ flat_map (heard_in width) turns ++ rest
-        → Ran width lease service (call ∷ later) number xid draws stream core turns rest
-    by-cases true e turns w written heard = spent-run width lease Word k service call later id number xid draws stream core turns rest e xids w whole few written heard
-    by-cases false e [] w written heard = absurd (unwritten call later (session_on lease service number xid) draws stream e written)
-    by-cases false e (turn ∷ turns) w written heard = call-run keys keys' width lease Word k service call later for for' id named ih number xid draws stream core turn turns rest plan e xids w whole few written heard
+    by-cases : (spent : Bool) → (number == 0x80000000) ≡ spent → (turns : List Turn) → Word (suc (length later)) core turns → (confers (call ∷ later) (session_on lease terms number xid) draws stream).written ≡ flat_map sent_in turns → stream ≡ flat_map (heard_in width) turns ++ rest
+        → Ran width lease terms (call ∷ later) number xid draws stream core turns rest
+    by-cases true e turns w written heard = spent-run width lease Word k terms call later id number xid draws stream core turns rest plan.called e xids w whole few written heard
+    by-cases false e [] w written heard = absurd (unwritten call later (session_on lease terms number xid) draws stream e written)
+    by-cases false e (turn ∷ turns) w written heard = call-run keys keys' width lease Word k terms call later for for' id named ih number xid draws stream core turn turns rest plan e xids w whole few written heard
 
-pub run-all : (keys keys' : SealKeys) (width : ℕ) (lease : Lease) (Word : ℕ → Accepting AcceptEnd Outcome → List Turn → Type 0) → Serving width lease Word → (service : Service) → ForSealing keys lease.outcome.key 22 → ForSealing keys' lease.outcome.key 24 → lease.id < 2 ^ 64 → IsName lease.outcome.initiator → (due : List DueCall) → RunFrom width lease service Word due
-run-all keys keys' width lease Word k service for for' id named [] = none-run width lease Word k service id
-run-all keys keys' width lease Word k service for for' id named (call ∷ later) = more-run keys keys' width lease Word k service call later for for' id named (run-all keys keys' width lease Word k service for for' id named later)
+pub run-all : (keys keys' : SealKeys) (width : ℕ) (lease : Lease) (Word : ℕ → Accepting AcceptEnd Outcome → List Turn → Type 0) → Serving width lease Word → (terms : Terms) → ForSealing keys lease.outcome.key 22 → ForSealing keys' lease.outcome.key 24 → lease.id < 2 ^ 64 → IsName lease.outcome.initiator → (due : List DueCall) → RunFrom width lease terms Word due
+run-all keys keys' width lease Word k terms for for' id named [] = none-run width lease Word k terms id
+run-all keys keys' width lease Word k terms for for' id named (call ∷ later) = more-run keys keys' width lease Word k terms call later for for' id named (run-all keys keys' width lease Word k terms for for' id named later)
 
 -- ---- with the creation
 
@@ -288,7 +289,7 @@ pub session-runs : (keys keys' : SealKeys) (setup : AcceptSetup) (width : ℕ) (
 unfolding talk_behind
 session-runs keys keys' setup width start stream x c due draws for for' r =
     let lease : Lease = lease_on (id_in x.books) c.outcome c.lasts in
-    let a = run-all keys keys' width lease (λ left core turns. Serves width lease core turns) (by-each width lease) start.service for for' x.number r.name due start.first (1 + length x.answers) draws x.converses.rest c.core r.turns r.rest r.planned (omega (arith, few-answers setup width start stream x)) r.served c.whole r.unused r.written r.heard in
+    let a = run-all keys keys' width lease (λ left core turns. Serves width lease core turns) (by-each width lease) start.terms for for' x.number r.name due start.first (1 + length x.answers) draws x.converses.rest c.core r.turns r.rest r.planned (omega (arith, few-answers setup width start stream x)) r.served c.whole r.unused r.written r.heard in
     let name : List ℕ = c.outcome.initiator in
     let wrote : List ℕ = flat_map last_fragment x.converses.records in
     record {

@@ -20,14 +20,14 @@ use Rattle.context_table.specs.declared.slot.Slot.{Slot}
 use Rattle.context_table.specs.declared.slot.SlotState.{SlotState}
 use Rattle.context_table.specs.declared.slot.SlotState.TheVariants.{Negotiating, Complete}
 use Rattle.context_table.specs.Slots.{HasState}
-use Rattle.context_table.specs.Places.{slot_at, live_of, state_of, HasValue}
+use Rattle.context_table.specs.Places.{Places, slot_at, live_of, state_of, HasValue}
 use Rattle.accept_core.specs.declared.entry.Entry.{Entry}
 use Rattle.accept_core.specs.declared.answer.Next.TheVariants as nexts
 use Rattle.accept_core.specs.History.{Open, Whole, opened, taken_of, standing}
 use Rattle.accept_core.specs.Entering.{id_of, entered}
 use Rattle.accept_core.specs.Replays.{Accepting}
-use Rattle.accept_core.specs.Stepping.{Context, context_of, context_after, until_of}
-use Rattle.accept_book.specs.Booking.{Stands, Change, Becomes, Changed, Outcomes, raised, lapsed_by, next_of, answer_with, mark_of, settled_of, taken, by_step, later_step, negotiated, names_of}
+use Rattle.accept_core.specs.Stepping.{Context, context_of, context_after, until_of, goes_by}
+use Rattle.accept_book.specs.Booking.{Stands, Change, Becomes, Changed, Outcomes, raised, next_of, answer_with, mark_of, settled_of, taken, by_step, later_step, negotiated, names_of}
 use Rattle.pair_laws.specs.Booked.{Around, end_in, IsLeftAlone, id_in}
 use Rattle.pair_laws.specs.Live.{lease_on, IsWhole}
 
@@ -38,8 +38,8 @@ pub record Came (book : Stands) (id past : Option ℕ) (step : AcceptStep) (o : 
   pub mark : Option Mark
   pub is : o ≡ record {
     answer = answer_with (id_of id book.history) step;
-    history = entered id (nat_lt (live_of book.table) book.table.limit) past mark (next_of step) book.greatest book.history;
-    change = Becomes (lapsed_by id (nat_lt (live_of book.table) book.table.limit) past) (id_of id book.history) (context_after (until_of id book.greatest book.table) (next_of step));
+    history = entered id (goes_by id (next_of step) past book.history book.table) mark (next_of step) book.greatest book.history;
+    change = Becomes (goes_by id (next_of step) past book.history book.table) (id_of id book.history) (context_after (until_of id book.greatest book.table) (next_of step));
   }
 
 IsNew : Stands → AcceptStep → Type 0
@@ -126,28 +126,28 @@ book-came setup core id past end token now drawn step comes log table new e =
 same-id : (id : ℕ) → (id == id) ≡ true
 same-id id = grind (arith, nat_tests)
 
-opens : (id now : ℕ) (mark : Option Mark) (place : Bool) (past : Option ℕ) (end : AcceptEnd) (h : List Entry) → id ≡ opened h + 1 → standing id (entered {N = AcceptEnd} {S = Outcome} None place past mark (nexts.Going end) now h) ≡ Open now
-opens id now None place past end h e = rw (sym e, same-id id) refl
-opens id now (Some mark) place past end h e = rw (sym e, same-id id) refl
+opens : (id now : ℕ) (mark : Option Mark) (gone : Option ℕ) (end : AcceptEnd) (h : List Entry) → id ≡ opened h + 1 → standing id (entered {N = AcceptEnd} {S = Outcome} None gone mark (nexts.Going end) now h) ≡ Open now
+opens id now None gone end h e = rw (sym e, same-id id) refl
+opens id now (Some mark) gone end h e = rw (sym e, same-id id) refl
 
-goes : (id now : ℕ) (mark : Option Mark) (place : Bool) (past : Option ℕ) (end : AcceptEnd) (h : List Entry) → standing id (entered {N = AcceptEnd} {S = Outcome} (Some id) place past mark (nexts.Going end) now h) ≡ standing id h
-goes id now None place past end h = refl
-goes id now (Some mark) place past end h = refl
+goes : (id now : ℕ) (mark : Option Mark) (end : AcceptEnd) (h : List Entry) → standing id (entered {N = AcceptEnd} {S = Outcome} (Some id) None mark (nexts.Going end) now h) ≡ standing id h
+goes id now None end h = refl
+goes id now (Some mark) end h = refl
 
-stands-after : (core : Accepting AcceptEnd Outcome) (id past : Option ℕ) (mark : Option Mark) (place : Bool) (now : ℕ) (end old : AcceptEnd) → ComesTo id core old
-    → (at : ℕ) × (standing (id_of id core.history) (entered {N = AcceptEnd} {S = Outcome} id place past mark (nexts.Going end) now core.history) ≡ Open at)
-stands-after core None past mark place now end old comes = (now, opens (opened core.history + 1) now mark place past end core.history refl)
-stands-after core (Some id) past mark place now end old comes = (comes.at, goes id now mark place past end core.history ∙ comes.stands)
+stands-after : (core : Accepting AcceptEnd Outcome) (table : Places AcceptEnd Outcome) (id past : Option ℕ) (mark : Option Mark) (now : ℕ) (end old : AcceptEnd) → ComesTo id core old
+    → (at : ℕ) × (standing (id_of id core.history) (entered {N = AcceptEnd} {S = Outcome} id (goes_by id (nexts.Going end) past core.history table) mark (nexts.Going end) now core.history) ≡ Open at)
+stands-after core table None past mark now end old comes = (now, opens (opened core.history + 1) now mark (goes_by None (nexts.Going end) past core.history table) end core.history refl)
+stands-after core table (Some id) past mark now end old comes = (comes.at, goes id now mark end core.history ∙ comes.stands)
 
 -- the context that the step left, in a book that stands as its call left it
 pub goes-after : (setup : AcceptSetup) (before after : Accepting AcceptEnd Outcome) (id past : Option ℕ) (old end : AcceptEnd) (reply : List ℕ) (now : ℕ) (o : Outcomes) → ComesTo id before old
     → Came (raised before now) id past (steps.More end reply) o → after.history ≡ o.history → Changed before.table o.change after.table → Negotiates (id_of id before.history) after end
 goes-after setup before after id past old end reply now o comes came history contexts =
     let own : ℕ = id_of id before.history in
-    let s = stands-after before id past came.mark (nat_lt (live_of before.table) before.table.limit) (max before.cache.greatest now) end old comes in
+    let s = stands-after before before.table id past came.mark (max before.cache.greatest now) end old comes in
     let until : ℕ = until_of id (max before.cache.greatest now) before.table in
-    let change : o.change ≡ Becomes (lapsed_by id (nat_lt (live_of before.table) before.table.limit) past) own (record { state = Negotiating end; ends = until }) = ap (λ (x : Outcomes). x.change) came.is in
-    let changes : Changed before.table (Becomes (lapsed_by id (nat_lt (live_of before.table) before.table.limit) past) own (record { state = Negotiating end; ends = until })) after.table = subst (λ (c : Change). Changed before.table c after.table) change contexts in
+    let change : o.change ≡ Becomes (goes_by id (nexts.Going end) past before.history before.table) own (record { state = Negotiating end; ends = until }) = ap (λ (x : Outcomes). x.change) came.is in
+    let changes : Changed before.table (Becomes (goes_by id (nexts.Going end) past before.history before.table) own (record { state = Negotiating end; ends = until })) after.table = subst (λ (c : Change). Changed before.table c after.table) change contexts in
     record {
       at = s.0;
       stands = ap (λ (h : List Entry). standing own h) (history ∙ ap (λ (x : Outcomes). x.history) came.is) ∙ s.1;
@@ -157,10 +157,10 @@ goes-after setup before after id past old end reply now o comes came history con
 
 -- ---- the context behind the last step
 
-settled-stands : (id past : Option ℕ) (mark : Option Mark) (place : Bool) (now : ℕ) (mech : MechKind) (names : List ℕ) (value : Outcome) (ends : ℕ) (h : List Entry)
-    → standing (id_of id h) (entered {N = AcceptEnd} {S = Outcome} id place past mark (nexts.Settled mech names value ends) now h) ≡ Whole mech names ends
-settled-stands None past mark place now mech names value ends h = rw (same-id (opened h + 1)) refl
-settled-stands (Some id) past mark place now mech names value ends h = rw (same-id id) refl
+settled-stands : (id gone : Option ℕ) (mark : Option Mark) (now : ℕ) (mech : MechKind) (names : List ℕ) (value : Outcome) (ends : ℕ) (h : List Entry)
+    → standing (id_of id h) (entered {N = AcceptEnd} {S = Outcome} id gone mark (nexts.Settled mech names value ends) now h) ≡ Whole mech names ends
+settled-stands None gone mark now mech names value ends h = rw (same-id (opened h + 1)) refl
+settled-stands (Some id) gone mark now mech names value ends h = rw (same-id id) refl
 
 value-in : (slot : Option (Slot AcceptEnd Outcome)) (value : Outcome) (ends : ℕ) → context_of slot ≡ Some (record { state = Complete value; ends = ends }) → HasValue slot value ends
 value-in None value ends e = absurd cc
@@ -174,12 +174,12 @@ pub done-after : (before after : Accepting AcceptEnd Outcome) (id past : Option 
     → Came (raised before now) id past (steps.Done outcome lasts reply) o → after.history ≡ o.history → Changed before.table o.change after.table → IsWhole after (lease_on (id_of id before.history) outcome lasts)
 done-after before after id past outcome lasts reply now o came history contexts =
     let own : ℕ = id_of id before.history in
-    let place : Bool = nat_lt (live_of before.table) before.table.limit in
+    let gone : Option ℕ = goes_by id (nexts.Settled outcome.mech (names_of outcome) outcome lasts) past before.history before.table in
     let greatest : ℕ = max before.cache.greatest now in
-    let change : o.change ≡ Becomes (lapsed_by id place past) own (record { state = Complete outcome; ends = lasts }) = ap (λ (x : Outcomes). x.change) came.is in
-    let changes : Changed before.table (Becomes (lapsed_by id place past) own (record { state = Complete outcome; ends = lasts })) after.table = subst (λ (c : Change). Changed before.table c after.table) change contexts in
+    let change : o.change ≡ Becomes gone own (record { state = Complete outcome; ends = lasts }) = ap (λ (x : Outcomes). x.change) came.is in
+    let changes : Changed before.table (Becomes gone own (record { state = Complete outcome; ends = lasts })) after.table = subst (λ (c : Change). Changed before.table c after.table) change contexts in
     record {
-      stands = ap (λ (h : List Entry). standing own h) (history ∙ ap (λ (x : Outcomes). x.history) came.is) ∙ settled-stands id past came.mark place greatest outcome.mech (names_of outcome) outcome lasts before.history;
+      stands = ap (λ (h : List Entry). standing own h) (history ∙ ap (λ (x : Outcomes). x.history) came.is) ∙ settled-stands id gone came.mark greatest outcome.mech (names_of outcome) outcome lasts before.history;
       value = value-in (slot_at after.table own) outcome lasts (changes own ∙ rw (same-id own) refl);
     }
 

@@ -17,7 +17,6 @@ use Rattle.accept_core.specs.Replays.{Accepting}
 use Rattle.accept_book.specs.declared.book_answer.Lease.{Lease}
 use Rattle.accept_core.specs.declared.entry.Entry.{Entry}
 use Rattle.accept_core.specs.declared.entry.Entry.TheVariants.{Call, Opened, Went, Settled}
-use Rattle.gss_client.specs.Procedure.{procedure_number}
 use Rattle.gss_client.specs.Session.{SessionState}
 use Rattle.gss_client.specs.Talk.{created_from}
 use Rattle.gss_client.specs.Talking.{Said}
@@ -25,7 +24,7 @@ use Rattle.gss_client.specs.Conversation.{Talk}
 use Rattle.gss_client.specs.declared.refusal.ClientRefusal.{ClientRefusal}
 use Rattle.gss_client.specs.Start.{StartSays}
 use Rattle.pair_laws.specs.Booked.{Around, id_in}
-use Rattle.pair_laws.specs.Conferring.{DueCall, confers, by_opening, talk_of, talk_behind}
+use Rattle.gss_client.specs.Conferring.{DueCall, confers, by_opening, talk_of, talk_behind}
 use Rattle.pair_laws.specs.Creation.{around_of, Enters, history_with}
 use Rattle.pair_laws.specs.HonestCalls.{session_on}
 use Rattle.pair_laws.specs.Laws.{IsBehind}
@@ -43,7 +42,7 @@ use Rattle.pair_laws.proofs.Rows.{reads, row-runs}
 use Rattle.pair_laws.proofs.Sessions.{session-runs}
 use Rattle.pair_laws.proofs.Answered.{handle-length}
 use Rattle.pair_laws.proofs.Writing.{writes}
-use Rattle.rpcsec_bodies.specs.declared.service.Service.{Service}
+use Rattle.gss_client.specs.declared.terms.Terms.{Terms}
 use Rattle.std.specs.Prelude.{◌==◌}
 use Rattle.std.proofs.lemmas.Bool.Decides.{nat_tests}
 use Rattle.std.proofs.lemmas.List.{length-take}
@@ -78,15 +77,15 @@ by-later moment later (turn ∷ turns) h by = let now : turn.kept.now ≤ moment
 
 posts-on : (id number : ℕ) (made : List DueCall) (h : List Entry) → posts (history_after id number made h) ≡ posts_behind (posts h) made
 posts-on id number [] h = refl
-posts-on id number (call ∷ later) h = posts-on id (number + 1) later (Call id number (procedure_number call.procedure) (sha1 call.args) ∷ h)
+posts-on id number (call ∷ later) h = posts-on id (number + 1) later (Call id number call.query.number (sha1 call.args) ∷ h)
 
 flat-append : (front back : List Turn) → flat_map sent_in (front ++ back) ≡ flat_map sent_in front ++ flat_map sent_in back
 flat-append [] back = refl
 flat-append (turn ∷ front) back = ap (λ (zs : List ℕ). sent_in turn ++ zs) (flat-append front back) ∙ sym (append_assoc (sent_in turn) (flat_map sent_in front) (flat_map sent_in back))
 
-sized : (service : Service) (due : List DueCall) → AllByRecursion (IsProper service) due → AllByRecursion IsSized due
-sized service [] each = tt
-sized service (call ∷ later) each = (each.0.size, sized service later each.1)
+sized : (terms : Terms) (due : List DueCall) → AllByRecursion (IsProper terms) due → AllByRecursion IsSized due
+sized terms [] each = tt
+sized terms (call ∷ later) each = (each.0.size, sized terms later each.1)
 
 some-outcome : (a b : Outcome) → Some a ≡ Some b → a ≡ b
 some-outcome a b e = cc
@@ -125,7 +124,7 @@ same-state a b r e f = let both : Ok a ≡ Ok b = sym e ∙ f in cc
 
 long-after : (id number : ℕ) (made : List DueCall) (h : List Entry) → length (history_after id number made h) ≡ length h + length made + 1
 long-after id number [] h = omega arith
-long-after id number (call ∷ later) h = omega (arith, long-after id (number + 1) later (Call id number (procedure_number call.procedure) (sha1 call.args) ∷ h))
+long-after id number (call ∷ later) h = omega (arith, long-after id (number + 1) later (Call id number call.query.number (sha1 call.args) ∷ h))
 
 -- ---- a whole session
 
@@ -137,7 +136,7 @@ whole-done keys keys' key for for' width lasts start kind count moment due draws
     let x = r.exchange in
     let c = completes old.setup width start stream x in
     let lease : Lease = lease_on (id_in x.books) c.outcome c.lasts in
-    let state : SessionState = session_on lease start.service start.first (1 + length x.answers) in
+    let state : SessionState = session_on lease start.terms start.first (1 + length x.answers) in
     let wrote : List ℕ = flat_map last_fragment x.converses.records in
     let made : List DueCall = made_of start.first due in
     let name : List ℕ = c.outcome.initiator in
@@ -150,7 +149,7 @@ whole-done keys keys' key for for' width lasts start kind count moment due draws
     sym r.created.outcome ∙ ap (λ (q : SessionState). q.outcome) (same-state r.created.state state (created_from start stream).answer r.created.answer (ap (λ (q : Said SessionState). q.answer) c.session)) in
     let both : wrote ++ (confers due state draws x.converses.rest).written ≡ wrote ++ s.more = sym (ap (λ (t : Talk). t.written) talk_is) ∙ (s.written ∙ ap (λ (zs : List ℕ). zs ++ s.more) created) in
     let few : length state.handle ≤ 64 = omega (arith, handle-length (id_in x.books)) in
-    let q = writes due state draws x.converses.rest few (sized start.service due s.planned.each) s.planned.enough in
+    let q = writes due state draws x.converses.rest few (sized start.terms due s.planned.each) s.planned.enough in
     let read : flat_map last_fragment q.calls ≡ flat_map sent_in back =
     reads q.calls r.others back s.tail q.each r.cuts s.none (sym q.is ∙ (same-behind wrote (confers due state draws x.converses.rest).written s.more both ∙ r.wrote)) in
     let written : (confers due state draws x.converses.rest).written ≡ flat_map sent_in back = q.is ∙ read in
@@ -169,7 +168,7 @@ whole-done keys keys' key for for' width lasts start kind count moment due draws
     ∙ subst (λ (i : ℕ). standing i r.middle.core.history ≡ Whole c.outcome.mech (names_of c.outcome) c.lasts) id_is live.whole.stands in
     let lasting : moment ≤ c.lasts = subst (λ (m : ℕ). moment ≤ m) (same-lasts kind c.outcome.mech enters.names (names_of c.outcome) enters.lasts c.lasts entered) r.lasting in
     let log : length old.core.history + 4 * length front + length due < old.core.limit = s.log in
-    let row : IsRow width lease start.service start.first (1 + length x.answers) due draws x.converses.rest r.middle new back rest = record {
+    let row : IsRow width lease start.terms start.first (1 + length x.answers) due draws x.converses.rest r.middle new back rest = record {
       id = x.number;
       xid_fits = omega (arith, few-answers old.setup width start stream x);
       live = live;
@@ -182,7 +181,7 @@ whole-done keys keys' key for for' width lasts start kind count moment due draws
     } in
     let own = subst (λ (v : Key). ForSealing keys v 22) (sym key_is) for in
     let own' = subst (λ (v : Key). ForSealing keys' v 24) (sym key_is) for' in
-    let g = row-runs keys keys' width lease start.service start.first (1 + length x.answers) due draws x.converses.rest r.middle new back rest own own' row in
+    let g = row-runs keys keys' width lease start.terms start.first (1 + length x.answers) due draws x.converses.rest r.middle new back rest own own' row in
     let h : HonestSession old.setup width start stream x c due draws = record {
       turns = back;
       rest = rest;

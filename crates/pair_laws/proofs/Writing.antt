@@ -9,19 +9,18 @@ use Rattle.rpcsec_bodies.proofs.Lengths.{mic-size}
 use Rattle.krb_tokens.specs.Mic.{mic_of}
 use Rattle.gss_client.specs.declared.conversation.Parting.{Parting}
 use Rattle.gss_client.specs.declared.conversation.Parting.TheVariants.{Finished, Spent}
-use Rattle.gss_client.specs.declared.procedure.Procedure.{Procedure}
+use Rattle.gss_client.specs.Query.{QuerySays}
 use Rattle.gss_client.specs.declared.refusal.ClientRefusal.{ClientRefusal}
 use Rattle.gss_client.specs.Calling.{own_end, header_of, verifier_of, signed_call, data_call, destroy_call}
 use Rattle.gss_client.specs.Conversation.{Conversed, leaves, goes_on}
 use Rattle.gss_client.specs.Hearing.{Heard, whole, ended, unfit, next_of}
 use Rattle.gss_client.specs.Judging.{◌>>=◌, call_result, result_taken, destroyed_in}
-use Rattle.gss_client.specs.Procedure.{procedure_number, is_result}
 use Rattle.gss_client.specs.Session.{SessionState, session_after}
 use Rattle.gss_client.specs.Talk.{calls, destroys}
 use Rattle.gss_client.specs.Talking as talking
 use Rattle.gss_client.specs.Talking.{Said, judges, by_heard, listens, exchanges}
 use Rattle.gss_client.proofs.CallLengths.{cred-fits, call-fits}
-use Rattle.pair_laws.specs.Conferring.{DueCall, confers}
+use Rattle.gss_client.specs.Conferring.{DueCall, confers}
 use Rattle.pair_laws.specs.Rows.{IsSized, AreRecords}
 use Rattle.pair_laws.proofs.SessionParts.{data-size}
 
@@ -50,13 +49,13 @@ end-wrote : (s : SessionState) (stream : List ℕ) → (destroys s stream).writt
 unfolding destroys
 end-wrote s stream =
     let e : Said (List ℕ) = exchanges (destroy_call s) stream in
-    goes-wrote e.written e.rest (destroyed_in s.outcome s.service s.number s.xid) e.answer ∙ exchange-wrote (destroy_call s) stream
+    goes-wrote e.written e.rest (destroyed_in s.outcome s.terms.service s.number s.xid) e.answer ∙ exchange-wrote (destroy_call s) stream
 
 end-size : (s : SessionState) → length s.handle ≤ 64 → length (destroy_call s) ≤ 131072
 unfolding destroy_call signed_call verifier_of header_of
 end-size s h =
     let cred : CredValue = record { proc = 3; seq = s.number; service = 1; context = s.handle } in
-    call-fits s.xid 0x20004753 1 0 (cred_octets cred) (record { flavour = 6; body = mic_of (own_end s) (2 * s.number) (header_of s 3 1 0) }) [] (cred-fits cred h) (omega (arith, mic-size (own_end s) (2 * s.number) (header_of s 3 1 0))) (omega arith)
+    call-fits s.xid s.terms.program s.terms.version 0 (cred_octets cred) (record { flavour = 6; body = mic_of (own_end s) (2 * s.number) (header_of s 3 1 0) }) [] (cred-fits cred h) (omega (arith, mic-size (own_end s) (2 * s.number) (header_of s 3 1 0))) (omega arith)
 
 -- ---- the session behind a call has its handle
 
@@ -70,7 +69,7 @@ after-handle s (Err refusal) = refl
 
 judged-handle : (s : SessionState) (octets : List ℕ) → handle_in (result_taken s octets) s.handle ≡ s.handle
 unfolding result_taken
-judged-handle s octets = after-handle s (call_result s.outcome s.service s.number s.xid octets)
+judged-handle s octets = after-handle s (call_result s.outcome s.terms.service s.number s.xid octets)
 
 goes-handle : (s : SessionState) (written rest : List ℕ) (answer : Result (List ℕ) ClientRefusal) → handle_in (talking.goes_on written rest (λ octets. judges (result_taken s octets)) answer).answer s.handle ≡ s.handle
 goes-handle s written rest (Ok octets) = judged-handle s octets
@@ -92,12 +91,12 @@ more-records front call written e few r = record { calls = call ∷ r.calls; eac
 end-records : (parting : Parting) (s : SessionState) (draws stream : List ℕ) → length s.handle ≤ 64 → AreRecords (leaves parting draws (destroys s stream)).written
 end-records parting s draws stream h = one-record (destroys s stream).written (destroy_call s) (end-wrote s stream) (end-size s h)
 
-on-records : (procedure : Procedure) (written undrawn rest call handle : List ℕ) (next : SessionState → List ℕ → List ℕ → Conversed) (answer : Result (SessionState × List ℕ) ClientRefusal) → written ≡ last_fragment call → length call ≤ 131072 → handle_in answer handle ≡ handle → length handle ≤ 64
-    → ((s : SessionState) → length s.handle ≤ 64 → AreRecords (next s undrawn rest).written) → AreRecords (goes_on procedure written undrawn rest next answer).written
-on-records procedure written undrawn rest call handle next (Err refusal) e few same h later = one-record written call e few
-on-records procedure written undrawn rest call handle next (Ok called) e few same h later = by-cases (is_result procedure called.1) refl
+on-records : (query : QuerySays) (written undrawn rest call handle : List ℕ) (next : SessionState → List ℕ → List ℕ → Conversed) (answer : Result (SessionState × List ℕ) ClientRefusal) → written ≡ last_fragment call → length call ≤ 131072 → handle_in answer handle ≡ handle → length handle ≤ 64
+    → ((s : SessionState) → length s.handle ≤ 64 → AreRecords (next s undrawn rest).written) → AreRecords (goes_on query written undrawn rest next answer).written
+on-records query written undrawn rest call handle next (Err refusal) e few same h later = one-record written call e few
+on-records query written undrawn rest call handle next (Ok called) e few same h later = by-cases (query.is_result called.1) refl
   where
-    by-cases : (fits : Bool) → is_result procedure called.1 ≡ fits → AreRecords (goes_on procedure written undrawn rest next (Ok called)).written
+    by-cases : (fits : Bool) → query.is_result called.1 ≡ fits → AreRecords (goes_on query written undrawn rest next (Ok called)).written
     by-cases true f = rw f (more-records written call (next called.0 undrawn rest).written e few (later called.0 (subst (λ (zs : List ℕ). length zs ≤ 64) (sym same) h)))
     by-cases false f = rw f (one-record written call e few)
 
@@ -110,13 +109,13 @@ pub writes : (due : List DueCall) (s : SessionState) (draws stream : List ℕ) �
 unfolding confers
 writes [] s draws stream h sized enough = end-records Finished s draws stream h
 writes (call ∷ later) s draws stream h sized enough =
-    let p : ℕ = procedure_number call.procedure in
+    let p : ℕ = call.query.number in
     let block : List ℕ = take 16 draws in
     let more : 16 * suc (length later) ≤ length draws = enough in
     let left : 16 * length later ≤ length (drop 16 draws) = omega (arith, length-drop 16 draws, more) in
     let size : length block ≡ 16 = omega (arith, length-take 16 draws, more) in
     let part : Said (SessionState × List ℕ) = calls s p call.args block stream in
-    let on : AreRecords (goes_on call.procedure part.written (drop 16 draws) part.rest (confers later) part.answer).written =
-    on-records call.procedure part.written (drop 16 draws) part.rest (data_call s p call.args block) s.handle (confers later) part.answer (call-wrote s p call.args block stream) (data-size s p call.args block h sized.0 size) (call-handle s p call.args block stream) h
+    let on : AreRecords (goes_on call.query part.written (drop 16 draws) part.rest (confers later) part.answer).written =
+    on-records call.query part.written (drop 16 draws) part.rest (data_call s p call.args block) s.handle (confers later) part.answer (call-wrote s p call.args block stream) (data-size s p call.args block h sized.0 size) (call-handle s p call.args block stream) h
     (λ t few. writes later t (drop 16 draws) part.rest few sized.1 left) in
-    by-number (s.number == 0x80000000) (leaves Spent draws (destroys s stream)) (goes_on call.procedure part.written (drop 16 draws) part.rest (confers later) part.answer) on (end-records Spent s draws stream h)
+    by-number (s.number == 0x80000000) (leaves Spent draws (destroys s stream)) (goes_on call.query part.written (drop 16 draws) part.rest (confers later) part.answer) on (end-records Spent s draws stream h)

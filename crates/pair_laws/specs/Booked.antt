@@ -9,10 +9,10 @@ use Rattle.spnego_core.specs.declared.outcome.Outcome.{Outcome}
 use Rattle.spnego_core.specs.Accepting.{step_of, mark_asked}
 use Rattle.replay_cache.specs.Taking.{cache_verdict}
 use Rattle.replay_cache.specs.declared.cache.CacheVerdict.TheVariants.{Taken}
-use Rattle.context_table.specs.Places.{Places, slot_at, live_of, state_of, IsPast}
+use Rattle.context_table.specs.Places.{Places, slot_at, live_of, state_of}
 use Rattle.accept_core.specs.History.{opened, taken_of, standing}
 use Rattle.accept_core.specs.Replays.{Accepting}
-use Rattle.accept_core.specs.Stepping.{context_of}
+use Rattle.accept_core.specs.Stepping.{context_of, IsNext}
 use Rattle.accept_book.specs.Booking.{Changed, negotiated, raised, token_size, later_step}
 use Rattle.accept_book.specs.RecordShown.{KeptAnswers, AskedStep}
 use Rattle.accept_book.specs.RecordRule.{record_ruling}
@@ -30,8 +30,8 @@ end_in table (Some id) = state_of (slot_at table id)
 
 -- the record's one question is a step of a creation. The book answers it by its contract, in a
 -- token of at most 65,536 octets, and has places: four in its log; for a first token one in its
--- table, or a context that is past; and one in its cache for the mark of an authenticator, which
--- isn't stale by the greatest moment, and which no authenticator that was taken has
+-- table, or a context that gives its own; and one in its cache for the mark of an authenticator,
+-- which isn't stale by the greatest moment, and which no authenticator that was taken has
 pub record IsBooked (setup : AcceptSetup) (width : ℕ) (octets : List ℕ) (kept : KeptAnswers)
     (book : Around) : Type 0 where
   pub id : Option ℕ
@@ -40,7 +40,8 @@ pub record IsBooked (setup : AcceptSetup) (width : ℕ) (octets : List ℕ) (kep
   pub asked : (record_ruling octets kept width).asked
       ≡ AskedStep id token kept.now (take 66 kept.draws) answer ∷ []
   pub past : Option ℕ
-  pub is_past : IsPast book.before.table (max book.before.cache.greatest kept.now) past
+  pub is_past : id ≡ None
+      → IsNext book.before.table (max book.before.cache.greatest kept.now) past
   pub answered : answer.answer ≡ (negotiated setup (raised book.before kept.now) id past token
       kept.now (take 66 kept.draws)).answer
   pub history : book.after.history ≡ (negotiated setup (raised book.before kept.now) id past token

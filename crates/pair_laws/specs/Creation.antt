@@ -24,6 +24,7 @@ use Rattle.gss_client.specs.Talking.{Said}
 use Rattle.gss_server.specs.Connections.{octets_of}
 use Rattle.pair_laws.specs.Booked.{Around}
 use Rattle.pair_laws.specs.Honest.{occasion_of, HonestExchange}
+use Rattle.pair_laws.specs.HonestCalls.{IsToServer}
 use Rattle.pair_laws.specs.Laws.{IsBehind}
 use Rattle.pair_laws.specs.Resting.{RestsAt, HoldsOne}
 use Rattle.pair_laws.specs.Rows.{InRow, AreCuts, answers_of}
@@ -89,6 +90,7 @@ pub record SameLimits (old new : BookOf) : Type 0 where
 pub record IsCreation (width lasts : ℕ) (start : StartSays) (kind : MechKind) (count moment : ℕ)
     (stream more : List ℕ) (old new : BookOf) (front back : List Turn) (records : List Fragments)
     (tail rest : List ℕ) : Type 0 where
+  pub called : IsToServer start.terms
   pub rests : RestsAt count moment old.core
   pub some_width : 0 < width
   pub width_fits : width < 2 ^ 32

@@ -6,12 +6,12 @@ use Rattle.accept_book.specs.RecordShown.{KeptAnswers, AskedLook, AskedEnd}
 use Rattle.accept_book.specs.RecordRule.{record_ruling}
 use Rattle.accept_book.specs.declared.book_answer.Lease.{Lease}
 use Rattle.accept_core.specs.declared.entry.Receipt.{Receipt}
-use Rattle.rpcsec_bodies.specs.declared.service.Service.{Service}
+use Rattle.gss_client.specs.declared.terms.Terms.{Terms}
 use Rattle.gss_client.specs.Calling.{destroy_call}
 use Rattle.gss_client.specs.Talk.{destroys}
 use Rattle.gss_client.specs.Talking.{said}
 use Rattle.gss_server.specs.Connections.{framed}
-use Rattle.pair_laws.specs.HonestCalls.{session_on}
+use Rattle.pair_laws.specs.HonestCalls.{IsToServer, session_on}
 
 -- a session on a context whose number and transaction number fit
 pub record HonestEnd (lease : Lease) (number xid : ℕ) : Type 0 where
@@ -27,19 +27,19 @@ pub record IsTaken (lease : Lease) (kept : KeptAnswers) : Type 0 where
 
 -- the destruction's rule is 24, it asks for the context and for its end and for nothing else, and
 -- where its reply comes next the context is destroyed, and the rest of the stream is left
-pub record IsDestroyed (lease : Lease) (service : Service) (number xid : ℕ) (kept : KeptAnswers)
+pub record IsDestroyed (lease : Lease) (terms : Terms) (number xid : ℕ) (kept : KeptAnswers)
     (width : ℕ) (receipt : Receipt) (rest : List ℕ) : Type 0 where
-  pub rule : (record_ruling (destroy_call (session_on lease service number xid)) kept width).rule
+  pub rule : (record_ruling (destroy_call (session_on lease terms number xid)) kept width).rule
       ≡ 24
-  pub asked : (record_ruling (destroy_call (session_on lease service number xid)) kept width).asked
+  pub asked : (record_ruling (destroy_call (session_on lease terms number xid)) kept width).asked
       ≡ AskedLook lease.id kept.now (Ok lease) ∷ AskedEnd lease number (Ok receipt) ∷ []
-  pub result : destroys (session_on lease service number xid) (framed (record_ruling
-      (destroy_call (session_on lease service number xid)) kept width).reply ++ rest)
-      ≡ said (last_fragment (destroy_call (session_on lease service number xid))) (Ok tt) rest
+  pub result : destroys (session_on lease terms number xid) (framed (record_ruling
+      (destroy_call (session_on lease terms number xid)) kept width).reply ++ rest)
+      ≡ said (last_fragment (destroy_call (session_on lease terms number xid))) (Ok tt) rest
 
 -- every end of a session whose context is shown, and whose number is taken, is answered
 abbrev pub EndLaw : Type 0
 EndLaw =
-    (lease : Lease) (service : Service) (number xid : ℕ) (kept : KeptAnswers) (width : ℕ)
-    (rest : List ℕ) → HonestEnd lease number xid → (t : IsTaken lease kept)
-    → IsDestroyed lease service number xid kept width t.receipt rest
+    (lease : Lease) (terms : Terms) (number xid : ℕ) (kept : KeptAnswers) (width : ℕ)
+    (rest : List ℕ) → IsToServer terms → HonestEnd lease number xid → (t : IsTaken lease kept)
+    → IsDestroyed lease terms number xid kept width t.receipt rest

@@ -8,6 +8,7 @@ use Rattle.accept_book.specs.RecordShown.{KeptAnswers}
 use Rattle.gss_client.specs.Start.{StartSays}
 use Rattle.gss_client.specs.Talk.{created_from}
 use Rattle.pair_laws.specs.Conversing.{Converses}
+use Rattle.pair_laws.specs.HonestCalls.{IsToServer}
 use Rattle.pair_laws.specs.Booked.{Around, Booked, IsLeftAlone, id_in}
 
 -- what the acceptor was given with a token: the moment that was kept, and 66 of the octets
@@ -18,6 +19,8 @@ occasion_of kept = record { now = kept.now; drawn = take 66 kept.draws }
 -- acceptor's book
 pub record HonestExchange (setup : AcceptSetup) (width : ℕ) (start : StartSays)
     (stream : List ℕ) : Type 0 where
+  -- the session calls the server's program
+  pub called : IsToServer start.terms
   -- the octets to come, and the answers that are kept for the exchange
   pub converses : Converses width (created_from start) stream
   pub answers : List KeptAnswers

@@ -1,6 +1,7 @@
 -- An honest call: a session calls over a context that its server shows, and whose number it admits.
 use Rattle.std.specs.Prelude.{◌≡◌, ℕ, ◌<◌, ◌≤◌, ◌^◌, true, List, ◌++◌, length, take, drop, Some, Ok}
 use Rattle.rpc_msgs.specs.Words.{word}
+use Rattle.rpc_msgs.specs.declared.numbers.TheConstants.{PROGRAM, VERSION}
 use Rattle.rpc_msgs.specs.Records.{last_fragment}
 use Rattle.accept_book.specs.Honest.{IsOctets}
 use Rattle.accept_book.specs.Served.{are_args, result_of}
@@ -8,36 +9,42 @@ use Rattle.accept_book.specs.RecordShown.{KeptAnswers, handle_of}
 use Rattle.accept_book.specs.RecordRule.{record_ruling}
 use Rattle.accept_book.specs.declared.book_answer.Lease.{Lease}
 use Rattle.accept_core.specs.declared.entry.Admitted.{Admitted}
-use Rattle.rpcsec_bodies.specs.declared.service.Service.{Service}
 use Rattle.rpcsec_bodies.specs.declared.service.Service.TheVariants as services
+use Rattle.gss_client.specs.declared.terms.Terms.{Terms}
 use Rattle.gss_client.specs.Calling.{data_call}
 use Rattle.gss_client.specs.Session.{SessionState, session_after}
 use Rattle.gss_client.specs.Talk.{calls}
 use Rattle.gss_client.specs.Talking.{said}
 use Rattle.gss_server.specs.Connections.{framed}
 
+-- what is called is the server's program, in its version (RFC 5531 section 9)
+pub record IsToServer (terms : Terms) : Type 0 where
+  pub program : terms.program ≡ PROGRAM
+  pub version : terms.version ≡ VERSION
+
 -- a session on a context as the server shows it: with its outcome and its handle
-abbrev pub session_on : Lease → Service → ℕ → ℕ → SessionState
-session_on lease service number xid = record {
+abbrev pub session_on : Lease → Terms → ℕ → ℕ → SessionState
+session_on lease terms number xid = record {
   outcome = lease.outcome;
-  service = service;
+  terms = terms;
   handle =
       handle_of lease.id;
   number = number;
   xid = xid;
 }
 
--- a call of one of the served procedures with its own arguments, which the service protects unless
--- the procedure is 0
-pub record HonestCall (lease : Lease) (service : Service) (number xid procedure : ℕ)
+-- a call to the server's program of one of its procedures with its own arguments, which the service
+-- protects unless the procedure is 0
+pub record HonestCall (lease : Lease) (terms : Terms) (number xid procedure : ℕ)
     (args confounder : List ℕ) : Type 0 where
+  pub called : IsToServer terms
   pub id : lease.id < 2 ^ 64
   pub name : length lease.outcome.initiator ≤ 255
   pub number_left : number ≤ 0x7fffffff
   pub xid_fits : xid < 2 ^ 32
   pub served : procedure ≤ 4
   pub proper : are_args procedure args ≡ true
-  pub protected : service ≡ services.None → procedure ≡ 0
+  pub protected : terms.service ≡ services.None → procedure ≡ 0
   pub size : length args ≤ 65540
   pub block : length confounder ≡ 16
   pub octets : IsOctets (confounder ++ (word number ++ args))
@@ -55,17 +62,17 @@ pub record IsAdmitted (lease : Lease) (number procedure : ℕ) (args : List ℕ)
 
 -- the call's rule is 23, and where its reply comes next the session takes the service's result from
 -- it, goes on, and leaves the rest of the stream
-pub record IsAnswered (lease : Lease) (service : Service) (number xid procedure : ℕ)
+pub record IsAnswered (lease : Lease) (terms : Terms) (number xid procedure : ℕ)
     (args confounder : List ℕ) (kept : KeptAnswers) (width posts : ℕ) (rest : List ℕ) : Type 0 where
-  pub rule : (record_ruling (data_call (session_on lease service number xid) procedure args
+  pub rule : (record_ruling (data_call (session_on lease terms number xid) procedure args
       confounder) kept width).rule ≡ 23
-  pub result : calls (session_on lease service number xid) procedure args confounder (framed
-      (record_ruling (data_call (session_on lease service number xid) procedure args confounder)
+  pub result : calls (session_on lease terms number xid) procedure args confounder (framed
+      (record_ruling (data_call (session_on lease terms number xid) procedure args confounder)
       kept width).reply ++ rest)
       ≡ said
-      (last_fragment (data_call (session_on lease service number xid) procedure args confounder))
+      (last_fragment (data_call (session_on lease terms number xid) procedure args confounder))
       (Ok (
-        session_after (session_on lease service number xid),
+        session_after (session_on lease terms number xid),
         result_of procedure args
             lease.outcome.initiator posts,
       )) rest
@@ -73,8 +80,8 @@ pub record IsAnswered (lease : Lease) (service : Service) (number xid procedure 
 -- every honest call of a context that is shown, and whose number is admitted, is answered
 abbrev pub CallLaw : Lease → Type 0
 CallLaw lease =
-    (service : Service) (number xid procedure : ℕ) (args confounder : List ℕ) (kept : KeptAnswers)
+    (terms : Terms) (number xid procedure : ℕ) (args confounder : List ℕ) (kept : KeptAnswers)
     (width : ℕ) (rest : List ℕ)
-    → HonestCall lease service number xid procedure args confounder
+    → HonestCall lease terms number xid procedure args confounder
     → (a : IsAdmitted lease number procedure args kept)
-    → IsAnswered lease service number xid procedure args confounder kept width a.admitted.posts rest
+    → IsAnswered lease terms number xid procedure args confounder kept width a.admitted.posts rest

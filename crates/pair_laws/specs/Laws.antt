@@ -63,7 +63,7 @@ pub record Completes (setup : AcceptSetup) (width : ℕ) (start : StartSays) (st
   pub behind : IsBehind x.answers x.books core
   pub whole : IsWhole core (lease_on (id_in x.books) outcome lasts)
   pub session : created_from start stream ≡ said (flat_map last_fragment x.converses.records)
-      (Ok (begun start.service start.first (1 + length x.answers) outcome
+      (Ok (begun start.terms start.first (1 + length x.answers) outcome
       (handle_of (id_in x.books)))) x.converses.rest
 
 -- what came of a creation: the session, or the link's fault or want of memory
@@ -81,4 +81,4 @@ pub record PairLaw : Type 0 where
       → (old new : Wire) (result : Result SessionState ClientRefusal) → IsStream old new stream
       → Talks (created_from start) old new result
       → CameTo result
-      (begun start.service start.first (1 + length x.answers) c.outcome (handle_of (id_in x.books)))
+      (begun start.terms start.first (1 + length x.answers) c.outcome (handle_of (id_in x.books)))

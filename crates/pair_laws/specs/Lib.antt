@@ -7,8 +7,7 @@ pub mod Ending
 pub mod Turns
 pub mod Laws
 pub mod Running
-pub mod Conferring
-pub mod Holding
+pub mod EqualCalls
 pub mod Sessions
 pub mod Rows
 pub mod Opening

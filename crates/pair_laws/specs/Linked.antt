@@ -17,7 +17,7 @@ use Rattle.gss_client.specs.Start.{StartSays}
 use Rattle.gss_server.specs.Connections.{octets_of, written_in}
 use Rattle.gss_server.specs.Hearing.{kept_answers}
 use Rattle.gss_server.specs.declared.answer.Kept.{Kept}
-use Rattle.pair_laws.specs.Conferring.{DueCall, talk_of}
+use Rattle.gss_client.specs.Conferring.{DueCall, talk_of}
 use Rattle.pair_laws.specs.Creation.{IsAt, SameLimits, Enters, padded}
 use Rattle.pair_laws.specs.Honest.{occasion_of}
 use Rattle.pair_laws.specs.Resting.{RestsAt}
@@ -59,7 +59,7 @@ pub record IsServed (width lasts tokens : ℕ) (start : StartSays) (kind : MechK
   pub log : length old.core.history + 4 * tokens + length due < old.core.limit
   -- the session
   pub some : 0 < start.first
-  pub planned : ArePlanned start.service start.first due confounders
+  pub planned : ArePlanned start.terms start.first due confounders
 
 -- such a session is created: it tells an outcome
 abbrev pub CreatedLaw : Type 0

@@ -4,10 +4,10 @@ use Rattle.std.specs.Prelude.{◌≡◌, ◌⊎◌, ℕ, ◌+◌, ◌<◌, ◌�
 use Rattle.std.specs.Prelude.{take, Option, Some, None, IfSome, Ok}
 use Rattle.rpcsec_msgs.specs.declared.numbers.TheConstants.{RPCSEC_GSS_INIT}
 use Rattle.rpcsec_msgs.specs.declared.numbers.TheConstants.{RPCSEC_GSS_CONTINUE_INIT}
-use Rattle.rpcsec_bodies.specs.declared.service.Service.{Service}
+use Rattle.gss_client.specs.declared.terms.Terms.{Terms}
 use Rattle.replay_cache.specs.Taking.{cache_verdict}
 use Rattle.replay_cache.specs.declared.cache.CacheVerdict.TheVariants.{Taken}
-use Rattle.context_table.specs.Places.{live_of, IsPast}
+use Rattle.context_table.specs.Places.{live_of}
 use Rattle.spnego_core.specs.Accepting.{step_of, mark_asked}
 use Rattle.spnego_core.specs.declared.accept_end.AcceptEnd.{AcceptEnd}
 use Rattle.spnego_core.specs.declared.accept_end.AcceptPause.{AcceptPause}
@@ -19,18 +19,20 @@ use Rattle.accept_core.specs.History.{taken_of}
 use Rattle.accept_book.specs.RecordRule.{record_ruling}
 use Rattle.accept_book.specs.RecordShown.{KeptAnswers, handle_of}
 use Rattle.accept_core.specs.Replays.{Accepting}
+use Rattle.accept_core.specs.Stepping.{IsNext}
 use Rattle.accept_book.specs.declared.book_answer.Negotiated.{Negotiated}
 use Rattle.gss_client.specs.Calling.{creation_call}
 use Rattle.gss_server.specs.Answers.{IsDecided}
 use Rattle.gss_server.specs.Asking.{Asking, BookAnswers}
+use Rattle.pair_laws.specs.HonestCalls.{IsToServer}
 use Rattle.pair_laws.specs.Booked.{end_in, IsBooked}
 
 -- a call with a token: of a new context, or of the one that was opened with this id (RFC 2203
 -- section 5.2.2)
-abbrev pub creation_of : Service → ℕ → Option ℕ → List ℕ → List ℕ
-creation_of service xid None token = creation_call service xid RPCSEC_GSS_INIT [] token
-creation_of service xid (Some id) token =
-    creation_call service xid RPCSEC_GSS_CONTINUE_INIT (handle_of id) token
+abbrev pub creation_of : Terms → ℕ → Option ℕ → List ℕ → List ℕ
+creation_of terms xid None token = creation_call terms xid RPCSEC_GSS_INIT [] token
+creation_of terms xid (Some id) token =
+    creation_call terms xid RPCSEC_GSS_CONTINUE_INIT (handle_of id) token
 
 -- its transaction number and its id have a spelling, and its token fits
 pub record FitsCreation (xid : ℕ) (id : Option ℕ) (token : List ℕ) : Type 0 where
@@ -39,12 +41,12 @@ pub record FitsCreation (xid : ℕ) (id : Option ℕ) (token : List ℕ) : Type 
   pub size : length token ≤ 65536
 
 -- the book has places for the token: four in its log; for a first token one in its table, or a
--- context that is past; and one in its cache for the mark of an authenticator, which isn't stale by
--- the greatest moment, and which no authenticator that was taken has
+-- context that gives its own; and one in its cache for the mark of an authenticator, which isn't
+-- stale by the greatest moment, and which no authenticator that was taken has
 pub record HasPlaces (setup : AcceptSetup) (core : Accepting AcceptEnd Outcome) (id : Option ℕ)
     (token : List ℕ) (kept : KeptAnswers) : Type 0 where
   pub past : Option ℕ
-  pub is_past : IsPast core.table (max core.cache.greatest kept.now) past
+  pub is_past : id ≡ None → IsNext core.table (max core.cache.greatest kept.now) past
   pub log : length core.history + 4 ≤ core.limit
   pub table : id ≡ None → (live_of core.table < core.table.limit) ⊎ (is_some past ≡ true)
   pub mark : (pause : AcceptPause)
@@ -65,9 +67,9 @@ pub record IsStepped (width : ℕ) (octets : List ℕ) (kept : KeptAnswers) (old
 -- a book that has places for a token of a creation books it, as `HonestExchange` asks for
 abbrev pub StepTurnLaw : Type 0
 StepTurnLaw =
-    (service : Service) (xid width : ℕ) (id : Option ℕ) (token : List ℕ) (kept : KeptAnswers)
-    (old new : BookOf) → FitsCreation xid id token
-    → IsStepped width (creation_of service xid id token) kept old new
+    (terms : Terms) (xid width : ℕ) (id : Option ℕ) (token : List ℕ) (kept : KeptAnswers)
+    (old new : BookOf) → IsToServer terms → FitsCreation xid id token
+    → IsStepped width (creation_of terms xid id token) kept old new
     → HasPlaces old.setup old.core id token kept
-    → IsBooked old.setup width (creation_of service xid id token) kept
+    → IsBooked old.setup width (creation_of terms xid id token) kept
     (record { before = old.core; after = new.core })

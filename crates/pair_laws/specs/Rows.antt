@@ -18,15 +18,14 @@ use Rattle.accept_book.specs.declared.book_answer.Lease.{Lease}
 use Rattle.accept_core.specs.declared.entry.EndCause.TheVariants.{Destroyed}
 use Rattle.accept_core.specs.declared.entry.Entry.{Entry}
 use Rattle.accept_core.specs.declared.entry.Entry.TheVariants.{Call, Ended}
-use Rattle.rpcsec_bodies.specs.declared.service.Service.{Service}
-use Rattle.gss_client.specs.Procedure.{procedure_number}
+use Rattle.gss_client.specs.declared.terms.Terms.{Terms}
 use Rattle.gss_client.specs.Session.{SessionState}
 use Rattle.gss_server.specs.Answers.{IsDecided}
 use Rattle.gss_server.specs.Asking.{Asking, BookAnswers}
 use Rattle.gss_server.specs.Connections.{octets_of, written_in, asked_in, AllDecided, AllExact}
 use Rattle.gss_server.specs.Hearing.{kept_answers}
 use Rattle.gss_server.specs.declared.answer.Kept.{Kept}
-use Rattle.pair_laws.specs.Conferring.{DueCall, confers}
+use Rattle.gss_client.specs.Conferring.{DueCall, confers}
 use Rattle.pair_laws.specs.Conversing.{IsWithin}
 use Rattle.pair_laws.specs.HonestCalls.{session_on}
 use Rattle.pair_laws.specs.Live.{IsLiveAt}
@@ -133,7 +132,7 @@ pub record ChainLaw : Type 0 where
 
 -- these calls, and the end, as a row of turns from a book that has the context live and places in
 -- its log
-pub record IsRow (width : ℕ) (lease : Lease) (service : Service) (first xid : ℕ)
+pub record IsRow (width : ℕ) (lease : Lease) (terms : Terms) (first xid : ℕ)
     (due : List DueCall) (confounders stream : List ℕ) (old new : BookOf) (turns : List Turn)
     (rest : List ℕ) : Type 0 where
   pub id : lease.id < 2 ^ 64
@@ -141,10 +140,10 @@ pub record IsRow (width : ℕ) (lease : Lease) (service : Service) (first xid : 
   pub live : IsLiveAt old lease first
   pub room : length old.core.history + length due < old.core.limit
   pub row : InRow width lease.ends old turns new
-  pub written : (confers due (session_on lease service first xid) confounders stream).written
+  pub written : (confers due (session_on lease terms first xid) confounders stream).written
       ≡ flat_map sent_in turns
   pub heard : stream ≡ flat_map (heard_in width) turns ++ rest
-  pub planned : ArePlanned service first due confounders
+  pub planned : ArePlanned terms first due confounders
   pub name : IsName lease.outcome.initiator
 
 -- a history behind these calls of an id, the first with this number and each with the next one,
@@ -153,7 +152,7 @@ abbrev pub history_after : ℕ → ℕ → List DueCall → List Entry → List 
 history_after id number [] h = Ended id (Destroyed number) ∷ h
 history_after id number (call ∷ later) h =
     history_after id (number + 1) later
-    (Call id number (procedure_number call.procedure) (sha1 call.args) ∷ h)
+    (Call id number call.query.number (sha1 call.args) ∷ h)
 
 -- the greatest moment once those of these turns were seen
 abbrev pub greatest_after : List Turn → ℕ → ℕ
@@ -162,14 +161,14 @@ greatest_after (turn ∷ turns) greatest = greatest_after turns (max greatest tu
 
 -- how many posts there are with this call
 abbrev pub posts_with : ℕ → DueCall → ℕ
-posts_with count call = if procedure_number call.procedure == POST then count + 1 else count
+posts_with count call = if call.query.number == POST then count + 1 else count
 
 -- the service's results of these calls to a name, where nobody else posts: so many posts came
 -- before
 abbrev pub results_by : ℕ → List ℕ → List DueCall → List (List ℕ)
 results_by count name [] = []
 results_by count name (call ∷ later) =
-    result_of (procedure_number call.procedure) call.args name (posts_with count call)
+    result_of call.query.number call.args name (posts_with count call)
     ∷ results_by (posts_with count call) name later
 
 -- what such a row leaves: the log has the calls and the end and nothing else, the context is gone,
@@ -197,8 +196,8 @@ pub record RowRuns (width : ℕ) (lease : Lease) (first : ℕ) (due : List DueCa
 -- every session in a row on this key is served
 abbrev pub RowLaw : Key → Type 0
 RowLaw key =
-    (width : ℕ) (lease : Lease) (service : Service) (first xid : ℕ) (due : List DueCall)
+    (width : ℕ) (lease : Lease) (terms : Terms) (first xid : ℕ) (due : List DueCall)
     (confounders stream : List ℕ) (old new : BookOf) (turns : List Turn) (rest : List ℕ)
     → lease.outcome.key ≡ key
-    → IsRow width lease service first xid due confounders stream old new turns rest
+    → IsRow width lease terms first xid due confounders stream old new turns rest
     → RowRuns width lease first due turns old new

@@ -24,12 +24,11 @@ use Rattle.accept_core.specs.declared.entry.Entry.TheVariants.{Call, Ended}
 use Rattle.accept_core.specs.declared.entry.EndCause.TheVariants.{Destroyed}
 use Rattle.gss_client.specs.declared.conversation.Parting.{Parting}
 use Rattle.gss_client.specs.declared.conversation.Parting.TheVariants.{Finished, Spent}
-use Rattle.gss_client.specs.declared.procedure.Procedure.{Procedure}
+use Rattle.gss_client.specs.Query.{QuerySays}
 use Rattle.gss_client.specs.Start.{StartSays}
-use Rattle.rpcsec_bodies.specs.declared.service.Service.{Service}
+use Rattle.gss_client.specs.declared.terms.Terms.{Terms}
 use Rattle.rpcsec_bodies.specs.declared.service.Service.TheVariants as services
 use Rattle.gss_client.specs.Conversation.{converses, talk}
-use Rattle.gss_client.specs.Procedure.{procedure_number}
 use Rattle.gss_server.specs.Connections.{framed}
 use Rattle.pair_laws.specs.Booked.{id_in}
 use Rattle.pair_laws.specs.Honest.{HonestExchange}
@@ -87,13 +86,20 @@ pub record IsName (name : List ℕ) : Type 0 where
   pub text : is_utf8 name ≡ true
   pub octets : IsOctets name
 
--- calls from a number on, of a procedure with its own arguments, which the service protects unless
--- the procedure is 0, and with random octets
-pub record IsPlan (service : Service) (first : ℕ) (procedure : Procedure)
-    (args confounders : List ℕ) : Type 0 where
+-- one of the server's procedures is asked, and what the server answers with is a result of it
+pub record IsServersQuery (query : QuerySays) : Type 0 where
+  pub served : query.number ≤ 4
+  pub takes : (args name : List ℕ) (count : ℕ) → are_args query.number args ≡ true → IsName name
+      → query.is_result (result_of query.number args name count) ≡ true
+
+-- calls of the server's program from a number on, of one of its procedures with its own arguments,
+-- which the service protects unless the procedure is 0, and with random octets
+pub record IsPlan (terms : Terms) (first : ℕ) (query : QuerySays) (args confounders : List ℕ)
+    : Type 0 where
+  pub asked : IsServersQuery query
   pub first_fits : first ≤ 0x80000000
-  pub proper : are_args (procedure_number procedure) args ≡ true
-  pub protected : service ≡ services.None → procedure_number procedure ≡ 0
+  pub proper : are_args query.number args ≡ true
+  pub protected : terms.service ≡ services.None → query.number ≡ 0
   pub size : length args ≤ 65540
   pub args_octets : IsOctets args
   pub octets : IsOctets confounders
@@ -102,16 +108,16 @@ pub record IsPlan (service : Service) (first : ℕ) (procedure : Procedure)
 -- settled its context, of which no number from the first on was called yet
 pub record HonestRun (setup : AcceptSetup) (width : ℕ) (start : StartSays) (stream : List ℕ)
     (x : HonestExchange setup width start stream) (c : Completes setup width start stream x)
-    (times : ℕ) (procedure : Procedure) (args confounders : List ℕ) : Type 0 where
+    (times : ℕ) (query : QuerySays) (args confounders : List ℕ) : Type 0 where
   pub turns : List Turn
   pub rest : List ℕ
-  pub written : (converses times procedure args
-      (session_on (lease_on (id_in x.books) c.outcome c.lasts) start.service start.first
+  pub written : (converses times query args
+      (session_on (lease_on (id_in x.books) c.outcome c.lasts) start.terms start.first
       (1 + length x.answers)) confounders x.converses.rest).written ≡ flat_map sent_in turns
   pub heard : x.converses.rest ≡ flat_map (heard_in width) turns ++ rest
   pub served : Serves width (lease_on (id_in x.books) c.outcome c.lasts) c.core turns
   pub unused : greatest (numbers (id_in x.books) c.core.history) < start.first
-  pub plan : IsPlan start.service start.first procedure args confounders
+  pub plan : IsPlan start.terms start.first query args confounders
   pub enough : 16 * times ≤ length confounders
   pub name : IsName c.outcome.initiator
 
@@ -162,25 +168,25 @@ Logged width lease procedure args (suc made) number (turn ∷ turns) =
 -- each call in its log, and has destroyed the context
 pub record Runs (setup : AcceptSetup) (width : ℕ) (start : StartSays) (stream : List ℕ)
     (x : HonestExchange setup width start stream) (c : Completes setup width start stream x)
-    (times : ℕ) (procedure : Procedure) (args confounders : List ℕ)
-    (r : HonestRun setup width start stream x c times procedure args confounders) : Type 0 where
-  pub session : talk start times procedure args confounders stream ≡ record {
+    (times : ℕ) (query : QuerySays) (args confounders : List ℕ)
+    (r : HonestRun setup width start stream x c times query args confounders) : Type 0 where
+  pub session : talk start times query args confounders stream ≡ record {
     written = flat_map last_fragment x.converses.records ++ flat_map sent_in r.turns;
     outcome = Some c.outcome;
-    results = results_of (calls_made start.first times) (procedure_number procedure) args
+    results = results_of (calls_made start.first times) query.number args
         c.outcome.initiator r.turns;
     parting = parting_of start.first times;
     undrawn = drop (16 * calls_made start.first times) confounders;
     rest = r.rest;
   }
   pub logged : Logged width (lease_on (id_in x.books) c.outcome c.lasts)
-      (procedure_number procedure) args (calls_made start.first times) start.first r.turns
+      query.number args (calls_made start.first times) start.first r.turns
 
 -- every honest run on this key is complete
 abbrev pub RunLaw : Key → Type 0
 RunLaw key =
     (setup : AcceptSetup) (width : ℕ) (start : StartSays) (stream : List ℕ)
     (x : HonestExchange setup width start stream) (c : Completes setup width start stream x)
-    (times : ℕ) (procedure : Procedure) (args confounders : List ℕ) → c.outcome.key ≡ key
-    → (r : HonestRun setup width start stream x c times procedure args confounders)
-    → Runs setup width start stream x c times procedure args confounders r
+    (times : ℕ) (query : QuerySays) (args confounders : List ℕ) → c.outcome.key ≡ key
+    → (r : HonestRun setup width start stream x c times query args confounders)
+    → Runs setup width start stream x c times query args confounders r

@@ -11,33 +11,37 @@ use Rattle.accept_core.specs.History.{numbers, posts}
 use Rattle.accept_book.specs.Honest.{IsOctets}
 use Rattle.accept_book.specs.Served.{are_args, result_of}
 use Rattle.accept_book.specs.declared.book_answer.Lease.{Lease}
-use Rattle.rpcsec_bodies.specs.declared.service.Service.{Service}
+use Rattle.gss_client.specs.declared.terms.Terms.{Terms}
 use Rattle.rpcsec_bodies.specs.declared.service.Service.TheVariants as services
 use Rattle.gss_client.specs.Start.{StartSays}
-use Rattle.gss_client.specs.Procedure.{procedure_number}
+use Rattle.gss_client.specs.Query.{QuerySays}
+use Rattle.gss_client.specs.Conferring.{DueCall, confers, talk_of}
 use Rattle.pair_laws.specs.Booked.{id_in}
-use Rattle.pair_laws.specs.Conferring.{DueCall, confers, talk_of}
 use Rattle.pair_laws.specs.Honest.{HonestExchange}
-use Rattle.pair_laws.specs.HonestCalls.{session_on}
+use Rattle.pair_laws.specs.HonestCalls.{IsToServer, session_on}
 use Rattle.pair_laws.specs.Laws.{Completes}
 use Rattle.pair_laws.specs.Live.{lease_on}
 use Rattle.pair_laws.specs.Running.{Turn, sent_in, heard_in, Serves, IsName, calls_made}
-use Rattle.pair_laws.specs.Running.{parting_of, IsLogged, IsGone}
+use Rattle.pair_laws.specs.Running.{IsServersQuery, parting_of, IsLogged, IsGone}
 
 -- ---- what the session asks for
 
--- a call has its procedure's own arguments, and the service protects it unless the procedure is 0
-pub record IsProper (service : Service) (call : DueCall) : Type 0 where
-  pub proper : are_args (procedure_number call.procedure) call.args ≡ true
-  pub protected : service ≡ services.None → procedure_number call.procedure ≡ 0
+-- a call asks one of the server's procedures and has that procedure's own arguments, and the
+-- service protects it unless the procedure is 0
+pub record IsProper (terms : Terms) (call : DueCall) : Type 0 where
+  pub asked : IsServersQuery call.query
+  pub proper : are_args call.query.number call.args ≡ true
+  pub protected : terms.service ≡ services.None → call.query.number ≡ 0
   pub size : length call.args ≤ 65540
   pub octets : IsOctets call.args
 
--- proper calls from a number on, with random octets of which there are 16 for each
-pub record ArePlanned (service : Service) (first : ℕ) (due : List DueCall)
+-- proper calls of the server's program from a number on, with random octets of which there are 16
+-- for each
+pub record ArePlanned (terms : Terms) (first : ℕ) (due : List DueCall)
     (confounders : List ℕ) : Type 0 where
+  pub called : IsToServer terms
   pub first_fits : first ≤ 0x80000000
-  pub each : AllByRecursion (IsProper service) due
+  pub each : AllByRecursion (IsProper terms) due
   pub octets : IsOctets confounders
   pub enough : 16 * length due ≤ length confounders
 
@@ -49,12 +53,12 @@ pub record HonestSession (setup : AcceptSetup) (width : ℕ) (start : StartSays)
   pub turns : List Turn
   pub rest : List ℕ
   pub written : (confers due
-      (session_on (lease_on (id_in x.books) c.outcome c.lasts) start.service start.first
+      (session_on (lease_on (id_in x.books) c.outcome c.lasts) start.terms start.first
       (1 + length x.answers)) confounders x.converses.rest).written ≡ flat_map sent_in turns
   pub heard : x.converses.rest ≡ flat_map (heard_in width) turns ++ rest
   pub served : Serves width (lease_on (id_in x.books) c.outcome c.lasts) c.core turns
   pub unused : greatest (numbers (id_in x.books) c.core.history) < start.first
-  pub planned : ArePlanned start.service start.first due confounders
+  pub planned : ArePlanned start.terms start.first due confounders
   pub name : IsName c.outcome.initiator
 
 -- ---- what comes of it
@@ -68,7 +72,7 @@ abbrev pub results_in : List DueCall → List ℕ → List Turn → List (List �
 results_in [] name turns = []
 results_in (call ∷ later) name [] = []
 results_in (call ∷ later) name (turn ∷ turns) =
-    result_of (procedure_number call.procedure) call.args name (posts turn.after.core.history)
+    result_of call.query.number call.args name (posts turn.after.core.history)
     ∷ results_in later name turns
 
 -- these calls, the first with this number and each with the next one, and then the destruction
@@ -78,7 +82,7 @@ AreLogged width lease [] number (last ∷ []) = IsGone width lease number last
 AreLogged width lease [] number (turn ∷ next ∷ turns) = ⊥
 AreLogged width lease (call ∷ later) number [] = ⊥
 AreLogged width lease (call ∷ later) number (turn ∷ turns) =
-    IsLogged width lease number (procedure_number call.procedure) call.args turn
+    IsLogged width lease number call.query.number call.args turn
     × AreLogged width lease later (number + 1) turns
 
 -- the session agrees on the outcome, is answered the service's results, parts with all calls made

@@ -10,11 +10,11 @@ use Rattle.accept_book.specs.RecordRule.{record_ruling}
 use Rattle.accept_book.specs.declared.book_answer.Lease.{Lease}
 use Rattle.accept_core.specs.declared.entry.Entry.TheVariants.{Call, Ended}
 use Rattle.accept_core.specs.declared.entry.EndCause.TheVariants.{Destroyed}
-use Rattle.rpcsec_bodies.specs.declared.service.Service.{Service}
+use Rattle.gss_client.specs.declared.terms.Terms.{Terms}
 use Rattle.gss_client.specs.Calling.{data_call, destroy_call}
 use Rattle.gss_server.specs.Answers.{IsDecided}
 use Rattle.gss_server.specs.Asking.{Asking, BookAnswers}
-use Rattle.pair_laws.specs.HonestCalls.{session_on, HonestCall}
+use Rattle.pair_laws.specs.HonestCalls.{IsToServer, session_on, HonestCall}
 use Rattle.pair_laws.specs.Ending.{HonestEnd}
 use Rattle.pair_laws.specs.Live.{IsLiveAt}
 
@@ -42,11 +42,11 @@ pub record IsCallTurn (old new : BookOf) (lease : Lease) (next procedure : ℕ) 
 -- an honest call of a session on a live context of a book that answers it is shown and admitted
 abbrev pub CallTurnLaw : Lease → Type 0
 CallTurnLaw lease =
-    (service : Service) (next xid procedure : ℕ) (args confounder : List ℕ) (kept : KeptAnswers)
+    (terms : Terms) (next xid procedure : ℕ) (args confounder : List ℕ) (kept : KeptAnswers)
     (width : ℕ) (old new : BookOf)
-    → HonestCall lease service next xid procedure args confounder
+    → HonestCall lease terms next xid procedure args confounder
     → IsAnsweredBy width lease.ends
-    (data_call (session_on lease service next xid) procedure args confounder) kept old new
+    (data_call (session_on lease terms next xid) procedure args confounder) kept old new
     → IsLiveAt old lease next → IsCallTurn old new lease next procedure args kept
 
 -- the context was shown, its end was taken, the log has it, and the context is gone; every other
@@ -64,7 +64,7 @@ pub record IsEndTurn (old new : BookOf) (lease : Lease) (next : ℕ) (kept : Kep
 -- the end of a session on a live context of a book that answers it is taken
 abbrev pub EndTurnLaw : Type 0
 EndTurnLaw =
-    (lease : Lease) (service : Service) (next xid : ℕ) (kept : KeptAnswers) (width : ℕ)
-    (old new : BookOf) → HonestEnd lease next xid
-    → IsAnsweredBy width lease.ends (destroy_call (session_on lease service next xid)) kept old new
+    (lease : Lease) (terms : Terms) (next xid : ℕ) (kept : KeptAnswers) (width : ℕ)
+    (old new : BookOf) → IsToServer terms → HonestEnd lease next xid
+    → IsAnsweredBy width lease.ends (destroy_call (session_on lease terms next xid)) kept old new
     → IsLiveAt old lease next → IsEndTurn old new lease next kept

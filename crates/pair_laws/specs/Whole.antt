@@ -10,7 +10,7 @@ use Rattle.accept_core.specs.History.{posts}
 use Rattle.accept_core.specs.declared.entry.Entry.{Entry}
 use Rattle.gss_client.specs.Start.{StartSays}
 use Rattle.gss_client.specs.Talk.{created_from}
-use Rattle.pair_laws.specs.Conferring.{DueCall, talk_of}
+use Rattle.gss_client.specs.Conferring.{DueCall, talk_of}
 use Rattle.pair_laws.specs.Creation.{IsCreation, SameLimits, Enters}
 use Rattle.pair_laws.specs.Resting.{RestsAt, IsBy}
 use Rattle.pair_laws.specs.Rows.{IsNoRecord, answers_of, history_after, posts_with, results_by}
@@ -35,7 +35,7 @@ pub record IsSession (key : Key) (width lasts : ℕ) (start : StartSays) (kind :
   pub wide : 0 < old.core.width
   pub log : length old.core.history + 4 * length front + length due < old.core.limit
   pub some : 0 < start.first
-  pub planned : ArePlanned start.service start.first due confounders
+  pub planned : ArePlanned start.terms start.first due confounders
   pub moments : AllByRecursion (IsBy moment) (answers_of back)
   pub told : (talk_of start due confounders stream).outcome ≡ Some outcome
   pub key_is : outcome.key ≡ key

@@ -1,6 +1,6 @@
 //! What holds of a session and of a book together.
 
-ghost use Rattle.pair_laws.specs.Conferring.{EqualCalls};
+ghost use Rattle.pair_laws.specs.EqualCalls.{EqualCalls};
 ghost use Rattle.pair_laws.specs.Creation.{CreationLaw};
 ghost use Rattle.pair_laws.specs.Ending.{EndLaw};
 ghost use Rattle.pair_laws.specs.HonestCalls.{CallLaw};

@@ -1,13 +1,11 @@
 //! The completeness of the pair: an honest session against an acceptor's book is created, and both ends have one outcome.
 #![tactic(auto)]
 
-mod conference;
 mod kept;
 mod laws;
 mod meeting;
 mod told;
 
-pub use conference::{DueCall, hold_calls};
 pub use kept::tell_kept;
 pub use laws::{
     prove_call_turns, prove_calls, prove_chains, prove_created, prove_creations, prove_end_turns,

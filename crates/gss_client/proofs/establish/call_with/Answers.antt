@@ -14,4 +14,4 @@ returns-in-Ok-clause-told g c = λ t.
 
 pub returns-in-Err-clause-told : goal.returns-in-Err-clause-told
 returns-in-Err-clause-told g c = λ t.
-    stopped-memory (exchanges (creation_call c.args.service c.args.xid c.args.proc c.args.handle.now c.args.token.now)) _ NoMemory refl
+    stopped-memory (exchanges (creation_call c.args.terms c.args.xid c.args.proc c.args.handle.now c.args.token.now)) _ NoMemory refl

@@ -1,23 +1,33 @@
 -- A client's talk over calls that may differ: each in its order, the end of the context, and the
--- creation before them, by whichever machine the initiator is. `converses` and `talk` are its case
--- of a list that repeats one call.
-use Rattle.std.specs.Prelude.{◌≡◌, ℕ, ◌==◌, if◌then◌else◌, List, [], ◌∷◌, take, drop, replicate}
+-- creation before them, by whichever machine the initiator is.
+use Rattle.std.specs.Prelude.{ℕ, ◌==◌, if◌then◌else◌, List, [], ◌∷◌, map, take, drop}
 use Rattle.std.specs.Prelude.{Some, None, Result, Ok, Err}
 use Rattle.gss_client.specs.declared.conversation.Parting.TheVariants.{Finished, Spent, Refused}
-use Rattle.gss_client.specs.declared.procedure.Procedure.{Procedure}
+use Rattle.gss_client.specs.Query.{QuerySays}
 use Rattle.gss_client.specs.declared.refusal.ClientRefusal.{ClientRefusal}
 use Rattle.gss_client.specs.Start.{StartSays}
-use Rattle.gss_client.specs.Conversation.{Conversed, leaves, goes_on, converses, Talk, by_session}
-use Rattle.gss_client.specs.Conversation.{talk}
-use Rattle.gss_client.specs.Procedure.{procedure_number}
+use Rattle.gss_client.specs.Conversation.{Conversed, leaves, goes_on, Talk, by_session}
 use Rattle.gss_client.specs.Session.{SessionState}
 use Rattle.gss_client.specs.Talk.{created_from, calls, destroys}
 use Rattle.gss_client.specs.Talking.{Said, Talking}
 
--- a call that is due: a procedure, and its arguments
+-- a call that is due: what is asked, and the arguments
 pub record DueCall : Type 0 where
-  pub procedure : Procedure
+  pub query : QuerySays
   pub args : List ℕ
+
+-- the same as it lies in memory, with whatever says what is asked
+pub record DueOf (Q : Type 0) : Type 0 where
+  pub query : Q
+  pub args : List ℕ
+
+-- the call, by what is said there
+abbrev pub call_of : {Q : Type 0} → (Q → QuerySays) → DueOf Q → DueCall
+call_of says due = record { query = says due.query; args = due.args }
+
+-- each of a list
+abbrev pub calls_of : {Q : Type 0} → (Q → QuerySays) → List (DueOf Q) → List DueCall
+calls_of says due = map (call_of says) due
 
 -- ---- the calls of a session, and the end of its context
 
@@ -28,8 +38,8 @@ confers [] s draws stream = leaves Finished draws (destroys s stream)
 confers (call ∷ later) s draws stream =
     if s.number == 0x80000000 then leaves Spent draws (destroys s stream)
     else (let said : Said (SessionState × List ℕ) =
-    calls s (procedure_number call.procedure) call.args (take 16 draws) stream in
-    goes_on call.procedure said.written (drop 16 draws) said.rest (confers later) said.answer)
+    calls s call.query.number call.args (take 16 draws) stream in
+    goes_on call.query said.written (drop 16 draws) said.rest (confers later) said.answer)
 
 -- ---- a whole session
 
@@ -57,14 +67,3 @@ talk_behind creation due draws stream =
 -- destruction
 abbrev pub talk_of : StartSays → List DueCall → List ℕ → List ℕ → Talk
 talk_of start due draws stream = talk_behind (created_from start) due draws stream
-
--- ---- equal calls
-
--- so many calls of a procedure with the same arguments are a list that repeats one call
-pub record EqualCalls : Type 0 where
-  pub calls_are : (times : ℕ) (call : DueCall) (s : SessionState) (draws stream : List ℕ)
-      → converses times call.procedure call.args s draws stream
-      ≡ confers (replicate times call) s draws stream
-  pub session_is : (start : StartSays) (times : ℕ) (call : DueCall) (draws stream : List ℕ)
-      → talk start times call.procedure call.args draws stream
-      ≡ talk_of start (replicate times call) draws stream

@@ -4,23 +4,22 @@ use Rattle.std.proofs.Math.Seq.{take-append_seam, drop-append_seam}
 use Rattle.std.proofs.lemmas.Bool.{ne_eqb}
 use Rattle.std.proofs.lemmas.List.{append-nil, drop_all}
 use Rattle.sec_base.specs.Link.{Wire}
-use Rattle.accept_book.specs.Honest.{IsOctets}
+use Rattle.aes_cts.specs.Cipher.{IsOctets}
 use Rattle.aes_cts.proofs.Restored.{append-IsOctets, replicate-IsOctets}
 use Rattle.gss_client.specs.declared.conversation.Parting.{Parting}
 use Rattle.gss_client.specs.declared.conversation.Parting.TheVariants.{Finished, Spent, Foreign, Refused}
-use Rattle.gss_client.specs.declared.procedure.Procedure.{Procedure}
+use Rattle.gss_client.specs.Query.{QuerySays}
 use Rattle.gss_client.specs.declared.refusal.ClientRefusal.{ClientRefusal}
 use Rattle.gss_client.specs.declared.refusal.ClientRefusal.TheVariants.{LinkFault, NoMemory}
 use Rattle.gss_client.specs.Conversation.{Conversed, conversed, behind, parted, leaves, goes_on}
 use Rattle.gss_client.specs.Conversing.{IsFront, IsConversed, Leaves}
 use Rattle.gss_client.specs.Exchanging.{Went, Done, Stopped}
-use Rattle.gss_client.specs.Procedure.{procedure_number, is_result}
 use Rattle.gss_client.specs.Session.{SessionState}
 use Rattle.gss_client.specs.Talk.{calls, destroys}
 use Rattle.gss_client.specs.Talking.{Said, said}
 use Rattle.gss_client.proofs.Parts.{went-nothing, went-again}
-use Rattle.pair_laws.specs.Conferring.{DueCall, confers}
-use Rattle.pair_laws.specs.Holding.{ConferredOf}
+use Rattle.gss_client.specs.Conferring.{DueCall, DueOf, call_of, calls_of, confers}
+use Rattle.gss_client.specs.Holding.{ConferredOf}
 
 -- so much was said and answered, and the conversation goes on in this state with so many calls
 pub record Held (tells : Bool) (given given' : List ℕ) (every left : List DueCall) (s : SessionState) (old new : Wire) (state : SessionState) (results : List (List ℕ)) : Type 0 where
@@ -55,24 +54,24 @@ held-as tells given given' every left other s a b state results others one two h
 
 -- what the talk says of a call
 abbrev by_call : DueCall → List DueCall → List ℕ → Said (SessionState × List ℕ) → Conversed
-by_call call left undrawn one = goes_on call.procedure one.written undrawn one.rest (confers left) one.answer
+by_call call left undrawn one = goes_on call.query one.written undrawn one.rest (confers left) one.answer
 
-call-due : (call : DueCall) (left : List DueCall) (s : SessionState) (draws stream : List ℕ) → (s.number == 0x80000000) ≡ false → confers (call ∷ left) s draws stream ≡ by_call call left (drop 16 draws) (calls s (procedure_number call.procedure) call.args (take 16 draws) stream)
+call-due : (call : DueCall) (left : List DueCall) (s : SessionState) (draws stream : List ℕ) → (s.number == 0x80000000) ≡ false → confers (call ∷ left) s draws stream ≡ by_call call left (drop 16 draws) (calls s call.query.number call.args (take 16 draws) stream)
 unfolding confers
 call-due call left s draws stream e = rw e refl
 
 -- with the next octets as its confounder
-call-is : (call : DueCall) (left : List DueCall) (s : SessionState) (confounder later stream : List ℕ) → (s.number == 0x80000000) ≡ false → length confounder ≡ 16 → confers (call ∷ left) s (confounder ++ later) stream ≡ by_call call left later (calls s (procedure_number call.procedure) call.args confounder stream)
+call-is : (call : DueCall) (left : List DueCall) (s : SessionState) (confounder later stream : List ℕ) → (s.number == 0x80000000) ≡ false → length confounder ≡ 16 → confers (call ∷ left) s (confounder ++ later) stream ≡ by_call call left later (calls s call.query.number call.args confounder stream)
 call-is call left s confounder later stream e size =
     let first : take 16 (confounder ++ later) ≡ confounder = subst (λ (n : ℕ). take n (confounder ++ later) ≡ confounder) size (take-append_seam confounder later) in
     let others : drop 16 (confounder ++ later) ≡ later = subst (λ (n : ℕ). drop n (confounder ++ later) ≡ later) size (drop-append_seam confounder later) in
     call-due call left s (confounder ++ later) stream e
-    ∙ (ap (λ (draws : List ℕ). by_call call left draws (calls s (procedure_number call.procedure) call.args (take 16 (confounder ++ later)) stream)) others
-    ∙ ap (λ (draws : List ℕ). by_call call left later (calls s (procedure_number call.procedure) call.args draws stream)) first)
+    ∙ (ap (λ (draws : List ℕ). by_call call left draws (calls s call.query.number call.args (take 16 (confounder ++ later)) stream)) others
+    ∙ ap (λ (draws : List ℕ). by_call call left later (calls s call.query.number call.args draws stream)) first)
 
 -- the conversation up to a call
 up-to : (tells : Bool) (given given' : List ℕ) (every : List DueCall) (call : DueCall) (left : List DueCall) (s : SessionState) (a b : Wire) (state : SessionState) (results : List (List ℕ)) (confounder took later stream : List ℕ) (h : Held tells given given' every (call ∷ left) s a b state results) → (state.number == 0x80000000) ≡ false → length confounder ≡ 16
-    → confers every s ((h.drawn ++ confounder) ++ later) ((h.took ++ took) ++ stream) ≡ behind h.wrote results (by_call call left later (calls state (procedure_number call.procedure) call.args confounder (took ++ stream)))
+    → confers every s ((h.drawn ++ confounder) ++ later) ((h.took ++ took) ++ stream) ≡ behind h.wrote results (by_call call left later (calls state call.query.number call.args confounder (took ++ stream)))
 up-to tells given given' every call left s a b state results confounder took later stream h e size =
     ap (λ (draws : List ℕ). confers every s draws ((h.took ++ took) ++ stream)) (append_assoc h.drawn confounder later)
     ∙ (ap (confers every s (h.drawn ++ (confounder ++ later))) (append_assoc h.took took stream)
@@ -86,11 +85,11 @@ behind-twice wrote more results others c =
     ap (λ (zs : List ℕ). conversed zs (results ++ (others ++ c.results)) c.parting c.undrawn c.rest) (sym (append_assoc wrote more c.written))
     ∙ ap (λ (zs : List (List ℕ)). conversed ((wrote ++ more) ++ c.written) zs c.parting c.undrawn c.rest) (sym (append_assoc results others c.results))
 
-counted : (call : DueCall) (left : List DueCall) (later wrote rest : List ℕ) (next : SessionState) (result : List ℕ) → is_result call.procedure result ≡ true → by_call call left later (said wrote (Ok (next, result)) rest) ≡ behind wrote (result ∷ []) (confers left next later rest)
+counted : (call : DueCall) (left : List DueCall) (later wrote rest : List ℕ) (next : SessionState) (result : List ℕ) → call.query.is_result result ≡ true → by_call call left later (said wrote (Ok (next, result)) rest) ≡ behind wrote (result ∷ []) (confers left next later rest)
 counted call left later wrote rest next result e = rw e refl
 
 pub one-call : (tells tells' : Bool) (given new drawn' confounder : List ℕ) (every : List DueCall) (call : DueCall) (left : List DueCall) (s : SessionState) (a b c : Wire) (state next : SessionState) (results : List (List ℕ)) (result : List ℕ)
-    → (IsTrue tells' → IsTrue tells) → (IsTrue tells' → drawn' ≡ new ++ confounder) → length confounder ≡ 16 → IsOctets confounder → (state.number == 0x80000000) ≡ false → Held tells given new every (call ∷ left) s a b state results → Done (calls state (procedure_number call.procedure) call.args confounder) b c (next, result) → is_result call.procedure result ≡ true
+    → (IsTrue tells' → IsTrue tells) → (IsTrue tells' → drawn' ≡ new ++ confounder) → length confounder ≡ 16 → IsOctets confounder → (state.number == 0x80000000) ≡ false → Held tells given new every (call ∷ left) s a b state results → Done (calls state call.query.number call.args confounder) b c (next, result) → call.query.is_result result ≡ true
     → Held tells' given drawn' every left s a c next (results ++ result ∷ [])
 one-call tells tells' given new drawn' confounder every call left s a b c state next results result kept told size drew e h d is = record {
   took = h.took ++ d.took;
@@ -120,11 +119,11 @@ is-whole c wrote undrawn rest results parting e = record {
   undrawn_is = ap (λ (x : Conversed). x.undrawn) e;
 }
 
-foreign-is : (call : DueCall) (left : List DueCall) (later wrote rest : List ℕ) (next : SessionState) (result : List ℕ) → is_result call.procedure result ≡ false → by_call call left later (said wrote (Ok (next, result)) rest) ≡ conversed wrote [] Foreign later rest
+foreign-is : (call : DueCall) (left : List DueCall) (later wrote rest : List ℕ) (next : SessionState) (result : List ℕ) → call.query.is_result result ≡ false → by_call call left later (said wrote (Ok (next, result)) rest) ≡ conversed wrote [] Foreign later rest
 foreign-is call left later wrote rest next result e = rw e refl
 
 pub foreign-call : (tells tells' : Bool) (given new drawn' confounder : List ℕ) (every : List DueCall) (call : DueCall) (left : List DueCall) (s : SessionState) (a b c : Wire) (state next : SessionState) (results : List (List ℕ)) (result : List ℕ)
-    → (IsTrue tells' → IsTrue tells) → (IsTrue tells' → drawn' ≡ new ++ confounder) → length confounder ≡ 16 → IsOctets confounder → (state.number == 0x80000000) ≡ false → Held tells given new every (call ∷ left) s a b state results → Done (calls state (procedure_number call.procedure) call.args confounder) b c (next, result) → is_result call.procedure result ≡ false
+    → (IsTrue tells' → IsTrue tells) → (IsTrue tells' → drawn' ≡ new ++ confounder) → length confounder ≡ 16 → IsOctets confounder → (state.number == 0x80000000) ≡ false → Held tells given new every (call ∷ left) s a b state results → Done (calls state call.query.number call.args confounder) b c (next, result) → call.query.is_result result ≡ false
     → ConferredOf tells' given drawn' every s a c results Foreign
 foreign-call tells tells' given new drawn' confounder every call left s a b c state next results result kept told size drew e h d is =
     let all : (later : List ℕ) → confers every s ((h.drawn ++ confounder) ++ later) ((h.took ++ d.took) ++ c.coming) ≡ conversed (h.wrote ++ d.wrote) results Foreign later c.coming =
@@ -146,22 +145,22 @@ foreign-call tells tells' given new drawn' confounder every call left s a b c st
     }
 
 -- what was written of a call is a front of what is written in all
-further-by : (procedure : Procedure) (wrote undrawn rest : List ℕ) (next : SessionState → List ℕ → List ℕ → Conversed) (state : SessionState) (result : List ℕ) (is : Bool) → (more : List ℕ) × ((if is then behind wrote (result ∷ []) (next state undrawn rest) else conversed wrote [] Foreign undrawn rest).written ≡ wrote ++ more)
-further-by procedure wrote undrawn rest next state result true = ((next state undrawn rest).written, refl)
-further-by procedure wrote undrawn rest next state result false = ([], sym (append-nil wrote))
+further-by : (query : QuerySays) (wrote undrawn rest : List ℕ) (next : SessionState → List ℕ → List ℕ → Conversed) (state : SessionState) (result : List ℕ) (is : Bool) → (more : List ℕ) × ((if is then behind wrote (result ∷ []) (next state undrawn rest) else conversed wrote [] Foreign undrawn rest).written ≡ wrote ++ more)
+further-by query wrote undrawn rest next state result true = ((next state undrawn rest).written, refl)
+further-by query wrote undrawn rest next state result false = ([], sym (append-nil wrote))
 
-further : (procedure : Procedure) (wrote undrawn rest : List ℕ) (next : SessionState → List ℕ → List ℕ → Conversed) (answer : Result (SessionState × List ℕ) ClientRefusal) → (more : List ℕ) × ((goes_on procedure wrote undrawn rest next answer).written ≡ wrote ++ more)
-further procedure wrote undrawn rest next (Ok called) = further-by procedure wrote undrawn rest next called.0 called.1 (is_result procedure called.1)
-further procedure wrote undrawn rest next (Err refusal) = ([], sym (append-nil wrote))
+further : (query : QuerySays) (wrote undrawn rest : List ℕ) (next : SessionState → List ℕ → List ℕ → Conversed) (answer : Result (SessionState × List ℕ) ClientRefusal) → (more : List ℕ) × ((goes_on query wrote undrawn rest next answer).written ≡ wrote ++ more)
+further query wrote undrawn rest next (Ok called) = further-by query wrote undrawn rest next called.0 called.1 (query.is_result called.1)
+further query wrote undrawn rest next (Err refusal) = ([], sym (append-nil wrote))
 
 refused-is : (call : DueCall) (left : List DueCall) (later : List ℕ) (one : Said (SessionState × List ℕ)) (refusal : ClientRefusal) → one.answer ≡ Err refusal → by_call call left later one ≡ conversed one.written [] (Refused refusal) later one.rest
-refused-is call left later one refusal e = ap (goes_on call.procedure one.written later one.rest (confers left)) e
+refused-is call left later one refusal e = ap (goes_on call.query one.written later one.rest (confers left)) e
 
 pub refused-call : (tells tells' : Bool) (given new drawn' confounder : List ℕ) (every : List DueCall) (call : DueCall) (left : List DueCall) (s : SessionState) (a b c : Wire) (state : SessionState) (results : List (List ℕ)) (refusal : ClientRefusal)
-    → (IsTrue tells' → IsTrue tells) → (IsTrue tells' → drawn' ≡ new ++ confounder) → length confounder ≡ 16 → IsOctets confounder → (state.number == 0x80000000) ≡ false → Held tells given new every (call ∷ left) s a b state results → Stopped (calls state (procedure_number call.procedure) call.args confounder) b c refusal
+    → (IsTrue tells' → IsTrue tells) → (IsTrue tells' → drawn' ≡ new ++ confounder) → length confounder ≡ 16 → IsOctets confounder → (state.number == 0x80000000) ≡ false → Held tells given new every (call ∷ left) s a b state results → Stopped (calls state call.query.number call.args confounder) b c refusal
     → ConferredOf tells' given drawn' every s a c results (Refused refusal)
 refused-call tells tells' given new drawn' confounder every call left s a b c state results refusal kept told size drew e h d =
-    let one : Said (SessionState × List ℕ) = calls state (procedure_number call.procedure) call.args confounder (d.took ++ c.coming) in
+    let one : Said (SessionState × List ℕ) = calls state call.query.number call.args confounder (d.took ++ c.coming) in
     let all : (later : List ℕ) → confers every s ((h.drawn ++ confounder) ++ later) ((h.took ++ d.took) ++ c.coming) ≡ behind h.wrote results (by_call call left later one) =
     λ later. up-to tells given new every call left s a b state results confounder d.took later c.coming h e size in
     record {
@@ -172,7 +171,7 @@ refused-call tells tells' given new drawn' confounder every call left s a b c st
       went = went-again h.went d.went;
       draws = drawn-more tells tells' given new drawn' h.drawn confounder kept told h.draws;
       front = λ later.
-          let f : (more : List ℕ) × ((by_call call left later one).written ≡ one.written ++ more) = further call.procedure one.written later one.rest (confers left) one.answer in
+          let f : (more : List ℕ) × ((by_call call left later one).written ≡ one.written ++ more) = further call.query one.written later one.rest (confers left) one.answer in
           is-front _ _ (h.wrote ++ d.wrote) (d.front.0 ++ f.0) results (by_call call left later one).results (all later)
           (ap (λ (zs : List ℕ). h.wrote ++ zs) (f.1 ∙ (ap (λ (zs : List ℕ). zs ++ f.0) d.front.1 ∙ append_assoc d.wrote d.front.0 f.0)) ∙ sym (append_assoc h.wrote d.wrote (d.front.0 ++ f.0)))
           refl;
@@ -285,19 +284,22 @@ pub is-no-end : (s : SessionState) (number : ℕ) → number ≡ s.number → (n
 is-no-end s number same e = ne_eqb s.number 0x80000000 (λ is. e (same ∙ is))
 
 -- the call that is due, with its number and its arguments as the code has them
-pub by-due : (s : SessionState) (call : DueCall) (args confounder : List ℕ) (number : ℕ) (procedure : Procedure) (a b : Wire) (value : SessionState × List ℕ) → number ≡ procedure_number procedure → procedure ≡ call.procedure → args ≡ call.args → Done (calls s number args confounder) a b value
-    → Done (calls s (procedure_number call.procedure) call.args confounder) a b value
-by-due s call args confounder number procedure a b value e p q d =
-    subst (λ (zs : List ℕ). Done (calls s (procedure_number call.procedure) zs confounder) a b value) q (subst (λ (n : ℕ). Done (calls s n args confounder) a b value) (e ∙ ap procedure_number p) d)
+pub by-due : (s : SessionState) (call : DueCall) (args confounder : List ℕ) (number : ℕ) (query : QuerySays) (a b : Wire) (value : SessionState × List ℕ) → number ≡ query.number → query ≡ call.query → args ≡ call.args → Done (calls s number args confounder) a b value
+    → Done (calls s call.query.number call.args confounder) a b value
+by-due s call args confounder number query a b value e p q d =
+    subst (λ (zs : List ℕ). Done (calls s call.query.number zs confounder) a b value) q (subst (λ (n : ℕ). Done (calls s n args confounder) a b value) (e ∙ ap (λ (q : QuerySays). q.number) p) d)
 
-pub by-due-refused : (s : SessionState) (call : DueCall) (args confounder : List ℕ) (number : ℕ) (procedure : Procedure) (a b : Wire) (refusal : ClientRefusal) → number ≡ procedure_number procedure → procedure ≡ call.procedure → args ≡ call.args → Stopped (calls s number args confounder) a b refusal
-    → Stopped (calls s (procedure_number call.procedure) call.args confounder) a b refusal
-by-due-refused s call args confounder number procedure a b refusal e p q d =
-    subst (λ (zs : List ℕ). Stopped (calls s (procedure_number call.procedure) zs confounder) a b refusal) q (subst (λ (n : ℕ). Stopped (calls s n args confounder) a b refusal) (e ∙ ap procedure_number p) d)
+pub by-due-refused : (s : SessionState) (call : DueCall) (args confounder : List ℕ) (number : ℕ) (query : QuerySays) (a b : Wire) (refusal : ClientRefusal) → number ≡ query.number → query ≡ call.query → args ≡ call.args → Stopped (calls s number args confounder) a b refusal
+    → Stopped (calls s call.query.number call.args confounder) a b refusal
+by-due-refused s call args confounder number query a b refusal e p q d =
+    subst (λ (zs : List ℕ). Stopped (calls s call.query.number zs confounder) a b refusal) q (subst (λ (n : ℕ). Stopped (calls s n args confounder) a b refusal) (e ∙ ap (λ (q : QuerySays). q.number) p) d)
 
 -- the calls from a place on are the one at it, and those behind it
-pub next-due : (due : List DueCall) (i : ℕ) (call : DueCall) → i < length due → call ≡ get_or due i call → drop i due ≡ call ∷ drop (i + 1) due
-next-due due i call h e = rw (add-one, drop-cons due i call) (ap (λ (x : DueCall). x ∷ drop (suc i) due) (sym e))
+at-place : {Q : Type 0} (due : List (DueOf Q)) (i : ℕ) (item : DueOf Q) → i < length due → item ≡ get_or due i item → drop i due ≡ item ∷ drop (i + 1) due
+at-place {Q} due i item h e = rw (add-one, drop-cons due i item) (ap (λ (x : DueOf Q). x ∷ drop (suc i) due) (sym e))
 
-pub none-due : (due : List DueCall) (i : ℕ) → length due ≤ i → drop i due ≡ []
-none-due due i h = drop_all i due h
+pub next-due : {Q : Type 0} (says : Q → QuerySays) (due : List (DueOf Q)) (i : ℕ) (item : DueOf Q) → i < length due → item ≡ get_or due i item → calls_of says (drop i due) ≡ call_of says item ∷ calls_of says (drop (i + 1) due)
+next-due says due i item h e = ap (calls_of says) (at-place due i item h e)
+
+pub none-due : {Q : Type 0} (says : Q → QuerySays) (due : List (DueOf Q)) (i : ℕ) → length due ≤ i → calls_of says (drop i due) ≡ []
+none-due says due i h = ap (calls_of says) (drop_all i due h)

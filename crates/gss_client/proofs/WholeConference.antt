@@ -14,8 +14,8 @@ use Rattle.gss_client.specs.Exchanging.{Done, Stopped}
 use Rattle.gss_client.specs.Session.{SessionState}
 use Rattle.gss_client.specs.Talking.{Said, Talking}
 use Rattle.gss_client.proofs.Parts.{went-again}
-use Rattle.pair_laws.specs.Conferring.{DueCall, confers, by_opening, talk_behind}
-use Rattle.pair_laws.specs.Holding.{ConferredOf, TalkedBehind}
+use Rattle.gss_client.specs.Conferring.{DueCall, confers, by_opening, talk_behind}
+use Rattle.gss_client.specs.Holding.{ConferredOf, TalkedBehind}
 
 -- what the talk says of the creation
 abbrev by_said : List DueCall → List ℕ → Said SessionState → Talk

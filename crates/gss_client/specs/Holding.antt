@@ -2,7 +2,7 @@
 use Rattle.std.specs.Prelude.{◌≡◌, ◌≢◌, ℕ, Bool, IsTrue, List, ◌++◌, Option}
 use Rattle.sec_base.specs.Link.{Wire}
 use Rattle.spnego_core.specs.declared.outcome.Outcome.{Outcome}
-use Rattle.accept_book.specs.Honest.{IsOctets}
+use Rattle.aes_cts.specs.Cipher.{IsOctets}
 use Rattle.gss_client.specs.declared.conversation.Parting.{Parting}
 use Rattle.gss_client.specs.declared.conversation.Parting.TheVariants.{Refused}
 use Rattle.gss_client.specs.declared.refusal.ClientRefusal.{ClientRefusal}
@@ -13,7 +13,7 @@ use Rattle.gss_client.specs.Exchanging.{Went}
 use Rattle.gss_client.specs.Session.{SessionState}
 use Rattle.gss_client.specs.Talk.{created_from}
 use Rattle.gss_client.specs.Talking.{Talking}
-use Rattle.pair_laws.specs.Conferring.{DueCall, confers, talk_behind}
+use Rattle.gss_client.specs.Conferring.{DueCall, confers, talk_behind}
 
 -- the calls and the end are those of the octets that were drawn, whatever follows them, and of
 -- those that were taken and are to come. After a fault of the link or want of memory a front of
