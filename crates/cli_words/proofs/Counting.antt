@@ -1,4 +1,4 @@
--- How many plain words there are, by which of the first three are there.
+-- How many plain words there are, by which of the first six are there.
 use Rattle.std.specs.Borrow.{Bor}
 use Rattle.std.proofs.Common.{◌≡◌, ◌∙◌, sym, ap, Bool, ℕ, ◌≤◌, zero, suc, true, false, List, [], ◌∷◌, length, slice_get, Option, Some, None, is_some, refl, arith}
 use Rattle.std.specs.Prelude.{if◌then◌else◌, option_map}
@@ -9,13 +9,16 @@ past [] number e = refl
 past (x ∷ xs) zero e = absurd (omega (arith, e))
 past (x ∷ xs) (suc number) e = past xs number (omega (arith, e))
 
-pub counts : (xs : List (List ℕ)) → length xs ≤ 3
-    → (if is_some (slice_get xs 2) then 3 else if is_some (slice_get xs 1) then 2 else if is_some (slice_get xs 0) then 1 else 0) ≡ length xs
+pub counts : (xs : List (List ℕ)) → length xs ≤ 6
+    → (if is_some (slice_get xs 5) then 6 else if is_some (slice_get xs 4) then 5 else if is_some (slice_get xs 3) then 4 else if is_some (slice_get xs 2) then 3 else if is_some (slice_get xs 1) then 2 else if is_some (slice_get xs 0) then 1 else 0) ≡ length xs
 counts [] few = refl
 counts (a ∷ []) few = refl
 counts (a ∷ b ∷ []) few = refl
 counts (a ∷ b ∷ c ∷ []) few = refl
-counts (a ∷ b ∷ c ∷ d ∷ xs) few = absurd (omega (arith, few))
+counts (a ∷ b ∷ c ∷ d ∷ []) few = refl
+counts (a ∷ b ∷ c ∷ d ∷ e ∷ []) few = refl
+counts (a ∷ b ∷ c ∷ d ∷ e ∷ f ∷ []) few = refl
+counts (a ∷ b ∷ c ∷ d ∷ e ∷ f ∷ g ∷ xs) few = absurd (omega (arith, few))
 
 pub some-map : {A B : Type 0} (f : A → B) (o : Option A) → is_some (option_map f o) ≡ is_some o
 some-map f None = refl

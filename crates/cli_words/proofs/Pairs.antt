@@ -19,7 +19,7 @@ Each P (x ∷ xs) = P x × Each P xs
 
 -- the ids of the plain words, in their order
 abbrev pub places : List Word
-places = codes "address" ∷ codes "command" ∷ codes "argument" ∷ []
+places = codes "address" ∷ codes "command" ∷ codes "argument" ∷ codes "second" ∷ codes "third" ∷ codes "fourth" ∷ []
 
 -- a plain word under the first of the places that are left
 abbrev pub placed : List Word → Word → (List Word → List Pair) → List Pair
@@ -287,7 +287,7 @@ are-apart names (word ∷ words) left seen due plain distinct fresh e a d u = ap
 -- ---- the places of a line
 
 pub places-plain : ArePlain places
-places-plain = (refl, (refl, (refl, tt)))
+places-plain = (refl, (refl, (refl, (refl, (refl, (refl, tt))))))
 
 pub places-distinct : Distinct places
-places-distinct = ((refl, (refl, tt)), ((refl, tt), (tt, tt)))
+places-distinct = ((refl, (refl, (refl, (refl, (refl, tt))))), ((refl, (refl, (refl, (refl, tt)))), ((refl, (refl, (refl, tt))), ((refl, (refl, tt)), ((refl, tt), (tt, tt))))))

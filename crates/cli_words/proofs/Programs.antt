@@ -53,7 +53,10 @@ server-options = (
                         record { name = codes "idle"; some = refl; spelled = refl; by_long = refl; by_id = refl },
                         (
                           record { name = codes "control"; some = refl; spelled = refl; by_long = refl; by_id = refl },
-                          (record { name = codes "journal"; some = refl; spelled = refl; by_long = refl; by_id = refl }, tt),
+                          (
+                            record { name = codes "journal"; some = refl; spelled = refl; by_long = refl; by_id = refl },
+                            (record { name = codes "digest"; some = refl; spelled = refl; by_long = refl; by_id = refl }, tt),
+                          ),
                         ),
                       ),
                     ),
@@ -74,7 +77,7 @@ server-address = record { by_index = refl; by_id = refl; next = refl }
 
 server-defaults : Each (λ (r : Rule). r.defaults ≡ []) (built server_app).top.rules
 unfolding clap_on_literals
-server-defaults = (refl, (refl, (refl, (refl, (refl, (refl, (refl, (refl, (refl, (refl, (refl, (refl, (refl, (refl, (refl, (refl, tt))))))))))))))))
+server-defaults = (refl, (refl, (refl, (refl, (refl, (refl, (refl, (refl, (refl, (refl, (refl, (refl, (refl, (refl, (refl, (refl, (refl, tt)))))))))))))))))
 
 server-passing : list_all default_passes (built server_app).top.rules ≡ true
 unfolding clap_on_literals
@@ -147,13 +150,13 @@ client-address : HasPlace (built client_app).top.rules (codes "address") 1
 unfolding clap_on_literals
 client-address = record { by_index = refl; by_id = refl; next = refl }
 
-client-places : HasPlaces (built client_app).top.rules 2 2 more_places
+client-places : HasPlaces (built client_app).top.rules 2 5 more_places
 unfolding clap_on_literals
-client-places = (record { by_index = refl; by_id = refl; next = refl }, (record { by_index = refl; by_id = refl; next = refl }, tt))
+client-places = (record { by_index = refl; by_id = refl; next = refl }, (record { by_index = refl; by_id = refl; next = refl }, (record { by_index = refl; by_id = refl; next = refl }, (record { by_index = refl; by_id = refl; next = refl }, (record { by_index = refl; by_id = refl; next = refl }, tt)))))
 
 client-defaults : Each (λ (r : Rule). r.defaults ≡ []) (built client_app).top.rules
 unfolding clap_on_literals
-client-defaults = (refl, (refl, (refl, (refl, (refl, (refl, (refl, (refl, (refl, (refl, (refl, (refl, (refl, tt)))))))))))))
+client-defaults = (refl, (refl, (refl, (refl, (refl, (refl, (refl, (refl, (refl, (refl, (refl, (refl, (refl, (refl, (refl, (refl, tt))))))))))))))))
 
 client-passing : list_all default_passes (built client_app).top.rules ≡ true
 unfolding clap_on_literals
@@ -163,7 +166,7 @@ client-valid : (rows : List Row) → is_valid (built client_app).top rows false 
 unfolding clap_on_literals
 client-valid rows = refl
 
-client-serves : Serves client_app client_names 2
+client-serves : Serves client_app client_names 5
 client-serves = record {
   simple = client-simple;
   alone = refl;
@@ -177,5 +180,5 @@ client-serves = record {
   valid = client-valid;
 }
 
-pub client-taken : (words : List Word) → IsLine client_names 3 words → IsTaken client_app words
-client-taken words line = taken client_app client_names 2 client-serves (omega arith) words line
+pub client-taken : (words : List Word) → IsLine client_names 6 words → IsTaken client_app words
+client-taken words line = taken client_app client_names 5 client-serves (omega arith) words line

@@ -58,12 +58,15 @@ finds id (p ∷ pairs) = go (finds id pairs) (bytes_eq p.0 id) refl
     go more false t = rw t more
 
 -- rows that are those of the words' pairs are what the words say
-read-by : (names words : List Word) → are_words names words ≡ true → length (plain_of words) ≤ 3 → (rows : List Row) → rows ≡ map row (pairs_from places words None) → IsRead rows words
+read-by : (names words : List Word) → are_words names words ≡ true → length (plain_of words) ≤ 6 → (rows : List Row) → rows ≡ map row (pairs_from places words None) → IsRead rows words
 read-by names words known few rows e = record {
   values = λ name d. ap (λ (rs : List Row). first_of name rs) e ∙ (finds name (pairs_from places words None) ∙ value-is names words places None name d places-plain known tt);
   address = ap (λ (rs : List Row). first_of (codes "address") rs) e ∙ (finds (codes "address") (pairs_from places words None) ∙ plain-is names words places None 0 (codes "address") places-plain places-distinct known tt refl few);
   command = ap (λ (rs : List Row). first_of (codes "command") rs) e ∙ (finds (codes "command") (pairs_from places words None) ∙ plain-is names words places None 1 (codes "command") places-plain places-distinct known tt refl few);
   argument = ap (λ (rs : List Row). first_of (codes "argument") rs) e ∙ (finds (codes "argument") (pairs_from places words None) ∙ plain-is names words places None 2 (codes "argument") places-plain places-distinct known tt refl few);
+  second = ap (λ (rs : List Row). first_of (codes "second") rs) e ∙ (finds (codes "second") (pairs_from places words None) ∙ plain-is names words places None 3 (codes "second") places-plain places-distinct known tt refl few);
+  third = ap (λ (rs : List Row). first_of (codes "third") rs) e ∙ (finds (codes "third") (pairs_from places words None) ∙ plain-is names words places None 4 (codes "third") places-plain places-distinct known tt refl few);
+  fourth = ap (λ (rs : List Row). first_of (codes "fourth") rs) e ∙ (finds (codes "fourth") (pairs_from places words None) ∙ plain-is names words places None 5 (codes "fourth") places-plain places-distinct known tt refl few);
   few = few;
 }
 
@@ -108,7 +111,7 @@ rows-found c labels given words end rows l g e r =
     ap (λ (ns : Names). rows_after c ns given) l ∙ (ap (λ (ws : List Word). rows_after c [] ws) g ∙ (ap (λ (x : Walk). finished c x.held) e ∙ r))
 
 -- a line of words, of which the first is the address
-pub taken-by : (a : App) (names : List Word) (n : ℕ) → Serves a names n → n ≤ 2 → (word : Word) (words : List Word) → is_dashed word ≡ false
+pub taken-by : (a : App) (names : List Word) (n : ℕ) → Serves a names n → n ≤ 5 → (word : Word) (words : List Word) → is_dashed word ≡ false
     → length (plain_of (word ∷ words)) ≤ n + 1 → are_words names (word ∷ words) ≡ true → IsTaken a (word ∷ words)
 taken-by a names n m small word words plain few known =
     let s : Shape = (built a).top in
@@ -116,7 +119,7 @@ taken-by a names n m small word words plain few known =
     let all_is : pairs_from places (word ∷ words) None ≡ all = plain-pairs places word words plain in
     let few-here : suc (length (plain_from false words)) ≤ n + 1 = subst (λ (ws : List Word). length ws ≤ n + 1) (plain-plain word words plain) few in
     let few-behind : length (plain_from false words) ≤ n = omega (arith, few-here) in
-    let few-all : length (plain_of (word ∷ words)) ≤ 3 = omega (arith, few, small) in
+    let few-all : length (plain_of (word ∷ words)) ≤ 6 = omega (arith, few, small) in
     let b = begins s m.address word plain in
     let w : Walks s (stage [] (codes "address") word 2 None) words all = walks-on s names (option-of s.rules names m.options) words None more_places n 2 [] (codes "address") word (record {
       places = m.behind;
@@ -126,7 +129,7 @@ taken-by a names n m small word words plain few known =
       awaits = tt;
       known = known-behind names word words known;
       few = few-behind;
-      apart = are-apart names words more_places ((codes "address", word) ∷ []) None places-plain.1 places-distinct.1 (refl, (refl, tt)) (known-behind names word words known) tt tt
+      apart = are-apart names words more_places ((codes "address", word) ∷ []) None places-plain.1 places-distinct.1 (refl, (refl, (refl, (refl, (refl, tt))))) (known-behind names word words known) tt tt
           (λ name d there. rw (departs (codes "address") name refl d) refl);
     }) in
     let alone : argument_words a (word ∷ words) ≡ word ∷ words = rw m.alone refl in
@@ -141,7 +144,7 @@ taken-by a names n m small word words plain few known =
       found = read-by names (word ∷ words) known few-all (matches_of a (word ∷ words)) (rows ∙ ap (map row) (sym all_is));
     }
 
-pub taken : (a : App) (names : List Word) (n : ℕ) → Serves a names n → n ≤ 2 → (words : List Word) → IsLine names (n + 1) words → IsTaken a words
+pub taken : (a : App) (names : List Word) (n : ℕ) → Serves a names n → n ≤ 5 → (words : List Word) → IsLine names (n + 1) words → IsTaken a words
 taken a names n m small [] line = absurd (true≢false (sym line.first))
 taken a names n m small (word ∷ words) line = by-dash (is_dashed word) refl
   where

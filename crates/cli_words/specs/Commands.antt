@@ -24,11 +24,12 @@ abbrev pub server_app : App
 server_app = with_options (with_rule (bare_app (codes "gssrpcd")) (new_rule (codes "address")))
     server_names
 
--- the client's command: an address, a command, its argument, and options
+-- the client's command: an address, a command, its arguments, and options
 abbrev pub client_app : App
-client_app = with_options (with_rule (with_rule (with_rule (bare_app (codes "gssrpc"))
-    (new_rule (codes "address"))) (new_rule (codes "command"))) (new_rule (codes "argument")))
-    client_names
+client_app = with_options (with_rule (with_rule (with_rule (with_rule (with_rule (with_rule
+    (bare_app (codes "gssrpc")) (new_rule (codes "address"))) (new_rule (codes "command")))
+    (new_rule (codes "argument"))) (new_rule (codes "second"))) (new_rule (codes "third")))
+    (new_rule (codes "fourth"))) client_names
 
 -- a parse by the command fails for want of memory alone, and what it finds is what the words say
 pub record IsTaken (command : App) (words : List (List ℕ)) : Type 0 where

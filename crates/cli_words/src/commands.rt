@@ -15,7 +15,7 @@ use sec_base::NoMemory;
 use std::alloc::Global;
 
 /// The options of the server: each with its word, which is its id too, and its name, the word without `--`.
-const SERVER_OPTIONS: [(&str, &str); 14] = [
+const SERVER_OPTIONS: [(&str, &str); 15] = [
     ("--keytab", "keytab"),
     ("--verifiers", "verifiers"),
     ("--name", "name"),
@@ -30,6 +30,7 @@ const SERVER_OPTIONS: [(&str, &str); 14] = [
     ("--idle", "idle"),
     ("--control", "control"),
     ("--journal", "journal"),
+    ("--digest", "digest"),
 ];
 
 /// The options of the client, each with its word and its name.
@@ -121,15 +122,17 @@ pub fn server_line<'a>(alloc: Global, words: &'a [&'a str]) -> Result<Line<'a>, 
     read(command, words)
 }
 
-/// The line of words that are in the client's command: an address, at most two plain words more, and options in full.
+/// The line of words that are in the client's command: an address, at most five plain words more, and options in full.
 pub fn client_line<'a>(alloc: Global, words: &'a [&'a str]) -> Result<Line<'a>, NoMemory>
-    requires { IsLine client_names 3 (texts words.now) }
+    requires { IsLine client_names 6 (texts words.now) }
     ensures { IfOk result (λ line. line ≡ texts words.entry.now) }
 {
     let command = command_of(
         alloc,
         "gssrpc",
-        &["address", "command", "argument"],
+        &[
+            "address", "command", "argument", "second", "third", "fourth",
+        ],
         &CLIENT_OPTIONS,
     )?;
     read(command, words)

@@ -39,7 +39,7 @@ impl<'a> Line<'a> {
         self.matches.get_str(name)
     }
 
-    /// The plain word of this number, counted from 0: the address, the command, and the command's argument.
+    /// The plain word of this number, counted from 0: the address, the command, and the command's arguments.
     pub fn plain(&self, number: usize) -> Option<&'a str>
         ensures { option_map (λ word. word.now) result ≡ slice_get (plain_of self.now) number }
     {
@@ -47,15 +47,27 @@ impl<'a> Line<'a> {
             0 => self.matches.get_str("address"),
             1 => self.matches.get_str("command"),
             2 => self.matches.get_str("argument"),
+            3 => self.matches.get_str("second"),
+            4 => self.matches.get_str("third"),
+            5 => self.matches.get_str("fourth"),
             _ => None,
         }
     }
 
-    /// How many plain words the line has: at most 3.
+    /// How many plain words the line has: at most 6.
     pub fn count_plain(&self) -> usize
         ensures { result ≡ length (plain_of self.now) }
     {
         let _matches = &self.matches;
+        if self.plain(5).is_some() {
+            return 6;
+        }
+        if self.plain(4).is_some() {
+            return 5;
+        }
+        if self.plain(3).is_some() {
+            return 4;
+        }
         if self.plain(2).is_some() {
             return 3;
         }

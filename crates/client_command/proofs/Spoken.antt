@@ -9,6 +9,7 @@ use Rattle.gss_client.specs.declared.conversation.Parting.{Parting}
 use Rattle.gss_client.specs.declared.conversation.Parting.TheVariants as partings
 use Rattle.gss_client.specs.declared.refusal.ClientRefusal.{ClientRefusal}
 use Rattle.gss_client.specs.declared.refusal.ClientRefusal.TheVariants as refusals
+use Rattle.client_options.specs.Command.{called_by}
 use Rattle.client_options.specs.Endings.{end_of, end_of_refusal, is_parted}
 use Rattle.client_command.specs.Runs.{start_of, planned, Spoke, EndsSo, Reports}
 use Rattle.client_options.specs.declared.ending.RunEnd.{RunEnd}
@@ -32,7 +33,7 @@ unrefused (partings.Refused other) parted refusal e = not-parted other parted
 
 pub held : {clock draw : Bool} {moments moments' given mid given' : List ℕ} (plan : Plan) (creds : List MechCred) (stamp : ℕ) (draws : List ℕ) {old new : Wire} {outcome : Option Outcome} {results : List (List ℕ)} {parting : Parting}
     → (IsTrue clock → moments' ≡ moments ++ stamp ∷ []) → length draws ≡ 66 → (IsTrue draw → mid ≡ given ++ draws)
-    → Talked draw mid given' (start_of plan creds stamp draws) plan.times plan.procedure plan.args old new outcome results parting
+    → Talked draw mid given' (start_of plan creds stamp draws) plan.times (called_by plan.command) plan.args old new outcome results parting
     → Spoke clock moments moments' draw given given' plan creds old new outcome results (end_of parting)
 held {clock} {draw} {moments} {moments'} {given} {mid} {given'} plan creds stamp draws {parting = parting} moment size octets t = record {
   stamp = stamp;

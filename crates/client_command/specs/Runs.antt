@@ -11,12 +11,14 @@ use Rattle.gss_client.specs.Conversation.{Talk, talk}
 use Rattle.gss_client.specs.Conversing.{IsTalkFront}
 use Rattle.gss_client.specs.Exchanging.{Went}
 use Rattle.gss_client.specs.declared.conversation.Parting.{Parting}
-use Rattle.gss_client.specs.declared.procedure.Procedure.{Procedure}
 use Rattle.gss_client.specs.declared.procedure.Procedure.TheVariants.{Null}
 use Rattle.gss_client.specs.Start.{StartSays}
 use Rattle.client_command.specs.Credentials.{creds_from}
+use Rattle.client_options.specs.Command.{called_by}
 use Rattle.client_options.specs.Endings.{Named, end_of, is_parted}
 use Rattle.client_options.specs.Words.{words_of, IsRanged}
+use Rattle.client_options.specs.declared.command.Command.{Command}
+use Rattle.client_options.specs.declared.command.Command.TheVariants.{Served}
 use Rattle.client_options.specs.declared.ending.RunEnd.{RunEnd}
 use Rattle.client_options.specs.declared.ending.RunEnd.TheVariants.{LinkFault, NoMemory}
 use Rattle.client_options.specs.declared.words.ClientWords.{ClientWords}
@@ -54,10 +56,10 @@ abbrev pub names_of : Result ClientWords WordsRefusal → Named
 names_of (Ok words) = names_in words.sources
 names_of (Err refusal) = unnamed
 
--- the procedure whose results are printed; without one there are none
-abbrev pub procedure_of : Result ClientWords WordsRefusal → Procedure
-procedure_of (Ok words) = words.plan.procedure
-procedure_of (Err refusal) = Null
+-- what is called, whose results are printed; without words there are none
+abbrev pub command_of : Result ClientWords WordsRefusal → Command
+command_of (Ok words) = words.plan.command
+command_of (Err refusal) = Served Null
 
 -- ---- the session
 
@@ -66,7 +68,7 @@ procedure_of (Err refusal) = Null
 abbrev pub start_of : Plan → List MechCred → ℕ → List ℕ → StartSays
 start_of plan creds stamp draws = record {
   setup = record { list = creds; bindings = plan.bindings; stamp = stamp; draws = draws };
-  service = plan.service;
+  terms = plan.terms;
   first = plan.first;
 }
 
@@ -74,7 +76,8 @@ start_of plan creds stamp draws = record {
 -- octets
 abbrev pub planned : Plan → List MechCred → ℕ → List ℕ → List ℕ → List ℕ → Talk
 planned plan creds stamp draws confounders stream =
-    talk (start_of plan creds stamp draws) plan.times plan.procedure plan.args confounders stream
+    talk (start_of plan creds stamp draws) plan.times (called_by plan.command) plan.args confounders
+    stream
 
 -- this is what a talk wrote, agreed on and was answered, the run ends as it did, and these of the
 -- random octets weren't drawn
@@ -126,25 +129,31 @@ EndsSo clock moments moments' draw given given' plan creds old new parting =
     → new.taken ≡ old.taken ++ took
     → (planned plan creds stamp draws confounders (took ++ new.coming)).parting ≡ parting
 
--- the credentials are those of the files that the words name, where the shelf tells them, the plan
--- is within its limits, and the session was held
-pub record HasHeld (asked : ClientWords) (shelf : Bool) (files : List NamedFile) (clock : Bool)
-    (moments moments' : List ℕ) (draw : Bool) (given given' : List ℕ) (old new : Wire)
-    (outcome : Option Outcome) (results : List (List ℕ)) (end : RunEnd) : Type 0 where
+-- the credentials are those that were read in what the shelf answered for the files that the words
+-- name (`loaded`), and where the shelf tells its files, those in them; the plan is within its
+-- limits, and the session was held
+pub record HasHeld (asked : ClientWords)
+    (loaded : Sources → Result (List MechCred) RunEnd → Type 0) (shelf : Bool)
+    (files : List NamedFile) (clock : Bool) (moments moments' : List ℕ) (draw : Bool)
+    (given given' : List ℕ) (old new : Wire) (outcome : Option Outcome)
+    (results : List (List ℕ)) (end : RunEnd) : Type 0 where
   pub creds : List MechCred
+  pub read : loaded asked.sources (Ok creds)
   pub found : IsTrue shelf → creds_from files asked.sources ≡ Ok creds
   pub ranged : IsRanged asked.plan
   pub spoke : Spoke clock moments moments' draw given given' asked.plan creds old new outcome
       results end
 
 -- the words are in the command, and the session was held
-pub record HasSpoken (words : List (List ℕ)) (shelf : Bool) (files : List NamedFile) (clock : Bool)
-    (moments moments' : List ℕ) (draw : Bool) (given given' : List ℕ) (old new : Wire)
-    (outcome : Option Outcome) (results : List (List ℕ)) (end : RunEnd) : Type 0 where
+pub record HasSpoken (words : List (List ℕ))
+    (loaded : Sources → Result (List MechCred) RunEnd → Type 0) (shelf : Bool)
+    (files : List NamedFile) (clock : Bool) (moments moments' : List ℕ) (draw : Bool)
+    (given given' : List ℕ) (old new : Wire) (outcome : Option Outcome)
+    (results : List (List ℕ)) (end : RunEnd) : Type 0 where
   pub asked : ClientWords
   pub read : words_of words ≡ Ok asked
-  pub held : HasHeld asked shelf files clock moments moments' draw given given' old new outcome
-      results end
+  pub held : HasHeld asked loaded shelf files clock moments moments' draw given given' old new
+      outcome results end
 
 -- nothing was written or read on the link, and there are no outcome and no results
 pub record IsSilent (old new : Wire) (outcome : Option Outcome) (results : List (List ℕ)) : Type 0

@@ -10,19 +10,20 @@ ghost use Rattle.cli_base.specs.Lines.{SaysLine, Says};
 ghost use Rattle.client_command.specs.Credentials.{creds_from, is_unloaded, Asks};
 ghost use Rattle.client_options.specs.Endings.{end_of, end_of_words, is_begun, status_of, line_of};
 ghost use Rattle.client_options.specs.Lines.{lines};
-ghost use Rattle.client_command.specs.Loading.{RunBegins, EndsBy};
+ghost use Rattle.client_command.specs.Loading.{CredsFrom, RunBegins, EndsBy};
 ghost use Rattle.client_options.specs.Mechs.{is_list};
 ghost use Rattle.client_command.specs.Runs.{text_or_none, server_text, names_in, names_of};
-ghost use Rattle.client_command.specs.Runs.{procedure_of, Reports, Spoke, EndsSo};
+ghost use Rattle.client_command.specs.Runs.{command_of, Reports, Spoke, EndsSo};
 ghost use Rattle.client_command.specs.Runs.{HasHeld, HasSpoken, IsSilent};
 ghost use Rattle.client_options.specs.Words.{words_of, IsRanged};
 
 use crate::credential::creds_given;
 use client_options::{
-    ClientWords, Names, Plan, RunEnd, Sources, WordsRefusal, end_of, lines_of, read_words, say_end,
+    ClientWords, Command, Names, Plan, RunEnd, Sources, WordsRefusal, end_of, lines_of, read_words,
+    say_end,
 };
 use gss_base::{Label, Principal};
-use gss_client::{ClientRefusal, Parting, Procedure, Session, Start, Talk};
+use gss_client::{ClientRefusal, Parting, Session, Start, Talk};
 use init_ends::InitSetup;
 use mech_objects::Mech;
 use sec_base::{Clock, Draw, Items, Link, NoMemory, Octets, Shelf, Sink, Text};
@@ -86,10 +87,10 @@ fn speak<L: Link, C: Clock, D: Draw>(
     let mut draws = [0; 66];
     draw.fill(&mut draws);
     let Plan {
-        procedure,
+        command,
         args,
         bindings,
-        service,
+        terms,
         times,
         first,
     } = plan;
@@ -105,10 +106,10 @@ fn speak<L: Link, C: Clock, D: Draw>(
     };
     let start = Start {
         setup,
-        service,
+        terms,
         first,
     };
-    let talk = Session::hold(alloc, link, draw, start, procedure, args.as_slice(), times);
+    let talk = Session::hold(alloc, link, draw, start, &command, args.as_slice(), times);
     drop(args);
     talk
 }
@@ -159,7 +160,7 @@ fn print<O: Sink>(
 fn report<O: Sink>(
     alloc: Global,
     names: &Names<'_>,
-    procedure: Procedure,
+    command: Command,
     talk: Talk,
     out: &mut O,
     err: &mut O,
@@ -168,7 +169,7 @@ fn report<O: Sink>(
     ensures sink_fault { result.status ≡ 6
         → Rose (O.faults out.old) (O.faults out.new) ⊎ Rose (O.faults err.old) (O.faults err.new) }
     ensures printed { IsTrue (O.tells out.old) → SaysLine (O.written out.old) (O.written out.new)
-        result.status (lines procedure result.outcome result.results.items) }
+        result.status (lines command result.outcome result.results.items) }
     ensures said { IsTrue (O.tells err.old) → Says (O.written err.old) (O.written err.new)
         result.status (line_of names.now result.end) }
     ensures kept { Reports talk.outcome talk.results.items talk.parting result.outcome
@@ -179,7 +180,7 @@ fn report<O: Sink>(
         results,
         parting,
     } = talk;
-    match lines_of(alloc, procedure, &outcome, results.as_slice()) {
+    match lines_of(alloc, command, &outcome, results.as_slice()) {
         Ok(text) => {
             let end = end_of(parting);
             let status = print(alloc, names, text.as_slice(), end, out, err);
@@ -219,7 +220,7 @@ fn label_or_none(label: &Option<Label>) -> &str
 }
 
 /// The text form of a server, where one is named.
-fn server_label(server: &Option<Principal>) -> Option<Label>
+pub fn server_label(server: &Option<Principal>) -> Option<Label>
     ensures { text_or_none result ≡ server_text server.now }
 {
     match server {
@@ -229,7 +230,7 @@ fn server_label(server: &Option<Principal>) -> Option<Label>
 }
 
 /// What the words name; the label is the server's.
-fn names_in<'a>(sources: &'a Sources, label: &'a Option<Label>) -> Names<'a>
+pub fn names_in<'a>(sources: &'a Sources, label: &'a Option<Label>) -> Names<'a>
     ensures { text_or_none label.now ≡ server_text sources.now.server
         → result ≡ names_in sources.now }
 {
@@ -262,7 +263,7 @@ fn run_by<L: Link, C: Clock, D: Draw, O: Sink>(
     ensures sink_fault { result.status ≡ 6
         → Rose (O.faults out.old) (O.faults out.new) ⊎ Rose (O.faults err.old) (O.faults err.new) }
     ensures printed { IsTrue (O.tells out.old) → SaysLine (O.written out.old) (O.written out.new)
-        result.status (lines plan.procedure result.outcome result.results.items) }
+        result.status (lines plan.command result.outcome result.results.items) }
     ensures said { IsTrue (O.tells err.old) → Says (O.written err.old) (O.written err.new)
         result.status (line_of (names_in sources.now) result.end) }
     ensures ends { EndsBy creds result.end }
@@ -283,9 +284,9 @@ fn run_by<L: Link, C: Clock, D: Draw, O: Sink>(
     let names = names_in(sources, &label);
     match creds {
         Ok(creds) => {
-            let procedure = plan.procedure;
+            let command = plan.command;
             let talk = speak(alloc, plan, creds, link, clock, draw, mechs);
-            report(alloc, &names, procedure, talk, out, err)
+            report(alloc, &names, command, talk, out, err)
         }
         Err(end) => {
             drop(plan);
@@ -315,7 +316,7 @@ fn run_with<F: Shelf, L: Link, C: Clock, D: Draw, O: Sink>(
     ensures sink_fault { result.status ≡ 6
         → Rose (O.faults out.old) (O.faults out.new) ⊎ Rose (O.faults err.old) (O.faults err.new) }
     ensures printed { IsTrue (O.tells out.old) → SaysLine (O.written out.old) (O.written out.new)
-        result.status (lines words.plan.procedure result.outcome result.results.items) }
+        result.status (lines words.plan.command result.outcome result.results.items) }
     ensures said { IsTrue (O.tells err.old) → Says (O.written err.old) (O.written err.new)
         result.status (line_of (names_in words.sources) result.end) }
     ensures other { result.end ≢ RunEnd.Usage }
@@ -332,14 +333,16 @@ fn run_with<F: Shelf, L: Link, C: Clock, D: Draw, O: Sink>(
     ensures silent { is_begun result.end ≡ false → result.end ≢ RunEnd.NoMemory
         → IsSilent (L.wire link.old) (L.wire link.new) result.outcome result.results.items }
     ensures spoke { is_begun result.end ≡ true → IsTrue (L.tells link.old) → HasHeld
-        words (F.tells shelf.old) (F.files shelf.old) (C.tells clock.new) (C.given clock.old)
-        (C.given clock.new) (D.tells draw.new) (D.given draw.old) (D.given draw.new)
-        (L.wire link.old) (L.wire link.new) result.outcome result.results.items result.end }
+        words (CredsFrom F.Shelf shelf.old shelf.new) (F.tells shelf.old) (F.files shelf.old)
+        (C.tells clock.new) (C.given clock.old) (C.given clock.new) (D.tells draw.new)
+        (D.given draw.old) (D.given draw.new) (L.wire link.old) (L.wire link.new) result.outcome
+        result.results.items result.end }
     ensures wanting { result.end ≡ RunEnd.NoMemory → IsTrue (L.tells link.old)
         → IsSilent (L.wire link.old) (L.wire link.new) result.outcome result.results.items ⊎ HasHeld
-        words (F.tells shelf.old) (F.files shelf.old) (C.tells clock.new) (C.given clock.old)
-        (C.given clock.new) (D.tells draw.new) (D.given draw.old) (D.given draw.new)
-        (L.wire link.old) (L.wire link.new) result.outcome result.results.items result.end }
+        words (CredsFrom F.Shelf shelf.old shelf.new) (F.tells shelf.old) (F.files shelf.old)
+        (C.tells clock.new) (C.given clock.old) (C.given clock.new) (D.tells draw.new)
+        (D.given draw.old) (D.given draw.new) (L.wire link.old) (L.wire link.new) result.outcome
+        result.results.items result.end }
     ensures ends { (creds : List MechCred) (parting : Parting) → IsTrue (F.tells shelf.old)
         → creds_from (F.files shelf.old) words.sources ≡ Ok creds → IsTrue (L.tells link.old)
         → EndsSo (C.tells clock.new) (C.given clock.old) (C.given clock.new)
@@ -380,8 +383,9 @@ pub(crate) const UNNAMED: Names<'static> = Names {
 };
 
 /// Runs the client over a link, and says on `err` how the run ended. The words are
-/// `ADDRESS COMMAND [ARG] [--ccache FILE --server PRINCIPAL] [--user NAME --password FILE] [--mechs LIST] [--bind TEXT] [--service none|integrity|privacy]
-/// [--times N] [--first N]`, where COMMAND is `null`, `echo`, `whoami`, `post` or `count`, and `echo` and `post` have an ARG in hexadecimal. LIST has
+/// `ADDRESS COMMAND [ARG ..] [--ccache FILE --server PRINCIPAL] [--user NAME --password FILE] [--mechs LIST] [--bind TEXT] [--service none|integrity|privacy]
+/// [--times N] [--first N]`, where COMMAND is `null`, `echo`, `whoami`, `post`, `count` or `call`; `echo` and `post` have an ARG in hexadecimal, and `call`
+/// has three numbers, of a program, its version and a procedure, and may have arguments in hexadecimal. LIST has
 /// one to three of the words `krb5`, `ms-krb5` and `scram`, each at most once and in any order, with commas between them; `ms-krb5` is Kerberos under Microsoft's object
 /// identifier. `mechs` has blank objects in any order, at least one under each name: Kerberos's own, Microsoft's, and SCRAM's. The session's mechanisms are those of them
 /// that get a credential. What the session agreed on and was answered is printed on `out`.
@@ -407,7 +411,7 @@ pub fn run_client<F: Shelf, L: Link, C: Clock, D: Draw, O: Sink>(
     // What is printed on `out`: the lines of the outcome and the results that are returned.
     ensures printed { IsTrue (O.tells out.old)
         → SaysLine (O.written out.old) (O.written out.new) result.status
-        (lines (procedure_of (words_of words.now)) result.outcome result.results.items) }
+        (lines (command_of (words_of words.now)) result.outcome result.results.items) }
     // The words are refused exactly where they aren't in the command, want of memory aside.
     ensures usage { result.end ≡ RunEnd.Usage → words_of words.now ≡ Err WordsRefusal.Usage }
     ensures always_usage { words_of words.now ≡ Err WordsRefusal.Usage
@@ -441,14 +445,16 @@ pub fn run_client<F: Shelf, L: Link, C: Clock, D: Draw, O: Sink>(
         → IsSilent (L.wire link.old) (L.wire link.new) result.outcome result.results.items }
     // With one, what is written, the outcome, the results and the end are those of its talk.
     ensures spoke { is_begun result.end ≡ true → IsTrue (L.tells link.old) → HasSpoken
-        words.now (F.tells shelf.old) (F.files shelf.old) (C.tells clock.new) (C.given clock.old)
-        (C.given clock.new) (D.tells draw.new) (D.given draw.old) (D.given draw.new)
-        (L.wire link.old) (L.wire link.new) result.outcome result.results.items result.end }
+        words.now (CredsFrom F.Shelf shelf.old shelf.new) (F.tells shelf.old) (F.files shelf.old)
+        (C.tells clock.new) (C.given clock.old) (C.given clock.new) (D.tells draw.new)
+        (D.given draw.old) (D.given draw.new) (L.wire link.old) (L.wire link.new) result.outcome
+        result.results.items result.end }
     ensures wanting { result.end ≡ RunEnd.NoMemory → IsTrue (L.tells link.old)
         → IsSilent (L.wire link.old) (L.wire link.new) result.outcome result.results.items
-        ⊎ HasSpoken words.now (F.tells shelf.old) (F.files shelf.old) (C.tells clock.new) (C.given
-        clock.old) (C.given clock.new) (D.tells draw.new) (D.given draw.old) (D.given draw.new)
-        (L.wire link.old) (L.wire link.new) result.outcome result.results.items result.end }
+        ⊎ HasSpoken words.now (CredsFrom F.Shelf shelf.old shelf.new) (F.tells shelf.old)
+        (F.files shelf.old) (C.tells clock.new) (C.given clock.old) (C.given clock.new)
+        (D.tells draw.new) (D.given draw.old) (D.given draw.new) (L.wire link.old)
+        (L.wire link.new) result.outcome result.results.items result.end }
     ensures link_fault { result.end ≡ RunEnd.LinkFault
         → Rose (L.faults link.old) (L.faults link.new) }
     // With the credentials, and no count that rose, a session is held, and the run ends as its talk does, want of memory aside.

@@ -6,8 +6,9 @@ mod credential;
 mod files;
 mod parting;
 
-pub use client::{ClientEnd, run_client};
+pub use client::{ClientEnd, names_in, run_client, server_label};
 pub use client_options::{
     ClientWords, Plan, RunEnd, Sources, WordFile, WordsRefusal, address_of, read_words,
 };
+pub use credential::creds_given;
 pub use parting::end_link;

@@ -1,5 +1,5 @@
 -- A run of the client against an honest server.
-use Rattle.std.specs.Prelude.{◌≡◌, ℕ, ◌*◌, ◌<◌, Bool, List, ◌++◌, length, Option, Some}
+use Rattle.std.specs.Prelude.{◌≡◌, ℕ, ◌*◌, ◌<◌, ◌≤◌, Bool, true, List, ◌++◌, length, Option, Some}
 use Rattle.std.specs.List.{flat_map}
 use Rattle.sec_base.specs.Link.{Wire}
 use Rattle.rpc_msgs.specs.Records.{last_fragment}
@@ -9,12 +9,15 @@ use Rattle.spnego_core.specs.declared.setup.MechCred.{MechCred}
 use Rattle.spnego_core.specs.declared.outcome.Outcome.{Outcome}
 use Rattle.accept_core.specs.History.{numbers}
 use Rattle.accept_book.specs.Honest.{IsOctets}
+use Rattle.accept_book.specs.Served.{are_args}
 use Rattle.rpcsec_bodies.specs.declared.service.Service.TheVariants as services
 use Rattle.gss_client.specs.Start.{StartSays}
 use Rattle.gss_client.specs.Exchanging.{Went}
-use Rattle.gss_client.specs.Procedure.{procedure_number}
+use Rattle.client_options.specs.Command.{called_by}
 use Rattle.client_options.specs.Endings.{end_of}
 use Rattle.client_command.specs.Runs.{Drew, start_of}
+use Rattle.client_options.specs.declared.command.Command.{Command}
+use Rattle.client_options.specs.declared.command.Command.TheVariants.{Served, Numbered}
 use Rattle.client_options.specs.declared.ending.RunEnd.{RunEnd}
 use Rattle.client_options.specs.declared.words.Plan.{Plan}
 use Rattle.pair_laws.specs.Booked.{id_in}
@@ -23,6 +26,12 @@ use Rattle.pair_laws.specs.Laws.{Completes}
 use Rattle.pair_laws.specs.Live.{lease_on}
 use Rattle.pair_laws.specs.Running.{Turn, sent_in, heard_in, Serves, IsName, calls_made}
 use Rattle.pair_laws.specs.Running.{parting_of, results_of, Logged, RunLaw}
+
+-- the words ask one of the server's procedures, with that procedure's own arguments: by its name
+-- they always do, by its number if these are so
+abbrev pub AsksServer : Command → List ℕ → Type 0
+AsksServer (Served procedure) args = Unit {0}
+AsksServer (Numbered number) args = (number ≤ 4) × (are_args number args ≡ true)
 
 -- an honest server answers the session of a plan by what was written and what came: its book
 -- creates the context, of which `PairLaw` says how it completes, and then answers each record, as
@@ -42,7 +51,7 @@ pub record HonestServer (start : StartSays) (plan : Plan)
   pub served : Serves width
       (lease_on (id_in exchange.books) created.outcome created.lasts) created.core turns
   pub unused : greatest (numbers (id_in exchange.books) created.core.history) < plan.first
-  pub protected : plan.service ≡ services.None → procedure_number plan.procedure ≡ 0
+  pub protected : plan.terms.service ≡ services.None → (called_by plan.command).number ≡ 0
   pub octets : IsOctets confounders
 
 -- so it does, whatever the clock, the source of random octets and the link gave
@@ -62,12 +71,12 @@ pub record IsCompleted (start : StartSays) (plan : Plan) (confounders wrote stre
     (results : List (List ℕ)) (end : RunEnd) : Type 0 where
   pub outcome_is : outcome ≡ Some h.created.outcome
   pub results_are : results ≡ results_of (calls_made plan.first plan.times)
-      (procedure_number plan.procedure) plan.args h.created.outcome.initiator h.turns
+      (called_by plan.command).number plan.args h.created.outcome.initiator h.turns
   pub ends : end ≡ end_of (parting_of plan.first plan.times)
   pub drawn : length confounders ≡ 16 * calls_made plan.first plan.times
   pub logged : Logged h.width
       (lease_on (id_in h.exchange.books) h.created.outcome h.created.lasts)
-      (procedure_number plan.procedure) plan.args (calls_made plan.first plan.times) plan.first
+      (called_by plan.command).number plan.args (calls_made plan.first plan.times) plan.first
       h.turns
 
 -- the run is complete by what the devices gave

@@ -9,10 +9,10 @@ ghost use Rattle.init_ends.specs.Arming.{AreStandard};
 ghost use Rattle.client_command.specs.Credentials.{creds_from};
 ghost use Rattle.client_options.specs.Endings.{status_of, line_of};
 ghost use Rattle.client_options.specs.Lines.{lines};
-ghost use Rattle.client_command.specs.Runs.{names_of, procedure_of};
+ghost use Rattle.client_command.specs.Runs.{names_of, command_of};
 ghost use Rattle.client_options.specs.Words.{words_of};
 ghost use Rattle.client_options.specs.declared.words.ClientWords.{ClientWords as ClientWordsIs};
-ghost use Rattle.client_laws.specs.ClientRun.{Answers, Completed, OutcomeTold};
+ghost use Rattle.client_laws.specs.ClientRun.{AsksServer, Answers, Completed, OutcomeTold};
 
 use client_command::{ClientEnd, RunEnd, run_client};
 use mech_objects::Mech;
@@ -47,8 +47,9 @@ pub fn complete_run<F: Shelf, L: Link, C: Clock, D: Draw, O: Sink>(
     requires unclosed { L.closed link.old ≡ false }
     requires mechs { AreStandard (map meaning mechs.items) }
     ensures completes { (asked : ClientWordsIs) (creds : List MechCred)
-        → words_of words.now ≡ Ok asked → IsTrue (F.tells shelf.old)
-        → creds_from (F.files shelf.old) asked.sources ≡ Ok creds → IsTrue (L.tells link.old)
+        → words_of words.now ≡ Ok asked → AsksServer asked.plan.command asked.plan.args
+        → IsTrue (F.tells shelf.old) → creds_from (F.files shelf.old) asked.sources ≡ Ok creds
+        → IsTrue (L.tells link.old)
         → (server : Answers (C.tells clock.new) (C.given clock.old) (C.given clock.new)
         (D.tells draw.new) (D.given draw.old) (D.given draw.new) asked.plan creds (L.wire link.old)
         (L.wire link.new)) → (Rose (F.faults shelf.old) (F.faults shelf.new) → ⊥)
@@ -62,7 +63,7 @@ pub fn complete_run<F: Shelf, L: Link, C: Clock, D: Draw, O: Sink>(
         → Rose (O.faults out.old) (O.faults out.new) ⊎ Rose (O.faults err.old) (O.faults err.new) }
     ensures printed { IsTrue (O.tells out.old)
         → SaysLine (O.written out.old) (O.written out.new) result.status
-        (lines (procedure_of (words_of words.now)) result.outcome result.results.items) }
+        (lines (command_of (words_of words.now)) result.outcome result.results.items) }
     ensures said { IsTrue (O.tells err.old) → Says (O.written err.old) (O.written err.new)
         result.status (line_of (names_of (words_of words.now)) result.end) }
 {

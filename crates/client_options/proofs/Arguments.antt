@@ -1,5 +1,5 @@
--- What the words of the client ask for is a procedure with its own arguments.
-use Rattle.std.proofs.Common.{◌≡◌, ℕ, ◌≤◌, Bool, true, false, refl, subst, arith, nat_lt, nat_eq, codes, List, [], length, slice_get, Result, Ok, Err, if◌then◌else◌}
+-- What the words of the client ask of the served program is a procedure with its own arguments.
+use Rattle.std.proofs.Common.{◌≡◌, ℕ, ◌≤◌, Bool, true, false, refl, subst, arith, nat_lt, nat_le, nat_eq, codes, List, [], length, slice_get, Result, Ok, Err, if◌then◌else◌}
 use Rattle.std.proofs.lemmas.Bool.Decides.{nat_tests}
 use Rattle.hex.specs.Hex.{decode_of}
 use Rattle.hex.specs.declared.error.FromHexError.{FromHexError}
@@ -9,7 +9,8 @@ use Rattle.rpc_msgs.specs.Words.{opaque}
 use Rattle.gss_client.specs.declared.procedure.Procedure.{Procedure}
 use Rattle.gss_client.specs.declared.procedure.Procedure.TheVariants.{Null, Echo, Whoami, Post, Count}
 use Rattle.mech_words.specs.Names.{same}
-use Rattle.client_options.specs.Words.{data_by, bare, with_data, asked_by, asked_in, is_command, service_given, plan_of, sources_of, words_of, IsData, IsArgument}
+use Rattle.client_options.specs.Words.{data_by, served, word_given, args_given, bare, with_data, numbered, asked_by, asked_in, is_command, service_given, plan_of, sources_of, words_of, IsData, IsArgument, IsOwn}
+use Rattle.client_options.specs.declared.command.Command.TheVariants.{Served, Numbered}
 use Rattle.client_options.specs.declared.words.Asked.{Asked}
 use Rattle.client_options.specs.declared.words.ClientWords.{ClientWords}
 use Rattle.client_options.specs.declared.words.Plan.{Plan}
@@ -33,7 +34,7 @@ choose false x y v P here there e = there e
 
 -- what is asked for has its own arguments
 abbrev Own : Asked → Type 0
-Own asked = IsArgument asked.procedure asked.args
+Own asked = IsOwn asked.command asked.program asked.version asked.args
 
 data-few : (r : Result (List ℕ) FromHexError) (octets : List ℕ) → data_by r ≡ Ok octets → length octets ≤ 65536
 data-few (Err refusal) octets e = absurd cc
@@ -50,7 +51,7 @@ bare-own : (plain : List (List ℕ)) (procedure : Procedure) (asked : Asked) →
 unfolding bare
 bare-own plain procedure asked h e =
     let b = bind (demanded (nat_eq (length plain) 2)) _ asked e in
-    subst (λ (a : Asked). Own a) (ok-is (record { procedure = procedure; args = [] }) asked b.2) h
+    subst (λ (a : Asked). Own a) (ok-is (served procedure []) asked b.2) (refl, refl, h)
 
 data-own : (plain : List (List ℕ)) (procedure : Procedure) (asked : Asked) → ((args : List ℕ) → IsData args → IsArgument procedure args) → with_data plain procedure ≡ Ok asked → Own asked
 unfolding with_data
@@ -58,7 +59,17 @@ data-own plain procedure asked h e =
     let b = bind (demanded (nat_eq (length plain) 3)) _ asked e in
     let c = bind (or_usage (slice_get plain 2)) _ asked b.2 in
     let d = bind (data_by (decode_of c.0)) _ asked c.2 in
-    subst (λ (a : Asked). Own a) (ok-is (record { procedure = procedure; args = opaque d.0 }) asked d.2) (h (opaque d.0) (record { octets = d.0; few = data-few (decode_of c.0) d.0 d.1; spelled = refl }))
+    subst (λ (a : Asked). Own a) (ok-is (served procedure (opaque d.0)) asked d.2) (refl, refl, h (opaque d.0) (record { octets = d.0; few = data-few (decode_of c.0) d.0 d.1; spelled = refl }))
+
+numbered-own : (plain : List (List ℕ)) (asked : Asked) → numbered plain ≡ Ok asked → Own asked
+unfolding numbered
+numbered-own plain asked e =
+    let a = bind (demanded (nat_le (length plain) 6)) _ asked e in
+    let b = bind (word_given (slice_get plain 2)) _ asked a.2 in
+    let c = bind (word_given (slice_get plain 3)) _ asked b.2 in
+    let d = bind (word_given (slice_get plain 4)) _ asked c.2 in
+    let f = bind (args_given (slice_get plain 5)) _ asked d.2 in
+    subst (λ (a : Asked). Own a) (ok-is (record { command = Numbered d.0; program = b.0; version = c.0; args = f.0 }) asked f.2) tt
 
 none-own : (asked : Asked) → ◌≡◌ {A = Result Asked WordsRefusal} (Err Usage) (Ok asked) → Own asked
 none-own asked e = absurd cc
@@ -69,13 +80,14 @@ asked-own plain word asked e =
     (choose (same word (codes "echo")) (with_data plain Echo) _ asked (Own asked) (data-own plain Echo asked (λ args d. d))
     (choose (same word (codes "whoami")) (bare plain Whoami) _ asked (Own asked) (bare-own plain Whoami asked refl)
     (choose (same word (codes "post")) (with_data plain Post) _ asked (Own asked) (data-own plain Post asked (λ args d. d))
-    (choose (same word (codes "count")) (bare plain Count) (Err Usage) asked (Own asked) (bare-own plain Count asked refl) (none-own asked))))) e
+    (choose (same word (codes "count")) (bare plain Count) _ asked (Own asked) (bare-own plain Count asked refl)
+    (choose (same word (codes "call")) (numbered plain) (Err Usage) asked (Own asked) (numbered-own plain asked) (none-own asked)))))) e
 
 in-own : (plain : List (List ℕ)) (asked : Asked) → asked_in plain ≡ Ok asked → Own asked
 unfolding asked_in
 in-own plain asked e = let b = bind (or_usage (slice_get plain 1)) _ asked e in asked-own plain b.0 asked b.2
 
-plan-own : (words : List (List ℕ)) (plan : Plan) → plan_of words ≡ Ok plan → IsArgument plan.procedure plan.args
+plan-own : (words : List (List ℕ)) (plan : Plan) → plan_of words ≡ Ok plan → IsOwn plan.command plan.terms.program plan.terms.version plan.args
 unfolding plan_of
 plan-own words plan e =
     let a = bind (asked_in (plain_of words)) _ plan e in
@@ -83,14 +95,14 @@ plan-own words plan e =
     let c = bind (service_given (value_of (codes "--service") words)) _ plan b.2 in
     let d = bind (number_given 1 1000 1 (value_of (codes "--times") words)) _ plan c.2 in
     let f = bind (number_given 1 2147483647 1 (value_of (codes "--first") words)) _ plan d.2 in
-    let is = ok-is (record { procedure = a.0.procedure; args = a.0.args; bindings = b.0; service = c.0; times = d.0; first = f.0 }) plan f.2 in
-    subst (λ (p : Plan). IsArgument p.procedure p.args) is (in-own (plain_of words) a.0 a.1)
+    let is = ok-is (record { command = a.0.command; args = a.0.args; bindings = b.0; terms = record { service = c.0; program = a.0.program; version = a.0.version }; times = d.0; first = f.0 }) plan f.2 in
+    subst (λ (p : Plan). IsOwn p.command p.terms.program p.terms.version p.args) is (in-own (plain_of words) a.0 a.1)
 
-pub words-own : (words : List (List ℕ)) (asked : ClientWords) → words_of words ≡ Ok asked → IsArgument asked.plan.procedure asked.plan.args
+pub words-own : (words : List (List ℕ)) (asked : ClientWords) → words_of words ≡ Ok asked → IsOwn asked.plan.command asked.plan.terms.program asked.plan.terms.version asked.plan.args
 unfolding words_of
 words-own words asked e =
     let a = bind (demanded (is_command words)) _ asked e in
     let b = bind (sources_of words) _ asked a.2 in
     let c = bind (plan_of words) _ asked b.2 in
     let is = ok-is (record { sources = b.0; plan = c.0 }) asked c.2 in
-    subst (λ (w : ClientWords). IsArgument w.plan.procedure w.plan.args) is (plan-own words c.0 c.1)
+    subst (λ (w : ClientWords). IsOwn w.plan.command w.plan.terms.program w.plan.terms.version w.plan.args) is (plan-own words c.0 c.1)

@@ -14,7 +14,7 @@ use Rattle.cli_base.specs.Words.{are_words, first_word, value_of, plain_of}
 use Rattle.cli_words.specs.Line.{IsLine, client_names}
 use Rattle.mech_words.specs.Names.{same, mech_named}
 use Rattle.client_options.specs.Mechs.{words_in, mechs_named, is_list, mechs_by, are_equipped, equipped, usual, mechs_given}
-use Rattle.client_options.specs.Words.{bare, with_data, asked_by, asked_in, is_command, is_line, name_by, server_given, has_krb5, has_scram, plan_of, sources_of, words_of}
+use Rattle.client_options.specs.Words.{bare, with_data, numbered, asked_by, asked_in, is_command, is_line, name_by, server_given, has_krb5, has_scram, plan_of, sources_of, words_of}
 use Rattle.client_options.specs.declared.words.ClientWords.{ClientWords}
 use Rattle.client_options.specs.declared.words.Sources.{Sources}
 use Rattle.cli_base.specs.declared.given.WordsRefusal.{WordsRefusal}
@@ -26,29 +26,37 @@ either : {A : Type 0} (b : Bool) (x y r : Result A WordsRefusal) → x ≡ r →
 either true x y r p q = p
 either false x y r p q = q
 
-bare-crowded : (plain : List (List ℕ)) (procedure : Procedure) → 3 < length plain → bare plain procedure ≡ Err Usage
+bare-crowded : (plain : List (List ℕ)) (procedure : Procedure) → 6 < length plain → bare plain procedure ≡ Err Usage
 unfolding bare
 bare-crowded plain procedure many = rw two refl
   where
     two : nat_eq (length plain) 2 ≡ false
     two = grind (arith, nat_tests)
 
-data-crowded : (plain : List (List ℕ)) (procedure : Procedure) → 3 < length plain → with_data plain procedure ≡ Err Usage
+data-crowded : (plain : List (List ℕ)) (procedure : Procedure) → 6 < length plain → with_data plain procedure ≡ Err Usage
 unfolding with_data
 data-crowded plain procedure many = rw three refl
   where
     three : nat_eq (length plain) 3 ≡ false
     three = grind (arith, nat_tests)
 
-by-crowded : (plain : List (List ℕ)) (word : List ℕ) → 3 < length plain → asked_by plain word ≡ Err Usage
+numbered-crowded : (plain : List (List ℕ)) → 6 < length plain → numbered plain ≡ Err Usage
+unfolding numbered
+numbered-crowded plain many = rw six refl
+  where
+    six : nat_le (length plain) 6 ≡ false
+    six = grind (arith, nat_tests)
+
+by-crowded : (plain : List (List ℕ)) (word : List ℕ) → 6 < length plain → asked_by plain word ≡ Err Usage
 by-crowded plain word many =
     either (same word (codes "null")) (bare plain Null) _ (Err Usage) (bare-crowded plain Null many)
     (either (same word (codes "echo")) (with_data plain Echo) _ (Err Usage) (data-crowded plain Echo many)
     (either (same word (codes "whoami")) (bare plain Whoami) _ (Err Usage) (bare-crowded plain Whoami many)
     (either (same word (codes "post")) (with_data plain Post) _ (Err Usage) (data-crowded plain Post many)
-    (either (same word (codes "count")) (bare plain Count) (Err Usage) (Err Usage) (bare-crowded plain Count many) refl))))
+    (either (same word (codes "count")) (bare plain Count) _ (Err Usage) (bare-crowded plain Count many)
+    (either (same word (codes "call")) (numbered plain) (Err Usage) (Err Usage) (numbered-crowded plain many) refl)))))
 
-asked-crowded : (plain : List (List ℕ)) → 3 < length plain → asked_in plain ≡ Err Usage
+asked-crowded : (plain : List (List ℕ)) → 6 < length plain → asked_in plain ≡ Err Usage
 unfolding asked_in
 asked-crowded plain many = go (slice_get plain 1)
   where
@@ -56,7 +64,7 @@ asked-crowded plain many = go (slice_get plain 1)
     go None = refl
     go (Some word) = by-crowded plain word many
 
-plan-crowded : (words : List (List ℕ)) → 3 < length (plain_of words) → plan_of words ≡ Err Usage
+plan-crowded : (words : List (List ℕ)) → 6 < length (plain_of words) → plan_of words ≡ Err Usage
 unfolding plan_of
 plan-crowded words many = rw (asked-crowded (plain_of words) many) refl
 
@@ -129,7 +137,7 @@ sources-only words =
 
 -- ---- the words
 
-words-crowded : (words : List (List ℕ)) → 3 < length (plain_of words) → words_of words ≡ Err Usage
+words-crowded : (words : List (List ℕ)) → 6 < length (plain_of words) → words_of words ≡ Err Usage
 unfolding words_of
 words-crowded words many = formed (is_command words)
   where
@@ -148,16 +156,16 @@ words-unformed : (words : List (List ℕ)) → is_command words ≡ false → wo
 unfolding words_of
 words-unformed words t = rw t refl
 
-few-of : (n : ℕ) → nat_le n 3 ≡ true → n ≤ 3
+few-of : (n : ℕ) → nat_le n 6 ≡ true → n ≤ 6
 few-of n e = grind (arith, nat_tests)
 
-many-of : (n : ℕ) → nat_le n 3 ≡ false → 3 < n
+many-of : (n : ℕ) → nat_le n 6 ≡ false → 6 < n
 many-of n e = grind (arith, nat_tests)
 
 pub words-refused : (words : List (List ℕ)) → is_line words ≡ false → words_of words ≡ Err Usage
-words-refused words e = go (is_command words) refl (nat_le (length (plain_of words)) 3) refl
+words-refused words e = go (is_command words) refl (nat_le (length (plain_of words)) 6) refl
   where
-    go : (a : Bool) → is_command words ≡ a → (b : Bool) → nat_le (length (plain_of words)) 3 ≡ b → words_of words ≡ Err Usage
+    go : (a : Bool) → is_command words ≡ a → (b : Bool) → nat_le (length (plain_of words)) 6 ≡ b → words_of words ≡ Err Usage
     go false t b s = words-unformed words t
     go true t false s = words-crowded words (many-of (length (plain_of words)) s)
     go true t true s = absurd (true≢false (rw (t, s) at e))
@@ -169,10 +177,10 @@ both false b e = absurd (true≢false (sym e))
 -- words of the form are those that `clap` takes
 pub record IsForm (words : List (List ℕ)) : Type 0 where
   pub command : is_command words ≡ true
-  pub line : IsLine client_names 3 words
+  pub line : IsLine client_names 6 words
 
 pub form-of : (words : List (List ℕ)) → is_line words ≡ true → IsForm words
 form-of words e =
-    let two = both (is_command words) (nat_le (length (plain_of words)) 3) e in
+    let two = both (is_command words) (nat_le (length (plain_of words)) 6) e in
     let parts = both (is_some (first_word words)) (are_words client_names words) two.0 in
     record { command = two.0; line = record { first = parts.0; few = few-of (length (plain_of words)) two.1; known = parts.1 } }

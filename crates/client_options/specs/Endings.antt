@@ -121,7 +121,7 @@ name_in names files.Password = names.password
 
 -- the line of an end; a run that finished has none
 abbrev pub line_of : Named → RunEnd → List ℕ
-line_of names Usage = codes "usage: gssrpc ADDRESS COMMAND [ARG] [options]\n"
+line_of names Usage = codes "usage: gssrpc ADDRESS COMMAND [ARG ..] [options]\n"
 line_of names (CannotLoad file) = stop_line (name_in names file) stops.CannotLoad
 line_of names (Bad file at) = stop_line (name_in names file) (stops.Bad at)
 line_of names NoCredential = codes "no credential for " ++ (names.server ++ codes "\n")

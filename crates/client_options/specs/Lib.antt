@@ -1,3 +1,4 @@
+pub mod Command
 pub mod Endings
 pub mod Lines
 pub mod Mechs

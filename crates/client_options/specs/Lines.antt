@@ -11,6 +11,8 @@ use Rattle.gss_client.specs.Procedure.{opaque_alone}
 use Rattle.gss_client.specs.declared.procedure.Procedure.{Procedure}
 use Rattle.gss_client.specs.declared.procedure.Procedure.TheVariants.{Null, Echo, Whoami, Post}
 use Rattle.gss_client.specs.declared.procedure.Procedure.TheVariants.{Count}
+use Rattle.client_options.specs.declared.command.Command.{Command}
+use Rattle.client_options.specs.declared.command.Command.TheVariants.{Served, Numbered}
 
 -- the mechanism, as the line of a context names it
 abbrev pub mech_word : MechKind → List ℕ
@@ -34,8 +36,12 @@ context_line None = []
 context_line (Some outcome) = outcome_line outcome
 
 -- octets in lower-case hexadecimal
+abbrev pub octets_line : List ℕ → List ℕ
+octets_line octets = encode_lower octets ++ codes "\n"
+
+-- the same of octets that were read
 abbrev pub hex_line : Result (List ℕ) XdrRefusal → List ℕ
-hex_line (Ok octets) = encode_lower octets ++ codes "\n"
+hex_line (Ok octets) = octets_line octets
 hex_line (Err refusal) = []
 
 -- a text as it is
@@ -48,20 +54,26 @@ abbrev pub number_line : Result (ℕ × Input) XdrRefusal → List ℕ
 number_line (Ok read) = decimal read.0 ++ codes "\n"
 number_line (Err refusal) = []
 
--- a result of this procedure; octets that are none have no line
-abbrev pub result_line : Procedure → List ℕ → List ℕ
-result_line Null octets = codes "ok\n"
-result_line Echo octets = hex_line (opaque_alone 65536 octets)
-result_line Whoami octets = text_line (opaque_alone 1024 octets)
-result_line Post octets = number_line (word_at (whole octets))
-result_line Count octets = number_line (word_at (whole octets))
+-- a result of this served procedure; octets that are none have no line
+abbrev pub served_line : Procedure → List ℕ → List ℕ
+served_line Null octets = codes "ok\n"
+served_line Echo octets = hex_line (opaque_alone 65536 octets)
+served_line Whoami octets = text_line (opaque_alone 1024 octets)
+served_line Post octets = number_line (word_at (whole octets))
+served_line Count octets = number_line (word_at (whole octets))
+
+-- a result of what was called: of a procedure by its number all octets, an empty line where there
+-- are none
+abbrev pub result_line : Command → List ℕ → List ℕ
+result_line (Served procedure) octets = served_line procedure octets
+result_line (Numbered number) octets = octets_line octets
 
 -- the lines of all results, in order
-abbrev pub result_lines : Procedure → List (List ℕ) → List ℕ
-result_lines procedure [] = []
-result_lines procedure (octets ∷ results) =
-    result_line procedure octets ++ result_lines procedure results
+abbrev pub result_lines : Command → List (List ℕ) → List ℕ
+result_lines command [] = []
+result_lines command (octets ∷ results) =
+    result_line command octets ++ result_lines command results
 
 -- what is printed of a session with this outcome and these results
-abbrev pub lines : Procedure → Option Outcome → List (List ℕ) → List ℕ
-lines procedure outcome results = context_line outcome ++ result_lines procedure results
+abbrev pub lines : Command → Option Outcome → List (List ℕ) → List ℕ
+lines command outcome results = context_line outcome ++ result_lines command results

@@ -1,4 +1,4 @@
--- The words of the client, `ADDRESS COMMAND [ARG] [options]`: which are in its command, and what
+-- The words of the client, `ADDRESS COMMAND [ARG ..] [options]`: which are in its command, and what
 -- they ask for.
 use Rattle.std.specs.Prelude.{◌≡◌, ℕ, ◌<◌, ◌≤◌, Bool, ◌&&◌, nat_eq, nat_lt, nat_le}
 use Rattle.std.specs.Prelude.{List, [], length, slice_get, slice_index, codes, Option, Some}
@@ -12,6 +12,7 @@ use Rattle.gss_client.specs.declared.procedure.Procedure.TheVariants.{Count}
 use Rattle.rpcsec_bodies.specs.declared.service.Service.{Service}
 use Rattle.rpcsec_bodies.specs.declared.service.Service.TheVariants as services
 use Rattle.cli_base.specs.Given.{◌>>=◌, or_usage, demanded, number_given, data_given}
+use Rattle.cli_base.specs.Numbers.{number_in}
 use Rattle.cli_base.specs.Words.{are_words, value_of, first_word, plain_of}
 use Rattle.cli_base.specs.declared.given.WordsRefusal.{WordsRefusal}
 use Rattle.cli_base.specs.declared.given.WordsRefusal.TheVariants.{Usage}
@@ -19,8 +20,11 @@ use Rattle.cli_words.specs.Line.{client_names}
 use Rattle.hex.specs.Hex.{decode_of}
 use Rattle.hex.specs.declared.error.FromHexError.{FromHexError}
 use Rattle.rpc_msgs.specs.Words.{opaque}
+use Rattle.rpc_msgs.specs.declared.numbers.TheConstants.{PROGRAM, VERSION}
 use Rattle.mech_words.specs.Names.{same}
 use Rattle.client_options.specs.Mechs.{mechs_given}
+use Rattle.client_options.specs.declared.command.Command.{Command}
+use Rattle.client_options.specs.declared.command.Command.TheVariants.{Served, Numbered}
 use Rattle.client_options.specs.declared.words.Asked.{Asked}
 use Rattle.client_options.specs.declared.words.ClientWords.{ClientWords}
 use Rattle.client_options.specs.declared.words.Plan.{Plan}
@@ -37,11 +41,20 @@ abbrev pub data_by : Result (List ℕ) FromHexError → Result (List ℕ) WordsR
 data_by (Ok octets) = within octets
 data_by (Err refusal) = Err Usage
 
+-- what is asked of the program that `gssrpcd` serves
+abbrev pub served : Procedure → List ℕ → Asked
+served procedure args = record {
+  command = Served procedure;
+  program = PROGRAM;
+  version = VERSION;
+  args = args;
+}
+
 -- a command without ARG
 unfoldable pub bare : List (List ℕ) → Procedure → Result Asked WordsRefusal
 bare plain procedure = do
   alone ← demanded (nat_eq (length plain) 2)
-  Ok (record { procedure = procedure; args = [] })
+  Ok (served procedure [])
 
 -- a command with ARG, which is the procedure's argument
 unfoldable pub with_data : List (List ℕ) → Procedure → Result Asked WordsRefusal
@@ -49,7 +62,28 @@ with_data plain procedure = do
   alone ← demanded (nat_eq (length plain) 3)
   text ← or_usage (slice_get plain 2)
   octets ← data_by (decode_of text)
-  Ok (record { procedure = procedure; args = opaque octets })
+  Ok (served procedure (opaque octets))
+
+-- a number of 32 bits in decimal, which has to be there
+abbrev pub word_given : Option (List ℕ) → Result ℕ WordsRefusal
+word_given None = Err Usage
+word_given (Some text) = or_usage (number_in 0 0xffffffff text)
+
+-- the octets of HEX, none without it
+abbrev pub args_given : Option (List ℕ) → Result (List ℕ) WordsRefusal
+args_given None = Ok []
+args_given (Some text) = data_by (decode_of text)
+
+-- `call PROGRAM VERSION PROCEDURE [HEX]`: any procedure of any program by its number, with these
+-- octets as its arguments (RFC 5531 section 9)
+unfoldable pub numbered : List (List ℕ) → Result Asked WordsRefusal
+numbered plain = do
+  few ← demanded (nat_le (length plain) 6)
+  program ← word_given (slice_get plain 2)
+  version ← word_given (slice_get plain 3)
+  procedure ← word_given (slice_get plain 4)
+  args ← args_given (slice_get plain 5)
+  Ok (record { command = Numbered procedure; program = program; version = version; args = args })
 
 -- what a command asks for, among the plain words
 abbrev pub asked_by : List (List ℕ) → List ℕ → Result Asked WordsRefusal
@@ -59,6 +93,7 @@ asked_by plain word =
     else if same word (codes "whoami") then bare plain Whoami
     else if same word (codes "post") then with_data plain Post
     else if same word (codes "count") then bare plain Count
+    else if same word (codes "call") then numbered plain
     else Err Usage
 
 -- the command is the second plain word, behind the address
@@ -75,7 +110,7 @@ is_command words = is_some (first_word words) && are_words client_names words
 
 -- words of the command, of which none is left over behind its argument
 abbrev pub is_line : List (List ℕ) → Bool
-is_line words = is_command words && nat_le (length (plain_of words)) 3
+is_line words = is_command words && nat_le (length (plain_of words)) 6
 
 -- the server as its text was read, refused where it names no principal
 abbrev pub name_by : Result Name NameRefusal → Result (Option Name) WordsRefusal
@@ -109,11 +144,10 @@ plan_of words = do
   times ← number_given 1 1000 1 (value_of (codes "--times") words)
   first ← number_given 1 2147483647 1 (value_of (codes "--first") words)
   Ok (record {
-    procedure = asked.procedure;
+    command = asked.command;
     args = asked.args;
     bindings = bound;
-    service =
-        service;
+    terms = record { service = service; program = asked.program; version = asked.version };
     times = times;
     first = first;
   })
@@ -162,13 +196,19 @@ pub record IsData (args : List ℕ) : Type 0 where
   pub few : length octets ≤ 65536
   pub spelled : args ≡ opaque octets
 
--- a procedure's argument: octets for ECHO and POST, nothing for the others
+-- a served procedure's argument: octets for ECHO and POST, nothing for the others
 abbrev pub IsArgument : Procedure → List ℕ → Type 0
 IsArgument Null args = args ≡ []
 IsArgument Echo args = IsData args
 IsArgument Whoami args = args ≡ []
 IsArgument Post args = IsData args
 IsArgument Count args = args ≡ []
+
+-- a served procedure is called of its program with its own arguments
+abbrev pub IsOwn : Command → ℕ → ℕ → List ℕ → Type 0
+IsOwn (Served procedure) program version args =
+    (program ≡ PROGRAM) × (version ≡ VERSION) × IsArgument procedure args
+IsOwn (Numbered number) program version args = Unit {0}
 
 -- each number is an octet
 abbrev pub AreOctets : List ℕ → Type 0

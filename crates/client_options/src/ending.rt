@@ -14,7 +14,7 @@ use std::alloc::{AllocError, Global};
 use std::marker::Model;
 
 /// The line of status 2.
-const USAGE: &str = "usage: gssrpc ADDRESS COMMAND [ARG] [options]\n";
+const USAGE: &str = "usage: gssrpc ADDRESS COMMAND [ARG ..] [options]\n";
 
 /// A file that the words name.
 #[derive(Clone, Copy)]

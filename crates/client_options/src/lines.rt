@@ -4,8 +4,10 @@ ghost use Rattle.std.specs.Prelude.{◌≡◌, ◌++◌, IfOk, OnOk};
 ghost use Rattle.rpc_msgs.specs.Xdr.{whole, word_at};
 ghost use Rattle.gss_client.specs.Procedure.{opaque_alone};
 ghost use Rattle.client_options.specs.Lines.{mech_word, name_word, outcome_line, context_line};
-ghost use Rattle.client_options.specs.Lines.{hex_line, text_line, number_line, result_line, lines};
+ghost use Rattle.client_options.specs.Lines.{octets_line, hex_line, text_line, number_line};
+ghost use Rattle.client_options.specs.Lines.{served_line, result_line, lines};
 
+use crate::command::Command;
 use gss_base::MechKind;
 use gss_client::{Procedure, opaque_alone};
 use rpc_msgs::XdrReader;
@@ -58,17 +60,25 @@ fn push_context(alloc: Global, out: &mut Vec<u8>, outcome: &Option<Outcome>) -> 
     }
 }
 
+/// Adds the line of octets.
+fn push_octets(alloc: Global, out: &mut Vec<u8>, octets: &[u8]) -> Result<(), NoMemory>
+    ensures { OnOk result (out.new.items ≡ out.old.items ++ octets_line octets.now) }
+{
+    let line = hex::encode(alloc, octets)?;
+    out.extend_from_slice(line.as_bytes())?;
+    out.extend_from_slice(b"\n")?;
+    Ok(())
+}
+
 /// Adds the line of an echo.
 fn push_echo(alloc: Global, out: &mut Vec<u8>, octets: &[u8]) -> Result<(), NoMemory>
     ensures { OnOk result
         (out.new.items ≡ out.old.items ++ hex_line (opaque_alone 65536 octets.now)) }
 {
-    if let Ok(echo) = opaque_alone(MOST_ECHO, octets) {
-        let line = hex::encode(alloc, echo)?;
-        out.extend_from_slice(line.as_bytes())?;
-        out.extend_from_slice(b"\n")?;
+    match opaque_alone(MOST_ECHO, octets) {
+        Ok(echo) => push_octets(alloc, out, echo),
+        Err(_) => Ok(()),
     }
-    Ok(())
 }
 
 /// Adds the line of a name.
@@ -96,14 +106,14 @@ fn push_number(alloc: Global, out: &mut Vec<u8>, octets: &[u8]) -> Result<(), No
     Ok(())
 }
 
-/// Adds the line of a result.
-fn push_result(
+/// Adds the line of a served procedure's result.
+fn push_served(
     alloc: Global,
     out: &mut Vec<u8>,
     procedure: Procedure,
     octets: &[u8],
 ) -> Result<(), NoMemory>
-    ensures { OnOk result (out.new.items ≡ out.old.items ++ result_line procedure octets.now) }
+    ensures { OnOk result (out.new.items ≡ out.old.items ++ served_line procedure octets.now) }
 {
     match procedure {
         Procedure::Null => {
@@ -117,19 +127,34 @@ fn push_result(
     }
 }
 
-/// The lines of a session with this outcome and these results of a procedure.
+/// Adds the line of a result.
+fn push_result(
+    alloc: Global,
+    out: &mut Vec<u8>,
+    command: Command,
+    octets: &[u8],
+) -> Result<(), NoMemory>
+    ensures { OnOk result (out.new.items ≡ out.old.items ++ result_line command octets.now) }
+{
+    match command {
+        Command::Served(procedure) => push_served(alloc, out, procedure, octets),
+        Command::Numbered(_) => push_octets(alloc, out, octets),
+    }
+}
+
+/// The lines of a session with this outcome and these results of what was called.
 pub fn lines_of(
     alloc: Global,
-    procedure: Procedure,
+    command: Command,
     outcome: &Option<Outcome>,
     results: &[Octets],
 ) -> Result<Vec<u8>, NoMemory>
-    ensures { IfOk result (λ text. text.items ≡ lines procedure outcome.now results.now) }
+    ensures { IfOk result (λ text. text.items ≡ lines command outcome.now results.now) }
 {
     let mut text = Vec::new(alloc);
     push_context(alloc, &mut text, outcome)?;
     for octets in results {
-        push_result(alloc, &mut text, procedure, octets.as_slice())?;
+        push_result(alloc, &mut text, command, octets.as_slice())?;
     }
     Ok(text)
 }

@@ -1,43 +1,47 @@
 //! The words of the client.
 
-ghost use Rattle.std.specs.Prelude.{◌≡◌, ◌≤◌, IfOk, true, codes, length};
+ghost use Rattle.std.specs.Prelude.{◌≡◌, ◌≤◌, IfOk, true, codes, length, slice_get};
 ghost use Rattle.sec_base.specs.Answers.{Gives};
 ghost use Rattle.gss_base.specs.Signs.{parsed};
 ghost use Rattle.hex.specs.Hex.{decode_of};
 ghost use Rattle.rpc_msgs.specs.Words.{opaque};
 ghost use Rattle.cli_base.specs.Words.{is_dashed, value_of, plain_of};
 ghost use Rattle.client_options.specs.Words.{is_command, is_line, bare, with_data, data_by};
+ghost use Rattle.client_options.specs.Words.{served, word_given, args_given, numbered};
 ghost use Rattle.client_options.specs.Words.{asked_by, asked_in};
 ghost use Rattle.client_options.specs.Mechs.{is_list, mechs_given};
 ghost use Rattle.client_options.specs.Words.{name_by, server_given, is_given, has_krb5, has_scram};
 ghost use Rattle.client_options.specs.Words.{sources_of, service_by, service_given, plan_of};
 ghost use Rattle.client_options.specs.Words.{words_of, AreOctets, IsRanged};
 
+use crate::command::Command;
 use crate::mechs::mechs_given;
 pub use cli_base::{WordsRefusal, address_of};
-use cli_base::{are_words, count_plain, demand, first_word};
+use cli_base::{are_words, count_plain, demand, first_word, number_in};
 use cli_words::{Line, bindings_given, client_line, number_given, texts_of};
 use gss_base::{Bindings, MechName, NameRefusal, Principal};
-use gss_client::{Procedure, Service};
+use gss_client::{Procedure, Service, Terms};
 use hex::FromHexError;
 use rpc_msgs::XdrWriter;
+use rpc_msgs::numbers::{PROGRAM, VERSION};
 use sec_base::{Items, NoMemory, Octets, Text};
 use std::alloc::Global;
 
 /// The most octets of an argument.
 const MOST_DATA: usize = 65_536;
 
-/// The most plain words: the address, the command, and its argument.
-const MOST_PLAIN: usize = 3;
+/// The most plain words: the address, `call`, the program, its version, the procedure, and its arguments.
+const MOST_PLAIN: usize = 6;
 
 /// What is called, how often, and how the calls are protected.
 #[derive(Drop)]
 pub struct Plan {
-    pub procedure: Procedure,
+    pub command: Command,
     /// The arguments, in XDR.
     pub args: Octets,
     pub bindings: Option<Bindings>,
-    pub service: Service,
+    /// The program, its version, and how the calls are protected.
+    pub terms: Terms,
     /// How many calls are made, from 1 to 1,000.
     pub times: u32,
     /// The number of the first call, from 1 to 0x7fffffff.
@@ -66,11 +70,25 @@ pub struct ClientWords {
     pub plan: Plan,
 }
 
-/// What is called, and the arguments in XDR.
+/// What is called of which program, and the arguments in XDR.
 #[derive(Drop)]
 struct Asked {
-    procedure: Procedure,
+    command: Command,
+    program: u32,
+    version: u32,
     args: Octets,
+}
+
+/// What is asked of the program that `gssrpcd` serves.
+fn served(procedure: Procedure, args: Octets) -> Asked
+    ensures { result ≡ served procedure args }
+{
+    Asked {
+        command: Command::Served(procedure),
+        program: PROGRAM,
+        version: VERSION,
+        args,
+    }
 }
 
 /// Whether a word that is no option stands first, and each option has its value.
@@ -94,7 +112,7 @@ fn is_command(words: &[Text]) -> bool
         )
 }
 
-/// Whether words are in the command, and none is left over behind the argument.
+/// Whether words are in the command, and none is left over behind the arguments.
 fn is_line(words: &[Text]) -> bool
     ensures { result ≡ is_line words.now }
 {
@@ -137,10 +155,7 @@ fn bare(alloc: Global, line: &Line<'_>, procedure: Procedure) -> Result<Asked, W
     ensures size { IfOk result (λ a. length a.args ≤ 65540) }
 {
     demand(line.count_plain() == 2)?;
-    Ok(Asked {
-        procedure,
-        args: Octets::from_vec(Vec::new(alloc)),
-    })
+    Ok(served(procedure, Octets::from_vec(Vec::new(alloc))))
 }
 
 /// What a command with an argument asks for.
@@ -155,10 +170,54 @@ fn with_data(alloc: Global, line: &Line<'_>, procedure: Procedure) -> Result<Ask
         Some(text) => {
             let octets = data_of(alloc, text)?;
             let args = argument(alloc, octets.as_slice())?;
-            Ok(Asked { procedure, args })
+            Ok(served(procedure, args))
         }
         None => Err(WordsRefusal::Usage),
     }
+}
+
+/// The number that a plain word has, in decimal.
+fn word_given(line: &Line<'_>, place: usize) -> Result<u32, WordsRefusal>
+    ensures { result ≡ word_given (slice_get (plain_of line.now) place) }
+{
+    match line.plain(place) {
+        Some(text) => match number_in(text, 0, 0xffff_ffff) {
+            Some(number) => Ok(number),
+            None => Err(WordsRefusal::Usage),
+        },
+        None => Err(WordsRefusal::Usage),
+    }
+}
+
+/// The arguments of a procedure that is called by its number: the octets of the last word, or none.
+fn args_given(alloc: Global, line: &Line<'_>) -> Result<Octets, WordsRefusal>
+    ensures value { Gives WordsRefusal.NoMemory (λ o. o) result
+        (args_given (slice_get (plain_of line.now) 5)) }
+    ensures size { IfOk result (λ o. length o ≤ 65536) }
+{
+    match line.plain(5) {
+        Some(text) => data_of(alloc, text),
+        None => Ok(Octets::from_vec(Vec::new(alloc))),
+    }
+}
+
+/// What `call` asks for.
+#[tactic(auto, unfolding(crate::specs::Words::numbered))]
+fn numbered(alloc: Global, line: &Line<'_>) -> Result<Asked, WordsRefusal>
+    ensures value { Gives WordsRefusal.NoMemory (λ a. a) result (numbered (plain_of line.now)) }
+    ensures size { IfOk result (λ a. length a.args ≤ 65540) }
+{
+    demand(line.count_plain() <= MOST_PLAIN)?;
+    let program = word_given(line, 2)?;
+    let version = word_given(line, 3)?;
+    let procedure = word_given(line, 4)?;
+    let args = args_given(alloc, line)?;
+    Ok(Asked {
+        command: Command::Numbered(procedure),
+        program,
+        version,
+        args,
+    })
 }
 
 /// What this command asks for.
@@ -181,6 +240,9 @@ fn asked_by(alloc: Global, line: &Line<'_>, command: &str) -> Result<Asked, Word
     }
     if command == "count" {
         return bare(alloc, line, Procedure::Count);
+    }
+    if command == "call" {
+        return numbered(alloc, line);
     }
     Err(WordsRefusal::Usage)
 }
@@ -362,11 +424,16 @@ fn plan_of(alloc: Global, line: &Line<'_>) -> Result<Plan, WordsRefusal>
     let service = service_given(line)?;
     let times = number_given(line, "--times", 1, 1000, 1)?;
     let first = number_given(line, "--first", 1, 0x7fff_ffff, 1)?;
+    let terms = Terms {
+        service,
+        program: asked.program,
+        version: asked.version,
+    };
     Ok(Plan {
-        procedure: asked.procedure,
+        command: asked.command,
         args: asked.args,
         bindings,
-        service,
+        terms,
         times,
         first,
     })

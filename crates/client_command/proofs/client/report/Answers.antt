@@ -12,4 +12,4 @@ pub returns-in-Err-clause-sink_fault : goal.returns-in-Err-clause-sink_fault
 returns-in-Err-clause-sink_fault g c = λ e. inr (c.unspoken.ensures.sink_fault e)
 
 pub returns-in-Err-clause-printed : goal.returns-in-Err-clause-printed
-returns-in-Err-clause-printed g c = λ t. unprinted (g.O.Sink.written c.args.out.now) c.args.procedure c.unspoken.ensures.outcome c.unspoken.ensures.results
+returns-in-Err-clause-printed g c = λ t. unprinted (g.O.Sink.written c.args.out.now) c.args.command c.unspoken.ensures.outcome c.unspoken.ensures.results

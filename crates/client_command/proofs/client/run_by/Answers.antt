@@ -49,4 +49,4 @@ pub returns-in-Err-clause-silent : goal.returns-in-Err-clause-silent
 returns-in-Err-clause-silent g c = rw c.in-Err.is (record { same = refl; none = c.unspoken.ensures.outcome; empty = c.unspoken.ensures.results })
 
 pub returns-in-Err-clause-printed : goal.returns-in-Err-clause-printed
-returns-in-Err-clause-printed g c = λ t. unprinted (g.O.Sink.written c.args.out.now) c.args.plan.procedure c.unspoken.ensures.outcome c.unspoken.ensures.results
+returns-in-Err-clause-printed g c = λ t. unprinted (g.O.Sink.written c.args.out.now) c.args.plan.command c.unspoken.ensures.outcome c.unspoken.ensures.results

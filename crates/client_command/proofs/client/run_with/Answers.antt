@@ -1,7 +1,10 @@
-use Rattle.std.proofs.Common.{◌≡◌, Ok}
+use Rattle.std.proofs.Common.{◌≡◌, subst, List, Result, Ok}
+use Rattle.spnego_core.specs.declared.setup.MechCred.{MechCred}
 use Rattle.client_command.proofs.ByCredentials.{other-by, fault-by, asked-by, stops-by, held-by, due-of, found-of, found-by, silent-by, silent-or}
 use Rattle.client_command.proofs.Spoken.{ended-so}
 use Rattle.client_command.specs.Credentials.{creds_from}
+use Rattle.client_command.specs.Loading.{CredsFrom}
+use Rattle.client_options.specs.declared.ending.RunEnd.{RunEnd}
 use Rattle.client_command.proofs.client.run_with.Goals as goal
 
 pub returns-clause-other : goal.returns-clause-other
@@ -42,6 +45,7 @@ returns-clause-spoke g c = λ begun t.
     let held = held-by c.creds_given-creds.result c.run_by-ended.result.end c.creds_given-creds.ensures.unbegun c.run_by-ended.ensures.ends begun in
     record {
       creds = held.0;
+      read = subst (λ (r : Result (List MechCred) RunEnd). CredsFrom g.F.Shelf c.args.shelf.now c.creds_given-creds.new.shelf c.args.words.sources r) held.1 c.creds_given-creds.ensures.read;
       found = λ s. due-of (creds_from (g.F.Shelf.files c.args.shelf.now) c.args.words.sources) c.creds_given-creds.result held.0 (c.creds_given-creds.ensures.found s) held.1;
       ranged = c.requires.range;
       spoke = c.run_by-ended.ensures.spoke held.0 held.1 t;
@@ -51,6 +55,7 @@ pub returns-clause-wanting : goal.returns-clause-wanting
 returns-clause-wanting g c = λ e t.
     silent-or c.creds_given-creds.result c.run_by-ended.ensures.silent (λ list is. record {
       creds = list;
+      read = subst (λ (r : Result (List MechCred) RunEnd). CredsFrom g.F.Shelf c.args.shelf.now c.creds_given-creds.new.shelf c.args.words.sources r) is c.creds_given-creds.ensures.read;
       found = λ s. due-of (creds_from (g.F.Shelf.files c.args.shelf.now) c.args.words.sources) c.creds_given-creds.result list (c.creds_given-creds.ensures.found s) is;
       ranged = c.requires.range;
       spoke = c.run_by-ended.ensures.spoke list is t;

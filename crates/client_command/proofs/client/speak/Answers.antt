@@ -10,7 +10,7 @@ hold-talk-requires-clause-list g c = search rules
 
 pub returns-clause-told : goal.returns-clause-told
 returns-clause-told g c = λ t.
-    let begun : SetupMeans → StartMeans = λ setup. record { setup = setup; service = c.args.plan.service; first = c.args.plan.first } in
+    let begun : SetupMeans → StartMeans = λ setup. record { setup = setup; terms = c.args.plan.terms; first = c.args.plan.first } in
     held c.args.plan c.args.creds c.now-stamp.result c.fill.new.out c.now-stamp.ensures.told (omega (arith, c.fill.auto.out)) (λ d. c.fill.ensures.told (c.hold-talk.ensures.drawing d))
     (rw c.as_slice.ensures at c.hold-talk.ensures.plain (start_of c.args.plan c.args.creds c.now-stamp.result c.fill.new.out) (ap begun c.in-Ok.ensures.objects) t)
 

@@ -8,7 +8,7 @@ use Rattle.client_options.proofs.words.read_form.Goals as goal
 pub client_line-requires : goal.client_line-requires
 client_line-requires c =
     let lent : texts c.as_slice.result.now ≡ c.args.words.now = ap texts c.as_slice.ensures.value ∙ c.in_ok-texts.ensures in
-    subst (λ (words : List (List ℕ)). IsLine client_names 3 words) (sym lent) (form-of c.args.words.now c.requires).line
+    subst (λ (words : List (List ℕ)). IsLine client_names 6 words) (sym lent) (form-of c.args.words.now c.requires).line
 
 pub read_line-requires : goal.read_line-requires
 read_line-requires c =
