@@ -25,6 +25,7 @@ pub trait Room {
 }
 
 impl Room for Brand {
+    ghost use Rattle.std.specs.Prelude.{false};
     ghost use Rattle.book_seats.specs.Views.{no_table, no_setup};
 
     ghost table = { no_table };
@@ -35,7 +36,13 @@ impl Room for Brand {
 
     ghost desks = { 0 };
 
-    ghost limits = { record { contexts = 0; marks = 0; log = 0; width = 0 } };
+    ghost limits = { record {
+      contexts = 0;
+      marks = 0;
+      log = 0;
+      width = 0;
+      keeping = record { entries = false; digest = false };
+    } };
 }
 
 /// A question with its answer, which a call notes.

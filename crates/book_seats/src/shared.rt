@@ -15,7 +15,7 @@ use std::alloc::Global;
 use std::marker::{Brand, Model};
 
 /// A book with the writer of its history: it began as the room says, and since then it answered what
-/// stands in the history, and nothing else.
+/// stands in the history, and nothing else. Its log is legal.
 #[derive(Drop)]
 pub struct Shared<J: Room> {
     book: Book,
@@ -114,6 +114,7 @@ impl<J: Room> Shared<J> {
         requires limits { limits_of book ≡ J.limits }
         requires writer { writer ≡ record { made = J.desks; all = [] } }
     {
+        let _ = book.log();
         Shared { book, writer }
     }
 
@@ -144,6 +145,7 @@ impl<J: Room> Shared<J> {
     {
         let Shared { book, writer } = self;
         let answer = book.first(stepped, now);
+        let _ = book.log();
         note_step::<J, Brand>(writer, hall, clerk, None, token, now, draws, &answer);
         answer
     }
@@ -168,6 +170,7 @@ impl<J: Room> Shared<J> {
         let Shared { book, writer } = self;
         let id = Some(id);
         let answer = book.negotiate(alloc, setup, id, token, now, draws);
+        let _ = book.log();
         note_step::<J, Brand>(writer, hall, clerk, id, token, now, draws, &answer);
         answer
     }
@@ -184,6 +187,7 @@ impl<J: Room> Shared<J> {
     {
         let Shared { book, writer } = self;
         let answer = book.look(id, now);
+        let _ = book.log();
         note_look::<J, Brand>(writer, hall, clerk, id, now, &answer);
         answer
     }
@@ -203,6 +207,7 @@ impl<J: Room> Shared<J> {
     {
         let Shared { book, writer } = self;
         let answer = book.admit(lease, seq, procedure, args);
+        let _ = book.log();
         note_admit::<J, Brand>(writer, hall, clerk, lease, seq, procedure, args, &answer);
         answer
     }
@@ -219,6 +224,7 @@ impl<J: Room> Shared<J> {
     {
         let Shared { book, writer } = self;
         let answer = book.end(lease, seq);
+        let _ = book.log();
         note_end::<J, Brand>(writer, hall, clerk, lease, seq, &answer);
         answer
     }

@@ -11,11 +11,11 @@ ghost use Rattle.server_options.specs.Options.{options_of};
 
 use drill_command::run_drill;
 use drill_plan::{Plan, add_object, drill_sessions, is_drill};
-use gss_server::{KeepNothing, KeepReceipts};
+use gss_server::KeepNothing;
 use mech_objects::{KerberosMech, Mech, ScramMech};
 use sec_base::{Clock as Moments, Port, Text};
 use server_command::run_server;
-use server_desks::Desk;
+use server_desks::{Desk, run_limit};
 use server_options::{
     Order, WordsRefusal, address_of, answer_to, order_of, read_control, read_options, say_unbound,
 };
@@ -57,16 +57,15 @@ fn main(rt: HostRuntime) -> ExitCode {
     ExitCode::from(status)
 }
 
-/// A desk with the system's clock and random octets of its own. Of the answers it keeps the receipts of
-/// the log's entries, and nothing of a connection that ended.
-type SystemDesk<P> = Desk<P, SystemClock<HostRuntime>, RandDraw, KeepReceipts, KeepNothing>;
+/// A desk with the system's clock and random octets of its own. It keeps nothing of the answers, and
+/// nothing of a connection that ended.
+type SystemDesk<P> = Desk<P, SystemClock<HostRuntime>, RandDraw, KeepNothing, KeepNothing>;
 
 /// A desk over a port, with these random octets.
 fn desk<P: Port + Drop>(rt: HostRuntime, port: P, draw: RandDraw) -> SystemDesk<P>
     ensures { IsFresh result }
 {
-    let receipts = KeepReceipts::new(rt.alloc());
-    Desk::new(port, SystemClock::new(rt), draw, receipts, KeepNothing)
+    Desk::new(port, SystemClock::new(rt), draw, KeepNothing, KeepNothing)
 }
 
 /// The disk of the journal that the words name, none where they name none; an error at want of memory.
@@ -196,7 +195,7 @@ fn staff_of(rt: HostRuntime, words: &[Text]) -> Option<Staff> {
     match read_options(rt.alloc(), words) {
         Ok(options) => Some(Staff {
             desks: options.desks,
-            connections: (options.connections as u64).saturating_mul(options.desks as u64),
+            connections: run_limit(options.connections, options.desks as usize),
             idle: options.idle,
             control: read_control(rt.alloc(), words).ok()?,
         }),

@@ -71,4 +71,5 @@ limits-as book opened under = record {
   limit = under.limit ∙ opened.limit;
   contexts = under.contexts ∙ opened.contexts;
   marks = under.marks ∙ opened.marks;
+  keeping = under.keeping ∙ opened.keeping;
 }

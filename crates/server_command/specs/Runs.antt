@@ -11,13 +11,14 @@ use Rattle.cli_base.specs.Files.{file_in}
 use Rattle.krb_files.specs.declared.keytab.Entry.{Entry}
 use Rattle.scram_mech.specs.Verifiers.{verifiers_of}
 use Rattle.scram_mech.specs.declared.verifiers.Verifier.{Verifier}
-use Rattle.accept_core.specs.Logs.{LogOf}
+use Rattle.accept_core.specs.Logs.{LogOf, kept_digest}
 use Rattle.replay_journal.specs.declared.disk.Disk as disks
 use Rattle.replay_journal.specs.declared.opening.JournalRefusal.{JournalRefusal}
 use Rattle.replay_journal.specs.declared.opening.JournalRefusal.TheVariants as refusals
 use Rattle.replay_journal.specs.Openings.{refusal_of, RefusedBy}
 use Rattle.journal_gate.specs.Withheld.{disk_faults}
 use Rattle.server_desks.specs.Desks.{all_connections, all_records}
+use Rattle.server_command.specs.Through.{keeping_of, log_limit}
 use Rattle.server_options.specs.Lines.{is_begun}
 use Rattle.server_options.specs.Keys.{FromFiles}
 use Rattle.server_options.specs.Lines.{Named}
@@ -146,18 +147,20 @@ pub record AreValid (tells : Bool) (files : List NamedFile) (named : Files)
 -- the log was kept under the limits of the options
 pub record HasLimits (options : Options) (log : LogOf) : Type 0 where
   pub width : log.width ≡ options.window
-  pub limit : log.limit ≡ options.log
+  pub limit : log.limit ≡ log_limit options.log
   pub contexts : log.contexts ≡ options.contexts
   pub marks : log.marks ≡ options.marks
+  pub keeping : log.keeping ≡ keeping_of options
 
--- what a run's line counts: the connections and the records of its desks, and the entries of its
--- log
+-- what a run's line says: how many connections and records its desks had, how many entries its log
+-- has, and the log's digest where it was kept
 abbrev pub counts_of : {P C D K M : Type 0} → List (Desk P C D K M) → LogOf → Counts
 counts_of desks log = record {
   connections = all_connections desks;
   records =
       all_records desks;
   entries = length log.entries;
+  digest = kept_digest log;
 }
 
 -- ---- the same of a shelf before and after

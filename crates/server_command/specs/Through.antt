@@ -1,11 +1,12 @@
 -- The book that a run of the server opens, and the history of what its desks ask.
-use Rattle.std.specs.Prelude.{◌≡◌, ℕ, List, [], length, is_some}
+use Rattle.std.specs.Prelude.{◌≡◌, ℕ, List, [], length, Option, None, Some, is_some}
 use Rattle.sec_base.specs.declared.port.Port as ports
 use Rattle.sec_base.specs.declared.link.Link as links
 use Rattle.sec_base.specs.declared.clock.Clock as clocks
 use Rattle.sec_base.specs.declared.draw.Draw as draws
 use Rattle.accept_book.specs.Booking.{BookOf}
-use Rattle.accept_core.specs.Logs.{LogOf}
+use Rattle.accept_core.specs.Logs.{LogOf, greatest_log}
+use Rattle.accept_core.specs.declared.entry.Keeping.{Keeping}
 use Rattle.gss_server.specs.declared.answer.Kept.{Kept}
 use Rattle.gss_server.specs.declared.connection.Served.{Served}
 use Rattle.gss_server.specs.declared.keeper.Keeper as keepers
@@ -16,6 +17,16 @@ use Rattle.server_options.specs.declared.keys.Keys.{Keys}
 use Rattle.server_options.specs.declared.options.Options.{Options}
 use Rattle.server_seating.specs.SideBySide.{SideBySide}
 
+-- how many entries the log of a run may have: as many as its option says, else as many as any
+abbrev pub log_limit : Option ℕ → ℕ
+log_limit None = greatest_log
+log_limit (Some limit) = limit
+
+-- what the log of a run has in memory: its entries where an option limits them, and its digest
+-- where an option names it
+abbrev pub keeping_of : Options → Keeping
+keeping_of options = record { entries = is_some options.log; digest = options.digest }
+
 -- a book as it is opened: for the own name, with these keys and the bindings of the options,
 -- offering the options' mechanisms in their order, under the options' limits, without contexts
 pub record IsOpened (options : Options) (keys : Keys) (start : ℕ) (book : BookOf) : Type 0 where
@@ -25,8 +36,9 @@ pub record IsOpened (options : Options) (keys : Keys) (start : ℕ) (book : Book
   pub bindings : book.setup.bindings ≡ options.bindings
   pub offer : book.setup.offer ≡ options.offer
   pub history : book.core.history ≡ []
-  pub limit : book.core.limit ≡ options.log
+  pub limit : book.core.limit ≡ log_limit options.log
   pub width : book.core.width ≡ options.window
+  pub keeping : book.core.keeping ≡ keeping_of options
   pub contexts : book.core.table.limit ≡ options.contexts
   pub empty : book.core.table.slots ≡ []
   pub marks : book.core.cache.capacity ≡ options.marks

@@ -3,4 +3,4 @@
 
 mod server;
 
-pub use server::{ServerEnd, run_server};
+pub use server::{ServerEnd, keeping_of, log_limit, run_server};

@@ -6,7 +6,7 @@ ghost use Rattle.std.specs.Prelude.{length, vec_len, reverse, slice_get, is_some
 ghost use Rattle.std.specs.List.{AllByRecursion};
 ghost use Rattle.sec_base.specs.Answers.{Rose};
 ghost use Rattle.cli_base.specs.Lines.{Says};
-ghost use Rattle.accept_core.specs.Logs.{no_log};
+ghost use Rattle.accept_core.specs.Logs.{no_log, greatest_log};
 ghost use Rattle.accept_core.specs.Legal.{Legal};
 ghost use Rattle.gss_base.specs.Principal.{text_form};
 ghost use Rattle.journal_gate.specs.Withheld.{journal_faults, disk_faults, is_shut};
@@ -14,7 +14,7 @@ ghost use Rattle.server_desks.specs.Desks.{IsFresh, IsSmall, NamesADesk};
 ghost use Rattle.server_options.specs.Lines.{Named, is_begun, status_of, line_of};
 ghost use Rattle.server_options.specs.Options.{options_of, IsRanged};
 ghost use Rattle.server_seating.specs.Through.{NoBook};
-ghost use Rattle.server_command.specs.Through.{IsOpened, OneHistory};
+ghost use Rattle.server_command.specs.Through.{IsOpened, OneHistory, keeping_of, log_limit};
 ghost use Rattle.server_command.specs.Told.{ToldByLog};
 ghost use Rattle.server_command.specs.Runs.{files_of, names_in, names_of, counts_of, RunBegins};
 ghost use Rattle.server_command.specs.Runs.{HasLimits, HasValid, AsksAtMost, journal_name};
@@ -22,7 +22,7 @@ ghost use Rattle.server_command.specs.Runs.{names_journal, JournalOpens, HasJour
 ghost use Rattle.server_command.specs.Runs.{end_of_journal, StopsAt, IsJournal, TellsAt};
 ghost use Rattle.server_options.specs.Keys.{KeysFrom};
 
-use accept_book::{Limits, Log, OwnSeat};
+use accept_book::{Keeping, Limits, Log, OwnSeat};
 use gss_base::{Label, Principal};
 use gss_server::{Keeper, Kept, Served};
 use journal_gate::disk_of;
@@ -57,7 +57,11 @@ const NOTHING: Counts = Counts {
     connections: 0,
     records: 0,
     entries: 0,
+    digest: None,
 };
+
+/// How many entries a log may have at most.
+const GREATEST_LOG: usize = 4_611_686_018_427_387_904;
 
 /// The names of words that aren't in the command.
 const UNNAMED: Names<'static> = Names {
@@ -92,6 +96,27 @@ fn names_in<'a>(files: &'a Files, label: &'a Label) -> Names<'a>
     }
 }
 
+/// How many entries the log of a run may have: 2 ^ 62 where the words set no limit.
+pub fn log_limit(log: Option<u32>) -> usize
+    ensures value { result ≡ log_limit log }
+    ensures most { result ≤ greatest_log }
+{
+    match log {
+        None => GREATEST_LOG,
+        Some(limit) => limit as usize,
+    }
+}
+
+/// What the log of a run has in memory: its entries where the words set a limit, and its digest where they name it.
+pub fn keeping_of(options: &Options) -> Keeping
+    ensures { result ≡ keeping_of options.now }
+{
+    Keeping {
+        entries: options.log.is_some(),
+        digest: options.digest,
+    }
+}
+
 /// The book of a run.
 fn open_book(
     alloc: Global,
@@ -105,8 +130,9 @@ fn open_book(
     let limits = Limits {
         contexts: options.contexts as usize,
         marks: options.marks as usize,
-        log: options.log as usize,
+        log: log_limit(options.log),
         width: options.window,
+        keeping: keeping_of(&options),
     };
     let setup = AcceptSetup {
         own: options.name,
@@ -254,7 +280,7 @@ where
         }
         Err(_) => {
             put_back(disk, disk_of(journal));
-            starved(alloc)
+            starved()
         }
     }
 }
@@ -280,6 +306,7 @@ fn finish<P, C, D, K, S, O: Sink>(
         connections: count_connections(desks),
         records: count_records(desks),
         entries: course.log.len(),
+        digest: course.log.digest(),
     };
     let status = say_end(alloc, err, &UNNAMED, &counts, course.end);
     ServerEnd {
@@ -312,7 +339,7 @@ fn unready<O: Sink>(
     ServerEnd {
         status,
         end,
-        log: Log::empty(alloc),
+        log: Log::empty(),
     }
 }
 
@@ -331,7 +358,7 @@ fn refused<O: Sink>(alloc: Global, end: RunEnd, err: &mut O) -> ServerEnd
     ServerEnd {
         status,
         end,
-        log: Log::empty(alloc),
+        log: Log::empty(),
     }
 }
 
@@ -405,7 +432,7 @@ where
 
 /// Runs the server over its desks, side by side where threads can be made, and says on `err` how it ended. The words are
 /// `ADDRESS --keytab FILE --verifiers FILE --name PRINCIPAL [--bind TEXT] [--offer LIST] [--window N] [--connections N] [--contexts N] [--marks N]
-/// [--log N] [--desks N] [--idle SECONDS] [--control PATH] [--journal FILE]`. How many desks there are, how long a connection may be silent, and
+/// [--log N] [--desks N] [--idle SECONDS] [--control PATH] [--journal FILE] [--digest sha1]`. How many desks there are, how long a connection may be silent, and
 /// where the run can be stopped, whoever made them knows. Where the words name a journal, the disk is its file: it is opened once the keys were
 /// found, and is back at the return.
 pub fn run_server<

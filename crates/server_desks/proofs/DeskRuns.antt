@@ -21,7 +21,7 @@ use Rattle.gss_server.specs.declared.connection.Served.{Served}
 use Rattle.gss_server.specs.declared.keeper.Keeper as keepers
 use Rattle.server_desks.specs.declared.desk.Desk.{Desk}
 use Rattle.server_desks.specs.declared.desk.DeskEnd.{DeskEnd}
-use Rattle.server_desks.specs.Desks.{ServedOf, ServedLink, LinksServed, links_in, answers_in, NoneWanted, is_starved, IsFresh, IsSmall, DeskGave, DeskAdds, DeskWent, DeskServed}
+use Rattle.server_desks.specs.Desks.{ServedOf, ServedLink, LinksServed, links_in, answers_in, NoneWanted, is_starved, IsFresh, IsSmall, greatest_count, DeskGave, DeskAdds, DeskWent, DeskServed}
 
 -- what was asked is so in another sense
 pub served-as : {told : Bool} {one other : List Asked → Type 0} {width : ℕ} {a b : _} {ending : ConnEnd} {kept : List Kept} → ((asked : List Asked) → one asked → other asked) → IsServed told one width a b ending kept → IsServed told other width a b ending kept
@@ -156,7 +156,7 @@ few-answers Answers width link a b (l ∷ links) [] p = absurd p
 few-answers Answers width link a b (l ∷ links) (x ∷ served) p = omega (arith, few-answers Answers width link p.0 b links served p.2, p.1.most, p.1.counted, length-append x.answers (answers_in served))
 
 -- a desk that began with nothing is small
-pub desk-small : {S P C D K M L Q R : Type 0} {Answers : S → Asked → S → Type 0} {width most : ℕ} {port : ports.Ghosts P L} {link : links.Ghosts L} {clock : clocks.Ghosts C} {draw : draws.Ghosts D} {keeper : keepers.Ghosts K Kept Q} {kept : keepers.Ghosts M (Served L) R} {before after : S} {old new : Desk P C D K M} {end : DeskEnd} → most ≤ 4294967295 → IsFresh old → DeskServed Answers width most port link clock draw keeper kept before old end new after → IsSmall new
+pub desk-small : {S P C D K M L Q R : Type 0} {Answers : S → Asked → S → Type 0} {width most : ℕ} {port : ports.Ghosts P L} {link : links.Ghosts L} {clock : clocks.Ghosts C} {draw : draws.Ghosts D} {keeper : keepers.Ghosts K Kept Q} {kept : keepers.Ghosts M (Served L) R} {before after : S} {old new : Desk P C D K M} {end : DeskEnd} → most ≤ greatest_count → IsFresh old → DeskServed Answers width most port link clock draw keeper kept before old end new after → IsSmall new
 desk-small h fresh p = record {
   few = omega (arith, p.few, h);
   within = omega (arith, p.went.gave.connections, p.went.gave.records, fresh.connections, fresh.records, few-answers _ _ _ _ _ p.went.links p.went.served p.went.each);

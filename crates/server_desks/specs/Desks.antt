@@ -1,6 +1,7 @@
 -- What a desk did: it served the links of its port, in order.
 use Rattle.std.specs.Prelude.{◌≡◌, ◌≢◌, ◌⊎◌, ℕ, ◌+◌, ◌*◌, ◌<◌, ◌≤◌, Bool, true, false, IsTrue}
-use Rattle.std.specs.Prelude.{List, [], ◌∷◌, ◌++◌, length, map, min, sum_by, slice_get, Some}
+use Rattle.std.specs.Prelude.{List, [], ◌∷◌, ◌++◌, length, map, min, sum_by, slice_get}
+use Rattle.std.specs.Prelude.{Option, None, Some}
 use Rattle.std.specs.List.{AllByRecursion, flat_map}
 use Rattle.sec_base.specs.Answers.{Rose}
 use Rattle.sec_base.specs.declared.port.Port as ports
@@ -136,14 +137,15 @@ pub record DeskServed {S P C D K M L Q R : Type 0} (Answers : S → Asked → S 
   pub none_wanted : end ≡ ends.Done → NoneWanted went.served
   pub failed : end ≡ ends.PortFault → Rose (port.faults old.port) (port.faults new.port)
 
--- the greatest number of 32 bits
+-- the greatest number of links that a desk may serve, 2 ^ 47: at 10,000 a second it takes 446 years
 abbrev pub greatest_count : ℕ
-greatest_count = 4294967295
+greatest_count = 140737488355328
 
 -- how many links each of so many desks may serve: as many as the run serves, `connections` for each
--- desk, whichever desk they come to, as far as 32 bits count them
-abbrev pub run_limit : ℕ → ℕ → ℕ
-run_limit connections desks = min (connections * min desks greatest_count) greatest_count
+-- desk, whichever desk they come to; without a number as many as are counted at all
+abbrev pub run_limit : Option ℕ → ℕ → ℕ
+run_limit None desks = greatest_count
+run_limit (Some connections) desks = min (connections * desks) greatest_count
 
 -- so few connections and records that they can be counted
 pub record IsSmall {P C D K M : Type 0} (desk : Desk P C D K M) : Type 0 where

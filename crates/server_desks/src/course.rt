@@ -8,7 +8,6 @@ ghost use Rattle.server_desks.specs.Courses.{IsLogOf};
 
 use accept_book::{Book, Log};
 use server_options::RunEnd;
-use std::alloc::Global;
 
 /// What a run came to.
 #[derive(Drop)]
@@ -20,7 +19,7 @@ pub struct Course {
 }
 
 /// The course of a run that ended so over this book, None where there was none.
-pub fn course_of(alloc: Global, end: RunEnd, book: Option<Book>) -> Course
+pub fn course_of(end: RunEnd, book: Option<Book>) -> Course
     ensures end { result.end ≡ end }
     ensures log { IfSome book (λ asked. (setup : _) → IsLogOf (with_setup setup asked) result.log) }
     ensures legal { Legal result.log.width (reverse result.log.entries) }
@@ -33,15 +32,15 @@ pub fn course_of(alloc: Global, end: RunEnd, book: Option<Book>) -> Course
         },
         None => Course {
             end,
-            log: Log::empty(alloc),
+            log: Log::empty(),
         },
     }
 }
 
 /// The course of a run that has no memory to serve its desks.
-pub fn starved(alloc: Global) -> Course
+pub fn starved() -> Course
     ensures end { result.end ≡ RunEnd.NoMemory }
     ensures log { result.log ≡ no_log }
 {
-    course_of(alloc, RunEnd::NoMemory, None)
+    course_of(RunEnd::NoMemory, None)
 }

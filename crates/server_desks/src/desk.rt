@@ -18,8 +18,8 @@ pub struct Desk<P, C, D, K, S> {
     pub keeper: K,
     /// Is given each link that was served, closed.
     pub links: S,
-    pub connections: u32,
-    pub records: u64,
+    pub connections: u64,
+    pub records: u128,
 }
 
 /// Why a desk stopped.
@@ -60,7 +60,7 @@ pub fn serve_desk<P: Port, G: Gate, C: Clock, D: Draw, K: Keeper<Kept>, S: Keepe
     alloc: Global,
     desk: &mut Desk<P, C, D, K, S>,
     gate: &mut G,
-    connections: u32,
+    connections: u64,
     width: u32,
 ) -> DeskEnd
 where
@@ -112,7 +112,7 @@ where
     P::Link: Drop,
     requires unclosed { P.Link.closed link ≡ false }
     requires ready { S.ready desk.old.links }
-    requires few { desk.old.connections < 4294967295 }
+    requires few { desk.old.connections < 18446744073709551615 }
     requires small { desk.old.records ≤ 65536 * desk.old.connections }
     ensures served { DeskAdds G.answers width P.Link.Link C.Clock D.Draw K.Keeper S.Keeper gate.old
         desk.old link result desk.new gate.new }
@@ -129,7 +129,7 @@ where
     let served = serve_link(alloc, link, keeper, gate, clock, draw, width);
     let end = served.end;
     desk.connections += 1;
-    desk.records += served.records as u64;
+    desk.records += served.records as u128;
     desk.links.keep(served);
     end
 }

@@ -1,17 +1,25 @@
 //! What desks served together.
 
-ghost use Rattle.std.specs.Prelude.{◌≡◌};
+ghost use Rattle.std.specs.Prelude.{◌≡◌, ◌≤◌};
 ghost use Rattle.std.specs.List.{AllByRecursion};
 ghost use Rattle.server_desks.specs.Desks.{IsSmall, all_connections, all_records, run_limit};
+ghost use Rattle.server_desks.specs.Desks.{greatest_count};
 
 use crate::desk::Desk;
 
-/// How many links each of so many desks may serve: as many as the run serves, `connections` for each desk, whichever desk they come to.
-pub fn run_limit(connections: u32, desks: usize) -> u32
-    ensures { result ≡ run_limit connections desks }
+/// The greatest number of links that a desk may serve: at 10,000 a second it takes 446 years.
+const GREATEST_COUNT: u128 = 140_737_488_355_328;
+
+/// How many links each of so many desks may serve: as many as the run serves, `connections` for each desk, whichever desk they come to;
+/// without a number as many as are counted at all.
+pub fn run_limit(connections: Option<u32>, desks: usize) -> u64
+    ensures value { result ≡ run_limit connections desks }
+    ensures most { result ≤ greatest_count }
 {
-    let counted = desks.min(u32::MAX as usize) as u32;
-    connections.saturating_mul(counted)
+    match connections {
+        None => GREATEST_COUNT as u64,
+        Some(connections) => (connections as u128 * desks as u128).min(GREATEST_COUNT) as u64,
+    }
 }
 
 /// How many connections the desks had.
@@ -33,7 +41,7 @@ pub fn count_records<P, C, D, K, S>(desks: &[Desk<P, C, D, K, S>]) -> u128
 {
     let mut records = 0u128;
     for desk in desks {
-        records += desk.records as u128;
+        records += desk.records;
     }
     records
 }

@@ -19,7 +19,7 @@ pub struct Job<T, G> {
     pub desk: T,
     pub gate: G,
     /// How many links it serves at most.
-    pub connections: u32,
+    pub connections: u64,
     /// The width of the windows of sequence numbers.
     pub width: u32,
     pub end: DeskEnd,
@@ -27,7 +27,7 @@ pub struct Job<T, G> {
 
 impl<T, G> Job<T, G> {
     /// A desk that is to serve at most so many links at this gate, with windows of this width.
-    pub fn new(alloc: Global, desk: T, gate: G, connections: u32, width: u32) -> Job<T, G>
+    pub fn new(alloc: Global, desk: T, gate: G, connections: u64, width: u32) -> Job<T, G>
         ensures desk { result.desk ≡ desk }
         ensures gate { result.gate ≡ gate }
         ensures connections { result.connections ≡ connections }

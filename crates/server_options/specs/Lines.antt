@@ -1,6 +1,7 @@
 -- How the server's run ended: the status it exits with, and what it prints on standard error.
-use Rattle.std.specs.Prelude.{ℕ, Bool, true, false, List, ◌++◌, codes}
+use Rattle.std.specs.Prelude.{ℕ, Bool, true, false, List, ◌++◌, Option, None, Some, codes}
 use Rattle.std.specs.Fmt.{decimal}
+use Rattle.hex.specs.Hex.{encode_lower}
 use Rattle.cli_base.specs.Files.{stop_line}
 use Rattle.cli_base.specs.Lines.{memory_line}
 use Rattle.cli_base.specs.declared.files.FileStop.TheVariants as stops
@@ -28,11 +29,17 @@ port_line desk = codes "port fault at desk " ++ (decimal desk ++ codes "\n")
 abbrev pub unbound_line : List ℕ → List ℕ
 unbound_line path = codes "cannot listen at " ++ (path ++ codes "\n")
 
+-- how the line of a run that served all ends: with the log's digest in hexadecimal, where it was
+-- kept
+abbrev pub last_text : Option (List ℕ) → List ℕ
+last_text None = codes " entries\n"
+last_text (Some digest) = codes " entries digest " ++ (encode_lower digest ++ codes "\n")
+
 -- the line of a run that served all: how many connections, records, and entries of the log
 abbrev pub served_line : Counts → List ℕ
 served_line counts =
     codes "served " ++ (decimal counts.connections ++ (codes " connections " ++ (decimal
-    counts.records ++ (codes " records " ++ (decimal counts.entries ++ codes " entries\n")))))
+    counts.records ++ (codes " records " ++ (decimal counts.entries ++ last_text counts.digest)))))
 
 -- the status with which the server exits, by how the run ended
 abbrev pub status_of : RunEnd → ℕ

@@ -1,6 +1,6 @@
 -- The words of the server: which are in its command, and what they ask for.
-use Rattle.std.specs.Prelude.{ℕ, ◌<◌, ◌≤◌, Bool, false, ◌&&◌, not, nat_eq, List, []}
-use Rattle.std.specs.Prelude.{◌∷◌, length, codes, Option, Some, None, Result, Ok, Err}
+use Rattle.std.specs.Prelude.{ℕ, ◌<◌, ◌≤◌, Bool, true, false, ◌&&◌, not, nat_eq, List, []}
+use Rattle.std.specs.Prelude.{◌∷◌, length, codes, Option, Some, None, Result, Ok, Err, IfSome}
 use Rattle.std.specs.Prelude.{if◌then◌else◌}
 use lib.Pointwise.{pointwise}
 use Rattle.gss_base.specs.Name.{Name}
@@ -21,7 +21,7 @@ abbrev pub names : List (List ℕ)
 names = codes "--keytab" ∷ codes "--verifiers" ∷ codes "--name" ∷ codes "--bind" ∷ codes "--offer"
     ∷ codes "--window" ∷ codes "--connections" ∷ codes "--contexts" ∷ codes "--marks"
     ∷ codes "--log" ∷ codes "--desks" ∷ codes "--idle" ∷ codes "--control" ∷ codes "--journal"
-    ∷ []
+    ∷ codes "--digest" ∷ []
 
 -- two words are the same
 abbrev pub same : List ℕ → List ℕ → Bool
@@ -75,16 +75,28 @@ abbrev pub offer_given : Option (List ℕ) → Result (List MechKind) WordsRefus
 offer_given None = Ok (Kerberos ∷ Scram ∷ [])
 offer_given (Some text) = offer_by text
 
--- the numbers of the options
+-- a limit that an option sets, from `least` to `most`, where it stands in the words
+abbrev pub limit_given : ℕ → ℕ → Option (List ℕ) → Result (Option ℕ) WordsRefusal
+limit_given least most None = Ok None
+limit_given least most (Some text) =
+    number_given least most most (Some text) >>= λ number. Ok (Some number)
+
+-- the log's digest is kept where the option names its algorithm
+abbrev pub digest_given : Option (List ℕ) → Result Bool WordsRefusal
+digest_given None = Ok false
+digest_given (Some text) = if same text (codes "sha1") then Ok true else Err Usage
+
+-- the numbers of the options, and whether the log's digest is kept
 abbrev pub numbers_given : List (List ℕ) → Result Numbers WordsRefusal
 numbers_given words = do
   window ← number_given 1 1024 128 (value_of (codes "--window") words)
-  connections ← number_given 1 1000000 1000 (value_of (codes "--connections") words)
+  connections ← limit_given 1 1000000 (value_of (codes "--connections") words)
   contexts ← number_given 1 65536 1024 (value_of (codes "--contexts") words)
   marks ← number_given 1 1000000 65536 (value_of (codes "--marks") words)
-  log ← number_given 16 4000000 262144 (value_of (codes "--log") words)
+  log ← limit_given 16 4000000 (value_of (codes "--log") words)
   desks ← number_given 1 1024 64 (value_of (codes "--desks") words)
   idle ← number_given 1 86400 60 (value_of (codes "--idle") words)
+  digest ← digest_given (value_of (codes "--digest") words)
   Ok (record {
     window = window;
     connections = connections;
@@ -93,6 +105,7 @@ numbers_given words = do
     log = log;
     desks = desks;
     idle = idle;
+    digest = digest;
   })
 
 -- what the options of words in the command ask for
@@ -104,12 +117,13 @@ options_in words = do
   bound ← data_given (value_of (codes "--bind") words)
   offer ← offer_given (value_of (codes "--offer") words)
   window ← number_given 1 1024 128 (value_of (codes "--window") words)
-  connections ← number_given 1 1000000 1000 (value_of (codes "--connections") words)
+  connections ← limit_given 1 1000000 (value_of (codes "--connections") words)
   contexts ← number_given 1 65536 1024 (value_of (codes "--contexts") words)
   marks ← number_given 1 1000000 65536 (value_of (codes "--marks") words)
-  log ← number_given 16 4000000 262144 (value_of (codes "--log") words)
+  log ← limit_given 16 4000000 (value_of (codes "--log") words)
   desks ← number_given 1 1024 64 (value_of (codes "--desks") words)
   idle ← number_given 1 86400 60 (value_of (codes "--idle") words)
+  digest ← digest_given (value_of (codes "--digest") words)
   Ok (record {
     files = files;
     name = name;
@@ -123,6 +137,7 @@ options_in words = do
     log = log;
     desks = desks;
     idle = idle;
+    digest = digest;
   })
 
 -- what the words ask for, refused exactly where they aren't in the command
@@ -135,11 +150,11 @@ options_of words = do
 pub record AreRanged (numbers : Numbers) : Type 0 where
   pub some_window : 0 < numbers.window
   pub window : numbers.window ≤ 1024
-  pub connections : numbers.connections ≤ 1000000
+  pub connections : IfSome numbers.connections (λ number. number ≤ 1000000)
   pub contexts : numbers.contexts ≤ 65536
   pub some_mark : 0 < numbers.marks
   pub marks : numbers.marks ≤ 1000000
-  pub log : numbers.log ≤ 4000000
+  pub log : IfSome numbers.log (λ number. number ≤ 4000000)
   pub some_desk : 0 < numbers.desks
   pub desks : numbers.desks ≤ 1024
   pub some_idle : 0 < numbers.idle
@@ -149,11 +164,11 @@ pub record AreRanged (numbers : Numbers) : Type 0 where
 pub record IsRanged (options : Options) : Type 0 where
   pub some_window : 0 < options.window
   pub window : options.window ≤ 1024
-  pub connections : options.connections ≤ 1000000
+  pub connections : IfSome options.connections (λ number. number ≤ 1000000)
   pub contexts : options.contexts ≤ 65536
   pub some_mark : 0 < options.marks
   pub marks : options.marks ≤ 1000000
-  pub log : options.log ≤ 4000000
+  pub log : IfSome options.log (λ number. number ≤ 4000000)
   pub some_desk : 0 < options.desks
   pub desks : options.desks ≤ 1024
   pub some_idle : 0 < options.idle

@@ -1,6 +1,6 @@
 //! How the run of the server ends, and the line that says so.
 
-ghost use Rattle.std.specs.Prelude.{◌≡◌, ◌≢◌, ◌≤◌, IsTrue};
+ghost use Rattle.std.specs.Prelude.{◌≡◌, ◌≢◌, ◌≤◌, IsTrue, IfOk, string_bytes};
 ghost use Rattle.sec_base.specs.Answers.{Rose};
 ghost use Rattle.cli_base.specs.Lines.{Says};
 ghost use Rattle.server_options.specs.Lines.{file_of, no_key_line, served_line, status_of};
@@ -8,7 +8,7 @@ ghost use Rattle.server_options.specs.Lines.{line_of, unbound_line};
 
 use cli_base::{FileStop, OUT_OF_MEMORY, say, say_made, say_stop};
 use sec_base::Sink;
-use std::alloc::Global;
+use std::alloc::{AllocError, Global};
 use std::marker::Model;
 
 /// The line of words that aren't in the command.
@@ -43,12 +43,13 @@ pub enum RunEnd {
     Served,
 }
 
-/// What a run served, and how many entries its log has.
+/// What a run served, how many entries its log has, and the log's digest where it was kept.
 #[derive(Clone, Copy, Debug, PartialEq, Eq)]
 pub struct Counts {
     pub connections: u128,
     pub records: u128,
     pub entries: u64,
+    pub digest: Option<[u8; 20]>,
 }
 
 /// What the words of a run name, as its line says it: the files, and the own name's text form. Each is empty where the words aren't in the command or name none.
@@ -139,14 +140,28 @@ fn say_served<O: Sink>(alloc: Global, err: &mut O, counts: &Counts) -> u8
     ensures said { IsTrue (O.tells err.old)
         → Says (O.written err.old) (O.written err.new) result (served_line counts.now) }
 {
+    say_made(err, 0, served_text(alloc, counts))
+}
+
+/// The line of a run that served all.
+fn served_text(alloc: Global, counts: &Counts) -> Result<String, AllocError>
+    ensures { IfOk result (λ text. string_bytes text ≡ served_line counts.now) }
+{
     let Counts {
         connections,
         records,
         entries,
+        digest,
     } = *counts;
-    say_made(
-        err,
-        0,
-        format!(in alloc; "served {connections} connections {records} records {entries} entries\n"),
-    )
+    match digest {
+        None => format!(in alloc;
+            "served {connections} connections {records} records {entries} entries\n"
+        ),
+        Some(digest) => {
+            let digits = hex::encode(alloc, &digest)?;
+            format!(in alloc;
+                "served {connections} connections {records} records {entries} entries digest {digits}\n"
+            )
+        }
+    }
 }

@@ -1,11 +1,12 @@
 //! The words of the server.
 
-ghost use Rattle.std.specs.Prelude.{◌≡◌, Ok, Err, IfOk, MatchResult, codes};
+ghost use Rattle.std.specs.Prelude.{◌≡◌, ◌≤◌, Ok, Err, IfOk, IfSome, MatchResult, codes, true};
 ghost use Rattle.sec_base.specs.Answers.{Gives};
-ghost use Rattle.cli_base.specs.Words.{value_of};
+ghost use Rattle.cli_base.specs.Words.{is_dashed, value_of};
 ghost use Rattle.server_options.specs.Options.{is_command, formed, name_by, files_given};
 ghost use Rattle.server_options.specs.Options.{name_given, offer_by, offer_given};
 ghost use Rattle.server_options.specs.Options.{numbers_given, options_in, options_of};
+ghost use Rattle.server_options.specs.Options.{limit_given, digest_given};
 ghost use Rattle.server_options.specs.Options.{AreRanged, IsRanged};
 ghost use Rattle.gss_base.specs.Signs.{parsed};
 
@@ -38,18 +39,20 @@ pub struct Options {
     pub offer: Items<MechKind>,
     /// The width of the windows, in numbers.
     pub window: u32,
-    /// How many connections the run serves for each desk.
-    pub connections: u32,
+    /// How many connections the run serves for each desk; None where they don't end it.
+    pub connections: Option<u32>,
     /// How many contexts live at once.
     pub contexts: u32,
     /// How many marks of authenticators are held at once.
     pub marks: u32,
-    /// How many entries the log may have.
-    pub log: u32,
+    /// How many entries the log may have, all of which are kept; None where none is kept.
+    pub log: Option<u32>,
     /// How many desks an address has.
     pub desks: u32,
     /// For how many seconds a connection may be silent.
     pub idle: u32,
+    /// Whether the log's digest is kept.
+    pub digest: bool,
 }
 
 /// Whether the words are an address and options with their values.
@@ -79,6 +82,7 @@ fn is_command(words: &[Text]) -> bool
                 "--idle",
                 "--control",
                 "--journal",
+                "--digest",
             ],
         )
 }
@@ -191,16 +195,54 @@ fn offer_given(alloc: Global, line: &Line<'_>) -> Result<Items<MechKind>, WordsR
     }
 }
 
-/// The numbers of the options.
+/// The number of the option `name`, from `least` to `most`, where it stands in the line.
+fn limit_given(
+    line: &Line<'_>,
+    name: &str,
+    least: u32,
+    most: u32,
+) -> Result<Option<u32>, WordsRefusal>
+    requires named { is_dashed name.now ≡ true }
+    requires most { least ≤ most }
+    ensures value { result ≡ limit_given least most (value_of name.now line.now) }
+    ensures range { IfOk result (λ limit. IfSome limit (λ number. number ≤ most)) }
+{
+    match line.value(name) {
+        None => Ok(None),
+        Some(_) => match number_given(line, name, least, most, most) {
+            Ok(number) => Ok(Some(number)),
+            Err(refusal) => Err(refusal),
+        },
+    }
+}
+
+/// Whether the log's digest is kept: where the option names its algorithm.
+fn digest_given(line: &Line<'_>) -> Result<bool, WordsRefusal>
+    ensures { result ≡ digest_given (value_of (codes "--digest") line.now) }
+{
+    match line.value("--digest") {
+        None => Ok(false),
+        Some(text) => {
+            if text == "sha1" {
+                Ok(true)
+            } else {
+                Err(WordsRefusal::Usage)
+            }
+        }
+    }
+}
+
+/// The numbers of the options, and whether the log's digest is kept.
 #[derive(Clone, Copy)]
 struct Numbers {
     window: u32,
-    connections: u32,
+    connections: Option<u32>,
     contexts: u32,
     marks: u32,
-    log: u32,
+    log: Option<u32>,
     desks: u32,
     idle: u32,
+    digest: bool,
 }
 
 /// The numbers that a line asks for.
@@ -209,12 +251,13 @@ fn numbers_given(line: &Line<'_>) -> Result<Numbers, WordsRefusal>
     ensures range { IfOk result AreRanged }
 {
     let window = number_given(line, "--window", 1, 1024, 128)?;
-    let connections = number_given(line, "--connections", 1, 1_000_000, 1000)?;
+    let connections = limit_given(line, "--connections", 1, 1_000_000)?;
     let contexts = number_given(line, "--contexts", 1, 65536, 1024)?;
     let marks = number_given(line, "--marks", 1, 1_000_000, 65536)?;
-    let log = number_given(line, "--log", 16, 4_000_000, 262_144)?;
+    let log = limit_given(line, "--log", 16, 4_000_000)?;
     let desks = number_given(line, "--desks", 1, 1024, 64)?;
     let idle = number_given(line, "--idle", 1, 86_400, 60)?;
+    let digest = digest_given(line)?;
     Ok(Numbers {
         window,
         connections,
@@ -223,6 +266,7 @@ fn numbers_given(line: &Line<'_>) -> Result<Numbers, WordsRefusal>
         log,
         desks,
         idle,
+        digest,
     })
 }
 
@@ -261,6 +305,7 @@ fn options_by(parts: (Owned, Numbers)) -> Options
       log = parts.1.log;
       desks = parts.1.desks;
       idle = parts.1.idle;
+      digest = parts.1.digest;
     } }
 {
     let (owned, numbers) = parts;
@@ -279,6 +324,7 @@ fn options_by(parts: (Owned, Numbers)) -> Options
         log: numbers.log,
         desks: numbers.desks,
         idle: numbers.idle,
+        digest: numbers.digest,
     }
 }
 

@@ -2,3 +2,4 @@ pub mod Heard
 mod Lengths
 mod Noting
 mod Sides
+mod Sends

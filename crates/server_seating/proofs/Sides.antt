@@ -10,7 +10,7 @@ use Rattle.accept_core.specs.Logs.{LogOf}
 use Rattle.gss_server.specs.declared.answer.Kept.{Kept}
 use Rattle.gss_server.specs.declared.connection.Served.{Served}
 use Rattle.gss_server.specs.declared.keeper.Keeper as keepers
-use Rattle.server_desks.specs.Desks.{IsFresh, IsSmall}
+use Rattle.server_desks.specs.Desks.{IsFresh, IsSmall, greatest_count}
 use Rattle.server_seating.specs.SideBySide.{SideBySide}
 use Rattle.server_desks.specs.declared.desk.Desk.{Desk}
 use Rattle.server_options.specs.declared.ending.RunEnd.{RunEnd}
@@ -19,7 +19,7 @@ use Rattle.server_desks.proofs.InStep.{there, at-place, by-places}
 
 module _ {P C D K M L Q R : Type 0} {begins : BookOf → Type 0} {journaled : Bool} {faults faults' width most : ℕ} {port : ports.Ghosts P L} {link : links.Ghosts L} {clock : clocks.Ghosts C} {draw : draws.Ghosts D} {keeper : keepers.Ghosts K Kept Q} {kept : keepers.Ghosts M (Served L) R} {olds news : List (Desk P C D K M)} {end : RunEnd} {log : LogOf} where
   -- desks that began with nothing are small
-  pub side-small : most ≤ 4294967295 → AllByRecursion IsFresh olds → SideBySide begins journaled faults faults' width most port link clock draw keeper kept olds end news log → AllByRecursion IsSmall news
+  pub side-small : most ≤ greatest_count → AllByRecursion IsFresh olds → SideBySide begins journaled faults faults' width most port link clock draw keeper kept olds end news log → AllByRecursion IsSmall news
   side-small few fresh s = by-places IsSmall news (λ i new at.
       let old = there news olds i new (sym s.count) at in
       let ending = there olds s.ends i old.0 s.ends_count old.1 in

@@ -28,6 +28,7 @@ pub record IsUnder (limits : Limits) (log : LogOf) : Type 0 where
   pub limit : log.limit ≡ limits.log
   pub contexts : log.contexts ≡ limits.contexts
   pub marks : log.marks ≡ limits.marks
+  pub keeping : log.keeping ≡ limits.keeping
 
 -- what a desk asked so far: its number, its questions as the book answered them, and how many of
 -- its answers a journal's disk failed

@@ -8,7 +8,7 @@ ghost use Rattle.accept_book.specs.Booking.{with_setup};
 ghost use Rattle.gss_server.specs.Telling.{limits_of};
 ghost use Rattle.book_seats.specs.Views.{writer};
 ghost use Rattle.journal_gate.specs.Withheld.{journal_faults, disk_faults, is_shut};
-ghost use Rattle.server_desks.specs.Desks.{IsFresh, IsSmall, NamesADesk};
+ghost use Rattle.server_desks.specs.Desks.{IsFresh, IsSmall, NamesADesk, greatest_count};
 ghost use Rattle.server_options.specs.Lines.{is_begun};
 ghost use Rattle.server_seating.specs.Through.{NoBook};
 ghost use Rattle.server_seating.specs.SideBySide.{SideBySide, IsUnder};
@@ -51,7 +51,7 @@ fn run_seated<
     blank: Blank,
     journal: Option<Journal<M>>,
     desks: &mut Vec<Desk<P, C, D, K, S>>,
-    connections: u32,
+    connections: u64,
     width: u32,
 ) -> Result<(Course, Option<M>), Option<Journal<M>>>
 where
@@ -116,10 +116,7 @@ where
     compare_all(hall, &mut writer, &mut behind, risen, desks);
     writer.close(hall);
     drop(writer);
-    Ok((
-        course_of(alloc, end, Some(book)),
-        disk_of(behind.into_journal()),
-    ))
+    Ok((course_of(end, Some(book)), disk_of(behind.into_journal())))
 }
 
 /// The same with a table, on which what the desks ask is noted.
@@ -143,7 +140,7 @@ fn run_noted<
     blank: Blank,
     journal: Option<Journal<M>>,
     desks: &mut Vec<Desk<P, C, D, K, S>>,
-    connections: u32,
+    connections: u64,
     width: u32,
 ) -> Result<(Course, Option<M>), Option<Journal<M>>>
 where
@@ -202,7 +199,7 @@ fn run_at_seats<
     book: OwnSeat,
     journal: Option<Journal<M>>,
     desks: &mut Vec<Desk<P, C, D, K, S>>,
-    connections: u32,
+    connections: u64,
     width: u32,
 ) -> Result<(Course, Option<M>), Option<Journal<M>>>
 where
@@ -262,12 +259,13 @@ pub fn run_book<
     book: OwnSeat,
     journal: Option<Journal<M>>,
     desks: &mut Vec<Desk<P, C, D, K, S>>,
-    connections: u32,
+    connections: u64,
     width: u32,
 ) -> (Course, Option<M>)
 where
     P::Link: Drop + Send,
     requires fresh { AllByRecursion IsFresh desks.old.items }
+    requires most { connections ≤ greatest_count }
     requires unclosed { is_shut journal → ⊥ }
     ensures served { ((result.0.end ≡ RunEnd.NoMemory)
         × NoBook desks.old.items desks.new.items result.0.log)
@@ -284,6 +282,6 @@ where
 {
     match run_at_seats(rt, alloc, book, journal, desks, connections, width) {
         Ok(done) => done,
-        Err(journal) => (starved(alloc), disk_of(journal)),
+        Err(journal) => (starved(), disk_of(journal)),
     }
 }

@@ -110,7 +110,7 @@ pub(crate) fn seat_all<'a, T: Drop, R, J: Room, M: Disk, L: Opening>(
     hall: &'a Hall<J>,
     setup: &'a AcceptSetup,
     alloc: Global,
-    connections: u32,
+    connections: u64,
     width: u32,
     staffed: Vec<Staffed<T, J>>,
     all: &mut Share<L>,

@@ -10,7 +10,7 @@ use Rattle.server_command.proofs.server.open_and_serve.Goals as goal
 
 pub returns-in-Ok-clause-booked : goal.returns-in-Ok-clause-booked
 returns-in-Ok-clause-booked g c = λ before counted.
-    let limit : c.run_limit-connections.result ≡ run_limit c.args.options.connections (length c.args.desks.now.items) = c.run_limit-connections.ensures ∙ ap (run_limit c.args.options.connections) (c.len.ensures ∙ c.args.desks.now.ok.0) in
+    let limit : c.run_limit-connections.result ≡ run_limit c.args.options.connections (length c.args.desks.now.items) = c.run_limit-connections.ensures.value ∙ ap (run_limit c.args.options.connections) (c.len.ensures ∙ c.args.desks.now.ok.0) in
     ⊎_elim (λ none. inl none) (λ one. inr (began-as (λ book e. subst (λ (b : BookOf). IsOpened c.args.options c.args.keys c.args.start b) (sym e) c.in-Ok.ensures.opened)
     (carried g.M.Disk.faults c.run_book-course.result.1 c.put_back.new.disk (journal_faults g.M.Disk.faults c.args.journal) before (λ some. counted (sym c.run_book-course.ensures.disk ∙ some)) c.put_back.ensures.some) c.requires.journaled limit one)) c.run_book-course.ensures.served
 

@@ -1,4 +1,4 @@
-use Rattle.std.proofs.Common.{◌≡◌, [], Result, Ok, Err, subst}
+use Rattle.std.proofs.Common.{◌≡◌, [], Result, Ok, Err, None, subst}
 use Rattle.server_options.specs.declared.ending.Counts.{Counts}
 use Rattle.server_options.specs.declared.options.Options.{Options}
 use Rattle.cli_base.specs.declared.given.WordsRefusal.{WordsRefusal}
@@ -10,7 +10,7 @@ use Rattle.server_command.proofs.Sides.{begun-served, side-served}
 use Rattle.server_command.proofs.server.run_server.Goals as goal
 
 nothing : Counts
-nothing = record { connections = 0; records = 0; entries = 0 }
+nothing = record { connections = 0; records = 0; entries = 0; digest = None }
 
 unnamed : Named
 unnamed = record { keytab = []; verifiers = []; journal = []; own = [] }

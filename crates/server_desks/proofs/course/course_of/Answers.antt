@@ -8,4 +8,5 @@ returns-in-Some-clause-log c =
       limit = c.into_log.ensures.limit;
       contexts = c.into_log.ensures.contexts;
       marks = c.into_log.ensures.marks;
+      keeping = c.into_log.ensures.keeping;
     })

@@ -6,6 +6,6 @@ use Rattle.server_desks.proofs.desks.count_records.Given as goal
 abbrev pub invariant-loop-desk : goal.invariant-loop-desk
 invariant-loop-desk g l = record {
   sum : l.records + all_records (drop l.desk-index l.desks) ≡ all_records l.fn.desks;
-  small : l.records ≤ l.desk-index * 281474976645120;
+  small : l.records ≤ l.desk-index * 9223372036854775808;
   each : AllByRecursion IsSmall (drop l.desk-index l.desks);
 }

@@ -14,7 +14,7 @@ pub returns-in-Ok-clause-begun : goal.returns-in-Ok-clause-begun
 returns-in-Ok-clause-begun g c = let one = c.in-Ok.ensures.served in rw one.ended (begun-behind _ 1 one.ends (λ _. refl))
 
 pub returns-in-Ok-clause-small : goal.returns-in-Ok-clause-small
-returns-in-Ok-clause-small g c = side-small (omega (arith, c.ranges.connections.fits)) c.requires.fresh c.in-Ok.ensures.served
+returns-in-Ok-clause-small g c = side-small c.requires.most c.requires.fresh c.in-Ok.ensures.served
 
 pub returns-in-Err-clause-small : goal.returns-in-Err-clause-small
 returns-in-Err-clause-small g c = rw c.in-Err.ensures.none (fresh-small c.args.desks.now.items c.requires.fresh)

@@ -5,6 +5,8 @@ use Rattle.std.proofs.lemmas.List.{length-map}
 use Rattle.server_desks.specs.Desks.{IsFresh, end_behind}
 use Rattle.server_options.specs.declared.ending.RunEnd.TheVariants.{Served}
 use Rattle.server_desks.proofs.InStep.{there, all-along, get-map}
+use denote.Param.Send.{sendable}
+use Rattle.server_seating.proofs.Sends.{place-send}
 use Rattle.server_seating.proofs.Lengths.{same-length}
 use Rattle.server_seating.proofs.Noting.{desk-noted}
 use Rattle.server_seating.proofs.seating.run_seated.Goals as goal
@@ -74,6 +76,7 @@ returns-clause-limits g c =
       limit = closed.limit ∙ ap (λ l. l.log) limits;
       contexts = closed.contexts ∙ ap (λ l. l.contexts) limits;
       marks = closed.marks ∙ ap (λ l. l.marks) limits;
+      keeping = closed.keeping ∙ ap (λ l. l.keeping) limits;
     }
 
 pub new-requires-3-clause-kept : goal.new-requires-3-clause-kept
@@ -87,3 +90,6 @@ new-requires-3-clause-unclosed g c = rw c.in_ok-staffed.ensures.kept c.requires.
 
 pub returns-clause-disk : goal.returns-clause-disk
 returns-clause-disk g c = c.disk_of.ensures.some ∙ (c.into_journal.ensures.kept ∙ sym c.requires.kept)
+
+pub run_desks-requires-send-G : goal.run_desks-requires-send-G
+run_desks-requires-send-G g c = λ κs lives. search (place-send, sendable) depth 20

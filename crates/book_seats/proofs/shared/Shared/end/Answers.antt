@@ -8,7 +8,7 @@ invariant_of-self g c =
     let setup = g.J.Room.setup in
     let old = with_setup setup c.self.inside.book in
     let new = with_setup setup c.end-answer.new.self in (
-      begun-noted g.J.Room.begins c.note_end.ensures old new c.self.invariant.0 (c.end-answer.ensures.ended setup),
+      begun-noted g.J.Room.begins c.note_end.ensures old new c.self.invariant.0 (c.end-answer.ensures.ended setup) c.log.ensures.legal,
       ap (λ w. w.made) c.note_end.ensures.writer ∙ c.self.invariant.1,
       limits-kept c.note_end.ensures old new (c.end-answer.ensures.ended setup) ∙ c.self.invariant.2,
     )
@@ -16,4 +16,4 @@ invariant_of-self g c =
 pub returns : goal.returns
 returns g c =
     let setup = g.J.Room.setup in
-    answered g.J.Room.begins c.note_end.ensures (with_setup setup c.self.inside.book) (with_setup setup c.end-answer.new.self) c.self.invariant.0 (c.end-answer.ensures.ended setup)
+    answered g.J.Room.begins c.note_end.ensures (with_setup setup c.self.inside.book) (with_setup setup c.end-answer.new.self) c.self.invariant.0 (c.end-answer.ensures.ended setup) c.log.ensures.legal

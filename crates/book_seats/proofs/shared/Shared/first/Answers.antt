@@ -12,7 +12,7 @@ invariant_of-self g c =
     let old = with_setup setup c.self.inside.book in
     let new = with_setup setup c.first-answer.new.self in
     let took = c.first-answer.ensures.stepped setup c.args.token.now c.args.draws.now c.requires in (
-      begun-noted g.J.Room.begins c.note_step.ensures old new c.self.invariant.0 took,
+      begun-noted g.J.Room.begins c.note_step.ensures old new c.self.invariant.0 took c.log.ensures.legal,
       ap (λ w. w.made) c.note_step.ensures.writer ∙ c.self.invariant.1,
       limits-kept c.note_step.ensures old new took ∙ c.self.invariant.2,
     )
@@ -21,4 +21,4 @@ pub returns-clause-answered : goal.returns-clause-answered
 returns-clause-answered g c =
     let setup = g.J.Room.setup in
     answered g.J.Room.begins c.note_step.ensures (with_setup setup c.self.inside.book) (with_setup setup c.first-answer.new.self) c.self.invariant.0
-    (c.first-answer.ensures.stepped setup c.args.token.now c.args.draws.now c.requires)
+    (c.first-answer.ensures.stepped setup c.args.token.now c.args.draws.now c.requires) c.log.ensures.legal
