@@ -7,7 +7,7 @@ use Rattle.accept_book.specs.Booking.{BookOf}
 use Rattle.accept_core.specs.declared.entry.Entry.{Entry}
 use Rattle.gss_client.specs.Start.{StartSays}
 use Rattle.gss_server.specs.declared.answer.Kept.{Kept}
-use Rattle.pair_laws.specs.Conferring.{DueCall}
+use Rattle.gss_client.specs.Conferring.{DueCall}
 use Rattle.pair_laws.specs.Resting.{RestsAt}
 use Rattle.drill_command.specs.Calls.{calls_from, after_calls}
 use Rattle.drill_command.specs.Chained.{IsAdded, AreHeld, IsFirst, AreAllHeld}
@@ -77,7 +77,7 @@ wanted-few seed calls number = omega (arith, calls-many (calls_in calls number) 
 stands-first : (first : BookOf) → IsFirst first → Stands 0 first
 stands-first first f = record {
   setup = f.setup;
-  limit = ap (λ (ns : List ℕ). get_or ns 1 0) f.limits;
+  limit = ap (λ limits. get_or limits.0 1 0) f.limits;
   few = let none : length first.core.history ≡ 0 = ap length f.empty in omega (arith, none);
   rests = f.rests;
 }

@@ -4,14 +4,14 @@ use Rattle.std.specs.List.{AllByRecursion}
 use Rattle.std.proofs.lemmas.Nat.{mod_below}
 use Rattle.rpc_msgs.specs.Words.{opaque}
 use Rattle.rpc_msgs.proofs.WordLengths.{length-opaque}
-use Rattle.rpcsec_bodies.specs.declared.service.Service.{Service}
+use Rattle.gss_client.specs.declared.terms.Terms.{Terms}
 use Rattle.rpcsec_bodies.specs.declared.service.Service.TheVariants as services
 use Rattle.accept_book.specs.Honest.{IsOctets}
 use Rattle.gss_client.specs.declared.procedure.Procedure.{Procedure}
 use Rattle.gss_client.specs.declared.procedure.Procedure.TheVariants.{Null, Echo, Whoami, Post, Count}
-use Rattle.pair_laws.specs.Conferring.{DueCall}
+use Rattle.gss_client.specs.Conferring.{DueCall}
 use Rattle.pair_laws.specs.Sessions.{IsProper}
-use Rattle.pair_laws.proofs.SessionParts.{opaque-octets}
+use Rattle.pair_laws.proofs.SessionParts.{opaque-octets, own-query}
 use Rattle.pair_laws.proofs.SpelledAlone.{one-fits}
 use Rattle.drill_command.specs.Calls.{procedure_of, drawn_by, drawn_call, calls_from}
 use Rattle.drill_plan.specs.Generator.{stepped, top_of, octets_from}
@@ -41,32 +41,34 @@ octets-many (suc count) x = ap suc (octets-many count (stepped x))
 opaque-small : (count x : ℕ) → count < 64 → length (opaque (octets_from count x)) ≤ 65540
 opaque-small count x h = omega (arith, h, length-opaque (octets_from count x), octets-many count x)
 
-proper-by : (service : Service) → service ≢ services.None → (procedure : Procedure) (x : ℕ) → IsProper service (drawn_by procedure x).call
-proper-by service some Null x = record { proper = refl; protected = λ e. absurd (some e); size = omega arith; octets = none }
-proper-by service some Echo x =
+proper-by : (terms : Terms) → terms.service ≢ services.None → (procedure : Procedure) (x : ℕ) → IsProper terms (drawn_by procedure x).call
+proper-by terms some Null x = record { asked = own-query Null; proper = refl; protected = λ e. absurd (some e); size = omega arith; octets = none }
+proper-by terms some Echo x =
     let count : ℕ = top_of (stepped x) % 64 in
     let few : count < 64 = mod_below (top_of (stepped x)) 64 (omega arith) in
     record {
+      asked = own-query Echo;
       proper = one-fits (octets_from count (stepped x)) (omega (arith, few, octets-many count (stepped x)));
       protected = λ e. absurd (some e);
       size = opaque-small count (stepped x) few;
       octets = opaque-octets (octets_from count (stepped x)) (octets-small count (stepped x));
     }
-proper-by service some Whoami x = record { proper = refl; protected = λ e. absurd (some e); size = omega arith; octets = none }
-proper-by service some Post x =
+proper-by terms some Whoami x = record { asked = own-query Whoami; proper = refl; protected = λ e. absurd (some e); size = omega arith; octets = none }
+proper-by terms some Post x =
     let count : ℕ = top_of (stepped x) % 64 in
     let few : count < 64 = mod_below (top_of (stepped x)) 64 (omega arith) in
     record {
+      asked = own-query Post;
       proper = one-fits (octets_from count (stepped x)) (omega (arith, few, octets-many count (stepped x)));
       protected = λ e. absurd (some e);
       size = opaque-small count (stepped x) few;
       octets = opaque-octets (octets_from count (stepped x)) (octets-small count (stepped x));
     }
-proper-by service some Count x = record { proper = refl; protected = λ e. absurd (some e); size = omega arith; octets = none }
+proper-by terms some Count x = record { asked = own-query Count; proper = refl; protected = λ e. absurd (some e); size = omega arith; octets = none }
 
-pub all-proper : (service : Service) → service ≢ services.None → (count x : ℕ) → AllByRecursion (IsProper service) (calls_from count x)
-all-proper service some zero x = tt
-all-proper service some (suc count) x = (proper-by service some (procedure_of (top_of (stepped x) % 5)) (stepped x), all-proper service some count (drawn_call x).next)
+pub all-proper : (terms : Terms) → terms.service ≢ services.None → (count x : ℕ) → AllByRecursion (IsProper terms) (calls_from count x)
+all-proper terms some zero x = tt
+all-proper terms some (suc count) x = (proper-by terms some (procedure_of (top_of (stepped x) % 5)) (stepped x), all-proper terms some count (drawn_call x).next)
 
 pub calls-many : (count x : ℕ) → length (calls_from count x) ≡ count
 calls-many zero x = refl

@@ -12,14 +12,14 @@ use Rattle.gss_server.specs.declared.answer.Kept.{Kept}
 use Rattle.gate_models.specs.Looping.{Rest, Looped, Since}
 use Rattle.drill_plan.specs.Limits.{book_limits}
 
-same : (old new : BookOf) → new.core.width ≡ old.core.width → new.core.limit ≡ old.core.limit → new.core.table.limit ≡ old.core.table.limit → new.core.cache.capacity ≡ old.core.cache.capacity → book_limits new ≡ book_limits old
-same old new w l c m = rw (w, l, c, m) refl
+same : (old new : BookOf) → new.core.width ≡ old.core.width → new.core.limit ≡ old.core.limit → new.core.table.limit ≡ old.core.table.limit → new.core.cache.capacity ≡ old.core.cache.capacity → new.core.keeping ≡ old.core.keeping → book_limits new ≡ book_limits old
+same old new w l c m k = rw (w, l, c, m, k) refl
 
 asked-one : (old new : BookOf) (one : Asked) → BookAnswers old one new → book_limits new ≡ book_limits old
-asked-one old new (AskedStep id token now draws answer) b = same old new b.notes.width b.notes.limit b.notes.contexts b.notes.capacity
-asked-one old new (AskedLook id now answer) b = same old new b.looked.width b.looked.limit (ap (λ (t : Places AcceptEnd Outcome). t.limit) b.looked.table) b.looked.capacity
-asked-one old new (AskedAdmit lease seq procedure args answer) b = same old new b.keeps.width b.keeps.limit b.keeps.contexts b.keeps.capacity
-asked-one old new (AskedEnd lease seq answer) b = same old new b.keeps.width b.keeps.limit b.keeps.contexts b.keeps.capacity
+asked-one old new (AskedStep id token now draws answer) b = same old new b.notes.width b.notes.limit b.notes.contexts b.notes.capacity b.notes.keeping
+asked-one old new (AskedLook id now answer) b = same old new b.looked.width b.looked.limit (ap (λ (t : Places AcceptEnd Outcome). t.limit) b.looked.table) b.looked.capacity b.looked.keeping
+asked-one old new (AskedAdmit lease seq procedure args answer) b = same old new b.keeps.width b.keeps.limit b.keeps.contexts b.keeps.capacity b.keeps.keeping
+asked-one old new (AskedEnd lease seq answer) b = same old new b.keeps.width b.keeps.limit b.keeps.contexts b.keeps.capacity b.keeps.keeping
 
 asked-all : (old new : BookOf) (asked : List Asked) → Asking BookAnswers old asked new → book_limits new ≡ book_limits old
 asked-all old new [] e = ap book_limits e

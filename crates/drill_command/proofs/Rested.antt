@@ -6,7 +6,7 @@ use Rattle.std.proofs.lemmas.List.{append-nil, take_all}
 use Rattle.gss_base.specs.declared.mech.MechKind.{MechKind}
 use Rattle.gss_base.specs.declared.mech.MechKind.TheVariants as kinds
 use Rattle.rpc_msgs.specs.Records.{Fragments, IsFront}
-use Rattle.rpcsec_bodies.specs.declared.service.Service.{Service}
+use Rattle.gss_client.specs.declared.terms.Terms.{Terms}
 use Rattle.rpcsec_bodies.specs.declared.service.Service.TheVariants as services
 use Rattle.spnego_core.specs.Exchange.{HonestPair}
 use Rattle.spnego_core.specs.InitMech.{cred_for}
@@ -25,7 +25,8 @@ use Rattle.gss_server.specs.Asking.{Asking, BookAnswers}
 use Rattle.gss_server.specs.Connections.{asked_in}
 use Rattle.gss_server.specs.declared.answer.Kept.{Kept}
 use Rattle.gate_models.specs.Looping.{AllAt, IsUnfit, Since}
-use Rattle.pair_laws.specs.Conferring.{DueCall, talk_of}
+use Rattle.gss_client.specs.Conferring.{DueCall, talk_of}
+use Rattle.pair_laws.specs.HonestCalls.{IsToServer}
 use Rattle.pair_laws.specs.Creation.{IsAt, padded}
 use Rattle.pair_laws.specs.Honest.{occasion_of}
 use Rattle.pair_laws.specs.Linked.{CreatedLaw, IsServed, IsLinked, LinkedDone, kept_of}
@@ -43,7 +44,7 @@ use Rattle.drill_plan.specs.Generator.{octets_from}
 use Rattle.drill_plan.specs.Limits.{book_limits, drill_limits}
 use Rattle.drill_command.specs.Paired.{HasOctets, AreOnTime, IsPaired}
 use Rattle.drill_plan.specs.Setting.{drill_credential, drill_start}
-use Rattle.drill_plan.specs.Sessions.{moment_of, kind_of, service_of}
+use Rattle.drill_plan.specs.Sessions.{moment_of, kind_of, service_of, terms_of}
 use Rattle.drill_command.specs.Held.{early_end, Holds}
 use Rattle.drill_command.specs.Rested.{LinkedTold, IsLinkTold, FitsRest, FitsNext, RestsAgain, IsNext}
 use Rattle.drill_plan.specs.declared.session.DrillSession.{DrillSession}
@@ -87,7 +88,7 @@ all-by moment (one ∷ kept) h octets = (record { lasting = omega (arith, h.0); 
 -- what such a session's link shows
 served-of : (gained : List Asked → Type 0) (book new : BookOf) (now : ℕ) (start : StartSays) (wanted : List DueCall) (kept : List Kept) (outcome : Option Outcome) (results : List (List ℕ)) (ended : Option ClientRefusal) (tokens count : ℕ) (kind : MechKind) (draws : List ℕ)
     → ((asked : List Asked) → gained asked → Asking BookAnswers book asked new) → start.first ≡ 1 → AllByRecursion HasOctets kept → FitsRest tokens kind count now start wanted book kept
-    → (h : Holds gained 128 now start wanted kept false outcome results ended) → ArePlanned start.service start.first wanted draws → (talk_of start wanted draws (h.talked.took ++ h.wire.coming)).written ≡ h.talked.wrote
+    → (h : Holds gained 128 now start wanted kept false outcome results ended) → ArePlanned start.terms start.first wanted draws → (talk_of start wanted draws (h.talked.took ++ h.wire.coming)).written ≡ h.talked.wrote
     → IsServed 128 now tokens start kind count now wanted draws (h.talked.took ++ h.wire.coming) book new h.looped.1.records h.looped.1.answers h.looped.1.rest
 served-of gained book new now start wanted kept outcome results ended tokens count kind draws asks first octets f h planned wrote =
     let l = h.looped.1 in
@@ -163,7 +164,7 @@ fed-session book new now start wanted kept one tokens count kind first created t
     let t = h.talked in
     let more : List ℕ = replicate (16 * length wanted) 0 in
     let w = t.whole (λ e. linked (h.ends ∙ ap early_end e)) (λ e. remembered (h.ends ∙ ap early_end e)) more in
-    let planned : ArePlanned start.service start.first wanted (t.drawn ++ more) = planned-on start.service start.first wanted t.drawn (omega (arith, first)) f.each t.octets in
+    let planned : ArePlanned start.terms start.first wanted (t.drawn ++ more) = planned-on start.terms start.first wanted t.drawn f.called (omega (arith, first)) f.each t.octets in
     done-of book new now start wanted one tokens count kind (t.drawn ++ more) (t.took ++ h.wire.coming) t.wrote more h.looped.1.records h.looped.1.answers h.looped.1.rest h.parting first f.numbers created told
     (served-of _ book new now start wanted kept one.outcome one.results.items one.ended tokens count kind (t.drawn ++ more) (asks-of book new) first octets f h planned w.written) w h.ends
 
@@ -186,17 +187,17 @@ protected : (number : ℕ) → service_of number ≢ services.None
 protected number = by-part (nat_lt (number % 4) 2)
 
 wide-of : (book : BookOf) → book_limits book ≡ drill_limits → 0 < book.core.width
-wide-of book e = let is : book.core.width ≡ 128 = ap (λ (ns : List ℕ). get_or ns 0 0) e in omega (arith, is)
+wide-of book e = let is : book.core.width ≡ 128 = ap (λ limits. get_or limits.0 0 0) e in omega (arith, is)
 
 table-of : (book : BookOf) → book_limits book ≡ drill_limits → 0 < book.core.table.limit
-table-of book e = let is : book.core.table.limit ≡ 1024 = ap (λ (ns : List ℕ). get_or ns 2 0) e in omega (arith, is)
+table-of book e = let is : book.core.table.limit ≡ 1024 = ap (λ limits. get_or limits.0 2 0) e in omega (arith, is)
 
 cache-of : (number : ℕ) (book : BookOf) → number ≤ 100 → book_limits book ≡ drill_limits → number < book.core.cache.capacity
-cache-of number book few e = let is : book.core.cache.capacity ≡ 65536 = ap (λ (ns : List ℕ). get_or ns 3 0) e in omega (arith, few, is)
+cache-of number book few e = let is : book.core.cache.capacity ≡ 65536 = ap (λ limits. get_or limits.0 3 0) e in omega (arith, few, is)
 
-fits-next : (number moment count value : ℕ) (start : StartSays) (book : BookOf) (kept : List Kept) → number ≤ 100 → book_limits book ≡ drill_limits → moment ≡ moment_of number → start.setup.stamp ≡ moment → start.service ≡ service_of number → IsPaired number start.setup kept → FitsNext number (calls_from count value) book
+fits-next : (number moment count value : ℕ) (start : StartSays) (book : BookOf) (kept : List Kept) → number ≤ 100 → book_limits book ≡ drill_limits → moment ≡ moment_of number → start.setup.stamp ≡ moment → start.terms ≡ terms_of number → IsPaired number start.setup kept → FitsNext number (calls_from count value) book
     → FitsRest (tokens_for (kind_of number)) (kind_of number) number moment start (calls_from count value) book kept
-fits-next number moment count value start book kept few limits now stamp service p f = record {
+fits-next number moment count value start book kept few limits now stamp terms p f = record {
   pair = subst (λ (m : ℕ). HonestPair book.setup start.setup (kind_of number) (padded m (tokens_for (kind_of number)) (map occasion_of (kept_of kept)))) (sym now)
       (subst (λ (setup : AcceptSetup). HonestPair setup start.setup (kind_of number) (padded (moment_of number) (tokens_for (kind_of number)) (map occasion_of (kept_of kept)))) (sym f.setup) p);
   known = omega (arith, now, few);
@@ -208,21 +209,22 @@ fits-next number moment count value start book kept few limits now stamp service
   cache = cache-of number book few limits;
   log = f.log;
   numbers = f.numbers;
-  each = subst (λ (s : Service). AllByRecursion (IsProper s) (calls_from count value)) (sym service) (all-proper (service_of number) (protected number) count value);
+  called = subst IsToServer (sym terms) (record { program = refl; version = refl });
+  each = subst (λ (t : Terms). AllByRecursion (IsProper t) (calls_from count value)) (sym terms) (all-proper (terms_of number) (protected number) count value);
 }
 
-pub next-of : (number count value moment client : ℕ) (start : StartSays) (wanted : List DueCall) (old new : BookOf) (kept : List Kept) (one : DrillSession) → number ≤ 100 → book_limits old ≡ drill_limits → moment ≡ moment_of number → start.setup.stamp ≡ moment → start.service ≡ service_of number → start ≡ drill_start number moment (octets_from 66 client) → wanted ≡ calls_from count value
+pub next-of : (number count value moment client : ℕ) (start : StartSays) (wanted : List DueCall) (old new : BookOf) (kept : List Kept) (one : DrillSession) → number ≤ 100 → book_limits old ≡ drill_limits → moment ≡ moment_of number → start.setup.stamp ≡ moment → start.terms ≡ terms_of number → start ≡ drill_start number moment (octets_from 66 client) → wanted ≡ calls_from count value
     → IsPaired number start.setup kept
     → ((tokens : ℕ) (kind : MechKind) (before : ℕ) → FitsRest tokens kind before moment start wanted old kept → ∥ RestsAgain tokens kind before moment start wanted old new one ∥₁)
     → IsNext number client (calls_from count value) old new kept one
-next-of number count value moment client start wanted old new kept one few limits now stamp service begun same pair held = record {
+next-of number count value moment client start wanted old new kept one few limits now stamp terms begun same pair held = record {
   start = start;
   begun = begun ∙ ap (λ (m : ℕ). drill_start number m (octets_from 66 client)) now;
   paired = pair;
   rests = λ f.
       let tokens : ℕ = tokens_for (kind_of number) in
       let fits : FitsRest tokens (kind_of number) number moment start wanted old kept =
-      subst (λ (cs : List DueCall). FitsRest tokens (kind_of number) number moment start cs old kept) (sym same) (fits-next number moment count value start old kept few limits now stamp service pair f) in
+      subst (λ (cs : List DueCall). FitsRest tokens (kind_of number) number moment start cs old kept) (sym same) (fits-next number moment count value start old kept few limits now stamp terms pair f) in
       subst (λ (m : ℕ). ∥ RestsAgain tokens (kind_of number) number m start (calls_from count value) old new one ∥₁) now
       (subst (λ (cs : List DueCall). ∥ RestsAgain tokens (kind_of number) number moment start cs old new one ∥₁) same (held tokens (kind_of number) number fits));
 }

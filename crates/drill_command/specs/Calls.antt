@@ -6,7 +6,8 @@ use Rattle.rpc_msgs.specs.declared.numbers.TheConstants.{NULL, ECHO, WHOAMI, POS
 use Rattle.gss_client.specs.declared.procedure.Procedure.{Procedure}
 use Rattle.gss_client.specs.declared.procedure.Procedure.TheVariants.{Null, Echo, Whoami, Post}
 use Rattle.gss_client.specs.declared.procedure.Procedure.TheVariants.{Count}
-use Rattle.pair_laws.specs.Conferring.{DueCall}
+use Rattle.gss_client.specs.Conferring.{DueCall}
+use Rattle.gss_client.specs.Procedure.{query_of}
 use Rattle.drill_plan.specs.Generator.{stepped, top_of, octets_from, after_steps}
 
 -- a call that was drawn, and the generator's value then
@@ -32,7 +33,7 @@ takes_octets Count = false
 -- a call whose argument is so many octets, which are drawn
 abbrev pub drawn_args : Procedure → ℕ → ℕ → Drawn
 drawn_args procedure count x = record {
-  call = record { procedure = procedure; args = opaque (octets_from count x) };
+  call = record { query = query_of procedure; args = opaque (octets_from count x) };
   next = after_steps count x;
 }
 
@@ -42,7 +43,7 @@ abbrev pub drawn_by : Procedure → ℕ → Drawn
 drawn_by procedure x =
     if takes_octets procedure
     then drawn_args procedure (top_of (stepped x) % 64) (stepped x)
-    else record { call = record { procedure = procedure; args = [] }; next = x }
+    else record { call = record { query = query_of procedure; args = [] }; next = x }
 
 -- the next call: its procedure is drawn first, one of five
 abbrev pub drawn_call : ℕ → Drawn

@@ -3,7 +3,7 @@ use Rattle.std.specs.Prelude.{◌≡◌, ℕ, zero, suc, List, [], ◌∷◌, �
 use Rattle.accept_book.specs.Booking.{BookOf}
 use Rattle.accept_core.specs.declared.entry.Entry.{Entry}
 use Rattle.gss_server.specs.declared.answer.Kept.{Kept}
-use Rattle.pair_laws.specs.Conferring.{DueCall}
+use Rattle.gss_client.specs.Conferring.{DueCall}
 use Rattle.pair_laws.specs.Resting.{RestsAt}
 use Rattle.drill_command.specs.Drilled.{calls_of, IsDrilled}
 use Rattle.drill_plan.specs.Limits.{book_limits, drill_limits}

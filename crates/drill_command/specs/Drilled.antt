@@ -4,7 +4,7 @@ use Rattle.spnego_core.specs.declared.outcome.Outcome.{Outcome}
 use Rattle.accept_book.specs.Booking.{names_of}
 use Rattle.accept_core.specs.History.{posts}
 use Rattle.accept_core.specs.declared.entry.Entry.{Entry}
-use Rattle.pair_laws.specs.Conferring.{DueCall}
+use Rattle.gss_client.specs.Conferring.{DueCall}
 use Rattle.pair_laws.specs.Creation.{Enters}
 use Rattle.pair_laws.specs.Rows.{history_after, results_by}
 use Rattle.pair_laws.specs.Walking.{HasNames}

@@ -15,8 +15,8 @@ use Rattle.gss_client.specs.Talk.{created_from}
 use Rattle.gss_client.specs.Talking.{Talking}
 use Rattle.gss_server.specs.declared.answer.Kept.{Kept}
 use Rattle.gate_models.specs.Looping.{Loops}
-use Rattle.pair_laws.specs.Conferring.{DueCall}
-use Rattle.pair_laws.specs.Holding.{TalkedBehind}
+use Rattle.gss_client.specs.Conferring.{DueCall}
+use Rattle.gss_client.specs.Holding.{TalkedBehind}
 
 -- why a session ended early that parted so; one whose calls were all answered didn't
 abbrev pub early_end : Parting → Option ClientRefusal

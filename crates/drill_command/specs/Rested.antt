@@ -11,7 +11,8 @@ use Rattle.accept_core.specs.History.{posts}
 use Rattle.accept_core.specs.declared.entry.Entry.{Entry}
 use Rattle.gss_client.specs.Start.{StartSays}
 use Rattle.gss_server.specs.declared.answer.Kept.{Kept}
-use Rattle.pair_laws.specs.Conferring.{DueCall}
+use Rattle.gss_client.specs.Conferring.{DueCall}
+use Rattle.pair_laws.specs.HonestCalls.{IsToServer}
 use Rattle.pair_laws.specs.Creation.{SameLimits, Enters, padded}
 use Rattle.pair_laws.specs.Honest.{occasion_of}
 use Rattle.pair_laws.specs.Linked.{LinkedLaw, kept_of}
@@ -54,7 +55,8 @@ pub record FitsRest (tokens : ℕ) (kind : MechKind) (count moment : ℕ) (start
   pub cache : count < book.core.cache.capacity
   pub log : length book.core.history + 4 * tokens + length wanted < book.core.limit
   pub numbers : length wanted < 0x80000000
-  pub each : AllByRecursion (IsProper start.service) wanted
+  pub called : IsToServer start.terms
+  pub each : AllByRecursion (IsProper start.terms) wanted
 
 -- the session wasn't refused, agreed on an outcome of this mechanism with its credential's names,
 -- and was answered the service's results of all its calls by the posts of the book; the book has

@@ -2,13 +2,14 @@
 
 ghost use Rattle.std.specs.Prelude.{◌≡◌, ◌≤◌, ◌%◌, length, IfOk, OnOk};
 ghost use Rattle.rpc_msgs.specs.Words.{opaque};
+ghost use Rattle.gss_client.specs.Conferring.{call_of, calls_of};
+ghost use Rattle.gss_client.specs.Procedure.{query_of};
 ghost use Rattle.drill_plan.specs.Generator.{stepped, top_of, octets_from, after_steps};
 ghost use Rattle.drill_command.specs.Calls.{procedure_of, takes_octets, drawn_call, calls_from};
 ghost use Rattle.drill_command.specs.Calls.{after_calls};
 
 use drill_plan::Generator;
-use gss_client::Procedure;
-use pair_laws::DueCall;
+use gss_client::{DueCall, Procedure};
 use rpc_msgs::XdrWriter;
 use rpc_msgs::numbers::{ECHO, NULL, POST, WHOAMI};
 use sec_base::{NoMemory, Octets};
@@ -83,8 +84,9 @@ fn takes_octets(procedure: Procedure) -> bool
 }
 
 /// The next call.
-fn draw_call(alloc: Global, generator: &mut Generator) -> Result<DueCall, NoMemory>
-    ensures value { IfOk result (λ call. call ≡ (drawn_call generator.old.value).call) }
+fn draw_call(alloc: Global, generator: &mut Generator) -> Result<DueCall<Procedure>, NoMemory>
+    ensures value { IfOk result
+        (λ call. call_of query_of call ≡ (drawn_call generator.old.value).call) }
     ensures place { OnOk result (generator.new.value ≡ (drawn_call generator.old.value).next) }
 {
     let procedure = procedure_of((generator.next() % 5) as u32);
@@ -100,8 +102,9 @@ pub fn draw_calls(
     alloc: Global,
     generator: &mut Generator,
     count: u32,
-) -> Result<Vec<DueCall>, NoMemory>
-    ensures value { IfOk result (λ calls. calls.items ≡ calls_from count generator.old.value) }
+) -> Result<Vec<DueCall<Procedure>>, NoMemory>
+    ensures value { IfOk result
+        (λ calls. calls_of query_of calls.items ≡ calls_from count generator.old.value) }
     ensures place { OnOk result (generator.new.value ≡ after_calls count generator.old.value) }
 {
     let mut calls = Vec::new(alloc);

@@ -1,7 +1,7 @@
 //! The run of a drill.
 
-ghost use Rattle.std.specs.Prelude.{◌≡◌, ◌≢◌, ◌⊎◌, ◌≤◌, ℕ, [], length, Some, None, IfOk};
-ghost use Rattle.std.specs.Prelude.{IsTrue, string_bytes, reverse, vec_len, map};
+ghost use Rattle.std.specs.Prelude.{◌≡◌, ◌≢◌, ◌⊎◌, ◌≤◌, [], length, Some, None, IfOk};
+ghost use Rattle.std.specs.Prelude.{IsTrue, true, string_bytes, reverse, vec_len, map};
 ghost use Rattle.accept_core.specs.Legal.{Legal};
 ghost use Rattle.accept_core.specs.Logs.{no_log};
 ghost use Rattle.sec_base.specs.Answers.{Rose};
@@ -14,7 +14,7 @@ ghost use Rattle.drill_plan.specs.Sessions.{session_count, blank_objects};
 ghost use Rattle.drill_plan.specs.Words.{plan_of};
 
 use crate::sessions::{Drilled, hold_all};
-use accept_book::Log;
+use accept_book::{Entry, Log};
 use cli_base::{OUT_OF_MEMORY, say};
 use drill_plan::{DrillSession, Plan, read_plan, served, summary};
 use mech_objects::Mech;
@@ -47,7 +47,7 @@ fn unheld<O: Sink>(alloc: Global, err: &mut O, status: u8, line: &str) -> DrillE
     DrillEnd {
         status,
         sessions: Vec::new(alloc),
-        log: Log::empty(alloc),
+        log: Log::empty(),
     }
 }
 
@@ -67,32 +67,43 @@ fn print<O: Sink>(lines: &str, line: &str, out: &mut O, err: &mut O) -> u8
     }
 }
 
+/// The entries of a log that has them in memory.
+fn entries_of(log: &Log) -> &[Entry]
+    requires { log.now.keeping.entries ≡ true }
+    ensures { result.now ≡ log.now.entries }
+{
+    match log.entries() {
+        Some(entries) => entries,
+        None => unreachable!(),
+    }
+}
+
 /// The lines of a drill, and the server's line.
 fn texts_of(alloc: Global, drilled: &Drilled) -> Result<(String, String), NoMemory>
+    requires { drilled.now.log.keeping.entries ≡ true }
     ensures summary { IfOk result (λ texts. string_bytes texts.0
         ≡ drill_text drilled.now.sessions.items drilled.now.log.entries) }
     ensures line { IfOk result (λ texts. string_bytes texts.1
-        ≡ served_line (length drilled.now.sessions.items) drilled.now.records
-        (length drilled.now.log.entries)) }
+        ≡ served_line (length drilled.now.sessions.items) drilled.now.log.entries) }
 {
     let sessions = drilled.sessions.as_slice();
-    let log = drilled.log.entries();
+    let log = entries_of(&drilled.log);
     let lines = summary(alloc, sessions, log)?;
-    let line = served(alloc, sessions.len(), drilled.records, log.len())?;
+    let line = served(alloc, sessions.len(), log)?;
     Ok((lines, line))
 }
 
 /// Prints what a drill came to.
 fn report<O: Sink>(alloc: Global, drilled: Drilled, out: &mut O, err: &mut O) -> DrillEnd
-    requires { Legal drilled.log.width (reverse drilled.log.entries) }
+    requires legal { Legal drilled.log.width (reverse drilled.log.entries) }
+    requires kept { drilled.log.keeping.entries ≡ true }
     ensures status { result.status ≢ 0 → result.status ≢ 6 → result.status ≡ 8 }
     ensures fault { result.status ≡ 6
         → Rose (O.faults out.old) (O.faults out.new) ⊎ Rose (O.faults err.old) (O.faults err.new) }
     ensures printed { IsTrue (O.tells out.old) → Prints (O.written out.old) (O.written out.new)
         result.status (drill_text result.sessions.items result.log.entries) }
     ensures said { IsTrue (O.tells err.old) → Says (O.written err.old) (O.written err.new)
-        result.status (served_line (length result.sessions.items) drilled.records
-        (length result.log.entries)) }
+        result.status (served_line (length result.sessions.items) result.log.entries) }
     ensures held { result.status ≡ 0 → result.sessions ≡ drilled.sessions }
     ensures log { result.status ≡ 0 → result.log ≡ drilled.log }
     ensures legal { Legal result.log.width (reverse result.log.entries) }
@@ -100,7 +111,7 @@ fn report<O: Sink>(alloc: Global, drilled: Drilled, out: &mut O, err: &mut O) ->
     match texts_of(alloc, &drilled) {
         Ok((lines, line)) => {
             let status = print(lines.as_str(), line.as_str(), out, err);
-            let Drilled { sessions, log, .. } = drilled;
+            let Drilled { sessions, log } = drilled;
             DrillEnd {
                 status,
                 sessions,
@@ -127,8 +138,8 @@ fn run_plan<O: Sink>(
     ensures printed { IsTrue (O.tells out.old) → Prints (O.written out.old) (O.written out.new)
         result.status (drill_text result.sessions.items result.log.entries) }
     ensures said { IsTrue (O.tells err.old)
-        → (records : ℕ) × Says (O.written err.old) (O.written err.new) result.status
-        (served_line (length result.sessions.items) records (length result.log.entries)) }
+        → Says (O.written err.old) (O.written err.new) result.status
+        (served_line (length result.sessions.items) result.log.entries) }
     ensures count { result.status ≡ 0
         → vec_len result.sessions ≡ session_count plan.calls }
     ensures legal { Legal result.log.width (reverse result.log.entries) }
@@ -161,13 +172,12 @@ pub fn run_drill<O: Sink>(
         → result.status ≡ 8 }
     ensures sink_fault { result.status ≡ 6
         → Rose (O.faults out.old) (O.faults out.new) ⊎ Rose (O.faults err.old) (O.faults err.new) }
-    // What is printed is told by the sessions and the log that are returned, and the line on `err` too, but for the count of records.
+    // What is printed is told by the sessions and the log that are returned, and the line on `err` too.
     ensures printed { IsTrue (O.tells out.old) → Prints (O.written out.old) (O.written out.new)
         result.status (drill_text result.sessions.items result.log.entries) }
     ensures said { IsTrue (O.tells err.old)
-        → (records : ℕ) × Says (O.written err.old) (O.written err.new) result.status
-        (due_line (plan_of words.now) (length result.sessions.items) records
-        (length result.log.entries)) }
+        → Says (O.written err.old) (O.written err.new) result.status
+        (due_line (plan_of words.now) (length result.sessions.items) result.log.entries) }
     // Words that are refused hold no session, and a drill that ends holds as many as its calls take. The log is legal, and was kept under the
     // server's usual limits.
     ensures unheld { plan_of words.now ≡ None

@@ -1,6 +1,6 @@
 //! The sessions of a drill, one after the other over one book.
 
-ghost use Rattle.std.specs.Prelude.{◌≡◌, ◌≢◌, ◌⊎◌, ◌≤◌, ◌<◌, ◌+◌, ◌*◌, ◌%◌, ◌^◌, IfOk, OnOk, true};
+ghost use Rattle.std.specs.Prelude.{◌≡◌, ◌≢◌, ◌⊎◌, ◌≤◌, ◌<◌, ◌+◌, ◌%◌, ◌^◌, IfOk, OnOk, true};
 ghost use Rattle.std.specs.Prelude.{false, vec_len, reverse, Some, ℕ, [], ◌∷◌, ◌++◌, map};
 ghost use Rattle.std.specs.List.{AllByRecursion};
 ghost use Rattle.gss_base.specs.declared.mech.MechKind.{MechKind};
@@ -11,6 +11,8 @@ ghost use Rattle.drill_command.specs.Rested.{IsLinkTold, FitsRest, RestsAgain, I
 ghost use Rattle.accept_core.specs.Legal.{Legal};
 ghost use Rattle.mech_objects.specs.Standard.{blank_of};
 ghost use Rattle.init_ends.specs.Objects.{is_own_list};
+ghost use Rattle.gss_client.specs.Conferring.{calls_of};
+ghost use Rattle.gss_client.specs.Procedure.{query_of};
 ghost use Rattle.gss_client.specs.Start.{StartSays, objects_start, start_means};
 ghost use Rattle.gss_client.specs.Talk.{created_over};
 ghost use Rattle.gss_server.specs.Asking.{BookAnswers};
@@ -31,10 +33,10 @@ use crate::opening::open_book;
 use accept_book::{Log, OwnSeat};
 use drill_plan::{DrillSession, Generator, Plan, SESSION_CALLS, WIDTH, moment_of, start_of};
 use gate_models::{Beginning, LoopLink};
-use gss_client::{ClientRefusal, Start, Talk};
+use gss_client::{ClientRefusal, DueCall, Procedure, Start, Talk, hold_calls};
 use gss_server::Kept;
 use mech_objects::Mech;
-use pair_laws::{DueCall, hold_calls, prove_created, prove_links, tell_kept, tell_name};
+use pair_laws::{prove_created, prove_links, tell_kept, tell_name};
 use sec_base::{Moment, NoMemory};
 use spnego_core::Outcome;
 use std::alloc::Global;
@@ -69,7 +71,7 @@ fn hold_from<J: Beginning<OwnSeat>>(
     server: Generator,
     client: &mut Generator,
     start: Start,
-    calls: &[DueCall],
+    calls: &[DueCall<Procedure>],
 ) -> Result<Held, NoMemory>
     requires begins { J.begins book }
     requires width { J.width ≡ 128 }
@@ -78,13 +80,13 @@ fn hold_from<J: Beginning<OwnSeat>>(
     requires first { start.first ≡ 1 }
     ensures held { IfOk result (λ h. ∥ HoldsBehind
         (λ asked. Since J.begins BookAnswers h.book asked) 128 now
-        (created_over (start_means start meaning)) calls.now h.kept.items h.starved
-        h.session.outcome h.session.results.items h.session.ended ∥₁) }
+        (created_over (start_means start meaning)) (calls_of query_of calls.now) h.kept.items
+        h.starved h.session.outcome h.session.results.items h.session.ended ∥₁) }
     // By the objects of Kerberos and SCRAM: as by their credentials.
     ensures plain { (own : StartSays) → start_means start meaning ≡ objects_start own
         → IfOk result (λ h. ∥ Holds (λ asked. Since J.begins BookAnswers h.book asked) 128 now own
-        calls.now h.kept.items h.starved h.session.outcome h.session.results.items
-        h.session.ended ∥₁) }
+        (calls_of query_of calls.now) h.kept.items h.starved h.session.outcome
+        h.session.results.items h.session.ended ∥₁) }
     // and a fault of the link is want of memory
     ensures fault { IfOk result
         (λ h. h.session.ended ≡ Some ClientRefusal.LinkFault → h.starved ≡ true) }
@@ -120,19 +122,19 @@ pub fn hold_session(
     server: Generator,
     client: &mut Generator,
     start: Start,
-    calls: &[DueCall],
+    calls: &[DueCall<Procedure>],
 ) -> Result<Held, NoMemory>
     requires list { is_own_list (start_means start meaning).setup.list ≡ true }
     requires first { start.first ≡ 1 }
     ensures held { IfOk result (λ h. ∥ HoldsBehind
         (λ asked. Since (λ b. b ≡ book) BookAnswers h.book asked) 128 now
-        (created_over (start_means start meaning)) calls.now h.kept.items h.starved
-        h.session.outcome h.session.results.items h.session.ended ∥₁) }
+        (created_over (start_means start meaning)) (calls_of query_of calls.now) h.kept.items
+        h.starved h.session.outcome h.session.results.items h.session.ended ∥₁) }
     // By the objects of Kerberos and SCRAM: as by their credentials.
     ensures plain { (own : StartSays) → start_means start meaning ≡ objects_start own
         → IfOk result (λ h. ∥ Holds (λ asked. Since (λ b. b ≡ book) BookAnswers h.book asked) 128
-        now own calls.now h.kept.items h.starved h.session.outcome h.session.results.items
-        h.session.ended ∥₁) }
+        now own (calls_of query_of calls.now) h.kept.items h.starved h.session.outcome
+        h.session.results.items h.session.ended ∥₁) }
     ensures limits { IfOk result (λ h. book_limits h.book ≡ book_limits book) }
     ensures moments { IfOk result (λ h. AllByRecursion (IsAt now) (kept_of h.kept.items)) }
     ensures octets { IfOk result (λ h. AllByRecursion HasOctets h.kept.items) }
@@ -141,8 +143,9 @@ pub fn hold_session(
         → IfOk result (λ h. h.starved ≡ false
         → h.session.ended ≢ Some ClientRefusal.NoMemory
         → (tokens : ℕ) (kind : MechKind) (count : ℕ)
-        → FitsRest tokens kind count now own calls.now book h.kept.items
-        → ∥ RestsAgain tokens kind count now own calls.now book h.book h.session ∥₁) }
+        → FitsRest tokens kind count now own (calls_of query_of calls.now) book h.kept.items
+        → ∥ RestsAgain tokens kind count now own (calls_of query_of calls.now) book h.book
+        h.session ∥₁) }
 {
     prove_created();
     let held = hold_from::<Brand>(alloc, book, now, server, client, start, calls)?;
@@ -165,15 +168,12 @@ struct Course {
     book: OwnSeat,
     generators: Generators,
     sessions: Vec<DrillSession>,
-    /// How many records were answered.
-    records: u128,
 }
 
 /// What a drill came to.
 #[derive(Drop)]
 pub struct Drilled {
     pub sessions: Vec<DrillSession>,
-    pub records: u128,
     pub log: Log,
 }
 
@@ -224,12 +224,9 @@ fn add_held(
     held: Held,
     generators: Generators,
     sessions: Vec<DrillSession>,
-    records: u128,
 ) -> Result<Course, NoMemory>
     requires few { vec_len sessions ≤ 100 }
-    requires records { records ≤ vec_len sessions * 18446744073709551616 }
     ensures count { IfOk result (λ c. vec_len c.sessions ≡ vec_len sessions + 1) }
-    ensures records { IfOk result (λ c. c.records ≤ vec_len c.sessions * 18446744073709551616) }
     ensures fed { IfOk result (λ c. held.starved ≡ false) }
     ensures remembered { IfOk result (λ c. held.session.ended ≢ Some ClientRefusal.NoMemory) }
     ensures book { IfOk result (λ c. c.book ≡ held.book) }
@@ -253,7 +250,6 @@ fn add_held(
         kept,
         ..
     } = held;
-    let count = kept.len() as u128;
     drop(kept);
     sessions.push_reserved(session);
     Ok(Course {
@@ -264,7 +260,6 @@ fn add_held(
             server,
         },
         sessions,
-        records: records + count,
     })
 }
 
@@ -275,9 +270,9 @@ fn due_of(
     number: u32,
     mech: Box<dyn Mech>,
     count: u32,
-) -> Result<(Vec<DueCall>, Start), NoMemory>
+) -> Result<(Vec<DueCall<Procedure>>, Start), NoMemory>
     requires { meaning mech ≡ blank_of (own_name (kind_of number)) }
-    ensures calls { IfOk result (λ due. due.0.items
+    ensures calls { IfOk result (λ due. calls_of query_of due.0.items
         ≡ calls_from count generators.old.calls.value) }
     ensures start { IfOk result (λ due. started_by meaning due.1 ≡ objects_start
         (drill_start number (moment_of number) (octets_from 66 generators.old.client.value))) }
@@ -362,9 +357,7 @@ fn go_on(
     requires number { number ≤ 100 }
     requires blank { meaning mech ≡ blank_of (own_name (kind_of number)) }
     requires limits { book_limits course.book ≡ drill_limits }
-    requires records { course.records ≤ vec_len course.sessions * 18446744073709551616 }
     ensures count { IfOk result (λ c. vec_len c.sessions ≡ vec_len course.sessions + 1) }
-    ensures records { IfOk result (λ c. c.records ≤ vec_len c.sessions * 18446744073709551616) }
     ensures limits { IfOk result (λ c. book_limits c.book ≡ book_limits course.book) }
     ensures added { IfOk result (λ c. IsAdded number course.generators.client.value
         (calls_from count course.generators.calls.value) course.book c.book
@@ -376,18 +369,16 @@ fn go_on(
         book,
         generators,
         sessions,
-        records,
     } = course;
     let mut generators = generators;
     let held = next_session(alloc, book, &mut generators, number, mech, count)?;
-    let course = add_held(held, generators, sessions, records)?;
+    let course = add_held(held, generators, sessions)?;
     Ok(course)
 }
 
 /// A drill before its first session.
 fn begin(alloc: Global, seed: u64) -> Result<Course, NoMemory>
     ensures count { IfOk result (λ c. vec_len c.sessions ≡ 0) }
-    ensures records { IfOk result (λ c. c.records ≡ 0) }
     ensures first { IfOk result (λ c. IsFirst c.book) }
     ensures sessions { IfOk result (λ c. c.sessions.items ≡ []) }
     ensures place { IfOk result (λ c. c.generators.calls.value ≡ seed) }
@@ -397,7 +388,6 @@ fn begin(alloc: Global, seed: u64) -> Result<Course, NoMemory>
         book,
         generators: seeded(seed),
         sessions: Vec::new(alloc),
-        records: 0,
     })
 }
 
@@ -418,15 +408,9 @@ pub fn hold_all(alloc: Global, plan: Plan, mechs: Vec<Box<dyn Mech>>) -> Result<
         course = go_on(alloc, course, number, mech, count)?;
         number += 1;
     }
-    let Course {
-        book,
-        sessions,
-        records,
-        ..
-    } = course;
+    let Course { book, sessions, .. } = course;
     Ok(Drilled {
         sessions,
-        records,
         log: book.into_log(),
     })
 }

@@ -1,9 +1,11 @@
 -- What a drill prints.
-use Rattle.std.specs.Prelude.{◌≡◌, ◌≢◌, ℕ, ◌+◌, ◌==◌, Bool, false, if◌then◌else◌, List, [], ◌∷◌}
-use Rattle.std.specs.Prelude.{◌++◌, length, take, codes, Option, Some, None, is_some}
+use Rattle.std.specs.Prelude.{◌≡◌, ◌≢◌, ℕ, ◌+◌, ◌==◌, Bool, true, false, if◌then◌else◌, List, []}
+use Rattle.std.specs.Prelude.{◌∷◌, ◌++◌, length, take, codes, Option, Some, None, is_some}
 use Rattle.std.specs.Fmt.{decimal}
 use Rattle.hex.specs.Hex.{encode_lower}
 use Rattle.sha1.specs.Sha1.{sha1}
+use Rattle.gss_base.specs.declared.mech.MechKind.{MechKind}
+use Rattle.gss_base.specs.declared.mech.MechKind.TheVariants as kinds
 use Rattle.rpc_msgs.specs.declared.numbers.TheConstants.{POST}
 use Rattle.accept_core.specs.declared.entry.Entry.{Entry}
 use Rattle.accept_core.specs.declared.entry.Entry.TheVariants as entries
@@ -37,6 +39,26 @@ is_post (entries.Ended id cause) = false
 abbrev pub post_count : List Entry → ℕ
 post_count [] = 0
 post_count (entry ∷ log) = (if is_post entry then 1 else 0) + post_count log
+
+-- a context of Kerberos is opened and settled by one record, one of SCRAM by records of their own
+abbrev pub settles_later : MechKind → Bool
+settles_later kinds.Kerberos = false
+settles_later kinds.Scram = true
+
+-- a record of a drill put the entry into the log as its first one there. The mark of a request, and
+-- what the request settles, stand there by the record that opened the context
+abbrev pub is_record : Entry → Bool
+is_record (entries.Opened id at) = true
+is_record (entries.Auth id mark at) = false
+is_record (entries.Went id at) = true
+is_record (entries.Settled id mech names ends at) = settles_later mech
+is_record (entries.Call id seq procedure args) = true
+is_record (entries.Ended id cause) = true
+
+-- how many records a drill's log tells of
+abbrev pub record_count : List Entry → ℕ
+record_count [] = 0
+record_count (entry ∷ log) = (if is_record entry then 1 else 0) + record_count log
 
 -- ---- the results, one after the other
 
@@ -74,16 +96,17 @@ drill_text sessions log =
     sessions_text (length sessions) (result_count sessions) (refused_count sessions)
     ++ log_text (post_count log) (length log) (digest_of sessions)
 
--- the server's line of a drill: how many sessions, records that were answered, and entries
-abbrev pub served_line : ℕ → ℕ → ℕ → List ℕ
-served_line sessions records log =
-    codes "served " ++ (decimal sessions ++ (codes " connections " ++ (decimal records
-    ++ (codes " records " ++ (decimal log ++ codes " entries\n")))))
+-- the server's line of a drill with so many sessions and this log: how many sessions, records that
+-- the log tells of, and entries
+abbrev pub served_line : ℕ → List Entry → List ℕ
+served_line sessions log =
+    codes "served " ++ (decimal sessions ++ (codes " connections " ++ (decimal (record_count log)
+    ++ (codes " records " ++ (decimal (length log) ++ codes " entries\n")))))
 
 -- the line that is due on standard error
-abbrev pub due_line : Option Plan → ℕ → ℕ → ℕ → List ℕ
-due_line None sessions records log = usage_line
-due_line (Some plan) sessions records log = served_line sessions records log
+abbrev pub due_line : Option Plan → ℕ → List Entry → List ℕ
+due_line None sessions log = usage_line
+due_line (Some plan) sessions log = served_line sessions log
 
 -- the text was printed at status 0, at 6 a front of it, and nothing at another status
 pub record Prints (old new : List ℕ) (status : ℕ) (text : List ℕ) : Type 0 where

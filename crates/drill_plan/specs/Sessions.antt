@@ -8,6 +8,8 @@ use Rattle.gss_base.specs.declared.mech.MechName.{MechName}
 use Rattle.gss_base.specs.declared.mech.MechName.TheVariants as names
 use Rattle.mech_objects.specs.Meaning.{MechSays}
 use Rattle.mech_objects.specs.Standard.{blank_of}
+use Rattle.gss_client.specs.declared.terms.Terms.{Terms}
+use Rattle.rpc_msgs.specs.declared.numbers.TheConstants.{PROGRAM, VERSION}
 use Rattle.rpcsec_bodies.specs.declared.service.Service.{Service}
 use Rattle.rpcsec_bodies.specs.declared.service.Service.TheVariants as services
 
@@ -35,6 +37,11 @@ own_name kinds.Scram = names.Scram
 -- how the calls of a session are protected
 abbrev pub service_of : ℕ → Service
 service_of number = if nat_lt (number % 4) 2 then services.Integrity else services.Privacy
+
+-- what a session calls: the server's program
+abbrev pub terms_of : ℕ → Terms
+terms_of number =
+    record { service = service_of number; program = PROGRAM; version = VERSION }
 
 -- a blank object for each of so many sessions, in their order: that of a session is of its
 -- mechanism

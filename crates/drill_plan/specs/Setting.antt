@@ -25,7 +25,7 @@ use Rattle.mech_objects.specs.Meaning.{MechSays}
 use Rattle.init_ends.specs.Ends.{setup_means}
 use Rattle.gss_client.specs.declared.start.Start.{Start}
 use Rattle.gss_client.specs.Start.{StartSays, StartMeans}
-use Rattle.drill_plan.specs.Sessions.{kind_of, service_of}
+use Rattle.drill_plan.specs.Sessions.{kind_of, terms_of}
 use Rattle.files_command.specs.Making.{TicketOpens}
 
 -- the server, and who calls by Kerberos
@@ -101,7 +101,7 @@ drill_setup kind stamp draws = record {
 abbrev pub drill_start : ℕ → ℕ → List ℕ → StartSays
 drill_start number stamp draws = record {
   setup = drill_setup (kind_of number) stamp draws;
-  service = service_of number;
+  terms = terms_of number;
   first = 1;
 }
 
@@ -110,7 +110,7 @@ abbrev pub started_by : {X : Type 0} → {D : X → Type 0} → (DynBox X Global
     → Start X D → StartMeans
 started_by says start = record {
   setup = setup_means says start.setup;
-  service = start.service;
+  terms = start.terms;
   first = start.first;
 }
 

@@ -3,11 +3,13 @@
 ghost use Rattle.std.specs.Prelude.{◌≡◌, ◌++◌, length, IfOk, OnOk, string_bytes};
 ghost use Rattle.hex.specs.Hex.{encode_lower};
 ghost use Rattle.drill_plan.specs.Lines.{result_count, refused_count, is_post, post_count};
+ghost use Rattle.drill_plan.specs.Lines.{settles_later, is_record, record_count};
 ghost use Rattle.drill_plan.specs.Lines.{joined, all_results, sessions_text, log_text};
 ghost use Rattle.drill_plan.specs.Lines.{digest_of, drill_text, served_line};
 
 use crate::session::DrillSession;
 use accept_book::Entry;
+use gss_base::MechKind;
 use rpc_msgs::numbers::POST;
 use sec_base::{NoMemory, Octets};
 use sha1::Sha1;
@@ -54,6 +56,40 @@ fn count_posts(entries: &[Entry]) -> u64
     let mut count = 0u64;
     for entry in entries {
         if is_post(entry) {
+            count += 1;
+        }
+    }
+    count
+}
+
+/// Whether a context of the mechanism is settled by a later record than the one that opens it.
+fn settles_later(mech: MechKind) -> bool
+    ensures { result ≡ settles_later mech }
+{
+    match mech {
+        MechKind::Kerberos => false,
+        MechKind::Scram => true,
+    }
+}
+
+/// Whether an entry is the first one that a record of a drill put into the log.
+fn is_record(entry: &Entry) -> bool
+    ensures { result ≡ is_record entry.now }
+{
+    match entry {
+        Entry::Auth { .. } => false,
+        Entry::Settled { mech, .. } => settles_later(*mech),
+        _ => true,
+    }
+}
+
+/// How many records a drill's log tells of.
+fn count_records(entries: &[Entry]) -> u64
+    ensures { result ≡ record_count entries.now }
+{
+    let mut count = 0u64;
+    for entry in entries {
+        if is_record(entry) {
             count += 1;
         }
     }
@@ -130,15 +166,11 @@ pub fn summary(alloc: Global, sessions: &[DrillSession], log: &[Entry]) -> Resul
     Ok(text)
 }
 
-/// The server's line of a drill.
-pub fn served(
-    alloc: Global,
-    sessions: usize,
-    records: u128,
-    entries: usize,
-) -> Result<String, NoMemory>
-    ensures { IfOk result (λ text. string_bytes text ≡ served_line sessions records entries) }
+/// The server's line of a drill with so many sessions and this log.
+pub fn served(alloc: Global, sessions: usize, log: &[Entry]) -> Result<String, NoMemory>
+    ensures { IfOk result (λ text. string_bytes text ≡ served_line sessions log.now) }
 {
+    let (records, entries) = (count_records(log), log.len());
     let text = format!(in alloc;
         "served {sessions} connections {records} records {entries} entries\n"
     )?;

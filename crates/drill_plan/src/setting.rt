@@ -11,20 +11,22 @@ ghost use Rattle.init_ends.specs.Plain.{fresh_of};
 ghost use Rattle.gss_client.specs.Start.{objects_start};
 ghost use Rattle.drill_plan.specs.Generator.{octets_from, after_steps};
 ghost use Rattle.drill_plan.specs.Sessions.{moment_of, kind_of, own_name, service_of};
+ghost use Rattle.drill_plan.specs.Sessions.{terms_of};
 ghost use Rattle.drill_plan.specs.Setting.{server_name, client_name, server_key, drill_keytab};
 ghost use Rattle.drill_plan.specs.Setting.{user_name, user_secret, drill_verifiers, drill_offer};
 ghost use Rattle.drill_plan.specs.Setting.{drill_acceptor, drill_credential, drill_start};
 ghost use Rattle.drill_plan.specs.Setting.{started_by, CredOpens};
 
 use crate::generator::Generator;
-use accept_book::Limits;
+use accept_book::{Keeping, Limits};
 use files_command::{DRAWS, NoFile, ServiceKey, credential_for, write_keytab};
 use gss_base::{KerberosName, MechKind, NameRefusal, Principal};
-use gss_client::{Service, Start};
+use gss_client::{Service, Start, Terms};
 use init_ends::{InitSetup, armed_with};
 use krb_derive::Key;
 use krb_files::{FileRefusal, FileWhy, Keytab, read_keytab};
 use mech_objects::{Mech, MechAsk};
+use rpc_msgs::numbers::{PROGRAM, VERSION};
 use scram_mech::{
     ScramRefusal, VerifierRefusal, Verifiers, make_verifier, prove_laws, read_verifiers,
 };
@@ -60,12 +62,16 @@ const ROUNDS: u32 = 4_096;
 /// The width of the windows of sequence numbers.
 pub const WIDTH: u32 = 128;
 
-/// The limits of the book: those that the server has without options.
+/// The limits of the book, whose log is kept: else those that the server has without options.
 pub const LIMITS: Limits = Limits {
     contexts: 1_024,
     marks: 65_536,
     log: 262_144,
     width: WIDTH,
+    keeping: Keeping {
+        entries: true,
+        digest: false,
+    },
 };
 
 /// The second of the first session.
@@ -207,6 +213,17 @@ fn service_of(number: u32) -> Service
     }
 }
 
+/// What a session calls: the server's program, and how its calls are protected.
+fn terms_of(number: u32) -> Terms
+    ensures { result ≡ terms_of number }
+{
+    Terms {
+        service: service_of(number),
+        program: PROGRAM,
+        version: VERSION,
+    }
+}
+
 /// The client's ticket.
 fn ticket(alloc: Global) -> Result<MechCred, NoMemory>
     ensures is { IfOk result (λ cred. cred ≡ drill_credential kinds.Kerberos) }
@@ -312,7 +329,7 @@ pub fn start_of(
     ensures opens { IfOk result (λ _. CredOpens (kind_of number)) }
     ensures list { IfOk result
         (λ start. is_own_list (started_by meaning start).setup.list ≡ true) }
-    ensures service { IfOk result (λ start. start.service ≡ service_of number) }
+    ensures terms { IfOk result (λ start. start.terms ≡ terms_of number) }
     ensures stamp { IfOk result (λ start. start.setup.ask.stamp ≡ stamp) }
     ensures first { IfOk result (λ start. start.first ≡ 1) }
 {
@@ -326,7 +343,7 @@ pub fn start_of(
     };
     Ok(Start {
         setup: InitSetup { list, ask },
-        service: service_of(number),
+        terms: terms_of(number),
         first: 1,
     })
 }

@@ -24,7 +24,7 @@ pub returns-in-Some-clause-status : goal.returns-in-Some-clause-status
 returns-in-Some-clause-status g c = λ some usage other. c.run_plan.ensures.status some other
 
 pub returns-in-Some-clause-said : goal.returns-in-Some-clause-said
-returns-in-Some-clause-said g c = λ t. let s = c.run_plan.ensures.said t in (s.0, rw (← c.in-Some.ensures.value) s.1)
+returns-in-Some-clause-said g c = λ t. rw (← c.in-Some.ensures.value) (c.run_plan.ensures.said t)
 
 pub returns-in-Some-clause-unheld : goal.returns-in-Some-clause-unheld
 returns-in-Some-clause-unheld g c = λ none. absurd (none-some c.in-Some.ensures.value none)
@@ -33,7 +33,7 @@ pub returns-in-Some-clause-count : goal.returns-in-Some-clause-count
 returns-in-Some-clause-count g c = λ plan is e. c.run_plan.ensures.count e ∙ ap (λ (p : Plan). session_count p.calls) (same-plan c.in-Some.ensures.value is)
 
 pub returns-in-None-clause-said : goal.returns-in-None-clause-said
-returns-in-None-clause-said g c = λ t. (0, rw (← c.in-None.ensures.value) (known-said 2 (omega arith) c.unheld.ensures.status (c.unheld.ensures.said t)))
+returns-in-None-clause-said g c = λ t. rw (← c.in-None.ensures.value) (known-said 2 (omega arith) c.unheld.ensures.status (c.unheld.ensures.said t))
 
 pub returns-in-Some-clause-held : goal.returns-in-Some-clause-held
 returns-in-Some-clause-held g c = λ plan is e. held-by c.in-Some.plan plan c.run_plan.result.sessions.items c.run_plan.result.log.entries (same-plan c.in-Some.ensures.value is) (c.run_plan.ensures.held e)

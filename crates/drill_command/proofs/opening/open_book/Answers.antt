@@ -2,7 +2,7 @@ use Rattle.std.proofs.Common.{refl, ap, length, arith}
 use Rattle.drill_command.proofs.opening.open_book.Goals as goal
 
 pub returns-clause-limits : goal.returns-clause-limits
-returns-clause-limits c = rw (c.in_ok-book.ensures.width, c.in_ok-book.ensures.limit, c.in_ok-book.ensures.contexts, c.in_ok-book.ensures.marks) refl
+returns-clause-limits c = rw (c.in_ok-book.ensures.width, c.in_ok-book.ensures.limit, c.in_ok-book.ensures.contexts, c.in_ok-book.ensures.marks, c.in_ok-book.ensures.keeping) refl
 
 pub returns-clause-rests : goal.returns-clause-rests
 returns-clause-rests c =

@@ -15,7 +15,6 @@ loop-mech-init g c =
       objects = first-objects (λ b. (goal.Mech-dyn g (b.vtable, b.value)).meaning b.value) rest (session_count c.args.plan.calls) all;
       all = omega (arith, many);
       count = c.in_ok-course.ensures.count;
-      records = omega (arith, c.in_ok-course.ensures.records);
       limits = c.in_ok-course.ensures.first.limits;
       place = c.in_ok-course.ensures.place;
       held = (c.in_ok-course.course.book, c.in_ok-course.ensures.first, (refl, c.in_ok-course.ensures.sessions));
@@ -51,14 +50,13 @@ loop-mech-preserved g c =
       objects = later-objects (λ b. (goal.Mech-dyn g (b.vtable, b.value)).meaning b.value) c.in-Some.mech c.next.new.self.rest.items c.loop-mech.number c.loop-mech.mech-iterator.rest.items c.in-Some.ensures.steps.0 i.objects;
       all = omega (arith, many, i.all);
       count = omega (arith, made.ensures.count, i.count);
-      records = made.ensures.records;
       limits = made.ensures.limits ∙ i.limits;
       place = value-more c.args.plan.seed c.args.plan.calls c.loop-mech.number _ _ _ c.calls_in-count.ensures i.place made.ensures.place;
       held = (i.held.0, i.held.1, held-more c.args.plan.seed c.args.plan.calls c.loop-mech.number _ _ _ i.held.0 _ _ _ _ c.calls_in-count.ensures i.place i.held.2 made.ensures.added);
     }
 
 pub returns-clause-limits : goal.returns-clause-limits
-returns-clause-limits g c = rw (c.into_log.ensures.width, c.into_log.ensures.limit, c.into_log.ensures.contexts, c.into_log.ensures.marks) c.loop-mech.invariant.limits
+returns-clause-limits g c = rw (c.into_log.ensures.width, c.into_log.ensures.limit, c.into_log.ensures.contexts, c.into_log.ensures.marks, c.into_log.ensures.keeping) c.loop-mech.invariant.limits
 
 pub returns-clause-held : goal.returns-clause-held
 returns-clause-held g c =

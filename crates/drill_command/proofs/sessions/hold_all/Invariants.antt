@@ -1,4 +1,4 @@
-use Rattle.std.proofs.Common.{◌≡◌, ◌≤◌, ◌+◌, ◌*◌, vec_len, length, map}
+use Rattle.std.proofs.Common.{◌≡◌, ◌≤◌, ◌+◌, vec_len, length, map}
 use Rattle.accept_book.specs.Booking.{BookOf}
 use Rattle.drill_command.specs.Chained.{IsFirst, AreHeld}
 use Rattle.drill_command.specs.Drilled.{value_before}
@@ -14,7 +14,6 @@ invariant-loop-mech g l = record {
   objects : map (λ b. (goal.Mech-dyn g (b.vtable, b.value)).meaning b.value) l.mech-iterator.rest.items ≡ objects_from l.number (length l.mech-iterator.rest.items);
   all : l.number + length l.mech-iterator.rest.items ≡ session_count l.fn.plan.calls;
   count : vec_len l.course.sessions ≡ l.number;
-  records : l.course.records ≤ vec_len l.course.sessions * 18446744073709551616;
   limits : book_limits l.course.book ≡ drill_limits;
   place : l.course.generators.calls.value ≡ value_before l.fn.plan.seed l.fn.plan.calls l.number;
   held : (first : BookOf) × IsFirst first × AreHeld l.fn.plan.seed l.fn.plan.calls l.number first l.course.book l.course.sessions.items;

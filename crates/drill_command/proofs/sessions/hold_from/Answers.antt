@@ -14,8 +14,8 @@ use Rattle.gss_client.specs.Talk.{created_from}
 use Rattle.gss_client.specs.Talking.{Talking}
 use Rattle.gss_server.specs.declared.answer.Kept.{Kept}
 use Rattle.gate_models.specs.Looping.{Loops}
-use Rattle.pair_laws.specs.Conferring.{DueCall}
-use Rattle.pair_laws.specs.Holding.{TalkedBehind}
+use Rattle.gss_client.specs.Conferring.{DueCall}
+use Rattle.gss_client.specs.Holding.{TalkedBehind}
 use Rattle.drill_command.specs.Held.{early_end, HoldsBehind}
 use Rattle.drill_command.proofs.sessions.hold_from.Goals as goal
 

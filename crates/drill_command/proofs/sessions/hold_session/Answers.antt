@@ -1,18 +1,32 @@
-use Rattle.std.proofs.Common.{◌≡◌, ◌∙◌, ap, sym, subst, List}
+use Rattle.std.proofs.Common.{◌≡◌, ◌∙◌, ap, sym, subst, ℕ, Bool, List}
 use Rattle.std.proofs.Math.Logic.{∥∥₁_elim, ∥∥₁_map}
 use Rattle.std.proofs.Props.{props}
 use Rattle.std.specs.List.{AllByRecursion}
+use Rattle.gss_client.specs.Conferring.{calls_of}
+use Rattle.gss_client.specs.Procedure.{query_of}
 use Rattle.gss_client.specs.Start.{StartMeans}
 use Rattle.gss_server.specs.declared.answer.Kept.{Kept}
+use Rattle.accept_core.specs.declared.entry.Keeping.{Keeping}
+use Rattle.drill_plan.specs.Limits.{book_limits}
 use Rattle.drill_command.specs.Paired.{HasOctets}
 use Rattle.drill_command.proofs.Limits.{looped}
 use Rattle.drill_command.proofs.Rested.{at-moments, session-rests}
 use Rattle.drill_command.proofs.sessions.hold_session.Goals as goal
 
+-- limits are the same by their parts
+by-parts : (one other : List ℕ × Keeping) → one.0 ≡ other.0 → one.1.entries ≡ other.1.entries → one.1.digest ≡ other.1.digest → one ≡ other
+by-parts one other numbers entries digest =
+    ap (λ (ns : List ℕ). (ns, one.1)) numbers
+    ∙ (ap (λ (kept : Bool). (other.0, record { entries = kept; digest = one.1.digest })) entries
+    ∙ ap (λ (kept : Bool). (other.0, record { entries = other.1.entries; digest = kept })) digest)
+
 pub returns-clause-limits : goal.returns-clause-limits
 returns-clause-limits g c =
     let h = c.in_ok-held.held in
-    ∥∥₁_elim c.in_ok-held.ensures.held (search props) (λ p. looped c.args.book h.book 128 c.args.now _ _ h.kept.items p.looped.0 h.starved p.looped.1)
+    by-parts (book_limits h.book) (book_limits c.args.book)
+    (∥∥₁_elim c.in_ok-held.ensures.held (search props) (λ p. ap (λ (l : List ℕ × Keeping). l.0) (looped c.args.book h.book 128 c.args.now _ _ h.kept.items p.looped.0 h.starved p.looped.1)))
+    (∥∥₁_elim c.in_ok-held.ensures.held (search props) (λ p. ap (λ (l : List ℕ × Keeping). l.1.entries) (looped c.args.book h.book 128 c.args.now _ _ h.kept.items p.looped.0 h.starved p.looped.1)))
+    (∥∥₁_elim c.in_ok-held.ensures.held (search props) (λ p. ap (λ (l : List ℕ × Keeping). l.1.digest) (looped c.args.book h.book 128 c.args.now _ _ h.kept.items p.looped.0 h.starved p.looped.1)))
 
 pub returns-clause-moments : goal.returns-clause-moments
 returns-clause-moments g c =
@@ -26,5 +40,5 @@ pub returns-clause-rests : goal.returns-clause-rests
 returns-clause-rests g c = λ own same fed client tokens kind count fits.
     let h = c.in_ok-held.held in
     let first : own.first ≡ 1 = sym (ap (λ (s : StartMeans). s.first) same) ∙ c.requires.first in
-    ∥∥₁_map (c.in_ok-held.ensures.plain own same) (λ p. session-rests c.args.book h.book c.args.now own c.args.calls.now h.kept.items h.starved h.session tokens count kind first c.prove_created.ensures c.tell_link.ensures
+    ∥∥₁_map (c.in_ok-held.ensures.plain own same) (λ p. session-rests c.args.book h.book c.args.now own (calls_of query_of c.args.calls.now) h.kept.items h.starved h.session tokens count kind first c.prove_created.ensures c.tell_link.ensures
     (subst (λ (ks : List Kept). AllByRecursion HasOctets ks) c.as_slice.ensures.value c.tell_kept.ensures) c.in_ok-held.ensures.fault fed client fits p)
