@@ -6,8 +6,8 @@ use Rattle.krb_derive.specs.declared.key.Key.{Key}
 use Rattle.scram_mech.specs.MechMaking.{MechMaking, AmongMakings}
 use Rattle.spnego_core.specs.declared.outcome.Outcome.{Outcome}
 use Rattle.spnego_core.specs.Ends.{PlainSetup}
-use Rattle.context_table.specs.Places.{IsPast}
 use Rattle.spnego_core.proofs.Makings.{among_front}
+use Rattle.accept_core.specs.Stepping.{IsNext}
 use Rattle.accept_core.specs.declared.entry.Entry.{Entry}
 use Rattle.accept_book.specs.Booking.{BookOf}
 use Rattle.accept_core.specs.History.{entry_at}
@@ -26,7 +26,7 @@ use Rattle.world_laws.proofs.Slices.{set-same, set-other, get-front}
 use Rattle.world_laws.proofs.Due.{due-says}
 use Rattle.world_laws.proofs.Happening.{Move, Starting, Taking, Calling, Leaving, Came, Idling, Moving, Laning, came}
 use Rattle.history_laws.proofs.Histories.{Fronts, no-front, entry-stays}
-use Rattle.history_laws.proofs.Answering.{IsPastFor, answers-front, answers-setup}
+use Rattle.history_laws.proofs.Answering.{IsNextFor, answers-front, answers-setup}
 
 -- a session that stands or was left at this place, with this outcome
 pub record StandsAt (places : List StageSays) (i : ℕ) (outcome : Outcome) : Type 0 where
@@ -142,9 +142,9 @@ lane-grows old lane left book deed setup front = record {
 }
 
 -- the moment of a step that is due is the record's
-pub asks-past : (book : BookOf) (past : Option ℕ) (hand : InHand) (asked : Asked) → (ruling_of hand).due ≡ Some (question_of asked) → IsPast book.core.table (max book.core.cache.greatest hand.kept.now) past → IsPastFor book past asked
+pub asks-past : (book : BookOf) (past : Option ℕ) (hand : InHand) (asked : Asked) → (ruling_of hand).due ≡ Some (question_of asked) → IsNext book.core.table (max book.core.cache.greatest hand.kept.now) past → IsNextFor book past asked
 asks-past book past hand (AskedStep id token now draws answer) due is_past =
-    subst (λ (n : ℕ). IsPast book.core.table (max book.core.cache.greatest n) past) (sym (due-says hand.octets hand.kept told_width (Negotiate id token now draws) due).0) is_past
+    subst (λ (n : ℕ). IsNext book.core.table (max book.core.cache.greatest n) past) (sym (due-says hand.octets hand.kept told_width (Negotiate id token now draws) due).0) is_past
 asks-past book past hand (AskedLook id now answer) due is_past = tt
 asks-past book past hand (AskedAdmit lease seq procedure args answer) due is_past = tt
 asks-past book past hand (AskedEnd lease seq answer) due is_past = tt

@@ -5,7 +5,7 @@ use Rattle.spnego_core.specs.declared.accept_end.AcceptEnd.{AcceptEnd}
 use Rattle.spnego_core.specs.declared.outcome.Outcome.{Outcome}
 use Rattle.spnego_core.specs.declared.setup.AcceptSetup.{AcceptSetup}
 use Rattle.context_table.specs.declared.slot.Slot.{Slot as TableSlot}
-use Rattle.context_table.specs.Places.{Places, IsPast, slot_at}
+use Rattle.context_table.specs.Places.{Places, slot_at}
 use Rattle.accept_book.specs.declared.book_answer.NegAnswer.{NegAnswer}
 use Rattle.accept_book.specs.declared.book_answer.NegAnswer.TheVariants as answers
 use Rattle.accept_book.specs.declared.book_answer.Negotiated.{Negotiated}
@@ -18,7 +18,7 @@ use Rattle.accept_book.specs.Found.{fixes_of}
 use Rattle.accept_core.specs.History.{Unknown, standing, numbers}
 use Rattle.accept_book.specs.RecordShown.{Asked, AskedStep, AskedLook, AskedAdmit, AskedEnd}
 use Rattle.accept_core.specs.Replays.{SameSlot}
-use Rattle.accept_core.specs.Stepping.{context_of}
+use Rattle.accept_core.specs.Stepping.{context_of, IsNext}
 use Rattle.gss_client.specs.Session.{SessionState}
 use Rattle.accept_book.specs.BookAnswers.{BookStepped}
 use Rattle.gss_server.specs.Asking.{BookAnswers}
@@ -78,7 +78,7 @@ held-start w begins =
 -- ---- a question to the book
 
 step-passes : (laws : BookLaws) (old : World) (id past : Option ℕ) (token : List ℕ) (now : ℕ) (draws : List ℕ) (result : Negotiated) (book : BookOf) → Held old → IsBook book
-    → IsPast old.book.core.table (max old.book.core.cache.greatest now) past → BookStepped old.book book id token now draws result
+    → IsNext old.book.core.table (max old.book.core.cache.greatest now) past → BookStepped old.book book id token now draws result
     → Passes (old.fixed ++ option_to_list (fixes_by old.book past (AskedStep id token now draws result))) book
 step-passes laws old id past token now draws result book held is late stepped = go result.answer refl
   where
@@ -96,11 +96,11 @@ step-passes laws old id past token now draws result book held is late stepped = 
     go answers.NoMemory e = short-passes old id token now draws result book held stepped e
 
 question-passes : (laws : BookLaws) (old : World) (past : Option ℕ) (hand : InHand) (asked : Asked) (book : BookOf) → Held old → IsBook book
-    → IsPast old.book.core.table (max old.book.core.cache.greatest hand.kept.now) past → (ruling_of hand).due ≡ Some (question_of asked) → BookAnswers old.book asked book
+    → IsNext old.book.core.table (max old.book.core.cache.greatest hand.kept.now) past → (ruling_of hand).due ≡ Some (question_of asked) → BookAnswers old.book asked book
     → Passes (old.fixed ++ option_to_list (fixes_by old.book past asked)) book
 question-passes laws old past hand (AskedStep id token now draws result) book held is late due answers =
     step-passes laws old id past token now draws result book held is
-    (subst (λ (n : ℕ). IsPast old.book.core.table (max old.book.core.cache.greatest n) past) (sym (due-moment hand.octets hand.kept told_width id token now draws due)) late) answers
+    (subst (λ (n : ℕ). IsNext old.book.core.table (max old.book.core.cache.greatest n) past) (sym (due-moment hand.octets hand.kept told_width id token now draws due)) late) answers
 question-passes laws old past hand (AskedLook id now answer) book held is late due answers = look-passes old id now answer book held answers
 question-passes laws old past hand (AskedAdmit lease seq procedure args answer) book held is late due answers = admit-passes old lease seq procedure args answer book held answers
 question-passes laws old past hand (AskedEnd lease seq answer) book held is late due answers = end-passes old lease seq answer book held answers

@@ -6,7 +6,7 @@ use Rattle.spnego_core.specs.declared.outcome.Outcome.{Outcome}
 use Rattle.spnego_core.specs.declared.setup.AcceptSetup.{AcceptSetup}
 use Rattle.spnego_core.specs.Accepting.{Fixed, Accepted}
 use Rattle.context_table.specs.declared.slot.Slot.{Slot as TableSlot}
-use Rattle.context_table.specs.Places.{Places, IsPast, slot_at, Marks, KeepsOthers}
+use Rattle.context_table.specs.Places.{Places, slot_at, Marks, KeepsOthers}
 use Rattle.accept_core.specs.declared.answer.AdmitRefusal.{AdmitRefusal}
 use Rattle.accept_core.specs.declared.answer.LookRefusal.{LookRefusal}
 use Rattle.accept_book.specs.declared.book_answer.Lease.{Lease}
@@ -22,7 +22,7 @@ use Rattle.accept_book.specs.Booking.{BookOf, raised, changed, change_refused, l
 use Rattle.accept_book.specs.BookLaws.{GoodContext, AllGood, BookLaws}
 use Rattle.accept_core.specs.Entering.{id_of}
 use Rattle.accept_book.specs.Found.{step_taken, fixes_of}
-use Rattle.accept_core.specs.Stepping.{Context as Slot, context_of}
+use Rattle.accept_core.specs.Stepping.{Context as Slot, context_of, IsNext}
 use Rattle.accept_book.specs.BookAnswers.{BookStepped, BookLooked, BookAdmitted, BookEnded}
 use Rattle.world_laws.specs.State.{Context, World}
 use Rattle.world_laws.specs.Events.{IsBook}
@@ -148,11 +148,11 @@ taken_in book id past token now draws = step_taken book.setup (raised book.core 
 abbrev added_in : BookOf → Option ℕ → Option Fixed → List Context
 added_in book id fixes = option_to_list (option_map (context_with (id_of id book.core.history)) fixes)
 
-pub comes-in : (old : World) (id past : Option ℕ) (token : List ℕ) (now : ℕ) (draws : List ℕ) (result : Negotiated) (book : BookOf) → IsPast old.book.core.table (max old.book.core.cache.greatest now) past
+pub comes-in : (old : World) (id past : Option ℕ) (token : List ℕ) (now : ℕ) (draws : List ℕ) (result : Negotiated) (book : BookOf) → IsNext old.book.core.table (max old.book.core.cache.greatest now) past
     → BookStepped old.book book id token now draws result → result.answer ≢ answers.NoMemory
     → Comes old.book.setup (raised old.book.core now) id past token now draws book.core.history book.core.table
 comes-in old id past token now draws result book is stepped memory =
-    let o = stepped.comes.outcome past is memory in record { history = o.history; contexts = o.contexts }
+    let o = stepped.comes.outcome past (λ first. is) memory in record { history = o.history; contexts = o.contexts }
 
 fact-passes : (laws : BookLaws) (old : World) (id past : Option ℕ) (token : List ℕ) (now : ℕ) (draws : List ℕ) (book : BookOf) (fixed : List Context) → Held old → book.setup ≡ old.book.setup
     → Comes old.book.setup (raised old.book.core now) id past token now draws book.core.history book.core.table

@@ -1,5 +1,5 @@
 -- What stays of a history that grew.
-use Rattle.std.proofs.Common.{◌≡◌, ◌≢◌, ◌∙◌, ℕ, ◌+◌, ◌<◌, ◌≤◌, Bool, true, false, List, [], ◌∷◌, length, Option, Some, None, refl, sym, subst, inl, inr, arith}
+use Rattle.std.proofs.Common.{◌≡◌, ◌≢◌, ◌∙◌, ℕ, ◌+◌, ◌<◌, ◌≤◌, List, [], ◌∷◌, length, Option, Some, None, refl, sym, subst, inl, inr, arith}
 use Rattle.std.proofs.lemmas.Bool.{cases_eq, eq-eqb, ne_eqb}
 use Rattle.std.proofs.lemmas.Option.{none-some, same_Some}
 use Rattle.gss_base.specs.declared.mark.Mark.{Mark}
@@ -94,15 +94,14 @@ pub quiet-after : {R : Type 0} (refusal : Option R) (entry : Entry) (h : List En
 quiet-after None entry h un = quiet-one entry h un
 quiet-after (Some refusal) entry h un = quiet-same h
 
-quiet-lapsed : (place : Bool) (past : Option ℕ) (h : List Entry) → Quiet h (lapsed place past h)
-quiet-lapsed true past h = quiet-same h
-quiet-lapsed false None h = quiet-same h
-quiet-lapsed false (Some id) h = quiet-one (Ended id Lapsed) h tt
+quiet-lapsed : (gone : Option ℕ) (h : List Entry) → Quiet h (lapsed gone h)
+quiet-lapsed None h = quiet-same h
+quiet-lapsed (Some id) h = quiet-one (Ended id Lapsed) h tt
 
-pub quiet-started : (id : Option ℕ) (place : Bool) (past : Option ℕ) (now : ℕ) (h : List Entry) → Quiet h (started id place past now h)
-quiet-started None place past now h =
-    quiet-then h (lapsed place past h) _ (quiet-lapsed place past h) (quiet-one (Opened (opened h + 1) now) (lapsed place past h) tt)
-quiet-started (Some id) place past now h = quiet-same h
+pub quiet-started : (id gone : Option ℕ) (now : ℕ) (h : List Entry) → Quiet h (started id gone now h)
+quiet-started None gone now h =
+    quiet-then h (lapsed gone h) _ (quiet-lapsed gone h) (quiet-one (Opened (opened h + 1) now) (lapsed gone h) tt)
+quiet-started (Some id) gone now h = quiet-lapsed gone h
 
 pub quiet-noted : (mark : Option Mark) (id now : ℕ) (h : List Entry) → Quiet h (noted mark id now h)
 quiet-noted None id now h = quiet-same h

@@ -23,7 +23,8 @@ use Rattle.accept_book.specs.declared.book_answer.NegAnswer.TheVariants as answe
 use Rattle.accept_core.specs.declared.entry.Entry.{Entry}
 use Rattle.accept_core.specs.declared.entry.Entry.TheVariants.{Went, Settled}
 use Rattle.accept_book.specs.Booking.{Stands, Outcomes, names_of, leaves, by_mark, by_step, mark_of, settled_of, later_step, begun, opened_by, gone_on_by, negotiated}
-use Rattle.accept_core.specs.Entering.{id_of, started, noted, entered, mark_refused}
+use Rattle.accept_core.specs.Entering.{id_of, lapsed, started, noted, finished, entered, mark_refused}
+use Rattle.accept_core.specs.Stepping.{goes_by}
 use Rattle.accept_core.specs.History.{Standing, Unknown, Open, Whole, Over, standing, taken_of}
 use Rattle.world_laws.proofs.HeldHistory.{Quiet, quiet-same, quiet-one, quiet-then, quiet-refusal, quiet-started, quiet-noted}
 
@@ -39,53 +40,47 @@ pub record Done (h : List Entry) (answer : NegAnswer) (new : List Entry) : Type 
 abbrev pub Told : List Entry → Outcomes → Type 0
 Told h o = Quiet h o.history ⊎ Done h o.answer o.history
 
-before-end : (id : Option ℕ) (place : Bool) (past : Option ℕ) (mark : Option Mark) (now : ℕ) (h : List Entry)
-    → Quiet h (noted mark (id_of id h) now (started id place past now h))
-before-end id place past mark now h =
-    quiet-then h (started id place past now h) (noted mark (id_of id h) now (started id place past now h))
-    (quiet-started id place past now h) (quiet-noted mark (id_of id h) now (started id place past now h))
+before-end : (id gone : Option ℕ) (mark : Option Mark) (now : ℕ) (h : List Entry) → Quiet h (noted mark (id_of id h) now (started id gone now h))
+before-end id gone mark now h =
+    quiet-then h (started id gone now h) (noted mark (id_of id h) now (started id gone now h))
+    (quiet-started id gone now h) (quiet-noted mark (id_of id h) now (started id gone now h))
 
-goes-on : (id : Option ℕ) (place : Bool) (past : Option ℕ) (mark : Option Mark) (state : AcceptEnd) (now : ℕ) (h : List Entry)
-    → Quiet h (entered {S = Outcome} id place past mark (nexts.Going state) now h)
-goes-on None place past mark state now h = before-end None place past mark now h
-goes-on (Some id) place past mark state now h =
-    quiet-then h (noted mark id now h) _ (before-end (Some id) place past mark now h) (quiet-one (Went id now) (noted mark id now h) tt)
+goes-on : (id gone : Option ℕ) (mark : Option Mark) (state : AcceptEnd) (now : ℕ) (h : List Entry) → Quiet h (entered {S = Outcome} id gone mark (nexts.Going state) now h)
+goes-on None gone mark state now h = before-end None gone mark now h
+goes-on (Some id) gone mark state now h =
+    quiet-then h (noted mark id now (lapsed gone h)) _ (before-end (Some id) gone mark now h) (quiet-one (Went id now) (noted mark id now (lapsed gone h)) tt)
 
-settles : (id : Option ℕ) (place : Bool) (past : Option ℕ) (mark : Option Mark) (outcome : Outcome) (lasts now : ℕ) (token : List ℕ) (h : List Entry)
+settles : (id gone : Option ℕ) (mark : Option Mark) (outcome : Outcome) (lasts now : ℕ) (token : List ℕ) (h : List Entry)
     → Done h (answers.Settled (record { id = id_of id h; outcome = outcome; ends = lasts }) token)
-    (entered {N = AcceptEnd} id place past mark (nexts.Settled outcome.mech (names_of outcome) outcome lasts) now h)
-settles None place past mark outcome lasts now token h = record {
-  lease = record { id = id_of None h; outcome = outcome; ends = lasts };
+    (entered {N = AcceptEnd} id gone mark (nexts.Settled outcome.mech (names_of outcome) outcome lasts) now h)
+settles id gone mark outcome lasts now token h = record {
+  lease = record { id = id_of id h; outcome = outcome; ends = lasts };
   last = token;
-  earlier = noted mark (id_of None h) now (started None place past now h);
+  earlier = noted mark (id_of id h) now (started id gone now h);
   at = now;
   answer_is = refl;
-  entry = refl;
-  quiet = before-end None place past mark now h;
+  entry = settled-entry (is_none id);
+  quiet = before-end id gone mark now h;
 }
-settles (Some id) place past mark outcome lasts now token h = record {
-  lease = record { id = id; outcome = outcome; ends = lasts };
-  last = token;
-  earlier = noted mark id now h;
-  at = now;
-  answer_is = refl;
-  entry = refl;
-  quiet = before-end (Some id) place past mark now h;
-}
+  where
+    settled-entry : (first : Bool) → finished {N = AcceptEnd} first (nexts.Settled outcome.mech (names_of outcome) outcome lasts) (id_of id h) now (noted mark (id_of id h) now (started id gone now h))
+        ≡ Settled (id_of id h) outcome.mech (names_of outcome) lasts now ∷ noted mark (id_of id h) now (started id gone now h)
+    settled-entry true = refl
+    settled-entry false = refl
 
 told-mark : (book : Stands) (id past : Option ℕ) (mark : Option Mark) (step : AcceptStep) (refusal : Option MarkRefusal)
     → Told book.history (by_mark book id past mark step refusal)
 told-mark book id past mark step (Some refusal) = inl (quiet-refusal id book.history)
 told-mark book id past mark (steps.More end token) None =
-    inl (goes-on id (nat_lt (live_of book.table) book.table.limit) past mark end book.greatest book.history)
+    inl (goes-on id (goes_by id (nexts.Going end) past book.history book.table) mark end book.greatest book.history)
 told-mark book id past mark (steps.Done outcome lasts token) None =
-    inr (settles id (nat_lt (live_of book.table) book.table.limit) past mark outcome lasts book.greatest token book.history)
+    inr (settles id (goes_by id (nexts.Settled outcome.mech (names_of outcome) outcome lasts) past book.history book.table) mark outcome lasts book.greatest token book.history)
 told-mark book id past mark (steps.WantsAuth pause) None = go pause.after
   where
     go : (after : Answered) → Told book.history (by_mark book id past mark (steps.WantsAuth (record pause { after = after })) None)
-    go (afters.More end token) = inl (goes-on id (nat_lt (live_of book.table) book.table.limit) past mark end book.greatest book.history)
+    go (afters.More end token) = inl (goes-on id (goes_by id (nexts.Going end) past book.history book.table) mark end book.greatest book.history)
     go (afters.Done outcome lasts token) =
-        inr (settles id (nat_lt (live_of book.table) book.table.limit) past mark outcome lasts book.greatest token book.history)
+        inr (settles id (goes_by id (nexts.Settled outcome.mech (names_of outcome) outcome lasts) past book.history book.table) mark outcome lasts book.greatest token book.history)
 
 told-step : (book : Stands) (id past : Option ℕ) (r : Result Accepted NegRefusal) → Told book.history (by_step book id past r)
 told-step book id past (Err refusal) = inl (quiet-refusal id book.history)

@@ -25,7 +25,7 @@ use Rattle.context_table.specs.declared.slot.Slot.{Slot as TableSlot}
 use Rattle.context_table.specs.declared.slot.SlotState.{SlotState}
 use Rattle.context_table.specs.declared.slot.SlotState.TheVariants as states
 use Rattle.context_table.specs.declared.slot.SlotState.TheVariants.{Negotiating, Complete}
-use Rattle.context_table.specs.Places.{IsPast, slot_at, state_of}
+use Rattle.context_table.specs.Places.{slot_at, state_of}
 use Rattle.context_table.specs.Slots.{state_taken}
 use Rattle.accept_book.specs.declared.book_answer.NegAnswer.{NegAnswer}
 use Rattle.accept_book.specs.declared.book_answer.NegAnswer.TheVariants as answers
@@ -39,7 +39,7 @@ use Rattle.accept_book.specs.BookLaws.{BookLaws, Lasting, fixed_in}
 use Rattle.accept_core.specs.Entering.{id_of}
 use Rattle.accept_book.specs.Found.{step_taken, found_of, end_before, stepped_from}
 use Rattle.accept_book.specs.RecordShown.{Asked, AskedStep, AskedLook, AskedAdmit, AskedEnd}
-use Rattle.accept_core.specs.Stepping.{Context as Slot, context_of}
+use Rattle.accept_core.specs.Stepping.{Context as Slot, context_of, IsNext}
 use Rattle.gss_server.specs.Asking.{BookAnswers}
 use Rattle.world_laws.specs.declared.event.WorldEvent.{WorldEvent}
 use Rattle.world_laws.specs.Deeds.{Deed}
@@ -161,7 +161,7 @@ told-settles laws old deed new tid past token now draws id held comes found (inl
 told-settles laws old deed new tid past token now draws id held comes found (inr d) s = done-settles laws old deed new tid past token now draws id held comes found d s
 
 -- what a lane's question settles
-step-settles : (laws : BookLaws) (old : World) (deed : Deed) (new : World) (tid past : Option ℕ) (token : List ℕ) (now : ℕ) (draws : List ℕ) (result : Negotiated) (id : ℕ) → Held old → IsPast old.book.core.table (max old.book.core.cache.greatest now) past
+step-settles : (laws : BookLaws) (old : World) (deed : Deed) (new : World) (tid past : Option ℕ) (token : List ℕ) (now : ℕ) (draws : List ℕ) (result : Negotiated) (id : ℕ) → Held old → IsNext old.book.core.table (max old.book.core.cache.greatest now) past
     → BookStepped old.book new.book tid token now draws result → deed.found ≡ found_of (step_taken old.book.setup (raised old.book.core now) tid past token now draws) → WasSettled new.book.core.history id → SettledBy old deed new id
 step-settles laws old deed new tid past token now draws result id held late stepped found s = go result.answer refl
   where
@@ -183,11 +183,11 @@ quiet-settles old deed new id quiet s = inl (from-quiet old.book.core.history ne
 same-settles : (old : World) (deed : Deed) (new : World) (id : ℕ) → new.book ≡ old.book → WasSettled new.book.core.history id → SettledBy old deed new id
 same-settles old deed new id same s = inl (subst (λ (b : BookOf). WasSettled b.core.history id) same s)
 
-question-settles : (laws : BookLaws) (old : World) (past : Option ℕ) (hand : InHand) (asked : Asked) (deed : Deed) (new : World) (id : ℕ) → Held old → IsPast old.book.core.table (max old.book.core.cache.greatest hand.kept.now) past
+question-settles : (laws : BookLaws) (old : World) (past : Option ℕ) (hand : InHand) (asked : Asked) (deed : Deed) (new : World) (id : ℕ) → Held old → IsNext old.book.core.table (max old.book.core.cache.greatest hand.kept.now) past
     → (ruling_of hand).due ≡ Some (question_of asked) → BookAnswers old.book asked new.book → deed.found ≡ found_by old.book past hand asked → WasSettled new.book.core.history id → SettledBy old deed new id
 question-settles laws old past hand (AskedStep tid token now draws result) deed new id held late due said found s =
     step-settles laws old deed new tid past token now draws result id held
-    (subst (λ (n : ℕ). IsPast old.book.core.table (max old.book.core.cache.greatest n) past) (sym (due-moment hand.octets hand.kept told_width tid token now draws due)) late) said found s
+    (subst (λ (n : ℕ). IsNext old.book.core.table (max old.book.core.cache.greatest n) past) (sym (due-moment hand.octets hand.kept told_width tid token now draws due)) late) said found s
 question-settles laws old past hand (AskedLook number now answer) deed new id held late due said found s =
     quiet-settles old deed new id (subst (λ (h : List Entry). Quiet old.book.core.history h) (sym said.looked.history) (quiet-same old.book.core.history)) s
 question-settles laws old past hand (AskedAdmit lease seq procedure args (Ok admitted)) deed new id held late due said found s =

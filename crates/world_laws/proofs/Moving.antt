@@ -12,12 +12,11 @@ use Rattle.gss_client.specs.declared.refusal.ClientRefusal.TheVariants.{BadReply
 use Rattle.gss_client.specs.declared.refusal.ReplyWhy.TheVariants.{Verifier, Steps, Width}
 use Rattle.gss_client.specs.Creation.{OfferSays, CreatedSays}
 use Rattle.gss_client.specs.Creation as creations
-use Rattle.rpcsec_bodies.specs.declared.service.Service.TheVariants.{Integrity}
 use Rattle.gss_client.specs.Judging.{◌>>=◌, due, is_verified, GrantedValue, granted_in, negotiated, by_step, creation_by, creation_step}
 use Rattle.gss_client.specs.Session.{xid_after}
 use Rattle.gss_client.specs.Talk.{begun}
 use Rattle.world_laws.specs.Stages as stages
-use Rattle.world_laws.specs.Initiators.{Moved, refused, started_by, starts, initiated_by, initiated_with, initiated, handed_out, verified, window_found, created_by, takes}
+use Rattle.world_laws.specs.Initiators.{own_terms, Moved, refused, started_by, starts, initiated_by, initiated_with, initiated, handed_out, verified, window_found, created_by, takes}
 
 -- ---- it starts
 
@@ -107,7 +106,7 @@ pub record Stood (xid : ℕ) (end : EndSays) (octets : List ℕ) (moved : Moved)
   pub outcome : Outcome
   pub handle : List ℕ
   pub by : SteppedBy end xid octets (creations.Stands outcome handle)
-  pub stage : moved.stage ≡ stages.Stands (begun Integrity first (xid_after xid) outcome handle)
+  pub stage : moved.stage ≡ stages.Stands (begun own_terms first (xid_after xid) outcome handle)
   pub lost : moved.lost ≡ stages.Over
   pub makes : moved.makes ≡ by.taken.makes
   pub found : moved.found ≡ by.taken.found ++ window_found outcome (granted_in xid octets)

@@ -18,6 +18,7 @@ use Rattle.rpc_msgs.specs.declared.xdr_reader.XdrRefusal.{XdrRefusal}
 use Rattle.rpcsec_msgs.specs.Bodies.{checked_at, sealed_at}
 use Rattle.rpcsec_msgs.specs.Cred.{CredValue}
 use Rattle.scram_mech.specs.MechMaking.{OfType, MechMaking, AmongMakings, typed}
+use Rattle.accept_core.specs.Stepping.{IsNext}
 use Rattle.accept_book.specs.declared.book_answer.Lease.{Lease}
 use Rattle.accept_core.specs.declared.entry.EndCause.TheVariants.{Destroyed}
 use Rattle.accept_core.specs.declared.entry.Entry.TheVariants.{Call, Ended}
@@ -27,7 +28,6 @@ use Rattle.accept_book.specs.RecordShown.{KeptAnswers, Admit, End, Asked, AskedS
 use Rattle.world_laws.specs.declared.event.WorldEvent.{WorldEvent}
 use Rattle.world_laws.specs.Deeds.{Deed}
 use Rattle.world_laws.specs.State.{InHand, Context, World}
-use Rattle.context_table.specs.Places.{IsPast}
 use Rattle.gss_server.specs.Asking.{BookAnswers}
 use Rattle.world_laws.specs.Lanes.{told_width, in_hand, ruling_of, question_of, secure_call_in, found_by, found_in_checked, found_in_sealed, found_in_body, found_in_header, found_in_call, found_in_end, Asks}
 use Rattle.world_laws.specs.Events.{Happens, Begins}
@@ -246,7 +246,7 @@ asks-evidence marking old lane hand octets now draws deed new held unforged g th
     own = in_hand hand octets now draws
 
     by : (asked : Asked) → (ruling_of own).due ≡ Some (question_of asked) → BookAnswers old.book asked new.book → deed.found ≡ found_by old.book a.past own asked
-        → IsPast old.book.core.table (max old.book.core.cache.greatest own.kept.now) a.past → Evidence marking new
+        → IsNext old.book.core.table (max old.book.core.cache.greatest own.kept.now) a.past → Evidence marking new
     by (AskedStep id token at drawn answer) due answers found is_past =
         silent-evidence marking old new g (silent-stepped old.book new.book id a.past token at drawn answer (asks-past old.book a.past own (AskedStep id token at drawn answer) due is_past) answers) e
     by (AskedLook id at answer) due answers found is_past = silent-evidence marking old new g (silent-same old.book.core.history new.book.core.history answers.looked.history) e

@@ -2,7 +2,7 @@
 use Rattle.std.proofs.Common.{◌≡◌, ◌⊎◌, inl, inr, ℕ, Bool, true, false, refl, sym, subst, List, ◌∷◌, length, max, Option, Some, None, Ok}
 use Rattle.std.specs.Prelude.{◌==◌, if◌then◌else◌}
 use Rattle.std.proofs.lemmas.Option.{same_Some}
-use Rattle.context_table.specs.Places.{IsPast}
+use Rattle.accept_core.specs.Stepping.{IsNext}
 use Rattle.accept_core.specs.declared.answer.AdmitRefusal.{AdmitRefusal}
 use Rattle.accept_book.specs.declared.book_answer.Negotiated.{Negotiated}
 use Rattle.accept_core.specs.declared.entry.Entry.{Entry}
@@ -42,11 +42,11 @@ silent-none h = silent-same h h refl
 silent-walk : Walk Silent
 silent-walk = record { none = silent-none; one = silent-one }
 
-pub silent-stepped : (old new : BookOf) (id past : Option ℕ) (token : List ℕ) (now : ℕ) (draws : List ℕ) (answer : Negotiated) → IsPast old.core.table (max old.core.cache.greatest now) past
+pub silent-stepped : (old new : BookOf) (id past : Option ℕ) (token : List ℕ) (now : ℕ) (draws : List ℕ) (answer : Negotiated) → IsNext old.core.table (max old.core.cache.greatest now) past
     → BookStepped old new id token now draws answer → Silent old.core.history new.core.history
 silent-stepped old new id past token now draws answer is_past b = elim (memory-cases answer.answer) [
   | inl short ↦ subst (Silent old.core.history) (sym (b.comes.memory short).history) (refusal-walk silent-walk id old.core.history)
-  | inr enough ↦ subst (Silent old.core.history) (sym (b.comes.outcome past is_past enough).history) (negotiated-walk silent-walk old.setup (raised old.core now) id past token now draws)
+  | inr enough ↦ subst (Silent old.core.history) (sym (b.comes.outcome past (λ first. is_past) enough).history) (negotiated-walk silent-walk old.setup (raised old.core now) id past token now draws)
 ]
 
 -- ---- an admission, and an end

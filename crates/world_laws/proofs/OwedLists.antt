@@ -1,5 +1,5 @@
 -- A context whose list's MIC is owed was fixed with that list.
-use Rattle.std.proofs.Common.{◌≡◌, ◌≢◌, ◌⊎◌, ◌∙◌, ℕ, Bool, true, false, not, nat_lt, if◌then◌else◌, List, [], ◌∷◌, ◌++◌, length, map, slice_get, Option, None, Some, option_map, option_to_list, append-nil, refl, sym, ap, subst, inl, inr, max}
+use Rattle.std.proofs.Common.{◌≡◌, ◌≢◌, ◌⊎◌, ◌∙◌, ℕ, Bool, true, false, not, if◌then◌else◌, List, [], ◌∷◌, ◌++◌, length, map, slice_get, Option, None, Some, option_map, option_to_list, append-nil, refl, sym, ap, subst, inl, inr, max}
 use Rattle.std.specs.Prelude.{Result, Ok, Err}
 use Rattle.std.proofs.lemmas.Bool.{cases_eq}
 use Rattle.std.proofs.lemmas.Option.{none-some, same_Some}
@@ -44,18 +44,18 @@ use Rattle.spnego_core.specs.Accepting.{Fixed, Accepted, reply, oid_chosen, fini
 use Rattle.context_table.specs.declared.slot.SlotState.{SlotState}
 use Rattle.context_table.specs.declared.slot.SlotState.TheVariants as states
 use Rattle.context_table.specs.declared.slot.SlotState.TheVariants.{Negotiating, Complete}
-use Rattle.context_table.specs.Places.{Places, IsPast, live_of}
+use Rattle.context_table.specs.Places.{Places}
 use Rattle.accept_core.specs.declared.entry.Entry.{Entry}
 use Rattle.accept_book.specs.declared.book_answer.NegAnswer.{NegAnswer}
 use Rattle.accept_book.specs.declared.book_answer.NegAnswer.TheVariants as answers
 use Rattle.accept_book.specs.declared.book_answer.Negotiated.{Negotiated}
 use Rattle.accept_book.specs.BookAnswers.{BookStepped}
-use Rattle.accept_book.specs.Booking.{BookOf, Stands, Change, changed, lapsed_by, next_of, raised, settled_of, negotiated, Outcomes}
+use Rattle.accept_book.specs.Booking.{BookOf, Stands, Change, changed, next_of, raised, settled_of, negotiated, Outcomes}
 use Rattle.accept_book.specs.BookLaws.{AllGood, BookLaws}
 use Rattle.accept_core.specs.Entering.{id_of}
 use Rattle.accept_book.specs.Found.{step_taken, fixes_of, stepped_from}
 use Rattle.accept_book.specs.RecordShown.{Asked, AskedStep, AskedLook, AskedAdmit, AskedEnd}
-use Rattle.accept_core.specs.Stepping.{Context as Slot, context_after, until_of}
+use Rattle.accept_core.specs.Stepping.{Context as Slot, context_after, until_of, IsNext, goes_by}
 use Rattle.accept_book.proofs.Founds.{taken_is, own_is}
 use Rattle.gss_server.specs.Asking.{BookAnswers}
 use Rattle.world_laws.specs.declared.event.WorldEvent.{WorldEvent}
@@ -227,7 +227,7 @@ own-owes setup book id past token now draws accepted before owing taken e =
     let after : Slot AcceptEnd Outcome = context_after (until_of id book.greatest book.table) (next_of (settled_of accepted.step)) in
     let is : owing_in (changed (negotiated setup book id past token now draws).change (id_of id book.history) before) ≡ owing_step accepted.step =
     ap (λ (z : Outcomes). owing_in (changed z.change (id_of id book.history) before)) t.is
-    ∙ (ap owing_in (own_is (lapsed_by id (nat_lt (live_of book.table) book.table.limit) past) (id_of id book.history) after before) ∙ owing-next (until_of id book.greatest book.table) accepted.step) in
+    ∙ (ap owing_in (own_is (goes_by id (next_of (settled_of accepted.step)) past book.history book.table) (id_of id book.history) after before) ∙ owing-next (until_of id book.greatest book.table) accepted.step) in
     o.owes owing (sym is ∙ e)
 
 own-fixed : (setup : AcceptSetup) (book : Stands) (id past : Option ℕ) (token : List ℕ) (now : ℕ) (draws : List ℕ) (h : List Entry) (table : Places AcceptEnd Outcome) (accepted : Accepted) (x : ℕ) (owing : Owing)
@@ -312,7 +312,7 @@ by-taken laws wide setup book id past token now draws h table (Some accepted) fi
 
 -- ---- a question to the book
 
-step-lists : (laws : BookLaws) (old : World) (id past : Option ℕ) (token : List ℕ) (now : ℕ) (draws : List ℕ) (result : Negotiated) (book : BookOf) → Held old → IsPast old.book.core.table (max old.book.core.cache.greatest now) past
+step-lists : (laws : BookLaws) (old : World) (id past : Option ℕ) (token : List ℕ) (now : ℕ) (draws : List ℕ) (result : Negotiated) (book : BookOf) → Held old → IsNext old.book.core.table (max old.book.core.cache.greatest now) past
     → BookStepped old.book book id token now draws result → OwedLists (contexts_of old.book.core.table) old.fixed
     → OwedLists (contexts_of book.core.table) (old.fixed ++ option_to_list (fixes_by old.book past (AskedStep id token now draws result)))
 step-lists laws old id past token now draws result book held late stepped lists = go result.answer refl
@@ -335,12 +335,12 @@ step-lists laws old id past token now draws result book held late stepped lists 
 same-lists : (old : World) (book : BookOf) → book ≡ old.book → OwedLists (contexts_of old.book.core.table) old.fixed → OwedLists (contexts_of book.core.table) (old.fixed ++ [])
 same-lists old book same lists = subst (λ (b : BookOf). OwedLists (contexts_of b.core.table) (old.fixed ++ [])) (sym same) (none-more (contexts_of old.book.core.table) old.fixed lists)
 
-question-lists : (laws : BookLaws) (old : World) (past : Option ℕ) (hand : InHand) (asked : Asked) (book : BookOf) → Held old → IsPast old.book.core.table (max old.book.core.cache.greatest hand.kept.now) past
+question-lists : (laws : BookLaws) (old : World) (past : Option ℕ) (hand : InHand) (asked : Asked) (book : BookOf) → Held old → IsNext old.book.core.table (max old.book.core.cache.greatest hand.kept.now) past
     → (ruling_of hand).due ≡ Some (question_of asked) → BookAnswers old.book asked book → OwedLists (contexts_of old.book.core.table) old.fixed
     → OwedLists (contexts_of book.core.table) (old.fixed ++ option_to_list (fixes_by old.book past asked))
 question-lists laws old past hand (AskedStep id token now draws result) book held late due said lists =
     step-lists laws old id past token now draws result book held
-    (subst (λ (n : ℕ). IsPast old.book.core.table (max old.book.core.cache.greatest n) past) (sym (due-moment hand.octets hand.kept told_width id token now draws due)) late) said lists
+    (subst (λ (n : ℕ). IsNext old.book.core.table (max old.book.core.cache.greatest n) past) (sym (due-moment hand.octets hand.kept told_width id token now draws due)) late) said lists
 question-lists laws old past hand (AskedLook id now answer) book held late due said lists =
     none-more (contexts_of book.core.table) old.fixed
     (lists-stay old.fixed (contexts_of old.book.core.table) (contexts_of book.core.table) lists (λ k. inl (ap (λ (t : Places AcceptEnd Outcome). contexts_of t k) said.looked.table)))

@@ -14,7 +14,9 @@ use Rattle.spnego_core.specs.Initiating.{Started, Initiated, init_start, init_st
 use Rattle.gss_client.specs.declared.refusal.ClientRefusal.{ClientRefusal}
 use Rattle.gss_client.specs.Creation.{CreatedSays}
 use Rattle.gss_client.specs.Creation as created
+use Rattle.rpc_msgs.specs.declared.numbers.TheConstants.{PROGRAM, VERSION}
 use Rattle.rpcsec_bodies.specs.declared.service.Service.TheVariants.{Integrity}
+use Rattle.gss_client.specs.declared.terms.Terms.{Terms}
 use Rattle.gss_client.specs.Calling.{creation_call, header_of, data_call, destroy_call, own_end}
 use Rattle.gss_client.specs.Judging.{GrantedValue, granted_in, creation_step}
 use Rattle.gss_client.specs.Session.{SessionState, session_after, xid_after}
@@ -44,6 +46,10 @@ abbrev pub refused : Moved
 refused =
     record { stage = stages.Over; lost = stages.Over; answer = Refused; makes = []; found = [] }
 
+-- what it calls: the server's program (RFC 5531 section 9), by integrity
+abbrev pub own_terms : Terms
+own_terms = record { service = Integrity; program = PROGRAM; version = VERSION }
+
 -- ---- it starts: the first creation call has its first token
 
 -- what it does by how its negotiation began: it sends its first creation call, or refused
@@ -52,7 +58,7 @@ started_by (Err refusal) = refused
 started_by (Ok started) = record {
   stage = stages.Asks 1 started.end;
   lost = stages.Over;
-  answer = Sent (creation_call Integrity 1 1 [] started.token);
+  answer = Sent (creation_call own_terms 1 1 [] started.token);
   makes = started.makes;
   found = [];
 }
@@ -102,12 +108,12 @@ created_by first xid end octets (Err refusal) = refused
 created_by first xid end octets (Ok (created.Going offer)) = record {
   stage = stages.Asks (xid_after xid) offer.end;
   lost = stages.Over;
-  answer = Sent (creation_call Integrity (xid_after xid) 2 offer.handle offer.token);
+  answer = Sent (creation_call own_terms (xid_after xid) 2 offer.handle offer.token);
   makes = handed_out (initiated xid end octets);
   found = verified (initiated xid end octets);
 }
 created_by first xid end octets (Ok (created.Stands outcome handle)) = record {
-  stage = stages.Stands (begun Integrity first (xid_after xid) outcome handle);
+  stage = stages.Stands (begun own_terms first (xid_after xid) outcome handle);
   lost = stages.Over;
   answer = Completed outcome;
   makes = handed_out (initiated xid end octets);

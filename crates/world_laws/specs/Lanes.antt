@@ -32,7 +32,7 @@ use Rattle.spnego_core.specs.declared.accept_end.AcceptEnd.TheVariants as ends
 use Rattle.spnego_core.specs.Accepting.{Fixed, Accepted}
 use Rattle.spnego_core.specs.Choice.{best, is_first_named}
 use Rattle.spnego_core.specs.Tokens.{init_read, resp_read}
-use Rattle.context_table.specs.Places.{IsPast}
+use Rattle.accept_core.specs.Stepping.{IsNext}
 use Rattle.accept_book.specs.declared.book_answer.Lease.{Lease}
 use Rattle.accept_book.specs.declared.book_answer.NegAnswer.{NegAnswer}
 use Rattle.accept_book.specs.declared.book_answer.NegAnswer.TheVariants as answers
@@ -313,7 +313,7 @@ pub record Asks (old : World) (lane : ℕ) (hand : InHand) (deed : Deed) (new : 
   pub asked : Asked
   pub due : (ruling_of hand).due ≡ Some (question_of asked)
   pub past : Option ℕ
-  pub is_past : IsPast old.book.core.table (max old.book.core.cache.greatest hand.kept.now) past
+  pub is_past : IsNext old.book.core.table (max old.book.core.cache.greatest hand.kept.now) past
   pub answers : BookAnswers old.book asked new.book
   pub left : Option InHand
   pub follows : Follows (hand_after hand asked) deed.answer left

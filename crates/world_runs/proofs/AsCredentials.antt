@@ -9,7 +9,6 @@ use Rattle.spnego_core.specs.Initiating.{Started, sent_of, init_start}
 use Rattle.init_ends.specs.Ends.{EndMeans}
 use Rattle.init_ends.specs.Initiating.{end_start, end_step}
 use Rattle.init_ends.specs.Plain.{objects_of, StartsAs, plain_of, PlainLaw}
-use Rattle.rpcsec_bodies.specs.declared.service.Service.TheVariants.{Integrity}
 use Rattle.gss_client.specs.declared.refusal.ClientRefusal.{ClientRefusal}
 use Rattle.gss_client.specs.Calling.{creation_call}
 use Rattle.gss_client.specs.Creation.{CreatedMeans, CreatedSays}
@@ -20,7 +19,7 @@ use Rattle.gss_client.specs.Session.{SessionState, xid_after}
 use Rattle.gss_client.specs.Talk.{begun}
 use Rattle.world_laws.specs.declared.event.Happened.TheVariants.{Sent, Completed}
 use Rattle.world_laws.specs.Stages.{StageSays, Ready, Asks, Stands, Left, Over}
-use Rattle.world_laws.specs.Initiators.{Moved, starts, started_by, takes, created_by}
+use Rattle.world_laws.specs.Initiators.{own_terms, Moved, starts, started_by, takes, created_by}
 use Rattle.world_runs.specs.Passing.{started_from, taken_from, called_with, called_from}
 use Rattle.world_runs.specs.Objects.{StageMeans, StageAs, may_go, plain_asks, plain_stage}
 use Rattle.world_runs.specs.Objects as objects
@@ -46,7 +45,7 @@ starting : (r : Result (EndMeans × List ℕ) NegRefusal) (p : Result Started Ne
 starting (Ok started) (Ok plain) both = record {
   stage = record { end = started.0; stage_is = refl; stands = both.0 };
   lost = refl;
-  answer = ap (λ (token : List ℕ). Sent (creation_call Integrity 1 1 [] token)) both.1;
+  answer = ap (λ (token : List ℕ). Sent (creation_call own_terms 1 1 [] token)) both.1;
 }
 starting (Ok started) (Err refusal) never = absurd never
 starting (Err refusal) (Ok plain) never = absurd never
@@ -56,14 +55,14 @@ taking : (first xid : ℕ) (end : EndSays) (octets : List ℕ) (r : Result Creat
 taking first xid end octets (Ok (created.Going offer)) (Ok (created.Going plain)) both = record {
   stage = record { end = offer.end; stage_is = refl; stands = both.0 };
   lost = refl;
-  answer = ap (λ (handle : List ℕ). Sent (creation_call Integrity (xid_after xid) 2 handle offer.token)) both.1
-      ∙ ap (λ (token : List ℕ). Sent (creation_call Integrity (xid_after xid) 2 plain.handle token)) both.2;
+  answer = ap (λ (handle : List ℕ). Sent (creation_call own_terms (xid_after xid) 2 handle offer.token)) both.1
+      ∙ ap (λ (token : List ℕ). Sent (creation_call own_terms (xid_after xid) 2 plain.handle token)) both.2;
 }
 taking first xid end octets (Ok (created.Going offer)) (Ok (created.Stands outcome handle)) never = absurd never
 taking first xid end octets (Ok (created.Stands outcome handle)) (Ok (created.Going plain)) never = absurd never
 taking first xid end octets (Ok (created.Stands outcome handle)) (Ok (created.Stands plain own)) both = record {
-  stage = ap (λ (o : Outcome). objects.Stands (begun Integrity first (xid_after xid) o handle)) both.0
-      ∙ ap (λ (h : List ℕ). objects.Stands (begun Integrity first (xid_after xid) plain h)) both.1;
+  stage = ap (λ (o : Outcome). objects.Stands (begun own_terms first (xid_after xid) o handle)) both.0
+      ∙ ap (λ (h : List ℕ). objects.Stands (begun own_terms first (xid_after xid) plain h)) both.1;
   lost = refl;
   answer = ap (λ (o : Outcome). Completed o) both.0;
 }

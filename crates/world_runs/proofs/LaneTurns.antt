@@ -15,7 +15,7 @@ use Rattle.world_laws.specs.Deeds.{Deed, quiet}
 use Rattle.world_laws.specs.State.{InHand, World}
 use Rattle.world_laws.specs.Lanes.{told_width, ruling_of, hand_after, IsAnswer, if_answered, makes_by, found_by, opened_by, fixes_by, with_lane, LaneMoves}
 use Rattle.world_runs.specs.Turning.{TurnAnswers, said_by, Turned}
-use Rattle.history_laws.proofs.Past.{past-of}
+use Rattle.accept_core.proofs.Nexts.{next-of}
 use Rattle.world_laws.proofs.RulingPlan.{rulings, record-planned}
 use Rattle.world_runs.proofs.RulingTurns.{begins, ruling_after, Came, came}
 
@@ -47,7 +47,7 @@ pub turned-over : (book : BookOf) (octets : List ℕ) (now : ℕ) (draws : List 
     → Turned book (hand_with octets now draws looked) end.book None said
 turned-over book octets now draws looked end kept said over (inl c) = inl (record { answers = c.answers; unchanged = c.unchanged; nothing = refl })
 turned-over book octets now draws looked end kept said over (inr (inl c)) =
-    let past = past-of book.core.table (max book.core.cache.greatest now) in
+    let past = next-of book.core.table (max book.core.cache.greatest now) in
     inr (record {
       asked = c.asked;
       due = c.due;
@@ -65,7 +65,7 @@ pub turned-further : (book : BookOf) (octets : List ℕ) (now : ℕ) (draws : Li
 turned-further book octets now draws looked end kept said more (inl c) = absurd (true≢false (sym more ∙ c.nothing))
 turned-further book octets now draws looked end kept said more (inr (inl c)) = absurd (true≢false (sym more ∙ c.nothing))
 turned-further book octets now draws looked end kept said more (inr (inr c)) =
-    let past = past-of book.core.table (max book.core.cache.greatest now) in
+    let past = next-of book.core.table (max book.core.cache.greatest now) in
     inr (record {
       asked = AskedLook c.id c.moment c.answer;
       due = c.due;

@@ -6,11 +6,11 @@ pub mod Turns
 mod MetTokens
 mod MetTexts
 mod MetMessages
-mod MetRounds
+pub mod MetRounds
 mod MetFinishes
 mod MetHonest
-mod MetPairs
-mod MetEvents
+pub mod MetPairs
+pub mod MetEvents
 mod MetStays
 pub mod MetCalled
 mod MetCalls

@@ -33,12 +33,11 @@ use Rattle.accept_book.specs.Served.{are_args}
 use Rattle.accept_book.proofs.HonestMakings.{mic-made}
 use Rattle.rpcsec_bodies.proofs.Lengths.{mic-size}
 use Rattle.rpcsec_bodies.specs.Protection.{protected}
-use Rattle.rpcsec_bodies.specs.declared.service.Service.TheVariants.{Integrity}
 use Rattle.gss_client.specs.Calling.{header_of, verifier_of, signed_call, data_call}
 use Rattle.gss_client.specs.Session.{SessionState}
 use Rattle.gss_client.specs.Talk.{begun}
 use Rattle.gss_client.proofs.CallLengths.{cred-fits}
-use Rattle.world_laws.specs.Initiators.{header_making, call_makings}
+use Rattle.world_laws.specs.Initiators.{own_terms, header_making, call_makings}
 use Rattle.world_laws.specs.Lanes.{found_in_checked, secure_call_in, found_in_header, found_in_body, found_in_call}
 
 -- a call of a session, which has this outcome and this context's handle
@@ -57,7 +56,7 @@ pub record Made : Type 0 where
   pub size : length args ≤ 65540
 
 abbrev pub session_of : Made → SessionState
-session_of m = begun Integrity m.number m.xid m.outcome (handle_of m.id)
+session_of m = begun own_terms m.number m.xid m.outcome (handle_of m.id)
 
 -- its record
 abbrev pub record_of : Made → List ℕ

@@ -1,5 +1,5 @@
 -- A turn of an honest exchange, event by event: a record comes to a lane, and the reply to the initiator.
-use Rattle.std.proofs.Common.{◌≡◌, ◌≢◌, inl, inr, ℕ, suc, ◌+◌, ◌*◌, ◌<◌, ◌≤◌, ◌^◌, true, false, lit<, lit≤, refl, sym, ap, ◌∙◌, subst, arith, nat_lt, nat_le, List, [], ◌∷◌, ◌++◌, length, map, take, slice_get, slice_set, option_map, option_to_list, Option, Some, None, Result, Ok}
+use Rattle.std.proofs.Common.{◌≡◌, ◌≢◌, inl, inr, ℕ, suc, ◌+◌, ◌*◌, ◌<◌, ◌≤◌, ◌^◌, false, lit<, lit≤, refl, sym, ap, ◌∙◌, subst, arith, nat_lt, nat_le, List, [], ◌∷◌, ◌++◌, length, map, take, slice_get, slice_set, option_map, option_to_list, Option, Some, None, Result, Ok}
 use Rattle.std.specs.Prelude.{max}
 use Rattle.std.proofs.lemmas.Bool.Decides.{nat_tests}
 use Rattle.std.proofs.lemmas.Option.{none-some, same_Some}
@@ -11,7 +11,6 @@ use Rattle.replay_cache.specs.Taking.{cache_verdict}
 use Rattle.rpc_msgs.specs.Words.{word}
 use Rattle.rpc_msgs.specs.Replies.{reply_octets}
 use Rattle.rpcsec_bodies.proofs.Lengths.{mic-size}
-use Rattle.rpcsec_bodies.specs.declared.service.Service.TheVariants.{Integrity}
 use Rattle.rpcsec_msgs.specs.InitRes.{IsInitRes}
 use Rattle.scram_mech.specs.MechMaking.{MechMaking, typed}
 use Rattle.spnego_core.specs.declared.accept_end.AcceptEnd.{AcceptEnd}
@@ -29,20 +28,23 @@ use Rattle.spnego_core.specs.Accepting.{Fixed, IsSettled, accept_step}
 use Rattle.spnego_core.specs.Exchange.{passed}
 use Rattle.spnego_core.specs.Initiating.{Started, Initiated, init_start, step_of}
 use Rattle.spnego_core.specs.Outcome.{token_end}
-use Rattle.context_table.specs.Places.{slot_at, live_of, IsPast}
+use Rattle.context_table.specs.Places.{slot_at, live_of}
 use Rattle.accept_core.specs.declared.answer.MarkRefusal.{MarkRefusal}
 use Rattle.accept_book.specs.declared.book_answer.NegAnswer.{NegAnswer}
 use Rattle.accept_book.specs.declared.book_answer.NegAnswer.TheVariants as answers
 use Rattle.accept_book.specs.declared.book_answer.Negotiated.{Negotiated}
 use Rattle.accept_core.specs.Answers.{mark_refusal}
 use Rattle.accept_book.specs.BookAnswers.{IsOutcome, BookStepped}
-use Rattle.accept_book.specs.Booking.{BookOf, Outcomes, NotesMoment, raised, mark_of, settled_of, next_of, answer_with, by_step, by_mark, negotiated, lapsed_by, Becomes}
+use Rattle.accept_book.specs.Booking.{BookOf, Outcomes, NotesMoment, raised, mark_of, settled_of, next_of, answer_with, by_step, by_mark, negotiated, Becomes}
 use Rattle.accept_core.specs.Entering.{id_of, entered, mark_refused}
 use Rattle.accept_book.specs.Found.{step_taken, makes_of, found_of, fixes_of, end_before, stepped_from}
 use Rattle.accept_core.specs.History.{numbers, taken_of}
 use Rattle.accept_book.specs.RecordRule.{stepped, ask_step, record_ruling}
 use Rattle.accept_book.specs.RecordShown.{KeptAnswers, Question, Negotiate, Look, Admit, End, Asked, AskedStep, AskedLook, AskedAdmit, AskedEnd, Ruling, handle_of}
-use Rattle.accept_core.specs.Stepping.{context_after, until_of}
+use Rattle.accept_core.specs.Aging.{in_use}
+use Rattle.accept_core.specs.declared.answer.Next.{Next}
+use Rattle.accept_core.specs.Stepping.{context_after, until_of, goes_by, IsNext}
+use Rattle.pair_laws.proofs.Readiness.{none-goes}
 use Rattle.gss_client.specs.declared.refusal.ClientRefusal.{ClientRefusal}
 use Rattle.gss_client.specs.Creation.{CreatedSays}
 use Rattle.gss_client.specs.Creation as created
@@ -51,6 +53,7 @@ use Rattle.gss_client.specs.Judging.{granted_in}
 use Rattle.gss_client.specs.Session.{SessionState, xid_after}
 use Rattle.gss_client.specs.Talk.{begun}
 use Rattle.gss_server.specs.Asking.{BookAnswers}
+use Rattle.pair_laws.specs.HonestCalls.{IsToServer}
 use Rattle.pair_laws.proofs.Granting.{granted_with, grants, result_with, result_on, window_mic, granting, going, creation-stands, creation-goes}
 use Rattle.pair_laws.proofs.Ruling.{proc_for, handle_for, IsId, creation_shown, asks}
 use Rattle.pair_laws.proofs.Settling.{Came, Negotiates, ComesTo, slot-state, steps-end}
@@ -61,7 +64,7 @@ use Rattle.world_laws.specs.Stages.{StageSays}
 use Rattle.world_laws.specs.Stages as stages
 use Rattle.world_laws.specs.Deeds.{Deed}
 use Rattle.world_laws.specs.State.{InHand, Context, World}
-use Rattle.world_laws.specs.Initiators.{started_by, starts, initiated_by, initiated_with, initiated, handed_out, verified, window_found, created_by, takes}
+use Rattle.world_laws.specs.Initiators.{own_terms, started_by, starts, initiated_by, initiated_with, initiated, handed_out, verified, window_found, created_by, takes}
 use Rattle.world_laws.specs.Lanes.{told_width, question_of, ruling_of, hand_after, found_by, makes_by, opened_in, opened_by, request_of, context_with, unless_short, fixes_by, IsAnswer, with_lane, if_answered, Follows, LaneMoves}
 use Rattle.world_laws.specs.Events.{Moves, LanesBy, Happens}
 use Rattle.world_laws.proofs.Due.{stepped-due}
@@ -71,7 +74,7 @@ use Rattle.world_laws.proofs.Undecided.{undecided, unanswered}
 
 -- a creation call: the first of a context, or a later one of this id
 abbrev pub call_of : ℕ → Option ℕ → List ℕ → List ℕ
-call_of xid id token = creation_call Integrity xid (proc_for id) (handle_for id) token
+call_of xid id token = creation_call own_terms xid (proc_for id) (handle_for id) token
 
 -- the world of the one initiator, which is at this stage; contexts have the id 1
 abbrev pub world_in : Setting → StageSays → BookOf → List (Option InHand) → List MechMaking → List Fixed → World
@@ -84,6 +87,7 @@ pub record Stays (x : Setting) (id : Option ℕ) (end : AcceptEnd) (left : ℕ) 
   pub comes : ComesTo id book.core end
   pub own : id_of id book.core.history ≡ 1
   pub few : id ≡ None → live_of book.core.table < book.core.table.limit
+  pub unused : in_use book.core.history ≡ []
   pub room : length book.core.history + 2 + 2 * left ≤ book.core.limit
   pub uncalled : numbers 1 book.core.history ≡ []
   pub untaken : fixed ≡ [] → taken_of book.core.history ≡ []
@@ -128,8 +132,11 @@ hand_of c = record { octets = call_of c.xid c.id c.token; kept = kept_first c }
 abbrev question : Case → Question
 question c = Negotiate c.id c.token c.x.now (drawn_of c)
 
+to-server : IsToServer own_terms
+to-server = record { program = refl; version = refl }
+
 due-is : (c : Case) → (ruling_of (hand_of c)).due ≡ Some (question c)
-due-is c = ap (λ (r : Ruling). r.due) (asks Integrity c.xid c.id c.token (kept_first c) told_width c.xid_fits c.is_id c.short)
+due-is c = ap (λ (r : Ruling). r.due) (asks own_terms c.xid c.id c.token (kept_first c) told_width to-server c.xid_fits c.is_id c.short)
 
 -- ---- the step that the book takes
 
@@ -142,8 +149,9 @@ room c = let some = enough c in grind (arith, nat_tests)
 place : (c : Case) → c.id ≡ None → nat_le c.book.core.table.limit (live_of c.book.core.table) ≡ false
 place c none = let few = c.stays.few none in grind (arith, nat_tests)
 
-pub has-place : (c : Case) → c.id ≡ None → nat_lt (live_of c.book.core.table) c.book.core.table.limit ≡ true
-has-place c none = let few = c.stays.few none in grind (arith, nat_tests)
+-- no context goes for a step
+pub goes-alone : (c : Case) (past : Option ℕ) (step : Next AcceptEnd Outcome) → goes_by c.id step past c.book.core.history c.book.core.table ≡ None
+goes-alone c past step = none-goes c.id step past c.book.core.history c.book.core.table c.stays.unused c.stays.few
 
 here : (c : Case) → accept_step c.book.setup c.end c.token c.x.now (drawn_of c) ≡ Ok c.heard.accepted
 here c = subst (λ (s : AcceptSetup). accept_step s c.end c.token c.x.now (drawn_of c) ≡ Ok c.heard.accepted) (sym c.stays.setup) c.heard.accepts
@@ -174,8 +182,8 @@ comes_of c past = negotiated c.book.setup (raised c.book.core c.x.now) c.id past
 
 pub came : (c : Case) (past : Option ℕ) → comes_of c past ≡ record {
   answer = answer_with (id_of c.id c.book.core.history) (step_in c);
-  history = entered c.id (nat_lt (live_of c.book.core.table) c.book.core.table.limit) past (mark_of c.heard.accepted.step) (next_of (step_in c)) (max c.book.core.cache.greatest c.x.now) c.book.core.history;
-  change = Becomes (lapsed_by c.id (nat_lt (live_of c.book.core.table) c.book.core.table.limit) past) (id_of c.id c.book.core.history) (context_after (until_of c.id (max c.book.core.cache.greatest c.x.now) c.book.core.table) (next_of (step_in c)));
+  history = entered c.id (goes_by c.id (next_of (step_in c)) past c.book.core.history c.book.core.table) (mark_of c.heard.accepted.step) (next_of (step_in c)) (max c.book.core.cache.greatest c.x.now) c.book.core.history;
+  change = Becomes (goes_by c.id (next_of (step_in c)) past c.book.core.history c.book.core.table) (id_of c.id c.book.core.history) (context_after (until_of c.id (max c.book.core.cache.greatest c.x.now) c.book.core.table) (next_of (step_in c)));
 }
 came c past =
     steps-end c.book.setup c.book.core c.id past c.end c.token c.x.now (drawn_of c) c.stays.comes (enough c) (λ none. inl (c.stays.few none))
@@ -227,7 +235,7 @@ settled-asks (accept_steps.WantsAuth pause) = gone pause.after
 abbrev kept_after : Case → Negotiated → KeptAnswers
 kept_after c answer = record { now = c.x.now; draws = c.draws; negotiated = Some answer; looked = None; admitted = None; ended = None }
 
-replies-so : (c : Case) (answer : Negotiated) (step : AcceptStep) → IsSettled step → (stepped (creation_shown Integrity c.xid c.id c.token (kept_after c answer) told_width) (answer_with 1 step)).reply ≡ Some (reply_to c.xid step)
+replies-so : (c : Case) (answer : Negotiated) (step : AcceptStep) → IsSettled step → (stepped (creation_shown own_terms c.xid c.id c.token (kept_after c answer) told_width) (answer_with 1 step)).reply ≡ Some (reply_to c.xid step)
 replies-so c answer (accept_steps.More end token) settled = refl
 replies-so c answer (accept_steps.Done outcome lasts token) settled = refl
 replies-so c answer (accept_steps.WantsAuth pause) settled = absurd settled
@@ -281,8 +289,8 @@ sent-by r octets e Refused is = absurd is
 sent-by r octets e Nothing is = absurd is
 
 after-is : (c : Case) (answer : Negotiated)
-    → record_ruling (call_of c.xid c.id c.token) (kept_after c answer) told_width ≡ ask_step (creation_shown Integrity c.xid c.id c.token (kept_after c answer) told_width) c.id c.token (Some answer)
-after-is c answer = asks Integrity c.xid c.id c.token (kept_after c answer) told_width c.xid_fits c.is_id c.short
+    → record_ruling (call_of c.xid c.id c.token) (kept_after c answer) told_width ≡ ask_step (creation_shown own_terms c.xid c.id c.token (kept_after c answer) told_width) c.id c.token (Some answer)
+after-is c answer = asks own_terms c.xid c.id c.token (kept_after c answer) told_width to-server c.xid_fits c.is_id c.short
 
 -- what follows, by what the book answered
 record Said (c : Case) (answer : Negotiated) (happened : Happened) (left : Option InHand) : Type 0 where
@@ -292,15 +300,15 @@ record Said (c : Case) (answer : Negotiated) (happened : Happened) (left : Optio
 
 said-by : (c : Case) (answer : Negotiated) (happened : Happened) (left : Option InHand) → Follows (record { octets = call_of c.xid c.id c.token; kept = kept_after c answer }) (Some happened) left → Said c answer happened left
 said-by c answer happened left (inl more) =
-    absurd (none-some more.0 (sym (stepped-due (creation_shown Integrity c.xid c.id c.token (kept_after c answer) told_width) answer.answer) ∙ (sym (ap (λ (r : Ruling). r.due) (after-is c answer)) ∙ more.1)))
+    absurd (none-some more.0 (sym (stepped-due (creation_shown own_terms c.xid c.id c.token (kept_after c answer) told_width) answer.answer) ∙ (sym (ap (λ (r : Ruling). r.due) (after-is c answer)) ∙ more.1)))
 said-by c answer happened left (inr said) = record {
   nothing = said.1;
   remembered = λ short. (let zero : (record_ruling (call_of c.xid c.id c.token) (kept_after c answer) told_width).rule ≡ 0 =
-      ap (λ (r : Ruling). r.rule) (after-is c answer) ∙ ap (λ (a : NegAnswer). (stepped (creation_shown Integrity c.xid c.id c.token (kept_after c answer) told_width) a).rule) short in
+      ap (λ (r : Ruling). r.rule) (after-is c answer) ∙ ap (λ (a : NegAnswer). (stepped (creation_shown own_terms c.xid c.id c.token (kept_after c answer) told_width) a).rule) short in
       none-some happened (sym (unanswered (record_ruling (call_of c.xid c.id c.token) (kept_after c answer) told_width) (Some happened) zero said.0)));
   sent = λ is. sent-by (record_ruling (call_of c.xid c.id c.token) (kept_after c answer) told_width) (reply_to c.xid (step_in c))
       (ap (λ (r : Ruling). r.reply) (after-is c answer)
-      ∙ (ap (λ (a : NegAnswer). (stepped (creation_shown Integrity c.xid c.id c.token (kept_after c answer) told_width) a).reply) is ∙ replies-so c answer (step_in c) (settled-asks c.heard.accepted.step))) happened said.0;
+      ∙ (ap (λ (a : NegAnswer). (stepped (creation_shown own_terms c.xid c.id c.token (kept_after c answer) told_width) a).reply) is ∙ replies-so c answer (step_in c) (settled-asks c.heard.accepted.step))) happened said.0;
 }
 
 -- one more context
@@ -311,7 +319,7 @@ map-more (first ∷ fixed) found = ap (λ (xs : List Context). context_with 1 fi
 
 -- the deed and the world, by the step that the book took
 answered-by : (c : Case) (happened : Happened) (deed : Deed) (new : World) (past : Option ℕ) (left : Option InHand) (answer : Negotiated) → deed.answer ≡ Some happened
-    → IsPast c.book.core.table (max c.book.core.cache.greatest c.x.now) past → BookStepped c.book new.book c.id c.token c.x.now (drawn_of c) answer
+    → IsNext c.book.core.table (max c.book.core.cache.greatest c.x.now) past → BookStepped c.book new.book c.id c.token c.x.now (drawn_of c) answer
     → Follows (record { octets = call_of c.xid c.id c.token; kept = kept_after c answer }) deed.answer left
     → deed.makes ≡ if_answered deed.answer (makes_by c.book past (hand_of c) (AskedStep c.id c.token c.x.now (drawn_of c) answer))
     → deed.found ≡ found_by c.book past (hand_of c) (AskedStep c.id c.token c.x.now (drawn_of c) answer)
@@ -320,7 +328,7 @@ answered-by : (c : Case) (happened : Happened) (deed : Deed) (new : World) (past
     → new ≡ with_lane (before c) 0 left new.book deed → Answers c deed new
 answered-by c happened deed new past left answer some late stepped follows makes found opened fixes new_is =
     let said : Said c answer happened left = said-by c answer happened left (subst (λ (a : Option Happened). Follows (record { octets = call_of c.xid c.id c.token; kept = kept_after c answer }) a left) some follows) in
-    let o = stepped.comes.outcome past late said.remembered in
+    let o = stepped.comes.outcome past (λ first. late) said.remembered in
     let is : answer.answer ≡ answer_with 1 (step_in c) = o.answer ∙ (ap (λ (z : Outcomes). z.answer) (came c past) ∙ ap (λ (n : ℕ). answer_with n (step_in c)) c.stays.own) in
     let taken = taken-is c past in
     let made : deed.makes ≡ c.heard.accepted.makes = makes ∙ (ap (λ (a : Option Happened). if_answered a (makes_by c.book past (hand_of c) (AskedStep c.id c.token c.x.now (drawn_of c) answer))) some ∙ ap makes_of taken) in
@@ -446,7 +454,7 @@ abbrev pub window_of : Outcome → MechMaking
 window_of outcome = typed (mic_making (token_end outcome Acceptor) 1 (word told_width))
 
 abbrev pub session_with : ℕ → Outcome → SessionState
-session_with xid outcome = begun Integrity 1 (xid_after xid) outcome (handle_of 1)
+session_with xid outcome = begun own_terms 1 (xid_after xid) outcome (handle_of 1)
 
 window-is : (xid : ℕ) (outcome : Outcome) (token : List ℕ) → xid < 2 ^ 32 → length token ≤ 65536 → window_found outcome (granted_in xid (reply_octets (granting xid outcome 1 told_width token))) ≡ window_of outcome ∷ []
 unfolding mic_of mic_header

@@ -12,7 +12,6 @@ use Rattle.accept_core.specs.History.{entry_at}
 use Rattle.accept_book.specs.Honest.{HonestLaw}
 use Rattle.accept_book.specs.Served.{are_args}
 use Rattle.accept_book.specs.RecordShown.{handle_of}
-use Rattle.rpcsec_bodies.specs.declared.service.Service.TheVariants.{Integrity}
 use Rattle.gss_client.specs.Session.{session_after}
 use Rattle.gss_client.specs.Talk.{begun}
 use Rattle.world_laws.specs.declared.event.Happened.{Happened}
@@ -22,7 +21,7 @@ use Rattle.world_laws.specs.Stages.{StageSays}
 use Rattle.world_laws.specs.Stages as stages
 use Rattle.world_laws.specs.Deeds.{Deed}
 use Rattle.world_laws.specs.State.{World}
-use Rattle.world_laws.specs.Initiators.{call_makings}
+use Rattle.world_laws.specs.Initiators.{own_terms, call_makings}
 use Rattle.world_runs.specs.Carrying.{RulesCalls, sent_in}
 use Rattle.world_runs.specs.Meeting.{IsCarried, InTime, IsCalled}
 use Rattle.world_laws.specs.Premises.{Unforged}
@@ -55,7 +54,7 @@ given laws shown kind k procedure args served proper size now draws timely rules
   proper = proper;
   size = size;
   timely = timely k.met.now.book k.met.context.id k.met.context.fixed.lasts k.met.outcome.mech (names_of k.met.outcome) k.met.shows.book k.rests.whole;
-  law = λ lease same. rules (begun Integrity 1 k.rests.xid k.met.outcome (handle_of k.met.context.id)) lease (ap (λ (xs : List StageSays). slice_get xs 0) (k.met.shows.stages ∙ k.rests.stands)) same;
+  law = λ lease same. rules (begun own_terms 1 k.rests.xid k.met.outcome (handle_of k.met.context.id)) lease (ap (λ (xs : List StageSays). slice_get xs 0) (k.met.shows.stages ∙ k.rests.stands)) same;
 }
 
 abbrev calling : {shown : Shown} {now : ℕ} {draws : List ℕ} {procedure : ℕ} {args : List ℕ} → Given shown now draws procedure args → Calling

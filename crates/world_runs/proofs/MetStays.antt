@@ -1,5 +1,5 @@
 -- How the book stands after a turn of an exchange: it awaits the next token, or the context is settled.
-use Rattle.std.proofs.Common.{◌≡◌, ℕ, ◌+◌, ◌<◌, ◌≤◌, Bool, true, refl, sym, ap, ◌∙◌, subst, arith, nat_lt, List, [], ◌∷◌, ◌++◌, length, option_to_list, Option, Some, None}
+use Rattle.std.proofs.Common.{◌≡◌, ℕ, ◌+◌, ◌<◌, ◌≤◌, refl, sym, ap, ◌∙◌, subst, arith, List, [], ◌∷◌, ◌++◌, length, option_to_list, Option, Some, None}
 use Rattle.std.specs.Prelude.{max}
 use Rattle.std.proofs.lemmas.Bool.{eq-eqb}
 use Rattle.std.proofs.lemmas.Bool.Decides.{nat_tests}
@@ -11,41 +11,44 @@ use Rattle.spnego_core.specs.declared.accept_end.AcceptStep.{AcceptStep}
 use Rattle.spnego_core.specs.declared.accept_end.AcceptStep.TheVariants as accept_steps
 use Rattle.spnego_core.specs.declared.outcome.Outcome.{Outcome}
 use Rattle.spnego_core.specs.Accepting.{Fixed}
-use Rattle.context_table.specs.Places.{live_of}
 use Rattle.accept_core.specs.declared.answer.Next.TheVariants as nexts
 use Rattle.accept_core.specs.declared.entry.Entry.{Entry}
 use Rattle.accept_core.specs.declared.entry.Entry.TheVariants.{Settled}
 use Rattle.accept_book.specs.Booking.{Outcomes, raised, mark_of, next_of, names_of}
 use Rattle.accept_core.specs.Entering.{id_of, started, noted, entered}
+use Rattle.accept_core.specs.Aging.{in_use}
+use Rattle.accept_core.specs.Stepping.{goes_by}
+use Rattle.accept_core.specs.declared.answer.Next.{Next}
+use Rattle.pair_laws.proofs.Entries.{uses-entered}
 use Rattle.accept_core.specs.History.{Whole, standing, numbers, taken_of}
 use Rattle.pair_laws.proofs.Settling.{Came, Negotiates, goes-after}
 use Rattle.world_laws.specs.Deeds.{Deed}
 use Rattle.world_laws.specs.Premises.{WasSettled}
 use Rattle.world_laws.specs.State.{World}
 use Rattle.world_laws.proofs.HeldHistory.{at-head}
-use Rattle.world_runs.proofs.MetEvents.{Stays, Case, has-place, step_in, comes_of, came, came-so, Answers}
+use Rattle.world_runs.proofs.MetEvents.{Stays, Case, goes-alone, step_in, comes_of, came, came-so, Answers}
 
 -- ---- what a step adds to the log
 
 -- the entries but the last
-abbrev base : Option ℕ → Bool → Option ℕ → Option Mark → ℕ → List Entry → List Entry
-base id place past mark now h = noted mark (id_of id h) now (started id place past now h)
+abbrev base : Option ℕ → Option ℕ → Option Mark → ℕ → List Entry → List Entry
+base id gone mark now h = noted mark (id_of id h) now (started id gone now h)
 
 record Adds (id : Option ℕ) (mark : Option Mark) (h new : List Entry) : Type 0 where
   few : length new ≤ length h + 2
   uncalled : (n : ℕ) → numbers n new ≡ numbers n h
   untaken : mark ≡ None → taken_of new ≡ taken_of h
 
-base-adds : (id : Option ℕ) (place : Bool) (past : Option ℕ) (mark : Option Mark) (now : ℕ) (h : List Entry) → (id ≡ None → place ≡ true) → Adds id mark h (base id place past mark now h)
-base-adds None place past None now h roomy = rw (roomy refl) (record { few = omega arith; uncalled = λ n. refl; untaken = λ e. refl })
-base-adds None place past (Some mark) now h roomy = rw (roomy refl) (record { few = omega arith; uncalled = λ n. refl; untaken = λ e. absurd (none-some mark (sym e)) })
-base-adds (Some id) place past None now h roomy = record { few = omega arith; uncalled = λ n. refl; untaken = λ e. refl }
-base-adds (Some id) place past (Some mark) now h roomy = record { few = omega arith; uncalled = λ n. refl; untaken = λ e. absurd (none-some mark (sym e)) }
+base-adds : (id gone : Option ℕ) (mark : Option Mark) (now : ℕ) (h : List Entry) → gone ≡ None → Adds id mark h (base id gone mark now h)
+base-adds None gone None now h alone = rw alone (record { few = omega arith; uncalled = λ n. refl; untaken = λ e. refl })
+base-adds None gone (Some mark) now h alone = rw alone (record { few = omega arith; uncalled = λ n. refl; untaken = λ e. absurd (none-some mark (sym e)) })
+base-adds (Some id) gone None now h alone = rw alone (record { few = omega arith; uncalled = λ n. refl; untaken = λ e. refl })
+base-adds (Some id) gone (Some mark) now h alone = rw alone (record { few = omega arith; uncalled = λ n. refl; untaken = λ e. absurd (none-some mark (sym e)) })
 
-goes-adds : (id : Option ℕ) (place : Bool) (past : Option ℕ) (mark : Option Mark) (end : AcceptEnd) (now : ℕ) (h : List Entry) → (id ≡ None → place ≡ true) → Adds id mark h (entered {N = AcceptEnd} {S = Outcome} id place past mark (nexts.Going end) now h)
-goes-adds None place past mark end now h roomy = base-adds None place past mark now h roomy
-goes-adds (Some id) place past None end now h roomy = record { few = omega arith; uncalled = λ n. refl; untaken = λ e. refl }
-goes-adds (Some id) place past (Some mark) end now h roomy = record { few = omega arith; uncalled = λ n. refl; untaken = λ e. absurd (none-some mark (sym e)) }
+goes-adds : (id gone : Option ℕ) (mark : Option Mark) (end : AcceptEnd) (now : ℕ) (h : List Entry) → gone ≡ None → Adds id mark h (entered {N = AcceptEnd} {S = Outcome} id gone mark (nexts.Going end) now h)
+goes-adds None gone mark end now h alone = base-adds None gone mark now h alone
+goes-adds (Some id) gone None end now h alone = rw alone (record { few = omega arith; uncalled = λ n. refl; untaken = λ e. refl })
+goes-adds (Some id) gone (Some mark) end now h alone = rw alone (record { few = omega arith; uncalled = λ n. refl; untaken = λ e. absurd (none-some mark (sym e)) })
 
 -- ---- it goes on
 
@@ -58,13 +61,13 @@ nothing-fixed [] (Some one) e = absurd cc
 nothing-fixed (first ∷ fixed) found e = absurd cc
 
 entries : (c : Case) (deed : Deed) (new : World) (a : Answers c deed new)
-    → a.book.core.history ≡ entered c.id (nat_lt (live_of c.book.core.table) c.book.core.table.limit) a.past (mark_of c.heard.accepted.step) (next_of (step_in c)) (max c.book.core.cache.greatest c.x.now) c.book.core.history
+    → a.book.core.history ≡ entered c.id (goes_by c.id (next_of (step_in c)) a.past c.book.core.history c.book.core.table) (mark_of c.heard.accepted.step) (next_of (step_in c)) (max c.book.core.cache.greatest c.x.now) c.book.core.history
 entries c deed new a = a.outcome.history ∙ ap (λ (o : Outcomes). o.history) (came c a.past)
 
 goes-entries : (c : Case) (deed : Deed) (new : World) (a : Answers c deed new) (after : AcceptEnd) (reply : List ℕ) → step_in c ≡ accept_steps.More after reply → Adds c.id (mark_of c.heard.accepted.step) c.book.core.history a.book.core.history
 goes-entries c deed new a after reply goes =
-    subst (λ (h : List Entry). Adds c.id (mark_of c.heard.accepted.step) c.book.core.history h) (sym (entries c deed new a ∙ ap (λ (s : AcceptStep). entered c.id (nat_lt (live_of c.book.core.table) c.book.core.table.limit) a.past (mark_of c.heard.accepted.step) (next_of s) (max c.book.core.cache.greatest c.x.now) c.book.core.history) goes))
-    (goes-adds c.id (nat_lt (live_of c.book.core.table) c.book.core.table.limit) a.past (mark_of c.heard.accepted.step) after (max c.book.core.cache.greatest c.x.now) c.book.core.history (has-place c))
+    subst (λ (h : List Entry). Adds c.id (mark_of c.heard.accepted.step) c.book.core.history h) (sym (entries c deed new a ∙ ap (λ (s : AcceptStep). entered c.id (goes_by c.id (next_of s) a.past c.book.core.history c.book.core.table) (mark_of c.heard.accepted.step) (next_of s) (max c.book.core.cache.greatest c.x.now) c.book.core.history) goes))
+    (goes-adds c.id (goes_by c.id (nexts.Going after) a.past c.book.core.history c.book.core.table) (mark_of c.heard.accepted.step) after (max c.book.core.cache.greatest c.x.now) c.book.core.history (goes-alone c a.past (nexts.Going after)))
 
 pub stays-on : (c : Case) (deed : Deed) (new : World) (a : Answers c deed new) (after : AcceptEnd) (reply : List ℕ) → step_in c ≡ accept_steps.More after reply → Stays c.x (Some 1) after c.left a.book a.lanes (c.fixed ++ option_to_list c.heard.accepted.fixes)
 stays-on c deed new a after reply goes =
@@ -77,6 +80,10 @@ stays-on c deed new a after reply goes =
       comes = subst (λ (id : ℕ). Negotiates id a.book.core after) c.stays.own n;
       own = refl;
       few = λ none. absurd (none-some 1 (sym none));
+      unused = ap (λ (h : List Entry). in_use h) (entries c deed new a)
+          ∙ ap (λ (s : AcceptStep). in_use (entered c.id (goes_by c.id (next_of s) a.past c.book.core.history c.book.core.table) (mark_of c.heard.accepted.step) (next_of s) (max c.book.core.cache.greatest c.x.now) c.book.core.history)) goes
+          ∙ ap (λ (o : Option ℕ). in_use (entered {S = Outcome} c.id o (mark_of c.heard.accepted.step) (nexts.Going after) (max c.book.core.cache.greatest c.x.now) c.book.core.history)) (goes-alone c a.past (nexts.Going after))
+          ∙ uses-entered c.id (mark_of c.heard.accepted.step) (nexts.Going after) (max c.book.core.cache.greatest c.x.now) c.book.core.history c.stays.unused;
       room = omega (arith, adds.few, c.stays.room, a.notes.limit);
       uncalled = adds.uncalled 1 ∙ c.stays.uncalled;
       untaken = λ none. (let both = nothing-fixed c.fixed c.heard.accepted.fixes none in adds.untaken (c.heard.unmarked both.1) ∙ c.stays.untaken both.0);
@@ -107,12 +114,13 @@ closes-by c rest limit at outcome lasts few uncalled is = record {
 
 pub closes : (c : Case) (deed : Deed) (new : World) (a : Answers c deed new) (outcome : Outcome) (lasts : ℕ) (reply : List ℕ) → step_in c ≡ accept_steps.Done outcome lasts reply → Closes c a.book.core.history a.book.core.limit outcome lasts
 closes c deed new a outcome lasts reply done =
-    let place : Bool = nat_lt (live_of c.book.core.table) c.book.core.table.limit in
+    let settled : Next AcceptEnd Outcome = nexts.Settled outcome.mech (names_of outcome) outcome lasts in
+    let gone : Option ℕ = goes_by c.id settled a.past c.book.core.history c.book.core.table in
     let at : ℕ = max c.book.core.cache.greatest c.x.now in
-    let adds = base-adds c.id place a.past (mark_of c.heard.accepted.step) at c.book.core.history (has-place c) in
-    let first : a.book.core.history ≡ Settled (id_of c.id c.book.core.history) outcome.mech (names_of outcome) lasts at ∷ base c.id place a.past (mark_of c.heard.accepted.step) at c.book.core.history =
-    entries c deed new a ∙ ap (λ (s : AcceptStep). entered c.id place a.past (mark_of c.heard.accepted.step) (next_of s) at c.book.core.history) done in
-    let is : a.book.core.history ≡ Settled 1 outcome.mech (names_of outcome) lasts at ∷ base c.id place a.past (mark_of c.heard.accepted.step) at c.book.core.history =
-    first ∙ ap (λ (n : ℕ). Settled n outcome.mech (names_of outcome) lasts at ∷ base c.id place a.past (mark_of c.heard.accepted.step) at c.book.core.history) c.stays.own in
+    let adds = base-adds c.id gone (mark_of c.heard.accepted.step) at c.book.core.history (goes-alone c a.past settled) in
+    let first : a.book.core.history ≡ Settled (id_of c.id c.book.core.history) outcome.mech (names_of outcome) lasts at ∷ base c.id gone (mark_of c.heard.accepted.step) at c.book.core.history =
+    entries c deed new a ∙ ap (λ (s : AcceptStep). entered c.id (goes_by c.id (next_of s) a.past c.book.core.history c.book.core.table) (mark_of c.heard.accepted.step) (next_of s) at c.book.core.history) done in
+    let is : a.book.core.history ≡ Settled 1 outcome.mech (names_of outcome) lasts at ∷ base c.id gone (mark_of c.heard.accepted.step) at c.book.core.history =
+    first ∙ ap (λ (n : ℕ). Settled n outcome.mech (names_of outcome) lasts at ∷ base c.id gone (mark_of c.heard.accepted.step) at c.book.core.history) c.stays.own in
     subst (λ (h : List Entry). Closes c h a.book.core.limit outcome lasts) (sym is)
-    (closes-by c (base c.id place a.past (mark_of c.heard.accepted.step) at c.book.core.history) a.book.core.limit at outcome lasts adds.few (adds.uncalled 1 ∙ c.stays.uncalled) a.notes.limit)
+    (closes-by c (base c.id gone (mark_of c.heard.accepted.step) at c.book.core.history) a.book.core.limit at outcome lasts adds.few (adds.uncalled 1 ∙ c.stays.uncalled) a.notes.limit)

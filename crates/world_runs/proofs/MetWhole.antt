@@ -25,6 +25,7 @@ use Rattle.spnego_core.proofs.Makings.{among_split}
 use Rattle.accept_core.specs.declared.entry.Entry.{Entry}
 use Rattle.context_table.specs.Places.{live_of}
 use Rattle.accept_book.specs.Booking.{BookOf, names_of}
+use Rattle.accept_core.specs.Aging.{in_use}
 use Rattle.accept_core.specs.History.{Whole, opened, numbers, taken_of}
 use Rattle.gss_client.specs.Session.{SessionState, xid_after}
 use Rattle.pair_laws.proofs.Ruling.{IsId}
@@ -491,6 +492,7 @@ talks-first book lanes now (draws ∷ later) own kind started h happened shown e
     few = λ none. table;
     room = omega (arith, log);
     uncalled = ap (numbers 1) empty;
+    unused = ap in_use empty;
     untaken = λ none. ap taken_of empty;
     capacity = refl;
     greatest = refl;

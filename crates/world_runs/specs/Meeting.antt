@@ -21,7 +21,6 @@ use Rattle.accept_core.specs.declared.entry.Entry.TheVariants.{Call}
 use Rattle.accept_book.specs.Booking.{BookOf, names_of}
 use Rattle.accept_core.specs.History.{Whole, standing, numbers, entry_at, taken_of}
 use Rattle.accept_book.specs.RecordShown.{handle_of}
-use Rattle.rpcsec_bodies.specs.declared.service.Service.TheVariants.{Integrity}
 use Rattle.gss_client.specs.Talk.{begun}
 use Rattle.world_laws.specs.Stages as stages
 use Rattle.world_laws.specs.Events.{Run, Begins}
@@ -29,6 +28,7 @@ use Rattle.world_laws.specs.Premises.{Marking, Listed, GuardedBasis, OnGuarded, 
 use Rattle.world_laws.specs.Premises.{NoForgery, Fresh, Completed as CompletedWith}
 use Rattle.world_runs.specs.Showing.{Shown, Shows}
 use Rattle.world_laws.specs.State.{Context, World}
+use Rattle.world_laws.specs.Initiators.{own_terms}
 
 -- a world before its first event, of this book without entries and so many lanes
 pub record AtStart (shown : Shown) (book : BookOf) (lanes : ℕ) : Type 0 where
@@ -97,7 +97,7 @@ pub record Rests (w : World) (own : PlainSetup) (outcome : Outcome) (context : C
     pub xid : ℕ
     pub xid_fits : xid < 2 ^ 32
     pub stands : w.stages
-        ≡ stages.Stands (begun Integrity 1 xid outcome (handle_of context.id)) ∷ []
+        ≡ stages.Stands (begun own_terms 1 xid outcome (handle_of context.id)) ∷ []
     pub idle : slice_get w.lanes 0 ≡ Some None
     pub fixed : w.fixed ≡ context ∷ []
     pub first : context.id ≡ 1

@@ -5,7 +5,6 @@ use Rattle.std.specs.Prelude.{slice_set, Option, Some, None, Result, Ok, Err}
 use Rattle.spnego_core.specs.declared.refusal.NegRefusal.{NegRefusal}
 use Rattle.init_ends.specs.Ends.{SetupMeans, EndMeans}
 use Rattle.init_ends.specs.Initiating.{end_start, end_step}
-use Rattle.rpcsec_bodies.specs.declared.service.Service.TheVariants.{Integrity}
 use Rattle.gss_client.specs.declared.refusal.ClientRefusal.{ClientRefusal}
 use Rattle.gss_client.specs.Creation.{CreatedMeans}
 use Rattle.gss_client.specs.Creation as created
@@ -17,6 +16,7 @@ use Rattle.world_laws.specs.declared.event.Happened.{Happened}
 use Rattle.world_laws.specs.declared.event.Happened.TheVariants.{Sent, Completed, Refused}
 use Rattle.world_laws.specs.declared.event.Happened.TheVariants.{Nothing}
 use Rattle.world_runs.specs.Objects.{StageMeans, Ready, Asks, Stands, Left, Over}
+use Rattle.world_laws.specs.Initiators.{own_terms}
 
 -- where the initiator is then, and where it is if memory is wanted; the answer
 pub record MovedMeans : Type 0 where
@@ -36,7 +36,7 @@ started_by (Err refusal) = refused
 started_by (Ok started) = record {
   stage = Asks 1 started.0;
   lost = Over;
-  answer = Sent (creation_call Integrity 1 1 [] started.1);
+  answer = Sent (creation_call own_terms 1 1 [] started.1);
 }
 
 -- what an initiator does that starts with these objects
@@ -52,10 +52,10 @@ created_by first xid (Err refusal) = refused
 created_by first xid (Ok (created.Going offer)) = record {
   stage = Asks (xid_after xid) offer.end;
   lost = Over;
-  answer = Sent (creation_call Integrity (xid_after xid) 2 offer.handle offer.token);
+  answer = Sent (creation_call own_terms (xid_after xid) 2 offer.handle offer.token);
 }
 created_by first xid (Ok (created.Stands outcome handle)) = record {
-  stage = Stands (begun Integrity first (xid_after xid) outcome handle);
+  stage = Stands (begun own_terms first (xid_after xid) outcome handle);
   lost = Over;
   answer = Completed outcome;
 }

@@ -2,7 +2,7 @@
 -- It isn't needed to read the headline.
 use Rattle.std.specs.Prelude.{◌≡◌, ◌⊎◌, ℕ, Bool, true, false, max, Option, Some, None, Result, Ok}
 use Rattle.std.specs.Prelude.{Err}
-use Rattle.context_table.specs.Places.{IsPast}
+use Rattle.accept_core.specs.Stepping.{IsNext}
 use Rattle.accept_book.specs.Booking.{BookOf}
 use Rattle.accept_book.specs.RecordShown.{Asked, AskedStep, AskedLook, AskedAdmit, AskedEnd}
 use Rattle.accept_core.specs.declared.answer.LookRefusal.{LookRefusal}
@@ -68,7 +68,7 @@ pub record ByBook (old : BookOf) (hand : InHand) (new : BookOf) (left : Option I
   pub asked : Asked
   pub due : (ruling_of hand).due ≡ Some (question_of asked)
   pub past : Option ℕ
-  pub is_past : IsPast old.core.table (max old.core.cache.greatest hand.kept.now) past
+  pub is_past : IsNext old.core.table (max old.core.cache.greatest hand.kept.now) past
   pub answers : BookAnswers old asked new
   pub follows : Follows (hand_after hand asked) answer left
 

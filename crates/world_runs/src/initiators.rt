@@ -6,15 +6,17 @@ ghost use Rattle.init_ends.specs.Objects.{is_own_list};
 ghost use Rattle.gss_client.specs.Calling.{creation_call};
 ghost use Rattle.gss_client.specs.Creation.{offer_means};
 ghost use Rattle.gss_client.specs.Exchanging.{FitsOffer};
+ghost use Rattle.world_laws.specs.Initiators.{own_terms};
 ghost use Rattle.world_runs.specs.Objects as stages;
 ghost use Rattle.world_runs.specs.ObjectMoves.{starts, takes, calls, leaves};
 ghost use Rattle.world_runs.specs.Moving.{Goes, IsLost, IsMove, moves_means};
 
 use crate::stage::Stage;
 use gss_client::{
-    ClientRefusal, Created, Offer, Service, Session, creation_call, creation_step, xid_after,
+    ClientRefusal, Created, Offer, Service, Session, Terms, creation_call, creation_step, xid_after,
 };
 use init_ends::{InitEnd, InitSetup};
+use rpc_msgs::numbers::{PROGRAM, VERSION};
 use sec_base::{NoMemory, Octets};
 use spnego_core::NegRefusal;
 use std::alloc::Global;
@@ -55,17 +57,28 @@ fn lost() -> Moves
     }
 }
 
+/// What it calls: the server's program, by integrity.
+fn own_terms() -> Terms
+    ensures { result ≡ own_terms }
+{
+    Terms {
+        service: Service::Integrity,
+        program: PROGRAM,
+        version: VERSION,
+    }
+}
+
 /// It hands out the creation call of this transaction number, whose reply is due.
 fn ask(alloc: Global, xid: u32, proc: u32, offer: Offer) -> Moves
     requires { FitsOffer (offer_means offer meaning) }
     ensures { Goes (stages.Asks xid (end_by offer.end meaning)) (Happened.Sent
-        (creation_call Service.Integrity xid proc offer.handle offer.token)) stages.Over
+        (creation_call own_terms xid proc offer.handle offer.token)) stages.Over
         (moves_means result meaning) }
 {
     let Offer { end, handle, token } = offer;
     match creation_call(
         alloc,
-        Service::Integrity,
+        own_terms(),
         xid,
         proc,
         handle.as_slice(),
@@ -126,7 +139,7 @@ pub(crate) fn take(alloc: Global, first: u32, xid: u32, end: InitEnd, bytes: &[u
         Ok(Created::Going(offer)) => ask(alloc, xid_after(xid), CONTINUE_INIT, offer),
         Ok(Created::Stands(outcome, handle)) => {
             let xid = xid_after(xid);
-            stand(Session::begun(Service::Integrity, first, xid, outcome, handle))
+            stand(Session::begun(own_terms(), first, xid, outcome, handle))
         }
         Err(ClientRefusal::NoMemory) => lost(),
         Err(_) => refused(),

@@ -1,0 +1,6 @@
+mod ByLists
+mod ManyLanes
+mod ManyTurns
+mod ManyStates
+mod ManyEvents
+mod ManyRuns
