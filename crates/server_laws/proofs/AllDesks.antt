@@ -13,7 +13,7 @@ use Rattle.book_seats.proofs.Weights.{weighs, total-same}
 use Rattle.history_laws.proofs.InPlace.{in-place}
 use Rattle.history_laws.specs.Receipts.{receipts_in}
 
-weigh-append : {A : Type 0} (weight : A → ℕ) (xs ys : List A) → weigh weight (xs ++ ys) ≡ weigh weight xs + weigh weight ys
+pub weigh-append : {A : Type 0} (weight : A → ℕ) (xs ys : List A) → weigh weight (xs ++ ys) ≡ weigh weight xs + weigh weight ys
 weigh-append weight [] ys = omega arith
 weigh-append weight (x ∷ xs) ys = omega (arith, weigh-append weight xs ys)
 

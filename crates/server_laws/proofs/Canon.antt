@@ -9,7 +9,8 @@ use Rattle.replay_cache.specs.Taking.{kept_of}
 use Rattle.spnego_core.specs.declared.accept_end.AcceptEnd.{AcceptEnd}
 use Rattle.spnego_core.specs.declared.outcome.Outcome.{Outcome}
 use Rattle.context_table.specs.declared.slot.Slot.{Slot}
-use Rattle.context_table.specs.Places.{Places, slot_in, slot_at, live_of, IsPast, HasValue, Marks, KeepsOthers}
+use Rattle.context_table.specs.Places.{Places, slot_in, slot_at, live_of, IsPast, is_waiting, HasValue, Marks, KeepsOthers}
+use Rattle.accept_core.specs.Stepping.{IsNext}
 use Rattle.accept_core.specs.declared.answer.AdmitRefusal.{AdmitRefusal}
 use Rattle.accept_core.specs.declared.answer.AdmitRefusal.TheVariants as admits
 use Rattle.accept_core.specs.declared.answer.LookRefusal.{LookRefusal}
@@ -34,7 +35,7 @@ use Rattle.accept_core.proofs.Appended.{Silent, silent}
 use Rattle.gss_server.specs.Asking.{BookAnswers}
 use Rattle.world_laws.specs.Events.{IsBook}
 use Rattle.history_laws.proofs.Answering.{memory-cases}
-use Rattle.history_laws.proofs.Past.{past-of}
+use Rattle.accept_core.proofs.Nexts.{next-of}
 use Rattle.server_laws.proofs.Windows.{window_of, shown, more-shown}
 use Rattle.server_laws.proofs.Comes.{SameContext, Ready, Fine, fine-spends, fine-negotiated, Alike, negotiated-same}
 
@@ -56,13 +57,14 @@ abbrev slots_as : ℕ → List Entry → List Known → List Known
 slots_as width h slots = map (λ slot. slot_as width (numbers slot.id h) slot) slots
 
 abbrev table_as : ℕ → List Entry → Table → Table
-table_as width h table = record { limit = table.limit; width = width; slots = slots_as width h table.slots }
+table_as width h table = record { limit = table.limit; width = width; slots = slots_as width h table.slots; used = [] }
 
 abbrev core_as : Core → Core
 core_as core = record {
   history = core.history;
   limit = core.limit;
   width = core.width;
+  keeping = core.keeping;
   table = table_as core.width core.history core.table;
   cache = record {
     capacity = core.cache.capacity;
@@ -137,13 +139,13 @@ record Came (old : Core) (now : ℕ) (result : Negotiated) (new : Core) : Type 0
 
 came : (old new : BookOf) (id : Option ℕ) (token : List ℕ) (now : ℕ) (draws : List ℕ) (result : Negotiated) → Ready (raised old.core now) → BookStepped old new id token now draws result → Came old.core now result new.core
 came old new id token now draws result r b =
-    let past = past-of old.core.table (max old.core.cache.greatest now) in
+    let past = next-of old.core.table (max old.core.cache.greatest now) in
     elim (memory-cases result.answer) [
       | inl short ↦ record { outcome = spends id old.core.history answers.NoMemory; fine = fine-spends (raised old.core now) id answers.NoMemory r; is = b.comes.memory short }
       | inr enough ↦ record {
         outcome = negotiated old.setup (raised old.core now) id past.0 token now draws;
         fine = fine-negotiated old.setup (raised old.core now) id past.0 token now draws r;
-        is = b.comes.outcome past.0 past.1 enough;
+        is = b.comes.outcome past.0 (λ first. past.1) enough;
       }
     ]
 
@@ -181,6 +183,22 @@ past-back width h table now (Some first) is = (
   λ other lt. lasts-back width h table now other (is.1 other lt),
 )
 
+waits-as : (width : ℕ) (ns : List ℕ) (slot : Option Known) → is_waiting (option_map (slot_as width ns) slot) ≡ is_waiting slot
+waits-as width ns None = refl
+waits-as width ns (Some slot) = refl
+
+waits-back : (width : ℕ) (h : List Entry) (table : Table) (id : ℕ) → is_waiting (slot_at table id) ≡ is_waiting (slot_at (table_as width h table) id)
+waits-back width h table id = sym (ap is_waiting (slot-as width h table id) ∙ waits-as width (numbers id h) (slot_at table id))
+
+next-back : (width : ℕ) (h : List Entry) (table : Table) (now : ℕ) (past : Option ℕ) → IsNext (table_as width h table) now past → IsNext table now past
+next-back width h table now None is = (past-back width h table now None is.0, λ many id. waits-back width h table id ∙ is.1 many id)
+next-back width h table now (Some first) (inl is) = inl (past-back width h table now (Some first) is)
+next-back width h table now (Some first) (inr is) = inr (
+  past-back width h table now None is.0,
+  is.1,
+  (waits-back width h table first ∙ (is.2).0, λ other lt. waits-back width h table other ∙ (is.2).1 other lt),
+)
+
 window-as : (width wide : ℕ) (ns ms : List ℕ) (before after : Option Known) → wide ≡ width → ms ≡ ns → (context_of before ≡ None → IfSome (context_of after) (λ context. ns ≡ []))
     → SameWindow (option_map (slot_as width ns) before) (option_map (slot_as wide ms) after)
 window-as width wide ns ms None None w n fresh = tt
@@ -207,7 +225,7 @@ comes-as old new id token now draws result r b =
           subst (λ (o : Outcomes). IsOutcome (raised (core_as old.core) now) o result (core_as new.core))
           (sym (negotiated-same old.setup (raised old.core now) (core_as old.core).table old.core.table id past token now draws (alike-as old.core.width old.core.history old.core.table)))
           (outcome-as old.core new.core now (negotiated old.setup (raised old.core now) id past token now draws) result
-          (b.comes.outcome past (past-back old.core.width old.core.history old.core.table (max old.core.cache.greatest now) past is_past) some));
+          (b.comes.outcome past (λ first. next-back old.core.width old.core.history old.core.table (max old.core.cache.greatest now) past (is_past first)) some));
       memory = λ short. outcome-as old.core new.core now (spends id old.core.history answers.NoMemory) result (b.comes.memory short);
       receipts = b.comes.receipts;
       windows = windows-as old.core new.core now c.outcome result b.notes.width c.fine c.is;
@@ -221,6 +239,7 @@ stepped-as old new id token now draws result r b = record {
     setup = b.notes.setup;
     limit = b.notes.limit;
     width = b.notes.width;
+    keeping = b.notes.keeping;
     contexts = b.notes.contexts;
     capacity = b.notes.capacity;
     greatest = b.notes.greatest;
@@ -248,6 +267,7 @@ looked-as old new id now result b = record {
     history = b.looked.history;
     limit = b.looked.limit;
     width = b.looked.width;
+    keeping = b.looked.keeping;
     table = λ i. table_as (b.looked.width i) (b.looked.history i) (b.looked.table i);
     capacity = b.looked.capacity;
     greatest = b.looked.greatest;
@@ -353,7 +373,7 @@ admitted-as old new lease seq procedure args result b =
           (λ other ne. ap (numbers other) b.history ∙ numbers-after (lease_refused old.core lease seq) entry old.core.history other (called-other lease.id other seq procedure args old.core.history ne));
       lives = live-as new.core b.lives;
       unchanged = unchanged-as result old new b.unchanged;
-      keeps = record { limit = b.keeps.limit; width = b.keeps.width; contexts = b.keeps.contexts; capacity = b.keeps.capacity; greatest = b.keeps.greatest };
+      keeps = record { limit = b.keeps.limit; width = b.keeps.width; keeping = b.keeps.keeping; contexts = b.keeps.contexts; capacity = b.keeps.capacity; greatest = b.keeps.greatest };
       setup = b.setup;
     }
 
@@ -401,7 +421,7 @@ ended-as old new lease seq result b =
           (λ other ne. ap (numbers other) b.history ∙ numbers-after (lease_refused old.core lease seq) entry old.core.history other refl);
       lives = live-as new.core b.lives;
       unchanged = unchanged-as result old new b.unchanged;
-      keeps = record { limit = b.keeps.limit; width = b.keeps.width; contexts = b.keeps.contexts; capacity = b.keeps.capacity; greatest = b.keeps.greatest };
+      keeps = record { limit = b.keeps.limit; width = b.keeps.width; keeping = b.keeps.keeping; contexts = b.keeps.contexts; capacity = b.keeps.capacity; greatest = b.keeps.greatest };
       setup = b.setup;
     }
 

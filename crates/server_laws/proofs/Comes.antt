@@ -1,5 +1,6 @@
 -- What a token makes of the contexts is what it makes of the log.
 use Rattle.std.proofs.Common.{◌≡◌, ◌≢◌, ◌∙◌, ℕ, ◌+◌, ◌≤◌, Bool, true, false, ◌==◌, refl, ap, sym, subst, arith, inl, inr, List, [], ◌∷◌, length, Option, Some, None, Result, Ok, Err}
+use Rattle.std.specs.List.{slice_get}
 use Rattle.std.specs.Prelude.{◌&&◌, if◌then◌else◌, nat_lt, nat_le, is_none, IfSome}
 use Rattle.std.proofs.lemmas.Bool.{cases_eq, eq-eqb, ne_eqb}
 use Rattle.gss_base.specs.declared.mark.Mark.{Mark}
@@ -29,8 +30,9 @@ use Rattle.accept_core.specs.declared.entry.Entry.TheVariants.{Opened}
 use Rattle.accept_core.specs.History.{Standing, Unknown, Open, Whole, Over, standing, numbers, opened, latest, taken_of, IsGone}
 use Rattle.accept_core.specs.Entering.{id_of, lapsed, noted, finished, entered, mark_refused}
 use Rattle.accept_core.specs.Replays.{SameState, end_of_opened}
-use Rattle.accept_core.specs.Stepping.{has_place, Context, context_of, context_after, until_of, ends_at}
-use Rattle.accept_book.specs.Booking.{by_outcome, names_of, Stands, Outcomes, Becomes, changed, without, lapsed_by, leaves, spends, next_answered, next_of, answer_with, mark_of, settled_of, by_mark, by_step, later_step, begun, opened_by, gone_on_by, negotiated}
+use Rattle.accept_core.specs.Aging.{in_use}
+use Rattle.accept_core.specs.Stepping.{goes_by, gone_of, is_crowded, settles, Context, context_of, context_after, until_of, ends_at}
+use Rattle.accept_book.specs.Booking.{by_outcome, names_of, Stands, Outcomes, Becomes, changed, without, leaves, spends, next_answered, next_of, answer_with, mark_of, settled_of, by_mark, by_step, later_step, begun, opened_by, gone_on_by, negotiated}
 
 -- ---- contexts and the log
 
@@ -140,16 +142,17 @@ own-context false (nexts.Settled mech names value lasts) own now until at h name
 
 -- ---- a first token
 
-lapse-each : (place : Bool) (past : Option ℕ) (id : ℕ) (h : List Entry) (before : Option Known) → SameContext before (standing id h)
-    → SameContext (without (lapsed_by None place past) id before) (standing id (lapsed place past h))
-lapse-each true past id h before same = same
-lapse-each false None id h before same = same
-lapse-each false (Some gone) id h before same = gone-each (gone == id) before (standing id h) same
+lapse-each : (gone : Option ℕ) (id : ℕ) (h : List Entry) (before : Option Known) → SameContext before (standing id h) → SameContext (without gone id before) (standing id (lapsed gone h))
+lapse-each None id h before same = same
+lapse-each (Some gone) id h before same = gone-each (gone == id) before (standing id h) same
 
-numbers-lapsed : (place : Bool) (past : Option ℕ) (id : ℕ) (h : List Entry) → numbers id (lapsed place past h) ≡ numbers id h
-numbers-lapsed true past id h = refl
-numbers-lapsed false None id h = refl
-numbers-lapsed false (Some gone) id h = refl
+numbers-lapsed : (gone : Option ℕ) (id : ℕ) (h : List Entry) → numbers id (lapsed gone h) ≡ numbers id h
+numbers-lapsed None id h = refl
+numbers-lapsed (Some gone) id h = refl
+
+latest-lapsed : (gone : Option ℕ) (h : List Entry) → latest (lapsed gone h) ≡ latest h
+latest-lapsed None h = refl
+latest-lapsed (Some gone) h = refl
 
 none-without : (gone : Option ℕ) (id : ℕ) (P : Known → Type 0) → IfSome (without gone id None) P
 none-without None id P = tt
@@ -162,30 +165,30 @@ fine-first : (book : Stands) (past : Option ℕ) (mark : Option Mark) (step : Ac
 fine-first book past mark step r =
     let own = opened book.history + 1 in
     let now = book.greatest in
-    let place = has_place book.table in
     let next = next_of step in
-    let before = lapsed place past book.history in
+    let gone = goes_by None next past book.history book.table in
+    let before = lapsed gone book.history in
     let opens = noted mark own now (Opened own now ∷ before) in
     let after = context_after (until_of None now book.table) next in
     record {
       each = λ id. elim (cases_eq own id) [
         | inl e ↦
-            subst (λ (k : ℕ). SameContext (if own == k then Some after else without (lapsed_by None place past) k (context_of (slot_at book.table k))) (standing k (finished true next own now opens))) e
+            subst (λ (k : ℕ). SameContext (if own == k then Some after else without gone k (context_of (slot_at book.table k))) (standing k (finished true next own now opens))) e
             (rw (eq-eqb own own refl) (own-context true next own now (end_of_opened now) now opens (named-of step) (standing-noted mark own now own (Opened own now ∷ before) ∙ opened-own own now before) refl))
         | inr ne ↦
-            rw (ne_eqb own id ne) (subst (λ (s : Standing). SameContext (without (lapsed_by None place past) id (context_of (slot_at book.table id))) s)
+            rw (ne_eqb own id ne) (subst (λ (s : Standing). SameContext (without gone id (context_of (slot_at book.table id))) s)
             (sym (standing-finished true next own now id opens ne ∙ (standing-noted mark own now id (Opened own now ∷ before) ∙ other id ne)))
-            (lapse-each place past id book.history (context_of (slot_at book.table id)) (r.each id)))
+            (lapse-each gone id book.history (context_of (slot_at book.table id)) (r.each id)))
       ];
-      calls = λ id. numbers-finished true next own now id opens ∙ (numbers-noted mark own now id (Opened own now ∷ before) ∙ numbers-lapsed place past id book.history);
+      calls = λ id. numbers-finished true next own now id opens ∙ (numbers-noted mark own now id (Opened own now ∷ before) ∙ numbers-lapsed gone id book.history);
       fresh = λ id none. elim (cases_eq own id) [
         | inl e ↦ rw (eq-eqb own id e) (subst (λ (k : ℕ). numbers k book.history ≡ []) e r.next)
-        | inr ne ↦ rw (ne_eqb own id ne) (none-without (lapsed_by None place past) id _)
+        | inr ne ↦ rw (ne_eqb own id ne) (none-without gone id _)
       ];
       past = latest-finished true next own now opens (latest-noted mark own now (Opened own now ∷ before) (omega arith));
     }
   where
-    other : (id : ℕ) → opened book.history + 1 ≢ id → standing id (Opened (opened book.history + 1) book.greatest ∷ lapsed (has_place book.table) past book.history) ≡ standing id (lapsed (has_place book.table) past book.history)
+    other : (id : ℕ) → opened book.history + 1 ≢ id → standing id (Opened (opened book.history + 1) book.greatest ∷ lapsed (goes_by None (next_of step) past book.history book.table) book.history) ≡ standing id (lapsed (goes_by None (next_of step) past book.history book.table) book.history)
     other id ne = rw (ne_eqb (opened book.history + 1) id ne) refl
 
 -- ---- a later token, of a context that negotiates
@@ -199,29 +202,40 @@ slot-ends : (slot : Option (Slot AcceptEnd Outcome)) (at : ℕ) → SameContext 
 slot-ends None at same = absurd same
 slot-ends (Some slot) at same = state-ends slot.state slot.ends at same
 
+-- a step that goes on ends none
+own-later : (past : Option ℕ) (limit : ℕ) (next : Next AcceptEnd Outcome) (mark : Option Mark) (id now until at : ℕ) (h : List Entry) → Named next → standing id h ≡ Open at → until ≡ end_of_opened at
+    → SameContext (Some (context_after until next)) (standing id (finished false next id now (noted mark id now (lapsed (gone_of (is_crowded (settles next) h limit) false (slice_get (in_use h) 0) past) h))))
+own-later past limit (nexts.Going state) mark id now until at h named is ends =
+    own-context false (nexts.Going state) id now until at (noted mark id now h) named (standing-noted mark id now id h ∙ is) ends
+own-later past limit (nexts.Settled mech names value lasts) mark id now until at h named is ends =
+    own-settled id now value names until (noted mark id now (lapsed (gone_of (is_crowded true h limit) false (slice_get (in_use h) 0) past) h)) (context_after until (nexts.Settled mech names value lasts)) (Whole mech names lasts) (named.0, named.1, refl)
+
 fine-later : (book : Stands) (id : ℕ) (past : Option ℕ) (mark : Option Mark) (step : AcceptStep) (at : ℕ) → Ready book → standing id book.history ≡ Open at
     → Fine book (by_mark book (Some id) past mark step None)
 fine-later book id past mark step at r is =
     let now = book.greatest in
     let next = next_of step in
-    let opens = noted mark id now book.history in
+    let gone = goes_by (Some id) next past book.history book.table in
+    let before = lapsed gone book.history in
+    let opens = noted mark id now before in
     let after = context_after (ends_at (slot_at book.table id)) next in
     let own : SameContext (context_of (slot_at book.table id)) (Open at) = subst (λ (s : Standing). SameContext (context_of (slot_at book.table id)) s) is (r.each id) in
     record {
       each = λ other. elim (cases_eq id other) [
         | inl e ↦
-            subst (λ (k : ℕ). SameContext (if id == k then Some after else context_of (slot_at book.table k)) (standing k (finished false next id now opens))) e
-            (rw (eq-eqb id id refl) (own-context false next id now (ends_at (slot_at book.table id)) at opens (named-of step) (standing-noted mark id now id book.history ∙ is) (slot-ends (slot_at book.table id) at own)))
+            subst (λ (k : ℕ). SameContext (if id == k then Some after else without gone k (context_of (slot_at book.table k))) (standing k (finished false next id now opens))) e
+            (rw (eq-eqb id id refl) (own-later past book.table.limit next mark id now (ends_at (slot_at book.table id)) at book.history (named-of step) is (slot-ends (slot_at book.table id) at own)))
         | inr ne ↦
-            rw (ne_eqb id other ne) (subst (λ (s : Standing). SameContext (context_of (slot_at book.table other)) s)
-            (sym (standing-finished false next id now other opens ne ∙ standing-noted mark id now other book.history)) (r.each other))
+            rw (ne_eqb id other ne) (subst (λ (s : Standing). SameContext (without gone other (context_of (slot_at book.table other))) s)
+            (sym (standing-finished false next id now other opens ne ∙ standing-noted mark id now other before))
+            (lapse-each gone other book.history (context_of (slot_at book.table other)) (r.each other)))
       ];
-      calls = λ other. numbers-finished false next id now other opens ∙ numbers-noted mark id now other book.history;
+      calls = λ other. numbers-finished false next id now other opens ∙ (numbers-noted mark id now other before ∙ numbers-lapsed gone other book.history);
       fresh = λ other none. elim (cases_eq id other) [
         | inl e ↦ absurd (subst (λ (c : Option Known). SameContext c (Open at)) (ap (λ (k : ℕ). context_of (slot_at book.table k)) e ∙ none) own)
-        | inr ne ↦ rw (ne_eqb id other ne) tt
+        | inr ne ↦ rw (ne_eqb id other ne) (none-without gone other _)
       ];
-      past = latest-finished false next id now opens (latest-noted mark id now book.history r.past);
+      past = latest-finished false next id now opens (latest-noted mark id now before (subst (λ (n : ℕ). n ≤ now) (sym (latest-lapsed gone book.history)) r.past));
     }
 
 -- ---- all tokens
@@ -310,11 +324,12 @@ mark-same : (book : Stands) (t u : Places AcceptEnd Outcome) (id past : Option �
     → by_mark (on book t) id past mark step refusal ≡ by_mark (on book u) id past mark step refusal
 mark-same book t u id past mark step (Some refusal) a = refl
 mark-same book t u id past mark step None a =
-    let place : has_place t ≡ has_place u = λ i. nat_lt (a.live i) (a.limit i) in
+    let gone : goes_by id (next_of step) past book.history t ≡ goes_by id (next_of step) past book.history u = λ i.
+    gone_of (is_crowded (settles (next_of step)) book.history (a.limit i)) (is_none id && nat_le (a.limit i) (a.live i)) (slice_get (in_use book.history) 0) past in
     λ i. record {
       answer = answer_with (id_of id book.history) step;
-      history = entered id (place i) past mark (next_of step) book.greatest book.history;
-      change = Becomes (lapsed_by id (place i) past) (id_of id book.history) (context_after (alike-until t u id book.greatest a i) (next_of step));
+      history = entered id (gone i) mark (next_of step) book.greatest book.history;
+      change = Becomes (gone i) (id_of id book.history) (context_after (alike-until t u id book.greatest a i) (next_of step));
     }
 
 step-same : (book : Stands) (t u : Places AcceptEnd Outcome) (id past : Option ℕ) (taken : Result Accepted NegRefusal) → Alike t u → by_step (on book t) id past taken ≡ by_step (on book u) id past taken

@@ -9,4 +9,6 @@ pub mod Openings
 pub mod Beside
 pub mod Desks
 pub mod AllDesks
+pub mod Keepers
+pub mod Questions
 pub mod Headlines

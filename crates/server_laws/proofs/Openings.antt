@@ -45,7 +45,8 @@ opened-is options keys start book o = λ i.
         history = o.history i;
         limit = o.limit i;
         width = o.width i;
-        table = record { limit = o.contexts i; width = o.width i; slots = o.empty i };
+        keeping = o.keeping i;
+        table = record { limit = o.contexts i; width = o.width i; slots = o.empty i; used = book.core.table.used };
         cache = record { capacity = o.marks i; greatest = o.greatest i; held = [] };
       };
     } in

@@ -21,7 +21,7 @@ use Rattle.world_laws.specs.Lanes.{told_width, in_hand, question_of, ruling_of, 
 use Rattle.world_laws.specs.State.{InHand, World}
 use Rattle.world_runs.specs.Turning.{AtOnce, ByBook, Turned}
 use Rattle.world_runs.proofs.LaneTurns.{hand_with, lane-moved}
-use Rattle.history_laws.proofs.Past.{past-of}
+use Rattle.accept_core.proofs.Nexts.{next-of}
 use Rattle.world_laws.proofs.RulingPlan.{Late, Rules, Admits, Ends, Plan, Decides, Steps, Looks, Decision, Ruled, ruled, plan_by, late_by, rulings, record-planned}
 use Rattle.world_runs.proofs.RulingTurns.{ruling_after}
 use Rattle.world_laws.proofs.Slices.{set-same}
@@ -69,7 +69,7 @@ one-asked : (book new : BookOf) (octets : List ℕ) (now : ℕ) (draws : List �
     → (told octets now draws None looked None None).due ≡ Some (question_of one) → BookAnswers book one new → IsAnswer (ruling_after (told octets now draws) looked one) answer
     → Taken book (hand_with octets now draws looked) new None answer one
 one-asked book new octets now draws looked one answer due answers is =
-    let past = past-of book.core.table (max book.core.cache.greatest now) in (
+    let past = next-of book.core.table (max book.core.cache.greatest now) in (
       record {
         asked = one;
         due = due;
@@ -86,7 +86,7 @@ look-asked : (book new : BookOf) (octets : List ℕ) (now : ℕ) (draws : List �
     → (told octets now draws None (Some answer) None None).due ≡ Some question
     → Taken book (hand_with octets now draws None) new (Some (hand_with octets now draws (Some answer))) (Some (Stepped 0)) (AskedLook id at answer)
 look-asked book new octets now draws id at answer question due answers next =
-    let past = past-of book.core.table (max book.core.cache.greatest now) in
+    let past = next-of book.core.table (max book.core.cache.greatest now) in
     (record { asked = AskedLook id at answer; due = due; past = past.0; is_past = past.1; answers = answers; follows = inl (question, next, refl, refl) }, refl)
 
 -- ---- what a record asks, whatever the book is

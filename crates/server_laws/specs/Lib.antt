@@ -1,4 +1,6 @@
 pub mod Beside
+pub mod KeptReceipts
+pub mod Questions
 pub mod Receipts
 pub mod ServerHeadline
 pub mod Served

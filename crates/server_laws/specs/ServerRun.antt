@@ -19,7 +19,7 @@ use Rattle.gss_server.specs.declared.connection.Served.{Served}
 use Rattle.gss_server.specs.declared.keeper.Keeper as keepers
 use Rattle.book_seats.specs.Notes.{Note, asked_by}
 use Rattle.server_desks.specs.Desks.{ServedOf, LinksServed, run_limit}
-use Rattle.server_command.specs.Through.{IsOpened, OneHistory}
+use Rattle.server_command.specs.Through.{IsOpened, OneHistory, keeping_of, log_limit}
 use Rattle.server_seating.specs.SideBySide.{DeskTold, unasked, Noted}
 use Rattle.server_desks.specs.declared.desk.Desk.{Desk}
 use Rattle.server_desks.specs.declared.desk.DeskEnd.{DeskEnd}
@@ -43,9 +43,10 @@ opened_book options keys start = record {
   };
   core = record {
     history = [];
-    limit = options.log;
+    limit = log_limit options.log;
     width = options.window;
-    table = record { limit = options.contexts; width = options.window; slots = [] };
+    keeping = keeping_of options;
+    table = record { limit = options.contexts; width = options.window; slots = []; used = [] };
     cache = record { capacity = options.marks; greatest = start; held = [] };
   };
 }

@@ -6,5 +6,5 @@ mod receipts;
 mod served;
 
 pub use headline::prove_server_headline;
-pub use receipts::prove_receipts;
-pub use served::{prove_served, prove_server_run};
+pub use receipts::{prove_kept_receipts, prove_receipts};
+pub use served::{prove_questions, prove_served, prove_server_run};

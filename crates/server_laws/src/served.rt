@@ -2,6 +2,7 @@
 
 ghost use Rattle.server_laws.specs.Served.{ServedLaw, AllServedLaw};
 ghost use Rattle.server_laws.specs.ServerRun.{OpenedLaw, BookRunLaw, ServerIsRun};
+ghost use Rattle.server_laws.specs.Questions.{QuestionsLaw};
 
 use gss_server::{Keeper, Kept, Served};
 use sec_base::{Clock, Draw, Port};
@@ -17,4 +18,10 @@ pub fn prove_server_run<P: Port, C: Clock, D: Draw, K: Keeper<Kept>, S: Keeper<S
     ensures opened { OpenedLaw }
     ensures book { BookRunLaw }
     ensures run { ServerIsRun P.Port P.Link.Link C.Clock D.Draw K.Keeper S.Keeper }
+{}
+
+/// Does nothing; its contract holds that the questions of a desk in the history of a run are those of the desk's records, in order, each as the rule
+/// of its record asks it.
+pub fn prove_questions<P: Port, C: Clock, D: Draw, K: Keeper<Kept>, S: Keeper<Served<P::Link>>>()
+    ensures { QuestionsLaw P.Port P.Link.Link C.Clock D.Draw K.Keeper S.Keeper }
 {}

@@ -1,0 +1,4 @@
+mod Lives
+mod Elsewhere
+mod Firsts
+mod SeenFirsts

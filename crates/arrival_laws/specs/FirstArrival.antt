@@ -1,0 +1,96 @@
+-- First arrival: an honest call that comes to a lane without a record, of a context that lives, is
+-- done by two events of the lane.
+use Rattle.std.specs.Prelude.{◌≡◌, ◌≢◌, ◌⊎◌, ℕ, ◌≤◌, true, List, ◌∷◌, slice_get, Some, None, Ok}
+use Rattle.std.specs.List.{AllByRecursion}
+use Rattle.sha1.specs.Sha1.{sha1}
+use Rattle.krb_tokens.specs.declared.end.Side.TheVariants.{Initiator}
+use Rattle.spnego_core.specs.declared.outcome.Outcome.{Outcome}
+use Rattle.spnego_core.specs.Outcome.{token_end}
+use Rattle.accept_core.specs.Answers.{Free}
+use Rattle.accept_core.specs.History.{standing, is_whole}
+use Rattle.accept_core.specs.declared.entry.Admitted.{Admitted}
+use Rattle.accept_core.specs.declared.entry.Entry.TheVariants.{Call}
+use Rattle.accept_book.specs.declared.book_answer.Lease.{Lease}
+use Rattle.accept_book.specs.declared.rule.Rule.TheVariants as rules
+use Rattle.accept_book.specs.Honest.{Honest}
+use Rattle.accept_book.specs.RecordRule.{record_ruling}
+use Rattle.accept_book.specs.RecordShown.{Ruling, handle_id}
+use Rattle.accept_book.specs.Rules.{rule_number}
+use Rattle.honest_calls.specs.HonestCalls.{HasOctets}
+use Rattle.world_laws.specs.declared.event.Happened.TheVariants.{Sent}
+use Rattle.world_laws.specs.declared.event.WorldEvent.{WorldEvent}
+use Rattle.world_laws.specs.declared.event.WorldEvent.TheVariants.{Start, Deliver, Lane, CallBy}
+use Rattle.world_laws.specs.Agreement.{FixedAs}
+use Rattle.world_laws.specs.Deeds.{Deed}
+use Rattle.world_laws.specs.Events.{Happens, Run, Begins}
+use Rattle.world_laws.specs.Lanes.{told_width}
+use Rattle.world_laws.specs.State.{World}
+
+-- an honest call of a context comes to a lane that has no record in hand. The acceptor fixed the
+-- context with this outcome, until this moment; by the log it is settled and not ended; and the
+-- moment of the call is in its time
+pub record Comes (w : World) (lane : ℕ) (octets : List ℕ) (now : ℕ) (outcome : Outcome)
+    (id ends n procedure : ℕ) (args : List ℕ) : Type 0 where
+  pub idle : slice_get w.lanes lane ≡ Some None
+  pub fixed : FixedAs w id outcome ends
+  pub lives : is_whole (standing id w.book.core.history) ≡ true
+  pub timely : now ≤ ends
+  pub honest : Honest octets (token_end outcome Initiator) n procedure args
+  pub handle : handle_id honest.cred.context ≡ Some id
+  -- as the octets of each key that a program has
+  pub key : HasOctets outcome.key
+
+-- what a record with this moment and these draws comes to, whose context was shown by this lease,
+-- and whose number was admitted so
+abbrev pub admitted_ruling : List ℕ → ℕ → List ℕ → Lease → Admitted → Ruling
+admitted_ruling octets now draws lease admitted = record_ruling octets (record {
+  now = now;
+  draws = draws;
+  negotiated = None;
+  looked = Some (Ok lease);
+  admitted = Some (Ok admitted);
+  ended = None;
+}) told_width
+
+-- a call was done: its number was admitted by a lease of its context, rule 23 decides, its reply
+-- was sent, and the log has the call
+pub record IsDone (old : World) (deed : Deed) (new : World) (octets : List ℕ) (now : ℕ)
+    (draws : List ℕ) (id n procedure : ℕ) (args : List ℕ) : Type 0 where
+  pub lease : Lease
+  pub shows : lease.id ≡ id
+  pub admitted : Admitted
+  pub rule : (admitted_ruling octets now draws lease admitted).rule ≡ rule_number rules.Done
+  pub reply : List ℕ
+  pub replies : (admitted_ruling octets now draws lease admitted).reply ≡ Some reply
+  pub answered : deed.answer ≡ Some (Sent reply)
+  pub logged : new.book.core.history
+      ≡ Call id n procedure (sha1 args) ∷ old.book.core.history
+
+-- not an event of this lane
+abbrev pub IsElsewhere : ℕ → WorldEvent → Type 0
+IsElsewhere lane (Start i) = Unit {0}
+IsElsewhere lane (Deliver i octets first) = Unit {0}
+IsElsewhere lane (Lane other octets now draws) = other ≢ lane
+IsElsewhere lane (CallBy i procedure args) = Unit {0}
+
+-- whatever happens elsewhere meanwhile, the next event of the lane does the call, unless memory is
+-- wanted: where the context still isn't ended, the number is at most 0x80000000, above the floor of
+-- the context's window and wasn't called, and the log has a place (`Free`)
+abbrev pub TakesNext : World → ℕ → List ℕ → ℕ → List ℕ → ℕ → ℕ → ℕ → List ℕ → Type 0
+TakesNext looked lane octets now draws id n procedure args =
+    (between : List WorldEvent) (late : World) → Run looked between late
+    → AllByRecursion (IsElsewhere lane) between
+    → Free late.book.core.limit late.book.core.width late.book.core.history id n
+    → (others : List ℕ) (moment : ℕ) (drawn : List ℕ) (deed : Deed) (new : World)
+    → Happens late (Lane lane others moment drawn) deed new
+    → (deed.answer ≡ None) ⊎ IsDone late deed new octets now draws id n procedure args
+
+-- so it is at each point of each run: the lane's event with the call looks for its context, and the
+-- lane's next event does it, unless memory is wanted in one of them
+abbrev pub FirstArrivalLaw : Type 0
+FirstArrivalLaw = (start : World) (earlier : List WorldEvent) (w : World) → Begins start
+    → Run start earlier w → (lane : ℕ) (octets : List ℕ) (now : ℕ) (draws : List ℕ)
+    (outcome : Outcome) (id ends n procedure : ℕ) (args : List ℕ)
+    → Comes w lane octets now outcome id ends n procedure args → (deed : Deed) (looked : World)
+    → Happens w (Lane lane octets now draws) deed looked
+    → (deed.answer ≡ None) ⊎ TakesNext looked lane octets now draws id n procedure args

@@ -1,0 +1,2 @@
+pub mod FirstArrival
+pub mod SeenArrival

@@ -1,0 +1,3 @@
+pub mod KeyOctets
+mod Unsealing
+pub mod HonestCalls
