@@ -44,10 +44,10 @@ pub same-refusal : {A B E : Type 0} → (refusal other : E) → IsErrOf {T = A} 
 same-refusal {A} {B} {E} refusal other e = let f : refusal ≡ other = cc in ap Err f
 
 later-zero : (s : SessionState) → later 0 s ≡ s
-later-zero s = let e : s.number + 0 ≡ s.number = omega arith in λ i. record { outcome = s.outcome; service = s.service; handle = s.handle; number = e i; xid = s.xid }
+later-zero s = let e : s.number + 0 ≡ s.number = omega arith in λ i. record { outcome = s.outcome; terms = s.terms; handle = s.handle; number = e i; xid = s.xid }
 
 pub later-more : (n : ℕ) (s : SessionState) → later 1 (later n s) ≡ later (n + 1) s
-later-more n s = let e : s.number + n + 1 ≡ s.number + (n + 1) = omega arith in λ i. record { outcome = s.outcome; service = s.service; handle = s.handle; number = e i; xid = s.xid }
+later-more n s = let e : s.number + n + 1 ≡ s.number + (n + 1) = omega arith in λ i. record { outcome = s.outcome; terms = s.terms; handle = s.handle; number = e i; xid = s.xid }
 
 -- ---- one more
 

@@ -17,10 +17,10 @@ use crate::refusal::{PostRefusal, by_negotiation, by_reply};
 use crate::session::DatagramSession;
 use datagram_post::{Post, PostFault};
 use gss_client::{
-    Created, MOST_REPLIES, Offer, ReplyWhy, Session, Start, creation_call, creation_step, xid_after,
+    Created, MOST_REPLIES, Offer, ReplyWhy, Session, Start, Terms, creation_call, creation_step,
+    xid_after,
 };
 use init_ends::InitEnd;
-use rpcsec_bodies::Service;
 use rpcsec_msgs::numbers::{RPCSEC_GSS_CONTINUE_INIT, RPCSEC_GSS_INIT};
 use sec_base::{NoMemory, Octets};
 use std::alloc::Global;
@@ -36,7 +36,7 @@ fn spend<T>(_end: InitEnd, refusal: PostRefusal) -> Result<T, PostRefusal>
 fn ask<P: Post>(
     alloc: Global,
     post: &mut P,
-    service: Service,
+    terms: Terms,
     xid: u32,
     proc: u32,
     handle: &[u8],
@@ -47,7 +47,7 @@ fn ask<P: Post>(
     requires token { length token.now ≤ 65536 }
     requires few { over.old < 1024 }
     ensures asked { IsTrue (P.tells post.old) → Asked P.Post
-        (creation_call service xid proc handle.now token.now) xid over.old over.new
+        (creation_call terms xid proc handle.now token.now) xid over.old over.new
         post.old post.new result }
     ensures few { IfOk result (λ reply. over.new < 1024) }
     ensures fault { IsErrOf result PostRefusal.PostFault
@@ -55,7 +55,7 @@ fn ask<P: Post>(
     ensures tells { P.tells post.new ≡ P.tells post.old }
     ensures faults { P.faults post.old ≤ P.faults post.new }
 {
-    let call = match creation_call(alloc, service, xid, proc, handle, token) {
+    let call = match creation_call(alloc, terms, xid, proc, handle, token) {
         Ok(call) => call,
         Err(NoMemory) => return Err(PostRefusal::NoMemory),
     };
@@ -69,7 +69,7 @@ fn ask<P: Post>(
 fn establish<P: Post>(
     alloc: Global,
     post: &mut P,
-    service: Service,
+    terms: Terms,
     first: u32,
     xid: u32,
     proc: u32,
@@ -82,7 +82,7 @@ fn establish<P: Post>(
     requires last { first ≤ 0x7fffffff }
     requires few { over.old < 1024 }
     ensures told { IsTrue (P.tells post.old) → Creates P.Post
-        (creates_by end_step left service first xid proc (offer_means offer meaning))
+        (creates_by end_step left terms first xid proc (offer_means offer meaning))
         xid over.old post.old post.new result }
     ensures fault { IsErrOf result PostRefusal.PostFault
         → Rose (P.faults post.old) (P.faults post.new) }
@@ -96,7 +96,7 @@ fn establish<P: Post>(
     let asked = ask(
         alloc,
         post,
-        service,
+        terms,
         xid,
         proc,
         handle.as_slice(),
@@ -111,7 +111,7 @@ fn establish<P: Post>(
         Ok(Created::Going(next)) => establish(
             alloc,
             post,
-            service,
+            terms,
             first,
             xid_after(xid),
             RPCSEC_GSS_CONTINUE_INIT,
@@ -120,7 +120,7 @@ fn establish<P: Post>(
             over,
         ),
         Ok(Created::Stands(outcome, handle)) => Ok(Session::begun(
-            service,
+            terms,
             first,
             xid_after(xid),
             outcome,
@@ -150,7 +150,7 @@ impl DatagramSession {
     {
         let Start {
             setup,
-            service,
+            terms,
             first,
         } = start;
         let (end, token) = match InitEnd::start(alloc, setup) {
@@ -163,7 +163,7 @@ impl DatagramSession {
         match establish(
             alloc,
             post,
-            service,
+            terms,
             first,
             1,
             RPCSEC_GSS_INIT,

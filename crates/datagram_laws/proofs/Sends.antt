@@ -6,7 +6,6 @@ use Rattle.sec_base.specs.declared.draw.Draw as draws
 use Rattle.datagram_post.specs.declared.post.Post as posts
 use Rattle.rpc_msgs.specs.Auths.{IsAuth}
 use Rattle.rpc_msgs.specs.Calls.{call_at, secure_call}
-use Rattle.rpc_msgs.specs.declared.numbers.TheConstants.{PROGRAM, VERSION}
 use Rattle.rpc_msgs.proofs.CallLaws.{secure-again}
 use Rattle.rpcsec_msgs.specs.Cred.{is_service, cred_octets}
 use Rattle.rpcsec_msgs.proofs.CredLaws.{cred-only}
@@ -87,49 +86,49 @@ few-services services.None = lit< tt
 few-services services.Integrity = lit< tt
 few-services services.Privacy = lit< tt
 
-is-auth : (s : SessionState) (procedure : ℕ) → IsAuth (verifier_of s 0 (number_of s.service) procedure)
+is-auth : (s : SessionState) (procedure : ℕ) → IsAuth (verifier_of s 0 (number_of s.terms.service) procedure)
 unfolding verifier_of
-is-auth s procedure = record { flavour = lit< tt; body = omega (arith, mic-size (own_end s) (2 * s.number) (header_of s 0 (number_of s.service) procedure)) }
+is-auth s procedure = record { flavour = lit< tt; body = omega (arith, mic-size (own_end s) (2 * s.number) (header_of s 0 (number_of s.terms.service) procedure)) }
 
-one-read : (s : SessionState) (procedure : ℕ) (args confounder : List ℕ) → length s.handle ≤ 64 → s.xid < 2 ^ 32 → procedure < 2 ^ 32
-    → call_at (data_call s procedure args confounder) ≡ Ok (secure_call s.xid PROGRAM VERSION procedure (cred_octets (own_cred s 0 (number_of s.service))) (verifier_of s 0 (number_of s.service) procedure) (body_of s args confounder s.service))
+one-read : (s : SessionState) (procedure : ℕ) (args confounder : List ℕ) → s.terms.program < 2 ^ 32 → s.terms.version < 2 ^ 32 → length s.handle ≤ 64 → s.xid < 2 ^ 32 → procedure < 2 ^ 32
+    → call_at (data_call s procedure args confounder) ≡ Ok (secure_call s.xid s.terms.program s.terms.version procedure (cred_octets (own_cred s 0 (number_of s.terms.service))) (verifier_of s 0 (number_of s.terms.service) procedure) (body_of s args confounder s.terms.service))
 unfolding data_call signed_call
-one-read s procedure args confounder handle xid few =
-    secure-again s.xid PROGRAM VERSION procedure (cred_octets (own_cred s 0 (number_of s.service))) (verifier_of s 0 (number_of s.service) procedure) (body_of s args confounder s.service) (data_call s procedure args confounder)
-    xid (lit< tt) (lit< tt) few (cred-fits (own_cred s 0 (number_of s.service)) handle) (is-auth s procedure) refl
+one-read s procedure args confounder program version handle xid few =
+    secure-again s.xid s.terms.program s.terms.version procedure (cred_octets (own_cred s 0 (number_of s.terms.service))) (verifier_of s 0 (number_of s.terms.service) procedure) (body_of s args confounder s.terms.service) (data_call s procedure args confounder)
+    xid program version few (cred-fits (own_cred s 0 (number_of s.terms.service)) handle) (is-auth s procedure) refl
 
-one-says : (s : SessionState) (procedure : ℕ) (args confounder : List ℕ) → length s.handle ≤ 64 → s.xid < 2 ^ 32 → s.number < 2 ^ 32 → procedure < 2 ^ 32 → Says (data_call s procedure args confounder) (next_of s)
-one-says s procedure args confounder handle xid number few = record {
-  call = secure_call s.xid PROGRAM VERSION procedure (cred_octets (own_cred s 0 (number_of s.service))) (verifier_of s 0 (number_of s.service) procedure) (body_of s args confounder s.service);
-  cred = own_cred s 0 (number_of s.service);
-  read = one-read s procedure args confounder handle xid few;
+one-says : (s : SessionState) (procedure : ℕ) (args confounder : List ℕ) → s.terms.program < 2 ^ 32 → s.terms.version < 2 ^ 32 → length s.handle ≤ 64 → s.xid < 2 ^ 32 → s.number < 2 ^ 32 → procedure < 2 ^ 32 → Says (data_call s procedure args confounder) (next_of s)
+one-says s procedure args confounder program version handle xid number few = record {
+  call = secure_call s.xid s.terms.program s.terms.version procedure (cred_octets (own_cred s 0 (number_of s.terms.service))) (verifier_of s 0 (number_of s.terms.service) procedure) (body_of s args confounder s.terms.service);
+  cred = own_cred s 0 (number_of s.terms.service);
+  read = one-read s procedure args confounder program version handle xid few;
   xid = refl;
-  inside = cred-only (own_cred s 0 (number_of s.service)) (record { proc = lit≤ tt; seq = number; service = few-services s.service; served = served s.service; context = omega (arith, handle) });
+  inside = cred-only (own_cred s 0 (number_of s.terms.service)) (record { proc = lit≤ tt; seq = number; service = few-services s.terms.service; served = served s.terms.service; context = omega (arith, handle) });
   number = refl;
 }
 
-times-say : (s : SessionState) (procedure : ℕ) (args : List ℕ) (n : ℕ) (confounders more : List (List ℕ)) (rest : List Sent) → length s.handle ≤ 64 → s.xid < 2 ^ 32 → s.number + n + length confounders ≤ 0x80000000 → procedure < 2 ^ 32
+times-say : (s : SessionState) (procedure : ℕ) (args : List ℕ) (n : ℕ) (confounders more : List (List ℕ)) (rest : List Sent) → s.terms.program < 2 ^ 32 → s.terms.version < 2 ^ 32 → length s.handle ≤ 64 → s.xid < 2 ^ 32 → s.number + n + length confounders ≤ 0x80000000 → procedure < 2 ^ 32
     → EachSays more rest → EachSays (sends s procedure args n confounders ++ more) (times s n confounders ++ rest)
-times-say s procedure args n [] more rest handle xid number few says = says
-times-say s procedure args n (confounder ∷ confounders) more rest handle xid number few says =
-    (one-says (later n s) procedure args confounder handle xid (omega (arith, number)) few, times-say s procedure args (n + 1) confounders more rest handle xid (omega (arith, number)) few says)
+times-say s procedure args n [] more rest program version handle xid number few says = says
+times-say s procedure args n (confounder ∷ confounders) more rest program version handle xid number few says =
+    (one-says (later n s) procedure args confounder program version handle xid (omega (arith, number)) few, times-say s procedure args (n + 1) confounders more rest program version handle xid (omega (arith, number)) few says)
 
 length-times : (s : SessionState) (n : ℕ) (confounders : List (List ℕ)) → length (times s n confounders) ≡ length confounders
 length-times s n [] = refl
 length-times s n (confounder ∷ more) = ap suc (length-times s (n + 1) more)
 
-by-say : (s : SessionState) (calls : List Made) → length s.handle ≤ 64 → s.xid + length calls < 2 ^ 32 → s.number + length (sent_by s calls) ≤ 0x80000000 → AllByRecursion (λ (call : Made). call.procedure < 2 ^ 32) calls
+by-say : (s : SessionState) (calls : List Made) → s.terms.program < 2 ^ 32 → s.terms.version < 2 ^ 32 → length s.handle ≤ 64 → s.xid + length calls < 2 ^ 32 → s.number + length (sent_by s calls) ≤ 0x80000000 → AllByRecursion (λ (call : Made). call.procedure < 2 ^ 32) calls
     → EachSays (sent_octets s calls) (sent_by s calls)
-by-say s [] handle xids numbers procedures = tt
-by-say s (call ∷ calls) handle xids numbers procedures =
+by-say s [] program version handle xids numbers procedures = tt
+by-say s (call ∷ calls) program version handle xids numbers procedures =
     let e : xid_after s.xid ≡ s.xid + 1 = next-xid s.xid (omega (arith, xids)) in
     let rest : List Sent = sent_by (behind s call) calls in
     let size : length (sent_by s (call ∷ calls)) ≡ length (call.first ∷ call.again) + length rest = length-append (times s 0 (call.first ∷ call.again)) rest ∙ ap (λ (n : ℕ). n + length rest) (length-times s 0 (call.first ∷ call.again)) in
-    times-say s call.procedure call.args 0 (call.first ∷ call.again) (sent_octets (behind s call) calls) rest handle (omega (arith, xids)) (omega (arith, numbers, size)) procedures.0
-    (by-say (behind s call) calls handle (omega (arith, xids, e)) (omega (arith, numbers, size)) procedures.1)
+    times-say s call.procedure call.args 0 (call.first ∷ call.again) (sent_octets (behind s call) calls) rest program version handle (omega (arith, xids)) (omega (arith, numbers, size)) procedures.0
+    (by-say (behind s call) calls program version handle (omega (arith, xids, e)) (omega (arith, numbers, size)) procedures.1)
 
 pub sends-law : SendsLaw
-sends-law s calls made = record { sending = by-sending s calls made.xids; says = by-say s calls made.handle made.xids made.numbers made.procedures }
+sends-law s calls made = record { sending = by-sending s calls made.xids; says = by-say s calls made.program made.version made.handle made.xids made.numbers made.procedures }
 
 -- ---- a call that was answered
 

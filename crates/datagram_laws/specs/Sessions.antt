@@ -60,9 +60,11 @@ EachSays [] (one ∷ sent) = ⊥
 EachSays (octets ∷ more) [] = ⊥
 EachSays (octets ∷ more) (one ∷ sent) = Says octets one × EachSays more sent
 
--- a session and its calls: the server's handle is short, the transaction numbers don't begin anew,
--- and the numbers end before 0x80000000
+-- a session and its calls: its program and version are words, the server's handle is short, the
+-- transaction numbers don't begin anew, and the numbers end before 0x80000000
 pub record AreMade (s : SessionState) (calls : List Made) : Type 0 where
+  pub program : s.terms.program < 2 ^ 32
+  pub version : s.terms.version < 2 ^ 32
   pub handle : length s.handle ≤ 64
   pub xids : s.xid + length calls < 2 ^ 32
   pub numbers : s.number + length (sent_by s calls) ≤ 0x80000000

@@ -1,5 +1,6 @@
 -- A gate of a run, from its opening on.
-use Rattle.std.proofs.Common.{◌≡◌, ℕ, ◌*◌, List, [], ◌∷◌, refl, ap, sym, ◌∙◌, subst, arith, flat_map, length, reverse}
+use Rattle.std.proofs.Common.{◌≡◌, ℕ, suc, ◌*◌, List, [], ◌∷◌, ◌++◌, refl, ap, sym, ◌∙◌, subst, arith, flat_map, length, replicate, reverse}
+use Rattle.std.proofs.lemmas.List.{length-replicate}
 use Rattle.accept_book.specs.Booking.{BookOf}
 use Rattle.accept_book.specs.RecordShown.{Asked}
 use Rattle.accept_core.specs.Entering.{gained}
@@ -43,6 +44,7 @@ limits-of options keys start book log opened under = record {
   limit = under.limit ∙ opened.limit;
   contexts = under.contexts ∙ opened.contexts;
   marks = under.marks ∙ opened.marks;
+  keeping = under.keeping ∙ opened.keeping;
 }
 
 -- the receipts are the log
@@ -58,7 +60,11 @@ seen-of options keys start gate new asked opened has legal =
     let empty : IsEmpty gate.gate = record { history = opened.history; slots = opened.empty } in
     subst (λ (n : ℕ). AllSeen gate.gate.setup (limits_of gate.gate.core) n has.below) opened.greatest (seen-law gate.gate new.gate has.below empty has.chain legal)
 
--- a keeper of all keeps each one as it is
-pub all-kept : {A : Type 0} (xs : List A) → flat_map (λ (one : A). one ∷ []) xs ≡ xs
-all-kept [] = refl
-all-kept (x ∷ xs) = ap (λ (l : List _). x ∷ l) (all-kept xs)
+-- what a keeper counts is how many things it was given
+pub one-each : {A : Type 0} (xs : List A) → length (flat_map (λ (_ : A). tt {0} ∷ []) xs) ≡ length xs
+one-each [] = refl
+one-each (x ∷ xs) = ap suc (one-each xs)
+
+pub counted : {A : Type 0} (new old : ℕ) (xs : List A) → old ≡ 0 → replicate new (tt {0}) ≡ replicate old tt ++ flat_map (λ (_ : A). tt ∷ []) xs
+    → new ≡ length xs
+counted {A} new old xs none given = sym (length-replicate new (tt {0})) ∙ (ap length given ∙ (ap (λ (n : ℕ). length (replicate n (tt {0}) ++ flat_map (λ (_ : A). tt ∷ []) xs)) none ∙ one-each xs))

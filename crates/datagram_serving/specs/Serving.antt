@@ -1,6 +1,6 @@
 -- The run of a server over datagrams.
 use Rattle.std.specs.Prelude.{◌≡◌, ◌⊎◌, ℕ, ◌*◌, List, [], ◌++◌, length, map, reverse}
-use Rattle.std.specs.Prelude.{Result, Ok, Err}
+use Rattle.std.specs.Prelude.{Option, None, Some, Result, Ok, Err}
 use Rattle.std.specs.List.{flat_map}
 use Rattle.sec_base.specs.declared.clock.Clock as clocks
 use Rattle.sec_base.specs.declared.draw.Draw as draws
@@ -8,7 +8,7 @@ use Rattle.sec_base.specs.declared.shelf.Shelf as shelves
 use Rattle.accept_book.specs.Booking.{BookOf}
 use Rattle.accept_core.specs.Entering.{gained}
 use Rattle.accept_core.specs.Legal.{Legal}
-use Rattle.accept_core.specs.Logs.{LogOf, no_log}
+use Rattle.accept_core.specs.Logs.{LogOf, no_log, kept_digest}
 use Rattle.again_gate.specs.Again.{AgainOf, opened_gate}
 use Rattle.again_gate.specs.Turns.{Turned}
 use Rattle.again_laws.specs.Acting.{acting, xids, NoneAgain}
@@ -27,6 +27,7 @@ use Rattle.rpc_datagram.specs.declared.serving.ServeEnd.TheVariants as ends
 use Rattle.rpc_datagram.specs.declared.serving.ServeEnd as servings
 use Rattle.server_command.specs.Runs.{HasLimits}
 use Rattle.server_command.specs.Through.{IsOpened}
+use Rattle.server_desks.specs.Desks.{greatest_count}
 use Rattle.server_options.specs.Keys.{KeysFrom}
 use Rattle.server_options.specs.declared.ending.Counts.{Counts}
 use Rattle.server_options.specs.declared.ending.RunEnd.{RunEnd}
@@ -41,10 +42,22 @@ end_of ends.Done = serves.As Served
 end_of ends.PostFault = serves.PostFault
 end_of ends.NoMemory = serves.As NoMemory
 
--- what a run's line counts: one connection, the answers that were kept, and the log's entries
-abbrev pub counts_of : LogOf → List Kept → Counts
-counts_of log kept =
-    record { connections = 1; records = length kept; entries = length log.entries }
+-- what a run's line says: one connection, the datagrams that were answered, the log's entries, and
+-- its digest where it was kept
+abbrev pub counts_of : LogOf → ℕ → Counts
+counts_of log records =
+    record {
+      connections = 1;
+      records = records;
+      entries = length log.entries;
+      digest = kept_digest log;
+    }
+
+-- how often a run waits for a datagram, by its option; without it until its post fails, or so often
+-- that it comes to the same
+abbrev pub waits_of : Option ℕ → ℕ
+waits_of None = greatest_count
+waits_of (Some waits) = waits
 
 -- a gate as it is opened: over a book for these options and keys, with places for as many contexts
 -- as the book has, each for twice as many calls as a window has numbers
@@ -54,11 +67,14 @@ pub record IsGate (options : Options) (keys : Keys) (start : ℕ) (gate : AgainO
     pub opened : IsOpened options keys start book
     pub over : gate ≡ opened_gate book options.contexts (2 * options.window)
 
--- a gate answered the datagrams that came in so many waits, and the log is that of its book
+-- a gate answered the datagrams that came in so many waits, so many of them, and the log is that of
+-- its book
 pub record Answers {P C D : Type 0} (post : posts.Ghosts P) (clock : clocks.Ghosts C)
     (draw : draws.Ghosts D) (below : gates.Ghosts BookOf) (width most : ℕ) (gate : AgainOf BookOf)
     (old new : P) (clock_old clock_new : C) (draw_old draw_new : D) (end : ServeEnd) (log : LogOf)
-    (kept : List Kept) : Type 0 where
+    (records : ℕ) : Type 0 where
+  pub kept : List Kept
+  pub count : records ≡ length kept
   pub gate_new : AgainOf BookOf
   pub stop : servings.ServeEnd
   pub served : DatagramsServed post below width most old new gate gate_new stop kept
@@ -71,10 +87,10 @@ pub record Answers {P C D : Type 0} (post : posts.Ghosts P) (clock : clocks.Ghos
   pub under : IsUnder (limits_of gate.gate.core) log
 
 -- no book was opened: nothing was heard or sent
-pub record NoBook {P : Type 0} (old new : P) (log : LogOf) (kept : List Kept) : Type 0 where
+pub record NoBook {P : Type 0} (old new : P) (log : LogOf) (records : ℕ) : Type 0 where
   pub same : new ≡ old
   pub log_is : log ≡ no_log
-  pub none : kept ≡ []
+  pub none : records ≡ 0
 
 -- the transaction numbers of datagrams, and what the gate was asked for them
 abbrev pub turns_of : ℕ → List Datagram → List Turned
@@ -88,11 +104,11 @@ turns_of width all = map (turn_of width) all
 pub record Booked {P C D : Type 0} (post : posts.Ghosts P) (clock : clocks.Ghosts C)
     (draw : draws.Ghosts D) (below : gates.Ghosts BookOf) (options : Options) (keys : Keys)
     (start : ℕ) (old new : P) (clock_old clock_new : C) (draw_old draw_new : D) (end : ServeEnd)
-    (log : LogOf) (kept : List Kept) : Type 0 where
+    (log : LogOf) (records : ℕ) : Type 0 where
   pub gate : AgainOf BookOf
   pub is : IsGate options keys start gate
-  pub answers : Answers post clock draw below options.window options.connections gate old new
-      clock_old clock_new draw_old draw_new end log kept
+  pub answers : Answers post clock draw below options.window (waits_of options.connections) gate
+      old new clock_old clock_new draw_old draw_new end log records
   pub limits : HasLimits options log
   pub turns : List Turned
   pub turns_are : turns ≡ turns_of options.window (answers.served.answered ++ answers.served.last)
@@ -104,28 +120,28 @@ pub record Booked {P C D : Type 0} (post : posts.Ghosts P) (clock : clocks.Ghost
 -- unless there was no memory to open it
 abbrev pub IsServed : {P C D : Type 0} → posts.Ghosts P → clocks.Ghosts C → draws.Ghosts D
     → gates.Ghosts BookOf → Options → Keys → ℕ → P → P → C → C → D → D → ServeEnd → LogOf
-    → List Kept → Type 0
+    → ℕ → Type 0
 IsServed post clock draw below options keys start old new clock_old clock_new draw_old draw_new end
-    log kept = ((end ≡ serves.As NoMemory) × NoBook old new log kept) ⊎ Booked post clock draw
-    below options keys start old new clock_old clock_new draw_old draw_new end log kept
+    log records = ((end ≡ serves.As NoMemory) × NoBook old new log records) ⊎ Booked post clock draw
+    below options keys start old new clock_old clock_new draw_old draw_new end log records
 
 -- by what the keys come to: the run ends by them, or they are served by
 abbrev pub BehindKeys : {P C D : Type 0} → posts.Ghosts P → clocks.Ghosts C → draws.Ghosts D
     → gates.Ghosts BookOf → Options → ℕ → Result Keys RunEnd → P → P → C → C → D → D → ServeEnd
-    → LogOf → List Kept → Type 0
+    → LogOf → ℕ → Type 0
 BehindKeys post clock draw below options start (Err stop) old new clock_old clock_new draw_old
-    draw_new end log kept = (end ≡ serves.As stop) × NoBook old new log kept
+    draw_new end log records = (end ≡ serves.As stop) × NoBook old new log records
 BehindKeys post clock draw below options start (Ok keys) old new clock_old clock_new draw_old
-    draw_new end log kept = IsServed post clock draw below options keys start old new clock_old
-    clock_new draw_old draw_new end log kept
+    draw_new end log records = IsServed post clock draw below options keys start old new clock_old
+    clock_new draw_old draw_new end log records
 
 -- the keys are read from the files that the options name, and what follows is by them
 pub record Runs {F P C D : Type 0} (shelf : shelves.Ghosts F) (post : posts.Ghosts P)
     (clock : clocks.Ghosts C) (draw : draws.Ghosts D) (below : gates.Ghosts BookOf)
     (options : Options) (start : ℕ) (shelf_old shelf_new : F) (old new : P)
     (clock_old clock_new : C) (draw_old draw_new : D) (end : ServeEnd) (log : LogOf)
-    (kept : List Kept) : Type 0 where
+    (records : ℕ) : Type 0 where
   pub keys : Result Keys RunEnd
   pub read : KeysFrom shelf shelf_old shelf_new options.files options.name keys
   pub behind : BehindKeys post clock draw below options start keys old new clock_old clock_new
-      draw_old draw_new end log kept
+      draw_old draw_new end log records

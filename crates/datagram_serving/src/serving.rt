@@ -4,22 +4,24 @@ ghost use Rattle.std.specs.Prelude.{◌≡◌, ◌≢◌, ◌≤◌, IfOk, IsTru
 ghost use Rattle.sec_base.specs.Answers.{Rose};
 ghost use Rattle.cli_base.specs.Lines.{Says};
 ghost use Rattle.datagram_serving.specs.Serving.{IsGate, end_of, Answers, IsServed, counts_of};
-ghost use Rattle.datagram_serving.specs.Serving.{Runs};
+ghost use Rattle.datagram_serving.specs.Serving.{Runs, waits_of};
 ghost use Rattle.datagram_options.specs.Endings.{serve_status, serve_line};
 ghost use Rattle.server_command.specs.Runs.{names_in, journal_name};
 ghost use Rattle.server_command.specs.Through.{IsOpened};
 ghost use Rattle.server_options.specs.Options.{IsRanged};
 ghost use Rattle.gss_base.specs.Principal.{text_form};
 
+use crate::counting::KeepCount;
 use accept_book::{Limits, Log, OwnSeat};
 use again_gate::AgainGate;
 use again_laws::{prove_acts_once, prove_below};
 use datagram_options::{ServeEnd, say_serve};
 use datagram_post::Post;
 use gss_base::{Label, Principal};
-use gss_server::{Gate, KeepAll, Kept};
+use gss_server::Gate;
 use rpc_datagram::serve;
 use sec_base::{Clock, Draw, Moment, NoMemory, Shelf, Sink};
+use server_command::{keeping_of, log_limit};
 use server_options::{Counts, Files, Keys, Names, Options, RunEnd, keys_from};
 use spnego_core::AcceptSetup;
 use std::alloc::Global;
@@ -34,9 +36,12 @@ pub struct ServeRun {
     pub end: ServeEnd,
     /// The log of the book, which is empty and has no limits where no book was opened.
     pub log: Log,
-    /// What was kept of the answers to the datagrams, in order.
-    pub kept: Vec<Kept>,
+    /// How many datagrams were answered, those that got no reply among them.
+    pub records: u64,
 }
+
+/// How often a run waits for a datagram without an option, 2 ^ 47 times: at 10,000 a second it takes 446 years.
+const MOST_WAITS: u64 = 140_737_488_355_328;
 
 /// The names of a run that had its keys.
 const UNNAMED: Names<'static> = Names {
@@ -51,7 +56,7 @@ const UNNAMED: Names<'static> = Names {
 struct ServeCourse {
     end: ServeEnd,
     log: Log,
-    kept: Vec<Kept>,
+    records: u64,
 }
 
 /// The book of a run.
@@ -67,8 +72,9 @@ fn open_seat(
     let limits = Limits {
         contexts: options.contexts as usize,
         marks: options.marks as usize,
-        log: options.log as usize,
+        log: log_limit(options.log),
         width: options.window,
+        keeping: keeping_of(&options),
     };
     let setup = AcceptSetup {
         own: options.name,
@@ -118,19 +124,19 @@ fn serve_by<P: Post, C: Clock, D: Draw>(
     alloc: Global,
     gate: AgainGate<OwnSeat>,
     width: u32,
-    most: u32,
+    most: u64,
     post: &mut P,
     clock: &mut C,
     draw: &mut D,
 ) -> ServeCourse
     ensures told { Answers P.Post C.Clock D.Draw ⟦<OwnSeat as Gate>⟧ width most gate post.old
-        post.new clock.old clock.new draw.old draw.new result.end result.log result.kept.items }
+        post.new clock.old clock.new draw.old draw.new result.end result.log result.records }
     ensures fault { result.end ≡ ServeEnd.PostFault → Rose (P.faults post.old) (P.faults post.new) }
     ensures tells { P.tells post.new ≡ P.tells post.old }
     ensures faults { P.faults post.old ≤ P.faults post.new }
 {
     let mut gate = gate;
-    let mut keeper = KeepAll::new(alloc);
+    let mut keeper = KeepCount::new();
     let end = serve(
         alloc,
         post,
@@ -144,7 +150,17 @@ fn serve_by<P: Post, C: Clock, D: Draw>(
     ServeCourse {
         end: end_of(end),
         log: gate.into_gate().into_log(),
-        kept: keeper.all,
+        records: keeper.count,
+    }
+}
+
+/// How often a run waits for a datagram, by its option; 1,000 times without it.
+fn waits_of(connections: Option<u32>) -> u64
+    ensures { result ≡ waits_of connections }
+{
+    match connections {
+        None => MOST_WAITS,
+        Some(waits) => waits as u64,
     }
 }
 
@@ -161,21 +177,21 @@ fn open_and_serve<P: Post, C: Clock, D: Draw>(
     requires { IsRanged options }
     ensures served { IsServed P.Post C.Clock D.Draw ⟦<OwnSeat as Gate>⟧ options keys start
         post.old post.new clock.old clock.new draw.old draw.new result.end result.log
-        result.kept.items }
+        result.records }
     ensures fault { result.end ≡ ServeEnd.PostFault → Rose (P.faults post.old) (P.faults post.new) }
     ensures tells { P.tells post.new ≡ P.tells post.old }
     ensures faults { P.faults post.old ≤ P.faults post.new }
 {
     let width = options.window;
-    let most = options.connections;
+    let most = waits_of(options.connections);
     prove_acts_once();
     prove_below::<OwnSeat>();
     match open_gate(alloc, options, keys, start) {
         Ok(gate) => serve_by(alloc, gate, width, most, post, clock, draw),
         Err(NoMemory) => ServeCourse {
             end: ServeEnd::As(RunEnd::NoMemory),
-            log: Log::empty(alloc),
-            kept: Vec::new(alloc),
+            log: Log::empty(),
+            records: 0,
         },
     }
 }
@@ -202,29 +218,30 @@ fn names_in<'a>(files: &'a Files, label: &'a Label) -> Names<'a>
     }
 }
 
-/// Says how a run ended: with one connection for the post, and as many records as answers were kept.
+/// Says how a run ended: with one connection for the post, and as many records as datagrams were answered.
 fn finish<O: Sink>(alloc: Global, names: &Names<'_>, course: ServeCourse, err: &mut O) -> ServeRun
     ensures status { result.status ≢ 6 → result.status ≢ 8
         → result.status ≡ serve_status result.end }
     ensures sink_fault { result.status ≡ 6 → Rose (O.faults err.old) (O.faults err.new) }
     ensures said { IsTrue (O.tells err.old) → Says (O.written err.old) (O.written err.new)
-        result.status (serve_line names.now (counts_of result.log result.kept.items) result.end) }
+        result.status (serve_line names.now (counts_of result.log result.records) result.end) }
     ensures end { result.end ≡ course.end }
     ensures log { result.log ≡ course.log }
-    ensures kept { result.kept ≡ course.kept }
+    ensures records { result.records ≡ course.records }
 {
-    let ServeCourse { end, log, kept } = course;
+    let ServeCourse { end, log, records } = course;
     let counts = Counts {
         connections: 1,
-        records: kept.len() as u128,
+        records: records as u128,
         entries: log.len(),
+        digest: log.digest(),
     };
     let status = say_serve(alloc, err, names, &counts, end);
     ServeRun {
         status,
         end,
         log,
-        kept,
+        records,
     }
 }
 
@@ -245,11 +262,11 @@ pub fn run_serve<F: Shelf, P: Post, C: Clock, D: Draw, O: Sink>(
     ensures sink_fault { result.status ≡ 6 → Rose (O.faults err.old) (O.faults err.new) }
     ensures said { IsTrue (O.tells err.old) → Says (O.written err.old) (O.written err.new)
         result.status (serve_line (names_in options.files (text_form options.name.realm
-        options.name.parts)) (counts_of result.log result.kept.items) result.end) }
+        options.name.parts)) (counts_of result.log result.records) result.end) }
     // The run ends by what keytab and verifiers come to; else one book answers the datagrams, from its opening to the log that is returned.
     ensures runs { Runs F.Shelf P.Post C.Clock D.Draw ⟦<OwnSeat as Gate>⟧ options start
         shelf.old shelf.new post.old post.new clock.old clock.new draw.old draw.new result.end
-        result.log result.kept.items }
+        result.log result.records }
     ensures fault { result.end ≡ ServeEnd.PostFault → Rose (P.faults post.old) (P.faults post.new) }
     ensures tells { P.tells post.new ≡ P.tells post.old }
     ensures faults { P.faults post.old ≤ P.faults post.new }
@@ -264,8 +281,8 @@ pub fn run_serve<F: Shelf, P: Post, C: Clock, D: Draw, O: Sink>(
             let names = names_in(&options.files, &label);
             let course = ServeCourse {
                 end: ServeEnd::As(end),
-                log: Log::empty(alloc),
-                kept: Vec::new(alloc),
+                log: Log::empty(),
+                records: 0,
             };
             finish(alloc, &names, course, err)
         }

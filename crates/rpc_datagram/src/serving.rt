@@ -136,7 +136,7 @@ pub fn serve<P: Post, K: Keeper<Kept>, G: Gate, C: Clock, D: Draw>(
     clock: &mut C,
     draw: &mut D,
     width: u32,
-    most: u32,
+    most: u64,
 ) -> ServeEnd
     // The answers that the keeper was given are those to the datagrams, in order, and each part of one was asked of the gate, in order, under its
     // record's transaction number. Over a post that tells, the datagrams are those that came, and their replies were sent, in order.

@@ -8,7 +8,7 @@ pub returns-in-Ok-clause-served : goal.returns-in-Ok-clause-served
 returns-in-Ok-clause-served g c =
     let options = c.args.options in
     let gate = c.in-Ok.gate in
-    let a = c.serve_by.ensures.told in
+    let a = rw c.waits_of-most.ensures at c.serve_by.ensures.told in
     let turns = turns_of options.window (a.served.answered ++ a.served.last) in
     let has = c.prove_below.ensures turns gate a.gate_new a.served.course.turns in
     let opened = opened-of options c.args.keys c.args.start gate c.in-Ok.ensures in

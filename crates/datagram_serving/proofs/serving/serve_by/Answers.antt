@@ -3,17 +3,18 @@ use Rattle.accept_book.specs.Booking.{BookOf}
 use Rattle.accept_core.specs.Legal.{Legal}
 use Rattle.accept_core.specs.declared.entry.Limits.{Limits}
 use Rattle.gss_server.specs.declared.answer.Kept.{Kept}
-use Rattle.datagram_serving.proofs.Once.{all-kept}
+use Rattle.datagram_serving.proofs.Once.{counted}
 use Rattle.datagram_serving.proofs.serving.serve_by.Goals as goal
 
 pub returns-clause-told : goal.returns-clause-told
 returns-clause-told g c =
     let made = c.serve-end.ensures.served in
-    let all : c.serve-end.new.keeper.all.items ≡ made.kept = made.given ∙ (ap (λ (l : List Kept). l ++ flat_map (λ (one : Kept). one ∷ []) made.kept) c.new-keeper.ensures ∙ all-kept made.kept) in
     let book = c.into_gate.ensures in
     let limits = c.serve-end.ensures.gate_kept.limits in
     let log = c.into_log.ensures in
-    rw all (record {
+    record {
+      kept = made.kept;
+      count = counted c.serve-end.new.keeper.count c.new-keeper.result.count made.kept c.new-keeper.ensures made.given;
       gate_new = c.serve-end.new.gate;
       stop = c.serve-end.result;
       served = made.holds;
@@ -28,5 +29,6 @@ returns-clause-told g c =
         limit = log.limit ∙ (ap (λ (b : BookOf). b.core.limit) book ∙ ap (λ (l : Limits). l.log) limits);
         contexts = log.contexts ∙ (ap (λ (b : BookOf). b.core.table.limit) book ∙ ap (λ (l : Limits). l.contexts) limits);
         marks = log.marks ∙ (ap (λ (b : BookOf). b.core.cache.capacity) book ∙ ap (λ (l : Limits). l.marks) limits);
+        keeping = log.keeping ∙ (ap (λ (b : BookOf). b.core.keeping) book ∙ ap (λ (l : Limits). l.keeping) limits);
       };
-    })
+    }

@@ -1,0 +1,4 @@
+mod Called
+mod Ends
+mod Rows
+mod Spoken

@@ -1,0 +1,4 @@
+pub mod Credentials
+pub mod Calls
+pub mod Sessions
+pub mod Runs
