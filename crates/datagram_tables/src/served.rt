@@ -1,6 +1,6 @@
 //! What a server answers to datagrams, over a book of its own.
 
-use accept_book::{Entry, Limits, OwnSeat};
+use accept_book::{Entry, Keeping, Limits, OwnSeat};
 use again_gate::AgainGate;
 use datagram_post::MemPost;
 use gss_server::KeepAll;
@@ -16,6 +16,10 @@ const LIMITS: Limits = Limits {
     marks: 64,
     log: 64,
     width: 128,
+    keeping: Keeping {
+        entries: true,
+        digest: false,
+    },
 };
 
 /// Rows of what a server receives: how many calls are kept of a context, and what comes, between which a comma stands, `-` for a wait in
@@ -118,10 +122,10 @@ fn say_served(
         &mut clock,
         &mut draw,
         width,
-        most,
+        most as u64,
     );
     say_sent(post.sent(), said);
-    say_calls(alloc, gate.into_gate().log().entries(), said);
+    say_calls(alloc, gate.into_gate().log().entries().unwrap_or(&[]), said);
     said.number(keeper.all.len() as u64);
     said.form(&end);
 }

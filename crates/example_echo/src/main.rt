@@ -9,7 +9,7 @@ mod setups;
 ghost use Rattle.std.specs.Prelude.{◌≡◌, false, map};
 ghost use Rattle.init_ends.specs.Arming.{AreStandard};
 
-use gss_client::{Parting, Procedure, Service, Session, Start, Talk, opaque_alone};
+use gss_client::{Parting, Procedure, Service, Session, Start, Talk, Terms, opaque_alone};
 use init_ends::{InitSetup, standard_mechs};
 use mech_objects::{MadeMechs, Mech, make_mechs};
 use sec_base::{Link, MemDraw, Octets};
@@ -19,6 +19,11 @@ use std::alloc::Global;
 use std::io;
 use std::process::ExitCode;
 use std::str::from_utf8;
+
+/// The program that the server serves, and its version (RFC 5531 section 9): the client calls them.
+const PROGRAM: u32 = 0x2000_4753;
+
+const VERSION: u32 = 1;
 
 /// The sequence number of the session's first call (RFC 2203 section 5.3.1), and how many calls it makes.
 const FIRST_NUMBER: u32 = 1;
@@ -41,13 +46,24 @@ fn hold(alloc: Global, link: &mut BookLink, mechs: Vec<Box<dyn Mech>>) -> Option
 {
     let start = Start {
         setup: InitSetup::armed(alloc, mechs, initiator(alloc)?).ok()?,
-        service: Service::Integrity,
+        terms: Terms {
+            service: Service::Integrity,
+            program: PROGRAM,
+            version: VERSION,
+        },
         first: FIRST_NUMBER,
     };
     // A call by privacy would need random octets; those of the draw in memory count from 0 on.
     let mut draw = MemDraw::new(Vec::new(alloc));
-    let procedure = Procedure::Echo;
-    Some(Session::hold(alloc, link, &mut draw, start, procedure, &ARGUMENT, CALLS))
+    Some(Session::hold(
+        alloc,
+        link,
+        &mut draw,
+        start,
+        &Procedure::Echo,
+        &ARGUMENT,
+        CALLS,
+    ))
 }
 
 /// Says who made the context, once it stood.

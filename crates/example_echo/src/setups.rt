@@ -3,7 +3,7 @@
 ghost use Rattle.std.specs.Prelude.{◌≡◌, IfSome, false, true};
 ghost use Rattle.spnego_core.specs.InitMech.{is_own_list};
 
-use accept_book::{Limits, OwnSeat};
+use accept_book::{Keeping, Limits, OwnSeat};
 use gate_models::{Beginning, LoopLink};
 use gss_base::{MechKind, Principal};
 use krb_files::read_keytab;
@@ -30,12 +30,17 @@ pub type BookLink = LoopLink<OwnSeat, MemDraw, AtStart>;
 /// The width of the windows of sequence numbers (RFC 2203 section 5.3.3.1).
 const WIDTH: u32 = 8;
 
-/// How many contexts, authenticators and entries of its log the server keeps, and the width.
+/// How many contexts and authenticators the server keeps, how many entries its log may have, of which
+/// none stays in memory, and the width.
 const LIMITS: Limits = Limits {
     contexts: 4,
     marks: 4,
     log: 16,
     width: WIDTH,
+    keeping: Keeping {
+        entries: false,
+        digest: false,
+    },
 };
 
 /// The user, whom both ends know, and the password, which the client alone knows.

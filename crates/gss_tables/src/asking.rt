@@ -47,7 +47,13 @@ impl Gate for Asking {
 
     ghost told = { λ _. [] };
 
-    ghost limits = { λ _. record { contexts = 0; marks = 0; log = 0; width = 0 } };
+    ghost limits = { λ _. record {
+      contexts = 0;
+      marks = 0;
+      log = 0;
+      width = 0;
+      keeping = record { entries = false; digest = false };
+    } };
 
     ghost answers = { λ _ _ _. Unit {0} };
 

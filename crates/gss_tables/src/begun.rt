@@ -9,7 +9,7 @@ ghost use Rattle.init_ends.specs.Ends.{setup_means, setup_by};
 ghost use Rattle.init_ends.specs.Plain.{objects_of};
 ghost use Rattle.world_runs.specs.Worlds.{world_means, IsWorld};
 
-use accept_book::{Limits, OwnSeat};
+use accept_book::{Keeping, Limits, OwnSeat};
 use init_ends::InitSetup;
 use mech_objects::Mech;
 use sec_base::{Items, Moment, NoMemory, Text};
@@ -122,6 +122,10 @@ pub fn book(alloc: Global, setup: AcceptSetup, start: Moment) -> Result<OwnSeat,
         marks: 4,
         log: 16,
         width: 4,
+        keeping: Keeping {
+            entries: true,
+            digest: false,
+        },
     };
     OwnSeat::open(alloc, setup, limits, start)
 }

@@ -196,7 +196,7 @@ fn step_all(book: &mut OwnSeat, files: &Files, cells: &mut Cells<'_>, said: &mut
     for part in cells.rest().unwrap_or("").split(' ') {
         let (step, _answer) = part.split_once('=').unwrap_or((part, ""));
         if step == "log" {
-            say_log(cells.alloc(), book.log().entries(), said);
+            say_log(cells.alloc(), entries::entries_in(book.log()), said);
         } else {
             say_step(book, &mut lease, files, cells, step, said);
         }

@@ -4,7 +4,7 @@ ghost use Rattle.std.specs.Prelude.{◌≡◌, ◌≤◌, ◌<◌, IfSome, false
 
 use crate::entries;
 use crate::records::{MOST, next};
-use accept_book::{Limits, OwnSeat};
+use accept_book::{Keeping, Limits, OwnSeat};
 use gss_server::{KeepNothing, answer_record, serve_link};
 use sec_base::{Clock, Draw, Link, MemClock, MemDraw, MemLink, Moment};
 use std::alloc::Global;
@@ -36,6 +36,10 @@ pub fn limits_of(alloc: Global, cell: &str) -> Option<Limits>
         marks,
         log,
         width,
+        keeping: Keeping {
+            entries: true,
+            digest: false,
+        },
     })
 }
 
@@ -177,7 +181,12 @@ pub fn answer(setting: &Setting, cells: &mut Cells<'_>, said: &mut Said) {
         Some(mut desk) => {
             serve_all(cells, &mut desk, inputs, said);
             rule_apart(setting, cells, limits, nows, inputs, said);
-            entries::logged(cells.alloc(), said, desk.gate.log().entries(), " ");
+            entries::logged(
+                cells.alloc(),
+                said,
+                entries::entries_in(desk.gate.log()),
+                " ",
+            );
         }
         None => cells.expect(false),
     }

@@ -107,7 +107,7 @@ fn step(core: &mut Plains, parts: &mut Cells<'_>, said: &mut Said) {
         "look" => look(core, parts, said),
         "call" => call(core, parts, said),
         "end" => end(core, parts, said),
-        "log" => entries::logged(parts.alloc(), said, core.log().entries(), ":"),
+        "log" => entries::logged(parts.alloc(), said, entries::entries_in(core.log()), ":"),
         _ => parts.expect(false),
     }
 }

@@ -1,11 +1,16 @@
 //! The entries of a log, as the tables say them.
 
-use accept_book::{EndCause, Entry};
+use accept_book::{EndCause, Entry, Log};
 use gss_base::{Mark, MechKind};
 use sec_base::Moment;
 use sha1::Sha1;
 use std::alloc::Global;
 use table_rows::Said;
+
+/// The entries of a log that has them in memory, as those of the tables have.
+pub fn entries_in(log: &Log) -> &[Entry] {
+    log.entries().unwrap_or(&[])
+}
 
 /// The kind of an entry.
 fn kind(entry: &Entry) -> &'static str {

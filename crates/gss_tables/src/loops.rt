@@ -9,6 +9,7 @@ ghost use Rattle.mech_objects.specs.Made.{AreMade};
 
 use crate::connections::book_of;
 use crate::entries;
+use crate::sessions::terms_by;
 use accept_book::{Entry, NegAnswer, OwnSeat};
 use client_command::run_client;
 use gate_models::{Beginning, LoopLink};
@@ -156,7 +157,12 @@ fn sevens(alloc: Global) -> Vec<u8> {
 /// Says the kept answers of a link and the entries of its book.
 fn say_left(alloc: Global, said: &mut Said, link: BookLink) {
     let (book, _draw, kept) = link.into_parts();
-    say_kept(alloc, said, kept.as_slice(), book.log().entries());
+    say_kept(
+        alloc,
+        said,
+        kept.as_slice(),
+        entries::entries_in(book.log()),
+    );
 }
 
 /// By the cells of the offer's letters and the words, what a run of the client prints over a book; then what is kept of the answers. The
@@ -250,7 +256,7 @@ fn speak(alloc: Global, link: &mut BookLink, setup: InitSetup) -> Option<Spoken>
 {
     let start = Start {
         setup,
-        service: Service::Integrity,
+        terms: terms_by(Service::Integrity),
         first: 1,
     };
     match Session::create(alloc, link, start) {
@@ -281,7 +287,7 @@ fn say_spoken(alloc: Global, said: &mut Said, spoken: &Spoken, link: BookLink) {
     said.octets(spoken.who.as_slice());
     said.number(spoken.next as u64);
     said.number(kept.len() as u64);
-    say_log(said, book.log().entries());
+    say_log(said, entries::entries_in(book.log()));
 }
 
 /// Says what comes of a session over a link.

@@ -50,7 +50,13 @@ impl Gate for Meeting<'_> {
 
     ghost told = { λ _. [] };
 
-    ghost limits = { λ _. record { contexts = 0; marks = 0; log = 0; width = 0 } };
+    ghost limits = { λ _. record {
+      contexts = 0;
+      marks = 0;
+      log = 0;
+      width = 0;
+      keeping = record { entries = false; digest = false };
+    } };
 
     ghost answers = { λ _ _ _. Unit {0} };
 

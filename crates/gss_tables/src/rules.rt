@@ -74,7 +74,7 @@ fn ended(said: &str, id: u64) -> Option<Result<Receipt, AdmitRefusal>> {
 fn admitted(said: &str, id: u64) -> Option<Result<Admitted, AdmitRefusal>> {
     match said.strip_prefix("Admitted:") {
         Some(posts) => {
-            let posts = posts.parse::<u32>().ok()?;
+            let posts = posts.parse::<u64>().ok()?;
             let receipt = receipt(id);
             Some(Ok(Admitted { receipt, posts }))
         }

@@ -7,6 +7,7 @@ ghost use Rattle.book_seats.specs.Views.{writer};
 
 use crate::books::{say_log, say_step};
 use crate::connections::book_of;
+use crate::entries;
 use accept_book::{Book, Log};
 use book_seats::{Board, Room, Seat, Shared, Token, open_board, open_hall};
 use gss_server::Gate;
@@ -89,5 +90,5 @@ pub fn answer<R: Wait>(
         return said.starve();
     };
     let log = step_seated::<Brand, R>(rt, board, token, &setup, book, files, cells, said);
-    say_log(alloc, log.entries(), said);
+    say_log(alloc, entries::entries_in(&log), said);
 }

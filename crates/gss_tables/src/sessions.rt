@@ -7,9 +7,10 @@ ghost use Rattle.init_ends.specs.Objects.{is_own_list};
 ghost use Rattle.gss_client.specs.Start.{start_means};
 
 use crate::endings::say_ended;
-use gss_client::{Service, Session, Start};
+use gss_client::{Service, Session, Start, Terms};
 use init_ends::InitSetup;
 use mech_objects::Mech;
+use rpc_msgs::numbers::{PROGRAM, VERSION};
 use sec_base::MemLink;
 use std::alloc::Global;
 use table_rows::{Cells, Said};
@@ -25,6 +26,15 @@ fn service(cells: &mut Cells<'_>) -> Service {
             cells.expect(false);
             Service::None
         }
+    }
+}
+
+/// The terms of calls to the program that is served.
+pub fn terms_by(service: Service) -> Terms {
+    Terms {
+        service,
+        program: PROGRAM,
+        version: VERSION,
     }
 }
 
@@ -47,7 +57,7 @@ pub fn begin(setting: &Setting, mechs: Vec<Box<dyn Mech>>, cells: &mut Cells<'_>
     match InitSetup::armed(alloc, mechs, facts) {
         Ok(setup) => Some(Start {
             setup,
-            service,
+            terms: terms_by(service),
             first,
         }),
         Err(_) => None,

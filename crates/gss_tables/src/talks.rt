@@ -88,7 +88,7 @@ fn hold(alloc: Global, link: &mut MemLink, start: Start, calls: &Calls, said: &m
         return said.starve();
     }
     let mut draw = MemDraw::new(Vec::new(alloc));
-    let talk = Session::hold(alloc, link, &mut draw, start, procedure, args, times);
+    let talk = Session::hold(alloc, link, &mut draw, start, &procedure, args, times);
     say_talk(said, &talk);
 }
 

@@ -146,3 +146,57 @@ pub fn windowed(cells: &mut Cells<'_>, said: &mut Said) {
         Err(_) => said.starve(),
     }
 }
+
+/// Says which contexts give their places: how many are complete, the one of them that was used longest ago, and the least id that negotiates and
+/// isn't held.
+fn order_said(said: &mut Said, table: &Table<u8, u8>) {
+    said.number(table.whole() as u64);
+    said.form(&table.oldest());
+    said.form(&table.waiting());
+}
+
+/// Marks a number of a context by the table itself, where it is fresh.
+fn used(table: &mut Table<u8, u8>, id: u64, number: u32) -> bool {
+    match table.judge(id, number) {
+        Some(Verdict::Fresh) => {
+            table.mark(id, number);
+            true
+        }
+        _ => false,
+    }
+}
+
+/// Says that order once one context ended, once two are complete, once one is used, and once the state of one is taken.
+fn aged(said: &mut Said, table: &mut Table<u8, u8>, ids: [u64; 5])
+    requires wide { (id : ℕ) → WideAt table.old.width (slot_at table.old id) }
+{
+    order_said(said, table);
+    said.form(&table.end(ids[0]));
+    order_said(said, table);
+    said.form(&complete(table, ids[1]));
+    said.form(&complete(table, ids[2]));
+    order_said(said, table);
+    said.form(&used(table, ids[3], 5));
+    order_said(said, table);
+    said.form(&table.take(ids[4]));
+    order_said(said, table);
+}
+
+/// The same, by the cells count and the ids of the one that ends, the two that are completed, the one that is used and the one that is taken.
+pub fn ordered(cells: &mut Cells<'_>, said: &mut Said) {
+    let count = cells.word_number();
+    let (ended, first, second) = (cells.number(), cells.number(), cells.number());
+    let ids = [ended, first, second, cells.number(), cells.number()];
+    if count > MOST {
+        cells.expect(false);
+        return;
+    }
+    match Table::<u8, u8>::new(cells.alloc(), count as usize, WIDTH) {
+        Ok(table) => {
+            let mut table = table;
+            fill(&mut table, count as u64);
+            aged(said, &mut table, ids);
+        }
+        Err(_) => said.starve(),
+    }
+}

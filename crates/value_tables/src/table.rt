@@ -45,10 +45,11 @@ pub enum Table {
     ManyMarks,
     Contexts,
     ContextWindows,
+    ContextsInUse,
 }
 
 /// All of them.
-pub const TABLES: [Table; 35] = [
+pub const TABLES: [Table; 36] = [
     Table::Pieces,
     Table::Framed,
     Table::Calls,
@@ -84,6 +85,7 @@ pub const TABLES: [Table; 35] = [
     Table::ManyMarks,
     Table::Contexts,
     Table::ContextWindows,
+    Table::ContextsInUse,
 ];
 
 impl Table {
@@ -125,6 +127,7 @@ impl Table {
             Table::ManyMarks => "many_marks.txt",
             Table::Contexts => "contexts.txt",
             Table::ContextWindows => "context_windows.txt",
+            Table::ContextsInUse => "contexts_in_use.txt",
         }
     }
 }
@@ -186,6 +189,7 @@ impl Rows for Table {
             Table::ManyMarks => caches::many(cells, said),
             Table::Contexts => contexts::replaced(cells, said),
             Table::ContextWindows => contexts::windowed(cells, said),
+            Table::ContextsInUse => contexts::ordered(cells, said),
         }
     }
 }
