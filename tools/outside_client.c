@@ -6,7 +6,10 @@
  * from ECHO to COUNT, whose results are compared with what they are to be, and NULLS calls of NULL, and is destroyed. By none, which the
  * server takes of NULL alone, there are only these. The environment's
  * POSTS is how many posts there were before; with BESIDE others post meanwhile, so that only the order of numbers is compared. The status
- * is 0 where all were right. */
+ * is 0 where all were right.
+ *
+ * Compiled with DATAGRAMS, calls go over UDP, and have at most 7,900 octets; PATIENCE of the environment is for how many seconds a call is
+ * sent again, 10 without it. */
 #include <gssapi/gssapi.h>
 #include <gssapi/gssapi_krb5.h>
 #include <rpc/rpc.h>
@@ -19,8 +22,13 @@
 #include <unistd.h>
 
 /* The library marshals a call's whole body in the buffer that it sends from. */
-enum { BUFFER = 200000 };
+enum { BUFFER = 200000, DATAGRAM = 8192 };
 enum { PROGRAM = 0x20004753, VERSION = 1, NOTHING = 0, ECHO = 1, WHOAMI = 2, POST = 3, COUNT = 4 };
+#ifdef DATAGRAMS
+enum { LARGEST = 7900 };
+#else
+enum { LARGEST = 65536 };
+#endif
 
 static gss_OID_desc spnego = { 6, "\x2b\x06\x01\x05\x05\x02" };
 static struct timeval patience = { 10, 0 };
@@ -47,7 +55,12 @@ static CLIENT *connected(int port)
     struct sockaddr_in address = { .sin_family = AF_INET, .sin_port = htons(port) };
     int socket = RPC_ANYSOCK;
     inet_pton(AF_INET, "127.0.0.1", &address.sin_addr);
+#ifdef DATAGRAMS
+    struct timeval until_again = { 1, 0 };
+    return clntudp_bufcreate(&address, PROGRAM, VERSION, until_again, &socket, DATAGRAM, DATAGRAM);
+#else
     return clnttcp_create(&address, PROGRAM, VERSION, &socket, BUFFER, BUFFER);
+#endif
 }
 
 static gss_name_t name_of(char *text)
@@ -111,7 +124,7 @@ static int all_calls(CLIENT *client, int calls, int first, u_int *posts)
     for (int i = 0; i < calls; i++)
         if (!echoes(client, i % 64) || !names(client, first && i == 0) || !counts(client, posts))
             return 0;
-    return !first || (echoes(client, 0) && echoes(client, 4095) && echoes(client, 65536));
+    return !first || (echoes(client, 0) && echoes(client, 4095) && echoes(client, LARGEST));
 }
 
 /* NULL calls, each after the reply to the one before. The time that they take is added to `spent`. */
@@ -163,6 +176,8 @@ int main(int argc, char **argv)
     gss_name_t server = name_of(argv[2]);
     u_int posts = 0;
     double making = 0, spent = 0, start = seconds();
+    if (getenv("PATIENCE") != NULL)
+        patience.tv_sec = atoi(getenv("PATIENCE"));
     if (getenv("POSTS") != NULL)
         posts = atoi(getenv("POSTS"));
     for (int i = 0; i < contexts; i++)

@@ -1,5 +1,6 @@
 /* A server of the program over a system's own libraries: RPCSEC_GSS by libtirpc, contexts by the SPNEGO of MIT Kerberos.
- * Compiled with MIT_RPC, RPCSEC_GSS is by libgssrpc, the RPC library of MIT Kerberos.
+ * Compiled with MIT_RPC, RPCSEC_GSS is by libgssrpc, the RPC library of MIT Kerberos. Compiled with DATAGRAMS, it serves over UDP; with CACHED of
+ * the environment the library then keeps so many replies, and answers a call that comes again by them.
  *
  *   outside_server PORT SERVER
  *
@@ -27,7 +28,7 @@
 #include <unistd.h>
 
 /* The library marshals a reply's whole body in the buffer that it sends from. */
-enum { BUFFER = 200000 };
+enum { BUFFER = 200000, DATAGRAM = 8800 };
 enum { PROGRAM = 0x20004753, VERSION = 1, NOTHING = 0, ECHO = 1, WHOAMI = 2, POST = 3, COUNT = 4 };
 
 static gss_OID_desc spnego = { 6, "\x2b\x06\x01\x05\x05\x02" };
@@ -127,16 +128,33 @@ static void answer(struct svc_req *request, SVCXPRT *transport)
         svc_sendreply(transport, (xdrproc_t)xdr_void, NULL);
 }
 
-static int listening(int port)
+static int listening(int port, int is_stream)
 {
     struct sockaddr_in address = { .sin_family = AF_INET, .sin_port = htons(port) };
-    int one = 1, listener = socket(AF_INET, SOCK_STREAM, 0);
+    int one = 1, listener = socket(AF_INET, is_stream ? SOCK_STREAM : SOCK_DGRAM, 0);
     inet_pton(AF_INET, "127.0.0.1", &address.sin_addr);
     setsockopt(listener, SOL_SOCKET, SO_REUSEADDR, &one, sizeof one);
-    if (bind(listener, (struct sockaddr *)&address, sizeof address) != 0 || listen(listener, 16) != 0)
+    if (bind(listener, (struct sockaddr *)&address, sizeof address) != 0 || (is_stream && listen(listener, 16) != 0))
         return -1;
     return listener;
 }
+
+#ifdef DATAGRAMS
+static SVCXPRT *transport_at(int port)
+{
+    int listener = listening(port, 0);
+    SVCXPRT *transport = listener < 0 ? NULL : svcudp_bufcreate(listener, DATAGRAM, DATAGRAM);
+    if (transport != NULL && getenv("CACHED") != NULL)
+        svc_dg_enablecache(transport, atoi(getenv("CACHED")));
+    return transport;
+}
+#else
+static SVCXPRT *transport_at(int port)
+{
+    int listener = listening(port, 1);
+    return listener < 0 ? NULL : svctcp_create(listener, BUFFER, BUFFER);
+}
+#endif
 
 static bool_t has_name(char *text)
 {
@@ -151,13 +169,12 @@ static bool_t has_name(char *text)
 int main(int count, char **words)
 {
     SVCXPRT *transport;
-    int listener;
     if (count != 3) {
         fprintf(stderr, "usage: outside_server PORT SERVER\n");
         return 2;
     }
-    listener = listening(atoi(words[1]));
-    if (listener < 0 || (transport = svctcp_create(listener, BUFFER, BUFFER)) == NULL) {
+    transport = transport_at(atoi(words[1]));
+    if (transport == NULL) {
         fprintf(stderr, "the port can't be listened at\n");
         return 5;
     }

@@ -5,6 +5,16 @@ import re
 
 TOP = os.path.join(os.path.dirname(os.path.abspath(__file__)), "..")
 FILES, LINES = "crates/cli_base/src/files.rt", "crates/cli_base/src/lines.rt"
+# The program over datagrams: its words, and the files of its endings, whose lines are mostly those of the programs over connections. Over
+# datagrams there is no port, no control address and no connection to end, and a denial is passed over.
+DATAGRAM_WORDS = "crates/datagram_options/src/words.rt"
+MOST_ARGS = 7904
+OVER_CONNECTIONS = ["crates/server_options/src/ending.rt", "crates/client_options/src/ending.rt"]
+DATAGRAM_ENDINGS = ("crates/datagram_options/src/ending.rt", "crates/gssrpcdu_cli/src/main.rt", [FILES, *OVER_CONNECTIONS])
+UNSAID_OVER_DATAGRAMS = {"cannot listen at {path}", "port fault at desk {desk}", "peer ended", "refused: auth {stat}", "refused: rpc {low} {high}"}
+PEER_ENDED = 9
+# What is in a server's line where a digest was asked for, as none is over datagrams.
+DIGEST = " digest "
 
 # Where the refusals are that a number tells.
 REFUSALS = {
@@ -54,10 +64,29 @@ def options(path):
     return set(re.findall(r'"(--[\w-]+)"', code(path)))
 
 
+def listed_options(path, function):
+    """The same where one function has the list of a command's."""
+    body = code(path).split(f"fn {function}(", 1)[1].split("\n}\n", 1)[0]
+    return set(re.findall(r'"(--[\w-]+)"', body))
+
+
 def ranges(path):
-    """The least, the greatest and the usual number of each option that takes one."""
+    """The least, the greatest and the usual number of each option that takes one; None for the usual where there is no number without it."""
     found = re.findall(r'number_given\(\w+, "(--\w+)", (\w+), (\w+), (\w+)\)', code(path))
-    return {name: tuple(number(it) for it in numbers) for name, *numbers in found}
+    limits = re.findall(r'limit_given\(\w+, "(--\w+)", (\w+), (\w+)\)', code(path))
+    numbers = {name: tuple(number(it) for it in numbers) for name, *numbers in found}
+    return {**numbers, **{name: (number(least), number(most), None) for name, least, most in limits}}
+
+
+def datagram_ranges():
+    """The same of the program over datagrams: those of the two commands over connections, within narrower limits of its own."""
+    own = {name: number(it) for name, it in re.findall(r"const (\w+): u32 = (\w+);", code(DATAGRAM_WORDS))}
+    both = {**ranges("crates/server_options/src/options.rt"), **ranges("crates/client_options/src/words.rt")}
+    (low, _, usual), connections = both["--window"], both["--connections"]
+    changed = {"--window": (low, own["MOST_WINDOW"], usual), "--datagrams": connections, "--tries": (1, own["MOST_TRIES"], own["USUAL_TRIES"])}
+    changed["--contexts"] = (1, own["MOST_CONTEXTS"], own["MOST_CONTEXTS"])
+    named = listed_options(DATAGRAM_WORDS, "is_served") | listed_options(DATAGRAM_WORDS, "is_called")
+    return {name: it for name, it in {**both, **changed}.items() if name in named}
 
 
 def bounds(path):
@@ -102,3 +131,33 @@ def minors():
 def lines(*paths):
     """The lines that these files print, with what stands in braces for what is put in."""
     return {line for path in paths for line in re.findall(r'"((?:[^"\\]|\\.)*)\\n"', code(path))}
+
+
+def usage_lines(path):
+    """The usage lines that a file has."""
+    return {line for line in lines(path) if line.startswith("usage: ")}
+
+
+def given_options(path):
+    """The options of a program with these words: those over datagrams stand in two lists, beside one that is renamed."""
+    commands = ("is_served", "is_called") if path == DATAGRAM_WORDS else ()
+    return set().union(*(listed_options(path, it) for it in commands)) if commands else options(path)
+
+
+def given_ranges(path):
+    """The ranges of its options that take a number."""
+    return datagram_ranges() if path == DATAGRAM_WORDS else ranges(path)
+
+
+def given_bounds(path):
+    """The bounds that words name: that of an argument over datagrams has four octets more in XDR, for its length."""
+    return {it - 4 if path == DATAGRAM_WORDS and it == MOST_ARGS else it for it in bounds(path)}
+
+
+def ends_of(program, ending, *more):
+    """The statuses of a program, and the lines that it says."""
+    said, told = statuses(ending, program, *more), lines(ending, LINES, *more)
+    if (ending, program, list(more)) == DATAGRAM_ENDINGS:
+        unsaid = UNSAID_OVER_DATAGRAMS.union(*map(usage_lines, OVER_CONNECTIONS))
+        return said - {PEER_ENDED}, {line for line in told - unsaid if DIGEST not in line}
+    return said, told

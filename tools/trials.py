@@ -10,7 +10,7 @@ import tempfile
 import time
 
 HERE = os.path.dirname(os.path.abspath(__file__))
-PROGRAMS = ("gssrpcd_cli", "gssrpc_cli", "gss_files", "gsssasl_cli")
+PROGRAMS = ("gssrpcd_cli", "gssrpc_cli", "gss_files", "gsssasl_cli", "gssrpcdu_cli")
 KEY, OTHER_KEY = "000102030405060708090a0b0c0d0e0f", "ff0102030405060708090a0b0c0d0e0f"
 SERVER, CLIENT = "rpc/localhost@REALM.TEST", "alice@REALM.TEST"
 CONFIG = "[libdefaults]\n default_realm = REALM.TEST\n dns_lookup_kdc = false\n dns_canonicalize_hostname = false\n"
@@ -59,10 +59,10 @@ def are_built():
     return subprocess.run([tool("build")]).returncode == 0
 
 
-def free_port():
+def free_port(kind=socket.SOCK_STREAM):
     """A port of loopback that nobody listens at. It is none of those that connections are given, so none has it when a server begins."""
     for port in random.SystemRandom().sample(PORTS, len(PORTS)):
-        with socket.socket() as probe, contextlib.suppress(OSError):
+        with socket.socket(type=kind) as probe, contextlib.suppress(OSError):
             probe.bind(("127.0.0.1", port))
             return port
     raise RuntimeError("no port is free")
@@ -79,11 +79,11 @@ def listens(port, server):
 
 
 @contextlib.contextmanager
-def running(command, port, environment=None, errors=None):
+def running(command, port, environment=None, errors=None, stands=listens):
     """Runs a server while the block lasts, and gives it once it listens, or None where it doesn't."""
     server = subprocess.Popen(command, env=environment, stderr=errors)
     try:
-        yield server if listens(port, server) else None
+        yield server if stands(port, server) else None
     finally:
         server.terminate()
         server.wait()
