@@ -47,17 +47,5 @@ pub const AUTH_NONE: u32 = 0;
 /// Flavour of a credential or verifier: RPCSEC_GSS (RFC 2203 section 3).
 pub const RPCSEC_GSS: u32 = 6;
 
-/// The served program (this project's own, of the range that RFC 5531 section 8.3 leaves to users).
-pub const PROGRAM: u32 = 0x2000_4753;
-/// Its version.
-pub const VERSION: u32 = 1;
-/// Its procedures: nothing is done; by convention it needs no authentication (RFC 5531 section 12.1).
+/// The procedure that each program has by convention: it does nothing, and needs no authentication (RFC 5531 section 12.1).
 pub const NULL: u32 = 0;
-/// Its procedures: an echo.
-pub const ECHO: u32 = 1;
-/// Its procedures: the caller's name.
-pub const WHOAMI: u32 = 2;
-/// Its procedures: a post.
-pub const POST: u32 = 3;
-/// Its procedures, the last: the count of posts.
-pub const COUNT: u32 = 4;

@@ -72,6 +72,8 @@ pub fn next_record<L: Link>(alloc: Global, link: &mut L) -> Result<Option<Octets
     ensures unclosed { L.closed link.new ≡ false }
     ensures fault { IsErrOf result RecordRefusal.LinkFault
         → Rose (L.faults link.old) (L.faults link.new) }
+    ensures steady { (IsErrOf result RecordRefusal.LinkFault → ⊥)
+        → L.faults link.new ≡ L.faults link.old }
     ensures faults { L.faults link.old ≤ L.faults link.new }
 {
     read_record(alloc, link)
@@ -86,6 +88,8 @@ fn read_record<L: Link>(alloc: Global, link: &mut L) -> Result<Option<Octets>, R
     ensures unclosed { L.closed link.new ≡ false }
     ensures fault { IsErrOf result RecordRefusal.LinkFault
         → Rose (L.faults link.old) (L.faults link.new) }
+    ensures steady { (IsErrOf result RecordRefusal.LinkFault → ⊥)
+        → L.faults link.new ≡ L.faults link.old }
     ensures faults { L.faults link.old ≤ L.faults link.new }
 {
     let mut octets = Vec::new(alloc);
@@ -118,6 +122,8 @@ fn read_fragment<L: Link>(
     ensures unclosed { L.closed link.new ≡ false }
     ensures fault { IsErrOf result RecordRefusal.LinkFault
         → Rose (L.faults link.old) (L.faults link.new) }
+    ensures steady { (IsErrOf result RecordRefusal.LinkFault → ⊥)
+        → L.faults link.new ≡ L.faults link.old }
     ensures faults { L.faults link.old ≤ L.faults link.new }
 {
     match read_header(link, number) {
@@ -136,6 +142,8 @@ fn read_header<L: Link>(link: &mut L, number: u32) -> Result<Option<u32>, Record
     ensures unclosed { L.closed link.new ≡ false }
     ensures fault { IsErrOf result RecordRefusal.LinkFault
         → Rose (L.faults link.old) (L.faults link.new) }
+    ensures steady { (IsErrOf result RecordRefusal.LinkFault → ⊥)
+        → L.faults link.new ≡ L.faults link.old }
     ensures faults { L.faults link.old ≤ L.faults link.new }
 {
     let mut cells = [0; 4];
@@ -166,6 +174,8 @@ fn read_announced<L: Link>(
     ensures unclosed { L.closed link.new ≡ false }
     ensures fault { IsErrOf result RecordRefusal.LinkFault
         → Rose (L.faults link.old) (L.faults link.new) }
+    ensures steady { (IsErrOf result RecordRefusal.LinkFault → ⊥)
+        → L.faults link.new ≡ L.faults link.old }
     ensures faults { L.faults link.old ≤ L.faults link.new }
 {
     let size = (header % LAST) as usize;
@@ -207,6 +217,7 @@ pub fn write_record<L: Link>(link: &mut L, bytes: &[u8]) -> Result<(), LinkFault
     ensures tells { L.tells link.new ≡ L.tells link.old }
     ensures unclosed { L.closed link.new ≡ false }
     ensures fault { OnErr result (Rose (L.faults link.old) (L.faults link.new)) }
+    ensures steady { OnOk result (L.faults link.new ≡ L.faults link.old) }
     ensures faults { L.faults link.old ≤ L.faults link.new }
 {
     if bytes.len() <= SMALL_RECORD {
@@ -231,6 +242,7 @@ fn write_at_once<L: Link, const SIZE: usize>(link: &mut L, bytes: &[u8]) -> Resu
     ensures tells { L.tells link.new ≡ L.tells link.old }
     ensures unclosed { L.closed link.new ≡ false }
     ensures fault { OnErr result (Rose (L.faults link.old) (L.faults link.new)) }
+    ensures steady { OnOk result (L.faults link.new ≡ L.faults link.old) }
     ensures faults { L.faults link.old ≤ L.faults link.new }
 {
     let mut cells = [0; SIZE];

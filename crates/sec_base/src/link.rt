@@ -1,7 +1,7 @@
 //! A stream of octets in both directions, as a TCP connection is one.
 
 ghost use Rattle.std.specs.Prelude.{◌≡◌, ℕ, ◌<◌, ◌≤◌, Bool, true, false, length, IsTrue, IfOk};
-ghost use Rattle.std.specs.Prelude.{OnErr};
+ghost use Rattle.std.specs.Prelude.{OnErr, OnOk};
 ghost use Rattle.sec_base.specs.Answers.{Rose};
 ghost use Rattle.sec_base.specs.Link.{Wire, Reads, Writes};
 
@@ -11,8 +11,8 @@ pub struct LinkFault;
 
 /// A stream of octets in both directions.
 ///
-/// `faults` counts the calls that failed. Where the link tells its octets, `wire` has those that were taken, those still
-/// to come and those that were written. `closed` says whether `close` was called.
+/// `faults` counts the calls that failed, and a read or a write that answers well leaves it where it was. Where the link tells its octets, `wire` has those that were taken, those still
+/// to come and those that were written. `closed` says whether `close` was called, and `closes` what it makes of the link.
 pub trait Link {
     ghost faults: { Self → ℕ };
 
@@ -21,6 +21,8 @@ pub trait Link {
     ghost wire: { Self → Wire };
 
     ghost closed: { Self → Bool };
+
+    ghost closes: { Self → Self → Type 0 };
 
     /// Takes the next octets, as many as are there and fit, to the front of `buf`. 0 octets into a buffer that isn't empty
     /// are the end of input.
@@ -32,6 +34,7 @@ pub trait Link {
         ensures tells { tells self.new ≡ tells self.old }
         ensures unclosed { closed self.new ≡ false }
         ensures fault { OnErr result (Rose (faults self.old) (faults self.new)) }
+        ensures steady { OnOk result (faults self.new ≡ faults self.old) }
         ensures faults { faults self.old ≤ faults self.new };
 
     /// Writes the first octets of `buf`, at least one of a buffer that isn't empty.
@@ -44,6 +47,7 @@ pub trait Link {
         ensures tells { tells self.new ≡ tells self.old }
         ensures unclosed { closed self.new ≡ false }
         ensures fault { OnErr result (Rose (faults self.old) (faults self.new)) }
+        ensures steady { OnOk result (faults self.new ≡ faults self.old) }
         ensures faults { faults self.old ≤ faults self.new };
 
     /// Ends the stream in both directions.
@@ -51,5 +55,6 @@ pub trait Link {
         ensures told { wire self.new ≡ wire self.old }
         ensures tells { tells self.new ≡ tells self.old }
         ensures closed { closed self.new ≡ true }
+        ensures closes { closes self.old self.new }
         ensures faults { faults self.old ≤ faults self.new };
 }

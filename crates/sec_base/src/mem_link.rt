@@ -130,6 +130,8 @@ impl Link for MemLink {
 
     ghost closed = { λ l. l.closed };
 
+    ghost closes = { λ old new. new.failing.faults ≡ old.failing.faults };
+
     fn read(&mut self, buf: &mut [u8]) -> Result<usize, LinkFault>
         requires { ⟦<MemLink as Link>⟧.closed self.old ≡ false }
         ensures count { IfOk result (λ count. count ≤ length buf.old) }
@@ -140,6 +142,8 @@ impl Link for MemLink {
         ensures unclosed { ⟦<MemLink as Link>⟧.closed self.new ≡ false }
         ensures fault { OnErr result
             (Rose (⟦<MemLink as Link>⟧.faults self.old) (⟦<MemLink as Link>⟧.faults self.new)) }
+        ensures steady { OnOk result
+            (⟦<MemLink as Link>⟧.faults self.new ≡ ⟦<MemLink as Link>⟧.faults self.old) }
         ensures faults { ⟦<MemLink as Link>⟧.faults self.old ≤ ⟦<MemLink as Link>⟧.faults self.new }
         // a read fails exactly where it is to, and else gives the next piece
         ensures fails { IsErr result ↔ IsTrue (fails_next (link_failures self.old)) }
@@ -172,6 +176,8 @@ impl Link for MemLink {
         ensures unclosed { ⟦<MemLink as Link>⟧.closed self.new ≡ false }
         ensures fault { OnErr result
             (Rose (⟦<MemLink as Link>⟧.faults self.old) (⟦<MemLink as Link>⟧.faults self.new)) }
+        ensures steady { OnOk result
+            (⟦<MemLink as Link>⟧.faults self.new ≡ ⟦<MemLink as Link>⟧.faults self.old) }
         ensures faults { ⟦<MemLink as Link>⟧.faults self.old ≤ ⟦<MemLink as Link>⟧.faults self.new }
         // a write fails where it is to, and else at want of memory alone
         ensures fails { IsTrue (fails_next (link_failures self.old)) → IsErr result }
@@ -195,6 +201,7 @@ impl Link for MemLink {
         ensures told { ⟦<MemLink as Link>⟧.wire self.new ≡ ⟦<MemLink as Link>⟧.wire self.old }
         ensures tells { ⟦<MemLink as Link>⟧.tells self.new ≡ ⟦<MemLink as Link>⟧.tells self.old }
         ensures closed { ⟦<MemLink as Link>⟧.closed self.new ≡ true }
+        ensures closes { ⟦<MemLink as Link>⟧.closes self.old self.new }
         ensures faults { ⟦<MemLink as Link>⟧.faults self.old ≤ ⟦<MemLink as Link>⟧.faults self.new }
         ensures failing { link_failures self.new ≡ link_failures self.old }
         ensures pieces { coming_pieces self.new ≡ coming_pieces self.old }

@@ -1,7 +1,7 @@
 //! A port in memory.
 
 ghost use Rattle.std.specs.Prelude.{◌≡◌, ◌≤◌, ◌↔◌, true, vec_len, List, IsTrue, IsErr, IfOk};
-ghost use Rattle.std.specs.Prelude.{IfSome, OnErr, false};
+ghost use Rattle.std.specs.Prelude.{IfSome, OnErr, OnOk, false};
 ghost use Rattle.sec_base.specs.Answers.{Rose};
 ghost use Rattle.sec_base.specs.Port.{Accepts};
 ghost use Rattle.sec_base.specs.MemPort.{none_closed};
@@ -66,6 +66,8 @@ impl<L: Link> Port for MemPort<L> {
         ensures fault { OnErr result
             (Rose (⟦<MemPort<L> as Port>⟧.faults self.old)
             (⟦<MemPort<L> as Port>⟧.faults self.new)) }
+        ensures steady { OnOk result
+            (⟦<MemPort<L> as Port>⟧.faults self.new ≡ ⟦<MemPort<L> as Port>⟧.faults self.old) }
         ensures faults { ⟦<MemPort<L> as Port>⟧.faults self.old
             ≤ ⟦<MemPort<L> as Port>⟧.faults self.new }
         // a call fails exactly where it is to

@@ -1,6 +1,7 @@
 //! Where connections come in.
 
 ghost use Rattle.std.specs.Prelude.{◌≡◌, ℕ, ◌≤◌, Bool, false, List, IsTrue, IfOk, IfSome, OnErr};
+ghost use Rattle.std.specs.Prelude.{OnOk};
 ghost use Rattle.sec_base.specs.Answers.{Rose};
 ghost use Rattle.sec_base.specs.Port.{Accepts};
 
@@ -12,7 +13,7 @@ pub struct PortFault;
 
 /// Where links come in, one after the other.
 ///
-/// `faults` counts the calls that failed. Where the port tells its links, `links` has those to come.
+/// `faults` counts the calls that failed, and a call that answers well leaves it where it was. Where the port tells its links, `links` has those to come.
 pub trait Port {
     type Link: Link;
 
@@ -29,5 +30,6 @@ pub trait Port {
         ensures unclosed { IfOk result
             (λ next. IfSome next (λ link. Self.Link.closed link ≡ false)) }
         ensures fault { OnErr result (Rose (faults self.old) (faults self.new)) }
+        ensures steady { OnOk result (faults self.new ≡ faults self.old) }
         ensures faults { faults self.old ≤ faults self.new };
 }

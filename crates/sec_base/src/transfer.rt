@@ -1,7 +1,7 @@
 //! Whole buffers through a link, however its reads and writes cut them.
 
 ghost use Rattle.std.specs.Prelude.{◌≡◌, ◌+◌, ◌-◌, ◌^◌, ◌<◌, ◌≤◌, true, false, length, take};
-ghost use Rattle.std.specs.Prelude.{vec_len, IsTrue, Ok, IfOk, OnErr, IsErrOf};
+ghost use Rattle.std.specs.Prelude.{vec_len, IsTrue, Ok, IfOk, OnOk, OnErr, IsErrOf};
 ghost use Rattle.sec_base.specs.Answers.{Rose};
 ghost use Rattle.sec_base.specs.Contents.{TakesContent, TakesPiece};
 ghost use Rattle.sec_base.specs.Streams.{Fills, Sends};
@@ -29,6 +29,7 @@ pub fn fill<L: Link>(link: &mut L, buf: &mut [u8]) -> Result<usize, LinkFault>
     ensures tells { L.tells link.new ≡ L.tells link.old }
     ensures unclosed { L.closed link.new ≡ false }
     ensures fault { OnErr result (Rose (L.faults link.old) (L.faults link.new)) }
+    ensures steady { OnOk result (L.faults link.new ≡ L.faults link.old) }
     ensures faults { L.faults link.old ≤ L.faults link.new }
 {
     let mut at = 0;
@@ -50,6 +51,7 @@ pub fn send<L: Link>(link: &mut L, octets: &[u8]) -> Result<(), LinkFault>
     ensures tells { L.tells link.new ≡ L.tells link.old }
     ensures unclosed { L.closed link.new ≡ false }
     ensures fault { OnErr result (Rose (L.faults link.old) (L.faults link.new)) }
+    ensures steady { OnOk result (L.faults link.new ≡ L.faults link.old) }
     ensures faults { L.faults link.old ≤ L.faults link.new }
 {
     let mut at = 0;
@@ -78,6 +80,8 @@ pub fn read_content<L: Link>(
     ensures unclosed { L.closed link.new ≡ false }
     ensures fault { IsErrOf result ContentRefusal.LinkFault
         → Rose (L.faults link.old) (L.faults link.new) }
+    ensures steady { (IsErrOf result ContentRefusal.LinkFault → ⊥)
+        → L.faults link.new ≡ L.faults link.old }
     ensures faults { L.faults link.old ≤ L.faults link.new }
 {
     let mut left = length;
@@ -108,6 +112,8 @@ fn read_piece<L: Link>(
     ensures unclosed { L.closed link.new ≡ false }
     ensures fault { IsErrOf result ContentRefusal.LinkFault
         → Rose (L.faults link.old) (L.faults link.new) }
+    ensures steady { (IsErrOf result ContentRefusal.LinkFault → ⊥)
+        → L.faults link.new ≡ L.faults link.old }
     ensures faults { L.faults link.old ≤ L.faults link.new }
 {
     let at = octets.len();
@@ -133,6 +139,8 @@ fn fill_from<L: Link>(
     ensures unclosed { L.closed link.new ≡ false }
     ensures fault { IsErrOf result ContentRefusal.LinkFault
         → Rose (L.faults link.old) (L.faults link.new) }
+    ensures steady { (IsErrOf result ContentRefusal.LinkFault → ⊥)
+        → L.faults link.new ≡ L.faults link.old }
     ensures faults { L.faults link.old ≤ L.faults link.new }
 {
     match fill(link, &mut octets[at..]) {

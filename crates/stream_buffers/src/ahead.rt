@@ -31,6 +31,7 @@ pub(crate) fn read_from<L: Link>(link: &mut L, buf: &mut [u8]) -> Result<usize, 
         → (L.wire link.new).written ≡ (L.wire link.old).written }
     ensures unclosed { L.closed link.new ≡ false }
     ensures fault { OnErr result (Rose (L.faults link.old) (L.faults link.new)) }
+    ensures steady { OnOk result (L.faults link.new ≡ L.faults link.old) }
     ensures faults { L.faults link.old ≤ L.faults link.new }
 {
     match link.read(buf) {
@@ -86,6 +87,7 @@ impl Ahead {
         ensures written { IsTrue (L.tells link.old)
             → (L.wire link.new).written ≡ (L.wire link.old).written }
         ensures fault { OnErr result (Rose (L.faults link.old) (L.faults link.new)) }
+        ensures steady { OnOk result (L.faults link.new ≡ L.faults link.old) }
         ensures faults { L.faults link.old ≤ L.faults link.new }
     {
         match read_from(link, &mut self.octets) {

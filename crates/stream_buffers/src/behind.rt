@@ -1,7 +1,7 @@
 //! Octets for a link that wait to be written.
 
 ghost use Rattle.std.specs.Prelude.{◌≡◌, ◌+◌, ◌++◌, ◌==◌, ◌≤◌, false, [], length, take, nat_le};
-ghost use Rattle.std.specs.Prelude.{vec_len, IsTrue, OnErr};
+ghost use Rattle.std.specs.Prelude.{vec_len, IsTrue, OnOk, OnErr};
 ghost use Rattle.sec_base.specs.Answers.{Rose};
 ghost use Rattle.sec_base.specs.Streams.{Sends};
 
@@ -74,6 +74,7 @@ impl Behind {
         ensures tells { L.tells link.new ≡ L.tells link.old }
         ensures unclosed { L.closed link.new ≡ false }
         ensures fault { OnErr result (Rose (L.faults link.old) (L.faults link.new)) }
+        ensures steady { OnOk result (L.faults link.new ≡ L.faults link.old) }
         ensures faults { L.faults link.old ≤ L.faults link.new }
     {
         let count = self.count;

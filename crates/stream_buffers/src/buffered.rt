@@ -37,6 +37,7 @@ fn read_by<L: Link>(ahead: &mut Ahead, link: &mut L, buf: &mut [u8]) -> Result<u
     ensures written { IsTrue (L.tells link.old)
         → (L.wire link.new).written ≡ (L.wire link.old).written }
     ensures fault { OnErr result (Rose (L.faults link.old) (L.faults link.new)) }
+    ensures steady { OnOk result (L.faults link.new ≡ L.faults link.old) }
     ensures faults { L.faults link.old ≤ L.faults link.new }
 {
     if ahead.is_empty() && !buf.is_empty() {
@@ -60,6 +61,7 @@ fn write_by<L: Link>(behind: &mut Behind, link: &mut L, buf: &[u8]) -> Result<us
         (unwritten behind.new) (take count buf.now)) }
     ensures unclosed { L.closed link.new ≡ false }
     ensures fault { OnErr result (Rose (L.faults link.old) (L.faults link.new)) }
+    ensures steady { OnOk result (L.faults link.new ≡ L.faults link.old) }
     ensures faults { L.faults link.old ≤ L.faults link.new }
 {
     if behind.has_room(buf) {
@@ -111,6 +113,7 @@ impl<L: Link> Buffered<L> {
         ensures tells { L.tells self.new.link ≡ L.tells self.old.link }
         ensures unclosed { L.closed self.new.link ≡ false }
         ensures fault { OnErr result (Rose (L.faults self.old.link) (L.faults self.new.link)) }
+        ensures steady { OnOk result (L.faults self.new.link ≡ L.faults self.old.link) }
         ensures faults { L.faults self.old.link ≤ L.faults self.new.link }
     {
         self.may_wait = false;
@@ -164,6 +167,7 @@ impl<L: Link> Buffered<L> {
         ensures tells { L.tells self.new.link ≡ L.tells self.old.link }
         ensures unclosed { L.closed self.new.link ≡ false }
         ensures fault { OnErr result (Rose (L.faults self.old.link) (L.faults self.new.link)) }
+        ensures steady { OnOk result (L.faults self.new.link ≡ L.faults self.old.link) }
         ensures faults { L.faults self.old.link ≤ L.faults self.new.link }
     {
         if self.is_drained() {
@@ -184,6 +188,7 @@ impl<L: Link> Buffered<L> {
             → (L.wire self.new.link).written ≡ (L.wire self.old.link).written }
         ensures unclosed { L.closed self.new.link ≡ false }
         ensures fault { OnErr result (Rose (L.faults self.old.link) (L.faults self.new.link)) }
+        ensures steady { OnOk result (L.faults self.new.link ≡ L.faults self.old.link) }
         ensures faults { L.faults self.old.link ≤ L.faults self.new.link }
     {
         match &mut self.ahead {
@@ -207,6 +212,9 @@ impl<L: Link> Link for Buffered<L> {
 
     ghost closed = { λ b. L.closed b.link };
 
+    // what still waited may be lost by a fault
+    ghost closes = { λ old new. L.faults old.link ≤ L.faults new.link };
+
     fn read(&mut self, buf: &mut [u8]) -> Result<usize, LinkFault>
         requires { ⟦<Buffered<L> as Link>⟧.closed self.old ≡ false }
         ensures count { IfOk result (λ count. count ≤ length buf.old) }
@@ -218,6 +226,8 @@ impl<L: Link> Link for Buffered<L> {
         ensures unclosed { ⟦<Buffered<L> as Link>⟧.closed self.new ≡ false }
         ensures fault { OnErr result (Rose (⟦<Buffered<L> as Link>⟧.faults self.old)
             (⟦<Buffered<L> as Link>⟧.faults self.new)) }
+        ensures steady { OnOk result
+            (⟦<Buffered<L> as Link>⟧.faults self.new ≡ ⟦<Buffered<L> as Link>⟧.faults self.old) }
         ensures faults { ⟦<Buffered<L> as Link>⟧.faults self.old
             ≤ ⟦<Buffered<L> as Link>⟧.faults self.new }
         // the octets are those that were taken of the link below, once and in order
@@ -246,6 +256,8 @@ impl<L: Link> Link for Buffered<L> {
         ensures unclosed { ⟦<Buffered<L> as Link>⟧.closed self.new ≡ false }
         ensures fault { OnErr result (Rose (⟦<Buffered<L> as Link>⟧.faults self.old)
             (⟦<Buffered<L> as Link>⟧.faults self.new)) }
+        ensures steady { OnOk result
+            (⟦<Buffered<L> as Link>⟧.faults self.new ≡ ⟦<Buffered<L> as Link>⟧.faults self.old) }
         ensures faults { ⟦<Buffered<L> as Link>⟧.faults self.old
             ≤ ⟦<Buffered<L> as Link>⟧.faults self.new }
         // what was taken is written to the link below or waits, behind what waited, once and in order
@@ -266,6 +278,7 @@ impl<L: Link> Link for Buffered<L> {
         ensures tells { ⟦<Buffered<L> as Link>⟧.tells self.new
             ≡ ⟦<Buffered<L> as Link>⟧.tells self.old }
         ensures closed { ⟦<Buffered<L> as Link>⟧.closed self.new ≡ true }
+        ensures closes { ⟦<Buffered<L> as Link>⟧.closes self.old self.new }
         ensures faults { ⟦<Buffered<L> as Link>⟧.faults self.old
             ≤ ⟦<Buffered<L> as Link>⟧.faults self.new }
         // what waits is written to the link below, or a front of it where that fails

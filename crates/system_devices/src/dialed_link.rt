@@ -70,6 +70,8 @@ impl<'a, R: Net<Stream = TcpStream> + SystemTimeSource + Copy + Drop> Link for D
 
     ghost closed = { λ l. l.link.closed };
 
+    ghost closes = { λ old new. new.link.faults ≡ old.link.faults };
+
     fn read(&mut self, buf: &mut [u8]) -> Result<usize, LinkFault> {
         self.dial();
         self.link.read(buf)

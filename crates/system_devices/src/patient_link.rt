@@ -203,6 +203,8 @@ impl<R: Clock + Copy + Drop> Link for PatientLink<'_, R> {
 
     ghost closed = { λ l. ⟦<TcpLink<R> as Link>⟧.closed l.link };
 
+    ghost closes = { λ old new. new.faults ≡ old.faults };
+
     fn read(&mut self, buf: &mut [u8]) -> Result<usize, LinkFault> {
         for _ in 0..self.waits() {
             if self.is_stopped() {

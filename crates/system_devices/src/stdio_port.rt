@@ -1,7 +1,7 @@
 //! Standard input and output as one connection.
 
 ghost use Rattle.std.specs.Prelude.{◌≡◌, ◌≤◌, true, false, Ok, None, IsTrue, IsSome, IsOkAnd, IfOk};
-ghost use Rattle.std.specs.Prelude.{IfSome, OnErr};
+ghost use Rattle.std.specs.Prelude.{IfSome, OnOk, OnErr};
 ghost use Rattle.sec_base.specs.Answers.{Rose};
 ghost use Rattle.sec_base.specs.Port.{Accepts};
 ghost use Rattle.system_devices.specs.Devices.{is_given};
@@ -30,6 +30,8 @@ impl Link for StdioLink {
     ghost wire = { λ _. record { taken = []; coming = []; written = [] } };
 
     ghost closed = { λ l. l.closed };
+
+    ghost closes = { λ old new. new.faults ≡ old.faults };
 
     fn read(&mut self, buf: &mut [u8]) -> Result<usize, LinkFault> {
         match read_on(&mut self.input, buf) {
@@ -98,6 +100,8 @@ impl Port for StdioPort {
             (λ next. IfSome next (λ link. ⟦<StdioLink as Link>⟧.closed link ≡ false)) }
         ensures fault { OnErr result
             (Rose (⟦<StdioPort as Port>⟧.faults self.old) (⟦<StdioPort as Port>⟧.faults self.new)) }
+        ensures steady { OnOk result
+            (⟦<StdioPort as Port>⟧.faults self.new ≡ ⟦<StdioPort as Port>⟧.faults self.old) }
         ensures faults { ⟦<StdioPort as Port>⟧.faults self.old
             ≤ ⟦<StdioPort as Port>⟧.faults self.new }
         // the one link is given once

@@ -186,6 +186,8 @@ impl<R: SystemTimeSource + Drop> Link for TcpLink<R> {
 
     ghost closed = { λ l. l.closed };
 
+    ghost closes = { λ old new. new.faults ≡ old.faults };
+
     fn read(&mut self, buf: &mut [u8]) -> Result<usize, LinkFault> {
         let read = match &mut self.stream {
             Some(stream) => read_on(stream, buf),

@@ -26,6 +26,7 @@ loop-number-preserved g c = record {
   tells = c.in-Ok-More.ensures.tells ∙ c.loop-number.invariant.tells;
   unclosed = c.in-Ok-More.ensures.unclosed;
   faults = omega (arith, c.in-Ok-More.ensures.faults);
+  steady = c.in-Ok-More.ensures.steady (λ e. cc) ∙ c.loop-number.invariant.steady;
 }
 
 -- what the link keeps, by what was called last

@@ -10,4 +10,5 @@ invariant-loop-number g l = record {
   tells : g.L.Link.tells l.link ≡ g.L.Link.tells l.fn.link;
   unclosed : g.L.Link.closed l.link ≡ false;
   faults : g.L.Link.faults l.fn.link ≤ g.L.Link.faults l.link;
+  steady : g.L.Link.faults l.link ≡ g.L.Link.faults l.fn.link;
 }

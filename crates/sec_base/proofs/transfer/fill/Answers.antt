@@ -15,4 +15,5 @@ loop-at-preserved g c =
       tells = c.in-Ok.ensures.tells ∙ c.loop-at.invariant.tells;
       unclosed = c.in-Ok.ensures.unclosed;
       faults = omega (arith, c.in-Ok.ensures.faults);
+      steady = c.in-Ok.ensures.steady ∙ c.loop-at.invariant.steady;
     }

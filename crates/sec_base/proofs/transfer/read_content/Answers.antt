@@ -23,6 +23,7 @@ loop-left-preserved g c = record {
   tells = c.in-Ok.ensures.tells ∙ c.loop-left.invariant.tells;
   unclosed = c.in-Ok.ensures.unclosed;
   faults = omega (arith, c.in-Ok.ensures.faults);
+  steady = c.in-Ok.ensures.steady (λ e. cc) ∙ c.loop-left.invariant.steady;
 }
 
 pub returns-in-Err-clause-told : goal.returns-in-Err-clause-told

@@ -13,6 +13,7 @@ loop-at-preserved g c = record {
   tells = c.in-Ok.ensures.tells ∙ c.loop-at.invariant.tells;
   unclosed = c.in-Ok.ensures.unclosed;
   faults = omega (arith, c.in-Ok.ensures.faults);
+  steady = c.in-Ok.ensures.steady ∙ c.loop-at.invariant.steady;
 }
 
 pub returns-in-Err-clause-told : goal.returns-in-Err-clause-told

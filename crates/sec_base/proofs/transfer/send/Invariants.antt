@@ -9,6 +9,7 @@ invariant-loop-at g l = record {
   tells : g.L.Link.tells l.link ≡ g.L.Link.tells l.fn.link;
   unclosed : g.L.Link.closed l.link ≡ false;
   faults : g.L.Link.faults l.fn.link ≤ g.L.Link.faults l.link;
+  steady : g.L.Link.faults l.link ≡ g.L.Link.faults l.fn.link;
 }
 
 abbrev pub decreases-loop-at : goal.decreases-loop-at

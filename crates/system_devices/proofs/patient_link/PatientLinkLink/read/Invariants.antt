@@ -1,9 +1,9 @@
-use Rattle.std.proofs.Common.{◌≡◌, ◌≤◌, length}
+use Rattle.std.proofs.Common.{◌≡◌, length}
 use Rattle.system_devices.proofs.patient_link.PatientLinkLink.read.Given as goal
 
 abbrev pub invariant-loop : goal.invariant-loop
 invariant-loop g l = record {
-  faults : l.fn.self.faults ≤ l.self.faults;
+  faults : l.self.faults ≡ l.fn.self.faults;
   closed : l.self.link.closed ≡ l.fn.self.link.closed;
   room : length l.buf ≡ length l.fn.buf;
 }

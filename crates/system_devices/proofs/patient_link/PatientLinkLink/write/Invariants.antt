@@ -1,8 +1,8 @@
-use Rattle.std.proofs.Common.{◌≡◌, ◌≤◌}
+use Rattle.std.proofs.Common.{◌≡◌}
 use Rattle.system_devices.proofs.patient_link.PatientLinkLink.write.Given as goal
 
 abbrev pub invariant-loop : goal.invariant-loop
 invariant-loop g l = record {
-  faults : l.fn.self.faults ≤ l.self.faults;
+  faults : l.self.faults ≡ l.fn.self.faults;
   closed : l.self.link.closed ≡ l.fn.self.link.closed;
 }
