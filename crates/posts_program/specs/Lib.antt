@@ -1,0 +1,2 @@
+pub mod Opaque
+pub mod Posts
