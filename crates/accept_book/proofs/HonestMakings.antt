@@ -18,8 +18,9 @@ use Rattle.krb_tokens.specs.Mic.{mic_header, mic_of}
 use Rattle.krb_tokens.specs.Wrap.{turned_right, wrap_header, sealed_body, wrap_of}
 use Rattle.krb_tokens.specs.Tokens.{HasFlags, IsMicOf, mic_header_with, IsWrapOf, wrap_header_with}
 use Rattle.rpcsec_bodies.proofs.Lengths.{mic-size}
-use Rattle.accept_book.specs.Served.{are_args}
-use Rattle.accept_book.specs.Honest.{IsOctets, Carries, Honest, data_header, made_call}
+use Rattle.rpcsec_bodies.specs.Service.{number_of}
+use Rattle.rpc_program.specs.Programs.{ProgramSays}
+use Rattle.accept_book.specs.Honest.{IsOctets, Carries, Honest, IsId, data_header, made_call}
 
 flags-of : (end : TokenEnd) (sealed : Bool) → HasFlags end (flags_of end sealed)
 flags-of end sealed = by-flags end.side end.subkey sealed refl refl
@@ -96,18 +97,18 @@ cred-size n service handle e =
       length-opaque handle,
     )
 
-pub made-honest : (end : TokenEnd) (number xid n procedure service : ℕ) (handle args body : List ℕ) → number < 2 ^ 64 → xid < 2 ^ 32 → n ≤ 0x80000000 → procedure ≤ 4
-    → (service ≡ 1 → procedure ≡ 0) → length handle ≡ 8 → are_args procedure args ≡ true → Carries end service n args body
-    → Honest (made_call end number xid procedure (record { proc = 0; seq = n; service = service; context = handle }) body) end n procedure args
-made-honest end number xid n procedure service handle args body small few-xids few low allowed long proper carries =
+pub made-honest : (program : ProgramSays) (end : TokenEnd) (number xid n procedure service : ℕ) (handle args body : List ℕ) → IsId program.id → number < 2 ^ 64 → xid < 2 ^ 32 → n ≤ 0x80000000 → procedure < 2 ^ 32
+    → program.has procedure ≡ true → number_of (program.needs procedure) ≤ service → length handle ≡ 8 → program.takes procedure args ≡ true → Carries end service n args body
+    → Honest program (made_call program.id end number xid procedure (record { proc = 0; seq = n; service = service; context = handle }) body) end n procedure args
+made-honest program end number xid n procedure service handle args body id small few-xids few low has allowed long proper carries =
     let cred : CredValue = record { proc = 0; seq = n; service = service; context = handle } in
-    let front : List ℕ = data_header xid procedure cred in
-    let call : CallValue = secure_call xid 0x20004753 1 procedure (cred_octets cred) (record { flavour = 6; body = mic_of end number front }) body in
+    let front : List ℕ = data_header program.id xid procedure cred in
+    let call : CallValue = secure_call xid program.id.number program.id.version procedure (cred_octets cred) (record { flavour = 6; body = mic_of end number front }) body in
     let is_call : IsCall call = record {
       xid = few-xids;
-      program = lit< tt;
-      version = lit< tt;
-      procedure = omega (arith, low);
+      program = id.number;
+      version = id.version;
+      procedure = low;
       cred = record { flavour = lit< tt; body = cred-size n service handle long };
       verf = record { flavour = lit< tt; body = omega (arith, mic-size end number front) };
       header = refl;
@@ -129,10 +130,10 @@ made-honest end number xid n procedure service handle args body small few-xids f
       is_data = refl;
       number = refl;
       few = few;
-      program = refl;
-      version = refl;
+      number_called = refl;
+      version_called = refl;
       called = refl;
-      served = low;
+      served = has;
       allowed = allowed;
       secured = refl;
       verifier = rw seam (mic-made end number front small);

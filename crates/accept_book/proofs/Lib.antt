@@ -9,3 +9,4 @@ pub mod Founds
 pub mod Fixings
 pub mod Comings
 pub mod Reasons
+pub mod LogWalk

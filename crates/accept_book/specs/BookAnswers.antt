@@ -3,7 +3,7 @@ use Rattle.std.specs.Prelude.{◌≡◌, ◌≢◌, ◌↔◌, ℕ, List, length
 use Rattle.std.specs.Prelude.{IsOk}
 use Rattle.context_table.specs.Places.{slot_at, live_of, HasValue, Marks, KeepsOthers}
 use Rattle.accept_core.specs.History.{standing, living}
-use Rattle.accept_core.specs.Answers.{or_refused, after, admitted, receipt_of}
+use Rattle.accept_core.specs.Answers.{or_refused, after, receipt_of}
 use Rattle.accept_core.specs.Entering.{given, gained}
 use Rattle.accept_core.specs.Replays.{Accepting, Keeps}
 use Rattle.accept_book.specs.Looking.{IsLooked}
@@ -15,7 +15,6 @@ use Rattle.accept_core.specs.declared.answer.LookRefusal.{LookRefusal}
 use Rattle.accept_book.specs.declared.book_answer.Lease.{Lease}
 use Rattle.accept_book.specs.declared.book_answer.Negotiated.{Negotiated}
 use Rattle.accept_book.specs.declared.book_answer.NegAnswer.TheVariants.{NoMemory}
-use Rattle.accept_core.specs.declared.entry.Admitted.{Admitted}
 use Rattle.accept_core.specs.declared.entry.EndCause.TheVariants.{Destroyed}
 use Rattle.accept_core.specs.declared.entry.Entry.TheVariants.{Call, Ended}
 use Rattle.accept_core.specs.declared.entry.Receipt.{Receipt}
@@ -71,9 +70,9 @@ pub record BookLooked
 -- the lease's context, and every other context stays
 pub record BookAdmitted
     (old new : BookOf) (lease : Lease) (seq procedure : ℕ) (args : List ℕ)
-    (result : Result Admitted AdmitRefusal) : Type 0 where
+    (result : Result Receipt AdmitRefusal) : Type 0 where
   pub answer : result ≡ or_refused (lease_refused old.core lease seq)
-      (admitted old.core.history (Call lease.id seq procedure args))
+      (receipt_of old.core.history (Call lease.id seq procedure args))
   pub history : new.core.history
       ≡ after (lease_refused old.core lease seq) (Call lease.id seq procedure args) old.core.history
   pub exactly : IsOk result ↔ FreeFor old.core lease seq

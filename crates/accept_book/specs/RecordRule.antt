@@ -1,10 +1,9 @@
 -- The rule of a record: which rule answers it, with what reply, and which questions it asks of the
 -- shared state, in which order and with which arguments; all of it a function of the record's
--- octets, of the answers that were kept, and of the width of the windows.
+-- octets, of the answers that were kept, of the program that is served and of the windows' width.
 use Rattle.std.specs.Prelude.{◌≡◌, ℕ, Bool, true, false, not, ◌==◌, ◌&&◌, ◌||◌, nat_lt, List, []}
 use Rattle.std.specs.Prelude.{◌∷◌, length, take, drop, Option, Some, None, if◌then◌else◌}
 use Rattle.std.specs.Prelude.{Result, Ok, Err}
-use Rattle.sha1.specs.Sha1.{sha1}
 use Rattle.rpc_msgs.specs.Calls.{CallValue, call_at}
 use Rattle.rpc_msgs.specs.Replies.{mismatch, reply_octets}
 use Rattle.rpc_msgs.specs.declared.call.CallRefusal.{CallRefusal}
@@ -16,13 +15,16 @@ use Rattle.rpc_msgs.specs.declared.numbers.TheConstants.{SYSTEM_ERR, AUTH_BADCRE
 use Rattle.rpc_msgs.specs.declared.numbers.TheConstants.{AUTH_REJECTEDCRED, AUTH_TOOWEAK}
 use Rattle.rpc_msgs.specs.declared.numbers.TheConstants.{RPCSEC_GSS_CREDPROBLEM}
 use Rattle.rpc_msgs.specs.declared.numbers.TheConstants.{RPCSEC_GSS_CTXPROBLEM, AUTH_NONE}
-use Rattle.rpc_msgs.specs.declared.numbers.TheConstants.{RPCSEC_GSS, PROGRAM, VERSION, NULL, COUNT}
+use Rattle.rpc_msgs.specs.declared.numbers.TheConstants.{RPCSEC_GSS, NULL}
 use Rattle.rpcsec_msgs.specs.Cred.{CredValue, cred_at}
 use Rattle.rpcsec_msgs.specs.declared.numbers.TheConstants.{RPCSEC_GSS_DATA, RPCSEC_GSS_INIT}
 use Rattle.rpcsec_msgs.specs.declared.numbers.TheConstants.{RPCSEC_GSS_CONTINUE_INIT}
-use Rattle.rpcsec_msgs.specs.declared.numbers.TheConstants.{RPC_GSS_SVC_NONE}
 use Rattle.rpcsec_msgs.specs.declared.cred.CredRefusal.{CredRefusal}
-use Rattle.accept_book.specs.Served.{one_opaque, are_args, result_of}
+use Rattle.accept_book.specs.Served.{one_opaque}
+use Rattle.rpcsec_bodies.specs.Service.{number_of, service_of}
+use Rattle.rpc_program.specs.Programs.{Serving, stat_number}
+use Rattle.rpc_program.specs.declared.outcome.Outcome.{Outcome}
+use Rattle.rpc_program.specs.declared.outcome.Outcome.TheVariants as outcomes
 use Rattle.accept_core.specs.declared.answer.AdmitRefusal.{AdmitRefusal}
 use Rattle.accept_core.specs.declared.answer.AdmitRefusal.TheVariants as admits
 use Rattle.accept_core.specs.declared.answer.LookRefusal.{LookRefusal}
@@ -32,7 +34,7 @@ use Rattle.accept_book.specs.declared.book_answer.Lease.{Lease}
 use Rattle.accept_book.specs.declared.book_answer.NegAnswer.{NegAnswer}
 use Rattle.accept_book.specs.declared.book_answer.NegAnswer.TheVariants as steps
 use Rattle.accept_book.specs.declared.book_answer.Negotiated.{Negotiated}
-use Rattle.accept_core.specs.declared.entry.Admitted.{Admitted}
+use Rattle.accept_book.specs.declared.book_answer.Admitted.{Admitted}
 use Rattle.accept_core.specs.declared.entry.Receipt.{Receipt}
 use Rattle.accept_book.specs.declared.rule.Rule.TheVariants as rules
 use Rattle.accept_book.specs.RecordShown.{KeptAnswers, Negotiate, Look, Admit, End, AskedStep}
@@ -48,12 +50,30 @@ first_of [] last = last
 first_of (row ∷ rows) last = if row.0 then row.1 else first_of rows last
 
 -- the call is for another program than the one that is served
-abbrev pub is_other_program : CallValue → Bool
-is_other_program call = not (call.program == PROGRAM)
+abbrev pub is_other_program : Shown → Bool
+is_other_program s = not (s.call.program == s.serves.program.id.number)
 
 -- the call is for another version of the program
-abbrev pub is_other_version_of_it : CallValue → Bool
-is_other_version_of_it call = not (call.version == VERSION)
+abbrev pub is_other_version_of_it : Shown → Bool
+is_other_version_of_it s = not (s.call.version == s.serves.program.id.version)
+
+-- the program has no such procedure
+abbrev pub is_no_procedure : Shown → Bool
+is_no_procedure s = not (s.serves.program.has s.call.procedure)
+
+-- the call's service is less than its procedure needs: by number, none, integrity, privacy
+abbrev pub is_weak : Shown → CredValue → Bool
+is_weak s cred = nat_lt cred.service (number_of (s.serves.program.needs s.call.procedure))
+
+-- the call is for another version: the one that is served is told (RFC 5531 section 9)
+abbrev pub other_version : Shown → Option (List ℕ)
+other_version s =
+    plain s PROG_MISMATCH s.serves.program.id.version s.serves.program.id.version []
+
+-- the same, signed
+abbrev pub other_version_signed : Shown → CredValue → Lease → Option (List ℕ)
+other_version_signed s cred lease = signed s cred lease PROG_MISMATCH
+    s.serves.program.id.version s.serves.program.id.version []
 
 -- the call is of no context that is known
 abbrev pub no_context : Shown → Ruling
@@ -64,9 +84,9 @@ no_context s = by rules.NoContext (denied s RPCSEC_GSS_CREDPROBLEM)
 -- a call without authentication: it is served if it is NULL and has no arguments
 unfoldable pub plain_ruling : Shown → Ruling
 plain_ruling s = first_of (
-    (is_other_program s.call, by rules.Program (plain s PROG_UNAVAIL 0 0 []))
-    ∷ (is_other_version_of_it s.call, by rules.Version (plain s PROG_MISMATCH VERSION VERSION []))
-    ∷ (nat_lt COUNT s.call.procedure, by rules.Procedure (plain s PROC_UNAVAIL 0 0 []))
+    (is_other_program s, by rules.Program (plain s PROG_UNAVAIL 0 0 []))
+    ∷ (is_other_version_of_it s, by rules.Version (other_version s))
+    ∷ (is_no_procedure s, by rules.Procedure (plain s PROC_UNAVAIL 0 0 []))
     ∷ (not (s.call.procedure == NULL), by rules.Weak (denied s AUTH_TOOWEAK))
     ∷ (not (length s.call.args == 0), by rules.Arguments (plain s GARBAGE_ARGS 0 0 []))
     ∷ []) (by rules.Done (plain s SUCCESS 0 0 []))
@@ -102,8 +122,8 @@ token_ruling s cred negotiated (Ok token) = if cred.proc == RPCSEC_GSS_INIT
 -- a call that creates a context or goes on with its creation: program and version, then its token
 unfoldable pub creation_ruling : Shown → CredValue → Option Negotiated → Ruling
 creation_ruling s cred negotiated = first_of (
-    (is_other_program s.call, by rules.Program (plain s PROG_UNAVAIL 0 0 []))
-    ∷ (is_other_version_of_it s.call, by rules.Version (plain s PROG_MISMATCH VERSION VERSION []))
+    (is_other_program s, by rules.Program (plain s PROG_UNAVAIL 0 0 []))
+    ∷ (is_other_version_of_it s, by rules.Version (other_version s))
     ∷ []) (token_ruling s cred negotiated (one_opaque s.call.args))
 
 -- ---- DATA and DESTROY
@@ -113,19 +133,15 @@ creation_ruling s cred negotiated = first_of (
 abbrev pub in_context : Shown → CredValue → Lease → Ruling → Ruling
 in_context s cred lease rest = first_of (
     (not (is_verified s lease), by rules.Verifier (denied s RPCSEC_GSS_CREDPROBLEM))
-    ∷ (is_other_program s.call, by rules.Program (signed s cred lease PROG_UNAVAIL 0 0 []))
-    ∷ (
-      is_other_version_of_it s.call,
-      by rules.Version
-          (signed s cred lease PROG_MISMATCH VERSION VERSION []),
-    )
+    ∷ (is_other_program s, by rules.Program (signed s cred lease PROG_UNAVAIL 0 0 []))
+    ∷ (is_other_version_of_it s, by rules.Version (other_version_signed s cred lease))
     ∷ []) rest
 
 -- a call whose verifier, program and version are right
 pub record IsInContext (s : Shown) (lease : Lease) : Type 0 where
   pub verified : is_verified s lease ≡ true
-  pub program : is_other_program s.call ≡ false
-  pub version : is_other_version_of_it s.call ≡ false
+  pub program : is_other_program s ≡ false
+  pub version : is_other_version_of_it s ≡ false
 
 -- the number of a call wasn't taken
 abbrev pub unadmitted : Shown → CredValue → Lease → AdmitRefusal → Ruling
@@ -136,24 +152,38 @@ unadmitted s cred lease admits.Repeat = by rules.Repeat None
 unadmitted s cred lease admits.LogFull = by rules.LogFull (signed s cred lease SYSTEM_ERR 0 0 [])
 
 -- the draws 66 to 81 are a sealed reply's confounder
-abbrev pub result_reply : Shown → CredValue → Lease → List ℕ → ℕ → Option (List ℕ)
-result_reply s cred lease args posts =
-    signed s cred lease SUCCESS 0 0 (result_body (end_of lease) cred (take 16 (drop 66 s.draws))
-    (result_of s.call.procedure args lease.outcome.initiator posts))
+abbrev pub result_reply : Shown → CredValue → Lease → List ℕ → Option (List ℕ)
+result_reply s cred lease result =
+    signed s cred lease SUCCESS 0 0
+    (result_body (end_of lease) cred (take 16 (drop 66 s.draws)) result)
+
+-- what became of an admitted call: its result, or why it has none, is signed; where that isn't
+-- known nothing is said (RFC 5531 section 9)
+abbrev pub outcome_ruling : Shown → CredValue → Lease → List ℕ → Outcome → Ruling
+outcome_ruling s cred lease args outcomes.Args = by rules.Done (result_reply s cred lease args)
+outcome_ruling s cred lease args (outcomes.Done result) =
+    by rules.Done (result_reply s cred lease result)
+outcome_ruling s cred lease args (outcomes.Refused why) =
+    by rules.Done (signed s cred lease (stat_number why) 0 0 [])
+outcome_ruling s cred lease args (outcomes.Mismatch low high) =
+    by rules.Done (signed s cred lease PROG_MISMATCH low high [])
+outcome_ruling s cred lease args outcomes.Gone = by rules.Lost None
+outcome_ruling s cred lease args outcomes.NoMemory = undecided
 
 -- what an admission was answered: the call is done, or its number is refused
 abbrev pub admitted_ruling : Shown → CredValue → Lease → List ℕ → Result Admitted AdmitRefusal
     → Ruling
 admitted_ruling s cred lease args (Ok admitted) =
-    by rules.Done (result_reply s cred lease args admitted.posts)
+    outcome_ruling s cred lease args admitted.outcome
 admitted_ruling s cred lease args (Err refusal) = unadmitted s cred lease refusal
 
--- a data call asks for the admission of its number, and the answer decides
+-- a data call asks for its admission, and the answer decides
 abbrev pub ask_admit : Shown → CredValue → Lease → List ℕ → Option (Result Admitted AdmitRefusal)
     → Ruling
-ask_admit s cred lease args None = waiting (Admit lease cred.seq s.call.procedure (sha1 args))
+ask_admit s cred lease args None =
+    waiting (Admit lease cred.seq (service_of cred.service) s.call.procedure args)
 ask_admit s cred lease args (Some answer) =
-    asking (AskedAdmit lease cred.seq s.call.procedure (sha1 args) answer)
+    asking (AskedAdmit lease cred.seq (service_of cred.service) s.call.procedure args answer)
     (admitted_ruling s cred lease args answer)
 
 -- by the arguments that the body carries
@@ -162,7 +192,7 @@ abbrev pub args_ruling : Shown → CredValue → Lease → Option (Result Admitt
 args_ruling s cred lease admitted None = by rules.Body (signed s cred lease GARBAGE_ARGS 0 0 [])
 args_ruling s cred lease admitted (Some args) =
     first_of ((
-      not (are_args s.call.procedure args),
+      not (s.serves.program.takes s.call.procedure args),
       by rules.Arguments
           (signed s cred lease GARBAGE_ARGS 0 0 []),
     ) ∷ []) (ask_admit s cred lease args admitted)
@@ -171,12 +201,8 @@ args_ruling s cred lease admitted (Some args) =
 unfoldable pub data_ruling : Shown → CredValue → Lease → Option (Result Admitted AdmitRefusal)
     → Ruling
 data_ruling s cred lease admitted = in_context s cred lease (first_of (
-    (nat_lt COUNT s.call.procedure, by rules.Procedure (signed s cred lease PROC_UNAVAIL 0 0 []))
-    ∷ (
-      cred.service == RPC_GSS_SVC_NONE
-          && not (s.call.procedure == NULL),
-      by rules.Weak (denied s AUTH_TOOWEAK),
-    )
+    (is_no_procedure s, by rules.Procedure (signed s cred lease PROC_UNAVAIL 0 0 []))
+    ∷ (is_weak s cred, by rules.Weak (denied s AUTH_TOOWEAK))
     ∷ []) (args_ruling s cred lease admitted (body_args (end_of lease) cred s.call.args)))
 
 -- what the end of a context was answered: it is ended, or the call's number is refused
@@ -252,21 +278,22 @@ call_ruling s negotiated looked admitted ended =
 
 -- a record by how its octets read: not at all, as no call, as another version of RPC, or as a call
 -- (RFC 5531 section 9)
-abbrev pub read_ruling : List ℕ → KeptAnswers → ℕ → Result CallValue CallRefusal → Ruling
-read_ruling octets kept width (Err (Unreadable at)) = by rules.Unreadable None
-read_ruling octets kept width (Err NotCall) = by rules.NotCall None
-read_ruling octets kept width (Err (RpcVersion xid)) =
+abbrev pub read_ruling : List ℕ → KeptAnswers → Serving → Result CallValue CallRefusal → Ruling
+read_ruling octets kept serves (Err (Unreadable at)) = by rules.Unreadable None
+read_ruling octets kept serves (Err NotCall) = by rules.NotCall None
+read_ruling octets kept serves (Err (RpcVersion xid)) =
     by rules.RpcVersion (Some (reply_octets (mismatch xid RPC_VERSION RPC_VERSION)))
-read_ruling octets kept width (Ok call) =
+read_ruling octets kept serves (Ok call) =
     call_ruling (record {
       record_octets = octets;
       call = call;
       now = kept.now;
       draws =
           kept.draws;
-      width = width;
+      serves = serves;
     }) kept.negotiated kept.looked kept.admitted kept.ended
 
--- the rule of a record, by the kept answers and the width of the windows
-unfoldable pub record_ruling : List ℕ → KeptAnswers → ℕ → Ruling
-record_ruling octets kept width = read_ruling octets kept width (call_at octets)
+-- the rule of a record, by the kept answers, the program that is served and the width of the
+-- windows
+unfoldable pub record_ruling : List ℕ → KeptAnswers → Serving → Ruling
+record_ruling octets kept serves = read_ruling octets kept serves (call_at octets)

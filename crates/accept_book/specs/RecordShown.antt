@@ -15,6 +15,8 @@ use Rattle.rpcsec_bodies.specs.declared.refusal.BodyRefusal.{BodyRefusal}
 use Rattle.rpcsec_bodies.specs.Opening.{unprotected}
 use Rattle.rpcsec_bodies.specs.Protection.{protected}
 use Rattle.rpcsec_bodies.specs.Service.{service_of}
+use Rattle.rpcsec_bodies.specs.declared.service.Service.{Service}
+use Rattle.rpc_program.specs.Programs.{Serving}
 use Rattle.krb_tokens.specs.Mic.{mic_of, checked_mic}
 use Rattle.krb_tokens.specs.declared.end.Side.TheVariants.{Acceptor}
 use Rattle.krb_tokens.specs.declared.end.TokenEnd.{TokenEnd}
@@ -26,7 +28,7 @@ use Rattle.accept_book.specs.declared.book_answer.BookRefusal.{BookRefusal}
 use Rattle.accept_book.specs.declared.book_answer.BookRefusal.TheVariants as books
 use Rattle.accept_book.specs.declared.book_answer.Lease.{Lease}
 use Rattle.accept_book.specs.declared.book_answer.Negotiated.{Negotiated}
-use Rattle.accept_core.specs.declared.entry.Admitted.{Admitted}
+use Rattle.accept_book.specs.declared.book_answer.Admitted.{Admitted}
 use Rattle.accept_core.specs.declared.entry.Receipt.{Receipt}
 use Rattle.accept_book.specs.declared.rule.Rule.{Rule}
 use Rattle.accept_book.specs.Rules.{rule_number}
@@ -41,28 +43,46 @@ pub record KeptAnswers : Type 0 where
   pub ended : Option (Result Receipt AdmitRefusal)
 
 -- what the shared state may be asked: to take a token of a creation, to show a context, to admit a
--- call's number, to end a context
+-- call by its number, service, procedure and arguments, to end a context
 pub data Question : Type 0 where
   Negotiate : (id : Option ℕ) (token : List ℕ) (now : ℕ) (draws : List ℕ) → Question
   Look : (id now : ℕ) → Question
-  Admit : (lease : Lease) (seq procedure : ℕ) (args : List ℕ) → Question
+  Admit : (lease : Lease) (seq : ℕ) (service : Service) (procedure : ℕ) (args : List ℕ) → Question
   End : (lease : Lease) (seq : ℕ) → Question
 
--- a question with its answer
-pub data Asked : Type 0 where
+-- a question with its answer; an admission is answered with an `A`: a book's receipt, or what a
+-- server's state tells of it
+pub data Asked (A : Type 0) : Type 0 where
   AskedStep : (id : Option ℕ) (token : List ℕ) (now : ℕ) (draws : List ℕ) (answer : Negotiated)
-      → Asked
-  AskedLook : (id now : ℕ) (answer : Result Lease LookRefusal) → Asked
-  AskedAdmit : (lease : Lease) (seq procedure : ℕ) (args : List ℕ)
-      (answer : Result Admitted AdmitRefusal) → Asked
-  AskedEnd : (lease : Lease) (seq : ℕ) (answer : Result Receipt AdmitRefusal) → Asked
+      → Asked A
+  AskedLook : (id now : ℕ) (answer : Result Lease LookRefusal) → Asked A
+  AskedAdmit : (lease : Lease) (seq : ℕ) (service : Service) (procedure : ℕ) (args : List ℕ)
+      (answer : Result A AdmitRefusal) → Asked A
+  AskedEnd : (lease : Lease) (seq : ℕ) (answer : Result Receipt AdmitRefusal) → Asked A
+
+-- an answer, where it is Ok, seen by a function
+abbrev pub with_ok : {A B E : Type 0} → (A → B) → Result A E → Result B E
+with_ok view (Ok value) = Ok (view value)
+with_ok view (Err refusal) = Err refusal
+
+-- a question, the answer to an admission seen by a function
+abbrev pub with_answer : {A B : Type 0} → (A → B) → Asked A → Asked B
+with_answer view (AskedStep id token now draws answer) = AskedStep id token now draws answer
+with_answer view (AskedLook id now answer) = AskedLook id now answer
+with_answer view (AskedAdmit lease seq service procedure args answer) =
+    AskedAdmit lease seq service procedure args (with_ok view answer)
+with_answer view (AskedEnd lease seq answer) = AskedEnd lease seq answer
+
+-- what a book has of a question: the receipt of an admission, and not what became of the call
+abbrev pub booked : Asked Admitted → Asked Receipt
+booked asked = with_answer (λ admitted. admitted.receipt) asked
 
 -- the rule and the reply; the questions that are due and were answered, in order, and the next that
 -- is due and wasn't, when there is no rule
 pub record Ruling : Type 0 where
   pub rule : ℕ
   pub reply : Option (List ℕ)
-  pub asked : List Asked
+  pub asked : List (Asked Admitted)
   pub due : Option Question
 
 -- the rule with this number decides, and has this reply; nothing was asked
@@ -82,7 +102,7 @@ abbrev pub waiting : Question → Ruling
 waiting question = record { rule = 0; reply = None; asked = []; due = Some question }
 
 -- this question was asked and answered first, then the ruling goes on
-abbrev pub asking : Asked → Ruling → Ruling
+abbrev pub asking : Asked Admitted → Ruling → Ruling
 asking one ruling = record {
   rule = ruling.rule;
   reply = ruling.reply;
@@ -93,14 +113,14 @@ asking one ruling = record {
 
 -- ---- what a call says
 
--- a call that was read, with the octets of its record, and the moment, draws and width with which
--- it is answered
+-- a call that was read, with the octets of its record, and the moment, the draws, the program and
+-- the width of windows with which it is answered
 pub record Shown : Type 0 where
   pub record_octets : List ℕ
   pub call : CallValue
   pub now : ℕ
   pub draws : List ℕ
-  pub width : ℕ
+  pub serves : Serving
 
 -- the first word is there and isn't the version
 abbrev pub is_other_version : List ℕ → Bool
@@ -168,13 +188,13 @@ going s id token = plain s SUCCESS 0 0 (init_res_octets (record
 -- (RFC 2203 section 5.2.3.1)
 abbrev pub settled : Shown → Lease → List ℕ → Option (List ℕ)
 settled s lease token =
-    Some (reply_octets (accepted s.call.xid RPCSEC_GSS (mic_of (end_of lease) 1 (word s.width))
-    SUCCESS 0 0 (init_res_octets (record {
+    Some (reply_octets (accepted s.call.xid RPCSEC_GSS
+    (mic_of (end_of lease) 1 (word s.serves.width)) SUCCESS 0 0 (init_res_octets (record {
       context = handle_of lease.id;
       major = COMPLETE;
       minor =
           0;
-      window = s.width;
+      window = s.serves.width;
       token = token;
     }))))
 

@@ -1,6 +1,10 @@
 -- Rules of records by hand: calls without authentication, and of calls with a credential of flavour
 -- 6 those whose reply isn't signed.
-use Rattle.std.specs.Prelude.{◌≡◌, ℕ, List, [], ◌∷◌, ◌++◌, Option, Some, None, Err}
+use Rattle.std.specs.Prelude.{◌≡◌, ℕ, nat_lt, ◌==◌, if◌then◌else◌, List, [], ◌∷◌, ◌++◌, length}
+use Rattle.std.specs.Prelude.{Option, Some, None, Err}
+use Rattle.rpc_msgs.specs.declared.numbers.TheConstants.{NULL}
+use Rattle.rpcsec_bodies.specs.declared.service.Service.TheVariants as services
+use Rattle.rpc_program.specs.Programs.{Serving}
 use Rattle.rpc_msgs.specs.Words.{word}
 use Rattle.spnego_core.specs.declared.refusal.NegRefusal.TheVariants.{Defective}
 use Rattle.accept_core.specs.declared.answer.LookRefusal.TheVariants as looks
@@ -33,13 +37,25 @@ nothing = record {
   ended = None;
 }
 
+-- a program of five procedures, of which all but NULL need integrity and none takes arguments
+abbrev pub example : Serving
+example = record {
+  program = record {
+    id = record { number = 0x20004753; version = 1 };
+    has = λ procedure. nat_lt procedure 5;
+    needs = λ procedure. if procedure == NULL then services.None else services.Integrity;
+    takes = λ procedure args. length args == 0;
+  };
+  width = 128;
+}
+
 -- the number of the rule of a record, where nothing was asked
 abbrev pub rule_of : List ℕ → ℕ
-rule_of octets = (record_ruling octets nothing 128).rule
+rule_of octets = (record_ruling octets nothing example).rule
 
 -- the reply to a record, where nothing was asked
 abbrev pub reply_of : List ℕ → Option (List ℕ)
-reply_of octets = (record_ruling octets nothing 128).reply
+reply_of octets = (record_ruling octets nothing example).reply
 
 -- calls of the program by flavour 0, and the words of their replies (RFC 5531 section 9)
 pub record PlainByHand : Type 0 where
@@ -94,15 +110,16 @@ given answer = record {
 -- answers of a look
 pub record SecureByHand : Type 0 where
   pub refused_rule : (record_ruling creation (given (steps.Refused (books.Neg (Defective 0))))
-      128).rule ≡ 20
+      example).rule ≡ 20
   pub refused_reply :
-      (record_ruling creation (given (steps.Refused (books.Neg (Defective 0)))) 128).reply
+      (record_ruling creation (given (steps.Refused (books.Neg (Defective 0)))) example).reply
       ≡ Some (word 7
       ++ (word 1 ++ (word 0 ++ (word 0 ++ (word 0 ++ (word 0 ++ (word 0 ++ (word 0x90000 ++ (word 1
       ++ (word 0 ++ (word 9 ++ (word 0xa1073005 ++ (word 0xa0030a01 ++ word 0x2000000)))))))))))))
-  pub no_context : (record_ruling creation (given (steps.Refused books.NoContext)) 128).rule ≡ 6
-  pub token_due : (record_ruling creation nothing 128).due ≡ Some (Negotiate None [] 5 (1 ∷ 2 ∷ []))
-  pub look_due : (record_ruling data_call nothing 128).due ≡ Some (Look 9 5)
+  pub no_context : (record_ruling creation (given (steps.Refused books.NoContext)) example).rule ≡ 6
+  pub token_due : (record_ruling creation nothing example).due
+      ≡ Some (Negotiate None [] 5 (1 ∷ 2 ∷ []))
+  pub look_due : (record_ruling data_call nothing example).due ≡ Some (Look 9 5)
   pub not_ready : (record_ruling data_call (record {
     now = 5;
     draws = [];
@@ -111,7 +128,7 @@ pub record SecureByHand : Type 0 where
     looked = Some (Err looks.NotReady);
     admitted = None;
     ended = None;
-  }) 128).rule ≡ 6
+  }) example).rule ≡ 6
   pub expired : (record_ruling data_call (record {
     now = 5;
     draws = [];
@@ -120,13 +137,13 @@ pub record SecureByHand : Type 0 where
         Some (Err looks.Expired);
     admitted = None;
     ended = None;
-  }) 128).rule ≡ 7
+  }) example).rule ≡ 7
   pub other_version : (record_ruling (secured 20 (gss_body 2 1 0 1 (word 0)) (word 0)) nothing
-      128).reply ≡ Some (word 7 ++ (word 1 ++ (word 1 ++ (word 1 ++ word 2))))
+      example).reply ≡ Some (word 7 ++ (word 1 ++ (word 1 ++ (word 1 ++ word 2))))
   pub creation_with_a_handle : (record_ruling (secured 24 (gss_body 1 1 0 1 (word 4 ++ word 9))
-      (word 0)) nothing 128).reply ≡ Some (word 7 ++ (word 1 ++ (word 1 ++ (word 1 ++ word 1))))
+      (word 0)) nothing example).reply ≡ Some (word 7 ++ (word 1 ++ (word 1 ++ (word 1 ++ word 1))))
   pub short_handle : (record_ruling (secured 24 (gss_body 1 0 3 1 (word 4 ++ word 9)) []) nothing
-      128).rule ≡ 6
+      example).rule ≡ 6
 
 -- the rules of both kinds of calls
 pub record RulesByHand : Type 0 where

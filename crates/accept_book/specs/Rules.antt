@@ -3,8 +3,7 @@ use Rattle.std.specs.Prelude.{ℕ}
 use Rattle.accept_book.specs.declared.rule.Rule.{Rule}
 use Rattle.accept_book.specs.declared.rule.Rule.TheVariants as rules
 
--- the number of a rule, from 1 to 24
--- a rule's number, as the table of rules has it
+-- a rule's number, from 1 to 25, as the table of rules has it
 abbrev pub rule_number : Rule → ℕ
 rule_number rules.Unreadable = 1
 rule_number rules.NotCall = 2
@@ -30,3 +29,4 @@ rule_number rules.Going = 21
 rule_number rules.Settled = 22
 rule_number rules.Done = 23
 rule_number rules.Ended = 24
+rule_number rules.Lost = 25

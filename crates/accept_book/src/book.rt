@@ -7,7 +7,7 @@ ghost use Rattle.spnego_core.specs.Sizes.{ShortAccept};
 ghost use Rattle.context_table.specs.Places.{slot_at, phase_of};
 ghost use Rattle.accept_core.specs.Phases.{PhaseBy};
 ghost use Rattle.accept_core.specs.declared.entry.Entry.{Entry};
-ghost use Rattle.accept_core.specs.History.{standing, posts};
+ghost use Rattle.accept_core.specs.History.{standing};
 ghost use Rattle.accept_core.specs.Entering.{auth_of, auth_after, given, gained};
 ghost use Rattle.accept_core.specs.Replays.{Keeps, Replays};
 ghost use Rattle.accept_core.specs.Logs.{greatest_log};
@@ -23,8 +23,8 @@ ghost use Rattle.accept_book.specs.FirstSteps.{IsFirstStep, WasStepped};
 
 use crate::book_answer::{BookRefusal, Lease, NegAnswer, Negotiated};
 use accept_core::{
-    AdmitRefusal, Admitted, Core, Limits, Log, LookRefusal, MarkRefusal, Named, Next, Receipt,
-    Receipts, RoomRefusal, blank,
+    AdmitRefusal, Core, Limits, Log, LookRefusal, MarkRefusal, Named, Next, Receipt, Receipts,
+    RoomRefusal, blank,
 };
 use context_table::Phase;
 use gss_base::{Mark, MechKind};
@@ -527,7 +527,7 @@ impl Book {
         seq: u32,
         procedure: u32,
         args: [u8; 20],
-    ) -> Result<Admitted, AdmitRefusal>
+    ) -> Result<Receipt, AdmitRefusal>
         ensures admitted { (setup : AcceptSetup)
             → BookAdmitted (with_setup setup self.old) (with_setup setup self.new) lease.now seq
             procedure args result }
@@ -556,7 +556,7 @@ impl Book {
         answer
     }
 
-    /// The log. It is legal, and the table, the cache and the counts are what it says.
+    /// The log. It is legal, and the table and the cache are what it says.
     pub fn log(&self) -> &Log
         ensures entries { reverse result.now.entries ≡ self.now.history }
         ensures width { result.now.width ≡ self.now.width }
@@ -565,8 +565,8 @@ impl Book {
         ensures contexts { result.now.contexts ≡ self.now.table.limit }
         ensures marks { result.now.marks ≡ self.now.cache.capacity }
         ensures legal { Legal self.now.width self.now.history }
-        ensures replays { Replays by_outcome self.now.width (posts self.now.history)
-            self.now.history self.now.table self.now.cache }
+        ensures replays { Replays by_outcome self.now.width self.now.history self.now.table
+            self.now.cache }
     {
         self.core.log()
     }

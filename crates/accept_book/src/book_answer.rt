@@ -3,7 +3,8 @@
 ghost use Rattle.std.specs.Prelude.{◌≡◌};
 ghost use Rattle.accept_book.specs.Statuses.{book_number};
 
-use accept_core::Receipts;
+use accept_core::{Receipt, Receipts};
+use rpc_program::Outcome as CallOutcome;
 use sec_base::{Moment, Octets};
 use spnego_core::{NegRefusal, Outcome};
 
@@ -69,6 +70,13 @@ pub enum NegAnswer {
     Refused(BookRefusal),
     /// No memory was to be had.
     NoMemory,
+}
+
+/// What a server's state answers to an admitted call: its entry's receipt, and what became of it.
+#[derive(Drop)]
+pub struct Admitted {
+    pub receipt: Receipt,
+    pub outcome: CallOutcome,
 }
 
 /// An answer, and the entries that its step added.

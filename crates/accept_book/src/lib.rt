@@ -8,9 +8,9 @@ mod own_seat;
 mod rule;
 
 pub use accept_core::{
-    AdmitRefusal, Admitted, EndCause, Entry, Keeping, Limits, Log, LookRefusal, Receipt, Receipts,
+    AdmitRefusal, EndCause, Entry, Keeping, Limits, Log, LookRefusal, Receipt, Receipts,
 };
 pub use book::{Book, names_of, step_first};
-pub use book_answer::{BookRefusal, Lease, NegAnswer, Negotiated};
+pub use book_answer::{Admitted, BookRefusal, Lease, NegAnswer, Negotiated};
 pub use own_seat::OwnSeat;
 pub use rule::Rule;

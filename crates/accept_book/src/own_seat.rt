@@ -1,6 +1,5 @@
 //! A book with what its ends are begun with, for one owner.
 ghost use Rattle.std.specs.Prelude.{◌≡◌, [], ◌<◌, ◌≤◌, IfOk, reverse};
-ghost use Rattle.accept_core.specs.History.{posts};
 ghost use Rattle.accept_core.specs.Logs.{greatest_log};
 ghost use Rattle.accept_core.specs.Legal.{Legal};
 ghost use Rattle.accept_core.specs.Replays.{Replays};
@@ -8,7 +7,7 @@ ghost use Rattle.accept_book.specs.Booking.{by_outcome, token_size, with_setup};
 
 use crate::book::Book;
 use crate::book_answer::{Lease, Negotiated};
-use accept_core::{AdmitRefusal, Admitted, Limits, Log, LookRefusal, Receipt};
+use accept_core::{AdmitRefusal, Limits, Log, LookRefusal, Receipt};
 use sec_base::{Moment, NoMemory};
 use spnego_core::AcceptSetup;
 use std::alloc::Global;
@@ -109,7 +108,7 @@ impl OwnSeat {
         seq: u32,
         procedure: u32,
         args: [u8; 20],
-    ) -> Result<Admitted, AdmitRefusal>
+    ) -> Result<Receipt, AdmitRefusal>
         ensures admitted { BookAdmitted self.old self.new lease.now seq procedure args result }
     {
         self.book.admit(lease, seq, procedure, args)
@@ -122,7 +121,7 @@ impl OwnSeat {
         self.book.end(lease, seq)
     }
 
-    /// The log. It is legal, and the table, the cache and the counts are what it says.
+    /// The log. It is legal, and the table and the cache are what it says.
     pub fn log(&self) -> &Log
         ensures entries { reverse result.now.entries ≡ self.now.core.history }
         ensures width { result.now.width ≡ self.now.core.width }
@@ -131,8 +130,8 @@ impl OwnSeat {
         ensures contexts { result.now.contexts ≡ self.now.core.table.limit }
         ensures marks { result.now.marks ≡ self.now.core.cache.capacity }
         ensures legal { Legal self.now.core.width self.now.core.history }
-        ensures replays { Replays by_outcome self.now.core.width (posts self.now.core.history)
-            self.now.core.history self.now.core.table self.now.core.cache }
+        ensures replays { Replays by_outcome self.now.core.width self.now.core.history
+            self.now.core.table self.now.core.cache }
     {
         self.book.log()
     }

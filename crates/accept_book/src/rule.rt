@@ -54,10 +54,12 @@ pub enum Rule {
     Done,
     /// The context was ended (RFC 2203 section 5.4).
     Ended,
+    /// The call was admitted, and what became of it isn't known: no reply is due, and its connection ends.
+    Lost,
 }
 
 impl Rule {
-    /// Its number, from 1 to 24.
+    /// Its number, from 1 to 25.
     pub fn number(self) -> u8
         ensures { result ≡ rule_number self }
     {
@@ -86,6 +88,7 @@ impl Rule {
             Rule::Settled => 22,
             Rule::Done => 23,
             Rule::Ended => 24,
+            Rule::Lost => 25,
         }
     }
 }

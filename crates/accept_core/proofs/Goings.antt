@@ -70,25 +70,25 @@ some-live : {N S : Type 0} (naming : Naming S) (wide : ℕ) (stands : Standing) 
 some-live naming wide stands ns None same w = absurd (false≢true w)
 some-live naming wide stands ns (Some s) same w = stands-live naming stands s.state s.ends same.state
 
-by-some : {N S : Type 0} (naming : Naming S) (wide posted : ℕ) (crowded full : Bool) (h : List Entry) (table : Places N S) (cache : Cached) (now id : ℕ) → Replays naming wide posted h table cache
+by-some : {N S : Type 0} (naming : Naming S) (wide : ℕ) (crowded full : Bool) (h : List Entry) (table : Places N S) (cache : Cached) (now id : ℕ) → Replays naming wide h table cache
     → GoesBy crowded full (slice_get (in_use h) 0) table now (Some id) → is_some (slot_at table id) ≡ true
-by-some naming wide posted true full h table cache now id r g =
+by-some naming wide true full h table cache now id r g =
     let u : Uses h = uses wide h r.legal in
     let there : is_among id (in_use h) ≡ true = first-among (in_use h) id g in
     lives-slot naming wide (standing id h) (numbers id h) (slot_at table id) (r.slots id) (live-whole (standing id h) (sym (u.members id) ∙ there))
-by-some {N = N} {S = S} naming wide posted false true h table cache now id r (inl past) = some-of (λ (slot : Slot N S). slot.ends < now) (slot_at table id) past.0
-by-some naming wide posted false true h table cache now id r (inr waiting) = waits-some (slot_at table id) (waiting.2).0
-by-some naming wide posted false false h table cache now id r g = absurd cc
+by-some {N = N} {S = S} naming wide false true h table cache now id r (inl past) = some-of (λ (slot : Slot N S). slot.ends < now) (slot_at table id) past.0
+by-some naming wide false true h table cache now id r (inr waiting) = waits-some (slot_at table id) (waiting.2).0
+by-some naming wide false false h table cache now id r g = absurd cc
 
-pub goes-some : {N S : Type 0} (naming : Naming S) (wide posted : ℕ) (settles first : Bool) (h : List Entry) (table : Places N S) (cache : Cached) (now id : ℕ) → Replays naming wide posted h table cache
+pub goes-some : {N S : Type 0} (naming : Naming S) (wide : ℕ) (settles first : Bool) (h : List Entry) (table : Places N S) (cache : Cached) (now id : ℕ) → Replays naming wide h table cache
     → Goes settles first h table now (Some id) → is_some (slot_at table id) ≡ true
-goes-some naming wide posted settles first h table cache now id r g =
-    by-some naming wide posted (is_crowded settles h table.limit) (is_full first table) h table cache now id r g
+goes-some naming wide settles first h table cache now id r g =
+    by-some naming wide (is_crowded settles h table.limit) (is_full first table) h table cache now id r g
 
-pub goes-live : {N S : Type 0} (naming : Naming S) (wide posted : ℕ) (settles first : Bool) (h : List Entry) (table : Places N S) (cache : Cached) (now id : ℕ) → Replays naming wide posted h table cache
+pub goes-live : {N S : Type 0} (naming : Naming S) (wide : ℕ) (settles first : Bool) (h : List Entry) (table : Places N S) (cache : Cached) (now id : ℕ) → Replays naming wide h table cache
     → Goes settles first h table now (Some id) → IsLive (standing id h)
-goes-live naming wide posted settles first h table cache now id r g =
-    some-live naming wide (standing id h) (numbers id h) (slot_at table id) (r.slots id) (goes-some naming wide posted settles first h table cache now id r g)
+goes-live naming wide settles first h table cache now id r g =
+    some-live naming wide (standing id h) (numbers id h) (slot_at table id) (r.slots id) (goes-some naming wide settles first h table cache now id r g)
 
 -- ---- one at most goes
 
@@ -233,21 +233,21 @@ whole-not-open (Open at) o w = false≢true w
 whole-not-open (Whole mech names ends) o w = o
 whole-not-open Over o w = o
 
-by-stays : {N S : Type 0} (naming : Naming S) (wide posted : ℕ) (crowded first : Bool) (h : List Entry) (table : Places N S) (cache : Cached) (now id held : ℕ) → Replays naming wide posted h table cache
+by-stays : {N S : Type 0} (naming : Naming S) (wide : ℕ) (crowded first : Bool) (h : List Entry) (table : Places N S) (cache : Cached) (now id held : ℕ) → Replays naming wide h table cache
     → GoesBy crowded (is_full first table) (slice_get (in_use h) 0) table now (Some id) → first ≡ false → IsHeld (slot_at table held) → id ≡ held → ⊥
-by-stays naming wide posted true first h table cache now id held r g fails is same =
+by-stays naming wide true first h table cache now id held r g fails is same =
     let u : Uses h = uses wide h r.legal in
     let there : is_among id (in_use h) ≡ true = first-among (in_use h) id g in
     let whole : is_whole (standing id h) ≡ true = sym (u.members id) ∙ there in
     whole-not-open (standing held h) (open-held naming wide (standing held h) (numbers held h) (slot_at table held) (r.slots held) is) (ap (λ (i : ℕ). is_whole (standing i h)) (sym same) ∙ whole)
-by-stays {N = N} {S = S} naming wide posted false first h table cache now id held r g fails is same =
+by-stays {N = N} {S = S} naming wide false first h table cache now id held r g fails is same =
     let free : is_full first table ≡ false = ap (λ (b : Bool). b && nat_le table.limit (live_of table)) fails in
     let none : Some id ≡ None = subst (λ (b : Bool). GoesBy {N = N} {S = S} false b (slice_get (in_use h) 0) table now (Some id)) free g in absurd cc
 
-pub held-stays : {N S : Type 0} (naming : Naming S) (wide posted : ℕ) (settles first : Bool) (h : List Entry) (table : Places N S) (cache : Cached) (now id held : ℕ) → Replays naming wide posted h table cache
+pub held-stays : {N S : Type 0} (naming : Naming S) (wide : ℕ) (settles first : Bool) (h : List Entry) (table : Places N S) (cache : Cached) (now id held : ℕ) → Replays naming wide h table cache
     → Goes settles first h table now (Some id) → first ≡ false → IsHeld (slot_at table held) → id ≡ held → ⊥
-held-stays naming wide posted settles first h table cache now id held r g fails is same =
-    by-stays naming wide posted (is_crowded settles h table.limit) first h table cache now id held r g fails is same
+held-stays naming wide settles first h table cache now id held r g fails is same =
+    by-stays naming wide (is_crowded settles h table.limit) first h table cache now id held r g fails is same
 
 -- ---- what a held context shows
 

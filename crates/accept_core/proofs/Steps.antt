@@ -25,14 +25,14 @@ use Rattle.accept_core.proofs.Appended.{wide-slot}
 pub added : (entries : List Entry) (entry : Entry) → reverse (entries ++ entry ∷ []) ≡ entry ∷ reverse entries
 added entries entry = reverse-append entries (entry ∷ [])
 
-pub core-added : {N S : Type 0} (naming : Naming S) (log : LogOf) (posted posts-after given given-after most : ℕ) (table table-after : Places N S) (cache cache-after : Cached) (entry : Entry)
-    → IsCore naming log posted given most table cache → length (reverse log.entries) < log.limit
-    → Replays naming log.width posts-after (entry ∷ reverse log.entries) table-after cache-after
+pub core-added : {N S : Type 0} (naming : Naming S) (log : LogOf) (given given-after most : ℕ) (table table-after : Places N S) (cache cache-after : Cached) (entry : Entry)
+    → IsCore naming log given most table cache → length (reverse log.entries) < log.limit
+    → Replays naming log.width (entry ∷ reverse log.entries) table-after cache-after
     → given-after ≡ opened (entry ∷ reverse log.entries) → table-after.limit ≡ table.limit → cache-after.capacity ≡ cache.capacity
     → table-after.used ≡ in_use (entry ∷ reverse log.entries) → length (in_use (entry ∷ reverse log.entries)) ≤ most
-    → IsCore naming (record log { entries = log.entries ++ entry ∷ [] }) posts-after given-after most table-after cache-after
-core-added naming log posted posts-after given given-after most table table-after cache cache-after entry core room replays ids contexts marks used share = record {
-  replays = subst (λ (h : List Entry). Replays naming log.width posts-after h table-after cache-after) (sym (added log.entries entry)) replays;
+    → IsCore naming (record log { entries = log.entries ++ entry ∷ [] }) given-after most table-after cache-after
+core-added naming log given given-after most table table-after cache cache-after entry core room replays ids contexts marks used share = record {
+  replays = subst (λ (h : List Entry). Replays naming log.width h table-after cache-after) (sym (added log.entries entry)) replays;
   ids = ids ∙ ap opened (sym (added log.entries entry));
   few = subst (λ (h : List Entry). length h ≤ log.limit) (sym (added log.entries entry)) (omega (arith, room));
   small = core.small;
@@ -79,9 +79,9 @@ free-from limit width h id seq e =
           ]
     ]
 
-pub wide-table : {N S : Type 0} (naming : Naming S) (wide posted : ℕ) (h : List Entry) (table : Places N S) (cache : Cached) (id : ℕ)
-    → Replays naming wide posted h table cache → WideAt table.width (slot_at table id)
-wide-table naming wide posted h table cache id r =
+pub wide-table : {N S : Type 0} (naming : Naming S) (wide : ℕ) (h : List Entry) (table : Places N S) (cache : Cached) (id : ℕ)
+    → Replays naming wide h table cache → WideAt table.width (slot_at table id)
+wide-table naming wide h table cache id r =
     subst (λ (w : ℕ). WideAt w (slot_at table id)) (sym r.width) (wide-slot naming wide (standing id h) (numbers id h) (slot_at table id) (r.slots id))
 
 none-of : (place : Option ℕ) (held capacity : ℕ) → or_repeat place held capacity ≡ verdicts.Taken → place ≡ None
@@ -144,13 +144,12 @@ slot-none slots id e = ap (λ (l : List (Slot _ _)). slot_in l id) e
 -- a state with an empty log
 pub core-new : {N S : Type 0} (naming : Naming S) (log : LogOf) (table : Places N S) (cache : Cached) → log.entries ≡ [] → table.slots ≡ []
     → table.used ≡ [] → table.width ≡ log.width → Holds cache [] → log.limit ≤ greatest_log → log.contexts ≡ table.limit → log.marks ≡ cache.capacity
-    → IsCore naming log 0 0 (most_whole table.limit) table cache
+    → IsCore naming log 0 (most_whole table.limit) table cache
 core-new naming log table cache entries slots unused wide holds small contexts marks = record {
-  replays = subst (λ (l : List Entry). Replays naming log.width 0 (reverse l) table cache) (sym entries) (record {
+  replays = subst (λ (l : List Entry). Replays naming log.width (reverse l) table cache) (sym entries) (record {
     legal = tt;
     slots = λ id. rw (slot-none table.slots id slots) tt;
     live = ap (λ (l : List (Slot _ _)). length l) slots;
-    count = refl;
     width = wide;
     past = omega arith;
     marks = holds;

@@ -11,7 +11,7 @@ use Rattle.context_table.specs.Places.{Places, slot_at, live_of}
 use Rattle.accept_core.specs.declared.entry.Entry.{Entry}
 use Rattle.accept_core.specs.declared.entry.Keeping.{Keeping}
 use Rattle.accept_core.specs.History.{Standing, Unknown, Open, Whole, Over, standing, numbers}
-use Rattle.accept_core.specs.History.{opened, living, posts, latest, taken_of, IsGone}
+use Rattle.accept_core.specs.History.{opened, living, latest, taken_of, IsGone}
 use Rattle.accept_core.specs.Legal.{Legal}
 use Rattle.accept_core.specs.Logs.{LogOf, greatest_log}
 use Rattle.accept_core.specs.Aging.{in_use, most_whole}
@@ -50,13 +50,12 @@ abbrev pub SameSlot : {N S : Type 0} → Naming S → ℕ → Option (Slot N S) 
 SameSlot naming wide None stands ns = IsGone stands
 SameSlot naming wide (Some slot) stands ns = SlotOf naming wide stands ns slot
 
--- the history is legal, and contexts, how many live, marks and the number of posts are what it says
-pub record Replays {N S : Type 0} (naming : Naming S) (wide posted : ℕ) (h : List Entry)
+-- the history is legal, and contexts, how many live, and marks are what it says
+pub record Replays {N S : Type 0} (naming : Naming S) (wide : ℕ) (h : List Entry)
     (table : Places N S) (cache : Cached) : Type 0 where
   pub legal : Legal wide h
   pub slots : (id : ℕ) → SameSlot naming wide (slot_at table id) (standing id h) (numbers id h)
   pub live : live_of table ≡ living h
-  pub count : posted ≡ posts h
   pub width : table.width ≡ wide
   pub past : latest h ≤ cache.greatest
   pub marks : Holds cache (taken_of h)
@@ -80,12 +79,12 @@ pub record Keeps {N S : Type 0} (old new : Accepting N S) : Type 0 where
   pub capacity : new.cache.capacity ≡ old.cache.capacity
   pub greatest : new.cache.greatest ≡ old.cache.greatest
 
--- an acceptor's log, its number of posts, the ids that it gave, how many contexts may be complete,
--- its contexts and its marks belong together; the order of use is the history's, and complete
--- contexts have no more than their share
-pub record IsCore {N S : Type 0} (naming : Naming S) (log : LogOf) (posted given most : ℕ)
+-- an acceptor's log, the ids that it gave, how many contexts may be complete, its contexts and its
+-- marks belong together; the order of use is the history's, and complete contexts have no more than
+-- their share
+pub record IsCore {N S : Type 0} (naming : Naming S) (log : LogOf) (given most : ℕ)
     (table : Places N S) (cache : Cached) : Type 0 where
-  pub replays : Replays naming log.width posted (reverse log.entries) table cache
+  pub replays : Replays naming log.width (reverse log.entries) table cache
   pub ids : given ≡ opened (reverse log.entries)
   pub few : length (reverse log.entries) ≤ log.limit
   pub small : log.limit ≤ greatest_log

@@ -9,13 +9,13 @@ ghost use Rattle.context_table.specs.Places.{slot_at, live_of, KeepsOthers, phas
 ghost use Rattle.context_table.specs.Places.{state_of, held_after, IsHeld, IsFreshAt};
 ghost use Rattle.context_table.specs.Places.{Marks, with_state, settled_as, HasValue};
 ghost use Rattle.accept_core.specs.declared.entry.Entry.{Entry};
-ghost use Rattle.accept_core.specs.History.{standing, has_auth, opened, posts, taken_of};
+ghost use Rattle.accept_core.specs.History.{standing, has_auth, opened, taken_of};
 ghost use Rattle.accept_core.specs.Legal.{Legal, MayCall, MayEnd};
 ghost use Rattle.gss_base.specs.Mech.{is_kerberos};
 ghost use Rattle.replay_cache.specs.Taking.{cache_verdict};
 ghost use Rattle.accept_core.specs.Logs.{greatest_log};
 ghost use Rattle.accept_core.specs.Replays.{Keeps, Replays, end_of_opened};
-ghost use Rattle.accept_core.specs.Answers.{refused, or_refused, after, admitted, receipt_of, Free};
+ghost use Rattle.accept_core.specs.Answers.{refused, or_refused, after, receipt_of, Free};
 ghost use Rattle.accept_core.specs.Answers.{taken_by, LooksBy};
 ghost use Rattle.accept_core.specs.Phases.{PhaseBy};
 ghost use Rattle.accept_core.specs.Ready.{ReadyFor};
@@ -32,7 +32,7 @@ ghost use Rattle.accept_core.specs.Entering.{SettlesBy, given, gained};
 use crate::answer::{
     AdmitRefusal, Entered, LookRefusal, MarkRefusal, Next, RoomRefusal, TakeRefusal,
 };
-use crate::entry::{Admitted, EndCause, Entry, Limits, Receipt, Receipts};
+use crate::entry::{EndCause, Entry, Limits, Receipt, Receipts};
 use crate::log::Log;
 use crate::named::Named;
 use context_table::{Phase, Table};
@@ -49,7 +49,6 @@ use std::marker::Model;
 #[derive(Drop)]
 pub struct Core<N, S: Named> {
     log: Log,
-    posts: u64,
     given: u64,
     most: usize,
     table: Table<N, S>,
@@ -72,7 +71,7 @@ impl<N, S: Named> Model for Core<N, S> {
     } };
 
     ghost invariant = { λ c. IsCore (record { mech = S.mech_of; names = S.names_of })
-        c.log c.posts c.given c.most c.table c.cache };
+        c.log c.given c.most c.table c.cache };
 }
 
 impl<N: Drop, S: Named + Drop> Core<N, S> {
@@ -98,7 +97,6 @@ impl<N: Drop, S: Named + Drop> Core<N, S> {
         let cache = Cache::new(alloc, limits.marks, start)?;
         Ok(Core {
             log,
-            posts: 0,
             given: 0,
             most: most_whole(limits.contexts),
             table,
@@ -121,10 +119,10 @@ impl<N: Drop, S: Named + Drop> Core<N, S> {
         seq: u32,
         procedure: u32,
         args: [u8; 20],
-    ) -> Result<Admitted, AdmitRefusal>
+    ) -> Result<Receipt, AdmitRefusal>
         ensures answer { result
             ≡ or_refused (refused self.old.limit self.old.width self.old.history id seq)
-            (admitted self.old.history (Entry.Call id seq procedure args)) }
+            (receipt_of self.old.history (Entry.Call id seq procedure args)) }
         ensures history { self.new.history
             ≡ after (refused self.old.limit self.old.width self.old.history id seq)
             (Entry.Call id seq procedure args) self.old.history }
@@ -147,11 +145,7 @@ impl<N: Drop, S: Named + Drop> Core<N, S> {
                     procedure,
                     args,
                 };
-                let posts = self.post_count();
-                Ok(Admitted {
-                    receipt: Receipt { place, entry },
-                    posts,
-                })
+                Ok(Receipt { place, entry })
             }
         }
     }
@@ -186,7 +180,6 @@ impl<N: Drop, S: Named + Drop> Core<N, S> {
             procedure,
             args,
         });
-        self.posts = with_post(self.posts, procedure);
     }
 
     /// Ends a complete context by a call with a number that is fresh.
@@ -581,13 +574,6 @@ impl<N: Drop, S: Named + Drop> Core<N, S> {
         });
     }
 
-    // How many calls of procedure 3 the log has.
-    fn post_count(&self) -> u64
-        ensures { result ≡ posts self.now.history }
-    {
-        self.posts
-    }
-
     // Whether the log has no room for the entries of a step.
     fn is_log_full(&self) -> bool
         ensures { result ≡ nat_lt self.now.limit (length self.now.history + 4) }
@@ -771,7 +757,7 @@ impl<N: Drop, S: Named + Drop> Core<N, S> {
         }
     }
 
-    /// The log. It is legal, and the table, the cache and the counts are what it says.
+    /// The log. It is legal, and the table and the cache are what it says.
     pub fn log(&self) -> &Log
         ensures entries { reverse result.now.entries ≡ self.now.history }
         ensures width { result.now.width ≡ self.now.width }
@@ -781,8 +767,7 @@ impl<N: Drop, S: Named + Drop> Core<N, S> {
         ensures marks { result.now.marks ≡ self.now.cache.capacity }
         ensures legal { Legal self.now.width self.now.history }
         ensures replays { Replays (record { mech = S.mech_of; names = S.names_of })
-            self.now.width (posts self.now.history) self.now.history self.now.table
-            self.now.cache }
+            self.now.width self.now.history self.now.table self.now.cache }
         ensures share { length (in_use self.now.history) ≤ most_whole self.now.table.limit }
     {
         &self.log
@@ -800,7 +785,6 @@ impl<N: Drop, S: Named + Drop> Core<N, S> {
     {
         let Core {
             log,
-            posts: _,
             given: _,
             most: _,
             table: _,
@@ -865,12 +849,4 @@ fn is_settled<N, S>(step: &Next<N, S>) -> bool
         Next::Going(_) => false,
         Next::Settled { .. } => true,
     }
-}
-
-// The count of calls of procedure 3, one more of a procedure included.
-fn with_post(posts: u64, procedure: u32) -> u64
-    requires { posts < 18446744073709551615 }
-    ensures { result ≡ (if procedure == 3 then posts + 1 else posts) }
-{
-    if procedure == 3 { posts + 1 } else { posts }
 }

@@ -73,13 +73,6 @@ pub struct Receipts {
     pub list: [Receipt; 4],
 }
 
-/// An admitted call: its entry, and how many calls of procedure 3 the log has up to it.
-#[derive(Clone, Copy)]
-pub struct Admitted {
-    pub receipt: Receipt,
-    pub posts: u64,
-}
-
 /// What a log has in memory of its entries beside the newest four: all of them, and their digest.
 #[derive(Clone, Copy)]
 pub struct Keeping {

@@ -14,6 +14,6 @@ mod named;
 
 pub use acceptance::Core;
 pub use answer::{AdmitRefusal, Entered, LookRefusal, MarkRefusal, Next, RoomRefusal, TakeRefusal};
-pub use entry::{Admitted, EndCause, Entry, Keeping, Limits, Receipt, Receipts};
+pub use entry::{EndCause, Entry, Keeping, Limits, Receipt, Receipts};
 pub use log::{Log, blank};
 pub use named::Named;

@@ -14,7 +14,7 @@ naming-of g = record { mech = g.S.Named.mech_of; names = g.S.Named.names_of }
 pub close-requires-clause-may : goal.close-requires-clause-may
 close-requires-clause-may g c =
     let goes = rw (← c.self.view_is, c.in-Some.is) at c.victim.ensures.goes in
-    rw (← c.self.view_is) (goes-live (naming-of g) c.self.inside.log.width c.self.inside.posts c.args.settles c.args.first (reverse c.self.inside.log.entries) c.self.inside.table c.self.inside.cache c.self.inside.cache.greatest c.in-Some.id c.self.invariant.replays goes)
+    rw (← c.self.view_is) (goes-live (naming-of g) c.self.inside.log.width c.args.settles c.args.first (reverse c.self.inside.log.entries) c.self.inside.table c.self.inside.cache c.self.inside.cache.greatest c.in-Some.id c.self.invariant.replays goes)
 
 pub returns-in-None-clause-history : goal.returns-in-None-clause-history
 returns-in-None-clause-history g c =
@@ -47,7 +47,7 @@ returns-in-None-clause-stays g c = λ other. inl refl
 
 pub returns-in-None-clause-unopened : goal.returns-in-None-clause-unopened
 returns-in-None-clause-unopened g c =
-    rw (← c.self.view_is) (unopened (naming-of g) c.self.inside.log.width c.self.inside.posts (reverse c.self.inside.log.entries) c.self.inside.table c.self.inside.cache c.self.invariant.replays)
+    rw (← c.self.view_is) (unopened (naming-of g) c.self.inside.log.width (reverse c.self.inside.log.entries) c.self.inside.table c.self.inside.cache c.self.invariant.replays)
 
 pub returns-in-Some-clause-history : goal.returns-in-Some-clause-history
 returns-in-Some-clause-history g c =
@@ -61,7 +61,7 @@ pub returns-in-Some-clause-place : goal.returns-in-Some-clause-place
 returns-in-Some-clause-place g c =
     let goes = rw (← c.self.view_is, c.in-Some.is) at c.victim.ensures.goes in
     let few = rw (← c.self.view_is) at c.victim.ensures.few in
-    let live = rw (← c.self.view_is, goes-some (naming-of g) c.self.inside.log.width c.self.inside.posts c.args.settles c.args.first (reverse c.self.inside.log.entries) c.self.inside.table c.self.inside.cache c.self.inside.cache.greatest c.in-Some.id c.self.invariant.replays goes) at c.close.ensures.live in
+    let live = rw (← c.self.view_is, goes-some (naming-of g) c.self.inside.log.width c.args.settles c.args.first (reverse c.self.inside.log.entries) c.self.inside.table c.self.inside.cache c.self.inside.cache.greatest c.in-Some.id c.self.invariant.replays goes) at c.close.ensures.live in
     let limit = rw (← c.self.view_is) at c.close.ensures.keeps.contexts in
     λ first never. omega (arith, few, live, limit)
 
@@ -79,7 +79,7 @@ returns-in-Some-clause-held g c =
     let others = rw (← c.self.view_is) at c.close.ensures.others in
     rw (← c.self.view_is)
     (λ first id held.
-    others.others id (held-stays (naming-of g) c.self.inside.log.width c.self.inside.posts c.args.settles c.args.first (reverse c.self.inside.log.entries) c.self.inside.table c.self.inside.cache c.self.inside.cache.greatest c.in-Some.id id c.self.invariant.replays goes first held))
+    others.others id (held-stays (naming-of g) c.self.inside.log.width c.args.settles c.args.first (reverse c.self.inside.log.entries) c.self.inside.table c.self.inside.cache c.self.inside.cache.greatest c.in-Some.id id c.self.invariant.replays goes first held))
 
 pub returns-in-Some-clause-given : goal.returns-in-Some-clause-given
 returns-in-Some-clause-given g c = ap opened c.close.ensures.history
@@ -101,4 +101,4 @@ returns-in-Some-clause-stays g c = rw (← c.self.view_is) (λ other. lapsed-sta
 
 pub returns-in-Some-clause-unopened : goal.returns-in-Some-clause-unopened
 returns-in-Some-clause-unopened g c =
-    rw (← c.self.view_is) (unopened (naming-of g) c.self.inside.log.width c.self.inside.posts (reverse c.self.inside.log.entries) c.self.inside.table c.self.inside.cache c.self.invariant.replays)
+    rw (← c.self.view_is) (unopened (naming-of g) c.self.inside.log.width (reverse c.self.inside.log.entries) c.self.inside.table c.self.inside.cache c.self.invariant.replays)
