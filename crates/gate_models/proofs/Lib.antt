@@ -1,1 +1,2 @@
 mod LoopTurns
+mod Shortness

@@ -1,9 +1,12 @@
 -- What a gate over a list answers: the next answer of the list, where it is one to the question;
 -- else LogFull to a step, NoContext to a look, and Gone to an admission or an end. Whatever it was,
 -- the next answer is used up.
-use Rattle.std.specs.Prelude.{◌≡◌, List, [], ◌∷◌, drop, Result, Err}
+use Rattle.std.specs.Prelude.{◌≡◌, ◌⊎◌, List, [], ◌∷◌, drop, Result, Err}
 use Rattle.accept_core.specs.Entering.{given}
 use Rattle.accept_book.specs.RecordShown.{Asked, AskedStep, AskedLook, AskedAdmit, AskedEnd}
+use Rattle.accept_book.specs.RecordShown.{with_ok}
+use Rattle.rpc_program.specs.Programs.{NONE}
+use Rattle.gss_server.specs.Programs.{passed}
 use Rattle.accept_core.specs.declared.answer.AdmitRefusal.{AdmitRefusal}
 use Rattle.accept_core.specs.declared.answer.AdmitRefusal.TheVariants.{Gone}
 use Rattle.accept_core.specs.declared.answer.LookRefusal.{LookRefusal}
@@ -12,7 +15,7 @@ use Rattle.accept_book.specs.declared.book_answer.BookRefusal.TheVariants.{LogFu
 use Rattle.accept_book.specs.declared.book_answer.Lease.{Lease}
 use Rattle.accept_book.specs.declared.book_answer.NegAnswer.TheVariants.{Refused}
 use Rattle.accept_book.specs.declared.book_answer.Negotiated.{Negotiated}
-use Rattle.accept_core.specs.declared.entry.Admitted.{Admitted}
+use Rattle.accept_book.specs.declared.book_answer.Admitted.{Admitted}
 use Rattle.accept_core.specs.declared.entry.Receipt.{Receipt}
 use Rattle.gate_models.specs.declared.gate_answer.GateAnswer.{GateAnswer}
 use Rattle.gate_models.specs.declared.gate_answer.GateAnswer.TheVariants as answers
@@ -43,8 +46,12 @@ abbrev pub admission_next : List GateAnswer → Result Admitted AdmitRefusal
 admission_next [] = Err Gone
 admission_next (answers.Negotiated step ∷ more) = Err Gone
 admission_next (answers.Looked answer ∷ more) = Err Gone
-admission_next (answers.Admitted answer ∷ more) = answer
+admission_next (answers.Admitted call ∷ more) = call.answer
 admission_next (answers.Ended answer ∷ more) = Err Gone
+
+-- the same of a call whose number alone is taken: the receipt
+abbrev pub receipt_next : List GateAnswer → Result Receipt AdmitRefusal
+receipt_next list = with_ok (λ admitted. admitted.receipt) (admission_next list)
 
 -- what a list answers to an end: its next answer if that is one's, else Gone
 abbrev pub end_next : List GateAnswer → Result Receipt AdmitRefusal
@@ -55,9 +62,10 @@ end_next (answers.Admitted answer ∷ more) = Err Gone
 end_next (answers.Ended answer ∷ more) = answer
 
 -- what a list answers to a question, and what is left of it
-abbrev pub ListAnswers : List GateAnswer → Asked → List GateAnswer → Type 0
+abbrev pub ListAnswers : List GateAnswer → Asked Admitted → List GateAnswer → Type 0
 ListAnswers old (AskedStep id token now draws answer) new = StepNext old answer × (new ≡ drop 1 old)
 ListAnswers old (AskedLook id now answer) new = (answer ≡ look_next old) × (new ≡ drop 1 old)
-ListAnswers old (AskedAdmit lease seq procedure args answer) new =
-    (answer ≡ admission_next old) × (new ≡ drop 1 old)
+ListAnswers old (AskedAdmit lease seq service procedure args answer) new =
+    ((answer ≡ admission_next old) ⊎ ((procedure ≡ NONE) × (answer ≡ passed (receipt_next old))))
+    × (new ≡ drop 1 old)
 ListAnswers old (AskedEnd lease seq answer) new = (answer ≡ end_next old) × (new ≡ drop 1 old)

@@ -6,7 +6,9 @@ use Rattle.sec_base.specs.Link.{Wire}
 use Rattle.rpc_msgs.specs.Records.{Fragments, octets_in, frame, IsRecord, IsFront, IsTooLong}
 use Rattle.rpc_msgs.specs.Records.{IsTooMany}
 use Rattle.accept_book.specs.RecordShown.{Ruling, Asked}
-use Rattle.gss_server.specs.Answers.{IsDecided, may_want}
+use Rattle.rpc_program.specs.Programs.{Serving}
+use Rattle.accept_book.specs.declared.book_answer.Admitted.{Admitted}
+use Rattle.gss_server.specs.Answers.{GoesOn, IsLost, may_want}
 use Rattle.gss_server.specs.Asking.{Asking}
 use Rattle.gss_server.specs.Connections.{framed, octets_of, ruling_for, written_for, written_in}
 use Rattle.gss_server.specs.Connections.{asked_for, asked_in, AllDecided, AllExact, IsExact}
@@ -23,8 +25,13 @@ pub record IsUnfit (octets : List ℕ) : Type 0 where
   pub unfit : IsTooLong front ⊎ IsTooMany front
   pub begins : octets ≡ front ++ more
 
--- the record for whose answer memory was wanted, after the gate was asked
-pub record IsWanted (gained : List Asked → Type 0) (width : ℕ) (rest : List ℕ)
+-- the record at which answering ends: memory was wanted for its answer, or what became of its call
+-- isn't known
+abbrev pub IsLast : Ruling → Type 0
+IsLast ruling = (may_want ruling ≡ true) ⊎ IsLost ruling
+
+-- the record at which answering ended, after the gate was asked
+pub record IsWanted (gained : List (Asked Admitted) → Type 0) (serves : Serving) (rest : List ℕ)
     (last : List Kept) : Type 0 where
   pub cut : Fragments
   pub one : Kept
@@ -32,17 +39,19 @@ pub record IsWanted (gained : List Asked → Type 0) (width : ℕ) (rest : List 
   pub is_record : IsRecord cut
   pub begins : rest ≡ frame cut ++ more
   pub kept : last ≡ one ∷ []
-  pub exact : IsExact width (octets_in cut) one
-  pub wanted : may_want (ruling_for width (octets_in cut) one) ≡ true
-  pub asked : gained (asked_for width (octets_in cut) one)
+  pub exact : IsExact serves (octets_in cut) one
+  pub wanted : IsLast (ruling_for serves (octets_in cut) one)
+  pub asked : gained (asked_for serves (octets_in cut) one)
 
 -- what stands behind the records that were answered: a front of the next one, or what begins none;
--- at want of memory anything, and then the answer for which it was wanted may have been kept.
+-- where answering ended anything, and then the answer at which it did may have been kept.
 -- `gained` says what the gate was asked: what it was for the records, and for that answer then
-abbrev pub Rest : (List Asked → Type 0) → ℕ → Bool → List Asked → List ℕ → List Kept → Type 0
-Rest gained width false asked rest last = gained asked × (last ≡ []) × (IsFront rest ⊎ IsUnfit rest)
-Rest gained width true asked rest last =
-    (gained asked × (last ≡ [])) ⊎ IsWanted (λ more. gained (asked ++ more)) width rest last
+abbrev pub Rest : (List (Asked Admitted) → Type 0) → Serving → Bool → List (Asked Admitted)
+    → List ℕ → List Kept → Type 0
+Rest gained serves false asked rest last = gained asked × (last ≡ []) ×
+    (IsFront rest ⊎ IsUnfit rest)
+Rest gained serves true asked rest last =
+    (gained asked × (last ≡ [])) ⊎ IsWanted (λ more. gained (asked ++ more)) serves rest last
 
 -- each of these answers was given at this moment
 abbrev pub AllAt : ℕ → List Kept → Type 0
@@ -51,7 +60,8 @@ AllAt moment kept = AllByRecursion (λ one. one.now ≡ moment) kept
 -- what was heard are whole records, cut into fragments somehow, and a rest; what was said are the
 -- replies to the records, in order, each by the answer that was kept of it, which a rule decides
 -- and each part of which was asked of the gate; all were answered at one moment
-pub record LoopedTo (rests : List Asked → List ℕ → List Kept → Type 0) (width moment : ℕ)
+pub record LoopedTo (rests : List (Asked Admitted) → List ℕ → List Kept → Type 0)
+    (serves : Serving) (moment : ℕ)
     (heard said : List ℕ) (kept : List Kept) (cut : ℕ) : Type 0 where
   pub records : List Fragments
   pub rest : List ℕ
@@ -61,28 +71,31 @@ pub record LoopedTo (rests : List Asked → List ℕ → List Kept → Type 0) (
   pub spelled : heard ≡ octets_of records ++ rest
   pub place : cut ≡ length (octets_of records)
   pub counted : length records ≡ length answers
-  pub exact : AllExact width records answers
-  pub decided : AllDecided width records answers
+  pub exact : AllExact serves records answers
+  pub decided : AllDecided serves records answers
   pub keeps : kept ≡ answers ++ last
   pub timed : AllAt moment kept
-  pub replies : said ≡ written_in width records answers
-  pub stands : rests (asked_in width records answers) rest last
+  pub replies : said ≡ written_in serves records answers
+  pub stands : rests (asked_in serves records answers) rest last
 
--- the same with a rest that was judged; `starved` says whether memory was wanted
-abbrev pub Looped : (List Asked → Type 0) → ℕ → ℕ → List ℕ → List ℕ → List Kept → ℕ → Bool → Type 0
-Looped gained width moment heard said kept cut starved =
-    LoopedTo (Rest gained width starved) width moment heard said kept cut
+-- the same with a rest that was judged; `starved` says whether answering ended
+abbrev pub Looped : (List (Asked Admitted) → Type 0) → Serving → ℕ → List ℕ → List ℕ → List Kept
+    → ℕ → Bool → Type 0
+Looped gained serves moment heard said kept cut starved =
+    LoopedTo (Rest gained serves starved) serves moment heard said kept cut
 
 -- a link's octets: what was written to it is what was heard, and what was taken and what is to come
 -- is what was said
-abbrev pub Loops : (List Asked → Type 0) → ℕ → ℕ → Wire → List Kept → Bool → Type 0
-Loops gained width moment wire kept starved =
+abbrev pub Loops : (List (Asked Admitted) → Type 0) → Serving → ℕ → Wire → List Kept → Bool
+    → Type 0
+Loops gained serves moment wire kept starved =
     (cut : ℕ)
-    × Looped gained width moment wire.written (wire.taken ++ wire.coming) kept cut starved
+    × Looped gained serves moment wire.written (wire.taken ++ wire.coming) kept cut starved
 
 -- a gate that began so was asked these, in order, each answer one that it may give after those
 -- before, and is in this state now
-abbrev pub Since : {S : Type 0} → (S → Type 0) → (S → Asked → S → Type 0) → S → List Asked → Type 0
+abbrev pub Since : {S : Type 0} → (S → Type 0) → (S → Asked Admitted → S → Type 0) → S
+    → List (Asked Admitted) → Type 0
 Since {S} begins Answers now asked = (first : S) × begins first × Asking Answers first asked now
 
 -- ---- parts of a write
@@ -110,57 +123,61 @@ IsNext octets nexts.Front = IsFront octets
 IsNext octets nexts.Unfit = IsUnfit octets
 IsNext octets nexts.NoMemory = Unit {0}
 
--- a reply was said, or memory was wanted for it
+-- a reply was said, or answering ended
 abbrev pub IsSaid : Ruling → List ℕ → List ℕ → Turned → Type 0
-IsSaid ruling said said' Answered = IsDecided ruling × (said' ≡ said ++ framed ruling.reply)
+IsSaid ruling said said' Answered = GoesOn ruling × (said' ≡ said ++ framed ruling.reply)
 IsSaid ruling said said' Rests = ⊥
-IsSaid ruling said said' Starved = (said' ≡ said) × (may_want ruling ≡ true)
+IsSaid ruling said said' Starved = (said' ≡ said) × IsLast ruling
 
 -- a record was answered, and its answer kept
-pub record Answering (gained : List Asked → Type 0) (width moment : ℕ) (octets : List ℕ) (size : ℕ)
+pub record Answering (gained : List (Asked Admitted) → Type 0) (serves : Serving) (moment : ℕ)
+    (octets : List ℕ) (size : ℕ)
     (kept kept' : List Kept) (said said' : List ℕ) (cut cut' : ℕ) : Type 0 where
   pub one : Kept
   pub keeps : kept' ≡ kept ++ one ∷ []
-  pub exact : IsExact width octets one
+  pub exact : IsExact serves octets one
   pub timed : one.now ≡ moment
-  pub decided : IsDecided (ruling_for width octets one)
-  pub replied : said' ≡ said ++ written_for width octets one
+  pub decided : GoesOn (ruling_for serves octets one)
+  pub replied : said' ≡ said ++ written_for serves octets one
   pub place : cut' ≡ cut + size
-  pub asked : gained (asked_for width octets one)
+  pub asked : gained (asked_for serves octets one)
 
--- an answer was kept, and memory was wanted for it or its reply
-pub record KeptOnly (gained : List Asked → Type 0) (width moment : ℕ) (octets : List ℕ)
+-- an answer was kept, and answering ended at it
+pub record KeptOnly (gained : List (Asked Admitted) → Type 0) (serves : Serving) (moment : ℕ)
+    (octets : List ℕ)
     (kept kept' : List Kept) : Type 0 where
   pub one : Kept
   pub keeps : kept' ≡ kept ++ one ∷ []
-  pub exact : IsExact width octets one
+  pub exact : IsExact serves octets one
   pub timed : one.now ≡ moment
-  pub wanted : may_want (ruling_for width octets one) ≡ true
-  pub asked : gained (asked_for width octets one)
+  pub wanted : IsLast (ruling_for serves octets one)
+  pub asked : gained (asked_for serves octets one)
 
--- a record was answered, or memory was wanted, nothing was said, and its answer may have been kept
-abbrev pub IsAnsweredBy : (List Asked → Type 0) → ℕ → ℕ → List ℕ → ℕ → List Kept → List Kept
+-- a record was answered, or answering ended, nothing was said, and its answer may have been kept
+abbrev pub IsAnsweredBy : (List (Asked Admitted) → Type 0) → Serving → ℕ → List ℕ → ℕ → List Kept
+    → List Kept
     → List ℕ → List ℕ → ℕ → ℕ → Turned → Type 0
-IsAnsweredBy gained width moment octets size kept kept' said said' cut cut' Answered =
-    Answering gained width moment octets size kept kept' said said' cut cut'
-IsAnsweredBy gained width moment octets size kept kept' said said' cut cut' Rests = ⊥
-IsAnsweredBy gained width moment octets size kept kept' said said' cut cut' Starved =
+IsAnsweredBy gained serves moment octets size kept kept' said said' cut cut' Answered =
+    Answering gained serves moment octets size kept kept' said said' cut cut'
+IsAnsweredBy gained serves moment octets size kept kept' said said' cut cut' Rests = ⊥
+IsAnsweredBy gained serves moment octets size kept kept' said said' cut cut' Starved =
     (said' ≡ said) × (cut' ≡ cut)
-    × ((gained [] × (kept' ≡ kept)) ⊎ KeptOnly gained width moment octets kept kept')
+    × ((gained [] × (kept' ≡ kept)) ⊎ KeptOnly gained serves moment octets kept kept')
 
 -- a rest that wasn't judged yet
-abbrev pub Unjudged : (List Asked → Type 0) → List Asked → List ℕ → List Kept → Type 0
+abbrev pub Unjudged : (List (Asked Admitted) → Type 0) → List
+    (Asked Admitted) → List ℕ → List Kept → Type 0
 Unjudged gained asked rest last = gained asked × (last ≡ [])
 
 -- what was heard and said after a turn, by how the turn ended
-abbrev pub IsTurned : (List Asked → Type 0) → ℕ → ℕ → List ℕ → List ℕ → List Kept → ℕ → Turned
-    → Type 0
-IsTurned gained width moment heard said kept cut Answered =
-    LoopedTo (Unjudged gained) width moment heard said kept cut
-IsTurned gained width moment heard said kept cut Rests =
-    Looped gained width moment heard said kept cut false
-IsTurned gained width moment heard said kept cut Starved =
-    Looped gained width moment heard said kept cut true
+abbrev pub IsTurned : (List (Asked Admitted) → Type 0) → Serving → ℕ → List ℕ → List ℕ → List Kept
+    → ℕ → Turned → Type 0
+IsTurned gained serves moment heard said kept cut Answered =
+    LoopedTo (Unjudged gained) serves moment heard said kept cut
+IsTurned gained serves moment heard said kept cut Rests =
+    Looped gained serves moment heard said kept cut false
+IsTurned gained serves moment heard said kept cut Starved =
+    Looped gained serves moment heard said kept cut true
 
 -- all of these octets were heard, or at want of memory a front of them
 abbrev pub HeardMore : List ℕ → List ℕ → List ℕ → Bool → Type 0

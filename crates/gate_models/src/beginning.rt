@@ -2,7 +2,8 @@
 
 ghost use Rattle.std.specs.Prelude.{ℕ};
 
-use accept_book::OwnSeat;
+use gss_server::OwnGate;
+use rpc_program::{Program, Speller};
 use std::marker::Brand;
 
 /// What is known of the gate's state as a link in one thread takes it, the width of the windows, and
@@ -15,7 +16,7 @@ pub trait Beginning<G> {
     ghost moment: { ℕ };
 }
 
-impl Beginning<OwnSeat> for Brand {
+impl<P: Program, S: Speller<P::Ticket>> Beginning<OwnGate<P, S>> for Brand {
     ghost begins = { λ _. Unit {0} };
 
     ghost width = { 0 };

@@ -8,6 +8,6 @@ mod loop_link;
 mod looping;
 
 pub use beginning::Beginning;
-pub use gate_answer::{GateAnswer, Step};
+pub use gate_answer::{Call, GateAnswer, Step};
 pub use list_gate::ListGate;
 pub use loop_link::LoopLink;

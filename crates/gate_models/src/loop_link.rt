@@ -2,6 +2,7 @@
 
 ghost use Rattle.std.specs.Prelude.{◌≡◌, ◌≤◌, ◌+◌, nat_lt, [], false, IfOk, length, take, drop};
 ghost use Rattle.std.specs.Prelude.{vec_len};
+ghost use Rattle.gss_server.specs.Hearing.{serving};
 ghost use Rattle.gate_models.specs.Looping.{Looped, Loops, Since};
 
 use crate::beginning::Beginning;
@@ -15,7 +16,8 @@ use std::marker::PhantomData;
 /// A link that answers, by the rules of a record and over a gate, what is written to it: the replies to its whole records are its octets to
 /// come. A record may be written in pieces and in fragments. Behind octets that begin no record, as too long ones, nothing is answered any more.
 ///
-/// It tells its octets. A write that finds no memory is its only fault; from then on each write is one, and reads give what was replied.
+/// It tells its octets. A write that finds no memory, or has a call of which it isn't known what became, is its only fault; from then on each
+/// write is one, and reads give what was replied.
 ///
 /// `J` names the gate's state at the beginning, the width of the windows and the moment of all answers. So what the gate was asked is known
 /// of the link's type, whatever was done with the link.
@@ -30,8 +32,9 @@ pub struct LoopLink<G: Gate, Q, J: Beginning<G>> {
     ghost wide: { inner.width ≡ J.width },
     ghost stopped: { inner.now ≡ J.moment },
     ghost within: { at ≤ vec_len inner.said },
-    ghost looped: { ∥ Looped (λ asked. Since J.begins G.answers inner.gate asked) inner.width
-        inner.now inner.heard.items inner.said.items inner.kept.items inner.cut
+    ghost looped: { ∥ Looped (λ asked. Since J.begins G.answers inner.gate asked)
+        (serving G.program inner.width) inner.now inner.heard.items inner.said.items
+        inner.kept.items inner.cut
         (nat_lt 0 faults) ∥₁ },
 }
 
@@ -78,7 +81,7 @@ impl<G: Gate, Q: Draw, J: Beginning<G>> LoopLink<G, Q, J> {
         })
     }
 
-    /// Whether a write found no memory.
+    /// Whether a write was a fault.
     pub fn starved(&self) -> bool
         ensures { result ≡ nat_lt 0 (⟦<LoopLink<G, Q, J> as Link>⟧.faults self.now) }
     {
@@ -96,7 +99,8 @@ impl<G: Gate, Q: Draw, J: Beginning<G>> LoopLink<G, Q, J> {
     pub fn kept(&self) -> &[Kept]
         ensures kept { result.now ≡ loop_kept self.now }
         ensures looped { ∥ Loops (λ asked. Since J.begins G.answers (loop_gate self.now) asked)
-            J.width J.moment (⟦<LoopLink<G, Q, J> as Link>⟧.wire self.now) result.now
+            (serving G.program J.width) J.moment (⟦<LoopLink<G, Q, J> as Link>⟧.wire self.now)
+            result.now
             (nat_lt 0 (⟦<LoopLink<G, Q, J> as Link>⟧.faults self.now)) ∥₁ }
     {
         self.inner.kept.as_slice()
@@ -108,7 +112,8 @@ impl<G: Gate, Q: Draw, J: Beginning<G>> LoopLink<G, Q, J> {
         ensures draws { result.1 ≡ loop_draws self }
         ensures kept { result.2.items ≡ loop_kept self }
         // The gate began as `J` says, and was asked what the records ask, in order, each answer one that it may give after those before.
-        ensures looped { ∥ Loops (λ asked. Since J.begins G.answers result.0 asked) J.width J.moment
+        ensures looped { ∥ Loops (λ asked. Since J.begins G.answers result.0 asked)
+            (serving G.program J.width) J.moment
             (⟦<LoopLink<G, Q, J> as Link>⟧.wire self) result.2.items
             (nat_lt 0 (⟦<LoopLink<G, Q, J> as Link>⟧.faults self)) ∥₁ }
     {
@@ -138,6 +143,8 @@ impl<G: Gate, Q: Draw, J: Beginning<G>> Link for LoopLink<G, Q, J> {
     } };
 
     ghost closed = { λ l. l.closed };
+
+    ghost closes = { λ old new. new.faults ≡ old.faults };
 
     fn read(&mut self, buf: &mut [u8]) -> Result<usize, LinkFault> {
         let count = buf.len().min(self.inner.said.len() - self.at);

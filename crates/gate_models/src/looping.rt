@@ -6,6 +6,7 @@ ghost use Rattle.rpc_msgs.specs.Records.{last_fragment};
 ghost use Rattle.accept_book.specs.RecordShown.{Ruling};
 ghost use Rattle.gss_server.specs.Answers.{IsReply, Fits};
 ghost use Rattle.gss_server.specs.Asking.{Asking};
+ghost use Rattle.gss_server.specs.Hearing.{serving};
 ghost use Rattle.gate_models.specs.Looping.{size_of, IsNext, IsSaid, IsAnsweredBy, Unjudged};
 ghost use Rattle.gate_models.specs.Looping.{LoopedTo, IsTurned, Looped, HeardMore};
 
@@ -50,7 +51,7 @@ pub(crate) enum Turned {
     Answered,
     /// No whole record is left.
     Rests,
-    /// There was no memory for an answer.
+    /// Answering ends: there was no memory for an answer, or what became of a call isn't known.
     Starved,
 }
 
@@ -100,6 +101,7 @@ fn say(alloc: Global, said: &mut Vec<u8>, reply: &Reply) -> Turned
 {
     match reply {
         Reply::Silent => Turned::Answered,
+        Reply::Gone => Turned::Starved,
         Reply::NoMemory => Turned::Starved,
         Reply::Bytes(octets) => match append_record(alloc, said, octets.as_slice()) {
             Ok(()) => Turned::Answered,
@@ -113,7 +115,8 @@ impl<G: Gate, Q: Draw> Looping<G, Q> {
     fn answer(&mut self, alloc: Global, octets: &[u8], size: usize) -> Turned
         requires within { self.old.cut + size ≤ vec_len self.old.heard }
         ensures answered { IsAnsweredBy
-            (λ asked. Asking G.answers self.old.gate asked self.new.gate) self.old.width
+            (λ asked. Asking G.answers self.old.gate asked self.new.gate)
+            (serving G.program self.old.width)
             self.old.now octets.now size self.old.kept.items self.new.kept.items
             self.old.said.items self.new.said.items self.old.cut self.new.cut result }
         ensures heard { self.new.heard ≡ self.old.heard }
@@ -149,9 +152,11 @@ impl<G: Gate, Q: Draw> Looping<G, Q> {
     /// Answers the next record, where it is whole.
     fn turn(&mut self, alloc: Global) -> Turned
         ensures looped { (first : G) → LoopedTo
-            (Unjudged (λ asked. Asking G.answers first asked self.old.gate)) self.old.width
+            (Unjudged (λ asked. Asking G.answers first asked self.old.gate))
+            (serving G.program self.old.width)
             self.old.now self.old.heard.items self.old.said.items self.old.kept.items self.old.cut
-            → IsTurned (λ asked. Asking G.answers first asked self.new.gate) self.new.width
+            → IsTurned (λ asked. Asking G.answers first asked self.new.gate)
+            (serving G.program self.new.width)
             self.new.now self.new.heard.items self.new.said.items self.new.kept.items self.new.cut
             result }
         ensures further { result ≡ Turned.Answered → self.old.cut < self.new.cut }
@@ -168,12 +173,14 @@ impl<G: Gate, Q: Draw> Looping<G, Q> {
         }
     }
 
-    /// Answers all whole records; false where there was no memory for one.
+    /// Answers all whole records; false where answering ended before.
     fn hear(&mut self, alloc: Global) -> bool
         ensures looped { (first : G) → LoopedTo
-            (Unjudged (λ asked. Asking G.answers first asked self.old.gate)) self.old.width
+            (Unjudged (λ asked. Asking G.answers first asked self.old.gate))
+            (serving G.program self.old.width)
             self.old.now self.old.heard.items self.old.said.items self.old.kept.items self.old.cut
-            → Looped (λ asked. Asking G.answers first asked self.new.gate) self.new.width
+            → Looped (λ asked. Asking G.answers first asked self.new.gate)
+            (serving G.program self.new.width)
             self.new.now self.new.heard.items self.new.said.items self.new.kept.items self.new.cut
             (not result) }
         ensures said { (more : List ℕ) × (self.new.said.items ≡ self.old.said.items ++ more) }
@@ -191,12 +198,13 @@ impl<G: Gate, Q: Draw> Looping<G, Q> {
         true
     }
 
-    /// Hears these octets behind those that it heard, and answers; false where there was no memory.
+    /// Hears these octets behind those that it heard, and answers; false where answering ended.
     pub(crate) fn take(&mut self, alloc: Global, buf: &[u8]) -> bool
         ensures looped { (first : G) → Looped (λ asked. Asking G.answers first asked self.old.gate)
-            self.old.width self.old.now self.old.heard.items self.old.said.items
+            (serving G.program self.old.width) self.old.now self.old.heard.items self.old.said.items
             self.old.kept.items self.old.cut false
-            → Looped (λ asked. Asking G.answers first asked self.new.gate) self.new.width
+            → Looped (λ asked. Asking G.answers first asked self.new.gate)
+            (serving G.program self.new.width)
             self.new.now self.new.heard.items self.new.said.items self.new.kept.items self.new.cut
             (not result) }
         ensures said { (more : List ℕ) × (self.new.said.items ≡ self.old.said.items ++ more) }

@@ -8,7 +8,6 @@ pub mod ResultStands
 pub mod AnyCount
 pub mod InConversation
 mod InConference
-pub mod Texts
 pub mod WholeTalk
 mod WholeConference
 mod Counts

@@ -9,7 +9,6 @@ pub mod Hearing
 pub mod Holding
 pub mod Judging
 pub mod Laws
-pub mod Procedure
 pub mod Query
 pub mod Rank
 pub mod Session

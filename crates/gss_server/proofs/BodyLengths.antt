@@ -1,22 +1,12 @@
--- How long results are.
-use Rattle.std.proofs.Common.{◌≡◌, ℕ, ◌+◌, ◌≤◌, Bool, true, false, cond, List, [], ◌++◌, length, refl, arith, eqb, lit≤, Option, Some, None}
+-- How long the results of creations are.
+use Rattle.std.proofs.Common.{◌≡◌, ℕ, ◌+◌, ◌≤◌, ◌++◌, length, refl, arith, lit≤, Option, Some, None}
 use Rattle.std.proofs.lemmas.List.{length-append}
 use Rattle.rpc_msgs.specs.Words.{word, opaque}
 use Rattle.rpc_msgs.proofs.WordLengths.{length-word, length-opaque}
-use Rattle.accept_book.specs.Served.{result_of}
 use Rattle.std.specs.Int.{w64, to_be_bytes}
 use Rattle.rpcsec_msgs.specs.InitRes.{init_res_octets}
 use Rattle.rpcsec_msgs.specs.declared.init_res.InitRes.{InitRes}
 use Rattle.gss_server.specs.Hearing.{handle_or_none}
-
-result-cases : (a b c : Bool) (args name : List ℕ) (posts : ℕ) → length args ≤ 65540 → length name ≤ 255 → length (cond a [] (cond b args (cond c (opaque name) (word posts)))) ≤ 65540
-result-cases true b c args name posts few short = lit≤ tt
-result-cases false true c args name posts few short = few
-result-cases false false true args name posts few short = omega (arith, length-opaque name)
-result-cases false false false args name posts few short = omega (arith, length-word posts)
-
-pub result-fits : (procedure : ℕ) (args name : List ℕ) (posts : ℕ) → length args ≤ 65540 → length name ≤ 255 → length (result_of procedure args name posts) ≤ 65540
-result-fits procedure args name posts few short = result-cases (eqb procedure 0) (eqb procedure 1) (eqb procedure 2) args name posts few short
 
 pub handle-size : (id : Option ℕ) → length (handle_or_none id) ≤ 8
 handle-size None = lit≤ tt

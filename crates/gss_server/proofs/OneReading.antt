@@ -8,9 +8,10 @@ use Rattle.sec_base.specs.Link.{Wire}
 use Rattle.rpc_msgs.specs.Records.{Fragments, octets_in, frame, IsRecord}
 use Rattle.rpc_msgs.specs.Reading.{First, nothing, short, long, many, whole, first_record}
 use Rattle.rpc_msgs.proofs.Readings.{first-none, of-frame, of-too-long, of-too-many, of-torn}
+use Rattle.rpc_program.specs.Programs.{Serving}
 use Rattle.gss_server.specs.declared.answer.Kept.{Kept}
 use Rattle.gss_server.specs.declared.connection.ConnEnd.{ConnEnd}
-use Rattle.gss_server.specs.declared.connection.ConnEnd.TheVariants.{Ended, LinkFault, TooLong, TooManyFragments, Torn, Budget, NoMemory}
+use Rattle.gss_server.specs.declared.connection.ConnEnd.TheVariants.{Ended, LinkFault, TooLong, TooManyFragments, Torn, Budget, NoMemory, Lost}
 use Rattle.gss_server.specs.Connections.{octets_of, Behind, Counts, Ends, OnWire, StreamEnds}
 
 -- the end that a stream shows after so many records, where it shows one
@@ -45,6 +46,7 @@ shown TooManyFragments rest count e = at-first count rest many TooManyFragments 
 shown Torn rest count e = at-first count rest short Torn e.1 (of-torn rest e.0) refl
 shown Budget rest count e = at-budget count rest e
 shown NoMemory rest count e = absurd e
+shown Lost rest count e = absurd e
 
 most : (ending : ConnEnd) (rest : List ℕ) (count : ℕ) → Shows ending rest count → count ≤ 65536
 unfolding Shows end_after
@@ -99,22 +101,24 @@ one-end before (r ∷ rs) (s ∷ ss) xs ys one two e all also p q =
     let m : before + suc (length ss) ≡ suc before + length ss = omega arith in
     one-end (suc before) rs ss xs ys one two more all.1 also.1 (subst (λ (k : ℕ). Shows one xs k) n p) (subst (λ (k : ℕ). Shows two ys k) m q)
 
-caused : (ending : ConnEnd) (rest coming : List ℕ) (count : ℕ) → ending ≢ LinkFault → ending ≢ NoMemory → Behind ending rest coming → Counts ending count → Shows ending (rest ++ coming) count
+caused : (ending : ConnEnd) (rest coming : List ℕ) (count : ℕ) → ending ≢ LinkFault → ending ≢ NoMemory → ending ≢ Lost → Behind ending rest coming → Counts ending count → Shows ending (rest ++ coming) count
 unfolding end_at
-caused Ended rest coming count clear none h n = shown Ended (rest ++ coming) count (let e = h.0 in let f = h.1 in rw (e, f) refl, n)
-caused LinkFault rest coming count clear none h n = absurd (clear refl)
-caused TooLong rest coming count clear none h n = at-first count (rest ++ coming) long TooLong n (of-too-long rest coming h) refl
-caused TooManyFragments rest coming count clear none h n = at-first count (rest ++ coming) many TooManyFragments n (of-too-many rest coming h) refl
-caused Torn rest coming count clear none h n =
+caused Ended rest coming count clear none known h n = shown Ended (rest ++ coming) count (let e = h.0 in let f = h.1 in rw (e, f) refl, n)
+caused LinkFault rest coming count clear none known h n = absurd (clear refl)
+caused TooLong rest coming count clear none known h n = at-first count (rest ++ coming) long TooLong n (of-too-long rest coming h) refl
+caused TooManyFragments rest coming count clear none known h n = at-first count (rest ++ coming) many TooManyFragments n (of-too-many rest coming h) refl
+caused Torn rest coming count clear none known h n =
     at-first count (rest ++ coming) short Torn n (ap (λ (zs : List ℕ). first_record (rest ++ zs)) h.1 ∙ (ap first_record (append-nil rest) ∙ of-torn rest h.0)) refl
-caused Budget rest coming count clear none h n = at-budget count (rest ++ coming) n
-caused NoMemory rest coming count clear none h n = absurd (none refl)
+caused Budget rest coming count clear none known h n = at-budget count (rest ++ coming) n
+caused NoMemory rest coming count clear none known h n = absurd (none refl)
+caused Lost rest coming count clear none known h n = absurd (known refl)
 
--- a connection that neither failed nor wanted memory has the end of its stream
-pub comes : {width : ℕ} {old new : Wire} {records : List Fragments} {kept : List Kept} (ending expected : ConnEnd) → OnWire width old new records kept ending → Counts ending (length records) → StreamEnds old new expected → ending ≢ LinkFault → ending ≢ NoMemory → ending ≡ expected
-comes {old = old} {new = new} {records = records} ending expected s n e clear none =
+-- a connection that neither failed nor wanted memory, nor ended at a call of which it isn't known
+-- what became, has the end of its stream
+pub comes : {serves : Serving} {old new : Wire} {records : List Fragments} {kept : List Kept} (ending expected : ConnEnd) → OnWire serves old new records kept ending → Counts ending (length records) → StreamEnds old new expected → ending ≢ LinkFault → ending ≢ NoMemory → ending ≢ Lost → ending ≡ expected
+comes {old = old} {new = new} {records = records} ending expected s n e clear none known =
     let same : octets_of records ++ s.rest ≡ e.took = append_cancel_left old.taken (octets_of records ++ s.rest) e.took (sym s.went.taken ∙ e.taken) in
     let stream : octets_of records ++ (s.rest ++ new.coming) ≡ octets_of e.records ++ e.rest = sym (append_assoc (octets_of records) s.rest new.coming) ∙ (ap (λ (zs : List ℕ). zs ++ new.coming) same ∙ e.stream) in
     one-end 0 records e.records (s.rest ++ new.coming) e.rest ending expected stream s.each e.each
-    (subst (λ (k : ℕ). Shows ending (s.rest ++ new.coming) k) (omega arith) (caused ending s.rest new.coming (length records) clear none s.behind n))
+    (subst (λ (k : ℕ). Shows ending (s.rest ++ new.coming) k) (omega arith) (caused ending s.rest new.coming (length records) clear none known s.behind n))
     (subst (λ (k : ℕ). Shows expected e.rest k) (omega arith) (shown expected e.rest (length e.records) e.ends))

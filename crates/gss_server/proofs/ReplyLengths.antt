@@ -1,7 +1,7 @@
 -- How long replies are.
-use Rattle.std.proofs.Common.{◌≡◌, ℕ, ◌+◌, ◌≤◌, Bool, true, false, cond, List, [], ◌++◌, length, ap, ◌∙◌, arith, eqb}
+use Rattle.std.proofs.Common.{◌≡◌, ℕ, ◌+◌, ◌≤◌, Bool, true, false, cond, List, [], ◌++◌, length, refl, ap, ◌∙◌, arith, eqb}
 use Rattle.std.proofs.lemmas.List.{length-append}
-use Rattle.rpc_msgs.specs.Words.{word}
+use Rattle.rpc_msgs.specs.Words.{word, padding_length}
 use Rattle.rpc_msgs.specs.Replies.{accepted_head, accepted_body, mismatch_octets, auth_error_octets}
 use Rattle.rpc_msgs.proofs.WordLengths.{length-word, length-opaque}
 
@@ -16,11 +16,17 @@ body-fits false false low high result = omega arith
 head-fits : (xid flavour : ℕ) (verf : List ℕ) (stat : ℕ) → length verf ≤ 400 → length (accepted_head xid flavour verf stat) ≤ 427
 head-fits xid flavour verf stat few = simp (length-append, length-word, length-opaque) (omega arith)
 
--- a result behind a head
-pub signed-fits : (xid flavour : ℕ) (verf out written whole : List ℕ) (stat : ℕ) → length verf ≤ 400 → out ≡ [] → written ≡ out ++ accepted_head xid flavour verf stat → length whole ≤ length written + 130000 → length whole ≤ 131072
-signed-fits xid flavour verf out written whole stat few none behind size =
+-- the head with a MIC
+mic-head : (xid flavour : ℕ) (verf : List ℕ) (stat : ℕ) → length verf ≡ 28 → length (accepted_head xid flavour verf stat) ≡ 52
+mic-head xid flavour verf stat size =
+    let padded : padding_length (length verf) ≡ 0 = rw size refl in
+    simp (length-append, length-word, length-opaque) (omega (arith, size, padded))
+
+-- a result behind a head with a MIC
+pub signed-fits : (xid flavour : ℕ) (verf out written whole : List ℕ) (stat : ℕ) → length verf ≡ 28 → out ≡ [] → written ≡ out ++ accepted_head xid flavour verf stat → length whole ≤ length written + 131020 → length whole ≤ 131072
+signed-fits xid flavour verf out written whole stat size none behind long =
     let same : written ≡ accepted_head xid flavour verf stat = behind ∙ ap (λ (zs : List ℕ). zs ++ accepted_head xid flavour verf stat) none in
-    omega (arith, size, ap length same, head-fits xid flavour verf stat few)
+    omega (arith, long, ap length same, mic-head xid flavour verf stat size)
 
 pub accepted-fits : (xid flavour : ℕ) (verf : List ℕ) (stat low high : ℕ) (result : List ℕ) → length verf ≤ 400 → length result ≤ 130000 → length (accepted_head xid flavour verf stat ++ accepted_body stat low high result) ≤ 131072
 accepted-fits xid flavour verf stat low high result few size =

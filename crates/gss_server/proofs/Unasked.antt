@@ -1,7 +1,7 @@
 -- A call that is answered without a question, or by one.
 use Rattle.std.proofs.Common.{◌≡◌, ℕ, Option, Some, Result, refl}
 use Rattle.accept_core.specs.declared.answer.AdmitRefusal.{AdmitRefusal}
-use Rattle.accept_core.specs.declared.entry.Admitted.{Admitted}
+use Rattle.accept_book.specs.declared.book_answer.Admitted.{Admitted}
 use Rattle.accept_core.specs.declared.entry.Receipt.{Receipt}
 use Rattle.rpcsec_msgs.specs.Cred.{CredValue}
 use Rattle.accept_book.specs.RecordShown.{Ruling, Shown}

@@ -7,20 +7,25 @@ use Rattle.accept_core.specs.declared.answer.AdmitRefusal.{AdmitRefusal}
 use Rattle.accept_core.specs.declared.answer.LookRefusal.{LookRefusal}
 use Rattle.accept_book.specs.declared.book_answer.Lease.{Lease}
 use Rattle.accept_book.specs.declared.book_answer.Negotiated.{Negotiated}
-use Rattle.accept_core.specs.declared.entry.Admitted.{Admitted}
+use Rattle.accept_book.specs.declared.book_answer.Admitted.{Admitted}
+use Rattle.rpc_program.specs.Programs.{ProgramSays, Serving}
 use Rattle.accept_core.specs.declared.entry.Receipt.{Receipt}
 use Rattle.gss_server.specs.declared.answer.Kept.{Kept}
 use Rattle.gss_server.specs.declared.heard.Heard.{Heard}
 
--- a call that was heard, in the terms of the rule of a record
-abbrev pub shown : Heard → Shown
-shown h = record {
+-- what is served: a program, with windows of this width
+abbrev pub serving : ProgramSays → ℕ → Serving
+serving program width = record { program = program; width = width }
+
+-- a call that was heard, in the terms of the rule of a record, with the program that is served
+abbrev pub shown : ProgramSays → Heard → Shown
+shown program h = record {
   record_octets = h.bytes.now;
   call = call_value h.call;
   now = h.now;
   draws =
       h.draws;
-  width = h.width;
+  serves = serving program h.width;
 }
 
 -- what was kept of an answer, in the terms of the rule of a record

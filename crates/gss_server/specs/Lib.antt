@@ -3,9 +3,10 @@ pub mod Asking
 pub mod Connections
 pub mod Hearing
 pub mod Keeping
+pub mod Programs
 pub mod Receipts
 pub mod Ruled
-pub mod Serving
 pub mod Steady
 pub mod Telling
 pub mod Turns
+pub mod Underway

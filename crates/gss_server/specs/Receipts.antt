@@ -2,7 +2,7 @@
 use Rattle.std.specs.Prelude.{List, [], ◌∷◌, ◌++◌, take, Option, Some, None, Result, Ok, Err}
 use Rattle.accept_core.specs.declared.answer.AdmitRefusal.{AdmitRefusal}
 use Rattle.accept_book.specs.declared.book_answer.Negotiated.{Negotiated}
-use Rattle.accept_core.specs.declared.entry.Admitted.{Admitted}
+use Rattle.accept_book.specs.declared.book_answer.Admitted.{Admitted}
 use Rattle.accept_core.specs.declared.entry.Receipt.{Receipt}
 use Rattle.gss_server.specs.declared.answer.Kept.{Kept}
 

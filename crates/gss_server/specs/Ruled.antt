@@ -1,6 +1,8 @@
 -- A call or a record that is answered by its ruling, and what the gate was asked for it.
 use Rattle.std.specs.Prelude.{◌≡◌, ℕ, List, length, Option, Some, None}
 use Rattle.rpcsec_msgs.specs.Cred.{CredValue}
+use Rattle.rpc_program.specs.Programs.{Serving}
+use Rattle.accept_book.specs.declared.book_answer.Admitted.{Admitted}
 use Rattle.accept_book.specs.RecordShown.{Asked, Ruling, KeptAnswers, Shown}
 use Rattle.accept_book.specs.RecordRule.{in_context, IsInContext, record_ruling}
 use Rattle.accept_book.specs.declared.book_answer.Lease.{Lease}
@@ -14,7 +16,7 @@ use Rattle.gss_server.specs.declared.saying.Said.{Said}
 
 -- a gate, from its old state to its new one, was asked these, and tells them where it has room for
 -- so many
-abbrev pub Questions : {S : Type 0} → Ghosts S → ℕ → S → S → List Asked → Type 0
+abbrev pub Questions : {S : Type 0} → Ghosts S → ℕ → S → S → List (Asked Admitted) → Type 0
 Questions gate least old new = IsAsked gate.answers gate.tells gate.room gate.told least old new
 
 -- the gate has answered nothing yet
@@ -61,9 +63,9 @@ said_of answered = record { rule = answered.rule; reply = answered.reply }
 -- a record was answered at this moment by these draws: the rule, the reply and what the gate was
 -- asked are the ruling's, by what was kept
 pub record AnswersRecord {S : Type 0} (gate : Ghosts S) (old new : S) (octets : List ℕ)
-    (moment : ℕ) (drawing : List ℕ) (width : ℕ) (answered : Answered) : Type 0 where
+    (moment : ℕ) (drawing : List ℕ) (serves : Serving) (answered : Answered) : Type 0 where
   pub ruled : IsRuled gate 2 old new (asks_of answered) (said_of answered)
-      (record_ruling octets (kept_answers answered.kept) width)
+      (record_ruling octets (kept_answers answered.kept) serves)
   pub now : answered.kept.now ≡ moment
   pub draws : answered.kept.draws ≡ drawing
   pub drawn : length answered.kept.draws ≡ 82

@@ -14,11 +14,18 @@ pub record LinkKept {L : Type 0} (link : links.Ghosts L) (old new : L) : Type 0 
   pub unclosed : link.closed new ≡ false
   pub faults : link.faults old ≤ link.faults new
 
--- the same, and where the link failed it counts a fault more
+-- the same, and where the link failed, and only there, it counts a fault more
 pub record LinkLeft {L : Type 0} (link : links.Ghosts L) (old new : L) (Failed : Type 0) : Type
     0 where
   pub kept : LinkKept link old new
   pub fault : Failed → Rose (link.faults old) (link.faults new)
+  pub steady : (Failed → ⊥) → link.faults new ≡ link.faults old
+
+-- a link was closed that counted no fault up to its close
+pub record ClosedWell {L : Type 0} (link : links.Ghosts L) (old new : L) : Type 0 where
+  pub before : L
+  pub steady : link.faults before ≡ link.faults old
+  pub closes : link.closes before new
 
 -- a gate tells as before, under the limits of before
 pub record GateKept {G : Type 0} (gate : gates.Ghosts G) (old new : G) : Type 0 where

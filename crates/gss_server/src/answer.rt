@@ -26,6 +26,8 @@ pub enum Reply {
     Silent,
     /// These octets, as one record.
     Bytes(Octets),
+    /// Nothing, and the connection ends: what became of the call isn't known.
+    Gone,
     /// There was no memory for the answer.
     NoMemory,
 }

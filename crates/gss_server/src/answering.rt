@@ -9,7 +9,7 @@ ghost use Rattle.accept_book.specs.RecordShown.{by, is_other_version};
 ghost use Rattle.accept_book.specs.RecordRule.{is_misplaced, id_ruling, cred_ruling, call_ruling};
 ghost use Rattle.accept_book.specs.RecordRule.{read_ruling};
 ghost use Rattle.gss_server.specs.Answers.{IsSaid};
-ghost use Rattle.gss_server.specs.Hearing.{shown};
+ghost use Rattle.gss_server.specs.Hearing.{serving, shown};
 ghost use Rattle.gss_server.specs.Ruled.{IsRuled, AnswersRecord, kept_with, unasked};
 
 use crate::answer::{Answered, Kept};
@@ -46,11 +46,12 @@ fn say_by_id<G: Gate>(
 ) -> Said
     requires unasked { asks.old ≡ unasked }
     ensures ruled { IsRuled G.Gate 2 gate.old gate.new asks.new result
-        (id_ruling (shown heard.entry.now) (cred_value cred.now) asks.new.looked asks.new.admitted
+        (id_ruling (shown G.program heard.entry.now)
+        (cred_value cred.now) asks.new.looked asks.new.admitted
         asks.new.ended id) }
 {
     match id {
-        None => say_no_context(alloc, heard),
+        None => say_no_context::<G>(alloc, heard),
         Some(id) => ask_for_look(alloc, gate, heard, cred, id, keys, asks),
     }
 }
@@ -74,11 +75,11 @@ fn say_with<G: Gate>(
 ) -> Said
     requires unasked { asks.old ≡ unasked }
     ensures ruled { IsRuled G.Gate 2 gate.old gate.new asks.new result
-        (cred_ruling (shown heard.entry.now) asks.new.negotiated asks.new.looked
+        (cred_ruling (shown G.program heard.entry.now) asks.new.negotiated asks.new.looked
         asks.new.admitted asks.new.ended (Ok (cred_value cred.now))) }
 {
     if misplaced(&heard.call, cred) {
-        return say_denied(alloc, heard, Rule::Credential, AUTH_BADCRED);
+        return say_denied::<G>(alloc, heard, Rule::Credential, AUTH_BADCRED);
     }
     if cred.proc == RPCSEC_GSS_INIT || cred.proc == RPCSEC_GSS_CONTINUE_INIT {
         return say_creating(alloc, gate, heard, cred, asks);
@@ -106,7 +107,7 @@ fn say_secure<G: Gate>(
 ) -> Said
     requires unasked { asks.old ≡ unasked }
     ensures ruled { IsRuled G.Gate 2 gate.old gate.new asks.new result
-        (cred_ruling (shown heard.entry.now) asks.new.negotiated asks.new.looked
+        (cred_ruling (shown G.program heard.entry.now) asks.new.negotiated asks.new.looked
         asks.new.admitted asks.new.ended (cred_at heard.entry.now.call.cred.body.now)) }
 {
     match read_cred(heard.call.cred.body) {
@@ -117,7 +118,7 @@ fn say_secure<G: Gate>(
             } else {
                 AUTH_BADCRED
             };
-            say_denied(alloc, heard, Rule::Credential, stat)
+            say_denied::<G>(alloc, heard, Rule::Credential, stat)
         }
     }
 }
@@ -133,15 +134,15 @@ fn say_call<G: Gate>(
 ) -> Said
     requires unasked { asks.old ≡ unasked }
     ensures ruled { IsRuled G.Gate 2 gate.old gate.new asks.new result
-        (call_ruling (shown heard.entry.now) asks.new.negotiated asks.new.looked
+        (call_ruling (shown G.program heard.entry.now) asks.new.negotiated asks.new.looked
         asks.new.admitted asks.new.ended) }
 {
     let flavour = heard.call.cred.flavour;
     if flavour != AUTH_NONE && flavour != RPCSEC_GSS {
-        return say_denied(alloc, heard, Rule::Flavour, AUTH_TOOWEAK);
+        return say_denied::<G>(alloc, heard, Rule::Flavour, AUTH_TOOWEAK);
     }
     if flavour == AUTH_NONE {
-        return say_unauthenticated(alloc, heard);
+        return say_unauthenticated(alloc, gate, heard);
     }
     say_secure(alloc, gate, heard, keys, asks)
 }
@@ -159,7 +160,8 @@ fn say_record<G: Gate>(
 ) -> Said
     requires unasked { asks.old ≡ unasked }
     ensures ruled { IsRuled G.Gate 2 gate.old gate.new asks.new result
-        (read_ruling bytes.now (kept_with now draws.now asks.new) width (call_at bytes.now)) }
+        (read_ruling bytes.now (kept_with now draws.now asks.new) (serving G.program width)
+        (call_at bytes.now)) }
 {
     match read_call(bytes) {
         Ok(call) => {
@@ -200,7 +202,8 @@ pub fn answer_record<G: Gate>(
     draws: &[u8; 82],
     width: u32,
 ) -> Answered
-    ensures { AnswersRecord G.Gate gate.old gate.new bytes.now now draws.now width result }
+    ensures { AnswersRecord G.Gate gate.old gate.new bytes.now now draws.now
+        (serving G.program width) result }
 {
     let mut keys = KeyCache::empty();
     answer_record_by(alloc, gate, bytes, now, draws, width, &mut keys)
@@ -217,7 +220,8 @@ pub fn answer_record_by<G: Gate>(
     width: u32,
     keys: &mut KeyCache,
 ) -> Answered
-    ensures { AnswersRecord G.Gate gate.old gate.new bytes.now now draws.now width result }
+    ensures { AnswersRecord G.Gate gate.old gate.new bytes.now now draws.now
+        (serving G.program width) result }
 {
     let mut asks = unasked();
     let said = say_record(alloc, gate, bytes, now, draws, width, keys, &mut asks);

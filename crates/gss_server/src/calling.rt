@@ -1,8 +1,9 @@
 //! The rules of data calls, RFC 2203 section 5.3: a call is judged, its number taken, and its result given.
 
-ghost use Rattle.std.specs.Prelude.{◌≡◌, ◌≤◌, length};
+ghost use Rattle.std.specs.Prelude.{◌≡◌, ◌≤◌, true, IfOk, length};
 ghost use Rattle.sha1.specs.Sha1.{sha1};
 ghost use Rattle.rpcsec_msgs.specs.Cred.{cred_value};
+ghost use Rattle.rpc_program.specs.Programs.{IsShort};
 ghost use Rattle.accept_book.specs.RecordShown.{is_verified, body_args, end_of};
 ghost use Rattle.accept_book.specs.RecordRule.{unadmitted, admitted_ruling, ask_admit, args_ruling};
 ghost use Rattle.accept_book.specs.RecordRule.{data_ruling, IsInContext};
@@ -12,25 +13,26 @@ ghost use Rattle.gss_server.specs.Ruled.{IsRuledInContext, IsScreened, unasked};
 
 use crate::asks::Asks;
 use crate::foresight::{foresee_long, lend_long};
-use crate::gate::Gate;
+use crate::gate::{DataCall, Gate};
 use crate::heard::Heard;
-use crate::opening::{are_proper, open_body};
-use crate::results::say_result;
+use crate::opening::open_body;
+use crate::results::say_outcome;
 use crate::saying::{Said, end_at, say_denied, say_mismatch, say_no_memory, say_nothing, say_stat};
 use accept_book::{AdmitRefusal, Admitted, Lease, Rule};
 use krb_tokens::LentKeys;
 use rpc_msgs::numbers::{
-    AUTH_TOOWEAK, COUNT, GARBAGE_ARGS, NULL, PROC_UNAVAIL, PROG_UNAVAIL, PROGRAM, RPCSEC_GSS,
-    RPCSEC_GSS_CREDPROBLEM, RPCSEC_GSS_CTXPROBLEM, SYSTEM_ERR, VERSION,
+    AUTH_TOOWEAK, GARBAGE_ARGS, PROC_UNAVAIL, PROG_UNAVAIL, RPCSEC_GSS, RPCSEC_GSS_CREDPROBLEM,
+    RPCSEC_GSS_CTXPROBLEM, SYSTEM_ERR,
 };
+use rpc_program::limits::MOST;
+use rpcsec_bodies::Service;
 use rpcsec_msgs::GssCred;
-use rpcsec_msgs::numbers::RPC_GSS_SVC_NONE;
 use sec_base::Octets;
 use sha1::Sha1;
 use std::alloc::Global;
 
 /// The number of a call wasn't taken.
-pub(crate) fn say_unadmitted(
+pub(crate) fn say_unadmitted<G: Gate>(
     alloc: Global,
     heard: &Heard<'_>,
     cred: &GssCred<'_>,
@@ -39,14 +41,19 @@ pub(crate) fn say_unadmitted(
     refusal: AdmitRefusal,
 ) -> Said
     ensures says { IsSaid result
-        (unadmitted (shown heard.entry.now) (cred_value cred.now) lease.now refusal) }
+        (unadmitted (shown G.program heard.entry.now) (cred_value cred.now) lease.now refusal) }
 {
     match refusal {
-        AdmitRefusal::Gone => say_denied(alloc, heard, Rule::Gone, RPCSEC_GSS_CREDPROBLEM),
-        AdmitRefusal::AboveMax => say_denied(alloc, heard, Rule::AboveMax, RPCSEC_GSS_CTXPROBLEM),
+        AdmitRefusal::Gone => say_denied::<G>(alloc, heard, Rule::Gone, RPCSEC_GSS_CREDPROBLEM),
+        AdmitRefusal::AboveMax => say_denied::<G>(
+            alloc,
+            heard,
+            Rule::AboveMax,
+            RPCSEC_GSS_CTXPROBLEM,
+        ),
         AdmitRefusal::Below { last: _ } => say_nothing(Rule::Below),
         AdmitRefusal::Repeat => say_nothing(Rule::Repeat),
-        AdmitRefusal::LogFull => say_stat(
+        AdmitRefusal::LogFull => say_stat::<G>(
             alloc,
             heard,
             cred,
@@ -60,8 +67,8 @@ pub(crate) fn say_unadmitted(
 
 /// Whether the verifier is a MIC of the other side over the call's header.
 #[tactic(auto, unfolding(accept_book::specs::RecordShown::is_verified))]
-fn verified(heard: &Heard<'_>, lease: &Lease, keys: &LentKeys<'_>) -> bool
-    ensures { result ≡ is_verified (shown heard.entry.now) lease.now }
+fn verified<G: Gate>(heard: &Heard<'_>, lease: &Lease, keys: &LentKeys<'_>) -> bool
+    ensures { result ≡ is_verified (shown G.program heard.entry.now) lease.now }
 {
     let call = &heard.call;
     if call.verf.flavour != RPCSEC_GSS {
@@ -75,29 +82,32 @@ fn verified(heard: &Heard<'_>, lease: &Lease, keys: &LentKeys<'_>) -> bool
 
 /// What is said to a call of a context that was shown, where its verifier, its program or its
 /// version refuses it.
-pub(crate) fn screened(
+pub(crate) fn screened<G: Gate>(
     alloc: Global,
+    gate: &G,
     heard: &Heard<'_>,
     cred: &GssCred<'_>,
     lease: &Lease,
     keys: &LentKeys<'_>,
 ) -> Option<Said>
-    ensures { IsScreened (shown heard.entry.now) (cred_value cred.now) lease.now result }
+    ensures { IsScreened (shown G.program heard.entry.now) (cred_value cred.now) lease.now result }
 {
-    if !verified(heard, lease, keys) {
-        return Some(say_denied(alloc, heard, Rule::Verifier, RPCSEC_GSS_CREDPROBLEM));
+    if !verified::<G>(heard, lease, keys) {
+        return Some(say_denied::<G>(alloc, heard, Rule::Verifier, RPCSEC_GSS_CREDPROBLEM));
     }
-    if heard.call.program != PROGRAM {
-        return Some(say_stat(alloc, heard, cred, lease, keys, Rule::Program, PROG_UNAVAIL));
+    let id = gate.id();
+    if heard.call.program != id.number {
+        return Some(say_stat::<G>(alloc, heard, cred, lease, keys, Rule::Program, PROG_UNAVAIL));
     }
-    if heard.call.version != VERSION {
-        return Some(say_mismatch(alloc, heard, cred, lease, keys));
+    if heard.call.version != id.version {
+        let (rule, served) = (Rule::Version, id.version);
+        return Some(say_mismatch::<G>(alloc, heard, cred, lease, keys, rule, served, served));
     }
     None
 }
 
 /// A call was admitted, or why it wasn't.
-fn say_admitted(
+fn say_admitted<G: Gate>(
     alloc: Global,
     heard: &Heard<'_>,
     cred: &GssCred<'_>,
@@ -106,13 +116,17 @@ fn say_admitted(
     args: &[u8],
     answer: &Result<Admitted, AdmitRefusal>,
 ) -> Said
-    requires { length args.now ≤ 65540 }
-    ensures says { IsSaid result (admitted_ruling (shown heard.entry.now) (cred_value cred.now)
+    requires few { length args.now ≤ MOST }
+    requires short { IfOk answer.now (λ admitted. IsShort admitted.outcome) }
+    ensures says { IsSaid result (admitted_ruling (shown G.program heard.entry.now)
+        (cred_value cred.now)
         lease.now args.now answer.now) }
 {
     match answer {
-        Ok(admitted) => say_result(alloc, heard, cred, lease, keys, args, admitted.posts),
-        Err(refusal) => say_unadmitted(alloc, heard, cred, lease, keys, *refusal),
+        Ok(admitted) => {
+            say_outcome::<G>(alloc, heard, cred, lease, keys, args, &admitted.outcome)
+        }
+        Err(refusal) => say_unadmitted::<G>(alloc, heard, cred, lease, keys, *refusal),
     }
 }
 
@@ -146,15 +160,23 @@ fn ask_admission<G: Gate>(
     args: &[u8],
     asks: &mut Asks,
 ) -> Said
-    requires size { length args.now ≤ 65540 }
+    requires has { G.program.has heard.now.call.procedure ≡ true }
+    requires takes { G.program.takes heard.now.call.procedure args.now ≡ true }
+    requires few { length args.now ≤ MOST }
     requires unasked { asks.old ≡ unasked }
     ensures ruled { IsRuledInContext G.Gate gate.old gate.new asks.new result
-        (ask_admit (shown heard.entry.now) (cred_value cred.now) lease.now args.now
+        (ask_admit (shown G.program heard.entry.now) (cred_value cred.now) lease.now args.now
         asks.new.admitted) }
 {
-    let digest = digest_of(keys, args);
-    let answer = gate.admit(lease, cred.seq, heard.call.procedure, digest);
-    let said = say_admitted(alloc, heard, cred, lease, keys, args, &answer);
+    let call = DataCall {
+        seq: cred.seq,
+        service: Service::of(cred.service),
+        procedure: heard.call.procedure,
+        args,
+        digest: digest_of(keys, args),
+    };
+    let answer = gate.admit(alloc, lease, &call);
+    let said = say_admitted::<G>(alloc, heard, cred, lease, keys, args, &answer);
     asks.admitted = Some(answer);
     said
 }
@@ -170,16 +192,18 @@ fn say_args<G: Gate>(
     args: &Option<Octets>,
     asks: &mut Asks,
 ) -> Said
+    requires has { G.program.has heard.now.call.procedure ≡ true }
     requires unasked { asks.old ≡ unasked }
     ensures ruled { IsRuledInContext G.Gate gate.old gate.new asks.new result
-        (args_ruling (shown heard.entry.now) (cred_value cred.now) lease.now asks.new.admitted
+        (args_ruling (shown G.program heard.entry.now)
+        (cred_value cred.now) lease.now asks.new.admitted
         args.now) }
 {
     let Some(args) = args else {
-        return say_stat(alloc, heard, cred, lease, keys, Rule::Body, GARBAGE_ARGS);
+        return say_stat::<G>(alloc, heard, cred, lease, keys, Rule::Body, GARBAGE_ARGS);
     };
-    if !are_proper(heard.call.procedure, args.as_slice()) {
-        return say_stat(
+    if !gate.takes(heard.call.procedure, args.as_slice()) {
+        return say_stat::<G>(
             alloc,
             heard,
             cred,
@@ -202,9 +226,11 @@ fn say_opened<G: Gate>(
     keys: &LentKeys<'_>,
     asks: &mut Asks,
 ) -> Said
+    requires has { G.program.has heard.now.call.procedure ≡ true }
     requires unasked { asks.old ≡ unasked }
     ensures ruled { IsRuledInContext G.Gate gate.old gate.new asks.new result
-        (args_ruling (shown heard.entry.now) (cred_value cred.now) lease.now asks.new.admitted
+        (args_ruling (shown G.program heard.entry.now)
+        (cred_value cred.now) lease.now asks.new.admitted
         (body_args (end_of lease.now) (cred_value cred.now) heard.entry.now.call.args.now)) }
 {
     match open_body(alloc, &end_at(lease), keys, cred, heard.call.args) {
@@ -223,9 +249,11 @@ fn say_body<G: Gate>(
     keys: &LentKeys<'_>,
     asks: &mut Asks,
 ) -> Said
+    requires has { G.program.has heard.now.call.procedure ≡ true }
     requires unasked { asks.old ≡ unasked }
     ensures ruled { IsRuledInContext G.Gate gate.old gate.new asks.new result
-        (args_ruling (shown heard.entry.now) (cred_value cred.now) lease.now asks.new.admitted
+        (args_ruling (shown G.program heard.entry.now)
+        (cred_value cred.now) lease.now asks.new.admitted
         (body_args (end_of lease.now) (cred_value cred.now) heard.entry.now.call.args.now)) }
 {
     let long = foresee_long(heard, cred, lease, keys.cache);
@@ -249,14 +277,15 @@ fn say_in_context<G: Gate>(
     keys: &LentKeys<'_>,
     asks: &mut Asks,
 ) -> Said
-    requires right { IsInContext (shown heard.now) lease.now }
+    requires right { IsInContext (shown G.program heard.now) lease.now }
     requires unasked { asks.old ≡ unasked }
     ensures ruled { IsRuledInContext G.Gate gate.old gate.new asks.new result
-        (data_ruling (shown heard.entry.now) (cred_value cred.now) lease.now asks.new.admitted) }
+        (data_ruling (shown G.program heard.entry.now)
+        (cred_value cred.now) lease.now asks.new.admitted) }
 {
     let call = &heard.call;
-    if call.procedure > COUNT {
-        return say_stat(
+    if !gate.has(call.procedure) {
+        return say_stat::<G>(
             alloc,
             heard,
             cred,
@@ -266,8 +295,8 @@ fn say_in_context<G: Gate>(
             PROC_UNAVAIL,
         );
     }
-    if cred.service == RPC_GSS_SVC_NONE && call.procedure != NULL {
-        return say_denied(alloc, heard, Rule::Weak, AUTH_TOOWEAK);
+    if cred.service < gate.needs(call.procedure).number() {
+        return say_denied::<G>(alloc, heard, Rule::Weak, AUTH_TOOWEAK);
     }
     say_body(alloc, gate, heard, cred, lease, keys, asks)
 }
@@ -284,9 +313,10 @@ pub(crate) fn say_data<G: Gate>(
 ) -> Said
     requires unasked { asks.old ≡ unasked }
     ensures ruled { IsRuledInContext G.Gate gate.old gate.new asks.new result
-        (data_ruling (shown heard.entry.now) (cred_value cred.now) lease.now asks.new.admitted) }
+        (data_ruling (shown G.program heard.entry.now)
+        (cred_value cred.now) lease.now asks.new.admitted) }
 {
-    match screened(alloc, heard, cred, lease, keys) {
+    match screened(alloc, gate, heard, cred, lease, keys) {
         None => say_in_context(alloc, gate, heard, cred, lease, keys, asks),
         Some(said) => said,
     }

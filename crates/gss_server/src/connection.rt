@@ -6,9 +6,10 @@ ghost use Rattle.sec_base.specs.Answers.{Rose};
 ghost use Rattle.accept_book.specs.RecordShown.{Ruling};
 ghost use Rattle.gss_server.specs.Answers.{IsReply, Fits};
 ghost use Rattle.gss_server.specs.Connections.{framed, IsServed, StreamEnds};
+ghost use Rattle.gss_server.specs.Hearing.{serving};
 ghost use Rattle.gss_server.specs.Keeping.{Makes};
 ghost use Rattle.gss_server.specs.Ruled.{Questions};
-ghost use Rattle.gss_server.specs.Steady.{LinkLeft, GateKept};
+ghost use Rattle.gss_server.specs.Steady.{LinkLeft, ClosedWell, GateKept};
 ghost use Rattle.gss_server.specs.Turns.{Receives, Responds, Ruled, AnswersBy, Replies, Turns};
 
 use crate::answer::{Kept, Reply};
@@ -40,6 +41,8 @@ pub enum ConnEnd {
     Budget,
     /// There was no memory for a record, its kept answer or its reply.
     NoMemory,
+    /// What became of a call isn't known: it has no reply, so that its caller takes no error for final.
+    Lost,
 }
 
 /// A connection that was served.
@@ -76,13 +79,17 @@ pub fn serve_link<L: Link, K: Keeper<Kept>, G: Gate, C: Clock, D: Draw>(
     // tells, and has room for two questions a record, told just these. Over a link that tells its octets, the records are those of the stream.
     ensures served { Makes K.Keeper C.Clock D.Draw keeper.old keeper.new clock.old clock.new
         draw.old draw.new (λ kept. (result.records ≡ length kept)
-        × IsServed (L.tells link) (Questions G.Gate 131072 gate.old gate.new) width (L.wire link)
-        (L.wire result.link) result.end kept) }
-    // The end that the stream has comes, unless the link failed or there was no memory.
+        × IsServed (L.tells link) (Questions G.Gate 131072 gate.old gate.new)
+        (serving G.program width) (L.wire link) (L.wire result.link) result.end kept) }
+    // The end that the stream has comes, unless the link failed, there was no memory, or what became of a call isn't
+    // known.
     ensures always { IsTrue (L.tells link) → (expected : ConnEnd)
         → StreamEnds (L.wire link) (L.wire result.link) expected
-        → result.end ≢ ConnEnd.LinkFault → result.end ≢ ConnEnd.NoMemory → result.end ≡ expected }
+        → result.end ≢ ConnEnd.LinkFault → result.end ≢ ConnEnd.NoMemory
+        → result.end ≢ ConnEnd.Lost → result.end ≡ expected }
     ensures fault { result.end ≡ ConnEnd.LinkFault → Rose (L.faults link) (L.faults result.link) }
+    // and no other end hides a fault of the link's
+    ensures faultless { result.end ≢ ConnEnd.LinkFault → ClosedWell L.Link link result.link }
     ensures gate_kept { GateKept G.Gate gate.old gate.new }
     ensures most { result.records ≤ 65536 }
     ensures closed { L.closed result.link ≡ true }
@@ -127,8 +134,8 @@ fn serve<L: Link, K: Keeper<Kept>, G: Gate, C: Clock, D: Draw>(
     requires none { course.old.records ≡ 0 }
     ensures served { Makes K.Keeper C.Clock D.Draw keeper.old keeper.new clock.old clock.new
         draw.old draw.new (λ kept. (course.new.records ≡ length kept)
-        × IsServed (L.tells link.old) (Questions G.Gate 131072 gate.old gate.new) width
-        (L.wire link.old) (L.wire link.new) result kept) }
+        × IsServed (L.tells link.old) (Questions G.Gate 131072 gate.old gate.new)
+        (serving G.program width) (L.wire link.old) (L.wire link.new) result kept) }
     ensures gate_kept { GateKept G.Gate gate.old gate.new }
     ensures most { course.new.records ≤ 65536 }
     ensures link_left { LinkLeft L.Link link.old link.new (result ≡ ConnEnd.LinkFault) }
@@ -157,8 +164,8 @@ fn turn<L: Link, K: Keeper<Kept>, G: Gate, C: Clock, D: Draw>(
     requires few { course.old.records < 65536 }
     ensures turned { Makes K.Keeper C.Clock D.Draw keeper.old keeper.new clock.old clock.new
         draw.old draw.new (λ kept. (course.new.records ≡ course.old.records + length kept)
-        × Turns (L.tells link.old) (Questions G.Gate 2 gate.old gate.new) width (L.wire link.old)
-        (L.wire link.new) result kept) }
+        × Turns (L.tells link.old) (Questions G.Gate 2 gate.old gate.new)
+        (serving G.program width) (L.wire link.old) (L.wire link.new) result kept) }
     ensures gate_kept { GateKept G.Gate gate.old gate.new }
     ensures link_left { LinkLeft L.Link link.old link.new (result ≡ Some ConnEnd.LinkFault) }
 {
@@ -183,6 +190,7 @@ fn receive<L: Link>(alloc: Global, link: &mut L) -> Result<Octets, ConnEnd>
     requires unclosed { L.closed link.old ≡ false }
     ensures told { IsTrue (L.tells link.old) → Receives (L.wire link.old) (L.wire link.new) result }
     ensures early { result ≢ Err ConnEnd.Budget }
+    ensures known { result ≢ Err ConnEnd.Lost }
     ensures link_left { LinkLeft L.Link link.old link.new (IsErrOf result ConnEnd.LinkFault) }
 {
     match next_record(alloc, link) {
@@ -212,8 +220,8 @@ fn reply_to_record<L: Link, K: Keeper<Kept>, G: Gate, C: Clock, D: Draw>(
     requires few { course.old.records < 65536 }
     ensures replied { Makes K.Keeper C.Clock D.Draw keeper.old keeper.new clock.old clock.new
         draw.old draw.new (λ kept. (course.new.records ≡ course.old.records + length kept)
-        × Replies (L.tells link.old) (Questions G.Gate 2 gate.old gate.new) width (L.wire link.old)
-        (L.wire link.new) octets.now result kept) }
+        × Replies (L.tells link.old) (Questions G.Gate 2 gate.old gate.new)
+        (serving G.program width) (L.wire link.old) (L.wire link.new) octets.now result kept) }
     ensures gate_kept { GateKept G.Gate gate.old gate.new }
     ensures link_left { LinkLeft L.Link link.old link.new (result ≡ Some ConnEnd.LinkFault) }
 {
@@ -243,8 +251,9 @@ pub fn answer_and_keep<K: Keeper<Kept>, G: Gate, C: Clock, D: Draw>(
 ) -> Reply
     requires ready { K.ready keeper.old }
     ensures answered { Makes K.Keeper C.Clock D.Draw keeper.old keeper.new clock.old clock.new
-        draw.old draw.new (AnswersBy (Questions G.Gate 2 gate.old gate.new) width octets.now
-        result) }
+        draw.old draw.new (AnswersBy (Questions G.Gate 2 gate.old gate.new)
+        (serving G.program width)
+        octets.now result) }
     ensures fits { Fits result }
     ensures gate_kept { GateKept G.Gate gate.old gate.new }
 {
@@ -267,6 +276,7 @@ fn respond<L: Link>(link: &mut L, reply: &Reply) -> Result<(), ConnEnd>
 {
     match reply {
         Reply::Silent => Ok(()),
+        Reply::Gone => Err(ConnEnd::Lost),
         Reply::NoMemory => Err(ConnEnd::NoMemory),
         Reply::Bytes(octets) => match write_record(link, octets.as_slice()) {
             Ok(()) => Ok(()),

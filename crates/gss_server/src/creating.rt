@@ -11,7 +11,8 @@ ghost use Rattle.accept_book.specs.RecordShown.{by, plain, going, settled, refus
 ghost use Rattle.accept_book.specs.RecordShown.{end_of};
 ghost use Rattle.accept_book.specs.RecordRule.{stepped, ask_step, continued, token_ruling};
 ghost use Rattle.accept_book.specs.RecordRule.{creation_ruling};
-ghost use Rattle.gss_server.specs.Answers.{IsSaid};
+ghost use Rattle.accept_book.specs.Rules.{rule_number};
+ghost use Rattle.gss_server.specs.Answers.{IsOther, IsSaid};
 ghost use Rattle.gss_server.specs.Hearing.{shown, handle_or_none};
 ghost use Rattle.gss_server.specs.Ruled.{IsRuled, unasked};
 
@@ -25,7 +26,7 @@ use accept_book::{BookRefusal, Lease, NegAnswer, Negotiated, Rule};
 use gss_base::status::{COMPLETE, CONTINUE_NEEDED};
 use rpc_msgs::Reply as RpcReply;
 use rpc_msgs::numbers::{
-    AUTH_NONE, GARBAGE_ARGS, PROG_MISMATCH, PROG_UNAVAIL, PROGRAM, RPCSEC_GSS, SUCCESS, VERSION,
+    AUTH_NONE, GARBAGE_ARGS, PROG_MISMATCH, PROG_UNAVAIL, RPCSEC_GSS, SUCCESS,
 };
 use rpcsec_msgs::numbers::RPCSEC_GSS_INIT;
 use rpcsec_msgs::{GssCred, InitRes, write_init_res};
@@ -78,20 +79,23 @@ fn handle(alloc: Global, id: Option<u64>) -> Result<Octets, NoMemory>
 }
 
 /// A context goes on: its handle, and the token for the initiator.
-fn say_going(alloc: Global, heard: &Heard<'_>, id: u64, token: &[u8]) -> Said
+fn say_going<G: Gate>(alloc: Global, heard: &Heard<'_>, id: u64, token: &[u8]) -> Said
     requires { length token.now ≤ 65536 }
-    ensures says { IsSaid result (by Rule.Going (going (shown heard.entry.now) id token.now)) }
+    ensures says { IsSaid result (by Rule.Going (going
+        (shown G.program heard.entry.now) id token.now)) }
 {
     match result_octets(alloc, Some(id), CONTINUE_NEEDED, 0, 0, token) {
-        Ok(result) => say_creation(alloc, heard, Rule::Going, result.as_slice()),
+        Ok(result) => say_creation::<G>(alloc, heard, Rule::Going, result.as_slice()),
         Err(_) => say_no_memory(),
     }
 }
 
 /// A creation's result without a verifier.
-fn say_creation(alloc: Global, heard: &Heard<'_>, rule: Rule, body: &[u8]) -> Said
+fn say_creation<G: Gate>(alloc: Global, heard: &Heard<'_>, rule: Rule, body: &[u8]) -> Said
+    requires other { IsOther (rule_number rule) }
     requires size { length body.now ≤ 130000 }
-    ensures says { IsSaid result (by rule (plain (shown heard.entry.now) 0 0 0 body.now)) }
+    ensures says { IsSaid result (by rule (plain (shown G.program heard.entry.now) 0 0 0
+        body.now)) }
 {
     let reply = RpcReply::Accepted {
         xid: heard.call.xid,
@@ -106,10 +110,10 @@ fn say_creation(alloc: Global, heard: &Heard<'_>, rule: Rule, body: &[u8]) -> Sa
 }
 
 /// A context is complete: its handle, the window, the token for the initiator, and a MIC over the window.
-fn say_settled(alloc: Global, heard: &Heard<'_>, lease: &Lease, token: &[u8]) -> Said
+fn say_settled<G: Gate>(alloc: Global, heard: &Heard<'_>, lease: &Lease, token: &[u8]) -> Said
     requires { length token.now ≤ 65536 }
     ensures says { IsSaid result
-        (by Rule.Settled (settled (shown heard.entry.now) lease.now token.now)) }
+        (by Rule.Settled (settled (shown G.program heard.entry.now) lease.now token.now)) }
 {
     match result_octets(alloc, Some(lease.id), COMPLETE, 0, heard.width, token) {
         Ok(result) => say_window(alloc, heard, lease, result.as_slice()),
@@ -157,26 +161,29 @@ fn reject(refusal: &BookRefusal) -> &'static [u8]
 }
 
 /// A refused step: its major and minor status.
-fn say_refused(alloc: Global, heard: &Heard<'_>, refusal: &BookRefusal) -> Said
-    ensures says { IsSaid result (by Rule.Refused (refused (shown heard.entry.now) refusal.now)) }
+fn say_refused<G: Gate>(alloc: Global, heard: &Heard<'_>, refusal: &BookRefusal) -> Said
+    ensures says { IsSaid result (by Rule.Refused (refused
+        (shown G.program heard.entry.now) refusal.now)) }
 {
     let (major, minor) = (major_of(*refusal), refusal.number());
     match result_octets(alloc, None, major, minor, 0, reject(refusal)) {
-        Ok(result) => say_creation(alloc, heard, Rule::Refused, result.as_slice()),
+        Ok(result) => say_creation::<G>(alloc, heard, Rule::Refused, result.as_slice()),
         Err(_) => say_no_memory(),
     }
 }
 
 /// What a step was answered.
-fn say_stepped(alloc: Global, heard: &Heard<'_>, answer: &NegAnswer) -> Said
+fn say_stepped<G: Gate>(alloc: Global, heard: &Heard<'_>, answer: &NegAnswer) -> Said
     requires { token_size answer.now ≤ 65536 }
-    ensures says { IsSaid result (stepped (shown heard.entry.now) answer.now) }
+    ensures says { IsSaid result (stepped (shown G.program heard.entry.now) answer.now) }
 {
     match answer {
-        NegAnswer::Going { id, token } => say_going(alloc, heard, *id, token.as_slice()),
-        NegAnswer::Settled { lease, token } => say_settled(alloc, heard, lease, token.as_slice()),
-        NegAnswer::Refused(BookRefusal::NoContext) => say_no_context(alloc, heard),
-        NegAnswer::Refused(refusal) => say_refused(alloc, heard, refusal),
+        NegAnswer::Going { id, token } => say_going::<G>(alloc, heard, *id, token.as_slice()),
+        NegAnswer::Settled { lease, token } => {
+            say_settled::<G>(alloc, heard, lease, token.as_slice())
+        }
+        NegAnswer::Refused(BookRefusal::NoContext) => say_no_context::<G>(alloc, heard),
+        NegAnswer::Refused(refusal) => say_refused::<G>(alloc, heard, refusal),
         NegAnswer::NoMemory => say_no_memory(),
     }
 }
@@ -201,11 +208,11 @@ fn ask_for_step<G: Gate>(
 ) -> Said
     requires unasked { asks.old ≡ unasked }
     ensures ruled { IsRuled G.Gate 1 gate.old gate.new asks.new result
-        (ask_step (shown heard.entry.now) id token.now asks.new.negotiated) }
+        (ask_step (shown G.program heard.entry.now) id token.now asks.new.negotiated) }
 {
     let draws = step_draws(&heard.draws);
     let negotiated = gate.negotiate(alloc, id, token, heard.now, &draws);
-    let said = say_stepped(alloc, heard, &negotiated.answer);
+    let said = say_stepped::<G>(alloc, heard, &negotiated.answer);
     asks.negotiated = Some(negotiated);
     said
 }
@@ -221,10 +228,10 @@ fn say_continued<G: Gate>(
 ) -> Said
     requires unasked { asks.old ≡ unasked }
     ensures ruled { IsRuled G.Gate 1 gate.old gate.new asks.new result
-        (continued (shown heard.entry.now) token.now asks.new.negotiated id) }
+        (continued (shown G.program heard.entry.now) token.now asks.new.negotiated id) }
 {
     match id {
-        None => say_no_context(alloc, heard),
+        None => say_no_context::<G>(alloc, heard),
         Some(id) => ask_for_step(alloc, gate, heard, Some(id), token, asks),
     }
 }
@@ -240,7 +247,7 @@ fn say_token<G: Gate>(
 ) -> Said
     requires unasked { asks.old ≡ unasked }
     ensures ruled { IsRuled G.Gate 1 gate.old gate.new asks.new result
-        (token_ruling (shown heard.entry.now) (cred_value cred.now) asks.new.negotiated
+        (token_ruling (shown G.program heard.entry.now) (cred_value cred.now) asks.new.negotiated
         (Ok token.now)) }
 {
     if cred.proc == RPCSEC_GSS_INIT {
@@ -260,17 +267,20 @@ pub(crate) fn say_creating<G: Gate>(
 ) -> Said
     requires unasked { asks.old ≡ unasked }
     ensures ruled { IsRuled G.Gate 1 gate.old gate.new asks.new result
-        (creation_ruling (shown heard.entry.now) (cred_value cred.now) asks.new.negotiated) }
+        (creation_ruling (shown G.program heard.entry.now)
+        (cred_value cred.now) asks.new.negotiated) }
 {
     let call = &heard.call;
-    if call.program != PROGRAM {
-        return say_plain(alloc, heard, Rule::Program, PROG_UNAVAIL, 0, 0);
+    let id = gate.id();
+    if call.program != id.number {
+        return say_plain::<G>(alloc, heard, Rule::Program, PROG_UNAVAIL, 0, 0);
     }
-    if call.version != VERSION {
-        return say_plain(alloc, heard, Rule::Version, PROG_MISMATCH, VERSION, VERSION);
+    if call.version != id.version {
+        let served = id.version;
+        return say_plain::<G>(alloc, heard, Rule::Version, PROG_MISMATCH, served, served);
     }
     match token_in(call.args) {
         Ok(token) => say_token(alloc, gate, heard, cred, token, asks),
-        Err(_) => say_plain(alloc, heard, Rule::Arguments, GARBAGE_ARGS, 0, 0),
+        Err(_) => say_plain::<G>(alloc, heard, Rule::Arguments, GARBAGE_ARGS, 0, 0),
     }
 }

@@ -22,7 +22,8 @@ mod told;
 
 pub use answer::{Answered, Kept, Reply};
 pub use answering::{answer_record, answer_record_by};
+pub use book_gate::{OwnGate, caller_of_lease, spell_entered};
 pub use connection::{ConnEnd, Served, answer_and_keep, serve_link};
-pub use gate::Gate;
+pub use gate::{DataCall, Gate};
 pub use keeper::{KeepAll, KeepNothing, KeepReceipts, Keeper};
 pub use told::{StepTold, Told};

@@ -22,7 +22,7 @@ use rpcsec_msgs::numbers::{RPC_GSS_SVC_PRIVACY, RPCSEC_GSS_DATA};
 use std::alloc::Global;
 
 /// A context was ended, or why it wasn't.
-fn say_ended(
+fn say_ended<G: Gate>(
     alloc: Global,
     heard: &Heard<'_>,
     cred: &GssCred<'_>,
@@ -31,11 +31,12 @@ fn say_ended(
     answer: &Result<Receipt, AdmitRefusal>,
 ) -> Said
     ensures says { IsSaid result
-        (ended_ruling (shown heard.entry.now) (cred_value cred.now) lease.now answer.now) }
+        (ended_ruling (shown G.program heard.entry.now)
+        (cred_value cred.now) lease.now answer.now) }
 {
     match answer {
-        Ok(_) => say_stat(alloc, heard, cred, lease, keys, Rule::Ended, SUCCESS),
-        Err(refusal) => say_unadmitted(alloc, heard, cred, lease, keys, *refusal),
+        Ok(_) => say_stat::<G>(alloc, heard, cred, lease, keys, Rule::Ended, SUCCESS),
+        Err(refusal) => say_unadmitted::<G>(alloc, heard, cred, lease, keys, *refusal),
     }
 }
 
@@ -51,10 +52,10 @@ fn ask_for_end<G: Gate>(
 ) -> Said
     requires unasked { asks.old ≡ unasked }
     ensures ruled { IsRuledInContext G.Gate gate.old gate.new asks.new result
-        (ask_end (shown heard.entry.now) (cred_value cred.now) lease.now asks.new.ended) }
+        (ask_end (shown G.program heard.entry.now) (cred_value cred.now) lease.now asks.new.ended) }
 {
     let answer = gate.end(lease, cred.seq);
-    let said = say_ended(alloc, heard, cred, lease, keys, &answer);
+    let said = say_ended::<G>(alloc, heard, cred, lease, keys, &answer);
     asks.ended = Some(answer);
     said
 }
@@ -72,9 +73,10 @@ fn say_destroy<G: Gate>(
 ) -> Said
     requires unasked { asks.old ≡ unasked }
     ensures ruled { IsRuledInContext G.Gate gate.old gate.new asks.new result
-        (destroy_ruling (shown heard.entry.now) (cred_value cred.now) lease.now asks.new.ended) }
+        (destroy_ruling (shown G.program heard.entry.now)
+        (cred_value cred.now) lease.now asks.new.ended) }
 {
-    match screened(alloc, heard, cred, lease, keys) {
+    match screened(alloc, gate, heard, cred, lease, keys) {
         None => ask_for_end(alloc, gate, heard, cred, lease, keys, asks),
         Some(said) => said,
     }
@@ -92,7 +94,7 @@ fn say_looked<G: Gate>(
 ) -> Said
     requires unasked { asks.old ≡ unasked }
     ensures ruled { IsRuledInContext G.Gate gate.old gate.new asks.new result
-        (looked_ruling (shown heard.entry.now) (cred_value cred.now) asks.new.admitted
+        (looked_ruling (shown G.program heard.entry.now) (cred_value cred.now) asks.new.admitted
         asks.new.ended answer.now) }
 {
     match answer {
@@ -104,9 +106,14 @@ fn say_looked<G: Gate>(
             }
             say_destroy(alloc, gate, heard, cred, lease, &keys.lent(), asks)
         }
-        Err(LookRefusal::NoContext) => say_no_context(alloc, heard),
-        Err(LookRefusal::NotReady) => say_no_context(alloc, heard),
-        Err(LookRefusal::Expired) => say_denied(alloc, heard, Rule::Expired, RPCSEC_GSS_CTXPROBLEM),
+        Err(LookRefusal::NoContext) => say_no_context::<G>(alloc, heard),
+        Err(LookRefusal::NotReady) => say_no_context::<G>(alloc, heard),
+        Err(LookRefusal::Expired) => say_denied::<G>(
+            alloc,
+            heard,
+            Rule::Expired,
+            RPCSEC_GSS_CTXPROBLEM,
+        ),
     }
 }
 
@@ -133,7 +140,8 @@ pub(crate) fn ask_for_look<G: Gate>(
 ) -> Said
     requires unasked { asks.old ≡ unasked }
     ensures ruled { IsRuled G.Gate 2 gate.old gate.new asks.new result
-        (ask_look (shown heard.entry.now) (cred_value cred.now) id asks.new.admitted asks.new.ended
+        (ask_look (shown G.program heard.entry.now)
+        (cred_value cred.now) id asks.new.admitted asks.new.ended
         asks.new.looked) }
 {
     let answer = gate.look(id, heard.now);

@@ -7,16 +7,16 @@ ghost use Rattle.rpcsec_msgs.specs.Cred.{cred_value};
 ghost use Rattle.krb_tokens.specs.Mic.{mic_of};
 ghost use Rattle.accept_book.specs.RecordShown.{by, plain, signed, denied, end_of};
 ghost use Rattle.accept_book.specs.RecordRule.{no_context};
-ghost use Rattle.gss_server.specs.Answers.{IsSaid};
+ghost use Rattle.accept_book.specs.Rules.{rule_number};
+ghost use Rattle.gss_server.specs.Answers.{IsOther, IsSaid};
 ghost use Rattle.gss_server.specs.Hearing.{shown};
 
 use crate::answer::Reply;
+use crate::gate::Gate;
 use crate::heard::Heard;
 use accept_book::{Lease, Rule};
 use krb_tokens::{LentKeys, Side, TokenEnd};
-use rpc_msgs::numbers::{
-    AUTH_NONE, PROG_MISMATCH, RPCSEC_GSS, RPCSEC_GSS_CREDPROBLEM, SUCCESS, VERSION,
-};
+use rpc_msgs::numbers::{AUTH_NONE, PROG_MISMATCH, RPCSEC_GSS, RPCSEC_GSS_CREDPROBLEM, SUCCESS};
 use rpc_msgs::{Reply as RpcReply, write_reply};
 use rpcsec_msgs::GssCred;
 use std::alloc::Global;
@@ -30,11 +30,22 @@ pub(crate) struct Said {
 
 /// No reply.
 pub(crate) fn say_nothing(rule: Rule) -> Said
+    requires other { IsOther (rule_number rule) }
     ensures says { IsSaid result (by rule None) }
 {
     Said {
         rule: rule.number(),
         reply: Reply::Silent,
+    }
+}
+
+/// What became of the call isn't known: no reply, and its connection ends.
+pub(crate) fn say_gone() -> Said
+    ensures says { IsSaid result (by Rule.Lost None) }
+{
+    Said {
+        rule: Rule::Lost.number(),
+        reply: Reply::Gone,
     }
 }
 
@@ -50,22 +61,23 @@ pub(crate) fn say_no_memory() -> Said
 }
 
 /// The reply to a caller who isn't accepted.
-pub(crate) fn say_denied(alloc: Global, heard: &Heard<'_>, rule: Rule, stat: u32) -> Said
-    ensures says { IsSaid result (by rule (denied (shown heard.entry.now) stat)) }
+pub(crate) fn say_denied<G: Gate>(alloc: Global, heard: &Heard<'_>, rule: Rule, stat: u32) -> Said
+    requires other { IsOther (rule_number rule) }
+    ensures says { IsSaid result (by rule (denied (shown G.program heard.entry.now) stat)) }
 {
     let xid = heard.call.xid;
     say_reply(alloc, rule, &RpcReply::AuthError { xid, stat })
 }
 
 /// The call is of no context that is known.
-pub(crate) fn say_no_context(alloc: Global, heard: &Heard<'_>) -> Said
-    ensures says { IsSaid result (no_context (shown heard.entry.now)) }
+pub(crate) fn say_no_context<G: Gate>(alloc: Global, heard: &Heard<'_>) -> Said
+    ensures says { IsSaid result (no_context (shown G.program heard.entry.now)) }
 {
-    say_denied(alloc, heard, Rule::NoContext, RPCSEC_GSS_CREDPROBLEM)
+    say_denied::<G>(alloc, heard, Rule::NoContext, RPCSEC_GSS_CREDPROBLEM)
 }
 
 /// An accepted reply without verifier.
-pub(crate) fn say_plain(
+pub(crate) fn say_plain<G: Gate>(
     alloc: Global,
     heard: &Heard<'_>,
     rule: Rule,
@@ -73,9 +85,11 @@ pub(crate) fn say_plain(
     low: u32,
     high: u32,
 ) -> Said
+    requires other { IsOther (rule_number rule) }
     requires low { stat ≢ PROG_MISMATCH → low ≡ 0 }
     requires high { stat ≢ PROG_MISMATCH → high ≡ 0 }
-    ensures says { IsSaid result (by rule (plain (shown heard.entry.now) stat low high [])) }
+    ensures says { IsSaid result (by rule (plain (shown G.program heard.entry.now) stat low high
+        [])) }
 {
     let reply = RpcReply::Accepted {
         xid: heard.call.xid,
@@ -91,6 +105,7 @@ pub(crate) fn say_plain(
 
 /// A reply that fits into a record.
 pub(crate) fn say_reply(alloc: Global, rule: Rule, reply: &RpcReply<'_>) -> Said
+    requires other { IsOther (rule_number rule) }
     requires proper { IsReply (reply_value reply.now) }
     requires fits { length (reply_octets (reply_value reply.now)) ≤ 131072 }
     ensures says { IsSaid result (by rule (Some (reply_octets (reply_value reply.now)))) }
@@ -124,7 +139,7 @@ pub(crate) fn verifier(seq: u32, keys: &LentKeys<'_>, lease: &Lease) -> [u8; 28]
 }
 
 /// An accepted reply with the verifier of a reply to a call.
-pub(crate) fn say_signed(
+pub(crate) fn say_signed<G: Gate>(
     alloc: Global,
     heard: &Heard<'_>,
     cred: &GssCred<'_>,
@@ -136,12 +151,14 @@ pub(crate) fn say_signed(
     high: u32,
     body: &[u8],
 ) -> Said
+    requires other { IsOther (rule_number rule) }
     requires low { stat ≢ PROG_MISMATCH → low ≡ 0 }
     requires high { stat ≢ PROG_MISMATCH → high ≡ 0 }
     requires body { stat ≢ SUCCESS → body.now ≡ [] }
     requires size { length body.now ≤ 130000 }
     ensures says { IsSaid result (by rule
-        (signed (shown heard.entry.now) (cred_value cred.now) lease.now stat low high body.now)) }
+        (signed (shown G.program heard.entry.now) (cred_value cred.now) lease.now stat low high
+        body.now)) }
 {
     let mic = verifier(cred.seq, keys, lease);
     let reply = RpcReply::Accepted {
@@ -157,7 +174,7 @@ pub(crate) fn say_signed(
 }
 
 /// The same with this stat alone: no versions, and no result.
-pub(crate) fn say_stat(
+pub(crate) fn say_stat<G: Gate>(
     alloc: Global,
     heard: &Heard<'_>,
     cred: &GssCred<'_>,
@@ -166,25 +183,30 @@ pub(crate) fn say_stat(
     rule: Rule,
     stat: u32,
 ) -> Said
+    requires other { IsOther (rule_number rule) }
     ensures says { IsSaid result
-        (by rule (signed (shown heard.entry.now) (cred_value cred.now) lease.now stat 0 0 [])) }
+        (by rule (signed (shown G.program heard.entry.now)
+        (cred_value cred.now) lease.now stat 0 0 [])) }
 {
-    say_signed(alloc, heard, cred, lease, keys, rule, stat, 0, 0, &[])
+    say_signed::<G>(alloc, heard, cred, lease, keys, rule, stat, 0, 0, &[])
 }
 
-/// The call is of another version of the program, so that which is served is told.
-pub(crate) fn say_mismatch(
+/// The program is served in other versions alone: from `low` to `high`.
+pub(crate) fn say_mismatch<G: Gate>(
     alloc: Global,
     heard: &Heard<'_>,
     cred: &GssCred<'_>,
     lease: &Lease,
     keys: &LentKeys<'_>,
+    rule: Rule,
+    low: u32,
+    high: u32,
 ) -> Said
-    ensures says { IsSaid result (by Rule.Version (signed (shown heard.entry.now)
-        (cred_value cred.now) lease.now PROG_MISMATCH VERSION VERSION [])) }
+    requires other { IsOther (rule_number rule) }
+    ensures says { IsSaid result (by rule (signed (shown G.program heard.entry.now)
+        (cred_value cred.now) lease.now PROG_MISMATCH low high [])) }
 {
-    let rule = Rule::Version;
-    say_signed(
+    say_signed::<G>(
         alloc,
         heard,
         cred,
@@ -192,8 +214,8 @@ pub(crate) fn say_mismatch(
         keys,
         rule,
         PROG_MISMATCH,
-        VERSION,
-        VERSION,
+        low,
+        high,
         &[],
     )
 }

@@ -1,6 +1,7 @@
 //! What a gate tells of what it was asked.
 
-use accept_book::{AdmitRefusal, Admitted, BookRefusal, Lease, LookRefusal, Receipt, Receipts};
+use accept_book::{AdmitRefusal, BookRefusal, Lease, LookRefusal, Receipt, Receipts};
+use rpcsec_bodies::Service;
 use sec_base::Moment;
 
 /// What a step's answer tells: its tokens by their SHA-1.
@@ -30,13 +31,14 @@ pub enum Told {
         now: Moment,
         answer: Result<Lease, LookRefusal>,
     },
-    /// To admit a call.
+    /// To admit a call, or to take its number alone: its arguments are told by their SHA-1, and of an answer the receipt.
     Admitting {
         lease: Lease,
         seq: u32,
+        service: Service,
         procedure: u32,
         args: [u8; 20],
-        answer: Result<Admitted, AdmitRefusal>,
+        answer: Result<Receipt, AdmitRefusal>,
     },
     /// To end a context.
     Ending {

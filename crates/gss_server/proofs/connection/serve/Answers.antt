@@ -28,6 +28,7 @@ loop-number-preserved g c =
         unclosed = now.link_left.kept.unclosed;
         faults = omega (arith, was.link_kept.faults, now.link_left.kept.faults);
       };
+      link_steady = now.link_left.steady (λ e. cc) ∙ was.link_steady;
       gate_kept = record { tells = now.gate_kept.tells ∙ was.gate_kept.tells; limits = now.gate_kept.limits ∙ was.gate_kept.limits };
     }
 
@@ -36,5 +37,6 @@ loop-number-init g c = record {
   served = makes-none refl (c.requires.none, serving-none (g.L.Link.wire c.args.link.now) (asked-none _ _ _ _ 131072 _));
   count = c.requires.none;
   link_kept = record { tells = refl; unclosed = c.requires.unclosed; faults = omega arith };
+  link_steady = refl;
   gate_kept = record { tells = refl; limits = refl };
 }

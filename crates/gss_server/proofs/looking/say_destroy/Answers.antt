@@ -6,7 +6,7 @@ use Rattle.gss_server.proofs.looking.say_destroy.Goals as goal
 
 pub returns-in-Some : goal.returns-in-Some
 returns-in-Some g c = record {
-  ruled = screened-destroy g.G.Gate c.args.gate.now c.args.asks.now c.in-Some.said (shown c.args.heard.now) (cred_value c.args.cred.now) c.args.lease.now c.args.asks.now.ended c.requires.unasked c.in-Some.ensures;
+  ruled = screened-destroy g.G.Gate c.args.gate.now c.args.asks.now c.in-Some.said (shown g.G.Gate.program c.args.heard.now) (cred_value c.args.cred.now) c.args.lease.now c.args.asks.now.ended c.requires.unasked c.in-Some.ensures;
 }
 
 pub returns-in-None : goal.returns-in-None

@@ -3,4 +3,4 @@ use Rattle.gss_server.proofs.ReplyLengths.{accepted-fits}
 use Rattle.gss_server.proofs.saying.say_plain.Goals as goal
 
 pub say_reply-requires-clause-fits : goal.say_reply-requires-clause-fits
-say_reply-requires-clause-fits c = accepted-fits c.args.heard.now.call.xid 0 [] c.args.stat c.args.low c.args.high [] (lit≤ tt) (lit≤ tt)
+say_reply-requires-clause-fits g c = accepted-fits c.args.heard.now.call.xid 0 [] c.args.stat c.args.low c.args.high [] (lit≤ tt) (lit≤ tt)

@@ -1,7 +1,9 @@
-use Rattle.std.proofs.Common.{rules, ◌≡◌, ◌∙◌, ◌++◌, ℕ, List, ap, append_assoc}
+use Rattle.std.proofs.Common.{rules, ◌∙◌, ◌++◌, ℕ, List, ap, append_assoc}
 use Rattle.accept_book.specs.RecordShown.{Asked}
+use Rattle.accept_book.specs.declared.book_answer.Admitted.{Admitted}
 use Rattle.gss_server.specs.Asking.{Asking}
 use Rattle.gate_models.proofs.LoopTurns.{all-heard}
+use Rattle.gss_server.specs.Hearing.{serving}
 use Rattle.gate_models.proofs.looping.Looping.hear.Goals as goal
 
 pub loop-self-preserved : goal.loop-self-preserved
@@ -24,4 +26,4 @@ returns-in-Starved-clause-looped g c = λ first p. c.in-Starved.ensures.looped f
 pub returns-clause-looped : goal.returns-clause-looped
 returns-clause-looped g c = λ first p.
     let s = c.loop-self.self in
-    all-heard (λ (m : List Asked). Asking g.G.Gate.answers first m s.gate) s.width s.now s.heard.items s.said.items s.kept.items s.cut (search rules) (c.loop-self.invariant.looped first p)
+    all-heard (λ (m : List (Asked Admitted)). Asking g.G.Gate.answers first m s.gate) (serving g.G.Gate.program s.width) s.now s.heard.items s.said.items s.kept.items s.cut (search rules) (c.loop-self.invariant.looped first p)

@@ -1,16 +1,15 @@
-//! The procedures of the served program, and how their results are spelled.
+//! The procedures of the program of posts, and how their results are spelled.
 
 ghost use Rattle.std.specs.Prelude.{◌≡◌};
 ghost use Rattle.std.specs.Str.{is_utf8};
-ghost use Rattle.rpc_msgs.specs.Xdr.{Answers};
-ghost use Rattle.gss_client.specs.Procedure.{opaque_alone};
 
-use crate::query::Query;
-use rpc_msgs::numbers::{COUNT, ECHO, NULL, POST, WHOAMI};
-use rpc_msgs::{XdrReader, XdrRefusal};
+use gss_client::Query;
+use posts_program::numbers::{COUNT, ECHO, MOST_POSTED, POST, WHOAMI};
+use posts_program::opaque_alone;
+use rpc_msgs::numbers::NULL;
 use std::str::from_utf8;
 
-/// A procedure of the served program.
+/// A procedure of the program of posts.
 ///
 /// | Number | Procedure | Argument | Result |
 /// |---|---|---|---|
@@ -29,7 +28,7 @@ pub enum Procedure {
 }
 
 impl Query for Procedure {
-    ghost use Rattle.gss_client.specs.Procedure.{query_of};
+    ghost use Rattle.posts_client.specs.Procedure.{query_of};
 
     ghost says = { query_of };
 
@@ -47,7 +46,7 @@ impl Query for Procedure {
     fn is_result(&self, octets: &[u8]) -> bool {
         match self {
             Procedure::Null => octets.is_empty(),
-            Procedure::Echo => opaque_alone(65_536, octets).is_ok(),
+            Procedure::Echo => opaque_alone(MOST_POSTED, octets).is_ok(),
             Procedure::Whoami => match opaque_alone(1_024, octets) {
                 Ok(name) => is_text(name),
                 Err(_) => false,
@@ -66,15 +65,4 @@ fn is_text(octets: &[u8]) -> bool
         Ok(_) => true,
         Err(_) => false,
     }
-}
-
-/// Octets of variable length, at most `limit`, that are all there is (RFC 4506 section 4.10).
-#[tactic(auto, unfolding(crate::specs::Procedure::opaque_alone))]
-pub fn opaque_alone(limit: u32, octets: &[u8]) -> Result<&[u8], XdrRefusal>
-    ensures { Answers (λ v. v.now) result (opaque_alone limit octets.now) }
-{
-    let mut reader = XdrReader::new(octets);
-    let value = reader.opaque(limit)?;
-    reader.end()?;
-    Ok(value)
 }

@@ -1,5 +1,5 @@
-use Rattle.gss_client.proofs.Texts.{is-text, is-no-text}
-use Rattle.gss_client.proofs.procedure.is_text.Goals as goal
+use Rattle.posts_client.proofs.Texts.{is-text, is-no-text}
+use Rattle.posts_client.proofs.procedure.is_text.Goals as goal
 
 pub returns-in-Ok : goal.returns-in-Ok
 returns-in-Ok c = is-text c.args.octets.now c.in-Ok.ensures.cases.1

@@ -1,0 +1,7 @@
+//! A client of the program of posts: what it asks, and which results it takes.
+#![tactic(auto)]
+
+mod procedure;
+
+pub use posts_program::opaque_alone;
+pub use procedure::Procedure;
