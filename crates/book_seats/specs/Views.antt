@@ -8,9 +8,9 @@ use Rattle.atomic_table.specs.Table.{State, Me, Step}
 use Rattle.atomic_table.specs.Seated.{TableId}
 use Rattle.atomic_table.specs.declared.shared.Seat.{Seat}
 use Rattle.spnego_core.specs.declared.setup.AcceptSetup.{AcceptSetup}
-use Rattle.accept_book.specs.RecordShown.{Asked, AskedLook}
+use Rattle.accept_book.specs.RecordShown.{AskedLook}
 use Rattle.accept_core.specs.declared.answer.LookRefusal.TheVariants.{NoContext}
-use Rattle.book_seats.specs.Notes.{Note, StartsWith, asked_by}
+use Rattle.book_seats.specs.Notes.{Note, Noted, StartsWith, noted_by}
 
 -- the name of no table
 abbrev pub no_table : TableId
@@ -35,42 +35,42 @@ no_setup = record {
 }
 
 -- a question that stands for any other
-abbrev pub blank : Asked
+abbrev pub blank : {T : Type 0} → Noted T
 blank = AskedLook 0 0 (Err NoContext)
 
 -- what a seat knows. One that writes knows all notes, and how many clerks there are; one that
 -- claims a desk knows its number, and the notes up to the last that the desk asked for
-pub record ViewOf : Type 0 where
+pub record ViewOf (T : Type 0) : Type 0 where
   pub writes : Bool
-  pub all : List Note
+  pub all : List (Note T)
   pub made : ℕ
   pub claims : Bool
   pub desk : ℕ
-  pub seen : List Note
+  pub seen : List (Note T)
 
 -- the writer
-abbrev pub writer : ℕ → List Note → ViewOf
+abbrev pub writer : {T : Type 0} → ℕ → List (Note T) → ViewOf T
 writer made all =
     record { writes = true; all = all; made = made; claims = false; desk = 0; seen = [] }
 
 -- a desk's clerk
-abbrev pub clerk : ℕ → List Note → ViewOf
+abbrev pub clerk : {T : Type 0} → ℕ → List (Note T) → ViewOf T
 clerk desk seen =
     record { writes = false; all = []; made = 0; claims = true; desk = desk; seen = seen }
 
 -- the writer with a clerk's desk in hand
-abbrev pub busy : ℕ → List Note → ℕ → List Note → ViewOf
+abbrev pub busy : {T : Type 0} → ℕ → List (Note T) → ℕ → List (Note T) → ViewOf T
 busy made all desk seen =
     record { writes = true; all = all; made = made; claims = true; desk = desk; seen = seen }
 
 -- a seat that knows nothing
-abbrev pub nobody : ViewOf
+abbrev pub nobody : {T : Type 0} → ViewOf T
 nobody = record { writes = false; all = []; made = 0; claims = false; desk = 0; seen = [] }
 
 -- ---- how views are cut and joined
 
 -- one clerk more is there
-abbrev pub with_one_more : ViewOf → ViewOf
+abbrev pub with_one_more : {T : Type 0} → ViewOf T → ViewOf T
 with_one_more v = record {
   writes = v.writes;
   all = v.all;
@@ -81,11 +81,11 @@ with_one_more v = record {
 }
 
 -- the clerk that is made next
-abbrev pub new_clerk : ViewOf → ViewOf
+abbrev pub new_clerk : {T : Type 0} → ViewOf T → ViewOf T
 new_clerk v = clerk v.made v.all
 
 -- the writer takes a clerk's desk in hand
-abbrev pub holding : ViewOf → ViewOf → ViewOf
+abbrev pub holding : {T : Type 0} → ViewOf T → ViewOf T → ViewOf T
 holding v w = record {
   writes = v.writes;
   all = v.all;
@@ -96,60 +96,61 @@ holding v w = record {
 }
 
 -- the writer notes a question of the desk in hand, and hands the desk back
-abbrev pub noting : Asked → ViewOf → ViewOf
+abbrev pub noting : {T : Type 0} → Noted T → ViewOf T → ViewOf T
 noting one v = writer v.made (v.all ++ (v.desk, one) ∷ [])
 
 -- what the clerk of that desk knows then
-abbrev pub noted : Asked → ViewOf → ViewOf
+abbrev pub noted : {T : Type 0} → Noted T → ViewOf T → ViewOf T
 noted one v = clerk v.desk (v.all ++ (v.desk, one) ∷ [])
 
 -- ---- the rule
 
 -- a seat that writes is the one writer, and knows the history; a seat that claims a desk owns it,
 -- and has seen a front of the history with all that the desk asked
-abbrev pub Fits : ℕ → ℕ → (ℕ → ℕ) → List Note → ℕ → ViewOf → Type 0
+abbrev pub Fits : {T : Type 0} → ℕ → ℕ → (ℕ → ℕ) → List (Note T) → ℕ → ViewOf T → Type 0
 Fits seat made owner log by v =
     (v.writes ≡ true → (by ≡ seat) × (v.all ≡ log) × (v.made ≡ made))
     × (v.claims ≡ true → (v.desk < made) × (owner v.desk ≡ by) × StartsWith log v.seen
-    × (asked_by v.desk log ≡ asked_by v.desk v.seen))
+    × (noted_by v.desk log ≡ noted_by v.desk v.seen))
 
 -- there is one history, and no desk without a clerk stands in it
-abbrev pub Kept : State Unit ViewOf → Type 0
-Kept s = (seat made : ℕ) × (owner : ℕ → ℕ) × (log : List Note)
-    × ((desk : ℕ) → made ≤ desk → asked_by desk log ≡ [])
-    × ((by : ℕ) (v : ViewOf) → get_elem? s.views by ≡ some v → Fits seat made owner log by v)
+abbrev pub Kept : {T : Type 0} → State Unit (ViewOf T) → Type 0
+Kept {T} s = (seat made : ℕ) × (owner : ℕ → ℕ) × (log : List (Note T))
+    × ((desk : ℕ) → made ≤ desk → noted_by desk log ≡ [])
+    × ((by : ℕ) (v : ViewOf T) → get_elem? s.views by ≡ some v → Fits seat made owner log by v)
 
 -- the writer looks at the desk in hand: the history begins with what the desk has seen, and what
 -- came since is of other desks
-abbrev pub Looks : Step Unit → Me Unit ViewOf → ℕ → Me Unit ViewOf → Type 0
+abbrev pub Looks : {T : Type 0} → Step Unit → Me Unit (ViewOf T) → ℕ → Me Unit (ViewOf T) → Type 0
 Looks step m found m' = (m' ≡ m)
     × (m.0.claims ≡ true → StartsWith m.0.all m.0.seen
-    × (asked_by m.0.desk m.0.all ≡ asked_by m.0.desk m.0.seen))
+    × (noted_by m.0.desk m.0.all ≡ noted_by m.0.desk m.0.seen))
 
 -- the writer compares the desk in hand with the history, and lets it go
-abbrev pub Compares : Step Unit → Me Unit ViewOf → ℕ → Me Unit ViewOf → Type 0
+abbrev pub Compares : {T : Type 0} → Step Unit → Me Unit (ViewOf T) → ℕ → Me Unit (ViewOf T)
+    → Type 0
 Compares step m found m' = (m' ≡ (writer m.0.made m.0.all, m.1))
-    × (m.0.claims ≡ true → asked_by m.0.desk m.0.all ≡ asked_by m.0.desk m.0.seen)
-    × ((desk : ℕ) → m.0.made ≤ desk → asked_by desk m.0.all ≡ [])
+    × (m.0.claims ≡ true → noted_by m.0.desk m.0.all ≡ noted_by m.0.desk m.0.seen)
+    × ((desk : ℕ) → m.0.made ≤ desk → noted_by desk m.0.all ≡ [])
 
 -- ---- what contracts see
 
 -- of the writer: how many clerks there are, and the history
-pub record WriterOf : Type 0 where
+pub record WriterOf (T : Type 0) : Type 0 where
   pub made : ℕ
-  pub all : List Note
+  pub all : List (Note T)
 
 -- of a clerk: the number of its desk, and the history up to the desk's last question
-pub record ClerkOf : Type 0 where
+pub record ClerkOf (T : Type 0) : Type 0 where
   pub desk : ℕ
-  pub seen : List Note
+  pub seen : List (Note T)
 
 -- the token is the writer's, at this table
-abbrev pub IsWriter : TableId → Seat Unit ViewOf → Type 0
+abbrev pub IsWriter : {T : Type 0} → TableId → Seat Unit (ViewOf T) → Type 0
 IsWriter table token = (token.table_id ≡ table)
     × (token.me ≡ (writer token.me.0.made token.me.0.all, []))
 
 -- the token is a clerk's, at this table
-abbrev pub IsClerk : TableId → Seat Unit ViewOf → Type 0
+abbrev pub IsClerk : {T : Type 0} → TableId → Seat Unit (ViewOf T) → Type 0
 IsClerk table token = (token.table_id ≡ table)
     × (token.me ≡ (clerk token.me.0.desk token.me.0.seen, []))

@@ -6,18 +6,15 @@ use std::alloc::Global;
 use std::marker::{Brand, Model, PhantomData};
 
 /// Names a table, and says of the book whose questions are noted on it what its ends are begun with,
-/// how it begins, which limits it has, and how many desks ask it.
+/// which limits it has, and how many desks ask it.
 pub trait Room {
     ghost use Rattle.atomic_table.specs.Seated.{TableId};
     ghost use Rattle.spnego_core.specs.declared.setup.AcceptSetup.{AcceptSetup};
-    ghost use Rattle.accept_book.specs.Booking.{BookOf};
     ghost use Rattle.accept_core.specs.declared.entry.Limits.{Limits};
 
     ghost table: { TableId };
 
     ghost setup: { AcceptSetup };
-
-    ghost begins: { BookOf → Type 0 };
 
     ghost desks: { ℕ };
 
@@ -32,8 +29,6 @@ impl Room for Brand {
 
     ghost setup = { no_setup };
 
-    ghost begins = { λ _. Unit {0} };
-
     ghost desks = { 0 };
 
     ghost limits = { record {
@@ -45,29 +40,41 @@ impl Room for Brand {
     } };
 }
 
-/// A question with its answer, which a call notes.
-pub trait Entry {
-    ghost use Rattle.accept_book.specs.RecordShown.{Asked};
+/// Says with what a book and the program beside it begin.
+pub trait Begins<P> {
+    ghost use Rattle.book_seats.specs.Both.{BothOf};
 
-    ghost entry: { Asked };
+    ghost begins: { BothOf P → Type 0 };
 }
 
-impl Entry for Brand {
+impl<P> Begins<P> for Brand {
+    ghost begins = { λ _. Unit {0} };
+}
+
+/// A question with its answer, which a call notes.
+pub trait Entry<T> {
+    ghost use Rattle.book_seats.specs.Notes.{Noted};
+
+    ghost entry: { Noted T };
+}
+
+impl<T> Entry<T> for Brand {
     ghost use Rattle.book_seats.specs.Views.{blank};
 
     ghost entry = { blank };
 }
 
 /// What a seat of the table knows. No value of it is made.
-pub struct View {
+pub struct View<T> {
     pub writes: bool,
+    pub of: PhantomData<T>,
 }
 
-impl Model for View {
+impl<T> Model for View<T> {
     ghost use Rattle.std.specs.Prelude.{[], false};
     ghost use Rattle.book_seats.specs.Views.{ViewOf};
 
-    ghost Value = { ViewOf };
+    ghost Value = { ViewOf T };
 
     ghost view = { λ v. record {
       writes = v.writes;
@@ -82,7 +89,7 @@ impl Model for View {
 /// The rule of the table: there is one history.
 pub struct OneOrder;
 
-impl TableRule<(), View, ()> for OneOrder {
+impl<T> TableRule<(), View<T>, ()> for OneOrder {
     ghost use Rattle.std.specs.Prelude.{[]};
     ghost use Rattle.book_seats.specs.Views.{writer, Kept};
 
@@ -94,7 +101,7 @@ impl TableRule<(), View, ()> for OneOrder {
 /// The writer makes a clerk.
 pub struct Hires;
 
-impl Split<View> for Hires {
+impl<T> Split<View<T>> for Hires {
     ghost use Rattle.book_seats.specs.Views.{with_one_more, new_clerk};
 
     ghost left = { with_one_more };
@@ -105,7 +112,7 @@ impl Split<View> for Hires {
 /// A clerk hands over all that it knows.
 pub struct Hands;
 
-impl Split<View> for Hands {
+impl<T> Split<View<T>> for Hands {
     ghost use Rattle.book_seats.specs.Views.{nobody};
 
     ghost left = { λ _. nobody };
@@ -113,7 +120,7 @@ impl Split<View> for Hands {
     ghost right = { λ v. v };
 }
 
-impl Join<View> for Hands {
+impl<T> Join<View<T>> for Hands {
     ghost use Rattle.book_seats.specs.Views.{holding, nobody};
 
     ghost both = { holding };
@@ -124,7 +131,7 @@ impl Join<View> for Hands {
 /// A clerk takes back what it is handed.
 pub struct Returns;
 
-impl Join<View> for Returns {
+impl<T> Join<View<T>> for Returns {
     ghost use Rattle.book_seats.specs.Views.{nobody};
 
     ghost both = { λ _ w. w };
@@ -133,11 +140,11 @@ impl Join<View> for Returns {
 }
 
 /// The writer notes a question of the clerk in hand.
-pub struct Notes<E: Entry> {
+pub struct Notes<E> {
     of: PhantomData<E>,
 }
 
-impl<E: Entry> Split<View> for Notes<E> {
+impl<T, E: Entry<T>> Split<View<T>> for Notes<E> {
     ghost use Rattle.book_seats.specs.Views.{noting, noted};
 
     ghost left = { noting E.entry };
@@ -148,7 +155,7 @@ impl<E: Entry> Split<View> for Notes<E> {
 /// The writer looks at what the clerk in hand has seen.
 pub struct Looks;
 
-impl Play<(), View> for Looks {
+impl<T> Play<(), View<T>> for Looks {
     ghost use Rattle.book_seats.specs.Views.{Looks};
 
     ghost then = { Looks };
@@ -157,14 +164,14 @@ impl Play<(), View> for Looks {
 /// The writer compares what the clerk in hand knows with the history.
 pub struct Compares;
 
-impl Play<(), View> for Compares {
+impl<T> Play<(), View<T>> for Compares {
     ghost use Rattle.book_seats.specs.Views.{Compares};
 
     ghost then = { Compares };
 }
 
 /// The table.
-pub type Board = Table<(), View, (), OneOrder, Global>;
+pub type Board<T> = Table<(), View<T>, (), OneOrder, Global>;
 
 /// A seat at the table. It has no bytes.
-pub type Token = atomic_table::Seat<(), View>;
+pub type Token<T> = atomic_table::Seat<(), View<T>>;

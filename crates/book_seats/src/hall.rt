@@ -1,6 +1,6 @@
 //! The writer of the history, and the clerks of the desks.
 ghost use Rattle.std.specs.Prelude.{◌≡◌, ◌<◌, ◌≤◌, ◌+◌, ℕ, ◌++◌, [], ◌∷◌};
-ghost use Rattle.book_seats.specs.Notes.{StartsWith, asked_by};
+ghost use Rattle.book_seats.specs.Notes.{StartsWith, noted_by};
 ghost use Rattle.book_seats.specs.Views.{WriterOf, ClerkOf, writer};
 
 use crate::board::{Board, Compares, Entry, Hands, Hires, Looks, Notes, Returns, Room, Token};
@@ -8,8 +8,8 @@ use std::marker::{Model, PhantomData};
 
 /// The table of the room's name.
 #[derive(Drop)]
-pub struct Hall<J: Room> {
-    board: Board,
+pub struct Hall<T, J: Room> {
+    board: Board<T>,
     of: PhantomData<J>,
     ghost named: { board.shared.table_id ≡ J.table },
     ghost words: { 0 < board.shared.table_id.words },
@@ -17,15 +17,15 @@ pub struct Hall<J: Room> {
 
 /// Who knows the whole history, and how many clerks there are. It has no bytes.
 #[derive(Drop)]
-pub struct Writer<J: Room> {
-    token: Token,
+pub struct Writer<T, J: Room> {
+    token: Token<T>,
     of: PhantomData<J>,
 }
 
-impl<J: Room> Model for Writer<J> {
+impl<T, J: Room> Model for Writer<T, J> {
     ghost use Rattle.book_seats.specs.Views.{WriterOf, IsWriter};
 
-    ghost Value = { WriterOf };
+    ghost Value = { WriterOf T };
 
     ghost view = { λ w. record { made = w.token.me.0.made; all = w.token.me.0.all } };
 
@@ -34,15 +34,15 @@ impl<J: Room> Model for Writer<J> {
 
 /// Who knows the number of a desk, and the history up to the last question of that desk. It has no bytes.
 #[derive(Drop)]
-pub struct Clerk<J: Room> {
-    token: Token,
+pub struct Clerk<T, J: Room> {
+    token: Token<T>,
     of: PhantomData<J>,
 }
 
-impl<J: Room> Model for Clerk<J> {
+impl<T, J: Room> Model for Clerk<T, J> {
     ghost use Rattle.book_seats.specs.Views.{ClerkOf, IsClerk};
 
-    ghost Value = { ClerkOf };
+    ghost Value = { ClerkOf T };
 
     ghost view = { λ c. record { desk = c.token.me.0.desk; seen = c.token.me.0.seen } };
 
@@ -50,7 +50,7 @@ impl<J: Room> Model for Clerk<J> {
 }
 
 /// The hall over a table of its name, with the writer, who knows of no note and no clerk.
-pub fn open_hall<J: Room>(board: Board, token: Token) -> (Hall<J>, Writer<J>)
+pub fn open_hall<T, J: Room>(board: Board<T>, token: Token<T>) -> (Hall<T, J>, Writer<T, J>)
     requires board { board.shared.table_id ≡ J.table }
     requires words { 0 < board.shared.table_id.words }
     requires token { (token.table_id ≡ board.shared.table_id) × (token.me ≡ (writer 0 [], [])) }
@@ -68,9 +68,9 @@ pub fn open_hall<J: Room>(board: Board, token: Token) -> (Hall<J>, Writer<J>)
     )
 }
 
-impl<J: Room> Writer<J> {
+impl<T, J: Room> Writer<T, J> {
     /// A clerk for the next desk, who has seen the history so far.
-    pub fn hire(&mut self, hall: &Hall<J>) -> Clerk<J>
+    pub fn hire(&mut self, hall: &Hall<T, J>) -> Clerk<T, J>
         ensures writer { self.new ≡ record { made = self.old.made + 1; all = self.old.all } }
         ensures clerk { result ≡ record { desk = self.old.made; seen = self.old.all } }
     {
@@ -82,7 +82,7 @@ impl<J: Room> Writer<J> {
     }
 
     /// Notes a question of a clerk's desk. The clerk has seen all of the history then.
-    pub(crate) fn note<E: Entry>(&mut self, hall: &Hall<J>, clerk: &mut Clerk<J>)
+    pub(crate) fn note<E: Entry<T>>(&mut self, hall: &Hall<T, J>, clerk: &mut Clerk<T, J>)
         ensures writer { self.new ≡ record {
           made = self.old.made;
           all = self.old.all ++ (clerk.old.desk, E.entry) ∷ [];
@@ -92,8 +92,8 @@ impl<J: Room> Writer<J> {
           seen = self.old.all ++ (clerk.old.desk, E.entry) ∷ [];
         } }
         ensures prefix { StartsWith self.old.all clerk.old.seen }
-        ensures others { asked_by clerk.old.desk self.old.all
-            ≡ asked_by clerk.old.desk clerk.old.seen }
+        ensures others { noted_by clerk.old.desk self.old.all
+            ≡ noted_by clerk.old.desk clerk.old.seen }
     {
         let lent = hall.board.shared.split_seat::<Hands>(&mut clerk.token);
         hall.board.shared.join_seat::<Hands>(&mut self.token, lent);
@@ -105,9 +105,9 @@ impl<J: Room> Writer<J> {
     }
 
     /// Dismisses a clerk: of its desk the history has what the clerk has seen of it.
-    pub fn compare(&mut self, hall: &Hall<J>, clerk: Clerk<J>)
+    pub fn compare(&mut self, hall: &Hall<T, J>, clerk: Clerk<T, J>)
         ensures same { self.new ≡ self.old }
-        ensures mine { asked_by clerk.desk self.old.all ≡ asked_by clerk.desk clerk.seen }
+        ensures mine { noted_by clerk.desk self.old.all ≡ noted_by clerk.desk clerk.seen }
     {
         let Clerk { token, of: _ } = clerk;
         hall.board.shared.join_seat::<Hands>(&mut self.token, token);
@@ -115,9 +115,9 @@ impl<J: Room> Writer<J> {
     }
 
     /// Of a desk that no clerk was made for, the history has nothing.
-    pub fn close(&mut self, hall: &Hall<J>)
+    pub fn close(&mut self, hall: &Hall<T, J>)
         ensures same { self.new ≡ self.old }
-        ensures others { (desk : ℕ) → self.old.made ≤ desk → asked_by desk self.old.all ≡ [] }
+        ensures others { (desk : ℕ) → self.old.made ≤ desk → noted_by desk self.old.all ≡ [] }
     {
         hall.board.shared.load::<Compares>(&mut self.token, 0);
     }

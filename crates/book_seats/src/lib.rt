@@ -1,4 +1,5 @@
-//! Seats at one book, which lies behind a lock: desks on threads of their own ask it, and there is one history of all that they asked.
+//! Seats at one book and the program beside it, which lie behind a lock: desks on threads of their own ask them, and there is one history of all
+//! that they asked.
 #![tactic(auto)]
 
 mod board;
@@ -8,9 +9,9 @@ mod opening;
 mod seat;
 mod shared;
 
-pub use board::{Board, Room, Token};
+pub use board::{Begins, Board, Room, Token};
 pub use hall::{Clerk, Hall, Writer, open_hall};
-pub use laws::prove_desks_weigh;
+pub use laws::{prove_acts_once, prove_desk_told, prove_desks_weigh};
 pub use opening::open_board;
 pub use seat::Seat;
-pub use shared::Shared;
+pub use shared::{Admission, Shared};

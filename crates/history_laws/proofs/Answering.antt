@@ -15,6 +15,7 @@ use Rattle.accept_book.specs.RecordShown.{Asked, AskedStep, AskedLook, AskedAdmi
 use Rattle.accept_book.specs.BookAnswers.{BookStepped}
 use Rattle.gss_server.specs.Asking.{BookAnswers}
 use Rattle.history_laws.proofs.Histories.{Fronts, no-front, one-front, same-front, refusal-front, negotiated-front}
+use Rattle.accept_core.specs.declared.entry.Receipt.{Receipt}
 
 -- memory was wanted, or not
 pub memory-cases : (answer : NegAnswer) → (answer ≡ answers.NoMemory) ⊎ (answer ≢ answers.NoMemory)
@@ -35,28 +36,28 @@ after-front None entry h = one-front entry h h (no-front h)
 after-front (Some refusal) entry h = no-front h
 
 -- the context that gives its place to a new one, at the moment of a step
-abbrev pub IsNextFor : BookOf → Option ℕ → Asked → Type 0
+abbrev pub IsNextFor : BookOf → Option ℕ → Asked Receipt → Type 0
 IsNextFor old past (AskedStep id token now draws answer) = IsNext old.core.table (max old.core.cache.greatest now) past
 IsNextFor old past (AskedLook id now answer) = Unit {0}
-IsNextFor old past (AskedAdmit lease seq procedure args answer) = Unit {0}
+IsNextFor old past (AskedAdmit lease seq service procedure args answer) = Unit {0}
 IsNextFor old past (AskedEnd lease seq answer) = Unit {0}
 
-pub answers-front : (old new : BookOf) (past : Option ℕ) (asked : Asked) → IsNextFor old past asked → BookAnswers old asked new → Fronts old.core.history new.core.history
+pub answers-front : (old new : BookOf) (past : Option ℕ) (asked : Asked Receipt) → IsNextFor old past asked → BookAnswers old asked new → Fronts old.core.history new.core.history
 answers-front old new past (AskedStep id token now draws answer) is_past b = stepped-front old new id past token now draws answer is_past b
 answers-front old new past (AskedLook id now answer) is_past b = same-front old.core.history new.core.history b.looked.history
-answers-front old new past (AskedAdmit lease seq procedure args answer) is_past b = subst (Fronts old.core.history) (sym b.history) (after-front _ _ old.core.history)
+answers-front old new past (AskedAdmit lease seq service procedure args answer) is_past b = subst (Fronts old.core.history) (sym b.history) (after-front _ _ old.core.history)
 answers-front old new past (AskedEnd lease seq answer) is_past b = subst (Fronts old.core.history) (sym b.history) (after-front _ _ old.core.history)
 
-pub answers-setup : (old new : BookOf) (asked : Asked) → BookAnswers old asked new → new.setup ≡ old.setup
+pub answers-setup : (old new : BookOf) (asked : Asked Receipt) → BookAnswers old asked new → new.setup ≡ old.setup
 answers-setup old new (AskedStep id token now draws answer) b = b.notes.setup
 answers-setup old new (AskedLook id now answer) b = b.setup
-answers-setup old new (AskedAdmit lease seq procedure args answer) b = b.setup
+answers-setup old new (AskedAdmit lease seq service procedure args answer) b = b.setup
 answers-setup old new (AskedEnd lease seq answer) b = b.setup
 
 -- as many contexts live as the log says, if as many did before
-pub answers-live : (old new : BookOf) (asked : Asked) → live_of old.core.table ≡ living old.core.history → BookAnswers old asked new → live_of new.core.table ≡ living new.core.history
+pub answers-live : (old new : BookOf) (asked : Asked Receipt) → live_of old.core.table ≡ living old.core.history → BookAnswers old asked new → live_of new.core.table ≡ living new.core.history
 answers-live old new (AskedStep id token now draws answer) live b = b.lives
 answers-live old new (AskedLook id now answer) live b =
     ap (λ (t : Places AcceptEnd Outcome). live_of t) b.looked.table ∙ (live ∙ ap living (sym b.looked.history))
-answers-live old new (AskedAdmit lease seq procedure args answer) live b = b.lives
+answers-live old new (AskedAdmit lease seq service procedure args answer) live b = b.lives
 answers-live old new (AskedEnd lease seq answer) live b = b.lives

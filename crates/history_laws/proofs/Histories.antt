@@ -7,7 +7,7 @@ use Rattle.spnego_core.specs.declared.setup.AcceptSetup.{AcceptSetup}
 use Rattle.accept_core.specs.declared.entry.Entry.{Entry}
 use Rattle.accept_core.specs.History.{entry_at}
 use Rattle.accept_book.specs.Booking.{Stands, after_refusal, negotiated}
-use Rattle.history_laws.proofs.LogWalk.{Walk, refusal-walk, negotiated-walk}
+use Rattle.accept_book.proofs.LogWalk.{Walk, refusal-walk, negotiated-walk}
 
 -- the new history is the old one with entries in front
 pub record Fronts (old new : List Entry) : Type 0 where

@@ -30,6 +30,7 @@ use Rattle.history_laws.specs.Before.{Made, Negotiates, Settles, made_in}
 use Rattle.history_laws.specs.Seen.{LookSeen, is_key, number_refused, LeaseSeen}
 use Rattle.history_laws.proofs.Contexts.{MatchesState, Matches}
 use Rattle.history_laws.proofs.Views.{before_in}
+use Rattle.accept_core.specs.declared.entry.Receipt.{Receipt}
 
 -- ---- a look
 
@@ -48,7 +49,7 @@ leased : (made : Option Made) (stands : Standing) (slot : Option (Slot AcceptEnd
 leased made stands slot result lease m value is =
     slot-value made stands slot lease.outcome lease.ends m (subst (λ (r : Result Lease LookRefusal). IfOk r (λ given. HasValue slot given.outcome given.ends)) is value)
 
-pub look-seen : (old new : BookOf) (asked : List Asked) (id now : ℕ) (result : Result Lease LookRefusal)
+pub look-seen : (old new : BookOf) (asked : List (Asked Receipt)) (id now : ℕ) (result : Result Lease LookRefusal)
     → Matches (made_in old.setup id asked) (standing id old.core.history) (context_of (slot_at old.core.table id))
     → BookLooked old new id now result → LookSeen (before_in old asked) id now result
 look-seen old new asked id now result m b = record {
@@ -83,7 +84,7 @@ slot-refused : (made : Option Made) (stands : Standing) (slot : Option (Slot Acc
 slot-refused made stands None key x m gone = either-gone (is_key made key) x (gone (gone-whole stands m))
 slot-refused made stands (Some slot) key x m gone = state-refused made stands slot.state slot.ends key x m gone
 
-pub number-refused : (book : BookOf) (asked : List Asked) (lease : Lease) (seq : ℕ)
+pub number-refused : (book : BookOf) (asked : List (Asked Receipt)) (lease : Lease) (seq : ℕ)
     → Matches (made_in book.setup lease.id asked) (standing lease.id book.core.history) (context_of (slot_at book.core.table lease.id))
     → lease_refused book.core lease seq ≡ number_refused (before_in book asked) lease seq
 number-refused book asked lease seq m =
@@ -129,7 +130,7 @@ settled-over made (Open at) slot outcome until m is known e = absurd (settled-op
 settled-over made (Whole mech names lasts) slot outcome until m is known e = cc
 settled-over made Over slot outcome until m is known e = refl
 
-pub lease-seen : (book : BookOf) (asked : List Asked) (lease : Lease) (seq : ℕ)
+pub lease-seen : (book : BookOf) (asked : List (Asked Receipt)) (lease : Lease) (seq : ℕ)
     → Matches (made_in book.setup lease.id asked) (standing lease.id book.core.history) (context_of (slot_at book.core.table lease.id))
     → made_in book.setup lease.id asked ≡ Some (Settles lease.outcome lease.ends) → standing lease.id book.core.history ≢ Unknown
     → LeaseSeen (before_in book asked) lease seq (number_refused (before_in book asked) lease seq)

@@ -1,4 +1,3 @@
-pub mod LogWalk
 pub mod Histories
 pub mod Counts
 pub mod Answering

@@ -110,12 +110,12 @@ next-by book mades (Some id) r (inr w) = inr (past-by book mades None r w.0, w.1
 -- ---- what is seen of an outcome
 
 -- what stands before a token: its book, the questions so far, and the contexts as they are seen, which are as many as the log says
-pub record Stood (book : BookOf) (asked : List Asked) (now : ℕ) (past : Option ℕ) : Type 0 where
+pub record Stood (book : BookOf) (asked : List (Asked Receipt)) (now : ℕ) (past : Option ℕ) : Type 0 where
   pub ready : Ready (raised book.core now) (λ id. made_in book.setup id asked)
   pub is_past : IsNext book.core.table (max book.core.cache.greatest now) past
   pub lives : live_of book.core.table ≡ living book.core.history
 
-abbrev pub SeenOf : BookOf → List Asked → Option ℕ → List ℕ → ℕ → List ℕ → Outcomes → Type 0
+abbrev pub SeenOf : BookOf → List (Asked Receipt) → Option ℕ → List ℕ → ℕ → List ℕ → Outcomes → Type 0
 SeenOf book asked id token now draws o = StepSeen (before_in book asked) id token now draws o.answer (gained (length book.core.history) o.history)
 
 -- one of two, by a test
@@ -140,7 +140,7 @@ taken-seen before id token now draws (answers.Refused refusal) receipts e t = ab
 taken-seen before id token now draws answers.NoMemory receipts e t = absurd (off e)
 
 -- a mark that is refused
-refused-seen : (book : BookOf) (asked : List Asked) (id : Option ℕ) (token : List ℕ) (now : ℕ) (draws : List ℕ) (receipts : List Receipt) (accepted : Accepted) (refusal : MarkRefusal)
+refused-seen : (book : BookOf) (asked : List (Asked Receipt)) (id : Option ℕ) (token : List ℕ) (now : ℕ) (draws : List ℕ) (receipts : List Receipt) (accepted : Accepted) (refusal : MarkRefusal)
     → (step : StepsTo (before_in book asked) id token now draws (Ok accepted))
     → RefusedMark book.core.cache.capacity (max book.core.cache.greatest now) (taken_of book.core.history) (mark_of accepted.step) refusal
     → ((asks : Mark) → mark_of accepted.step ≡ Some asks → (r : MarkRefused (before_in book asked) id token now draws receipts) × (r.mark ≡ asks))
@@ -162,7 +162,7 @@ abbrev goes_lives : BookOf → Option ℕ → Next AcceptEnd Outcome → Option 
 goes_lives book id step next live =
     gone_of (is_crowded (settles step) book.core.history book.core.table.limit) (is_none id && nat_le book.core.table.limit live) (slice_get (in_use book.core.history) 0) next
 
-seen-mark : (book : BookOf) (asked : List Asked) (id past : Option ℕ) (token : List ℕ) (now : ℕ) (draws : List ℕ) (accepted : Accepted) (refusal : Option MarkRefusal) → Stood book asked now past
+seen-mark : (book : BookOf) (asked : List (Asked Receipt)) (id past : Option ℕ) (token : List ℕ) (now : ℕ) (draws : List ℕ) (accepted : Accepted) (refusal : Option MarkRefusal) → Stood book asked now past
     → StepsTo (before_in book asked) id token now draws (Ok accepted)
     → mark_refused book.core.cache.capacity (max book.core.cache.greatest now) (taken_of book.core.history) (mark_of accepted.step) ≡ refusal
     → SeenOf book asked id token now draws (by_mark (raised book.core now) id past (mark_of accepted.step) (settled_of accepted.step) refusal)
@@ -183,7 +183,7 @@ seen-mark book asked id past token now draws accepted None stood step e =
       gains = ap (λ (n : ℕ). gained (length book.core.history) (entered id (goes_lives book id (next_of (settled_of accepted.step)) past n) (mark_of accepted.step) (next_of (settled_of accepted.step)) (max book.core.cache.greatest now) book.core.history)) stood.lives;
     })
 
-seen-step : (book : BookOf) (asked : List Asked) (id past : Option ℕ) (token : List ℕ) (now : ℕ) (draws : List ℕ) (answer : Result Accepted NegRefusal) → Stood book asked now past
+seen-step : (book : BookOf) (asked : List (Asked Receipt)) (id past : Option ℕ) (token : List ℕ) (now : ℕ) (draws : List ℕ) (answer : Result Accepted NegRefusal) → Stood book asked now past
     → StepsTo (before_in book asked) id token now draws answer → SeenOf book asked id token now draws (by_step (raised book.core now) id past answer)
 seen-step book asked id past token now draws (Err refusal) stood step = record { step = step; ends = refl }
 seen-step book asked id past token now draws (Ok accepted) stood step =
@@ -191,12 +191,12 @@ seen-step book asked id past token now draws (Ok accepted) stood step =
 
 -- ---- a first token
 
-full-next : (book : BookOf) (asked : List Asked) (now : ℕ) (past : Option ℕ) → is_none past ≡ true → Stood book asked now past → NextBy book.core.table.limit book.core.history (max book.core.cache.greatest now) None
+full-next : (book : BookOf) (asked : List (Asked Receipt)) (now : ℕ) (past : Option ℕ) → is_none past ≡ true → Stood book asked now past → NextBy book.core.table.limit book.core.history (max book.core.cache.greatest now) None
 full-next book asked now None e stood = next-by (raised book.core now) (λ k. made_in book.setup k asked) None stood.ready stood.is_past
 full-next book asked now (Some id) e stood = absurd (off e)
 
 -- as many contexts live by the log as may, or fewer
-full-lives : (book : BookOf) (asked : List Asked) (now : ℕ) (past : Option ℕ) → nat_le book.core.table.limit (live_of book.core.table) ≡ true → Stood book asked now past → book.core.table.limit ≤ living book.core.history
+full-lives : (book : BookOf) (asked : List (Asked Receipt)) (now : ℕ) (past : Option ℕ) → nat_le book.core.table.limit (live_of book.core.table) ≡ true → Stood book asked now past → book.core.table.limit ≤ living book.core.history
 full-lives book asked now past e stood = subst (λ (n : ℕ). book.core.table.limit ≤ n) stood.lives (leb-true book.core.table.limit (live_of book.core.table) e)
 
 left-false : (a b : Bool) → b ≡ true → (a && b) ≡ false → a ≡ false
@@ -212,7 +212,7 @@ never-next : (contexts : ℕ) (log : List Entry) (now id : ℕ) → NextBy conte
 never-next contexts log now id none (inl over) = not-over (ends_by (standing id log)) now (none.0 id) over.0
 never-next contexts log now id none (inr still) = none.1 still.1 id (still.2).0
 
-place-lives : (book : BookOf) (asked : List Asked) (now : ℕ) (past : Option ℕ) → (nat_le book.core.table.limit (live_of book.core.table) && is_none past) ≡ false → Stood book asked now past
+place-lives : (book : BookOf) (asked : List (Asked Receipt)) (now : ℕ) (past : Option ℕ) → (nat_le book.core.table.limit (live_of book.core.table) && is_none past) ≡ false → Stood book asked now past
     → NextBy book.core.table.limit book.core.history (max book.core.cache.greatest now) None → living book.core.history < book.core.table.limit
 place-lives book asked now None e stood none =
     subst (λ (n : ℕ). n < book.core.table.limit) stood.lives
@@ -221,7 +221,7 @@ place-lives book asked now (Some id) e stood none =
     absurd (never-next book.core.table.limit book.core.history (max book.core.cache.greatest now) id none
     (next-by (raised book.core now) (λ k. made_in book.setup k asked) (Some id) stood.ready stood.is_past))
 
-seen-begun : (book : BookOf) (asked : List Asked) (past : Option ℕ) (token : List ℕ) (now : ℕ) (draws : List ℕ) → Stood book asked now past
+seen-begun : (book : BookOf) (asked : List (Asked Receipt)) (past : Option ℕ) (token : List ℕ) (now : ℕ) (draws : List ℕ) → Stood book asked now past
     → SeenOf book asked None token now draws (begun book.setup (raised book.core now) past token now draws)
 seen-begun book asked past token now draws stood =
     either (SeenOf book asked None token now draws) (nat_lt book.core.limit (length book.core.history + 4)) _ _
@@ -237,7 +237,7 @@ seen-begun book asked past token now draws stood =
 
 -- ---- a later token
 
-seen-opened : (book : BookOf) (asked : List Asked) (id : ℕ) (past : Option ℕ) (token : List ℕ) (now : ℕ) (draws : List ℕ) (at : ℕ) → standing id book.core.history ≡ Open at → Stood book asked now past
+seen-opened : (book : BookOf) (asked : List (Asked Receipt)) (id : ℕ) (past : Option ℕ) (token : List ℕ) (now : ℕ) (draws : List ℕ) (at : ℕ) → standing id book.core.history ≡ Open at → Stood book asked now past
     → SeenOf book asked (Some id) token now draws (opened_by book.setup (raised book.core now) id past token now draws)
 seen-opened book asked id past token now draws at is stood =
     let negotiates : IsOpen (standing id book.core.history) = subst IsOpen (sym is) tt in
@@ -253,14 +253,14 @@ seen-opened book asked id past token now draws at is stood =
       is = later-is book.setup (state_of (slot_at book.core.table id)) o.end token now draws o.state;
     }))
 
-seen-gone : (stands : Standing) (book : BookOf) (asked : List Asked) (id : ℕ) (past : Option ℕ) (token : List ℕ) (now : ℕ) (draws : List ℕ) → standing id book.core.history ≡ stands → Stood book asked now past
+seen-gone : (stands : Standing) (book : BookOf) (asked : List (Asked Receipt)) (id : ℕ) (past : Option ℕ) (token : List ℕ) (now : ℕ) (draws : List ℕ) → standing id book.core.history ≡ stands → Stood book asked now past
     → SeenOf book asked (Some id) token now draws (gone_on_by stands book.setup (raised book.core now) id past token now draws)
 seen-gone Unknown book asked id past token now draws is stood = (subst IsGone (sym is) tt, nothing-gained book.core.history)
 seen-gone (Open at) book asked id past token now draws is stood = seen-opened book asked id past token now draws at is stood
 seen-gone (Whole mech names until) book asked id past token now draws is stood = (ap is_whole is, nothing-gained book.core.history)
 seen-gone Over book asked id past token now draws is stood = (subst IsGone (sym is) tt, nothing-gained book.core.history)
 
-pub seen-negotiated : (book : BookOf) (asked : List Asked) (id past : Option ℕ) (token : List ℕ) (now : ℕ) (draws : List ℕ) → Stood book asked now past
+pub seen-negotiated : (book : BookOf) (asked : List (Asked Receipt)) (id past : Option ℕ) (token : List ℕ) (now : ℕ) (draws : List ℕ) → Stood book asked now past
     → SeenOf book asked id token now draws (negotiated book.setup (raised book.core now) id past token now draws)
 seen-negotiated book asked None past token now draws stood = seen-begun book asked past token now draws stood
 seen-negotiated book asked (Some id) past token now draws stood = seen-gone (standing id book.core.history) book asked id past token now draws refl stood

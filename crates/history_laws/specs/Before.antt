@@ -24,15 +24,17 @@ use Rattle.accept_book.specs.declared.book_answer.Lease.{Lease}
 use Rattle.accept_book.specs.declared.book_answer.NegAnswer.{NegAnswer}
 use Rattle.accept_book.specs.declared.book_answer.NegAnswer.TheVariants as answers
 use Rattle.history_laws.specs.Receipts.{logged}
+use Rattle.accept_core.specs.declared.entry.Receipt.{Receipt}
 
 -- ---- moments
 
 -- the greatest moment that was seen: of the opening, and of the questions that have one
-unfoldable pub greatest_of : ℕ → List Asked → ℕ
+unfoldable pub greatest_of : ℕ → List (Asked Receipt) → ℕ
 greatest_of start [] = start
 greatest_of start (AskedStep id token now draws answer ∷ more) = greatest_of (max start now) more
 greatest_of start (AskedLook id now answer ∷ more) = greatest_of (max start now) more
-greatest_of start (AskedAdmit lease seq procedure args answer ∷ more) = greatest_of start more
+greatest_of start (AskedAdmit lease seq service procedure args answer ∷ more) =
+    greatest_of start more
 greatest_of start (AskedEnd lease seq answer ∷ more) = greatest_of start more
 
 -- ---- the steps of a context
@@ -51,14 +53,14 @@ is_for id (answers.Refused refusal) = false
 is_for id answers.NoMemory = false
 
 -- the steps of an id, in order: the tokens whose answers go on with it or settle it
-unfoldable pub steps_of : ℕ → List Asked → List Step
+unfoldable pub steps_of : ℕ → List (Asked Receipt) → List Step
 steps_of id [] = []
 steps_of id (AskedStep asked token now draws answer ∷ more) =
     if is_for id answer.answer
     then record { token = token; now = now; draws = draws } ∷ steps_of id more
     else steps_of id more
 steps_of id (AskedLook other now answer ∷ more) = steps_of id more
-steps_of id (AskedAdmit lease seq procedure args answer ∷ more) = steps_of id more
+steps_of id (AskedAdmit lease seq service procedure args answer ∷ more) = steps_of id more
 steps_of id (AskedEnd lease seq answer ∷ more) = steps_of id more
 
 -- what the acceptor's machine has made of a context: it negotiates, by this end; or it is settled,
@@ -91,7 +93,7 @@ then_steps setup made (step ∷ more) = then_steps setup (then_step setup made s
 
 -- what the machine makes of a context of this id by its steps, beginning with a new end; of no
 -- steps it is that end
-abbrev pub made_in : AcceptSetup → ℕ → List Asked → Option Made
+abbrev pub made_in : AcceptSetup → ℕ → List (Asked Receipt) → Option Made
 made_in setup id asked = then_steps setup (Some (Negotiates ends.New)) (steps_of id asked)
 
 -- ---- before a question
@@ -103,11 +105,11 @@ pub record Before : Type 0 where
   pub limits : Limits
   pub greatest : ℕ
   pub log : List Entry
-  pub asked : List Asked
+  pub asked : List (Asked Receipt)
 
 -- what stands after these questions of a book that was opened at a moment, without entries: the log
 -- is what the receipts of the answers tell
-abbrev pub before_of : AcceptSetup → Limits → ℕ → List Asked → Before
+abbrev pub before_of : AcceptSetup → Limits → ℕ → List (Asked Receipt) → Before
 before_of setup limits start asked = record {
   setup = setup;
   limits = limits;
@@ -175,13 +177,13 @@ goes_before before id step next =
 -- ---- leases
 
 -- a look gave this lease
-abbrev pub Gives : Lease → Asked → Type 0
+abbrev pub Gives : {A : Type 0} → Lease → Asked A → Type 0
 Gives lease (AskedStep id token now draws answer) = ⊥
 Gives lease (AskedLook id now answer) = answer ≡ Ok lease
-Gives lease (AskedAdmit other seq procedure args answer) = ⊥
+Gives lease (AskedAdmit other seq service procedure args answer) = ⊥
 Gives lease (AskedEnd other seq answer) = ⊥
 
 -- a look of these questions gave it
-abbrev pub IsGiven : Lease → List Asked → Type 0
+abbrev pub IsGiven : {A : Type 0} → Lease → List (Asked A) → Type 0
 IsGiven lease [] = ⊥
 IsGiven lease (one ∷ more) = Gives lease one ⊎ IsGiven lease more

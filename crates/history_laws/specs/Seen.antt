@@ -1,6 +1,7 @@
 -- Each answer of a book is what the log before it says, together with the questions before it.
 use Rattle.std.specs.Prelude.{◌≡◌, ℕ, ◌+◌, ◌<◌, ◌≤◌, Bool, true, false, if◌then◌else◌, List, []}
 use Rattle.std.specs.Prelude.{◌∷◌, ◌++◌, length, Option, None, Some, IfSome, Result, Ok, Err}
+use Rattle.sha1.specs.Sha1.{sha1}
 use Rattle.gss_base.specs.declared.mark.Mark.{Mark}
 use Rattle.krb_derive.specs.declared.key.Key.{Key}
 use Rattle.replay_cache.specs.Taking.{kept_of, place_of, skew}
@@ -11,13 +12,12 @@ use Rattle.spnego_core.specs.Accepting.{Accepted, accept_step}
 use Rattle.accept_core.specs.declared.answer.AdmitRefusal.{AdmitRefusal}
 use Rattle.accept_core.specs.declared.answer.AdmitRefusal.TheVariants as admits
 use Rattle.accept_core.specs.declared.answer.LookRefusal.{LookRefusal}
-use Rattle.accept_core.specs.declared.entry.Admitted.{Admitted}
 use Rattle.accept_core.specs.declared.entry.EndCause.TheVariants.{Destroyed}
 use Rattle.accept_core.specs.declared.entry.Entry.{Entry}
 use Rattle.accept_core.specs.declared.entry.Entry.TheVariants.{Auth, Call, Ended}
 use Rattle.accept_core.specs.declared.entry.Limits.{Limits}
 use Rattle.accept_core.specs.declared.entry.Receipt.{Receipt}
-use Rattle.accept_core.specs.Answers.{refused, or_refused, admitted, receipt_of}
+use Rattle.accept_core.specs.Answers.{refused, or_refused, receipt_of}
 use Rattle.accept_core.specs.Entering.{given, gained, id_of, entered, mark_refused}
 use Rattle.accept_core.specs.History.{standing, living, entry_at, taken_of, is_whole, IsGone}
 use Rattle.accept_core.specs.History.{IsOpen, Over}
@@ -74,12 +74,11 @@ pub record LeaseSeen (before : Before) (lease : Lease) (seq : ℕ)
   pub ended : standing lease.id before.log ≡ Over → refusal ≡ Some admits.Gone
 
 -- an admission: the first refusal there is, else the receipt of the call, with the lease's id, the
--- number, the procedure and the arguments' digest, at the log's length, and the calls of POST up to
--- and with it
+-- number, the procedure and the arguments' digest, at the log's length
 pub record AdmitSeen (before : Before) (lease : Lease) (seq procedure : ℕ) (args : List ℕ)
-    (answer : Result Admitted AdmitRefusal) : Type 0 where
+    (answer : Result Receipt AdmitRefusal) : Type 0 where
   pub exactly : answer ≡ or_refused (number_refused before lease seq)
-      (admitted before.log (Call lease.id seq procedure args))
+      (receipt_of before.log (Call lease.id seq procedure (sha1 args)))
   pub leased : IsGiven lease before.asked
       → LeaseSeen before lease seq (number_refused before lease seq)
 
@@ -206,17 +205,18 @@ StepSeen before id token now draws answers.NoMemory receipts =
 -- ---- any question
 
 -- the answer to a question is what stands before it
-abbrev pub Seen : Before → Asked → Type 0
+abbrev pub Seen : Before → Asked Receipt → Type 0
 Seen before (AskedStep id token now draws answer) =
     StepSeen before id token now draws answer.answer (given answer.receipts)
 Seen before (AskedLook id now answer) = LookSeen before id now answer
-Seen before (AskedAdmit lease seq procedure args answer) =
+Seen before (AskedAdmit lease seq service procedure args answer) =
     AdmitSeen before lease seq procedure args answer
 Seen before (AskedEnd lease seq answer) = EndSeen before lease seq answer
 
 -- so it is of each question of these, over those before it, from an opening at this moment
-abbrev pub AllSeen : AcceptSetup → Limits → ℕ → List Asked → Type 0
-AllSeen setup limits start all = (earlier : List Asked) (one : Asked) (later : List Asked)
+abbrev pub AllSeen : AcceptSetup → Limits → ℕ → List (Asked Receipt) → Type 0
+AllSeen setup limits start all =
+    (earlier : List (Asked Receipt)) (one : Asked Receipt) (later : List (Asked Receipt))
     → all ≡ earlier ++ one ∷ later → Seen (before_of setup limits start earlier) one
 
 -- ---- the law
@@ -228,6 +228,6 @@ pub record IsEmpty (book : BookOf) : Type 0 where
 
 -- all that a book answered since it was opened is seen, if the log that it comes to is legal
 abbrev pub SeenLaw : Type 0
-SeenLaw = (first last : BookOf) (all : List Asked) → IsEmpty first
+SeenLaw = (first last : BookOf) (all : List (Asked Receipt)) → IsEmpty first
     → Asking BookAnswers first all last → Legal last.core.width last.core.history
     → AllSeen first.setup (limits_of first.core) first.core.cache.greatest all

@@ -154,7 +154,7 @@ pub record HasLimits (options : Options) (log : LogOf) : Type 0 where
 
 -- what a run's line says: how many connections and records its desks had, how many entries its log
 -- has, and the log's digest where it was kept
-abbrev pub counts_of : {P C D K M : Type 0} → List (Desk P C D K M) → LogOf → Counts
+abbrev pub counts_of : {P C D K M W : Type 0} → List (Desk P C D K M W) → LogOf → Counts
 counts_of desks log = record {
   connections = all_connections desks;
   records =

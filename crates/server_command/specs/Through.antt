@@ -1,10 +1,15 @@
--- The book that a run of the server opens, and the history of what its desks ask.
+-- The book that a run of the server opens, the program beside it, and the history of what its desks
+-- ask.
 use Rattle.std.specs.Prelude.{◌≡◌, ℕ, List, [], length, Option, None, Some, is_some}
 use Rattle.sec_base.specs.declared.port.Port as ports
 use Rattle.sec_base.specs.declared.link.Link as links
 use Rattle.sec_base.specs.declared.clock.Clock as clocks
 use Rattle.sec_base.specs.declared.draw.Draw as draws
 use Rattle.accept_book.specs.Booking.{BookOf}
+use Rattle.book_seats.specs.Both.{BothOf}
+use Rattle.gss_server.specs.Hearing.{serving}
+use Rattle.rpc_program.specs.declared.program.Program as programs
+use Rattle.rpc_program.specs.declared.program.Speller as spellers
 use Rattle.accept_core.specs.Logs.{LogOf, greatest_log}
 use Rattle.accept_core.specs.declared.entry.Keeping.{Keeping}
 use Rattle.gss_server.specs.declared.answer.Kept.{Kept}
@@ -44,14 +49,23 @@ pub record IsOpened (options : Options) (keys : Keys) (start : ℕ) (book : Book
   pub marks : book.core.cache.capacity ≡ options.marks
   pub greatest : book.core.cache.greatest ≡ start
 
--- one book, which is opened for these options and keys, answered all questions of all desks, from
--- its opening to the log that is returned. Where the options name a journal, desks are told its
--- refusals; the count of faults of its disk went from one number to another
-abbrev pub OneHistory : {P C D K M L Q R : Type 0} → Options → Keys → ℕ → ℕ → ℕ → ports.Ghosts P L
-    → links.Ghosts L → clocks.Ghosts C → draws.Ghosts D → keepers.Ghosts K Kept Q
-    → keepers.Ghosts M (Served L) R → List (Desk P C D K M) → RunEnd → List (Desk P C D K M)
-    → LogOf → Type 0
-OneHistory options keys start faults faults' port link clock draw keeper kept olds end news log =
-    SideBySide (IsOpened options keys start) (is_some options.files.journal) faults faults'
-    options.window
-    (run_limit options.connections (length olds)) port link clock draw keeper kept olds end news log
+-- a book as it is opened, beside the program that was handed in
+pub record Begin {V : Type 0} (options : Options) (keys : Keys) (start : ℕ) (program : V)
+    (both : BothOf V) : Type 0 where
+  pub opened : IsOpened options keys start both.book
+  pub handed : both.program ≡ program
+
+-- one book, which is opened for these options and keys, with the program that was handed in,
+-- answered all questions of all desks, from its opening to the log and the program that are
+-- returned. Where the options name a journal, desks are told its refusals; the count of faults of
+-- its disk went from one number to another
+abbrev pub OneHistory : {V P C D K M T W L Q R : Type 0} → programs.Ghosts V T
+    → spellers.Ghosts W T → Options → Keys → ℕ → ℕ → ℕ → ports.Ghosts P L → links.Ghosts L
+    → clocks.Ghosts C → draws.Ghosts D → keepers.Ghosts K Kept Q → keepers.Ghosts M (Served L) R
+    → List (Desk P C D K M W) → V → RunEnd → List (Desk P C D K M W) → V → LogOf → Type 0
+OneHistory served spelling options keys start faults faults' port link clock draw keeper kept olds
+    old end news new log =
+    SideBySide served spelling (Begin options keys start old) (is_some options.files.journal)
+    faults faults' (serving spelling.says options.window)
+    (run_limit options.connections (length olds)) port link clock draw keeper kept olds end news new
+    log

@@ -5,6 +5,8 @@ use Rattle.sec_base.specs.declared.port.Port as ports
 use Rattle.sec_base.specs.declared.link.Link as links
 use Rattle.sec_base.specs.declared.clock.Clock as clocks
 use Rattle.sec_base.specs.declared.draw.Draw as draws
+use Rattle.rpc_program.specs.declared.program.Program as programs
+use Rattle.rpc_program.specs.declared.program.Speller as spellers
 use Rattle.accept_core.specs.Entering.{gained}
 use Rattle.accept_core.specs.Legal.{Legal}
 use Rattle.accept_core.specs.Logs.{LogOf}
@@ -22,19 +24,21 @@ use Rattle.server_options.specs.declared.ending.RunEnd.{RunEnd}
 use Rattle.server_options.specs.declared.keys.Keys.{Keys}
 use Rattle.server_options.specs.declared.options.Options.{Options}
 
--- there is one history of all that the desks asked; the log is legal; the receipts of all answers,
--- in the history's order, are the log's entries, each with its place; and each answer is what the
--- log before it says, for the setup, the limits and the start of the book that was opened. A number
--- is taken of no lease but one that a look gave before
-pub record ToldByLog {P C D K M L Q R : Type 0} (options : Options) (keys : Keys)
-    (start faults faults' : ℕ) (port : ports.Ghosts P L) (link : links.Ghosts L)
-    (clock : clocks.Ghosts C) (draw : draws.Ghosts D) (keeper : keepers.Ghosts K Kept Q)
-    (kept : keepers.Ghosts M (Served L) R) (olds : List (Desk P C D K M)) (end : RunEnd)
-    (news : List (Desk P C D K M)) (log : LogOf) : Type 0 where
-  pub history : OneHistory options keys start faults faults' port link clock draw keeper kept olds
-      end news log
+-- there is one history of all that the desks asked, in which the program entered each call whose
+-- number was taken once, in the log's order (`once` of the history); the log is legal; the receipts
+-- of all answers, in the history's order, are the log's entries, each with its place; and each
+-- answer is what the log before it says, for the setup, the limits and the start of the book that
+-- was opened. A number is taken of no lease but one that a look gave before
+pub record ToldByLog {V P C D K M T W L Q R : Type 0} (served : programs.Ghosts V T)
+    (spelling : spellers.Ghosts W T) (options : Options) (keys : Keys) (start faults faults' : ℕ)
+    (port : ports.Ghosts P L) (link : links.Ghosts L) (clock : clocks.Ghosts C)
+    (draw : draws.Ghosts D) (keeper : keepers.Ghosts K Kept Q)
+    (kept : keepers.Ghosts M (Served L) R) (olds : List (Desk P C D K M W)) (old : V)
+    (end : RunEnd) (news : List (Desk P C D K M W)) (new : V) (log : LogOf) : Type 0 where
+  pub history : OneHistory served spelling options keys start faults faults' port link clock draw
+      keeper kept olds old end news new log
   pub legal : Legal log.width (reverse log.entries)
   pub in_place : flat_map receipts_in (questions_of history.all) ≡ gained 0 (reverse log.entries)
-  pub seen : AllSeen history.first.setup (limits_of history.first.core) start
+  pub seen : AllSeen history.first.book.setup (limits_of history.first.book.core) start
       (questions_of history.all)
   pub lent : AllLent (questions_of history.all)

@@ -27,6 +27,7 @@ use gss_base::{Label, Principal};
 use gss_server::{Keeper, Kept, Served};
 use journal_gate::disk_of;
 use replay_journal::{Disk, Journal, JournalRefusal, Unopened};
+use rpc_program::{Program, Speller};
 use sec_base::{Clock, Draw, Moment, NoMemory, Port, Shelf, Sink, Text};
 use server_desks::{Course, Desk, count_connections, count_records, run_limit, starved};
 use server_options::{
@@ -41,7 +42,7 @@ use std::thread::Threads;
 
 /// How the run ended.
 #[derive(Drop)]
-pub struct ServerEnd {
+pub struct ServerEnd<V> {
     /// The exit status: 0 all connections were served, 2 the words aren't in the command, 3 keytab, verifiers or journal can't be loaded, 4
     /// one of them isn't of its format, the keytab has no key for the own name, or the journal has more recent authenticators than are held, 5 a
     /// port failed, 6 a sink failed, 8 there was no memory.
@@ -50,6 +51,8 @@ pub struct ServerEnd {
     pub end: RunEnd,
     /// The log of the book, which is empty and has no limits where no book was opened.
     pub log: Log,
+    /// The program, as it was handed in where no book was opened.
+    pub program: V,
 }
 
 /// What is counted where nothing was served.
@@ -239,6 +242,9 @@ fn open_and_serve<
     D: Draw + Drop + Send,
     K: Keeper<Kept> + Drop + Send,
     S: Keeper<Served<P::Link>> + Drop + Send,
+    V: Program<Ticket = T> + Drop + Send,
+    T: Send + Sync,
+    W: Speller<T> + Drop + Send,
     M: Disk + Drop + Send,
 >(
     rt: &R,
@@ -247,51 +253,65 @@ fn open_and_serve<
     keys: Keys,
     journal: Option<Journal<M>>,
     disk: &mut Option<M>,
-    desks: &mut Vec<Desk<P, C, D, K, S>>,
+    desks: &mut Vec<Desk<P, C, D, K, S, W>>,
+    program: V,
     start: Moment,
-) -> Course
+) -> (Course, V)
 where
     P::Link: Drop + Send,
     requires fresh { AllByRecursion IsFresh desks.old.items }
+    requires says { W.says ≡ V.says }
     requires ranged { IsRanged options }
     requires journaled { is_some journal ≡ is_some options.files.journal }
     requires unclosed { is_shut journal → ⊥ }
     ensures back { is_some options.files.journal ≡ true → is_some disk.new ≡ true }
     ensures untouched { is_some options.files.journal ≡ false → disk.new ≡ disk.old }
     ensures count { vec_len desks.new ≡ vec_len desks.old }
-    ensures named { NamesADesk result.end (vec_len desks.old) }
-    ensures begun { result.end ≢ RunEnd.NoMemory → is_begun result.end ≡ true }
+    ensures named { NamesADesk result.0.end (vec_len desks.old) }
+    ensures begun { result.0.end ≢ RunEnd.NoMemory → is_begun result.0.end ≡ true }
     ensures small { AllByRecursion IsSmall desks.new.items }
-    ensures legal { Legal result.log.width (reverse result.log.entries) }
-    ensures limits { is_begun result.end ≡ true → HasLimits options result.log }
+    ensures legal { Legal result.0.log.width (reverse result.0.log.entries) }
+    ensures limits { is_begun result.0.end ≡ true → HasLimits options result.0.log }
     ensures booked { (before : ℕ)
         → (is_some journal ≡ true → before ≤ journal_faults M.faults journal)
-        → ((result.end ≡ RunEnd.NoMemory) × NoBook desks.old.items desks.new.items result.log)
-        ⊎ OneHistory options keys start before (disk_faults M.faults disk.new) P.Port P.Link.Link
-        C.Clock D.Draw K.Keeper S.Keeper desks.old.items result.end desks.new.items result.log }
+        → ((result.0.end ≡ RunEnd.NoMemory) × NoBook desks.old.items desks.new.items result.0.log
+        × (result.1 ≡ program))
+        ⊎ OneHistory V.Program W.Speller options keys start before (disk_faults M.faults disk.new)
+        P.Port P.Link.Link C.Clock D.Draw K.Keeper S.Keeper desks.old.items program result.0.end
+        desks.new.items result.1 result.0.log }
 {
     let connections = run_limit(options.connections, desks.len());
     let width = options.window;
     match open_book(alloc, options, keys, start) {
         Ok(book) => {
-            let (course, back) = run_book(rt, alloc, book, journal, desks, connections, width);
+            let (course, program, back) = run_book(
+                rt,
+                alloc,
+                book,
+                program,
+                journal,
+                desks,
+                connections,
+                width,
+            );
             put_back(disk, back);
-            course
+            (course, program)
         }
         Err(_) => {
             put_back(disk, disk_of(journal));
-            starved()
+            (starved(), program)
         }
     }
 }
 
 /// Says how a run ended that had its keys.
-fn finish<P, C, D, K, S, O: Sink>(
+fn finish<P, C, D, K, S, W, V, O: Sink>(
     alloc: Global,
-    desks: &[Desk<P, C, D, K, S>],
+    desks: &[Desk<P, C, D, K, S, W>],
     course: Course,
+    program: V,
     err: &mut O,
-) -> ServerEnd
+) -> ServerEnd<V>
     requires small { AllByRecursion IsSmall desks.now }
     requires begun { course.end ≢ RunEnd.NoMemory → is_begun course.end ≡ true }
     ensures status { result.status ≢ 6 → result.status ≢ 8 → result.status ≡ status_of result.end }
@@ -301,6 +321,7 @@ fn finish<P, C, D, K, S, O: Sink>(
         (line_of names (counts_of desks.now result.log) result.end) }
     ensures end { result.end ≡ course.end }
     ensures log { result.log ≡ course.log }
+    ensures program { result.program ≡ program }
 {
     let counts = Counts {
         connections: count_connections(desks),
@@ -313,17 +334,19 @@ fn finish<P, C, D, K, S, O: Sink>(
         status,
         end: course.end,
         log: course.log,
+        program,
     }
 }
 
 /// Says why a run has no keys.
-fn unready<O: Sink>(
+fn unready<V, O: Sink>(
     alloc: Global,
     files: &Files,
     own: &Principal,
     end: RunEnd,
+    program: V,
     err: &mut O,
-) -> ServerEnd
+) -> ServerEnd<V>
     requires { is_begun end ≡ false }
     ensures status { result.status ≢ 6 → result.status ≢ 8 → result.status ≡ status_of result.end }
     ensures sink_fault { result.status ≡ 6 → Rose (O.faults err.old) (O.faults err.new) }
@@ -332,6 +355,7 @@ fn unready<O: Sink>(
         (line_of (names_in files.now (text_form own.now.realm own.now.parts)) counts end) }
     ensures end { result.end ≡ end }
     ensures log { result.log ≡ no_log }
+    ensures program { result.program ≡ program }
 {
     let label = own.label();
     let names = names_in(files, &label);
@@ -340,11 +364,12 @@ fn unready<O: Sink>(
         status,
         end,
         log: Log::empty(),
+        program,
     }
 }
 
 /// Says that the words aren't in the command, or that there was no memory to read them.
-fn refused<O: Sink>(alloc: Global, end: RunEnd, err: &mut O) -> ServerEnd
+fn refused<V, O: Sink>(alloc: Global, end: RunEnd, program: V, err: &mut O) -> ServerEnd<V>
     requires { (end ≢ RunEnd.Usage) → (end ≡ RunEnd.NoMemory) }
     ensures status { result.status ≢ 6 → result.status ≢ 8 → result.status ≡ status_of result.end }
     ensures sink_fault { result.status ≡ 6 → Rose (O.faults err.old) (O.faults err.new) }
@@ -353,12 +378,14 @@ fn refused<O: Sink>(alloc: Global, end: RunEnd, err: &mut O) -> ServerEnd
         result.status (line_of names counts end) }
     ensures end { result.end ≡ end }
     ensures log { result.log ≡ no_log }
+    ensures program { result.program ≡ program }
 {
     let status = say_end(alloc, err, &UNNAMED, &NOTHING, end);
     ServerEnd {
         status,
         end,
         log: Log::empty(),
+        program,
     }
 }
 
@@ -371,6 +398,9 @@ fn run_with<
     D: Draw + Drop + Send,
     K: Keeper<Kept> + Drop + Send,
     S: Keeper<Served<P::Link>> + Drop + Send,
+    V: Program<Ticket = T> + Drop + Send,
+    T: Send + Sync,
+    W: Speller<T> + Drop + Send,
     M: Disk + Drop + Send,
     O: Sink,
 >(
@@ -379,13 +409,15 @@ fn run_with<
     options: Options,
     shelf: &mut F,
     disk: &mut Option<M>,
-    desks: &mut Vec<Desk<P, C, D, K, S>>,
+    desks: &mut Vec<Desk<P, C, D, K, S, W>>,
+    program: V,
     start: Moment,
     err: &mut O,
-) -> ServerEnd
+) -> ServerEnd<V>
 where
     P::Link: Drop + Send,
     requires fresh { AllByRecursion IsFresh desks.old.items }
+    requires says { W.says ≡ V.says }
     requires ranged { IsRanged options }
     requires filled { is_some options.files.journal ≡ true → is_some disk.old ≡ true }
     ensures back { is_some disk.new ≡ is_some disk.old }
@@ -406,27 +438,29 @@ where
         → desks.new.items ≡ desks.old.items }
     ensures named_files { AsksAtMost F.Shelf shelf.old shelf.new (files_of (Ok options)) }
     ensures booked { ((is_begun result.end ≡ false)
-        × NoBook desks.old.items desks.new.items result.log)
+        × NoBook desks.old.items desks.new.items result.log × (result.program ≡ program))
         ⊎ ((keys : Keys) × KeysFrom F.Shelf shelf.old shelf.new options.files options.name (Ok keys)
-        × OneHistory options keys start (disk_faults M.faults disk.old)
+        × OneHistory V.Program W.Speller options keys start (disk_faults M.faults disk.old)
         (disk_faults M.faults disk.new) P.Port P.Link.Link C.Clock D.Draw K.Keeper S.Keeper
-        desks.old.items result.end desks.new.items result.log) }
+        desks.old.items program result.end desks.new.items result.program result.log) }
     ensures seen { ((is_begun result.end ≡ false)
-        × NoBook desks.old.items desks.new.items result.log)
+        × NoBook desks.old.items desks.new.items result.log × (result.program ≡ program))
         ⊎ ((keys : Keys) × KeysFrom F.Shelf shelf.old shelf.new options.files options.name (Ok keys)
-        × ToldByLog options keys start (disk_faults M.faults disk.old)
+        × ToldByLog V.Program W.Speller options keys start (disk_faults M.faults disk.old)
         (disk_faults M.faults disk.new) P.Port P.Link.Link C.Clock D.Draw K.Keeper S.Keeper
-        desks.old.items result.end desks.new.items result.log) }
+        desks.old.items program result.end desks.new.items result.program result.log) }
 {
     match keys_from(alloc, shelf, &options.files, &options.name) {
         Ok(keys) => match open_journal(alloc, &options.files, disk, start) {
             Ok(journal) => {
-                let course = open_and_serve(rt, alloc, options, keys, journal, disk, desks, start);
-                finish(alloc, desks.as_slice(), course, err)
+                let (course, program) = open_and_serve(
+                    rt, alloc, options, keys, journal, disk, desks, program, start,
+                );
+                finish(alloc, desks.as_slice(), course, program, err)
             }
-            Err(end) => unready(alloc, &options.files, &options.name, end, err),
+            Err(end) => unready(alloc, &options.files, &options.name, end, program, err),
         },
-        Err(end) => unready(alloc, &options.files, &options.name, end, err),
+        Err(end) => unready(alloc, &options.files, &options.name, end, program, err),
     }
 }
 
@@ -434,7 +468,7 @@ where
 /// `ADDRESS --keytab FILE --verifiers FILE --name PRINCIPAL [--bind TEXT] [--offer LIST] [--window N] [--connections N] [--contexts N] [--marks N]
 /// [--log N] [--desks N] [--idle SECONDS] [--control PATH] [--journal FILE] [--digest sha1]`. How many desks there are, how long a connection may be silent, and
 /// where the run can be stopped, whoever made them knows. Where the words name a journal, the disk is its file: it is opened once the keys were
-/// found, and is back at the return.
+/// found, and is back at the return. The program is served to all desks, each of which has its own speller of the program's results, and comes back.
 pub fn run_server<
     R: Threads + Wait + Sync,
     F: Shelf,
@@ -443,6 +477,9 @@ pub fn run_server<
     D: Draw + Drop + Send,
     K: Keeper<Kept> + Drop + Send,
     S: Keeper<Served<P::Link>> + Drop + Send,
+    V: Program<Ticket = T> + Drop + Send,
+    T: Send + Sync,
+    W: Speller<T> + Drop + Send,
     M: Disk + Drop + Send,
     O: Sink,
 >(
@@ -451,14 +488,17 @@ pub fn run_server<
     words: &[Text],
     shelf: &mut F,
     disk: &mut Option<M>,
-    desks: &mut Vec<Desk<P, C, D, K, S>>,
+    desks: &mut Vec<Desk<P, C, D, K, S, W>>,
+    program: V,
     start: Moment,
     out: &mut O,
     err: &mut O,
-) -> ServerEnd
+) -> ServerEnd<V>
 where
     P::Link: Drop + Send,
     requires fresh { AllByRecursion IsFresh desks.old.items }
+    // The desks' spellers say of the program what it says of itself.
+    requires says { W.says ≡ V.says }
     // There is a disk where the words name a journal.
     requires filled { names_journal (options_of words.now) ≡ true → is_some disk.old ≡ true }
     // The status and the line on `err`: those of the end, unless there was no memory for the line, or the sink failed.
@@ -473,7 +513,7 @@ where
     ensures always_usage { options_of words.now ≡ Err WordsRefusal.Usage
         → result.end ≢ RunEnd.NoMemory → result.end ≡ RunEnd.Usage }
     ensures unasked { (refusal : WordsRefusal) → options_of words.now ≡ Err refusal
-        → NoBook desks.old.items desks.new.items result.log }
+        → NoBook desks.old.items desks.new.items result.log × (result.program ≡ program) }
     // Where no desk was served, the desks stay as they were; and at most the files that the words name are asked for, each once.
     ensures idle { is_begun result.end ≡ false → result.end ≢ RunEnd.NoMemory
         → desks.new.items ≡ desks.old.items }
@@ -507,27 +547,30 @@ where
     // returned: of each desk the questions of its connections, in the desk's order, and no others. With a journal a desk is told, in the place of an
     // answer by which the book took an authenticator, that the journal refuses it; that its disk failed only where the disk's count of faults rose. Its offer is that of the words, in their order. Each
     // desk served the first links of its port, in order; where it is done, all of them or as many as the run serves. Or no book was opened: then the
-    // desks are as they were, and the log is empty and has no limits.
+    // desks and the program are as they were, and the log is empty and has no limits. The program entered each call whose number was taken once, in the
+    // order of the log, and no other; and each desk was told of its own calls what is spelled, once, from the tickets of their own entries.
     ensures booked { (options : Options) → options_of words.now ≡ Ok options
-        → ((is_begun result.end ≡ false) × NoBook desks.old.items desks.new.items result.log)
+        → ((is_begun result.end ≡ false) × NoBook desks.old.items desks.new.items result.log
+        × (result.program ≡ program))
         ⊎ ((keys : Keys)
         × KeysFrom F.Shelf shelf.old shelf.new options.files options.name (Ok keys)
-        × OneHistory options keys start (disk_faults M.faults disk.old)
+        × OneHistory V.Program W.Speller options keys start (disk_faults M.faults disk.old)
         (disk_faults M.faults disk.new) P.Port P.Link.Link C.Clock D.Draw K.Keeper S.Keeper
-        desks.old.items result.end desks.new.items result.log) }
+        desks.old.items program result.end desks.new.items result.program result.log) }
     // All of it is told by that log: it is legal, the receipts of all answers, in the history's order, are its entries, and each answer to a desk is
     // what the log before it says.
     ensures seen { (options : Options) → options_of words.now ≡ Ok options
-        → ((is_begun result.end ≡ false) × NoBook desks.old.items desks.new.items result.log)
+        → ((is_begun result.end ≡ false) × NoBook desks.old.items desks.new.items result.log
+        × (result.program ≡ program))
         ⊎ ((keys : Keys)
         × KeysFrom F.Shelf shelf.old shelf.new options.files options.name (Ok keys)
-        × ToldByLog options keys start (disk_faults M.faults disk.old)
+        × ToldByLog V.Program W.Speller options keys start (disk_faults M.faults disk.old)
         (disk_faults M.faults disk.new) P.Port P.Link.Link C.Clock D.Draw K.Keeper S.Keeper
-        desks.old.items result.end desks.new.items result.log) }
+        desks.old.items program result.end desks.new.items result.program result.log) }
 {
     match read_options(alloc, words) {
-        Ok(options) => run_with(rt, alloc, options, shelf, disk, desks, start, err),
-        Err(WordsRefusal::Usage) => refused(alloc, RunEnd::Usage, err),
-        Err(WordsRefusal::NoMemory) => refused(alloc, RunEnd::NoMemory, err),
+        Ok(options) => { run_with(rt, alloc, options, shelf, disk, desks, program, start, err) },
+        Err(WordsRefusal::Usage) => refused(alloc, RunEnd::Usage, program, err),
+        Err(WordsRefusal::NoMemory) => refused(alloc, RunEnd::NoMemory, program, err),
     }
 }

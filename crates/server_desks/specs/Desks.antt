@@ -1,6 +1,6 @@
 -- What a desk did: it served the links of its port, in order.
-use Rattle.std.specs.Prelude.{◌≡◌, ◌≢◌, ◌⊎◌, ℕ, ◌+◌, ◌*◌, ◌<◌, ◌≤◌, Bool, true, false, IsTrue}
-use Rattle.std.specs.Prelude.{List, [], ◌∷◌, ◌++◌, length, map, min, sum_by, slice_get}
+use Rattle.std.specs.Prelude.{◌≡◌, ◌≢◌, ◌⊎◌, ℕ, ◌+◌, ◌-◌, ◌*◌, ◌<◌, ◌≤◌, Bool, true, false, IsTrue}
+use Rattle.std.specs.Prelude.{List, [], ◌∷◌, ◌++◌, length, map, min, sum_by, slice_get, take}
 use Rattle.std.specs.Prelude.{Option, None, Some}
 use Rattle.std.specs.List.{AllByRecursion, flat_map}
 use Rattle.sec_base.specs.Answers.{Rose}
@@ -9,10 +9,12 @@ use Rattle.sec_base.specs.declared.link.Link as links
 use Rattle.sec_base.specs.declared.clock.Clock as clocks
 use Rattle.sec_base.specs.declared.draw.Draw as draws
 use Rattle.accept_book.specs.RecordShown.{Asked}
+use Rattle.accept_book.specs.declared.book_answer.Admitted.{Admitted}
+use Rattle.rpc_program.specs.Programs.{Serving}
 use Rattle.gss_server.specs.Asking.{Asking}
 use Rattle.gss_server.specs.Connections.{IsServed, StreamEnds}
 use Rattle.gss_server.specs.Keeping.{Given}
-use Rattle.gss_server.specs.Steady.{Timed, Drawn}
+use Rattle.gss_server.specs.Steady.{ClosedWell, Timed, Drawn}
 use Rattle.gss_server.specs.declared.answer.Kept.{Kept}
 use Rattle.gss_server.specs.declared.connection.ConnEnd.{ConnEnd}
 use Rattle.gss_server.specs.declared.connection.ConnEnd.TheVariants as conns
@@ -33,29 +35,30 @@ pub record ServedOf (L : Type 0) : Type 0 where
 
 -- a link was served to its end, from one state of the gate to another, as the connection's own
 -- contract says; the gate gave the answers, also where the link doesn't tell its octets
-pub record ServedLink {S L : Type 0} (Answers : S → Asked → S → Type 0) (width : ℕ)
+pub record ServedLink {S L : Type 0} (Answers : S → Asked Admitted → S → Type 0) (serves : Serving)
     (link : links.Ghosts L) (before : S) (old : L) (one : ServedOf L) (after : S) : Type 0 where
-  pub served : IsServed (link.tells old) (λ asked. Asking Answers before asked after) width
+  pub served : IsServed (link.tells old) (λ asked. Asking Answers before asked after) serves
       (link.wire old) (link.wire one.served.link) one.served.end one.answers
   pub counted : one.served.records ≡ length one.answers
   pub most : one.served.records ≤ 65536
   pub always : IsTrue (link.tells old) → (expected : ConnEnd)
       → StreamEnds (link.wire old) (link.wire one.served.link) expected
       → one.served.end ≢ conns.LinkFault → one.served.end ≢ conns.NoMemory
-      → one.served.end ≡ expected
+      → one.served.end ≢ conns.Lost → one.served.end ≡ expected
   pub fault : one.served.end ≡ conns.LinkFault
       → Rose (link.faults old) (link.faults one.served.link)
+  pub faultless : one.served.end ≢ conns.LinkFault → ClosedWell link old one.served.link
   pub closed : link.closed one.served.link ≡ true
 
 -- links were served one after the other, each from the state of the gate that the one before left
-abbrev pub LinksServed : {S L : Type 0} → (S → Asked → S → Type 0) → ℕ → links.Ghosts L → S
-    → List L → List (ServedOf L) → S → Type 0
-LinksServed Answers width link before [] [] after = after ≡ before
-LinksServed Answers width link before [] (one ∷ more) after = ⊥
-LinksServed Answers width link before (old ∷ olds) [] after = ⊥
-LinksServed {S} Answers width link before (old ∷ olds) (one ∷ more) after =
-    (middle : S) × ServedLink Answers width link before old one middle
-    × LinksServed Answers width link middle olds more after
+abbrev pub LinksServed : {S L : Type 0} → (S → Asked Admitted → S → Type 0) → Serving
+    → links.Ghosts L → S → List L → List (ServedOf L) → S → Type 0
+LinksServed Answers serves link before [] [] after = after ≡ before
+LinksServed Answers serves link before [] (one ∷ more) after = ⊥
+LinksServed Answers serves link before (old ∷ olds) [] after = ⊥
+LinksServed {S} Answers serves link before (old ∷ olds) (one ∷ more) after =
+    (middle : S) × ServedLink Answers serves link before old one middle
+    × LinksServed Answers serves link middle olds more after
 
 -- the links as they were served, in order
 abbrev pub links_in : {L : Type 0} → List (ServedOf L) → List (Served L)
@@ -69,6 +72,10 @@ answers_in served = flat_map (λ one. one.answers) served
 abbrev pub NoneWanted : {L : Type 0} → List (ServedOf L) → Type 0
 NoneWanted served = AllByRecursion (λ one. one.served.end ≢ conns.NoMemory) served
 
+-- all but the last
+abbrev pub earlier : {A : Type 0} → List A → List A
+earlier xs = take (length xs - 1) xs
+
 -- a connection ended for want of memory
 abbrev pub is_starved : ConnEnd → Bool
 is_starved conns.Ended = false
@@ -77,20 +84,34 @@ is_starved conns.TooLong = false
 is_starved conns.TooManyFragments = false
 is_starved conns.Torn = false
 is_starved conns.Budget = false
+is_starved conns.Lost = false
 is_starved conns.NoMemory = true
 
 -- ---- one desk
 
+-- a desk with another speller, or without one
+abbrev pub with_speller : {P C D K M W V : Type 0} → Desk P C D K M W → V → Desk P C D K M V
+with_speller desk speller = record {
+  port = desk.port;
+  clock = desk.clock;
+  draw = desk.draw;
+  keeper = desk.keeper;
+  links = desk.links;
+  speller = speller;
+  connections = desk.connections;
+  records = desk.records;
+}
+
 -- it has served nothing yet
-pub record IsFresh {P C D K M : Type 0} (desk : Desk P C D K M) : Type 0 where
+pub record IsFresh {P C D K M W : Type 0} (desk : Desk P C D K M W) : Type 0 where
   pub connections : desk.connections ≡ 0
   pub records : desk.records ≡ 0
 
 -- it served these links: its keepers were given the answers and the links, its clock and its draw
 -- gave what the answers hold and nothing else, and it counted them
-pub record DeskGave {P C D K M L Q R : Type 0} (clock : clocks.Ghosts C) (draw : draws.Ghosts D)
+pub record DeskGave {P C D K M W L Q R : Type 0} (clock : clocks.Ghosts C) (draw : draws.Ghosts D)
     (keeper : keepers.Ghosts K Kept Q) (kept : keepers.Ghosts M (Served L) R)
-    (old new : Desk P C D K M) (served : List (ServedOf L)) : Type 0 where
+    (old new : Desk P C D K M W) (served : List (ServedOf L)) : Type 0 where
   pub answers : Given keeper old.keeper new.keeper (answers_in served)
   pub links : Given kept old.links new.links (links_in served)
   pub timed : Timed clock old.clock new.clock (answers_in served)
@@ -99,43 +120,45 @@ pub record DeskGave {P C D K M L Q R : Type 0} (clock : clocks.Ghosts C) (draw :
   pub records : new.records ≡ old.records + length (answers_in served)
 
 -- one more link was served, to this end
-pub record DeskAdds {S P C D K M L Q R : Type 0} (Answers : S → Asked → S → Type 0) (width : ℕ)
-    (link : links.Ghosts L) (clock : clocks.Ghosts C) (draw : draws.Ghosts D)
+pub record DeskAdds {S P C D K M W L Q R : Type 0} (Answers : S → Asked Admitted → S → Type 0)
+    (serves : Serving) (link : links.Ghosts L) (clock : clocks.Ghosts C) (draw : draws.Ghosts D)
     (keeper : keepers.Ghosts K Kept Q) (kept : keepers.Ghosts M (Served L) R) (before : S)
-    (old : Desk P C D K M) (one : L) (end : ConnEnd) (new : Desk P C D K M)
+    (old : Desk P C D K M W) (one : L) (end : ConnEnd) (new : Desk P C D K M W)
     (after : S) : Type 0 where
   pub served : ServedOf L
   pub ended : served.served.end ≡ end
-  pub each : ServedLink Answers width link before one served after
+  pub each : ServedLink Answers serves link before one served after
   pub gave : DeskGave clock draw keeper kept old new (served ∷ [])
 
 -- the first links of its port were served, in order, and the others are still to come
-pub record DeskWent {S P C D K M L Q R : Type 0} (Answers : S → Asked → S → Type 0) (width : ℕ)
-    (port : ports.Ghosts P L) (link : links.Ghosts L) (clock : clocks.Ghosts C)
+pub record DeskWent {S P C D K M W L Q R : Type 0} (Answers : S → Asked Admitted → S → Type 0)
+    (serves : Serving) (port : ports.Ghosts P L) (link : links.Ghosts L) (clock : clocks.Ghosts C)
     (draw : draws.Ghosts D) (keeper : keepers.Ghosts K Kept Q)
-    (kept : keepers.Ghosts M (Served L) R) (before : S) (old new : Desk P C D K M)
+    (kept : keepers.Ghosts M (Served L) R) (before : S) (old new : Desk P C D K M W)
     (after : S) : Type 0 where
   pub links : List L
   pub served : List (ServedOf L)
-  pub each : LinksServed Answers width link before links served after
+  pub each : LinksServed Answers serves link before links served after
   pub split : IsTrue (port.tells old.port)
       → port.links old.port ≡ links ++ port.links new.port
   pub gave : DeskGave clock draw keeper kept old new served
 
--- it served the first links of its port, at most so many. Where it is done, these are all of them
--- or so many, and none ended for want of memory; where its port failed, the port's count of faults
--- rose
-pub record DeskServed {S P C D K M L Q R : Type 0} (Answers : S → Asked → S → Type 0)
-    (width most : ℕ) (port : ports.Ghosts P L) (link : links.Ghosts L) (clock : clocks.Ghosts C)
-    (draw : draws.Ghosts D) (keeper : keepers.Ghosts K Kept Q)
-    (kept : keepers.Ghosts M (Served L) R) (before : S) (old : Desk P C D K M) (end : DeskEnd)
-    (new : Desk P C D K M) (after : S) : Type 0 where
-  pub went : DeskWent Answers width port link clock draw keeper kept before old new after
+-- it served the first links of its port, at most so many, and stopped at the first that ended for
+-- want of memory, and at the first fault of its port. Where it is done, these are all of them or so
+-- many. It ended by its port exactly where the port's count of faults rose
+pub record DeskServed {S P C D K M W L Q R : Type 0} (Answers : S → Asked Admitted → S → Type 0)
+    (serves : Serving) (most : ℕ) (port : ports.Ghosts P L) (link : links.Ghosts L)
+    (clock : clocks.Ghosts C) (draw : draws.Ghosts D) (keeper : keepers.Ghosts K Kept Q)
+    (kept : keepers.Ghosts M (Served L) R) (before : S) (old : Desk P C D K M W) (end : DeskEnd)
+    (new : Desk P C D K M W) (after : S) : Type 0 where
+  pub went : DeskWent Answers serves port link clock draw keeper kept before old new after
   pub few : new.connections ≤ most
   pub done : end ≡ ends.Done → IsTrue (port.tells old.port)
       → (port.links new.port ≡ []) ⊎ (new.connections ≡ most)
-  pub none_wanted : end ≡ ends.Done → NoneWanted went.served
+  pub wanted : NoneWanted (earlier went.served)
+  pub none_wanted : end ≢ ends.NoMemory → NoneWanted went.served
   pub failed : end ≡ ends.PortFault → Rose (port.faults old.port) (port.faults new.port)
+  pub steady : end ≢ ends.PortFault → port.faults new.port ≡ port.faults old.port
 
 -- the greatest number of links that a desk may serve, 2 ^ 47: at 10,000 a second it takes 446 years
 abbrev pub greatest_count : ℕ
@@ -148,7 +171,7 @@ run_limit None desks = greatest_count
 run_limit (Some connections) desks = min (connections * desks) greatest_count
 
 -- so few connections and records that they can be counted
-pub record IsSmall {P C D K M : Type 0} (desk : Desk P C D K M) : Type 0 where
+pub record IsSmall {P C D K M W : Type 0} (desk : Desk P C D K M W) : Type 0 where
   pub few : desk.connections ≤ greatest_count
   pub within : desk.records ≤ 65536 * desk.connections
 
@@ -181,9 +204,9 @@ abbrev pub NamesADesk : RunEnd → ℕ → Type 0
 NamesADesk end count = (desk : ℕ) → end ≡ whole.PortFault desk → (0 < desk) × (desk ≤ count)
 
 -- how many connections the desks had
-abbrev pub all_connections : {P C D K M : Type 0} → List (Desk P C D K M) → ℕ
+abbrev pub all_connections : {P C D K M W : Type 0} → List (Desk P C D K M W) → ℕ
 all_connections desks = sum_by (λ desk. desk.connections) desks
 
 -- how many records the connections of all desks had
-abbrev pub all_records : {P C D K M : Type 0} → List (Desk P C D K M) → ℕ
+abbrev pub all_records : {P C D K M W : Type 0} → List (Desk P C D K M W) → ℕ
 all_records desks = sum_by (λ desk. desk.records) desks

@@ -23,7 +23,7 @@ pub fn run_limit(connections: Option<u32>, desks: usize) -> u64
 }
 
 /// How many connections the desks had.
-pub fn count_connections<P, C, D, K, S>(desks: &[Desk<P, C, D, K, S>]) -> u128
+pub fn count_connections<P, C, D, K, S, W>(desks: &[Desk<P, C, D, K, S, W>]) -> u128
     requires { AllByRecursion IsSmall desks.now }
     ensures { result ≡ all_connections desks.now }
 {
@@ -35,7 +35,7 @@ pub fn count_connections<P, C, D, K, S>(desks: &[Desk<P, C, D, K, S>]) -> u128
 }
 
 /// How many records the desks had.
-pub fn count_records<P, C, D, K, S>(desks: &[Desk<P, C, D, K, S>]) -> u128
+pub fn count_records<P, C, D, K, S, W>(desks: &[Desk<P, C, D, K, S, W>]) -> u128
     requires { AllByRecursion IsSmall desks.now }
     ensures { result ≡ all_records desks.now }
 {

@@ -3,6 +3,7 @@
 ghost use Rattle.std.specs.Prelude.{◌≡◌, length, map, vec_len, All};
 ghost use Rattle.server_desks.specs.Desks.{IsFresh, DeskServed, joined, end_behind};
 ghost use Rattle.server_desks.specs.Desks.{InStep};
+ghost use Rattle.gss_server.specs.Hearing.{serving};
 
 use crate::desk::{Desk, DeskEnd, serve_desk};
 use gss_server::{Gate, Keeper, Kept, Served};
@@ -57,17 +58,19 @@ trait Work {
 }
 
 /// A job is to serve its desk, which has served nothing yet, at its gate.
-impl<P: Port, C: Clock, D: Draw, K: Keeper<Kept>, S: Keeper<Served<P::Link>>, G: Gate> Work
-    for Job<Desk<P, C, D, K, S>, G>
+impl<P: Port, C: Clock, D: Draw, K: Keeper<Kept>, S: Keeper<Served<P::Link>>, W, G: Gate> Work
+    for Job<Desk<P, C, D, K, S, W>, G>
 where
     P::Link: Drop,
 {
     ghost use Rattle.server_desks.specs.Desks.{IsFresh, DeskServed};
+    ghost use Rattle.gss_server.specs.Hearing.{serving};
 
     ghost ready = { λ job. IsFresh job.desk };
 
-    ghost done = { λ old new. DeskServed G.answers old.width old.connections P.Port P.Link.Link
-        C.Clock D.Draw K.Keeper S.Keeper old.gate old.desk new.end new.desk new.gate };
+    ghost done = { λ old new. DeskServed G.answers (serving G.program old.width) old.connections
+        P.Port P.Link.Link C.Clock D.Draw K.Keeper S.Keeper old.gate old.desk new.end new.desk
+        new.gate };
 
     fn work(&mut self) {
         let Job {
@@ -101,15 +104,16 @@ pub fn run_desks<
     D: Draw + Send,
     K: Keeper<Kept> + Send,
     S: Keeper<Served<P::Link>> + Send,
+    W: Send,
     G: Gate + Send,
->(rt: &R, jobs: &mut Vec<Job<Desk<P, C, D, K, S>, G>>)
+>(rt: &R, jobs: &mut Vec<Job<Desk<P, C, D, K, S, W>, G>>)
 where
     P::Link: Drop + Send,
     requires { All (λ job. IsFresh job.desk) jobs.old.items }
     ensures count { vec_len jobs.new ≡ vec_len jobs.old }
     ensures served { InStep jobs.old.items jobs.new.items (λ _ old new. DeskServed G.answers
-        old.width old.connections P.Port P.Link.Link C.Clock D.Draw K.Keeper S.Keeper old.gate
-        old.desk new.end new.desk new.gate) }
+        (serving G.program old.width) old.connections P.Port P.Link.Link C.Clock D.Draw K.Keeper
+        S.Keeper old.gate old.desk new.end new.desk new.gate) }
 {
     work_all(rt, jobs.as_mut_slice());
 }

@@ -7,6 +7,6 @@ mod desks;
 mod jobs;
 
 pub use course::{Course, course_of, starved};
-pub use desk::{Desk, DeskEnd, serve_desk};
+pub use desk::{AtGate, Desk, DeskEnd, serve_desk};
 pub use desks::{count_connections, count_records, run_limit};
 pub use jobs::{Job, end_of, run_desks};

@@ -3,3 +3,4 @@ mod Lengths
 mod Noting
 mod Sides
 mod Sends
+mod Starts

@@ -6,7 +6,6 @@ use denote.Param.SendFields.{owner_send, declared_send}
 use Rattle.std.proofs.Crossing.{crosses}
 use Rattle.std.proofs.MapsCrossing.{crosses as maps}
 use Rattle.std.proofs.alloc.Global.TheSendSync.{the_send as heap_send, the_sync as heap_sync}
-use Rattle.std.proofs.sync.ledger.Book.TheSendSync.{the_send as sum_send}
 use Rattle.std.proofs.sync.ledger.Share.TheSendSync.{the_send as share_send}
 use Rattle.std.specs.declared.sync.ledger.Ledger as ledger
 use Rattle.atomic_table.proofs.shared.Seat.TheSendSync.{the_send as token_send}
@@ -17,17 +16,19 @@ use Rattle.accept_core.specs.contracts.erased.Erased as Erased
 use Rattle.accept_core.specs.contracts.log.Log as Log
 use Rattle.accept_book.specs.contracts.book.Book as Book
 use Rattle.spnego_core.specs.contracts.setup.AcceptSetup as Setup
+use Rattle.rpc_program.specs.declared.program.Program as programs
+use Rattle.rpc_program.specs.declared.program.Speller as spellers
 use Rattle.book_seats.specs.declared.board.Room as room
+use Rattle.book_seats.specs.declared.board.Begins as begins
 use Rattle.book_seats.specs.contracts.hall.Writer as Writer
 use Rattle.book_seats.specs.contracts.hall.Clerk as Clerk
 use Rattle.book_seats.specs.contracts.hall.Hall as Hall
 use Rattle.book_seats.specs.contracts.shared.Shared as Shared
 use Rattle.book_seats.specs.contracts.seat.Seat as Seat
 use Rattle.replay_journal.specs.declared.disk.Disk as disk
-use Rattle.replay_journal.specs.contracts.journal.Journal as Journal
 use Rattle.journal_gate.specs.declared.behind.Opening as opening
-use Rattle.journal_gate.specs.contracts.behind.Behind as Behind
 use Rattle.journal_gate.specs.contracts.gate.JournalGate as Gate
+use Rattle.journal_gate.proofs.Sends.{queue-sync}
 use Rattle.server_seating.specs.contracts.place.Place as Place
 
 entry-send : IsSend Entry.the_row
@@ -42,32 +43,27 @@ log-send = search (erased-send, entry-send, sendable, crosses) depth 40
 book-send : IsSend Book.the_row
 book-send = search (log-send, sendable, crosses) depth 60 fits 100000
 
-writer-send : (J : RattleType) (r : room.Ghosts J.Denot) → IsSend J → IsSend (Writer.the_row J r)
-writer-send J r s = search (token_send, owner_send, owning_send, sendable, crosses) depth 60 fits 5000
+writer-send : (T J : RattleType) (r : room.Ghosts J.Denot) → IsSend T → IsSend J → IsSend (Writer.the_row T J r)
+writer-send T J r t s = search (token_send, owner_send, owning_send, sendable, crosses) depth 60 fits 5000
 
-clerk-send : (J : RattleType) (r : room.Ghosts J.Denot) → IsSend J → IsSend (Clerk.the_row J r)
-clerk-send J r s = search (token_send, owner_send, owning_send, sendable, crosses) depth 60 fits 5000
+clerk-send : (T J : RattleType) (r : room.Ghosts J.Denot) → IsSend T → IsSend J → IsSend (Clerk.the_row T J r)
+clerk-send T J r t s = search (token_send, owner_send, owning_send, sendable, crosses) depth 60 fits 5000
 
-shared-send : (J : RattleType) (r : room.Ghosts J.Denot) → IsSend J → IsSend (Shared.the_row J r)
-shared-send J r s = search (writer-send, book-send, sendable) depth 60 fits 5000
+shared-send : (V T J : RattleType) (v : programs.Ghosts V.Denot T.Denot) (r : room.Ghosts J.Denot) (b : begins.Ghosts J.Denot V.Denot) → IsSend V → IsSend T → IsSend J → IsSend (Shared.the_row V T J v r b)
+shared-send V T J v r b p t s = search (writer-send, book-send, sendable) depth 60 fits 5000
 
-hall-sync : (J : RattleType) (r : room.Ghosts J.Denot) → IsSync J → IsSync (Hall.the_row J r)
-hall-sync J r s = search (words_sync, lease_sync, heap_sync, heap_send, sendable, crosses) depth 40 fits 20000
+hall-sync : (T J : RattleType) (r : room.Ghosts J.Denot) → IsSync T → IsSync J → IsSync (Hall.the_row T J r)
+hall-sync T J r t s = search (words_sync, lease_sync, heap_sync, heap_send, sendable, crosses) depth 40 fits 20000
 
 setup-sync : IsSync Setup.the_row
 setup-sync = search (maps, sendable, crosses) depth 60 fits 100000
 
-seat-send : (ℓ : NamedLft) (R J : RattleType) (r : room.Ghosts J.Denot) → IsSync R → IsSend J → IsSync J → IsSend (Seat.the_row ℓ R J r)
-seat-send ℓ R J r w s y = search (shared-send, hall-sync, clerk-send, setup-sync, sendable, crosses) depth 40 fits 5000
-
-journal-send : (M : RattleType) (d : disk.Ghosts M.Denot) → IsSend M → IsSend (Journal.the_row M d)
-journal-send M d s = search (sendable, crosses) depth 60 fits 100000
-
-behind-send : (M L : RattleType) (d : disk.Ghosts M.Denot) (o : opening.Ghosts L.Denot) (k : ledger.Ghosts L.Denot) → IsSend M → IsSend L → IsSend (Behind.the_row M L d o k)
-behind-send M L d o k m l = search (journal-send, sum_send, sendable, crosses) depth 40 fits 5000
+seat-send : (ℓ : NamedLft) (R V T W J : RattleType) (v : programs.Ghosts V.Denot T.Denot) (w : spellers.Ghosts W.Denot T.Denot) (r : room.Ghosts J.Denot) (b : begins.Ghosts J.Denot V.Denot) → IsSync R → IsSend V → IsSend T → IsSync T → IsSend W → IsSend J → IsSync J → IsSend (Seat.the_row ℓ R V T W J v w r b)
+seat-send ℓ R V T W J v w r b rs vs ts ty ws s y = search (shared-send, hall-sync, clerk-send, setup-sync, sendable, crosses) depth 40 fits 5000
 
 gate-send : (ℓ : NamedLft) (R G M L : RattleType) (d : disk.Ghosts M.Denot) (o : opening.Ghosts L.Denot) (k : ledger.Ghosts L.Denot) → IsSync R → IsSend G → IsSend M → IsSend L → IsSend (Gate.the_row ℓ R G M L d o k)
-gate-send ℓ R G M L d o k w s m l = search (behind-send, share_send, sendable, crosses) depth 40 fits 5000
+gate-send ℓ R G M L d o k w s m l = search (queue-sync, share_send, sendable, crosses) depth 40 fits 5000
 
-pub place-send : (ℓ : NamedLft) (R J M L : RattleType) (r : room.Ghosts J.Denot) (d : disk.Ghosts M.Denot) (o : opening.Ghosts L.Denot) (k : ledger.Ghosts L.Denot) → IsSync R → IsSend J → IsSync J → IsSend M → IsSend L → IsSend (Place.the_row ℓ R J M L r d o k)
-place-send ℓ R J M L r d o k w s y m l = search (gate-send, seat-send, declared_send, sendable) depth 40 fits 5000
+pub place-send : (ℓ : NamedLft) (R V T W J M L : RattleType) (v : programs.Ghosts V.Denot T.Denot) (w : spellers.Ghosts W.Denot T.Denot) (r : room.Ghosts J.Denot) (b : begins.Ghosts J.Denot V.Denot) (d : disk.Ghosts M.Denot) (o : opening.Ghosts L.Denot) (k : ledger.Ghosts L.Denot)
+    → IsSync R → IsSend V → IsSend T → IsSync T → IsSend W → IsSend J → IsSync J → IsSend M → IsSend L → IsSend (Place.the_row ℓ R V T W J M L v w r b d o k)
+place-send ℓ R V T W J M L v w r b d o k rs vs ts ty ws s y m l = search (gate-send, seat-send, declared_send, sendable) depth 40 fits 5000

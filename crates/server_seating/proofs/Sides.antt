@@ -5,7 +5,10 @@ use Rattle.sec_base.specs.declared.port.Port as ports
 use Rattle.sec_base.specs.declared.link.Link as links
 use Rattle.sec_base.specs.declared.clock.Clock as clocks
 use Rattle.sec_base.specs.declared.draw.Draw as draws
-use Rattle.accept_book.specs.Booking.{BookOf}
+use Rattle.rpc_program.specs.Programs.{Serving}
+use Rattle.rpc_program.specs.declared.program.Program as programs
+use Rattle.rpc_program.specs.declared.program.Speller as spellers
+use Rattle.book_seats.specs.Both.{BothOf}
 use Rattle.accept_core.specs.Logs.{LogOf}
 use Rattle.gss_server.specs.declared.answer.Kept.{Kept}
 use Rattle.gss_server.specs.declared.connection.Served.{Served}
@@ -17,9 +20,9 @@ use Rattle.server_options.specs.declared.ending.RunEnd.{RunEnd}
 use Rattle.server_desks.proofs.DeskRuns.{desk-small}
 use Rattle.server_desks.proofs.InStep.{there, at-place, by-places}
 
-module _ {P C D K M L Q R : Type 0} {begins : BookOf → Type 0} {journaled : Bool} {faults faults' width most : ℕ} {port : ports.Ghosts P L} {link : links.Ghosts L} {clock : clocks.Ghosts C} {draw : draws.Ghosts D} {keeper : keepers.Ghosts K Kept Q} {kept : keepers.Ghosts M (Served L) R} {olds news : List (Desk P C D K M)} {end : RunEnd} {log : LogOf} where
+module _ {V P C D K M T W L Q R : Type 0} {program : programs.Ghosts V T} {spelling : spellers.Ghosts W T} {begins : BothOf V → Type 0} {journaled : Bool} {faults faults' : ℕ} {serves : Serving} {most : ℕ} {port : ports.Ghosts P L} {link : links.Ghosts L} {clock : clocks.Ghosts C} {draw : draws.Ghosts D} {keeper : keepers.Ghosts K Kept Q} {kept : keepers.Ghosts M (Served L) R} {olds news : List (Desk P C D K M W)} {end : RunEnd} {left : V} {log : LogOf} where
   -- desks that began with nothing are small
-  pub side-small : most ≤ greatest_count → AllByRecursion IsFresh olds → SideBySide begins journaled faults faults' width most port link clock draw keeper kept olds end news log → AllByRecursion IsSmall news
+  pub side-small : most ≤ greatest_count → AllByRecursion IsFresh olds → SideBySide program spelling begins journaled faults faults' serves most port link clock draw keeper kept olds end news left log → AllByRecursion IsSmall news
   side-small few fresh s = by-places IsSmall news (λ i new at.
       let old = there news olds i new (sym s.count) at in
       let ending = there olds s.ends i old.0 s.ends_count old.1 in

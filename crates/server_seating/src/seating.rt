@@ -1,10 +1,11 @@
-//! A book serves desks side by side.
+//! A book and a program serve desks side by side.
 
 ghost use Rattle.std.specs.Prelude.{◌≡◌, ◌≢◌, ◌⊎◌, ◌<◌, ◌≤◌, [], true, IfOk, IfErr, OnErr};
 ghost use Rattle.std.specs.Prelude.{is_some, vec_len, reverse};
 ghost use Rattle.std.specs.List.{AllByRecursion};
 ghost use Rattle.accept_core.specs.Legal.{Legal};
 ghost use Rattle.accept_book.specs.Booking.{with_setup};
+ghost use Rattle.gss_server.specs.Hearing.{serving};
 ghost use Rattle.gss_server.specs.Telling.{limits_of};
 ghost use Rattle.book_seats.specs.Views.{writer};
 ghost use Rattle.journal_gate.specs.Withheld.{journal_faults, disk_faults, is_shut};
@@ -15,10 +16,11 @@ ghost use Rattle.server_seating.specs.SideBySide.{SideBySide, IsUnder};
 
 use crate::staffing::{Locks, compare_all, hire_all, rise_all, rooms, seat_all};
 use accept_book::{Book, OwnSeat};
-use book_seats::{Board, Hall, Room, Shared, Token, Writer, open_board, open_hall};
+use book_seats::{Begins, Board, Hall, Room, Shared, Token, Writer, open_board, open_hall};
 use gss_server::{Keeper, Kept, Served};
-use journal_gate::{Behind, Opening, disk_of};
+use journal_gate::{Behind, Opening, Queue, disk_of};
 use replay_journal::{Disk, Journal};
+use rpc_program::{Program, Speller};
 use sec_base::{Clock, Draw, Port};
 use server_desks::{Course, Desk, course_of, end_of, run_desks, starved};
 use server_options::RunEnd;
@@ -32,7 +34,7 @@ use std::thread::Threads;
 
 /// Serves the desks side by side, each with a seat at the book. All room for that is taken before the first is served.
 fn run_seated<
-    J: Room + Send + Sync,
+    J: Room + Begins<V> + Send + Sync,
     L: Opening + Send + Sync,
     R: Threads + Wait + Sync,
     P: Port + Drop + Send,
@@ -40,25 +42,30 @@ fn run_seated<
     D: Draw + Drop + Send,
     K: Keeper<Kept> + Drop + Send,
     S: Keeper<Served<P::Link>> + Drop + Send,
+    V: Program<Ticket = T> + Drop + Send,
+    T: Send + Sync,
+    W: Speller<T> + Drop + Send,
     M: Disk + Drop + Send,
 >(
     rt: &R,
     alloc: Global,
-    hall: &Hall<J>,
+    hall: &Hall<T, J>,
     setup: &AcceptSetup,
     book: Book,
-    writer: Writer<J>,
+    program: V,
+    writer: Writer<T, J>,
     blank: Blank,
     journal: Option<Journal<M>>,
-    desks: &mut Vec<Desk<P, C, D, K, S>>,
+    desks: &mut Vec<Desk<P, C, D, K, S, W>>,
     connections: u64,
     width: u32,
-) -> Result<(Course, Option<M>), Option<Journal<M>>>
+) -> Result<(Course, V, Option<M>), (Option<Journal<M>>, V)>
 where
     P::Link: Drop + Send,
     requires fresh { AllByRecursion IsFresh desks.old.items }
     requires setup { setup.now ≡ J.setup }
-    requires book { J.begins (with_setup J.setup book) }
+    requires says { W.says ≡ V.says }
+    requires both { J.begins record { book = with_setup J.setup book; program = program } }
     requires limits { limits_of book ≡ J.limits }
     requires writer { writer ≡ record { made = 0; all = [] } }
     requires desks { J.desks ≡ vec_len desks.old }
@@ -68,30 +75,31 @@ where
     requires kept { is_some journal ≡ L.kept }
     requires count { is_some journal ≡ true → L.count ≤ journal_faults M.faults journal }
     requires unclosed { is_shut journal → ⊥ }
-    ensures served { IfOk result (λ done. SideBySide J.begins (is_some journal) L.count
-        (disk_faults M.faults done.1) width connections P.Port P.Link.Link C.Clock D.Draw K.Keeper
-        S.Keeper desks.old.items done.0.end desks.new.items done.0.log) }
+    ensures served { IfOk result (λ done. SideBySide V.Program W.Speller J.begins
+        (is_some journal) L.count (disk_faults M.faults done.2) (serving W.says width) connections
+        P.Port P.Link.Link C.Clock D.Draw K.Keeper S.Keeper desks.old.items done.0.end
+        desks.new.items done.1 done.0.log) }
     ensures legal { IfOk result (λ done. Legal done.0.log.width (reverse done.0.log.entries)) }
     ensures limits { IfOk result (λ done. IsUnder J.limits done.0.log) }
     ensures none { OnErr result (desks.new ≡ desks.old) }
-    ensures disk { IfOk result (λ done. is_some done.1 ≡ is_some journal) }
-    ensures back { IfErr result (λ back. back ≡ journal) }
+    ensures disk { IfOk result (λ done. is_some done.2 ≡ is_some journal) }
+    ensures back { IfErr result (λ back. back ≡ (journal, program)) }
 {
     let locks;
     let journaled = journal.is_some();
     // (the book is let go by `rooms` where there is no room, so that no way out from here has to)
-    let (mut staffed, mut jobs, mut risen, back, (book, mut writer), journal) = rooms(
+    let (mut staffed, mut jobs, mut risen, back, (book, mut writer), (journal, program)) = rooms(
         alloc,
         desks.len(),
         (book, writer),
-        journal,
+        (journal, program),
     )?;
     let olds = mem::replace(desks, back);
     hire_all(hall, &mut writer, olds, &mut staffed);
     let (sum, mut all) = blank.open::<L>();
     locks = Locks {
-        book: Mutex::new(Shared::new(book, writer)),
-        journal: Mutex::new(Behind::new(journal, sum)),
+        book: Mutex::new(Shared::new(book, program, writer)),
+        journal: Queue::new(alloc, Behind::new(alloc, journal, sum)),
     };
     seat_all(
         rt,
@@ -111,17 +119,21 @@ where
     let end = end_of(jobs.as_slice());
     rise_all(jobs, &mut risen);
     let Locks { book, journal } = locks;
-    let (book, mut writer) = book.into_inner().into_parts();
-    let mut behind = journal.into_inner();
+    let (book, program, mut writer) = book.into_inner().into_parts();
+    let mut behind = journal.into_behind();
     compare_all(hall, &mut writer, &mut behind, risen, desks);
     writer.close(hall);
     drop(writer);
-    Ok((course_of(end, Some(book)), disk_of(behind.into_journal())))
+    Ok((
+        course_of(end, Some(book)),
+        program,
+        disk_of(behind.into_journal()),
+    ))
 }
 
 /// The same with a table, on which what the desks ask is noted.
 fn run_noted<
-    J: Room + Send + Sync,
+    J: Room + Begins<V> + Send + Sync,
     L: Opening + Send + Sync,
     R: Threads + Wait + Sync,
     P: Port + Drop + Send,
@@ -129,25 +141,30 @@ fn run_noted<
     D: Draw + Drop + Send,
     K: Keeper<Kept> + Drop + Send,
     S: Keeper<Served<P::Link>> + Drop + Send,
+    V: Program<Ticket = T> + Drop + Send,
+    T: Send + Sync,
+    W: Speller<T> + Drop + Send,
     M: Disk + Drop + Send,
 >(
     rt: &R,
     alloc: Global,
-    board: Board,
-    token: Token,
+    board: Board<T>,
+    token: Token<T>,
     setup: &AcceptSetup,
     book: Book,
+    program: V,
     blank: Blank,
     journal: Option<Journal<M>>,
-    desks: &mut Vec<Desk<P, C, D, K, S>>,
+    desks: &mut Vec<Desk<P, C, D, K, S, W>>,
     connections: u64,
     width: u32,
-) -> Result<(Course, Option<M>), Option<Journal<M>>>
+) -> Result<(Course, V, Option<M>), (Option<Journal<M>>, V)>
 where
     P::Link: Drop + Send,
     requires fresh { AllByRecursion IsFresh desks.old.items }
     requires setup { setup.now ≡ J.setup }
-    requires book { J.begins (with_setup J.setup book) }
+    requires says { W.says ≡ V.says }
+    requires both { J.begins record { book = with_setup J.setup book; program = program } }
     requires limits { limits_of book ≡ J.limits }
     requires board { board.shared.table_id ≡ J.table }
     requires words { 0 < board.shared.table_id.words }
@@ -159,22 +176,24 @@ where
     requires kept { is_some journal ≡ L.kept }
     requires count { is_some journal ≡ true → L.count ≤ journal_faults M.faults journal }
     requires unclosed { is_shut journal → ⊥ }
-    ensures served { IfOk result (λ done. SideBySide J.begins (is_some journal) L.count
-        (disk_faults M.faults done.1) width connections P.Port P.Link.Link C.Clock D.Draw K.Keeper
-        S.Keeper desks.old.items done.0.end desks.new.items done.0.log) }
+    ensures served { IfOk result (λ done. SideBySide V.Program W.Speller J.begins
+        (is_some journal) L.count (disk_faults M.faults done.2) (serving W.says width) connections
+        P.Port P.Link.Link C.Clock D.Draw K.Keeper S.Keeper desks.old.items done.0.end
+        desks.new.items done.1 done.0.log) }
     ensures legal { IfOk result (λ done. Legal done.0.log.width (reverse done.0.log.entries)) }
     ensures limits { IfOk result (λ done. IsUnder J.limits done.0.log) }
     ensures none { OnErr result (desks.new ≡ desks.old) }
-    ensures disk { IfOk result (λ done. is_some done.1 ≡ is_some journal) }
-    ensures back { IfErr result (λ back. back ≡ journal) }
+    ensures disk { IfOk result (λ done. is_some done.2 ≡ is_some journal) }
+    ensures back { IfErr result (λ back. back ≡ (journal, program)) }
 {
-    let (hall, writer) = open_hall::<J>(board, token);
-    run_seated::<J, L, R, P, C, D, K, S, M>(
+    let (hall, writer) = open_hall::<T, J>(board, token);
+    run_seated::<J, L, R, P, C, D, K, S, V, T, W, M>(
         rt,
         alloc,
         &hall,
         setup,
         book,
+        program,
         writer,
         blank,
         journal,
@@ -192,41 +211,48 @@ fn run_at_seats<
     D: Draw + Drop + Send,
     K: Keeper<Kept> + Drop + Send,
     S: Keeper<Served<P::Link>> + Drop + Send,
+    V: Program<Ticket = T> + Drop + Send,
+    T: Send + Sync,
+    W: Speller<T> + Drop + Send,
     M: Disk + Drop + Send,
 >(
     rt: &R,
     alloc: Global,
     book: OwnSeat,
+    program: V,
     journal: Option<Journal<M>>,
-    desks: &mut Vec<Desk<P, C, D, K, S>>,
+    desks: &mut Vec<Desk<P, C, D, K, S, W>>,
     connections: u64,
     width: u32,
-) -> Result<(Course, Option<M>), Option<Journal<M>>>
+) -> Result<(Course, V, Option<M>), (Option<Journal<M>>, V)>
 where
     P::Link: Drop + Send,
     requires fresh { AllByRecursion IsFresh desks.old.items }
+    requires says { W.says ≡ V.says }
     requires unclosed { is_shut journal → ⊥ }
-    ensures served { IfOk result (λ done. SideBySide (λ first. first ≡ book) (is_some journal)
-        (journal_faults M.faults journal) (disk_faults M.faults done.1) width connections P.Port
-        P.Link.Link C.Clock D.Draw K.Keeper S.Keeper desks.old.items done.0.end desks.new.items
-        done.0.log) }
+    ensures served { IfOk result (λ done. SideBySide V.Program W.Speller
+        (λ first. first ≡ record { book = book; program = program }) (is_some journal)
+        (journal_faults M.faults journal) (disk_faults M.faults done.2) (serving W.says width)
+        connections P.Port P.Link.Link C.Clock D.Draw K.Keeper S.Keeper desks.old.items done.0.end
+        desks.new.items done.1 done.0.log) }
     ensures legal { IfOk result (λ done. Legal done.0.log.width (reverse done.0.log.entries)) }
     ensures limits { IfOk result (λ done. IsUnder (limits_of book.core) done.0.log) }
     ensures none { OnErr result (desks.new ≡ desks.old) }
-    ensures disk { IfOk result (λ done. is_some done.1 ≡ is_some journal) }
-    ensures back { IfErr result (λ back. back ≡ journal) }
+    ensures disk { IfOk result (λ done. is_some done.2 ≡ is_some journal) }
+    ensures back { IfErr result (λ back. back ≡ (journal, program)) }
 {
-    match open_board(alloc) {
+    match open_board::<T>(alloc) {
         Ok((board, token)) => {
             let (setup, bare) = book.into_parts();
             let blank = Blank::new(desks.len() as u64);
-            let course = run_noted::<Brand, Brand, R, P, C, D, K, S, M>(
+            let course = run_noted::<Brand, Brand, R, P, C, D, K, S, V, T, W, M>(
                 rt,
                 alloc,
                 board,
                 token,
                 &setup,
                 bare,
+                program,
                 blank,
                 journal,
                 desks,
@@ -238,13 +264,13 @@ where
         }
         Err(_) => {
             drop(book);
-            Err(journal)
+            Err((journal, program))
         }
     }
 }
 
-/// Serves the desks side by side with a book, each at most `connections` links with windows of this width, and has the journal keep what the book
-/// takes, where there is one. Its disk is given back.
+/// Serves the desks side by side with a book and a program, each at most `connections` links with windows of this width, and has the journal keep what
+/// the book takes, where there is one. The program and the journal's disk are given back.
 pub fn run_book<
     R: Threads + Wait + Sync,
     P: Port + Drop + Send,
@@ -252,36 +278,43 @@ pub fn run_book<
     D: Draw + Drop + Send,
     K: Keeper<Kept> + Drop + Send,
     S: Keeper<Served<P::Link>> + Drop + Send,
+    V: Program<Ticket = T> + Drop + Send,
+    T: Send + Sync,
+    W: Speller<T> + Drop + Send,
     M: Disk + Drop + Send,
 >(
     rt: &R,
     alloc: Global,
     book: OwnSeat,
+    program: V,
     journal: Option<Journal<M>>,
-    desks: &mut Vec<Desk<P, C, D, K, S>>,
+    desks: &mut Vec<Desk<P, C, D, K, S, W>>,
     connections: u64,
     width: u32,
-) -> (Course, Option<M>)
+) -> (Course, V, Option<M>)
 where
     P::Link: Drop + Send,
     requires fresh { AllByRecursion IsFresh desks.old.items }
+    requires says { W.says ≡ V.says }
     requires most { connections ≤ greatest_count }
     requires unclosed { is_shut journal → ⊥ }
     ensures served { ((result.0.end ≡ RunEnd.NoMemory)
-        × NoBook desks.old.items desks.new.items result.0.log)
-        ⊎ SideBySide (λ first. first ≡ book) (is_some journal) (journal_faults M.faults journal)
-        (disk_faults M.faults result.1) width connections P.Port P.Link.Link C.Clock D.Draw K.Keeper
-        S.Keeper desks.old.items result.0.end desks.new.items result.0.log }
+        × NoBook desks.old.items desks.new.items result.0.log × (result.1 ≡ program))
+        ⊎ SideBySide V.Program W.Speller
+        (λ first. first ≡ record { book = book; program = program }) (is_some journal)
+        (journal_faults M.faults journal) (disk_faults M.faults result.2) (serving W.says width)
+        connections P.Port P.Link.Link C.Clock D.Draw K.Keeper S.Keeper desks.old.items
+        result.0.end desks.new.items result.1 result.0.log }
     ensures count { vec_len desks.new ≡ vec_len desks.old }
     ensures named { NamesADesk result.0.end (vec_len desks.old) }
     ensures begun { result.0.end ≢ RunEnd.NoMemory → is_begun result.0.end ≡ true }
     ensures small { AllByRecursion IsSmall desks.new.items }
     ensures legal { Legal result.0.log.width (reverse result.0.log.entries) }
     ensures limits { is_begun result.0.end ≡ true → IsUnder (limits_of book.core) result.0.log }
-    ensures disk { is_some result.1 ≡ is_some journal }
+    ensures disk { is_some result.2 ≡ is_some journal }
 {
-    match run_at_seats(rt, alloc, book, journal, desks, connections, width) {
+    match run_at_seats(rt, alloc, book, program, journal, desks, connections, width) {
         Ok(done) => done,
-        Err(journal) => (starved(), disk_of(journal)),
+        Err((journal, program)) => (starved(), program, disk_of(journal)),
     }
 }

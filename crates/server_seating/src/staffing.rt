@@ -2,16 +2,17 @@
 
 ghost use Rattle.std.specs.Prelude.{◌≡◌, ◌≤◌, ◌<◌, [], vec_len, vec_capacity, IfOk, IfErr};
 ghost use Rattle.sec_base.specs.Answers.{Rose};
-ghost use Rattle.book_seats.specs.Notes.{asked_by};
+ghost use Rattle.book_seats.specs.Notes.{noted_by};
 ghost use Rattle.journal_gate.specs.Withheld.{journal_faults};
-ghost use Rattle.server_desks.specs.Desks.{InStep};
+ghost use Rattle.server_desks.specs.Desks.{InStep, with_speller};
 
 use crate::place::Place;
-use book_seats::{Clerk, Hall, Room, Seat, Shared, Writer};
-use journal_gate::{Behind, JournalGate, Opening};
+use book_seats::{Begins, Clerk, Hall, Room, Seat, Shared, Writer};
+use journal_gate::{Behind, JournalGate, Opening, Queue};
 use replay_journal::Disk;
+use rpc_program::{Program, Speller};
 use sec_base::NoMemory;
-use server_desks::Job;
+use server_desks::{AtGate, Desk, Job};
 use spnego_core::AcceptSetup;
 use std::alloc::Global;
 use std::sync::Mutex;
@@ -19,23 +20,23 @@ use std::sync::ledger::Share;
 
 /// A desk with its clerk.
 #[derive(Drop)]
-pub(crate) struct Staffed<T, J: Room> {
-    desk: T,
-    clerk: Clerk<J>,
+pub(crate) struct Staffed<U, T, J: Room> {
+    desk: U,
+    clerk: Clerk<T, J>,
 }
 
 /// A desk that was served, with its clerk, and its share of the answers that a journal's disk failed.
 #[derive(Drop)]
-pub(crate) struct Risen<T, J: Room, L: Opening> {
-    desk: T,
-    clerk: Clerk<J>,
+pub(crate) struct Risen<U, T, J: Room, L: Opening> {
+    desk: U,
+    clerk: Clerk<T, J>,
     share: Share<L>,
 }
 
-/// The book and the journal, each behind a lock of its own.
-pub(crate) struct Locks<J: Room, M: Disk, L: Opening> {
-    pub(crate) book: Mutex<Shared<J>>,
-    pub(crate) journal: Mutex<Behind<M, L>>,
+/// The book with its program behind a lock, and the queue at the journal.
+pub(crate) struct Locks<V: Program<Ticket = T>, T, J: Room + Begins<V>, M: Disk, L: Opening> {
+    pub(crate) book: Mutex<Shared<V, T, J>>,
+    pub(crate) journal: Queue<M, L>,
 }
 
 /// Room for so many things.
@@ -82,11 +83,11 @@ pub(crate) fn rooms<A: Drop, B: Drop, C: Drop, D: Drop, T: Drop, U>(
 }
 
 /// Makes a clerk for each desk.
-pub(crate) fn hire_all<T: Drop, J: Room>(
-    hall: &Hall<J>,
-    writer: &mut Writer<J>,
-    desks: Vec<T>,
-    staffed: &mut Vec<Staffed<T, J>>,
+pub(crate) fn hire_all<U: Drop, T, J: Room>(
+    hall: &Hall<T, J>,
+    writer: &mut Writer<T, J>,
+    desks: Vec<U>,
+    staffed: &mut Vec<Staffed<U, T, J>>,
 )
     requires none { staffed.old.items ≡ [] }
     requires room { vec_len desks ≤ vec_capacity staffed.old }
@@ -102,39 +103,58 @@ pub(crate) fn hire_all<T: Drop, J: Room>(
     }
 }
 
-/// Gives each desk its seat, to which the setup of the book's ends is lent, and a part of the ledger of the answers that the journal's disk failed.
-pub(crate) fn seat_all<'a, T: Drop, R, J: Room, M: Disk, L: Opening>(
+/// Gives each desk its seat, to which the setup of the book's ends is lent and the desk's speller goes, and a part of the ledger of the answers that
+/// the journal's disk failed.
+pub(crate) fn seat_all<
+    'a,
+    R,
+    P: Drop,
+    C: Drop,
+    D: Drop,
+    K: Drop,
+    S: Drop,
+    V: Program<Ticket = T>,
+    T,
+    W: Speller<T> + Drop,
+    J: Room + Begins<V>,
+    M: Disk,
+    L: Opening,
+>(
     rt: &'a R,
-    locks: &'a Locks<J, M, L>,
+    locks: &'a Locks<V, T, J, M, L>,
     journaled: bool,
-    hall: &'a Hall<J>,
+    hall: &'a Hall<T, J>,
     setup: &'a AcceptSetup,
     alloc: Global,
     connections: u64,
     width: u32,
-    staffed: Vec<Staffed<T, J>>,
+    staffed: Vec<Staffed<Desk<P, C, D, K, S, W>, T, J>>,
     all: &mut Share<L>,
-    jobs: &mut Vec<Job<T, Place<'a, R, J, M, L>>>,
+    jobs: &mut Vec<Job<Desk<P, C, D, K, S, AtGate>, Place<'a, R, V, T, W, J, M, L>>>,
 )
     requires setup { setup.now ≡ J.setup }
+    requires says { W.says ≡ V.says }
     requires none { jobs.old.items ≡ [] }
     requires room { vec_len staffed ≤ vec_capacity jobs.old }
     requires parts { vec_len staffed ≤ all.old.parts }
     requires uncounted { all.old.amount ≡ 0 }
     ensures count { vec_len jobs.new ≡ vec_len staffed }
-    ensures each { InStep staffed.items jobs.new.items (λ _ one job. (job.desk ≡ one.desk)
-        × (job.gate.gate.seat.clerk ≡ one.clerk) × (job.connections ≡ connections)
-        × (job.width ≡ width) × (job.gate.gate.journaled ≡ journaled)
-        × (job.gate.gate.share.amount ≡ 0)) }
+    ensures each { InStep staffed.items jobs.new.items (λ _ one job.
+        (job.desk ≡ with_speller one.desk job.desk.speller)
+        × (job.gate.gate.seat.clerk ≡ one.clerk)
+        × (job.gate.gate.seat.speller ≡ one.desk.speller)
+        × (job.connections ≡ connections) × (job.width ≡ width)
+        × (job.gate.gate.journaled ≡ journaled) × (job.gate.gate.share.amount ≡ 0)) }
 {
     for one in staffed {
         let Staffed { desk, clerk } = one;
+        let (desk, speller) = desk.part();
         let share = all.split_off(1, 0);
-        let seat = Seat::new(rt, &locks.book, hall, setup, clerk);
+        let seat = Seat::new(rt, &locks.book, hall, setup, clerk, speller);
         let gate = Place {
             gate: JournalGate {
                 rt,
-                lock: &locks.journal,
+                queue: &locks.journal,
                 journaled,
                 seat,
                 share,
@@ -144,15 +164,29 @@ pub(crate) fn seat_all<'a, T: Drop, R, J: Room, M: Disk, L: Opening>(
     }
 }
 
-/// Takes the desks, their clerks and their shares back.
-pub(crate) fn rise_all<T: Drop, R, J: Room, M: Disk, L: Opening>(
-    jobs: Vec<Job<T, Place<'_, R, J, M, L>>>,
-    risen: &mut Vec<Risen<T, J, L>>,
+/// Takes the desks with their spellers, their clerks and their shares back.
+pub(crate) fn rise_all<
+    R,
+    P: Drop,
+    C: Drop,
+    D: Drop,
+    K: Drop,
+    S: Drop,
+    V: Program<Ticket = T>,
+    T,
+    W: Speller<T> + Drop,
+    J: Room + Begins<V>,
+    M: Disk,
+    L: Opening,
+>(
+    jobs: Vec<Job<Desk<P, C, D, K, S, AtGate>, Place<'_, R, V, T, W, J, M, L>>>,
+    risen: &mut Vec<Risen<Desk<P, C, D, K, S, W>, T, J, L>>,
 )
     requires none { risen.old.items ≡ [] }
     requires room { vec_len jobs ≤ vec_capacity risen.old }
     ensures count { vec_len risen.new ≡ vec_len jobs.entry }
-    ensures each { InStep jobs.entry.items risen.new.items (λ _ job one. (one.desk ≡ job.desk)
+    ensures each { InStep jobs.entry.items risen.new.items (λ _ job one.
+        (one.desk ≡ with_speller job.desk job.gate.gate.seat.speller)
         × (one.clerk ≡ job.gate.gate.seat.clerk)
         × (one.share.amount ≡ job.gate.gate.share.amount)) }
 {
@@ -161,14 +195,15 @@ pub(crate) fn rise_all<T: Drop, R, J: Room, M: Disk, L: Opening>(
         let Place { gate } = gate;
         let JournalGate {
             rt: _,
-            lock: _,
+            queue: _,
             journaled: _,
             seat,
             share,
         } = gate;
+        let (clerk, speller) = seat.rise();
         risen.push_reserved(Risen {
-            desk,
-            clerk: seat.rise(),
+            desk: desk.with(speller),
+            clerk,
             share,
         });
     }
@@ -176,12 +211,12 @@ pub(crate) fn rise_all<T: Drop, R, J: Room, M: Disk, L: Opening>(
 
 /// Dismisses the clerks: of each desk the history has what its clerk has seen of it. If the journal's disk failed an answer to it, the disk's count
 /// of faults rose.
-pub(crate) fn compare_all<T: Drop, J: Room, M: Disk, L: Opening>(
-    hall: &Hall<J>,
-    writer: &mut Writer<J>,
+pub(crate) fn compare_all<U: Drop, T, J: Room, M: Disk, L: Opening>(
+    hall: &Hall<T, J>,
+    writer: &mut Writer<T, J>,
     behind: &mut Behind<M, L>,
-    risen: Vec<Risen<T, J, L>>,
-    desks: &mut Vec<T>,
+    risen: Vec<Risen<U, T, J, L>>,
+    desks: &mut Vec<U>,
 )
     requires none { desks.old.items ≡ [] }
     requires room { vec_len risen ≤ vec_capacity desks.old }
@@ -189,7 +224,7 @@ pub(crate) fn compare_all<T: Drop, J: Room, M: Disk, L: Opening>(
     ensures writer { writer.new ≡ writer.old }
     ensures journal { behind.new.journal ≡ behind.old.journal }
     ensures each { InStep risen.items desks.new.items (λ _ one desk. (desk ≡ one.desk)
-        × (asked_by one.clerk.desk writer.old.all ≡ asked_by one.clerk.desk one.clerk.seen)
+        × (noted_by one.clerk.desk writer.old.all ≡ noted_by one.clerk.desk one.clerk.seen)
         × (0 < one.share.amount → Rose L.count (journal_faults M.faults behind.old.journal))) }
 {
     for one in risen {

@@ -1,11 +1,11 @@
 use Rattle.std.proofs.Common.{subst}
-use Rattle.accept_book.specs.RecordShown.{Asked}
 use Rattle.book_seats.specs.Histories.{NotesOne}
+use Rattle.book_seats.specs.Notes.{Noted}
 use Rattle.book_seats.proofs.shared.note_look.Goals as goal
 
 pub returns : goal.returns
 returns g c =
-    subst (λ (one : Asked). NotesOne c.args.writer.now c.args.clerk.now one c.note.new.self c.note.new.clerk) c.requires
+    subst (λ (one : Noted g.row.T.Denot). NotesOne c.args.writer.now c.args.clerk.now one c.note.new.self c.note.new.clerk) c.requires
     (record {
       writer = c.note.ensures.writer;
       clerk = c.note.ensures.clerk;

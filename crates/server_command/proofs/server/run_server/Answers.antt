@@ -90,7 +90,7 @@ returns-in-Ok-clause-complete g c = λ options is valid journal steady kept port
     (subst (λ (o : Options). AreValid (g.F.Shelf.tells c.args.shelf.now) (g.F.Shelf.files c.args.shelf.now) o.files o.name) (same-options c.in-Ok.ensures.value is) valid) steady
     (unstopped g.M.Disk c.args.disk.now c.run_with.new.disk c.args.start c.in-Ok.options c.run_with.result.end
     (subst (λ (o : Options). HasJournal g.M.Disk c.args.disk.now c.args.start o) (same-options c.in-Ok.ensures.value is) journal) kept other)
-    (begun-served c.run_with.ensures.booked (λ one. side-served one.2 ports other)) other
+    (begun-served c.run_with.ensures.booked (λ idle. idle.0) (λ one. side-served one.2 ports other)) other
 
 pub returns-in-Ok-clause-seen : goal.returns-in-Ok-clause-seen
 returns-in-Ok-clause-seen g c = λ options is. rw (same-options c.in-Ok.ensures.value is) c.run_with.ensures.seen

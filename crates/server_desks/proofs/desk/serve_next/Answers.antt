@@ -13,6 +13,7 @@ returns-clause-served g c =
       most = told.most;
       always = told.always;
       fault = told.fault;
+      faultless = told.faultless;
       closed = told.closed;
     })
     made.given made.timed made.drawn c.keep.ensures refl refl

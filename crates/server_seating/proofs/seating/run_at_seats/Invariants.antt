@@ -8,10 +8,12 @@ abbrev pub ghosts-run_noted-J-Room : goal.ghosts-run_noted-J-Room
 ghosts-run_noted-J-Room g a = record {
   table = a.board.shared.table_id;
   setup = a.setup.now;
-  begins = λ first. first ≡ with_setup a.setup.now a.book;
   desks = vec_len a.desks.now;
   limits = limits_of a.book;
 }
+
+abbrev pub ghosts-run_noted-J-Begins : goal.ghosts-run_noted-J-Begins
+ghosts-run_noted-J-Begins g a = record { begins = λ first. first ≡ record { book = with_setup a.setup.now a.book; program = a.program } }
 
 abbrev pub ghosts-run_noted-L-Opening : goal.ghosts-run_noted-L-Opening
 ghosts-run_noted-L-Opening g a = record { count = journal_faults g.M.Disk.faults a.journal; kept = is_some a.journal }

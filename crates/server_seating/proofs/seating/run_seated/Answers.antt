@@ -1,8 +1,9 @@
-use Rattle.std.proofs.Common.{rules, ◌≡◌, ◌≤◌, ℕ, is_some, map, Some, length, slice_get, sym, ap, ◌∙◌, subst}
+use Rattle.std.proofs.Common.{rules, arith, vec_len, vec_capacity, ◌≡◌, ◌≤◌, ℕ, is_some, map, Some, length, refl, slice_get, sym, ap, ◌∙◌, subst}
 use Rattle.accept_book.specs.Booking.{with_setup}
-use Rattle.book_seats.specs.Notes.{asked_by}
+use Rattle.book_seats.specs.Notes.{noted_by}
+use Rattle.gss_server.specs.Hearing.{serving}
 use Rattle.std.proofs.lemmas.List.{length-map}
-use Rattle.server_desks.specs.Desks.{IsFresh, end_behind}
+use Rattle.server_desks.specs.Desks.{IsFresh, end_behind, with_speller}
 use Rattle.server_options.specs.declared.ending.RunEnd.TheVariants.{Served}
 use Rattle.server_desks.proofs.InStep.{there, all-along, get-map}
 use denote.Param.Send.{sendable}
@@ -20,7 +21,8 @@ run_desks-requires-after_bounds g c κs within =
     let s1 = there c.replace-olds.result.items c.hire_all.new.staffed.items i a n1 at_a in
     let r1 = c.hire_all.ensures.each i a s1.0 at_a s1.1 in
     let r2 = c.seat_all.ensures.each i s1.0 b s1.1 at_b in
-    subst (λ desk. IsFresh desk) (sym (r2.0 ∙ r1.0)) fresh)
+    let was : IsFresh s1.0.desk = subst (λ desk. IsFresh desk) (sym r1.0) fresh in
+    subst (λ desk. IsFresh desk) (sym r2.0) (record { connections = was.connections; records = was.records }))
     (rw c.replace-olds.ensures.value c.requires.fresh)
 
 pub returns-clause-served : goal.returns-clause-served
@@ -32,14 +34,17 @@ returns-clause-served g c =
     let n4 : length c.rise_all.new.risen.items ≡ length c.run_desks.new.jobs.items = same-length c.rise_all.new.risen c.run_desks.new.jobs c.rise_all.ensures.count in
     let n5 : length c.compare_all.new.desks.items ≡ length c.rise_all.new.risen.items = same-length c.compare_all.new.desks c.rise_all.new.risen c.compare_all.ensures.count in
     let olds : length c.replace-olds.result.items ≡ length c.args.desks.now.items = ap (λ v. length v.items) value in
-    let all = c.into_parts-book.result.1.all in
+    let all = c.into_parts-book.result.2.all in
+    let ended_once = c.into_parts-book.ensures.ended in
     record {
       all = all;
       ends = map (λ job. job.end) c.run_desks.new.jobs.items;
-      first = c.into_parts-book.ensures.began.0;
-      last = with_setup g.J.Room.setup c.into_parts-book.result.0;
-      opened = c.into_parts-book.ensures.began.1;
-      chain = c.into_parts-book.ensures.began.2;
+      first = ended_once.first;
+      last = record { book = with_setup g.J.Room.setup c.into_parts-book.result.0; program = c.into_parts-book.result.1 };
+      opened = ended_once.began;
+      chain = ended_once.chain;
+      once = ended_once.once;
+      left = refl;
       closed = c.course_of.ensures.log g.J.Room.setup;
       count = n5 ∙ n4 ∙ n3 ∙ n2 ∙ n1 ∙ olds;
       ends_count = length-map c.run_desks.new.jobs.items (λ job. job.end) ∙ n3 ∙ n2 ∙ n1 ∙ olds;
@@ -58,11 +63,11 @@ returns-clause-served g c =
           record {
             failed = s2.0.share.amount;
             served =
-                desk-noted g.J.Room.begins (λ s. s.gate.seat) (λ s. s.clerk) (λ s. s.gate.journaled) (λ s. s.gate.share.amount) (is_some c.args.journal) all i j1.0.width j1.0.connections a b j1.0.desk j2.0.desk ending j1.0.gate j2.0.gate s2.0.clerk s2.0.share.amount r2.3 r2.2 (r2.0 ∙ r1.0) (r2.1 ∙ r1.1) (r2.4 ∙ c.is_some-journaled.ensures) r2.5
+                desk-noted g.V.Program g.W.Speller g.J.Begins.begins (λ s. s.gate.seat) (λ s. s.clerk) (λ s. s.speller) (λ s. s.gate.journaled) (λ s. s.gate.share.amount) (is_some c.args.journal) all i (serving g.W.Speller.says j1.0.width) j1.0.connections a b j1.0.desk j2.0.desk ending j1.0.gate j2.0.gate s2.0.clerk s2.0.share.amount (ap (serving g.W.Speller.says) r2.4) r2.3 (r2.0 ∙ ap (λ d. with_speller d j1.0.desk.speller) r1.0) (r2.1 ∙ r1.1) (r2.2 ∙ ap (λ d. d.speller) r1.0) (r2.5 ∙ c.is_some-journaled.ensures) r2.6
                 (rw ended r3) r4.1 r4.2 (r5.0 ∙ r4.0) r5.1;
             failing = λ some. rw c.disk_of.ensures.faults (rw c.into_journal.ensures.same (rw c.compare_all.ensures.journal (r5.2 some)));
           };
-      others = λ d few. ap (λ w. asked_by d w.all) (sym c.compare_all.ensures.writer)
+      others = λ d few. ap (λ w. noted_by d w.all) (sym c.compare_all.ensures.writer)
           ∙ c.close.ensures.others d (subst (λ (n : ℕ). n ≤ d) (sym (ap (λ w. w.made) c.compare_all.ensures.writer ∙ c.into_parts-book.ensures.desks ∙ c.requires.desks)) (search rules));
       ended = c.course_of.ensures.end ∙ c.end_of-end.ensures ∙ ap (λ jobs. end_behind Served 1 (map (λ job. job.end) jobs)) c.as_slice.ensures.value;
     }
@@ -80,16 +85,28 @@ returns-clause-limits g c =
     }
 
 pub new-requires-3-clause-kept : goal.new-requires-3-clause-kept
-new-requires-3-clause-kept g c = rw c.in_ok-staffed.ensures.kept c.requires.kept
+new-requires-3-clause-kept g c = rw (ap (λ kept. kept.0) c.in_ok-staffed.ensures.kept) c.requires.kept
 
 pub new-requires-3-clause-count : goal.new-requires-3-clause-count
-new-requires-3-clause-count g c = rw c.in_ok-staffed.ensures.kept c.requires.count
+new-requires-3-clause-count g c = rw (ap (λ kept. kept.0) c.in_ok-staffed.ensures.kept) c.requires.count
 
 pub new-requires-3-clause-unclosed : goal.new-requires-3-clause-unclosed
-new-requires-3-clause-unclosed g c = rw c.in_ok-staffed.ensures.kept c.requires.unclosed
+new-requires-3-clause-unclosed g c = rw (ap (λ kept. kept.0) c.in_ok-staffed.ensures.kept) c.requires.unclosed
 
 pub returns-clause-disk : goal.returns-clause-disk
 returns-clause-disk g c = c.disk_of.ensures.some ∙ (c.into_journal.ensures.kept ∙ sym c.requires.kept)
 
 pub run_desks-requires-send-G : goal.run_desks-requires-send-G
 run_desks-requires-send-G g c = λ κs lives. search (place-send, sendable) depth 20
+
+pub rise_all-requires-clause-none : goal.rise_all-requires-clause-none
+rise_all-requires-clause-none g c = c.in_ok-staffed.ensures.none.2
+
+pub rise_all-requires-clause-room : goal.rise_all-requires-clause-room
+rise_all-requires-clause-room g c = omega (arith, c.in_ok-staffed.ensures.room.2, c.run_desks.ensures.count, c.seat_all.ensures.count, c.hire_all.ensures.count, ap vec_len c.replace-olds.ensures.value)
+
+pub compare_all-requires-clause-none : goal.compare_all-requires-clause-none
+compare_all-requires-clause-none g c = ap (λ v. v.items) c.replace-olds.ensures.after ∙ c.in_ok-staffed.ensures.none.3
+
+pub compare_all-requires-clause-room : goal.compare_all-requires-clause-room
+compare_all-requires-clause-room g c = omega (arith, c.in_ok-staffed.ensures.room.3, c.rise_all.ensures.count, c.run_desks.ensures.count, c.seat_all.ensures.count, c.hire_all.ensures.count, ap vec_len c.replace-olds.ensures.value, ap vec_capacity c.replace-olds.ensures.after)

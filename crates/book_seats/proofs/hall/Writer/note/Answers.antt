@@ -17,7 +17,7 @@ join_seat-requires g c =
       lent.3 ∙ (c.clerk.invariant.0 ∙ sym hall.named),
       ap (λ m. m.1) lent.4,
       hall.words,
-      holds_as _ _ _ _ (ap (λ m. m.0) c.self.invariant.1) (subst (λ (u : ViewOf). u ≡ clerk u.desk u.seen) (sym view) (ap (λ m. m.0) c.clerk.invariant.1)),
+      holds_as _ _ _ _ (ap (λ m. m.0) c.self.invariant.1) (subst (λ (u : ViewOf _). u ≡ clerk u.desk u.seen) (sym view) (ap (λ m. m.0) c.clerk.invariant.1)),
     )
 
 pub load-requires : goal.load-requires
@@ -38,7 +38,7 @@ split_seat-back-requires g c =
     let looked = c.load.ensures in (
       looked.0 ∙ (taken.0 ∙ (c.self.invariant.0 ∙ sym hall.named)),
       hall.words,
-      notes_as _ _ _ (is_busy _ _ _ (ap (λ m. m.0) looked.2.0 ∙ ap (λ m. m.0) taken.2) (ap (λ m. m.0) c.self.invariant.1) (subst (λ (u : ViewOf). u ≡ clerk u.desk u.seen) (sym view) (ap (λ m. m.0) c.clerk.invariant.1))),
+      notes_as _ _ _ (is_busy _ _ _ (ap (λ m. m.0) looked.2.0 ∙ ap (λ m. m.0) taken.2) (ap (λ m. m.0) c.self.invariant.1) (subst (λ (u : ViewOf _). u ≡ clerk u.desk u.seen) (sym view) (ap (λ m. m.0) c.clerk.invariant.1))),
     )
 
 pub join_seat-requires-2 : goal.join_seat-requires-2

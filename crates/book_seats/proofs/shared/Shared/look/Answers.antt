@@ -1,19 +1,22 @@
-use Rattle.std.proofs.Common.{ap, ◌∙◌}
+use Rattle.std.proofs.Common.{refl, ap, ◌∙◌}
 use Rattle.accept_book.specs.Booking.{with_setup}
+use Rattle.book_seats.specs.Both.{BothOf}
 use Rattle.book_seats.proofs.Histories.{begun-noted, answered, limits-kept}
 use Rattle.book_seats.proofs.shared.Shared.look.Goals as goal
 
 pub invariant_of-self : goal.invariant_of-self
 invariant_of-self g c =
     let setup = g.J.Room.setup in
-    let old = with_setup setup c.self.inside.book in
-    let new = with_setup setup c.look-answer.new.self in (
-      begun-noted g.J.Room.begins c.note_look.ensures old new c.self.invariant.0 (c.look-answer.ensures.looked setup) c.log.ensures.legal,
+    let old : BothOf g.row.P.Denot = record { book = with_setup setup c.self.inside.book; program = c.self.inside.program } in
+    let new : BothOf g.row.P.Denot = record { book = with_setup setup c.look-answer.new.self; program = c.self.inside.program } in (
+      begun-noted g.P.Program g.J.Begins.begins c.note_look.ensures old new c.self.invariant.0 (c.look-answer.ensures.looked setup, refl) c.log.ensures.legal,
       ap (λ w. w.made) c.note_look.ensures.writer ∙ c.self.invariant.1,
-      limits-kept c.note_look.ensures old new (c.look-answer.ensures.looked setup) ∙ c.self.invariant.2,
+      limits-kept g.P.Program c.note_look.ensures old new (c.look-answer.ensures.looked setup, refl) ∙ c.self.invariant.2,
     )
 
 pub returns : goal.returns
 returns g c =
     let setup = g.J.Room.setup in
-    answered g.J.Room.begins c.note_look.ensures (with_setup setup c.self.inside.book) (with_setup setup c.look-answer.new.self) c.self.invariant.0 (c.look-answer.ensures.looked setup) c.log.ensures.legal
+    let old : BothOf g.row.P.Denot = record { book = with_setup setup c.self.inside.book; program = c.self.inside.program } in
+    let new : BothOf g.row.P.Denot = record { book = with_setup setup c.look-answer.new.self; program = c.self.inside.program } in
+    answered g.P.Program g.J.Begins.begins c.note_look.ensures old new c.self.invariant.0 (c.look-answer.ensures.looked setup, refl) c.log.ensures.legal
