@@ -12,6 +12,7 @@ use Rattle.accept_book.specs.declared.book_answer.NegAnswer.{NegAnswer}
 use Rattle.accept_book.specs.declared.book_answer.NegAnswer.TheVariants as answers
 use Rattle.accept_book.specs.declared.book_answer.Negotiated.{Negotiated}
 use Rattle.accept_book.specs.RecordShown.{Asked, AskedStep}
+use Rattle.accept_book.specs.declared.book_answer.Admitted.{Admitted}
 use Rattle.replay_journal.specs.Journals.{JournalOf}
 
 -- ---- the authenticator that a step took
@@ -85,7 +86,7 @@ Counted failed (Some answer) failed' =
 
 -- a step that took an authenticator is told with this answer in the place of its own, and with the
 -- receipts that it has
-pub record Withheld (first one : Asked) (answer : NegAnswer) : Type 0 where
+pub record Withheld (first one : Asked Admitted) (answer : NegAnswer) : Type 0 where
   pub id : Option ℕ
   pub token : List ℕ
   pub now : ℕ
@@ -101,16 +102,16 @@ pub record Withheld (first one : Asked) (answer : NegAnswer) : Type 0 where
 -- a question is told with its answer as the book gave it; or, with a journal, the authenticator
 -- that the book took is refused by the journal, which tells why. The answers that its disk failed
 -- are counted
-abbrev pub IsTold : Bool → Asked → ℕ → Asked → ℕ → Type 0
+abbrev pub IsTold : Bool → Asked Admitted → ℕ → Asked Admitted → ℕ → Type 0
 IsTold journaled first failed one failed' = ((one ≡ first) × (failed' ≡ failed))
     ⊎ ((journaled ≡ true) × (answer : NegAnswer) × Withheld first one answer
     × (failed' ≡ failed + failed_in answer))
 
 -- what a gate with a journal may answer, over another that may answer so
-pub record JournalAnswers {S : Type 0} (answers : S → Asked → S → Type 0) (journaled : Bool)
-    (old : S) (failed : ℕ) (one : Asked) (journaled' : Bool) (new : S) (failed' : ℕ) : Type
-    0 where
-  pub first : Asked
+pub record JournalAnswers {S : Type 0} (answers : S → Asked Admitted → S → Type 0)
+    (journaled : Bool) (old : S) (failed : ℕ) (one : Asked Admitted) (journaled' : Bool) (new : S)
+    (failed' : ℕ) : Type 0 where
+  pub first : Asked Admitted
   pub asked : answers old first new
   pub told : IsTold journaled first failed one failed'
   pub same : journaled' ≡ journaled

@@ -1,47 +1,31 @@
 //! The gate over a desk's seat.
 
 ghost use Rattle.std.specs.Prelude.{◌≡◌, ◌<◌};
-ghost use Rattle.journal_gate.specs.Withheld.{Counted};
 
-use crate::behind::{Behind, Opening};
+use crate::behind::Opening;
 use crate::marks::taken_in;
+use crate::queue::Queue;
 use accept_book::{AdmitRefusal, Admitted, Lease, LookRefusal, NegAnswer, Negotiated, Receipt};
-use gss_base::Mark;
-use gss_server::Gate;
+use gss_server::{DataCall, Gate};
 use replay_journal::Disk;
+use rpc_program::ProgramId;
+use rpcsec_bodies::Service;
 use sec_base::Moment;
 use std::alloc::Global;
+use std::sync::Wait;
 use std::sync::ledger::Share;
-use std::sync::{Mutex, Wait};
 
-/// A gate over another, and the journal behind its lock, which is asked where one is kept.
+/// A gate over another, and the queue at the journal, which is asked where one is kept.
 #[derive(Drop)]
 pub struct JournalGate<'a, R, G, K: Disk, L: Opening> {
     pub rt: &'a R,
-    pub lock: &'a Mutex<Behind<K, L>>,
+    pub queue: &'a Queue<K, L>,
     /// Whether a journal is kept.
     pub journaled: bool,
     pub seat: G,
     /// The desk's share of the answers that the journal's disk failed.
     pub share: Share<L>,
     pub ghost some: { 0 < share.parts },
-}
-
-/// Has the journal keep a mark, in one section of the lock.
-fn keep<R: Wait, K: Disk, L: Opening>(
-    rt: &R,
-    lock: &Mutex<Behind<K, L>>,
-    share: &mut Share<L>,
-    now: Moment,
-    mark: Mark,
-) -> Option<NegAnswer>
-    requires { 0 < share.old.parts }
-    ensures parts { share.new.parts ≡ share.old.parts }
-    ensures counted { Counted share.old.amount result share.new.amount }
-{
-    let mut guard = lock.lock(rt);
-    let behind = &mut *guard;
-    behind.keep(share, now, mark)
 }
 
 /// A step whose answer is withheld: this one stands in its place, and its receipts stay.
@@ -61,6 +45,8 @@ impl<R: Wait, G: Gate, K: Disk, L: Opening> Gate for JournalGate<'_, R, G, K, L>
     ghost use Rattle.std.specs.Prelude.{false, []};
     ghost use Rattle.journal_gate.specs.Withheld.{JournalAnswers};
 
+    ghost program = { G.program };
+
     ghost tells = { λ _. false };
 
     ghost room = { λ _. 0 };
@@ -71,6 +57,22 @@ impl<R: Wait, G: Gate, K: Disk, L: Opening> Gate for JournalGate<'_, R, G, K, L>
 
     ghost answers = { λ old one new. JournalAnswers G.answers old.journaled old.seat
         old.share.amount one new.journaled new.seat new.share.amount };
+
+    fn id(&self) -> ProgramId {
+        self.seat.id()
+    }
+
+    fn has(&self, procedure: u32) -> bool {
+        self.seat.has(procedure)
+    }
+
+    fn needs(&self, procedure: u32) -> Service {
+        self.seat.needs(procedure)
+    }
+
+    fn takes(&self, procedure: u32, args: &[u8]) -> bool {
+        self.seat.takes(procedure, args)
+    }
 
     fn negotiate(
         &mut self,
@@ -86,10 +88,13 @@ impl<R: Wait, G: Gate, K: Disk, L: Opening> Gate for JournalGate<'_, R, G, K, L>
         }
         match taken_in(&step) {
             None => step,
-            Some(mark) => match keep(self.rt, self.lock, &mut self.share, now, mark) {
-                None => step,
-                Some(answer) => withheld(step, answer),
-            },
+            Some(mark) => {
+                let told = self.queue.keep(self.rt, alloc, &mut self.share, now, mark);
+                match told {
+                    None => step,
+                    Some(answer) => withheld(step, answer),
+                }
+            }
         }
     }
 
@@ -99,12 +104,15 @@ impl<R: Wait, G: Gate, K: Disk, L: Opening> Gate for JournalGate<'_, R, G, K, L>
 
     fn admit(
         &mut self,
+        alloc: Global,
         lease: &Lease,
-        seq: u32,
-        procedure: u32,
-        args: [u8; 20],
+        call: &DataCall<'_>,
     ) -> Result<Admitted, AdmitRefusal> {
-        self.seat.admit(lease, seq, procedure, args)
+        self.seat.admit(alloc, lease, call)
+    }
+
+    fn pass(&mut self, lease: &Lease, call: &DataCall<'_>) -> Result<Receipt, AdmitRefusal> {
+        self.seat.pass(lease, call)
     }
 
     fn end(&mut self, lease: &Lease, seq: u32) -> Result<Receipt, AdmitRefusal> {

@@ -4,6 +4,8 @@
 mod behind;
 mod gate;
 mod marks;
+mod queue;
 
 pub use behind::{Behind, Opening, disk_of};
 pub use gate::JournalGate;
+pub use queue::Queue;

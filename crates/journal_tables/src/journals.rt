@@ -1,7 +1,7 @@
 //! A journal over a disk in memory.
 
 use gss_base::Mark;
-use replay_journal::{Journal, JournalRefusal, JournalVerdict, MemDisk};
+use replay_journal::{Journal, JournalRefusal, JournalVerdict, MemDisk, Request, Unkept};
 use sec_base::Moment;
 use std::alloc::Global;
 use table_rows::{Cells, Said};
@@ -55,14 +55,43 @@ fn verdict_said(said: &mut Said, verdict: JournalVerdict) {
     }
 }
 
-/// Says what a journal answers to the marks `now/who/at`, and answers whether each is in that form.
+/// The marks `now/who/at` with + between them, and whether each is in that form.
+fn requests(said: &mut Said, step: &str) -> (Vec<Request>, bool) {
+    let (mut asked, mut are_well) = (Vec::new(said.alloc()), true);
+    for part in step.split('+') {
+        let mut parts = Cells::new(said.alloc(), part, '/');
+        let (now, mark) = (moment(&mut parts), mark(&mut parts));
+        if asked.push(Request { now, mark }).is_err() {
+            said.starve();
+        }
+        are_well = parts.are_well() && are_well;
+    }
+    (asked, are_well)
+}
+
+/// Says what a journal answers to marks that are kept together.
+fn together_said(said: &mut Said, journal: &mut Journal<MemDisk>, asked: &[Request]) {
+    match journal.keep_all(asked) {
+        Ok(answers) => {
+            for answer in answers {
+                verdict_said(said, answer);
+            }
+        }
+        Err(Unkept::Apart) => said.word("apart"),
+        Err(Unkept::DiskFault) => said.word("fault"),
+    }
+}
+
+/// Says what a journal answers to the marks, of which those with + between them are kept together, and answers whether each is in its form.
 fn are_answered(said: &mut Said, journal: &mut Journal<MemDisk>, steps: &str) -> bool {
     let mut are_well = true;
     for step in steps.split(',') {
-        let mut parts = Cells::new(said.alloc(), step, '/');
-        let (now, mark) = (moment(&mut parts), mark(&mut parts));
-        verdict_said(said, journal.keep(now, mark));
-        are_well = parts.are_well() && are_well;
+        let (asked, is_well) = requests(said, step);
+        match asked.as_slice() {
+            [one] => verdict_said(said, journal.keep(one.now, one.mark)),
+            _ => together_said(said, journal, asked.as_slice()),
+        }
+        are_well = is_well && are_well;
     }
     are_well
 }

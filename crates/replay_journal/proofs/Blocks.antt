@@ -2,7 +2,7 @@
 use Rattle.std.proofs.Common.{◌≡◌, ◌≢◌, ℕ, zero, suc, ◌+◌, ◌*◌, ◌<◌, true, false, List, [], ◌∷◌, ◌++◌, length, drop, refl, sym, ◌∙◌, ap, arith, length-append, append_assoc}
 use Rattle.std.proofs.lemmas.List.{append-nil, take_at, drop_at}
 use Rattle.std.proofs.lemmas.Bool.{ne_eqb, lt-ltb}
-use Rattle.replay_journal.specs.Files.{head, starts_open, bodies, counted, blocks, front, Sized, Rests}
+use Rattle.replay_journal.specs.Files.{AreBehind, head, starts_open, bodies, counted, blocks, front, Sized, Rests}
 
 pub length-blocks : (records : List (List ℕ)) → Sized records → length (blocks records) ≡ 45 * length records
 length-blocks [] sized = refl
@@ -27,6 +27,31 @@ front-push records body rest =
 pub sized-push : (records : List (List ℕ)) (body : List ℕ) → Sized records → length body ≡ 44 → Sized (records ++ body ∷ [])
 sized-push [] body sized is = (is, tt)
 sized-push (b ∷ more) body sized is = (sized.0, sized-push more body sized.1 is)
+
+pub blocks-append : (records new : List (List ℕ)) → blocks (records ++ new) ≡ blocks records ++ blocks new
+blocks-append [] new = refl
+blocks-append (b ∷ more) new = ap (λ (l : List ℕ). 0x4a ∷ l) (ap (λ (l : List ℕ). b ++ l) (blocks-append more new) ∙ sym (append_assoc b (blocks more) (blocks new)))
+
+-- records, the gate of new ones, and what stands behind that gate
+pub front-all : (records new : List (List ℕ)) (inner rest : List ℕ) → 0x4a ∷ inner ≡ blocks new → front (records ++ new) ++ rest ≡ front records ++ 0x4a ∷ (inner ++ rest)
+front-all records new inner rest first =
+    append_assoc head (blocks (records ++ new)) rest
+    ∙ ap (λ (l : List ℕ). head ++ (l ++ rest)) (blocks-append records new ∙ ap (λ (l : List ℕ). blocks records ++ l) (sym first))
+    ∙ ap (λ (l : List ℕ). head ++ l) (append_assoc (blocks records) (0x4a ∷ inner) rest)
+    ∙ sym (append_assoc head (blocks records) (0x4a ∷ (inner ++ rest)))
+
+pub sized-all : (records new : List (List ℕ)) → Sized records → Sized new → Sized (records ++ new)
+sized-all [] new sized is = is
+sized-all (b ∷ more) new sized is = (sized.0, sized-all more new sized.1 is)
+
+-- one record, and a closed gate behind it
+pub behind-one : (body octets : List ℕ) → octets ≡ body ++ 0 ∷ [] → length octets ≡ 45 → AreBehind (body ∷ []) octets
+behind-one body octets is size = record {
+  inner = body;
+  first = ap (λ (l : List ℕ). 0x4a ∷ l) (sym (append-nil body));
+  last = is;
+  sized = (omega (arith, ap length is, size, length-append body (0 ∷ [])), tt);
+}
 
 closed-start : (gate : ℕ) (tail : List ℕ) → gate ≢ 0x4a → starts_open (gate ∷ tail) ≡ false
 closed-start gate tail shut = rw (ne_eqb gate 0x4a shut) refl

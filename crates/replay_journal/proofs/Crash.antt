@@ -3,9 +3,9 @@ use Rattle.std.proofs.Common.{◌≡◌, ◌≢◌, inl, inr, ℕ, ◌+◌, ◌*
 use Rattle.std.proofs.lemmas.List.{take_at, drop_at, drop_more}
 use Rattle.std.proofs.lemmas.Bool.{cases_eq}
 use Rattle.replay_journal.specs.Disks.{Written, Torn, Follows, Only}
-use Rattle.replay_journal.specs.Files.{front, Sized, Rests}
-use Rattle.replay_journal.specs.Journals.{BeforeOrAfter}
-use Rattle.replay_journal.proofs.Blocks.{length-front, front-push, sized-push}
+use Rattle.replay_journal.specs.Files.{front, blocks, Sized, Rests}
+use Rattle.replay_journal.specs.Journals.{BeforeOrAll}
+use Rattle.replay_journal.proofs.Blocks.{length-front, front-all, sized-all}
 
 -- the file with a body behind its gate, and a closed gate behind that
 pub record Staged (records : List (List ℕ)) (body file : List ℕ) : Type 0 where
@@ -58,8 +58,8 @@ module _ (records : List (List ℕ)) (count : ℕ) (counts : count ≡ length re
       omega (arith, ap length staged.split, length-append (front records) (staged.gate ∷ (body ++ 0 ∷ staged.tail)), length-front records staged.sized, counts)
 
   -- the body stands whole in each outcome of the second write
-  pub torn_gate : (body file c : List ℕ) → length body ≡ 44 → Staged records body file → Torn (8 + 45 * count) 1 file c → BeforeOrAfter records body c
-  torn_gate body file c long staged torn =
+  pub torn_gate : (new : List (List ℕ)) (body file c : List ℕ) → 0x4a ∷ body ≡ blocks new → Sized new → Staged records body file → Torn (8 + 45 * count) 1 file c → BeforeOrAll records new c
+  torn_gate new body file c first sized staged torn =
       let at : ℕ = 8 + 45 * count in
       let size : length (front records) ≡ at = omega (arith, length-front records staged.sized, counts) in
       let gate : ℕ = get_or c at 0 in
@@ -74,15 +74,15 @@ module _ (records : List (List ℕ)) (count : ℕ) (counts : count ≡ length re
         | inl opened ↦ inr (record {
           gate = 0;
           tail = staged.tail;
-          split = whole ∙ ap (λ (g : ℕ). front records ++ g ∷ (body ++ 0 ∷ staged.tail)) opened ∙ sym (front-push records body (0 ∷ staged.tail));
-          sized = sized-push records body staged.sized long;
+          split = whole ∙ ap (λ (g : ℕ). front records ++ g ∷ (body ++ 0 ∷ staged.tail)) opened ∙ sym (front-all records new body (0 ∷ staged.tail) first);
+          sized = sized-all records new staged.sized sized;
           shut = λ is. absurd (omega (arith, is));
         })
         | inr shut ↦ inl (record { gate = gate; tail = body ++ 0 ∷ staged.tail; split = whole; sized = staged.sized; shut = shut })
       ]
 
-  pub written_gate : (body file c : List ℕ) → length body ≡ 44 → Staged records body file → Written file (8 + 45 * count) (0x4a ∷ []) c → Rests (records ++ body ∷ []) c
-  written_gate body file c long staged written =
+  pub written_gate : (new : List (List ℕ)) (body file c : List ℕ) → 0x4a ∷ body ≡ blocks new → Sized new → Staged records body file → Written file (8 + 45 * count) (0x4a ∷ []) c → Rests (records ++ new) c
+  written_gate new body file c first sized staged written =
       let at : ℕ = 8 + 45 * count in
       let size : length (front records) ≡ at = omega (arith, length-front records staged.sized, counts) in
       let start : take at file ≡ front records = ap (λ (l : List ℕ). take at l) staged.split ∙ take_at (front records) _ at size in
@@ -95,8 +95,8 @@ module _ (records : List (List ℕ)) (count : ℕ) (counts : count ≡ length re
             ∙ ap (λ (l : List ℕ). l ++ (0x4a ∷ []) ++ drop (at + 1) file) start
             ∙ append_assoc (front records) (0x4a ∷ []) (drop (at + 1) file)
             ∙ ap (λ (l : List ℕ). front records ++ 0x4a ∷ l) back
-            ∙ sym (front-push records body (0 ∷ staged.tail));
-        sized = sized-push records body staged.sized long;
+            ∙ sym (front-all records new body (0 ∷ staged.tail) first);
+        sized = sized-all records new staged.sized sized;
         shut = λ is. absurd (omega (arith, is));
       }
 
@@ -105,10 +105,10 @@ module _ (records : List (List ℕ)) (count : ℕ) (counts : count ≡ length re
       let from = follows c left in
       torn_body n file c rests (subst (λ f. Torn (9 + 45 * count) n f c) (only from.0 from.1) from.2)
 
-  pub gate_crash : (body file : List ℕ) (old new : List ℕ → Type 0) → length body ≡ 44 → Staged records body file → Only file old → Follows (Torn (8 + 45 * count) 1) old new → (c : List ℕ) → new c → BeforeOrAfter records body c
-  gate_crash body file old new long staged only follows c left =
+  pub gate_crash : (more : List (List ℕ)) (body file : List ℕ) (old new : List ℕ → Type 0) → 0x4a ∷ body ≡ blocks more → Sized more → Staged records body file → Only file old → Follows (Torn (8 + 45 * count) 1) old new → (c : List ℕ) → new c → BeforeOrAll records more c
+  gate_crash more body file old new first sized staged only follows c left =
       let from = follows c left in
-      torn_gate body file c long staged (subst (λ f. Torn (8 + 45 * count) 1 f c) (only from.0 from.1) from.2)
+      torn_gate more body file c first sized staged (subst (λ f. Torn (8 + 45 * count) 1 f c) (only from.0 from.1) from.2)
 
   pub rests_long : (file : List ℕ) → Rests records file → 8 + 45 * count < length file
   rests_long file rests =

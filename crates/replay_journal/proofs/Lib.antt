@@ -3,6 +3,7 @@ pub mod Blocks
 pub mod Crash
 pub mod Cuts
 pub mod Filling
+pub mod Grouped
 pub mod Marks
 pub mod Moments
 pub mod Octets

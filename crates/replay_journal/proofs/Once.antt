@@ -1,14 +1,16 @@
 -- No mark is taken twice.
-use Rattle.std.proofs.Common.{◌≡◌, inl, inr, ℕ, ◌≤◌, true, false, List, [], ◌∷◌, ◌++◌, IsTrue, refl, sym, ◌∙◌, ap, subst}
+use Rattle.std.proofs.Common.{◌≡◌, ◌⊎◌, inl, inr, ℕ, ◌≤◌, true, false, List, [], ◌∷◌, ◌++◌, IsTrue, refl, sym, ◌∙◌, ap, subst, append_assoc}
+use Rattle.std.proofs.lemmas.List.{append-nil}
 use Rattle.std.proofs.lemmas.Bool.{cases_Bool}
 use Rattle.gss_base.specs.declared.mark.Mark.{Mark}
 use Rattle.replay_cache.specs.Taking.{same_mark}
 use Rattle.replay_cache.proofs.Indexing.{same-equal}
 use Rattle.replay_journal.specs.declared.disk.Disk as disks
 use Rattle.replay_journal.specs.Files.{counted, mark_in, body_of}
-use Rattle.replay_journal.specs.Journals.{JournalOf, BeforeOrAfter, Based, HasMore, Fresh, most, greatest_at, records_of}
+use Rattle.replay_journal.specs.Journals.{JournalOf, BeforeOrAfter, BeforeOrAll, Based, HasMore, Fresh, most, greatest_at, records_of}
 use Rattle.replay_journal.specs.Openings.{Opens, IsMostlyStale, greatest_at_start}
-use Rattle.replay_journal.specs.Runs.{Call, Keeps, KeepsAll, Run, Between, Inside, Opening, Runs, Without, Distinct, answered, after_calls, after_runs}
+use Rattle.replay_journal.specs.Runs.{Call, Keeps, KeepsTogether, AreKept, AreLost, AllFresh, Step, Alone, Together, Does, DoesAll, Run, Between, Inside, Opening, Runs, Without, Distinct, answered, taken_in, taken_marks, marks_of, after_calls, after_steps, after_runs}
+use Rattle.replay_journal.specs.Groups.{Due, bodies_of}
 use Rattle.replay_journal.specs.declared.journal.JournalVerdict.{JournalVerdict}
 use Rattle.replay_journal.specs.declared.journal.JournalVerdict.TheVariants.{Taken, Stale, Repeat, Full, DiskFault, Closed, NoMemory}
 use Rattle.replay_journal.proofs.Blocks.{counted-rests}
@@ -73,6 +75,40 @@ told-more marks records body c (inr rests) told = subst (Told marks) (sym (count
 
 told-image : (due : Type 0) (greatest : ℕ) (marks : List Mark) (records : List (List ℕ)) (body c : List ℕ) → HasMore due greatest records body c → Told marks records → Told marks (counted c)
 told-image due greatest marks records body c has told = told-more marks has.base body c has.rests (told-base due greatest marks records has.base has.based told)
+
+-- of several marks more
+told-lost-all : (marks : List Mark) (records new : List (List ℕ)) → Told marks records → Told marks (records ++ new)
+told-lost-all marks records [] told = subst (Told marks) (sym (append-nil records)) told
+told-lost-all marks records (body ∷ new) told = subst (Told marks) (append_assoc records (body ∷ []) new) (told-lost-all marks (records ++ body ∷ []) new (told-lost marks records body told))
+
+told-all : (marks : List Mark) (records new : List (List ℕ)) (c : List ℕ) → BeforeOrAll records new c → Told marks records → Told marks (counted c)
+told-all marks records new c (inl rests) told = subst (Told marks) (sym (counted-rests records c rests)) told
+told-all marks records new c (inr rests) told = subst (Told marks) (sym (counted-rests (records ++ new) c rests)) (told-lost-all marks records new told)
+
+-- the newest mark first
+abbrev pushed : List Mark → List Mark → List Mark
+pushed [] marks = marks
+pushed (mark ∷ more) marks = pushed more (mark ∷ marks)
+
+after-pushed : (calls : List Call) (marks : List Mark) → after_calls calls marks ≡ pushed (taken_marks calls) marks
+after-pushed [] marks = refl
+after-pushed (call ∷ calls) marks = after-pushed calls (answered call.answer call.mark marks) ∙ of-answer call.answer call.mark (taken_marks calls) marks
+  where
+    of-answer : (answer : JournalVerdict) (mark : Mark) (more marks : List Mark) → pushed more (answered answer mark marks) ≡ pushed (taken_in answer mark more) marks
+    of-answer Taken mark more marks = refl
+    of-answer (Stale greatest) mark more marks = refl
+    of-answer (Repeat place) mark more marks = refl
+    of-answer Full mark more marks = refl
+    of-answer DiskFault mark more marks = refl
+    of-answer Closed mark more marks = refl
+    of-answer NoMemory mark more marks = refl
+
+told-dues : (marks : List Mark) (records : List (List ℕ)) (dues : List Due) → AllFresh dues records → Told marks records → Told (pushed (marks_of dues) marks) (records ++ bodies_of dues)
+told-dues marks records [] fresh told = subst (Told marks) (sym (append-nil records)) told
+told-dues marks records (due ∷ dues) fresh told =
+    subst (Told (pushed (marks_of dues) (due.mark ∷ marks))) (append_assoc records (body_of due.mark due.greatest ∷ []) (bodies_of dues))
+    (told-dues (due.mark ∷ marks) (records ++ body_of due.mark due.greatest ∷ []) dues fresh.2
+    (told-taken marks records (body_of due.mark due.greatest) due.mark fresh.0 fresh.1 told))
 
 -- all that a journal may leave has what was answered
 abbrev pub Safe : {K : Type 0} → disks.Ghosts K → List Mark → JournalOf K → Type 0
@@ -146,11 +182,44 @@ module _ {K : Type 0} (d : disks.Ghosts K) (counts : (file : K) (t : ℕ) (c : L
       shut-open : true ≡ false → ⊥
       shut-open is = cc
 
+  -- a crash at any moment of a call that keeps marks together, before it answers
+  inside-together : (marks : List Mark) (old new : JournalOf K) (calls : List Call) → Going d marks old → KeepsTogether d old calls new → (c : List ℕ) → d.left_since new.disk (d.moment old.disk) c → Told marks (counted c)
+  inside-together marks old new calls going keeps c left =
+      told-all marks (records_of d old.disk) (bodies_of keeps.dues) c (keeps.images.each c left) (going.reads keeps.unclosed)
+
+  together-answers : (marks : List Mark) (old new : JournalOf K) (calls : List Call) → Going d marks old → (keeps : KeepsTogether d old calls new) → AreKept d old calls keeps.dues new ⊎ AreLost calls new → Going d (after_calls calls marks) new
+  together-answers marks old new calls going keeps (inl kept) =
+      let told : Told (pushed (marks_of keeps.dues) marks) (records_of d new.disk) =
+      subst (Told (pushed (marks_of keeps.dues) marks)) (sym kept.records) (told-dues marks (records_of d old.disk) keeps.dues keeps.fresh (going.reads keeps.unclosed)) in
+      let all : Told (after_calls calls marks) (records_of d new.disk) =
+      subst (λ (ms : List Mark). Told ms (records_of d new.disk)) (sym (after-pushed calls marks ∙ ap (λ (ms : List Mark). pushed ms marks) kept.marks)) told in
+      record {
+        told = keeps.tells ∙ going.told;
+        safe = λ c left. subst (λ (f : List ℕ). Told (after_calls calls marks) (counted f)) (sym (kept.durable c left)) all;
+        reads = λ shut. all;
+      }
+  together-answers marks old new calls going keeps (inr lost_) =
+      let same : after_calls calls marks ≡ marks = after-pushed calls marks ∙ ap (λ (ms : List Mark). pushed ms marks) lost_.none in
+      subst (λ (ms : List Mark). Going d ms new) (sym same) (record {
+        told = keeps.tells ∙ going.told;
+        safe = λ c left. inside-together marks old new calls going keeps c (counts new.disk (d.moment old.disk) c keeps.images.later left);
+        reads = λ open_. absurd (shut-open (sym lost_.shut ∙ open_));
+      })
+    where
+      shut-open : true ≡ false → ⊥
+      shut-open is = cc
+
   module _ (only_now : (file : K) (c : List ℕ) → d.left_since file (d.moment file) c → d.may_leave file c) where
-    calls-go : (marks : List Mark) (old new : JournalOf K) (calls : List Call) → Going d marks old → KeepsAll d old calls new → Going d (after_calls calls marks) new
-    calls-go marks old new [] going all = subst (Going d marks) (sym all) going
-    calls-go marks old new (call ∷ calls) going all =
-        calls-go (answered call.answer call.mark marks) all.0 new calls (one-answer marks old all.0 call.now call.mark call.answer going all.1 (only_now old.disk)) all.2
+    steps-go : (marks : List Mark) (old new : JournalOf K) (steps : List Step) → Going d marks old → DoesAll d old steps new → Going d (after_steps steps marks) new
+    steps-go marks old new [] going all = subst (Going d marks) (sym all) going
+    steps-go marks old new (Alone call ∷ steps) going all =
+        steps-go (answered call.answer call.mark marks) all.0 new steps (one-answer marks old all.0 call.now call.mark call.answer going all.1 (only_now old.disk)) all.2
+    steps-go marks old new (Together calls ∷ steps) going all =
+        steps-go (after_calls calls marks) all.0 new steps (together-answers marks old all.0 calls going all.1 all.1.outcome) all.2
+
+    inside-step : (marks : List Mark) (old new : JournalOf K) (step : Step) → Going d marks old → Does d old step new → (c : List ℕ) → d.left_since new.disk (d.moment old.disk) c → Told marks (counted c)
+    inside-step marks old new (Alone call) going does c left = inside marks old new call going does c left (only_now old.disk)
+    inside-step marks old new (Together calls) going does c left = inside-together marks old new calls going does c left
 
     opened-goes : (marks : List Mark) (image : List ℕ) (start : ℕ) (disk : K) (first : JournalOf K) → Told marks (counted image) → Opens d image start disk first → Going d marks first
     opened-goes marks image start disk first told opens =
@@ -161,16 +230,16 @@ module _ {K : Type 0} (d : disks.Ghosts K) (counts : (file : K) (t : ℕ) (c : L
           reads = λ shut. reads;
         }
 
-    run-goes : (marks : List Mark) (image : List ℕ) (calls : List Call) (left : List ℕ) → Told marks (counted image) → Run d image calls left → Told (after_calls calls marks) (counted left)
-    run-goes marks image calls left told (Between start disk first last opens all may) =
-        (calls-go marks first last calls (opened-goes marks image start disk first told opens) all).safe left may
-    run-goes marks image calls left told (Inside start disk first last next call opens all keeps since) =
-        let going = calls-go marks first last calls (opened-goes marks image start disk first told opens) all in
-        inside (after_calls calls marks) last next call going keeps left since (only_now last.disk)
-    run-goes marks image calls left told (Opening start disk last tries none since) =
-        subst (λ (cs : List Call). Told (after_calls cs marks) (counted left)) (sym none)
+    run-goes : (marks : List Mark) (image : List ℕ) (steps : List Step) (left : List ℕ) → Told marks (counted image) → Run d image steps left → Told (after_steps steps marks) (counted left)
+    run-goes marks image steps left told (Between start disk first last opens all may) =
+        (steps-go marks first last steps (opened-goes marks image start disk first told opens) all).safe left may
+    run-goes marks image steps left told (Inside start disk first last next step opens all does since) =
+        let going = steps-go marks first last steps (opened-goes marks image start disk first told opens) all in
+        inside-step (after_steps steps marks) last next step going does left since
+    run-goes marks image steps left told (Opening start disk last tries none since) =
+        subst (λ (ss : List Step). Told (after_steps ss marks) (counted left)) (sym none)
         (told-base (IsMostlyStale image start) (greatest_at_start image start) marks (counted image) (counted left) (tries.images.each left since) told)
 
-    pub runs-go : (marks : List Mark) (image : List ℕ) (runs : List (List Call)) → Told marks (counted image) → Runs d image runs → Distinct (after_runs runs marks)
+    pub runs-go : (marks : List Mark) (image : List ℕ) (runs : List (List Step)) → Told marks (counted image) → Runs d image runs → Distinct (after_runs runs marks)
     runs-go marks image [] told all = told.distinct
-    runs-go marks image (calls ∷ runs) told all = runs-go (after_calls calls marks) all.0 runs (run-goes marks image calls all.0 told all.1) all.2
+    runs-go marks image (steps ∷ runs) told all = runs-go (after_steps steps marks) all.0 runs (run-goes marks image steps all.0 told all.1) all.2

@@ -16,7 +16,7 @@ use Rattle.replay_journal.proofs.Scanning.{near-more}
 use Rattle.replay_journal.proofs.Renewing.{covers-renewed}
 use Rattle.replay_journal.proofs.Moments.{started}
 
-near-later : (old new : ℕ) (records : List (List ℕ)) → old ≤ new → AllNear old records → AllNear new records
+pub near-later : (old new : ℕ) (records : List (List ℕ)) → old ≤ new → AllNear old records → AllNear new records
 near-later old new [] le near = tt
 near-later old new (b ∷ more) le near = (omega (arith, le, near.0), omega (arith, le, near.1), near-later old new more le near.2)
 

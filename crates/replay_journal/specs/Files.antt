@@ -42,6 +42,14 @@ abbrev pub Sized : List (List ℕ) → Type 0
 Sized [] = Unit {0}
 Sized (body ∷ more) = (length body ≡ 44) × Sized more
 
+-- these octets stand behind the first gate of these records: all of theirs but that gate, and a
+-- closed gate at the end
+pub record AreBehind (records : List (List ℕ)) (octets : List ℕ) : Type 0 where
+  pub inner : List ℕ
+  pub first : 0x4a ∷ inner ≡ blocks records
+  pub last : octets ≡ inner ++ 0 ∷ []
+  pub sized : Sized records
+
 -- the file has these records, and a closed gate behind them
 pub record Rests (records : List (List ℕ)) (file : List ℕ) : Type 0 where
   pub gate : ℕ

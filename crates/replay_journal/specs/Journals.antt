@@ -85,6 +85,10 @@ pub record IsJournal {K : Type 0} (d : disks.Ghosts K) (disk : K) (cache : Cache
 abbrev pub BeforeOrAfter : List (List ℕ) → List ℕ → List ℕ → Type 0
 BeforeOrAfter records body c = Rests records c ⊎ Rests (records ++ body ∷ []) c
 
+-- the file has these records, with all of the new ones or with none of them
+abbrev pub BeforeOrAll : List (List ℕ) → List (List ℕ) → List ℕ → Type 0
+BeforeOrAll records new c = Rests records c ⊎ Rests (records ++ new) c
+
 -- a file that a crash leaves: it has the records, or where it is due those of one made anew
 pub record HasBase (due : Type 0) (greatest : ℕ) (records : List (List ℕ))
     (c : List ℕ) : Type 0 where

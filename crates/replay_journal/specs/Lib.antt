@@ -1,5 +1,6 @@
 pub mod Disks
 pub mod Files
+pub mod Groups
 pub mod Images
 pub mod Journals
 pub mod Memory

@@ -1,21 +1,25 @@
 //! A journal over a disk.
 ghost use Rattle.std.specs.Prelude.{◌≡◌, ◌≢◌, ◌⊎◌, ◌≤◌, ◌<◌, ◌++◌, ◌∷◌, [], true, false, None};
 ghost use Rattle.std.specs.Prelude.{IsTrue, IsErr, IsOk, IfOk, IfErr, IsErrOf, OnOk, List, ◌+◌};
-ghost use Rattle.std.specs.Prelude.{◌*◌, ◌^◌, max, length};
+ghost use Rattle.std.specs.Prelude.{◌*◌, ◌^◌, ℕ, length, map, vec_len};
 ghost use Rattle.replay_cache.specs.declared.cache.TakenMark.{TakenMark};
 ghost use Rattle.replay_cache.specs.Taking.{Holds, cache_verdict};
 ghost use Rattle.sec_base.specs.Answers.{Rose};
 ghost use Rattle.replay_journal.specs.Disks.{LeavesOnly, Only};
-ghost use Rattle.replay_journal.specs.Files.{Rests, body_of, greatest_in, mark_in, renewed};
-ghost use Rattle.replay_journal.specs.Journals.{AllNear, BeforeOrAfter, Based, HasBase, IsAnswer};
+ghost use Rattle.replay_journal.specs.Files.{AreBehind, Rests, body_of, greatest_in, mark_in};
+ghost use Rattle.replay_journal.specs.Files.{renewed};
+ghost use Rattle.replay_journal.specs.Groups.{verdicts_on, dues_on, greatest_on};
+ghost use Rattle.replay_journal.specs.Journals.{AllNear, BeforeOrAfter, BeforeOrAll, Based};
+ghost use Rattle.replay_journal.specs.Journals.{HasBase, IsAnswer};
 ghost use Rattle.replay_journal.specs.Journals.{IsCrowded};
 ghost use Rattle.replay_journal.specs.Journals.{IsPut, IsRefreshed, IsTaken, Leaves, MayFail};
 ghost use Rattle.replay_journal.specs.Journals.{greatest_at, kept_by, most, records_of};
 ghost use Rattle.replay_journal.specs.Openings.{Opens, Tries, RefusedBy, refusal_of, disk_after};
-ghost use Rattle.replay_journal.specs.Runs.{Keeps};
+ghost use Rattle.replay_journal.specs.Runs.{Keeps, KeepsTogether, calls_of, all_told};
 
-use crate::body::{OPEN, write_body};
+use crate::body::{OPEN, SHUT, write_body};
 use crate::disk::{Disk, DiskFault};
+use crate::judging::{Request, judge_each};
 use crate::opening::{JournalRefusal, Unopened, fill, read_in};
 use crate::renewal::{MOST, renew};
 use gss_base::Mark;
@@ -38,6 +42,16 @@ pub enum JournalVerdict {
     /// There was no memory to make the file anew, which holds as many records as it may: nothing
     /// was done.
     NoMemory,
+}
+
+/// Why marks weren't kept together.
+#[derive(Clone, Copy, Debug, PartialEq, Eq)]
+pub enum Unkept {
+    /// The journal is closed, its file has no room for so many, or memory was wanting: nothing
+    /// was done, and each is to be kept alone.
+    Apart,
+    /// The disk failed: none was taken, and the journal is closed.
+    DiskFault,
 }
 
 /// The marks of a file.
@@ -198,6 +212,71 @@ impl<K: Disk> Journal<K> {
         }
     }
 
+    /// Judges marks one after the other, as `keep` does, and keeps those that are taken in one
+    /// section: all of them are on the disk when this returns. It says what is answered to each,
+    /// in their order.
+    pub fn keep_all(&mut self, asked: &[Request]) -> Result<Vec<JournalVerdict>, Unkept>
+        ensures tells { K.tells self.new.disk ≡ K.tells self.old.disk }
+        // Nothing is done where it is closed, or where the file has no room for so many.
+        ensures unclosed { self.old.closed ≡ true → IsErrOf result Unkept.Apart }
+        ensures room { most < self.old.count + length asked.now → IsErrOf result Unkept.Apart }
+        ensures apart { IsErrOf result Unkept.Apart → self.new ≡ self.old }
+        // Each answer is the cache's, in which the marks before it that were taken are held.
+        ensures count { IfOk result (λ answers. vec_len answers ≡ length asked.now) }
+        ensures answers { (taken : List TakenMark) → Holds self.old.cache taken
+            → IfOk result (λ answers. answers.items ≡ map kept_by
+            (verdicts_on self.old.cache.capacity self.old.cache.greatest taken self.old.count
+            asked.now)) }
+        ensures going { OnOk result (self.new.closed ≡ false) }
+        ensures fault { IsErrOf result Unkept.DiskFault
+            → (self.new.closed ≡ true) × Rose (K.faults self.old.disk) (K.faults self.new.disk) }
+        ensures faults { K.faults self.old.disk ≤ K.faults self.new.disk }
+        ensures greatest { OnOk result
+            (self.new.cache.greatest ≡ greatest_on self.old.cache.greatest asked.now) }
+        // Where none is taken, nothing is asked of the disk.
+        ensures asked { (taken : List TakenMark) → Holds self.old.cache taken
+            → dues_on self.old.cache.capacity self.old.cache.greatest taken self.old.count asked.now
+            ≡ [] → self.new.disk ≡ self.old.disk }
+        // Over a disk that tells, a crash at any moment of the call leaves the records from
+        // before it, with all of the new ones or with none; and the new ones are there at the end.
+        ensures together { IsTrue (K.tells self.old.disk) → IfOk result (λ answers.
+            KeepsTogether K.Disk self.old (calls_of asked.now answers.items) self.new) }
+        // Where the disk failed, none was taken.
+        ensures lost { IsTrue (K.tells self.old.disk) → IsErrOf result Unkept.DiskFault
+            → KeepsTogether K.Disk self.old (all_told JournalVerdict.DiskFault asked.now) self.new }
+    {
+        if self.closed || !has_room(self.count, asked.len()) {
+            return Err(Unkept::Apart);
+        }
+        let Ok(mut answers) = Vec::with_capacity(self.alloc, asked.len()) else {
+            return Err(Unkept::Apart);
+        };
+        let Ok(mut octets) = Vec::with_capacity(self.alloc, 45 * asked.len() + 1) else {
+            return Err(Unkept::Apart);
+        };
+        let next = judge_each(
+            &mut self.cache,
+            self.count,
+            asked,
+            &mut answers,
+            &mut octets,
+        );
+        if octets.is_empty() {
+            return Ok(answers);
+        }
+        octets.push_reserved(SHUT);
+        match append(&mut self.disk, self.count, &octets[1..]) {
+            Ok(()) => {
+                self.count = next;
+                Ok(answers)
+            }
+            Err(_) => {
+                self.closed = true;
+                Err(Unkept::DiskFault)
+            }
+        }
+    }
+
     // Keeps a mark that the cache would take.
     fn take(&mut self, now: Moment, mark: Mark) -> JournalVerdict
         requires unclosed { self.old.closed ≡ false }
@@ -303,7 +382,8 @@ impl<K: Disk> Journal<K> {
         ensures taken { IsTrue (K.tells self.old.disk) → result ≡ JournalVerdict.Taken
             → IsPut K.Disk self.old self.new mark }
     {
-        match append(&mut self.disk, self.count, &mark, self.cache.greatest()) {
+        let octets = behind_gate(&mark, self.cache.greatest());
+        match append(&mut self.disk, self.count, &octets) {
             Err(_) => {
                 self.closed = true;
                 JournalVerdict::DiskFault
@@ -315,6 +395,24 @@ impl<K: Disk> Journal<K> {
             }
         }
     }
+}
+
+// What stands behind the gate of a mark's record.
+fn behind_gate(mark: &Mark, greatest: Moment) -> [u8; 45]
+    ensures value { result ≡ body_of mark.now greatest ++ 0 ∷ [] }
+    ensures size { length result ≡ 45 }
+    ensures back { mark_in (body_of mark.now greatest) ≡ mark.now }
+    ensures told { greatest_in (body_of mark.now greatest) ≡ greatest }
+{
+    write_body(*mark, greatest)
+}
+
+// Whether a file of so many records has room for so many more.
+fn has_room(count: usize, more: usize) -> bool
+    ensures room { IsTrue result → count + more ≤ 2000000 }
+    ensures full { result ≡ false → 2000000 < count + more }
+{
+    more <= MOST && count <= MOST - more
 }
 
 // Makes the file anew where most of its records are stale, and says how many records it has.
@@ -354,32 +452,26 @@ fn refresh<K: Disk>(
     }
 }
 
-// Writes the record's body and a closed gate behind it, and then opens its gate, each on the
-// disk before the call goes on.
-fn append<K: Disk>(
-    disk: &mut K,
-    count: usize,
-    mark: &Mark,
-    greatest: Moment,
-) -> Result<(), DiskFault>
+// Writes what stands behind the first gate of new records, and then opens that gate, each on the
+// disk before the call goes on: until then none of them counts.
+fn append<K: Disk>(disk: &mut K, count: usize, octets: &[u8]) -> Result<(), DiskFault>
     requires small { count < 2000000 }
     requires stands { IsTrue (K.tells disk.old)
         → Rests (records_of K.Disk disk.old) (K.contents disk.old)
         × (count ≡ length (records_of K.Disk disk.old))
         × Only (K.contents disk.old) (K.may_leave disk.old) }
-    ensures images { IsTrue (K.tells disk.old) → LeavesOnly K.moment K.left_since disk.old disk.new
-        (BeforeOrAfter (records_of K.Disk disk.old) (body_of mark.now greatest)) }
-    ensures done { IsTrue (K.tells disk.old) → OnOk result
-        (Rests (records_of K.Disk disk.old ++ body_of mark.now greatest ∷ []) (K.contents disk.new)
+    ensures images { IsTrue (K.tells disk.old) → (new : List (List ℕ)) → AreBehind new octets.now
+        → LeavesOnly K.moment K.left_since disk.old disk.new
+        (BeforeOrAll (records_of K.Disk disk.old) new) }
+    ensures done { IsTrue (K.tells disk.old) → (new : List (List ℕ)) → AreBehind new octets.now
+        → OnOk result (Rests (records_of K.Disk disk.old ++ new) (K.contents disk.new)
         × Only (K.contents disk.new) (K.may_leave disk.new)) }
     ensures tells { K.tells disk.new ≡ K.tells disk.old }
-    ensures back { mark_in (body_of mark.now greatest) ≡ mark.now }
-    ensures told { greatest_in (body_of mark.now greatest) ≡ greatest }
     ensures fault { IsErr result → Rose (K.faults disk.old) (K.faults disk.new) }
     ensures faults { K.faults disk.old ≤ K.faults disk.new }
 {
     let gate = 8 + 45 * count as u64;
-    disk.write_at(gate + 1, &write_body(*mark, greatest))?;
+    disk.write_at(gate + 1, octets)?;
     disk.sync()?; // before the gate is opened
     disk.write_at(gate, &[OPEN])?;
     disk.sync()?; // before it is answered
