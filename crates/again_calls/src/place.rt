@@ -2,17 +2,18 @@
 ghost use Rattle.std.specs.Prelude.{◌≡◌, ◌<◌, [], IfOk, Option, option_copied};
 ghost use Rattle.again_calls.specs.Kept.{no_place, with_act, act_with};
 
+use crate::outcome::KeptOutcome;
 use sec_base::NoMemory;
 use std::alloc::Global;
 use std::marker::Model;
 
-/// A call that acted: its transaction number, its procedure, its arguments' digest, and what it was answered.
-#[derive(Clone, Copy)]
+/// A call that acted: its transaction number, its procedure, its arguments' digest, and what became of it.
+#[derive(Drop)]
 pub struct Act {
     pub xid: u32,
     pub procedure: u32,
     pub args: [u8; 20],
-    pub posts: u64,
+    pub outcome: KeptOutcome,
 }
 
 /// The place of a context, with its last calls, oldest first; or a free place.

@@ -1,17 +1,18 @@
 //! A gate over another, where a call that is sent again acts once.
 ghost use Rattle.std.specs.Prelude.{◌≡◌, ◌<◌, IfOk, take};
-ghost use Rattle.again_gate.specs.Again.{opened_gate, with_xid, placed_all, kept_after};
-ghost use Rattle.again_gate.specs.Again.{again_with, is_act};
+ghost use Rattle.again_calls.specs.Kept.{act_of};
+ghost use Rattle.again_calls.specs.Outcomes.{IsAgain};
+ghost use Rattle.again_gate.specs.Again.{opened_gate, with_xid, placed_all, Keeps, is_act, IsSeen};
+ghost use Rattle.rpc_program.specs.Programs.{IsShort};
 
 use accept_book::{AdmitRefusal, Admitted, Entry, Lease, LookRefusal, Negotiated, Receipt};
-use again_calls::{Act, Acts};
-use gss_server::Gate;
+use again_calls::{Act, Acts, kept_of, told_again};
+use gss_server::{DataCall, Gate};
+use rpc_program::{Outcome, ProgramId};
+use rpcsec_bodies::Service;
 use sec_base::{Moment, NoMemory};
 use std::alloc::Global;
 use std::marker::Model;
-
-/// The procedure of an admission that answers a call which acted before.
-const AGAIN: u32 = 0xffffffff;
 
 /// A gate over another, which keeps of each context the last calls that acted, and answers one that is sent again, with the same
 /// transaction number, from what was kept.
@@ -20,6 +21,8 @@ pub struct AgainGate<G> {
     gate: G,
     xid: u32,
     acts: Acts,
+    /// How many octets of a result are kept at most.
+    most: u32,
 }
 
 impl<G> Model for AgainGate<G> {
@@ -27,24 +30,36 @@ impl<G> Model for AgainGate<G> {
 
     ghost Value = { AgainOf G };
 
-    ghost view = { λ a. record { gate = a.gate; xid = a.xid; places = a.acts } };
+    ghost view = { λ a. record {
+      gate = a.gate;
+      xid = a.xid;
+      places = a.acts;
+      most = a.most;
+    } };
 }
 
 impl<G> AgainGate<G> {
-    /// A gate that keeps nothing yet, with memory for the last `width` calls of so many contexts.
+    /// A gate that keeps nothing yet, with memory for the last `width` calls of so many contexts. Of a result `most` octets are kept at
+    /// most; each takes memory when it is kept.
     pub fn new(
         alloc: Global,
         gate: G,
         contexts: usize,
         width: u32,
+        most: u32,
     ) -> Result<AgainGate<G>, NoMemory>
     where
         G: Drop,
         requires { 0 < width }
-        ensures { IfOk result (λ a. a ≡ opened_gate gate contexts width) }
+        ensures { IfOk result (λ a. a ≡ opened_gate gate contexts width most) }
     {
         match Acts::new(alloc, contexts, width as usize) {
-            Ok(acts) => Ok(AgainGate { gate, xid: 0, acts }),
+            Ok(acts) => Ok(AgainGate {
+                gate,
+                xid: 0,
+                acts,
+                most,
+            }),
             Err(error) => {
                 drop(gate);
                 Err(error)
@@ -63,7 +78,7 @@ impl<G> AgainGate<G> {
     pub fn into_gate(self) -> G
         ensures { result ≡ self.gate }
     {
-        let AgainGate { gate, xid: _, acts } = self;
+        let AgainGate { gate, acts, .. } = self;
         drop(acts);
         gate
     }
@@ -91,52 +106,69 @@ fn first_of(list: &[Receipt; 4], count: u8) -> &[Receipt]
     &list[..count.min(4) as usize]
 }
 
-/// Whether a kept call has this procedure and these arguments.
-fn is_act(act: &Act, procedure: u32, args: &[u8; 20]) -> bool
-    ensures { result ≡ is_act act.now procedure args.now }
+/// Whether a kept call has this procedure, and arguments with this digest.
+fn is_act(act: &Act, procedure: u32, digest: &[u8; 20]) -> bool
+    ensures { result ≡ is_act act.now procedure digest.now }
 {
-    act.procedure == procedure && act.args == *args
+    act.procedure == procedure && act.args == *digest
 }
 
 /// Keeps a call that was admitted.
 fn keep_call(
+    alloc: Global,
+    most: u32,
     acts: &mut Acts,
     xid: u32,
     lease: &Lease,
-    procedure: u32,
-    args: [u8; 20],
+    call: &DataCall<'_>,
     answer: &Result<Admitted, AdmitRefusal>,
 )
-    ensures { acts.new ≡ kept_after xid lease.now.id procedure args answer.now acts.old }
+    requires { IfOk answer.now (λ admitted. IsShort admitted.outcome) }
+    ensures { Keeps most xid lease.now.id call.now.procedure call.now.digest answer.now acts.old
+        acts.new }
 {
     match answer {
         Ok(admitted) => {
-            if procedure != AGAIN {
-                acts.keep(
-                    lease.id,
-                    Act {
-                        xid,
-                        procedure,
-                        args,
-                        posts: admitted.posts,
-                    },
-                );
-            }
+            let outcome = kept_of(alloc, most, &admitted.outcome);
+            acts.keep(
+                lease.id,
+                Act {
+                    xid,
+                    procedure: call.procedure,
+                    args: call.digest,
+                    outcome,
+                },
+            );
         }
         Err(_) => {}
     }
 }
 
-/// What is answered to a call that acted before, and was admitted again without acting.
-fn again_with(act: &Act, answer: Result<Admitted, AdmitRefusal>) -> Result<Admitted, AdmitRefusal>
-    ensures { result ≡ again_with act.now answer }
+/// What is known of a call by its transaction number.
+enum Seen {
+    /// None such is kept.
+    New,
+    /// It acted, and this became of it.
+    Again(Outcome),
+    /// Another call has its transaction number, or its result wasn't kept.
+    Other,
+}
+
+/// What is known of a call by its transaction number, procedure and arguments.
+fn see(alloc: Global, acts: &Acts, id: u64, xid: u32, procedure: u32, digest: &[u8; 20]) -> Seen
+    ensures { IsSeen (act_of id xid acts.now) procedure digest.now result }
 {
-    match answer {
-        Ok(admitted) => Ok(Admitted {
-            receipt: admitted.receipt,
-            posts: act.posts,
-        }),
-        Err(refusal) => Err(refusal),
+    match acts.find(id, xid) {
+        None => Seen::New,
+        Some(act) => {
+            if !is_act(act, procedure, digest) {
+                return Seen::Other;
+            }
+            match told_again(alloc, &act.outcome) {
+                Some(outcome) => Seen::Again(outcome),
+                None => Seen::Other,
+            }
+        }
     }
 }
 
@@ -144,6 +176,8 @@ fn again_with(act: &Act, answer: Result<Admitted, AdmitRefusal>) -> Result<Admit
 impl<G: Gate> Gate for AgainGate<G> {
     ghost use Rattle.std.specs.Prelude.{false, []};
     ghost use Rattle.again_gate.specs.Again.{AgainAnswers};
+
+    ghost program = { G.program };
 
     ghost tells = { λ _. false };
 
@@ -154,6 +188,22 @@ impl<G: Gate> Gate for AgainGate<G> {
     ghost limits = { λ again. G.limits again.gate };
 
     ghost answers = { λ old one new. AgainAnswers G.answers old one new };
+
+    fn id(&self) -> ProgramId {
+        self.gate.id()
+    }
+
+    fn has(&self, procedure: u32) -> bool {
+        self.gate.has(procedure)
+    }
+
+    fn needs(&self, procedure: u32) -> Service {
+        self.gate.needs(procedure)
+    }
+
+    fn takes(&self, procedure: u32, args: &[u8]) -> bool {
+        self.gate.takes(procedure, args)
+    }
 
     fn negotiate(
         &mut self,
@@ -177,26 +227,43 @@ impl<G: Gate> Gate for AgainGate<G> {
 
     fn admit(
         &mut self,
+        alloc: Global,
         lease: &Lease,
-        seq: u32,
-        procedure: u32,
-        args: [u8; 20],
+        call: &DataCall<'_>,
     ) -> Result<Admitted, AdmitRefusal> {
-        match self.acts.find(lease.id, self.xid) {
-            None => {
-                let answer = self.gate.admit(lease, seq, procedure, args);
-                keep_call(&mut self.acts, self.xid, lease, procedure, args, &answer);
+        // (no program has the procedure of a call that takes a number alone)
+        let _has = self.gate.has(call.procedure);
+        match see(
+            alloc,
+            &self.acts,
+            lease.id,
+            self.xid,
+            call.procedure,
+            &call.digest,
+        ) {
+            Seen::New => {
+                let answer = self.gate.admit(alloc, lease, call);
+                keep_call(
+                    alloc,
+                    self.most,
+                    &mut self.acts,
+                    self.xid,
+                    lease,
+                    call,
+                    &answer,
+                );
                 answer
             }
-            Some(act) => {
-                if is_act(&act, procedure, &args) {
-                    let answer = self.gate.admit(lease, seq, AGAIN, args);
-                    again_with(&act, answer)
-                } else {
-                    Err(AdmitRefusal::Repeat)
-                }
-            }
+            Seen::Again(outcome) => match self.gate.pass(lease, call) {
+                Ok(receipt) => Ok(Admitted { receipt, outcome }),
+                Err(refusal) => Err(refusal),
+            },
+            Seen::Other => Err(AdmitRefusal::Repeat),
         }
+    }
+
+    fn pass(&mut self, lease: &Lease, call: &DataCall<'_>) -> Result<Receipt, AdmitRefusal> {
+        self.gate.pass(lease, call)
     }
 
     fn end(&mut self, lease: &Lease, seq: u32) -> Result<Receipt, AdmitRefusal> {

@@ -1,5 +1,5 @@
 -- A book that nobody else asks: its log grows by the receipts of its answers, and no more contexts live than may.
-use Rattle.std.proofs.Common.{◌≡◌, ◌⊎◌, ℕ, ◌+◌, ◌<◌, ◌≤◌, ◌&&◌, max, Bool, true, false, nat_lt, nat_le, List, [], ◌∷◌, ◌++◌, length, Option, None, Some, IsSomeAnd, Result, Ok, Err, refl, sym, ap, ◌∙◌, arith, length-append, append-nil, inl, inr, subst}
+use Rattle.std.proofs.Common.{◌≡◌, ◌⊎◌, ℕ, ◌+◌, ◌<◌, ◌≤◌, ◌&&◌, max, Bool, true, false, nat_lt, nat_le, List, [], ◌∷◌, ◌++◌, length, map, Option, None, Some, IsSomeAnd, Result, Ok, Err, refl, sym, ap, ◌∙◌, arith, length-append, append-nil, inl, inr, subst}
 use Rattle.std.specs.Prelude.{if◌then◌else◌, is_none}
 use Rattle.std.proofs.lemmas.Bool.{cases_lt, le-leb, true≢false}
 use Rattle.gss_base.specs.declared.mark.Mark.{Mark}
@@ -18,13 +18,12 @@ use Rattle.accept_core.specs.declared.answer.AdmitRefusal.{AdmitRefusal}
 use Rattle.accept_core.specs.declared.answer.MarkRefusal.{MarkRefusal}
 use Rattle.accept_core.specs.declared.answer.Next.{Next}
 use Rattle.accept_core.specs.declared.answer.Next.TheVariants as nexts
-use Rattle.accept_core.specs.declared.entry.Admitted.{Admitted}
 use Rattle.accept_core.specs.declared.entry.EndCause.{EndCause}
 use Rattle.accept_core.specs.declared.entry.EndCause.TheVariants.{Destroyed, Refused}
 use Rattle.accept_core.specs.declared.entry.Entry.{Entry}
 use Rattle.accept_core.specs.declared.entry.Entry.TheVariants.{Call, Ended}
 use Rattle.accept_core.specs.declared.entry.Receipt.{Receipt}
-use Rattle.accept_core.specs.Answers.{or_refused, after, admitted, receipt_of}
+use Rattle.accept_core.specs.Answers.{or_refused, after, receipt_of}
 use Rattle.accept_core.specs.Entering.{gained, id_of, started, noted, finished, entered, mark_refused}
 use Rattle.accept_core.specs.History.{Standing, Unknown, Open, Whole, Over, standing, living, taken_of}
 use Rattle.accept_core.proofs.Steps.{gained-none, gained-more}
@@ -32,15 +31,17 @@ use Rattle.accept_book.specs.Booking.{BookOf, Stands, Outcomes, raised, mark_of,
 use Rattle.accept_book.specs.BookAnswers.{BookStepped}
 use Rattle.accept_book.specs.declared.book_answer.Lease.{Lease}
 use Rattle.accept_book.specs.declared.book_answer.Negotiated.{Negotiated}
-use Rattle.accept_book.specs.RecordShown.{Asked, AskedStep, AskedLook, AskedAdmit, AskedEnd}
+use Rattle.accept_book.specs.declared.book_answer.Admitted.{Admitted}
+use Rattle.accept_book.specs.RecordShown.{Asked, AskedStep, AskedLook, AskedAdmit, AskedEnd, booked, with_ok}
+use Rattle.sha1.specs.Sha1.{sha1}
 use Rattle.gss_server.specs.Asking.{Asking, BookAnswers}
-use Rattle.history_laws.specs.Receipts.{receipts_in}
+use Rattle.history_laws.specs.Receipts.{receipts_in as receipts_of_book}
 use Rattle.history_laws.proofs.Answering.{memory-cases, answers-live}
 use Rattle.history_laws.proofs.Growth.{fronts-one, answers-width}
 use Rattle.history_laws.proofs.InPlace.{in-place}
 use Rattle.accept_core.proofs.Nexts.{next-of}
-use Rattle.again_laws.specs.Laws.{log_of, WithinLaw}
-use Rattle.again_laws.specs.Sole.{onto, IsCall, IsEnd, IsOwn, IsSole, Within}
+use Rattle.again_laws.specs.Laws.{log_of, GateAnswers, WithinLaw}
+use Rattle.again_laws.specs.Sole.{receipts_in, onto, IsCall, IsEnd, IsOwn, IsSole, Within}
 
 -- ---- the log grows by the receipts
 
@@ -54,31 +55,51 @@ onto-gained (entry ∷ more) h =
     ap (λ (rs : List Receipt). onto rs h) (gained-more (length h) (more ++ h) entry (omega (arith, length-append more h)))
     ∙ (onto-last (gained (length h) (more ++ h)) (record { place = length (more ++ h); entry = entry }) h ∙ ap (λ (l : List Entry). entry ∷ l) (onto-gained more h))
 
-one-gained : (old new : BookOf) (one : Asked) → BookAnswers old one new → receipts_in one ≡ gained (length old.core.history) new.core.history
-one-gained old new one b = sym (append-nil (receipts_in one)) ∙ in-place (one ∷ []) old new (new, b, refl)
+one-gained : (old new : BookOf) (one : Asked Receipt) → BookAnswers old one new → receipts_of_book one ≡ gained (length old.core.history) new.core.history
+one-gained old new one b = sym (append-nil (receipts_of_book one)) ∙ in-place (one ∷ []) old new (new, b, refl)
 
-book-grows : (old : BookOf) (one : Asked) (new : BookOf) → BookAnswers old one new → log_of new ≡ onto (receipts_in one) (log_of old)
+book-grows : (old : BookOf) (one : Asked Receipt) (new : BookOf) → BookAnswers old one new → log_of new ≡ onto (receipts_of_book one) (log_of old)
 book-grows old one new b =
     let f = fronts-one old new one b in
     f.is ∙ (sym (onto-gained f.more (log_of old))
     ∙ (ap (λ (h : List Entry). onto (gained (length (log_of old)) h) (log_of old)) (sym f.is) ∙ ap (λ (rs : List Receipt). onto rs (log_of old)) (sym (one-gained old new one b))))
 
-own-call : (refusal : Option AdmitRefusal) (h : List Entry) (lease : Lease) (seq procedure : ℕ) (args : List ℕ) (answer : Result Admitted AdmitRefusal) → answer ≡ or_refused refusal (admitted h (Call lease.id seq procedure args)) → IsCall lease seq procedure args answer
-own-call None h lease seq procedure args answer is = subst (λ (a : Result Admitted AdmitRefusal). IsCall lease seq procedure args a) (sym is) refl
-own-call (Some refusal) h lease seq procedure args answer is = subst (λ (a : Result Admitted AdmitRefusal). IsCall lease seq procedure args a) (sym is) tt
+-- what a gate answers has the receipts of the book's answer
+pub same-receipts : (one : Asked Admitted) → receipts_of_book (booked one) ≡ receipts_in one
+same-receipts (AskedStep id token now draws answer) = refl
+same-receipts (AskedLook id now answer) = refl
+same-receipts (AskedAdmit lease seq service procedure args (Ok admitted)) = refl
+same-receipts (AskedAdmit lease seq service procedure args (Err refusal)) = refl
+same-receipts (AskedEnd lease seq answer) = refl
 
-own-end : (refusal : Option AdmitRefusal) (h : List Entry) (lease : Lease) (seq : ℕ) (answer : Result Receipt AdmitRefusal) → answer ≡ or_refused refusal (receipt_of h (Ended lease.id (Destroyed seq))) → IsEnd lease seq answer
-own-end None h lease seq answer is = subst (λ (a : Result Receipt AdmitRefusal). IsEnd lease seq a) (sym is) refl
-own-end (Some refusal) h lease seq answer is = subst (λ (a : Result Receipt AdmitRefusal). IsEnd lease seq a) (sym is) tt
+gate-grows : (old : BookOf) (one : Asked Admitted) (new : BookOf) → GateAnswers old one new → log_of new ≡ onto (receipts_in one) (log_of old)
+gate-grows old one new b = book-grows old (booked one) new b ∙ ap (λ (rs : List Receipt). onto rs (log_of old)) (same-receipts one)
 
-pub book-sole : IsSole BookAnswers log_of
-book-sole = record { grows = book-grows; own = own }
+-- an answer has this entry
+abbrev HasEntry : Entry → Result Receipt AdmitRefusal → Type 0
+HasEntry entry (Ok receipt) = receipt.entry ≡ entry
+HasEntry entry (Err refusal) = Unit {0}
+
+own-entry : (refusal : Option AdmitRefusal) (h : List Entry) (entry : Entry) (answer : Result Receipt AdmitRefusal) → answer ≡ or_refused refusal (receipt_of h entry) → HasEntry entry answer
+own-entry None h entry answer is = subst (λ (a : Result Receipt AdmitRefusal). HasEntry entry a) (sym is) refl
+own-entry (Some refusal) h entry answer is = subst (λ (a : Result Receipt AdmitRefusal). HasEntry entry a) (sym is) tt
+
+own-call : (lease : Lease) (seq procedure : ℕ) (args : List ℕ) (answer : Result Admitted AdmitRefusal) → HasEntry (Call lease.id seq procedure (sha1 args)) (with_ok (λ (admitted : Admitted). admitted.receipt) answer) → IsCall lease seq procedure args answer
+own-call lease seq procedure args (Ok admitted) is = is
+own-call lease seq procedure args (Err refusal) is = tt
+
+own-end : (lease : Lease) (seq : ℕ) (answer : Result Receipt AdmitRefusal) → HasEntry (Ended lease.id (Destroyed seq)) answer → IsEnd lease seq answer
+own-end lease seq (Ok receipt) is = is
+own-end lease seq (Err refusal) is = tt
+
+pub book-sole : IsSole GateAnswers log_of
+book-sole = record { grows = gate-grows; own = own }
   where
-    own : (old : BookOf) (one : Asked) (new : BookOf) → BookAnswers old one new → IsOwn one
+    own : (old : BookOf) (one : Asked Admitted) (new : BookOf) → GateAnswers old one new → IsOwn one
     own old (AskedStep id token now draws answer) new b = tt
     own old (AskedLook id now answer) new b = tt
-    own old (AskedAdmit lease seq procedure args answer) new b = own-call _ old.core.history lease seq procedure args answer b.answer
-    own old (AskedEnd lease seq answer) new b = own-end _ old.core.history lease seq answer b.answer
+    own old (AskedAdmit lease seq service procedure args answer) new b = own-call lease seq procedure args answer (own-entry _ old.core.history (Call lease.id seq procedure (sha1 args)) (with_ok (λ (admitted : Admitted). admitted.receipt) answer) b.answer)
+    own old (AskedEnd lease seq answer) new b = own-end lease seq answer (own-entry _ old.core.history (Ended lease.id (Destroyed seq)) answer b.answer)
 
 -- ---- no more contexts live than may
 
@@ -231,19 +252,19 @@ stepped-within contexts old new id token now draws answer r b =
           (within-negotiated contexts (max old.core.cache.greatest now) old.setup (raised old.core now) id past.0 token now draws r.limit r.live past.1 r.within)
     ]
 
-answers-within : (contexts : ℕ) (old new : BookOf) (one : Asked) → Roomy contexts old → BookAnswers old one new → Within contexts new.core.history
+answers-within : (contexts : ℕ) (old new : BookOf) (one : Asked Receipt) → Roomy contexts old → BookAnswers old one new → Within contexts new.core.history
 answers-within contexts old new (AskedStep id token now draws answer) r b = stepped-within contexts old new id token now draws answer r b
 answers-within contexts old new (AskedLook id now answer) r b = subst (λ (h : List Entry). Within contexts h) (sym b.looked.history) r.within
-answers-within contexts old new (AskedAdmit lease seq procedure args answer) r b = subst (λ (h : List Entry). Within contexts h) (sym b.history) (after-call contexts _ lease.id seq procedure args old.core.history r.within)
+answers-within contexts old new (AskedAdmit lease seq service procedure args answer) r b = subst (λ (h : List Entry). Within contexts h) (sym b.history) (after-call contexts _ lease.id seq procedure (sha1 args) old.core.history r.within)
 answers-within contexts old new (AskedEnd lease seq answer) r b = subst (λ (h : List Entry). Within contexts h) (sym b.history) (after-end contexts _ lease.id (Destroyed seq) old.core.history r.within)
 
-answers-limit : (old new : BookOf) (one : Asked) → BookAnswers old one new → new.core.table.limit ≡ old.core.table.limit
+answers-limit : (old new : BookOf) (one : Asked Receipt) → BookAnswers old one new → new.core.table.limit ≡ old.core.table.limit
 answers-limit old new (AskedStep id token now draws answer) b = b.notes.contexts
 answers-limit old new (AskedLook id now answer) b = ap (λ (t : Places AcceptEnd Outcome). t.limit) b.looked.table
-answers-limit old new (AskedAdmit lease seq procedure args answer) b = b.keeps.contexts
+answers-limit old new (AskedAdmit lease seq service procedure args answer) b = b.keeps.contexts
 answers-limit old new (AskedEnd lease seq answer) b = b.keeps.contexts
 
-roomy-all : (contexts : ℕ) (first last : BookOf) (asked : List Asked) → Roomy contexts first → Asking BookAnswers first asked last → Within contexts last.core.history
+roomy-all : (contexts : ℕ) (first last : BookOf) (asked : List (Asked Receipt)) → Roomy contexts first → Asking BookAnswers first asked last → Within contexts last.core.history
 roomy-all contexts first last [] r h = subst (λ (b : BookOf). Within contexts b.core.history) (sym h) r.within
 roomy-all contexts first last (one ∷ more) r h =
     roomy-all contexts h.0 last more (record {
@@ -260,10 +281,15 @@ within-book first last asked empty h =
       within = subst (λ (x : List Entry). Within first.core.table.limit x) (sym empty.history) tt;
     }) h
 
-pub same-width : (first last : BookOf) (asked : List Asked) → Asking BookAnswers first asked last → last.core.width ≡ first.core.width
+pub same-width : (first last : BookOf) (asked : List (Asked Receipt)) → Asking BookAnswers first asked last → last.core.width ≡ first.core.width
 same-width first last [] h = ap (λ (b : BookOf). b.core.width) h
 same-width first last (one ∷ more) h = same-width h.0 last more h.2 ∙ answers-width first h.0 one h.1
 
 pub wider : (few contexts : ℕ) (h : List Entry) → few ≤ contexts → Within few h → Within contexts h
 wider few contexts [] le w = tt
 wider few contexts (entry ∷ h) le w = (omega (arith, le, w.0), wider few contexts h le w.1)
+
+-- a gate's questions of a book are the book's own
+pub booked-all : (first last : BookOf) (asked : List (Asked Admitted)) → Asking GateAnswers first asked last → Asking BookAnswers first (map booked asked) last
+booked-all first last [] h = h
+booked-all first last (one ∷ more) h = (h.0, h.1, booked-all h.0 last more h.2)

@@ -2,11 +2,12 @@ mod Places
 mod Rows
 mod Acts
 mod Steps
-mod Posts
+mod Outcomes
 mod Under
 mod Counting
 mod Apart
 mod Windows
 mod Rises
-mod Books
+pub mod Books
+pub mod Viewed
 mod Once

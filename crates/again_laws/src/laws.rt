@@ -1,7 +1,7 @@
 //! The laws.
-ghost use Rattle.gss_server.specs.Asking.{BookAnswers};
 ghost use Rattle.again_laws.specs.Below.{BelowLaw};
-ghost use Rattle.again_laws.specs.Laws.{log_of, WithinLaw, ActsOnce, AnsweredOnce, EachOnce};
+ghost use Rattle.again_laws.specs.Laws.{log_of, GateAnswers, WithinLaw, ActsOnce, AnsweredOnce};
+ghost use Rattle.again_laws.specs.Laws.{EachOnce};
 ghost use Rattle.again_laws.specs.Sole.{IsSole};
 
 use gss_server::Gate;
@@ -15,7 +15,7 @@ pub fn prove_below<G: Gate>()
 /// Does nothing; its contract holds that a book's log grows by the receipts of its answers alone, and that no more contexts live in it than
 /// may.
 pub fn prove_sole()
-    ensures sole { IsSole BookAnswers log_of }
+    ensures sole { IsSole GateAnswers log_of }
     ensures within { WithinLaw }
 {}
 
@@ -23,7 +23,7 @@ pub fn prove_sole()
 pub fn prove_acts_once()
     // No call that acts has a transaction number that stands among the last calls of its context that acted.
     ensures acts_once { ActsOnce }
-    // What is answered are the posts of a call that acted, with the record's transaction number.
+    // What is answered is the outcome of a call that acted, with the record's transaction number, unless memory was wanted.
     ensures answered { AnsweredOnce }
     // There is one such call alone, where enough are kept, and the records are a session's.
     ensures each_once { EachOnce }

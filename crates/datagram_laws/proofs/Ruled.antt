@@ -1,8 +1,7 @@
--- A call that is done was admitted, and its reply has the posts of that answer.
-use Rattle.std.proofs.Common.{◌≡◌, ◌≢◌, ℕ, ◌≤◌, Bool, true, false, not, ◌==◌, ◌&&◌, ◌||◌, nat_lt, List, [], ◌∷◌, Option, Some, None, Result, Ok, Err, refl, sym, ap, ◌∙◌, subst}
+-- A call that is done was admitted, and its reply says the outcome of that answer.
+use Rattle.std.proofs.Common.{◌≡◌, ◌≢◌, ℕ, Bool, true, false, not, ◌==◌, ◌&&◌, ◌||◌, List, [], ◌∷◌, Option, Some, None, Result, Ok, Err, refl, sym, ap, ◌∙◌, subst}
 use Rattle.std.specs.Prelude.{if◌then◌else◌}
-use Rattle.std.proofs.lemmas.Bool.{true≢false, eq-eqb, ne_eqb, ltb-false}
-use Rattle.sha1.specs.Sha1.{sha1}
+use Rattle.std.proofs.lemmas.Bool.{true≢false, eq-eqb, ne_eqb}
 use Rattle.rpc_msgs.specs.Calls.{CallValue, call_at}
 use Rattle.rpc_msgs.specs.declared.call.CallRefusal.{CallRefusal}
 use Rattle.rpc_msgs.specs.declared.xdr_reader.XdrRefusal.{XdrRefusal}
@@ -12,15 +11,19 @@ use Rattle.accept_core.specs.declared.answer.AdmitRefusal.{AdmitRefusal}
 use Rattle.accept_core.specs.declared.answer.AdmitRefusal.TheVariants as admits
 use Rattle.accept_core.specs.declared.answer.LookRefusal.{LookRefusal}
 use Rattle.accept_core.specs.declared.answer.LookRefusal.TheVariants as looks
-use Rattle.accept_core.specs.declared.entry.Admitted.{Admitted}
+use Rattle.accept_book.specs.declared.book_answer.Admitted.{Admitted}
+use Rattle.rpc_program.specs.Programs.{Serving}
+use Rattle.rpc_program.specs.declared.outcome.Outcome.{Outcome}
+use Rattle.rpc_program.specs.declared.outcome.Outcome.TheVariants as outcomes
+use Rattle.rpcsec_bodies.specs.Service.{service_of}
 use Rattle.accept_core.specs.declared.entry.Receipt.{Receipt}
 use Rattle.accept_book.specs.declared.book_answer.BookRefusal.TheVariants as books
 use Rattle.accept_book.specs.declared.book_answer.Lease.{Lease}
 use Rattle.accept_book.specs.declared.book_answer.NegAnswer.{NegAnswer}
 use Rattle.accept_book.specs.declared.book_answer.NegAnswer.TheVariants as steps
 use Rattle.accept_book.specs.declared.book_answer.Negotiated.{Negotiated}
-use Rattle.accept_book.specs.Served.{one_opaque, are_args}
-use Rattle.accept_book.specs.RecordRule.{is_other_program, is_other_version_of_it, is_misplaced, plain_ruling, stepped, ask_step, continued, token_ruling, creation_ruling, unadmitted, ask_admit, args_ruling, data_ruling, ask_end, destroy_ruling, looked_ruling, ask_look, id_ruling, cred_ruling, call_ruling, read_ruling, record_ruling, result_reply}
+use Rattle.accept_book.specs.Served.{one_opaque}
+use Rattle.accept_book.specs.RecordRule.{is_other_program, is_other_version_of_it, is_no_procedure, is_weak, is_misplaced, outcome_ruling, plain_ruling, stepped, ask_step, continued, token_ruling, creation_ruling, unadmitted, ask_admit, args_ruling, data_ruling, ask_end, destroy_ruling, looked_ruling, ask_look, id_ruling, cred_ruling, call_ruling, read_ruling, record_ruling}
 use Rattle.accept_book.specs.RecordShown.{AskedLook, AskedAdmit, KeptAnswers, Ruling, Shown, is_verified, handle_id, body_args, end_of}
 use Rattle.datagram_laws.specs.Done.{IsDone, DoneLaw, shown_as}
 
@@ -32,10 +35,11 @@ record Done (s : Shown) (r : Ruling) : Type 0 where
 record IsTaken (s : Shown) (cred : CredValue) (lease : Lease) (r : Ruling) : Type 0 where
   args : List ℕ
   admitted : Admitted
-  procedure : s.call.procedure ≤ 4
+  procedure : s.serves.program.has s.call.procedure ≡ true
   opened : body_args (end_of lease) cred s.call.args ≡ Some args
-  asked : r.asked ≡ AskedAdmit lease cred.seq s.call.procedure (sha1 args) (Ok admitted) ∷ []
-  reply : r.reply ≡ result_reply s cred lease args admitted.posts
+  asked : r.asked ≡ AskedAdmit lease cred.seq (service_of cred.service) s.call.procedure args (Ok admitted) ∷ []
+  known : admitted.outcome ≢ outcomes.NoMemory
+  reply : r.reply ≡ (outcome_ruling s cred lease args admitted.outcome).reply
 
 record Taken (s : Shown) (cred : CredValue) (lease : Lease) (r : Ruling) : Type 0 where
   done : r.rule ≡ 23 → IsTaken s cred lease r
@@ -73,9 +77,9 @@ null-only procedure ne e = true≢false (sym (ap not (ne_eqb procedure 0 ne)) �
 plain-done : (s : Shown) → s.call.procedure ≢ 0 → Done s (plain_ruling s)
 unfolding plain_ruling
 plain-done s ne =
-    row s (is_other_program s.call) _ _ refl (λ a.
-    row s (is_other_version_of_it s.call) _ _ refl (λ b.
-    row s (nat_lt 4 s.call.procedure) _ _ refl (λ c.
+    row s (is_other_program s) _ _ refl (λ a.
+    row s (is_other_version_of_it s) _ _ refl (λ b.
+    row s (is_no_procedure s) _ _ refl (λ c.
     row s (not (s.call.procedure == 0)) _ _ refl (λ d. absurd (null-only s.call.procedure ne d)))))
 
 stepped-other : (s : Shown) (answer : NegAnswer) → ((stepped s answer).rule == 23) ≡ false
@@ -107,7 +111,7 @@ token-done s cred negotiated (Ok token) = either s (cred.proc == 1) _ _ (step-do
 creation-done : (s : Shown) (cred : CredValue) (negotiated : Option Negotiated) → Done s (creation_ruling s cred negotiated)
 unfolding creation_ruling
 creation-done s cred negotiated =
-    row s (is_other_program s.call) _ _ refl (λ a. row s (is_other_version_of_it s.call) _ _ refl (λ b. token-done s cred negotiated (one_opaque s.call.args)))
+    row s (is_other_program s) _ _ refl (λ a. row s (is_other_version_of_it s) _ _ refl (λ b. token-done s cred negotiated (one_opaque s.call.args)))
 
 -- ---- calls of a context
 
@@ -118,27 +122,52 @@ unadmitted-other s cred lease (admits.Below last) = refl
 unadmitted-other s cred lease admits.Repeat = refl
 unadmitted-other s cred lease admits.LogFull = refl
 
-admit-done : (s : Shown) (cred : CredValue) (lease : Lease) (args : List ℕ) (answer : Option (Result Admitted AdmitRefusal)) → s.call.procedure ≤ 4 → body_args (end_of lease) cred s.call.args ≡ Some args
-    → Taken s cred lease (ask_admit s cred lease args answer)
-admit-done s cred lease args None few opened = late-other s cred lease _ refl
-admit-done s cred lease args (Some (Ok a)) few opened =
-    record { done = λ e. record { args = args; admitted = a; procedure = few; opened = opened; asked = refl; reply = refl } }
-admit-done s cred lease args (Some (Err refusal)) few opened = late-other s cred lease _ (unadmitted-other s cred lease refusal)
+-- what became of a call asks nothing more
+unasked : (s : Shown) (cred : CredValue) (lease : Lease) (args : List ℕ) (outcome : Outcome) → (outcome_ruling s cred lease args outcome).asked ≡ []
+unasked s cred lease args outcomes.Args = refl
+unasked s cred lease args (outcomes.Done result) = refl
+unasked s cred lease args (outcomes.Refused why) = refl
+unasked s cred lease args (outcomes.Mismatch low high) = refl
+unasked s cred lease args outcomes.Gone = refl
+unasked s cred lease args outcomes.NoMemory = refl
 
-args-done : (s : Shown) (cred : CredValue) (lease : Lease) (answer : Option (Result Admitted AdmitRefusal)) (args : Option (List ℕ)) → s.call.procedure ≤ 4 → body_args (end_of lease) cred s.call.args ≡ args
+-- of an admitted call's outcomes these are of the rule of calls that are done
+known-done : (s : Shown) (cred : CredValue) (lease : Lease) (args : List ℕ) (outcome : Outcome) → (outcome_ruling s cred lease args outcome).rule ≡ 23 → outcome ≢ outcomes.NoMemory
+known-done s cred lease args outcomes.Args e = λ same. absurd cc
+known-done s cred lease args (outcomes.Done result) e = λ same. absurd cc
+known-done s cred lease args (outcomes.Refused why) e = λ same. absurd cc
+known-done s cred lease args (outcomes.Mismatch low high) e = λ same. absurd cc
+known-done s cred lease args outcomes.Gone e = λ same. absurd cc
+known-done s cred lease args outcomes.NoMemory e = absurd (is-other 0 refl e)
+
+admit-done : (s : Shown) (cred : CredValue) (lease : Lease) (args : List ℕ) (answer : Option (Result Admitted AdmitRefusal)) → s.serves.program.has s.call.procedure ≡ true → body_args (end_of lease) cred s.call.args ≡ Some args
+    → Taken s cred lease (ask_admit s cred lease args answer)
+admit-done s cred lease args None has opened = late-other s cred lease _ refl
+admit-done s cred lease args (Some (Ok a)) has opened =
+    record { done = λ e. record { args = args; admitted = a; procedure = has; opened = opened; asked = ap (λ l. AskedAdmit lease cred.seq (service_of cred.service) s.call.procedure args (Ok a) ∷ l) (unasked s cred lease args a.outcome); known = known-done s cred lease args a.outcome e; reply = refl } }
+admit-done s cred lease args (Some (Err refusal)) has opened = late-other s cred lease _ (unadmitted-other s cred lease refusal)
+
+args-done : (s : Shown) (cred : CredValue) (lease : Lease) (answer : Option (Result Admitted AdmitRefusal)) (args : Option (List ℕ)) → s.serves.program.has s.call.procedure ≡ true → body_args (end_of lease) cred s.call.args ≡ args
     → Taken s cred lease (args_ruling s cred lease answer args)
-args-done s cred lease answer None few opened = late-other s cred lease _ refl
-args-done s cred lease answer (Some args) few opened = late-row s cred lease (not (are_args s.call.procedure args)) _ _ refl (λ a. admit-done s cred lease args answer few opened)
+args-done s cred lease answer None has opened = late-other s cred lease _ refl
+args-done s cred lease answer (Some args) has opened = late-row s cred lease (not (s.serves.program.takes s.call.procedure args)) _ _ refl (λ a. admit-done s cred lease args answer has opened)
+
+has-it : (s : Shown) → is_no_procedure s ≡ false → s.serves.program.has s.call.procedure ≡ true
+has-it s e = not-off (s.serves.program.has s.call.procedure) e
+  where
+    not-off : (b : Bool) → not b ≡ false → b ≡ true
+    not-off true e = refl
+    not-off false e = absurd (true≢false e)
 
 data-done : (s : Shown) (cred : CredValue) (lease : Lease) (answer : Option (Result Admitted AdmitRefusal)) → Taken s cred lease (data_ruling s cred lease answer)
 unfolding data_ruling
 data-done s cred lease answer =
     late-row s cred lease (not (is_verified s lease)) _ _ refl (λ a.
-    late-row s cred lease (is_other_program s.call) _ _ refl (λ b.
-    late-row s cred lease (is_other_version_of_it s.call) _ _ refl (λ c.
-    late-row s cred lease (nat_lt 4 s.call.procedure) _ _ refl (λ d.
-    late-row s cred lease (cred.service == 1 && not (s.call.procedure == 0)) _ _ refl (λ f.
-    args-done s cred lease answer (body_args (end_of lease) cred s.call.args) (ltb-false 4 s.call.procedure d) refl)))))
+    late-row s cred lease (is_other_program s) _ _ refl (λ b.
+    late-row s cred lease (is_other_version_of_it s) _ _ refl (λ c.
+    late-row s cred lease (is_no_procedure s) _ _ refl (λ d.
+    late-row s cred lease (is_weak s cred) _ _ refl (λ f.
+    args-done s cred lease answer (body_args (end_of lease) cred s.call.args) (has-it s d) refl)))))
 
 end-done : (s : Shown) (cred : CredValue) (lease : Lease) (answer : Option (Result Receipt AdmitRefusal)) → Taken s cred lease (ask_end s cred lease answer)
 end-done s cred lease None = late-other s cred lease _ refl
@@ -149,8 +178,8 @@ destroy-done : (s : Shown) (cred : CredValue) (lease : Lease) (answer : Option (
 unfolding destroy_ruling
 destroy-done s cred lease answer =
     late-row s cred lease (not (is_verified s lease)) _ _ refl (λ a.
-    late-row s cred lease (is_other_program s.call) _ _ refl (λ b.
-    late-row s cred lease (is_other_version_of_it s.call) _ _ refl (λ c. end-done s cred lease answer)))
+    late-row s cred lease (is_other_program s) _ _ refl (λ b.
+    late-row s cred lease (is_other_version_of_it s) _ _ refl (λ c. end-done s cred lease answer)))
 
 lease-done : (s : Shown) (cred : CredValue) (admitted : Option (Result Admitted AdmitRefusal)) (ended : Option (Result Receipt AdmitRefusal)) (lease : Lease) → Taken s cred lease (looked_ruling s cred admitted ended (Ok lease))
 lease-done s cred admitted ended lease = late-either s cred lease (cred.proc == 0) _ _ (data-done s cred lease admitted) (destroy-done s cred lease ended)
@@ -169,6 +198,7 @@ shown-done s cred id admitted ended lease read handle = record {
     procedure = t.procedure;
     opened = t.opened;
     asked = ap (λ l. AskedLook id s.now (Ok lease) ∷ l) t.asked;
+    known = t.known;
     reply = t.reply;
   };
 }
@@ -202,11 +232,11 @@ call-done s negotiated looked admitted ended ne =
     row s (not (s.call.cred.flavour == 0) && not (s.call.cred.flavour == 6)) _ _ refl (λ a.
     either s (s.call.cred.flavour == 0) _ _ (plain-done s ne) (cred-done s negotiated looked admitted ended (cred_at s.call.cred.body) refl))
 
-record-done : (octets : List ℕ) (kept : KeptAnswers) (width : ℕ) (call : CallValue) → call_at octets ≡ Ok call → call.procedure ≢ 0 → Done (shown_as octets kept width call) (record_ruling octets kept width)
+record-done : (octets : List ℕ) (kept : KeptAnswers) (serves : Serving) (call : CallValue) → call_at octets ≡ Ok call → call.procedure ≢ 0 → Done (shown_as octets kept serves call) (record_ruling octets kept serves)
 unfolding record_ruling
-record-done octets kept width call read ne =
-    subst (λ (r : Result CallValue CallRefusal). Done (shown_as octets kept width call) (read_ruling octets kept width r)) (sym read)
-    (call-done (shown_as octets kept width call) kept.negotiated kept.looked kept.admitted kept.ended ne)
+record-done octets kept serves call read ne =
+    subst (λ (r : Result CallValue CallRefusal). Done (shown_as octets kept serves call) (read_ruling octets kept serves r)) (sym read)
+    (call-done (shown_as octets kept serves call) kept.negotiated kept.looked kept.admitted kept.ended ne)
 
 pub done-law : DoneLaw
-done-law octets kept width call called = (record-done octets kept width call called.read called.procedure).done called.rule
+done-law octets kept serves call called = (record-done octets kept serves call called.read called.procedure).done called.rule

@@ -7,12 +7,12 @@ use again_laws::prove_acts_once;
 use datagram_post::Post;
 use sec_base::Draw;
 
-/// Does nothing; its contract holds that a call which is done was admitted, and that its reply has the result by the posts of that answer.
+/// Does nothing; its contract holds that a call which is done was admitted, and that its reply says the outcome of that answer.
 pub fn prove_done()
     ensures { DoneLaw }
 {}
 
-/// Does nothing; its contract holds that each reply to a call that is done has the result by the posts of a call that acted with its
+/// Does nothing; its contract holds that each reply to a call that is done says the outcome of a call that acted with its
 /// transaction number, and of that one alone where enough calls are kept and the records are a session's.
 pub fn prove_replies()
     ensures { RepliesLaw }

@@ -4,7 +4,7 @@ ghost use Rattle.std.specs.Prelude.{◌≡◌, ◌≢◌, ◌≤◌, IfOk, IsTru
 ghost use Rattle.sec_base.specs.Answers.{Rose};
 ghost use Rattle.cli_base.specs.Lines.{Says};
 ghost use Rattle.datagram_serving.specs.Serving.{IsGate, end_of, Answers, IsServed, counts_of};
-ghost use Rattle.datagram_serving.specs.Serving.{Runs, waits_of};
+ghost use Rattle.datagram_serving.specs.Serving.{Runs, below_of, waits_of};
 ghost use Rattle.datagram_options.specs.Endings.{serve_status, serve_line};
 ghost use Rattle.server_command.specs.Runs.{names_in, journal_name};
 ghost use Rattle.server_command.specs.Through.{IsOpened};
@@ -18,8 +18,9 @@ use again_laws::{prove_acts_once, prove_below};
 use datagram_options::{ServeEnd, say_serve};
 use datagram_post::Post;
 use gss_base::{Label, Principal};
-use gss_server::Gate;
+use gss_server::{Gate, OwnGate};
 use rpc_datagram::serve;
+use rpc_program::{Program, Speller};
 use sec_base::{Clock, Draw, Moment, NoMemory, Shelf, Sink};
 use server_command::{keeping_of, log_limit};
 use server_options::{Counts, Files, Keys, Names, Options, RunEnd, keys_from};
@@ -28,7 +29,7 @@ use std::alloc::Global;
 
 /// What a run of a server came to.
 #[derive(Drop)]
-pub struct ServeRun {
+pub struct ServeRun<V> {
     /// The exit status: 0 it waited so often, 3 keytab or verifiers can't be loaded, 4 one of them isn't of its format, or the keytab has no
     /// key for the own name, 5 the post failed, 6 the sink failed, 8 there was no memory.
     pub status: u8,
@@ -38,6 +39,8 @@ pub struct ServeRun {
     pub log: Log,
     /// How many datagrams were answered, those that got no reply among them.
     pub records: u64,
+    /// The program, as it was handed in where its keys stopped the run; none where there was no memory to open a book.
+    pub program: Option<V>,
 }
 
 /// How often a run waits for a datagram without an option, 2 ^ 47 times: at 10,000 a second it takes 446 years.
@@ -53,10 +56,11 @@ const UNNAMED: Names<'static> = Names {
 
 /// What serving came to.
 #[derive(Drop)]
-struct ServeCourse {
+struct ServeCourse<V> {
     end: ServeEnd,
     log: Log,
     records: u64,
+    program: Option<V>,
 }
 
 /// The book of a run.
@@ -86,25 +90,38 @@ fn open_seat(
     OwnSeat::open(alloc, setup, limits, start)
 }
 
-/// The gate of a run: over a book of its own, with places for as many contexts as the book has, each for twice as many calls as a window
-/// has numbers.
-fn open_gate(
+/// The gate of a run: over a book of its own with this program and speller, with places for as many contexts as the book has, each for
+/// twice as many calls as a window has numbers. Of a result `most` octets are kept at most.
+fn open_gate<V: Program + Drop, S: Speller<V::Ticket> + Drop>(
     alloc: Global,
     options: Options,
     keys: Keys,
+    program: V,
+    speller: S,
+    most: u32,
     start: Moment,
-) -> Result<AgainGate<OwnSeat>, NoMemory>
-    requires { IsRanged options }
-    ensures { IfOk result (λ gate. IsGate options keys start gate) }
+) -> Result<AgainGate<OwnGate<V, S>>, NoMemory>
+    requires ranged { IsRanged options }
+    requires says { S.says ≡ V.says }
+    ensures { IfOk result (λ gate. IsGate (below_of ⟦<OwnGate<V, S> as Gate>⟧ (λ g. g.seat)
+        (λ g. g.program) program (λ g. g.speller ≡ speller))
+        options keys start most gate) }
 {
     let contexts = options.contexts as usize;
     let width = options.window;
     match open_seat(alloc, options, keys, start) {
-        Ok(seat) => match AgainGate::new(alloc, seat, contexts, 2 * width) {
-            Ok(gate) => Ok(gate),
-            Err(NoMemory) => Err(NoMemory),
-        },
-        Err(NoMemory) => Err(NoMemory),
+        Ok(seat) => {
+            let own = OwnGate::new(seat, program, speller);
+            match AgainGate::new(alloc, own, contexts, 2 * width, most) {
+                Ok(gate) => Ok(gate),
+                Err(NoMemory) => Err(NoMemory),
+            }
+        }
+        Err(NoMemory) => {
+            drop(program);
+            drop(speller);
+            Err(NoMemory)
+        }
     }
 }
 
@@ -119,18 +136,19 @@ fn end_of(end: rpc_datagram::ServeEnd) -> ServeEnd
     }
 }
 
-/// Serves by a gate, and answers the log of its book.
-fn serve_by<P: Post, C: Clock, D: Draw>(
+/// Serves by a gate, and answers the log of its book and its program.
+fn serve_by<P: Post, C: Clock, D: Draw, V: Program + Drop, S: Speller<V::Ticket> + Drop>(
     alloc: Global,
-    gate: AgainGate<OwnSeat>,
+    gate: AgainGate<OwnGate<V, S>>,
     width: u32,
     most: u64,
     post: &mut P,
     clock: &mut C,
     draw: &mut D,
-) -> ServeCourse
-    ensures told { Answers P.Post C.Clock D.Draw ⟦<OwnSeat as Gate>⟧ width most gate post.old
-        post.new clock.old clock.new draw.old draw.new result.end result.log result.records }
+) -> ServeCourse<V>
+    ensures told { Answers P.Post C.Clock D.Draw ⟦<OwnGate<V, S> as Gate>⟧ (λ g. g.seat)
+        (λ g. g.program) width most gate post.old post.new clock.old clock.new draw.old draw.new
+        result.end result.log result.records result.program }
     ensures fault { result.end ≡ ServeEnd.PostFault → Rose (P.faults post.old) (P.faults post.new) }
     ensures tells { P.tells post.new ≡ P.tells post.old }
     ensures faults { P.faults post.old ≤ P.faults post.new }
@@ -147,14 +165,17 @@ fn serve_by<P: Post, C: Clock, D: Draw>(
         width,
         most,
     );
+    let (seat, program, speller) = gate.into_gate().into_parts();
+    drop(speller);
     ServeCourse {
         end: end_of(end),
-        log: gate.into_gate().into_log(),
+        log: seat.into_log(),
         records: keeper.count,
+        program: Some(program),
     }
 }
 
-/// How often a run waits for a datagram, by its option; 1,000 times without it.
+/// How often a run waits for a datagram, by its option; as often as is counted without it.
 fn waits_of(connections: Option<u32>) -> u64
     ensures { result ≡ waits_of connections }
 {
@@ -165,19 +186,25 @@ fn waits_of(connections: Option<u32>) -> u64
 }
 
 /// Opens the gate and serves.
-fn open_and_serve<P: Post, C: Clock, D: Draw>(
+fn open_and_serve<P: Post, C: Clock, D: Draw, V: Program + Drop, S: Speller<V::Ticket> + Drop>(
     alloc: Global,
     options: Options,
     keys: Keys,
+    program: V,
+    speller: S,
+    kept: u32,
     post: &mut P,
     clock: &mut C,
     draw: &mut D,
     start: Moment,
-) -> ServeCourse
-    requires { IsRanged options }
-    ensures served { IsServed P.Post C.Clock D.Draw ⟦<OwnSeat as Gate>⟧ options keys start
-        post.old post.new clock.old clock.new draw.old draw.new result.end result.log
-        result.records }
+) -> ServeCourse<V>
+    requires ranged { IsRanged options }
+    requires says { S.says ≡ V.says }
+    ensures served { IsServed P.Post C.Clock D.Draw
+        (below_of ⟦<OwnGate<V, S> as Gate>⟧ (λ g. g.seat)
+        (λ g. g.program) program (λ g. g.speller ≡ speller)) options keys start kept post.old
+        post.new clock.old clock.new draw.old draw.new result.end result.log result.records
+        result.program }
     ensures fault { result.end ≡ ServeEnd.PostFault → Rose (P.faults post.old) (P.faults post.new) }
     ensures tells { P.tells post.new ≡ P.tells post.old }
     ensures faults { P.faults post.old ≤ P.faults post.new }
@@ -185,13 +212,14 @@ fn open_and_serve<P: Post, C: Clock, D: Draw>(
     let width = options.window;
     let most = waits_of(options.connections);
     prove_acts_once();
-    prove_below::<OwnSeat>();
-    match open_gate(alloc, options, keys, start) {
+    prove_below::<OwnGate<V, S>>();
+    match open_gate(alloc, options, keys, program, speller, kept, start) {
         Ok(gate) => serve_by(alloc, gate, width, most, post, clock, draw),
         Err(NoMemory) => ServeCourse {
             end: ServeEnd::As(RunEnd::NoMemory),
             log: Log::empty(),
             records: 0,
+            program: None,
         },
     }
 }
@@ -219,7 +247,12 @@ fn names_in<'a>(files: &'a Files, label: &'a Label) -> Names<'a>
 }
 
 /// Says how a run ended: with one connection for the post, and as many records as datagrams were answered.
-fn finish<O: Sink>(alloc: Global, names: &Names<'_>, course: ServeCourse, err: &mut O) -> ServeRun
+fn finish<V, O: Sink>(
+    alloc: Global,
+    names: &Names<'_>,
+    course: ServeCourse<V>,
+    err: &mut O,
+) -> ServeRun<V>
     ensures status { result.status ≢ 6 → result.status ≢ 8
         → result.status ≡ serve_status result.end }
     ensures sink_fault { result.status ≡ 6 → Rose (O.faults err.old) (O.faults err.new) }
@@ -228,8 +261,14 @@ fn finish<O: Sink>(alloc: Global, names: &Names<'_>, course: ServeCourse, err: &
     ensures end { result.end ≡ course.end }
     ensures log { result.log ≡ course.log }
     ensures records { result.records ≡ course.records }
+    ensures program { result.program ≡ course.program }
 {
-    let ServeCourse { end, log, records } = course;
+    let ServeCourse {
+        end,
+        log,
+        records,
+        program,
+    } = course;
     let counts = Counts {
         connections: 1,
         records: records as u128,
@@ -242,47 +281,71 @@ fn finish<O: Sink>(alloc: Global, names: &Names<'_>, course: ServeCourse, err: &
         end,
         log,
         records,
+        program,
     }
 }
 
 /// Runs a server over datagrams with these options, whose `connections` are how often it waits, and says on `err` how it ended.
-pub fn run_serve<F: Shelf, P: Post, C: Clock, D: Draw, O: Sink>(
+///
+/// It serves this program, whose results the speller spells, and gives it back. Of a result `kept` octets are kept at most, for a call that is sent again; a
+/// call whose result is longer gets no second reply.
+pub fn run_serve<
+    F: Shelf,
+    P: Post,
+    C: Clock,
+    D: Draw,
+    O: Sink,
+    V: Program + Drop,
+    S: Speller<V::Ticket> + Drop,
+>(
     alloc: Global,
     options: Options,
     shelf: &mut F,
     post: &mut P,
     clock: &mut C,
     draw: &mut D,
+    program: V,
+    speller: S,
+    kept: u32,
     start: Moment,
     err: &mut O,
-) -> ServeRun
-    requires { IsRanged options }
+) -> ServeRun<V>
+    requires ranged { IsRanged options }
+    // The speller says of the program what it says of itself.
+    requires says { S.says ≡ V.says }
     ensures status { result.status ≢ 6 → result.status ≢ 8
         → result.status ≡ serve_status result.end }
     ensures sink_fault { result.status ≡ 6 → Rose (O.faults err.old) (O.faults err.new) }
     ensures said { IsTrue (O.tells err.old) → Says (O.written err.old) (O.written err.new)
         result.status (serve_line (names_in options.files (text_form options.name.realm
         options.name.parts)) (counts_of result.log result.records) result.end) }
-    // The run ends by what keytab and verifiers come to; else one book answers the datagrams, from its opening to the log that is returned.
-    ensures runs { Runs F.Shelf P.Post C.Clock D.Draw ⟦<OwnSeat as Gate>⟧ options start
-        shelf.old shelf.new post.old post.new clock.old clock.new draw.old draw.new result.end
-        result.log result.records }
+    // The run ends by what keytab and verifiers come to; else one book with the program answers the datagrams, from its opening to the log
+    // and the program that are returned.
+    ensures runs { Runs F.Shelf P.Post C.Clock D.Draw
+        (below_of ⟦<OwnGate<V, S> as Gate>⟧ (λ g. g.seat)
+        (λ g. g.program) program (λ g. g.speller ≡ speller)) options start kept shelf.old
+        shelf.new post.old post.new clock.old clock.new draw.old draw.new result.end result.log
+        result.records result.program }
     ensures fault { result.end ≡ ServeEnd.PostFault → Rose (P.faults post.old) (P.faults post.new) }
     ensures tells { P.tells post.new ≡ P.tells post.old }
     ensures faults { P.faults post.old ≤ P.faults post.new }
 {
     match keys_from(alloc, shelf, &options.files, &options.name) {
         Ok(keys) => {
-            let course = open_and_serve(alloc, options, keys, post, clock, draw, start);
+            let course = open_and_serve(
+                alloc, options, keys, program, speller, kept, post, clock, draw, start,
+            );
             finish(alloc, &UNNAMED, course, err)
         }
         Err(end) => {
+            drop(speller);
             let label = options.name.label();
             let names = names_in(&options.files, &label);
             let course = ServeCourse {
                 end: ServeEnd::As(end),
                 log: Log::empty(),
                 records: 0,
+                program: Some(program),
             };
             finish(alloc, &names, course, err)
         }

@@ -3,8 +3,10 @@
 use accept_book::{Entry, Keeping, Limits, OwnSeat};
 use again_gate::AgainGate;
 use datagram_post::MemPost;
-use gss_server::KeepAll;
+use gss_server::{KeepAll, OwnGate};
+use posts_program::{Posts, PostsWords};
 use rpc_datagram::serve;
+use rpc_program::Spelled;
 use sec_base::{MemDraw, Octets};
 use std::alloc::Global;
 use table_rows::{Cells, Rows, Said};
@@ -56,14 +58,21 @@ fn coming(cells: &mut Cells<'_>, names: &str, cell: &str) -> Vec<Option<Octets>>
     coming
 }
 
+/// How many octets of a result are kept: those of a name, as WHOAMI spells it.
+const MOST_KEPT: u32 = 260;
+
+/// A book, the program of posts, and who spells its results.
+type BookGate = OwnGate<Posts, Spelled<PostsWords>>;
+
 /// A gate that keeps so many calls of a context, over a book of its own.
-fn gate_of(alloc: Global, setting: &Setting, kept: u32) -> Option<AgainGate<OwnSeat>> {
+fn gate_of(alloc: Global, setting: &Setting, kept: u32) -> Option<AgainGate<BookGate>> {
     if kept == 0 {
         return None;
     }
     let setup = setting.acceptor(alloc, "ks")?;
     let book = OwnSeat::open(alloc, setup, LIMITS, present()).ok()?;
-    AgainGate::new(alloc, book, LIMITS.contexts, kept).ok()
+    let gate = OwnGate::new(book, Posts::new(), Spelled { by: PostsWords });
+    AgainGate::new(alloc, gate, LIMITS.contexts, kept, MOST_KEPT).ok()
 }
 
 /// Says what was sent, `-` for nothing.
@@ -103,7 +112,7 @@ fn say_calls(alloc: Global, entries: &[Entry], said: &mut Said) {
 /// Serves what comes, and says what came of it.
 fn say_served(
     alloc: Global,
-    gate: AgainGate<OwnSeat>,
+    gate: AgainGate<BookGate>,
     coming: Vec<Option<Octets>>,
     said: &mut Said,
 ) {
@@ -125,7 +134,8 @@ fn say_served(
         most as u64,
     );
     say_sent(post.sent(), said);
-    say_calls(alloc, gate.into_gate().log().entries().unwrap_or(&[]), said);
+    let (seat, _, _) = gate.into_gate().into_parts();
+    say_calls(alloc, seat.log().entries().unwrap_or(&[]), said);
     said.number(keeper.all.len() as u64);
     said.form(&end);
 }

@@ -8,6 +8,8 @@ use datagram_command::run_datagrams;
 use datagram_options::address_of;
 use init_ends::standard_mechs;
 use mech_objects::{MadeMechs, Mech, make_mechs};
+use posts_program::{Posts, PostsWords};
+use rpc_program::Spelled;
 use sec_base::{Clock as Moments, Text};
 use std::net::Net;
 use std::process::ExitCode;
@@ -18,6 +20,10 @@ use udp_post::UdpPost;
 
 /// The status where the words can't be read, or the random source or the empty file isn't there.
 const NOT_STARTED: u8 = 1;
+
+/// How many octets of a result are kept for a call that is sent again: those of a name, as WHOAMI spells it. ECHO's are its arguments, which
+/// come again, and the others are a word.
+const MOST_KEPT: u32 = 260;
 
 /// The status at want of memory.
 const OUT_OF_MEMORY: u8 = 8;
@@ -63,6 +69,9 @@ fn run_over<R: Net>(
         &mut post,
         &mut clock,
         draw,
+        Posts::new(),
+        Spelled { by: PostsWords },
+        MOST_KEPT,
         start,
         mechs,
         &mut out,

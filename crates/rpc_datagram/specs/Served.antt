@@ -5,6 +5,8 @@ use Rattle.std.specs.List.{AllByRecursion, flat_map}
 use Rattle.std.specs.Int.{w32, from_be_bytes}
 use Rattle.sec_base.specs.Answers.{Rose}
 use Rattle.accept_book.specs.RecordShown.{Asked, Ruling}
+use Rattle.accept_book.specs.declared.book_answer.Admitted.{Admitted}
+use Rattle.rpc_program.specs.Programs.{Serving}
 use Rattle.gss_server.specs.Answers.{IsDecided}
 use Rattle.gss_server.specs.Connections.{IsExact, ruling_for}
 use Rattle.gss_server.specs.Turns.{Wanted}
@@ -29,14 +31,14 @@ pub record Datagram : Type 0 where
   pub octets : List ℕ
   pub kept : Kept
 
--- what the rules of a record say of a datagram, by its kept answer
-abbrev pub ruling_of : ℕ → Datagram → Ruling
-ruling_of width one = ruling_for width (record_of one.octets) one.kept
+-- what the rules of a record say of a datagram, by its kept answer and what is served
+abbrev pub ruling_of : Serving → Datagram → Ruling
+ruling_of serves one = ruling_for serves (record_of one.octets) one.kept
 
 -- its transaction number, and what the gate is asked for it
-abbrev pub turn_of : ℕ → Datagram → Turned
-turn_of width one =
-    record { xid = xid_of (record_of one.octets); asked = (ruling_of width one).asked }
+abbrev pub turn_of : Serving → Datagram → Turned
+turn_of serves one =
+    record { xid = xid_of (record_of one.octets); asked = (ruling_of serves one).asked }
 
 -- a reply as datagrams: one, or none
 abbrev pub reply_list : Option (List ℕ) → List (List ℕ)
@@ -44,8 +46,8 @@ reply_list None = []
 reply_list (Some octets) = octets ∷ []
 
 -- its reply
-abbrev pub replies_of : ℕ → Datagram → List (List ℕ)
-replies_of width one = reply_list (ruling_of width one).reply
+abbrev pub replies_of : Serving → Datagram → List (List ℕ)
+replies_of serves one = reply_list (ruling_of serves one).reply
 
 -- the datagrams that came in these waits
 abbrev pub came : List (Option (List ℕ)) → List (List ℕ)
@@ -55,35 +57,36 @@ came (Some octets ∷ waits) = octets ∷ came waits
 
 -- one answer was kept of each datagram, nothing is kept that wasn't asked, and the gate was asked
 -- what is due to each, in order, under its transaction number
-pub record Course {S : Type 0} (Answers : S → Asked → S → Type 0) (width : ℕ) (old new : AgainOf S)
+pub record Course {S : Type 0} (Answers : S → Asked Admitted → S → Type 0) (serves : Serving)
+    (old new : AgainOf S)
     (kept : List Kept) (all : List Datagram) : Type 0 where
   pub each : kept ≡ map (λ one. one.kept) all
-  pub exact : AllByRecursion (λ one. IsExact width (record_of one.octets) one.kept) all
-  pub turns : Turning Answers old (map (turn_of width) all) new
+  pub exact : AllByRecursion (λ one. IsExact serves (record_of one.octets) one.kept) all
+  pub turns : Turning Answers old (map (turn_of serves) all) new
 
 -- over a post that tells its datagrams: so many waits passed, in which these came, and the replies
 -- to the answered ones were sent, in order
-pub record Told {P : Type 0} (post : posts.Ghosts P) (width : ℕ) (old new : P)
+pub record Told {P : Type 0} (post : posts.Ghosts P) (serves : Serving) (old new : P)
     (Many : ℕ → Type 0) (all answered : List Datagram) : Type 0 where
   pub waits : List (Option (List ℕ))
   pub many : Many (length waits)
   pub are : came waits ≡ map (λ one. one.octets) all
   pub heard : post.heard new ≡ post.heard old ++ waits
-  pub sent : post.sent new ≡ post.sent old ++ flat_map (replies_of width) answered
+  pub sent : post.sent new ≡ post.sent old ++ flat_map (replies_of serves) answered
 
 -- datagrams were answered, a rule decided each, and its reply was sent; perhaps one more was
 -- answered, whose reply wasn't sent
-pub record Serves {P S : Type 0} (post : posts.Ghosts P) (gate : gates.Ghosts S) (width : ℕ)
+pub record Serves {P S : Type 0} (post : posts.Ghosts P) (gate : gates.Ghosts S) (serves : Serving)
     (old new : P) (gate_old gate_new : AgainOf S) (Many : ℕ → Type 0) (Unsent : Ruling → Type 0)
     (kept : List Kept) : Type 0 where
   pub answered : List Datagram
   pub last : List Datagram
-  pub course : Course gate.answers width gate_old gate_new kept (answered ++ last)
-  pub decided : AllByRecursion (λ one. IsDecided (ruling_of width one)) answered
+  pub course : Course gate.answers serves gate_old gate_new kept (answered ++ last)
+  pub decided : AllByRecursion (λ one. IsDecided (ruling_of serves one)) answered
   pub few : length last ≤ 1
-  pub unsent : AllByRecursion (λ one. Unsent (ruling_of width one)) last
+  pub unsent : AllByRecursion (λ one. Unsent (ruling_of serves one)) last
   pub told : IsTrue (post.tells old)
-      → Told post width old new Many (answered ++ last) answered
+      → Told post serves old new Many (answered ++ last) answered
 
 -- how many waits there were, of so many: all, unless it broke off
 abbrev pub Waited : ℕ → ServeEnd → ℕ → Type 0
@@ -99,10 +102,10 @@ Unsent ends.PostFault ruling = IsDecided ruling
 Unsent ends.NoMemory ruling = Wanted ruling
 
 -- so many times a datagram was waited for, unless it broke off
-abbrev pub DatagramsServed : {P S : Type 0} → posts.Ghosts P → gates.Ghosts S → ℕ → ℕ → P → P
-    → AgainOf S → AgainOf S → ServeEnd → List Kept → Type 0
-DatagramsServed post gate width most old new gate_old gate_new end kept =
-    Serves post gate width old new gate_old gate_new (Waited most end) (Unsent end) kept
+abbrev pub DatagramsServed : {P S : Type 0} → posts.Ghosts P → gates.Ghosts S → Serving → ℕ → P
+    → P → AgainOf S → AgainOf S → ServeEnd → List Kept → Type 0
+DatagramsServed post gate serves most old new gate_old gate_new end kept =
+    Serves post gate serves old new gate_old gate_new (Waited most end) (Unsent end) kept
 
 -- a post tells as before, counts no fewer faults, and one more where it failed
 pub record PostLeft {P : Type 0} (post : posts.Ghosts P) (old new : P) (end : ServeEnd) : Type 0
@@ -127,15 +130,16 @@ Ruled ends.NoMemory ruling = Wanted ruling
 
 -- a record was answered: one answer was kept, and the gate was asked what is due; over a post that
 -- tells, nothing was heard, and its reply was sent, or wasn't
-pub record OneAnswered {P S : Type 0} (post : posts.Ghosts P) (gate : gates.Ghosts S) (width : ℕ)
+pub record OneAnswered {P S : Type 0} (post : posts.Ghosts P) (gate : gates.Ghosts S)
+    (serves : Serving)
     (old new : P) (gate_old gate_new : AgainOf S) (octets : List ℕ) (end : ServeEnd)
     (kept : List Kept) : Type 0 where
   pub one : Kept
   pub only : kept ≡ one ∷ []
-  pub exact : IsExact width octets one
-  pub ruled : Ruled end (ruling_for width octets one)
+  pub exact : IsExact serves octets one
+  pub ruled : Ruled end (ruling_for serves octets one)
   pub turns : Turning gate.answers gate_old
-      ((record { xid = xid_of octets; asked = (ruling_for width octets one).asked }) ∷ []) gate_new
+      ((record { xid = xid_of octets; asked = (ruling_for serves octets one).asked }) ∷ []) gate_new
   pub heard : IsTrue (post.tells old) → post.heard new ≡ post.heard old
   pub sent : IsTrue (post.tells old)
-      → Responds (post.sent old) (post.sent new) (ruling_for width octets one) end
+      → Responds (post.sent old) (post.sent new) (ruling_for serves octets one) end

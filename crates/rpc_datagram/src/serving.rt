@@ -4,6 +4,7 @@ ghost use Rattle.std.specs.Prelude.{◌≡◌, ◌≤◌, IsTrue};
 ghost use Rattle.accept_book.specs.RecordShown.{Ruling};
 ghost use Rattle.gss_server.specs.Answers.{IsReply};
 ghost use Rattle.gss_server.specs.Keeping.{Makes};
+ghost use Rattle.gss_server.specs.Hearing.{serving};
 ghost use Rattle.gss_server.specs.Steady.{GateKept};
 ghost use Rattle.rpc_datagram.specs.Served.{record_of, xid_of, DatagramsServed, Responds, Ruled};
 ghost use Rattle.rpc_datagram.specs.Served.{OneAnswered, PostLeft};
@@ -63,6 +64,7 @@ fn respond<P: Post>(post: &mut P, reply: &Reply) -> ServeEnd
 {
     match reply {
         Reply::Silent => ServeEnd::Done,
+        Reply::Gone => ServeEnd::Done,
         Reply::NoMemory => ServeEnd::NoMemory,
         Reply::Bytes(octets) => match post.send(octets.as_slice()) {
             Ok(()) => ServeEnd::Done,
@@ -85,8 +87,8 @@ fn answer_one<P: Post, K: Keeper<Kept>, G: Gate, C: Clock, D: Draw>(
 ) -> ServeEnd
     requires ready { K.ready keeper.old }
     ensures answered { Makes K.Keeper C.Clock D.Draw keeper.old keeper.new clock.old clock.new
-        draw.old draw.new (λ kept. OneAnswered P.Post G.Gate width post.old post.new gate.old
-        gate.new octets.now result kept) }
+        draw.old draw.new (λ kept. OneAnswered P.Post G.Gate (serving G.program width) post.old
+        post.new gate.old gate.new octets.now result kept) }
     ensures left { PostLeft P.Post post.old post.new result }
     ensures gate_kept { GateKept ⟦<AgainGate<G> as Gate>⟧ gate.old gate.new }
 {
@@ -108,8 +110,8 @@ fn serve_one<P: Post, K: Keeper<Kept>, G: Gate, C: Clock, D: Draw>(
     room: &mut [u8; ROOM],
 ) -> ServeEnd
     ensures served { Makes K.Keeper C.Clock D.Draw keeper.old keeper.new clock.old clock.new
-        draw.old draw.new (λ kept. DatagramsServed P.Post G.Gate width 1 post.old post.new gate.old
-        gate.new result kept) }
+        draw.old draw.new (λ kept. DatagramsServed P.Post G.Gate (serving G.program width) 1
+        post.old post.new gate.old gate.new result kept) }
     ensures left { PostLeft P.Post post.old post.new result }
     ensures gate_kept { GateKept ⟦<AgainGate<G> as Gate>⟧ gate.old gate.new }
 {
@@ -127,7 +129,8 @@ fn serve_one<P: Post, K: Keeper<Kept>, G: Gate, C: Clock, D: Draw>(
 
 /// Waits for a datagram so many times, answers those that come, in order, and gives each answer to the keeper.
 ///
-/// `width` is that of the windows of the gate below. A datagram that doesn't read, or has more than 8,192 octets, gets no reply.
+/// `width` is that of the windows of the gate below. A datagram that doesn't read, or has more than 8,192 octets, gets no reply; neither
+/// does a call of which it isn't known whether it was done.
 pub fn serve<P: Post, K: Keeper<Kept>, G: Gate, C: Clock, D: Draw>(
     alloc: Global,
     post: &mut P,
@@ -141,8 +144,8 @@ pub fn serve<P: Post, K: Keeper<Kept>, G: Gate, C: Clock, D: Draw>(
     // The answers that the keeper was given are those to the datagrams, in order, and each part of one was asked of the gate, in order, under its
     // record's transaction number. Over a post that tells, the datagrams are those that came, and their replies were sent, in order.
     ensures served { Makes K.Keeper C.Clock D.Draw keeper.old keeper.new clock.old clock.new
-        draw.old draw.new (λ kept. DatagramsServed P.Post G.Gate width most post.old post.new
-        gate.old gate.new result kept) }
+        draw.old draw.new (λ kept. DatagramsServed P.Post G.Gate (serving G.program width) most
+        post.old post.new gate.old gate.new result kept) }
     ensures left { PostLeft P.Post post.old post.new result }
     ensures gate_kept { GateKept ⟦<AgainGate<G> as Gate>⟧ gate.old gate.new }
 {

@@ -1,4 +1,4 @@
-use Rattle.std.proofs.Common.{◌≡◌, List, [], ◌∷◌, ◌++◌, ap, ◌∙◌, subst, flat_map}
+use Rattle.std.proofs.Common.{◌≡◌, List, [], ◌∷◌, ◌++◌, ap, sym, ◌∙◌, subst, flat_map, Some}
 use Rattle.accept_book.specs.Booking.{BookOf}
 use Rattle.accept_core.specs.Legal.{Legal}
 use Rattle.accept_core.specs.declared.entry.Limits.{Limits}
@@ -9,7 +9,7 @@ use Rattle.datagram_serving.proofs.serving.serve_by.Goals as goal
 pub returns-clause-told : goal.returns-clause-told
 returns-clause-told g c =
     let made = c.serve-end.ensures.served in
-    let book = c.into_gate.ensures in
+    let book = ap (λ parts. parts.0) c.into_parts-seat.ensures ∙ ap (λ own. own.seat) c.into_gate.ensures in
     let limits = c.serve-end.ensures.gate_kept.limits in
     let log = c.into_log.ensures in
     record {
@@ -31,4 +31,5 @@ returns-clause-told g c =
         marks = log.marks ∙ (ap (λ (b : BookOf). b.core.cache.capacity) book ∙ ap (λ (l : Limits). l.marks) limits);
         keeping = log.keeping ∙ (ap (λ (b : BookOf). b.core.keeping) book ∙ ap (λ (l : Limits). l.keeping) limits);
       };
+      back = ap Some (ap (λ parts. parts.1) c.into_parts-seat.ensures ∙ ap (λ own. own.program) c.into_gate.ensures);
     }

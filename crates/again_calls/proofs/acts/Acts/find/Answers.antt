@@ -11,7 +11,7 @@ index-requires c =
 pub returns-in-Some : goal.returns-in-Some
 returns-in-Some c =
     let f = answered-at (Some c.args.id) c.self.inside.places.items c.args.self.now c.index_of.result c.in-Some.at c.self.view_is c.index_of.ensures c.in-Some.is in
-    c.copied.ensures ∙ (c.find.ensures ∙ ap (act_with c.args.xid) (ap (λ (p : PlaceOf). p.acts) c.index.ensures ∙ (f.acts c.index.result.now ∙ ap (acts_in (Some c.args.id)) c.self.view_is)))
+    c.find.ensures ∙ ap (act_with c.args.xid) (ap (λ (p : PlaceOf). p.acts) c.index.ensures ∙ (f.acts c.index.result.now ∙ ap (acts_in (Some c.args.id)) c.self.view_is))
 
 pub returns-in-None : goal.returns-in-None
 returns-in-None c = sym (ap (act_with c.args.xid) (answered-none (Some c.args.id) c.args.self.now c.index_of.result c.index_of.ensures c.in-None.is).acts)
