@@ -8,61 +8,67 @@ use Rattle.spnego_core.specs.declared.outcome.Outcome.{Outcome}
 use Rattle.spnego_core.specs.Outcome.{token_end}
 use Rattle.accept_core.specs.Answers.{Free}
 use Rattle.accept_core.specs.History.{standing, is_whole}
-use Rattle.accept_core.specs.declared.entry.Admitted.{Admitted}
 use Rattle.accept_core.specs.declared.entry.Entry.TheVariants.{Call}
+use Rattle.rpc_program.specs.Programs.{Serving}
+use Rattle.accept_book.specs.declared.book_answer.Admitted.{Admitted}
 use Rattle.accept_book.specs.declared.book_answer.Lease.{Lease}
 use Rattle.accept_book.specs.declared.rule.Rule.TheVariants as rules
-use Rattle.accept_book.specs.Honest.{Honest}
+use Rattle.accept_book.specs.Honest.{Honest, rule_of_outcome}
 use Rattle.accept_book.specs.RecordRule.{record_ruling}
 use Rattle.accept_book.specs.RecordShown.{Ruling, handle_id}
 use Rattle.accept_book.specs.Rules.{rule_number}
 use Rattle.honest_calls.specs.HonestCalls.{HasOctets}
-use Rattle.world_laws.specs.declared.event.Happened.TheVariants.{Sent}
+use Rattle.gss_server.specs.Answers.{IsDecided}
+use Rattle.world_laws.specs.declared.event.Happened.TheVariants.{Sent, Stepped}
 use Rattle.world_laws.specs.declared.event.WorldEvent.{WorldEvent}
 use Rattle.world_laws.specs.declared.event.WorldEvent.TheVariants.{Start, Deliver, Lane, CallBy}
 use Rattle.world_laws.specs.Agreement.{FixedAs}
 use Rattle.world_laws.specs.Deeds.{Deed}
 use Rattle.world_laws.specs.Events.{Happens, Run, Begins}
-use Rattle.world_laws.specs.Lanes.{told_width}
 use Rattle.world_laws.specs.State.{World}
 
--- an honest call of a context comes to a lane that has no record in hand. The acceptor fixed the
--- context with this outcome, until this moment; by the log it is settled and not ended; and the
--- moment of the call is in its time
+-- an honest call of the served program comes to a lane that has no record in hand, of a context.
+-- The acceptor fixed the context with this outcome, until this moment; by the log it is settled and
+-- not ended; and the moment of the call is in its time
 pub record Comes (w : World) (lane : ℕ) (octets : List ℕ) (now : ℕ) (outcome : Outcome)
     (id ends n procedure : ℕ) (args : List ℕ) : Type 0 where
   pub idle : slice_get w.lanes lane ≡ Some None
   pub fixed : FixedAs w id outcome ends
   pub lives : is_whole (standing id w.book.core.history) ≡ true
   pub timely : now ≤ ends
-  pub honest : Honest octets (token_end outcome Initiator) n procedure args
+  pub honest : Honest w.serves.program octets (token_end outcome Initiator) n procedure args
   pub handle : handle_id honest.cred.context ≡ Some id
   -- as the octets of each key that a program has
   pub key : HasOctets outcome.key
 
 -- what a record with this moment and these draws comes to, whose context was shown by this lease,
--- and whose number was admitted so
-abbrev pub admitted_ruling : List ℕ → ℕ → List ℕ → Lease → Admitted → Ruling
-admitted_ruling octets now draws lease admitted = record_ruling octets (record {
+-- and whose call was admitted so
+abbrev pub admitted_ruling : Serving → List ℕ → ℕ → List ℕ → Lease → Admitted → Ruling
+admitted_ruling serves octets now draws lease admitted = record_ruling octets (record {
   now = now;
   draws = draws;
   negotiated = None;
   looked = Some (Ok lease);
   admitted = Some (Ok admitted);
   ended = None;
-}) told_width
+}) serves
 
--- a call was done: its number was admitted by a lease of its context, rule 23 decides, its reply
--- was sent, and the log has the call
+-- a call was done: it was admitted by a lease of its context, the rule of what became of it
+-- decides, and the log has it. By rule 23 its reply was sent; else nothing is known of it, and none
+-- was
 pub record IsDone (old : World) (deed : Deed) (new : World) (octets : List ℕ) (now : ℕ)
     (draws : List ℕ) (id n procedure : ℕ) (args : List ℕ) : Type 0 where
   pub lease : Lease
   pub shows : lease.id ≡ id
   pub admitted : Admitted
-  pub rule : (admitted_ruling octets now draws lease admitted).rule ≡ rule_number rules.Done
-  pub reply : List ℕ
-  pub replies : (admitted_ruling octets now draws lease admitted).reply ≡ Some reply
-  pub answered : deed.answer ≡ Some (Sent reply)
+  pub ruling : Ruling
+  pub is_ruling : ruling ≡ admitted_ruling old.serves octets now draws lease admitted
+  pub rule : ruling.rule ≡ rule_of_outcome admitted.outcome
+  pub decided : IsDecided ruling
+  pub sent : ruling.rule ≡ rule_number rules.Done → (reply : List ℕ)
+      × (ruling.reply ≡ Some reply) × (deed.answer ≡ Some (Sent reply))
+  pub lost : ruling.rule ≡ rule_number rules.Lost
+      → deed.answer ≡ Some (Stepped (rule_number rules.Lost))
   pub logged : new.book.core.history
       ≡ Call id n procedure (sha1 args) ∷ old.book.core.history
 

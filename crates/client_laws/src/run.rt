@@ -12,22 +12,22 @@ ghost use Rattle.client_options.specs.Lines.{lines};
 ghost use Rattle.client_command.specs.Runs.{names_of, command_of};
 ghost use Rattle.client_options.specs.Words.{words_of};
 ghost use Rattle.client_options.specs.declared.words.ClientWords.{ClientWords as ClientWordsIs};
-ghost use Rattle.client_laws.specs.ClientRun.{AsksServer, Answers, Completed, OutcomeTold};
+ghost use Rattle.pair_laws.specs.Running.{RunLaw};
+ghost use Rattle.client_laws.specs.ClientRun.{Answers, Completed};
 
 use client_command::{ClientEnd, RunEnd, run_client};
 use mech_objects::Mech;
-use pair_laws::{prove_runs, tell_name};
+use pair_laws::prove_runs;
 use sec_base::{Clock, Draw, Link, Shelf, Sink, Text};
 use spnego_core::Outcome;
 use std::alloc::Global;
 
-/// Does nothing that stays: what is told of an outcome, where there is one.
+/// Does nothing that stays: runs on the key of an outcome are complete, where there is one.
 fn tell_outcome(outcome: &Option<Outcome>)
-    ensures { (o : OutcomeIs) → outcome.now ≡ Some o → OutcomeTold o }
+    ensures { (o : OutcomeIs) → outcome.now ≡ Some o → RunLaw o.key }
 {
     if let Some(outcome) = outcome {
         prove_runs(&outcome.key);
-        tell_name(&outcome.initiator);
     }
 }
 
@@ -47,7 +47,7 @@ pub fn complete_run<F: Shelf, L: Link, C: Clock, D: Draw, O: Sink>(
     requires unclosed { L.closed link.old ≡ false }
     requires mechs { AreStandard (map meaning mechs.items) }
     ensures completes { (asked : ClientWordsIs) (creds : List MechCred)
-        → words_of words.now ≡ Ok asked → AsksServer asked.plan.command asked.plan.args
+        → words_of words.now ≡ Ok asked
         → IsTrue (F.tells shelf.old) → creds_from (F.files shelf.old) asked.sources ≡ Ok creds
         → IsTrue (L.tells link.old)
         → (server : Answers (C.tells clock.new) (C.given clock.old) (C.given clock.new)

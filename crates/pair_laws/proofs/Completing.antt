@@ -51,6 +51,7 @@ use Rattle.gss_client.specs.Session.{SessionState, xid_after}
 use Rattle.gss_client.specs.Talk.{begun, creates, created_from}
 use Rattle.gss_client.specs.Talking.{Said, Talking, said, after}
 use Rattle.gss_server.specs.Connections.{framed}
+use Rattle.pair_laws.specs.Answering.{Server}
 use Rattle.pair_laws.specs.Conversing.{replied, IsWithin, IsStream}
 use Rattle.pair_laws.specs.Booked.{Around, end_in, IsBooked, Booked, IsLeftAlone}
 use Rattle.pair_laws.specs.HonestCalls.{IsToServer}
@@ -96,29 +97,29 @@ record Answers (setup : AcceptSetup) (id : Option ℕ) (token : List ℕ) (kept 
   mark : (pause : AcceptPause) → step_of (later_step setup (end_in book.before.table id) token kept.now (take 66 kept.draws)) ≡ Ok (steps.WantsAuth pause)
       → cache_verdict book.before.cache.capacity (max book.before.cache.greatest kept.now) (taken_of book.before.history) (mark_asked pause) ≡ Taken
 
-answers-to : (setup : AcceptSetup) (width : ℕ) (octets : List ℕ) (kept : KeptAnswers) (book : Around) (id : Option ℕ) (token : List ℕ) → (b : IsBooked setup width octets kept book) → b.id ≡ id → b.token ≡ token → Answers setup id token kept book b.answer
-answers-to setup width octets kept book id token b id_is token_is =
+answers-to : (setup : AcceptSetup) (serves : Server) (octets : List ℕ) (kept : KeptAnswers) (book : Around) (id : Option ℕ) (token : List ℕ) → (b : IsBooked setup serves octets kept book) → b.id ≡ id → b.token ≡ token → Answers setup id token kept book b.answer
+answers-to setup serves octets kept book id token b id_is token_is =
     subst (λ (i : Option ℕ). Answers setup i token kept book b.answer) id_is
     (subst (λ (t : List ℕ). Answers setup b.id t kept book b.answer) token_is
     (record { past = b.past; answered = b.answered; history = b.history; contexts = b.contexts; table = b.table; mark = b.mark }))
 
 -- a turn of the exchange: what the record was answered, and the step that the book took
-pub record Turned (setup : AcceptSetup) (terms : Terms) (width xid : ℕ) (id : Option ℕ) (token : List ℕ) (kept : KeptAnswers) (book : Around) (step : AcceptStep) : Type 0 where
+pub record Turned (setup : AcceptSetup) (terms : Terms) (serves : Server) (xid : ℕ) (id : Option ℕ) (token : List ℕ) (kept : KeptAnswers) (book : Around) (step : AcceptStep) : Type 0 where
   pub answer : Negotiated
   pub is_kept : kept.negotiated ≡ Some answer
   pub is : answer.answer ≡ answer_with (id_of id book.before.history) step
-  pub ruled : record_ruling (creation_call terms xid (proc_for id) (handle_for id) token) kept width
-      ≡ asking (AskedStep id token kept.now (take 66 kept.draws) answer) (stepped (creation_shown terms xid id token kept width) (answer_with (id_of id book.before.history) step))
+  pub ruled : record_ruling (creation_call terms xid (proc_for id) (handle_for id) token) kept serves.serving
+      ≡ asking (AskedStep id token kept.now (take 66 kept.draws) answer) (stepped (creation_shown terms xid id token kept serves) (answer_with (id_of id book.before.history) step))
   pub size : token_size (answer_with (id_of id book.before.history) step) ≤ 65536
   pub goes_on : (end : AcceptEnd) (reply : List ℕ) → step ≡ steps.More end reply → Negotiates (id_of id book.before.history) book.after end
   pub done : (outcome : Outcome) (lasts : ℕ) (reply : List ℕ) → step ≡ steps.Done outcome lasts reply → IsWhole book.after (lease_on (id_of id book.before.history) outcome lasts)
 
-pub turned-by : (setup : AcceptSetup) (terms : Terms) (width xid : ℕ) (id : Option ℕ) (end : AcceptEnd) (token : List ℕ) (kept : KeptAnswers) (book : Around) (step : AcceptStep) → IsToServer terms → xid < 2 ^ 32 → IsId id → length token ≤ 65536 → ComesTo id book.before end
-    → answered_on setup (occasion_of kept) end token ≡ Ok step → IsBooked setup width (creation_call terms xid (proc_for id) (handle_for id) token) kept book → Turned setup terms width xid id token kept book step
-turned-by setup terms width xid id end token kept book step called fits is_id few comes takes b =
+pub turned-by : (setup : AcceptSetup) (terms : Terms) (serves : Server) (xid : ℕ) (id : Option ℕ) (end : AcceptEnd) (token : List ℕ) (kept : KeptAnswers) (book : Around) (step : AcceptStep) → IsToServer serves.serving.program terms → xid < 2 ^ 32 → IsId id → length token ≤ 65536 → ComesTo id book.before end
+    → answered_on setup (occasion_of kept) end token ≡ Ok step → IsBooked setup serves (creation_call terms xid (proc_for id) (handle_for id) token) kept book → Turned setup terms serves xid id token kept book step
+turned-by setup terms serves xid id end token kept book step called fits is_id few comes takes b =
     let drawn : List ℕ = take 66 kept.draws in
-    let w = asked-step terms xid id b.id token b.token kept width b.answer called fits is_id few b.asked in
-    let a = answers-to setup width (creation_call terms xid (proc_for id) (handle_for id) token) kept book id token b w.id_is w.token_is in
+    let w = asked-step terms xid id b.id token b.token kept serves b.answer called fits is_id few b.asked in
+    let a = answers-to setup serves (creation_call terms xid (proc_for id) (handle_for id) token) kept book id token b w.id_is w.token_is in
     let came = book-came setup book.before id a.past end token kept.now drawn step comes b.log a.table a.mark takes in
     let own : ℕ = id_of id book.before.history in
     let is : b.answer.answer ≡ answer_with own step = a.answered ∙ ap (λ (o : Outcomes). o.answer) came.is in
@@ -126,7 +127,7 @@ turned-by setup terms width xid id end token kept book step called fits is_id fe
       answer = b.answer;
       is_kept = w.is_kept;
       is = is;
-      ruled = w.ruled ∙ ap (λ (n : NegAnswer). asking (AskedStep id token kept.now drawn b.answer) (stepped (creation_shown terms xid id token kept width) n)) is;
+      ruled = w.ruled ∙ ap (λ (n : NegAnswer). asking (AskedStep id token kept.now drawn b.answer) (stepped (creation_shown terms xid id token kept serves) n)) is;
       size = subst (λ (n : NegAnswer). token_size n ≤ 65536) is b.size;
       goes_on = λ next reply e.
           goes-after setup book.before book.after id a.past end next reply kept.now (negotiated setup (raised book.before kept.now) id a.past token kept.now drawn) comes
@@ -142,20 +143,20 @@ pub next-xid : (xid : ℕ) → xid + 1 < 2 ^ 32 → xid_after xid ≡ xid + 1
 next-xid xid h = omega (arith)
 
 -- what comes of a creation from some turn on
-record Stood (terms : Terms) (first xid : ℕ) (width id : ℕ) (outcome : Outcome) (part : Said SessionState) (records : List (List ℕ)) (answers : List KeptAnswers) (books : List Around) (rest : List ℕ) : Type 0 where
+record Stood (terms : Terms) (first xid : ℕ) (serves : Server) (id : ℕ) (outcome : Outcome) (part : Said SessionState) (records : List (List ℕ)) (answers : List KeptAnswers) (books : List Around) (rest : List ℕ) : Type 0 where
   lasts : ℕ
-  settles : Settles width (lease_on id outcome lasts) records answers
+  settles : Settles serves (lease_on id outcome lasts) records answers
   core : Accepting AcceptEnd Outcome
   behind : IsBehind answers books core
   whole : IsWhole core (lease_on id outcome lasts)
   session : part ≡ said (flat_map last_fragment records) (Ok (begun terms first (xid + length answers) outcome (handle_of id))) rest
 
-settles-last : (width : ℕ) (lease : Lease) (octets : List ℕ) (records : List (List ℕ)) (one : KeptAnswers) → records ≡ [] → IsSettled width lease octets one → Settles width lease (octets ∷ records) (one ∷ [])
-settles-last width lease octets records one none s = subst (λ (rs : List (List ℕ)). Settles width lease (octets ∷ rs) (one ∷ [])) (sym none) s
+settles-last : (serves : Server) (lease : Lease) (octets : List ℕ) (records : List (List ℕ)) (one : KeptAnswers) → records ≡ [] → IsSettled serves lease octets one → Settles serves lease (octets ∷ records) (one ∷ [])
+settles-last serves lease octets records one none s = subst (λ (rs : List (List ℕ)). Settles serves lease (octets ∷ rs) (one ∷ [])) (sym none) s
 
-settles-more : (width : ℕ) (lease : Lease) (octets : List ℕ) (records : List (List ℕ)) (one two : KeptAnswers) (more : List KeptAnswers) → (record_ruling octets one width).rule ≡ 21 → Settles width lease records (two ∷ more) → Settles width lease (octets ∷ records) (one ∷ two ∷ more)
-settles-more width lease octets [] one two more rule s = absurd s
-settles-more width lease octets (next ∷ records) one two more rule s = (rule, s)
+settles-more : (serves : Server) (lease : Lease) (octets : List ℕ) (records : List (List ℕ)) (one two : KeptAnswers) (more : List KeptAnswers) → (record_ruling octets one serves.serving).rule ≡ 21 → Settles serves lease records (two ∷ more) → Settles serves lease (octets ∷ records) (one ∷ two ∷ more)
+settles-more serves lease octets [] one two more rule s = absurd s
+settles-more serves lease octets (next ∷ records) one two more rule s = (rule, s)
 
 pub same-behind : (a xs ys : List ℕ) → a ++ xs ≡ a ++ ys → xs ≡ ys
 same-behind a xs ys e = sym (drop-append_seam a xs) ∙ (ap (λ (us : List ℕ). drop (length a) us) e ∙ drop-append_seam a ys)
@@ -172,42 +173,42 @@ front-record left terms first xid proc offer stream octets records few small wri
     let f = creates-front left terms first xid proc offer stream in
     ap octets_heard (same-record octets call (flat_map last_fragment records) f.more few small (sym written ∙ f.same))
 
-last-turn : (setup : AcceptSetup) (width left : ℕ) (terms : Terms) (first xid : ℕ) (id : Option ℕ) (acceptor : AcceptEnd) (initiator : EndSays) (token : List ℕ) (one : KeptAnswers) (book : Around) (books : List Around) (octets : List ℕ) (records : List (List ℕ)) (others : List KeptAnswers) (rest stream : List ℕ) (outcome : Outcome)
-    → IsToServer terms → 0 < width → width < 2 ^ 32 → xid + 1 < 2 ^ 32 → IsId id → length token ≤ 65536 → length octets ≤ 131072 → ComesTo id book.before acceptor → IsDone setup (occasion_of one) acceptor initiator token outcome → IsBooked setup width octets one book
+last-turn : (setup : AcceptSetup) (serves : Server) (left : ℕ) (terms : Terms) (first xid : ℕ) (id : Option ℕ) (acceptor : AcceptEnd) (initiator : EndSays) (token : List ℕ) (one : KeptAnswers) (book : Around) (books : List Around) (octets : List ℕ) (records : List (List ℕ)) (others : List KeptAnswers) (rest stream : List ℕ) (outcome : Outcome)
+    → IsToServer serves.serving.program terms → 0 < serves.serving.width → serves.serving.width < 2 ^ 32 → xid + 1 < 2 ^ 32 → IsId id → length token ≤ 65536 → length octets ≤ 131072 → ComesTo id book.before acceptor → IsDone setup (occasion_of one) acceptor initiator token outcome → IsBooked setup serves octets one book
     → (creates (suc left) terms first xid (proc_for id) (record { end = initiator; handle = handle_for id; token = token }) stream).written ≡ flat_map last_fragment (octets ∷ records)
-    → stream ≡ replied width (octets ∷ records) (one ∷ others) ++ rest
-    → Stood terms first xid width (id_of id book.before.history) outcome (creates (suc left) terms first xid (proc_for id) (record { end = initiator; handle = handle_for id; token = token }) stream) (octets ∷ records) (one ∷ []) (book ∷ books) rest
-last-turn setup width left terms first xid id acceptor initiator token one book books octets records others rest stream outcome called some wide xids is_id few within comes done b written heard =
+    → stream ≡ replied serves (octets ∷ records) (one ∷ others) ++ rest
+    → Stood terms first xid serves (id_of id book.before.history) outcome (creates (suc left) terms first xid (proc_for id) (record { end = initiator; handle = handle_for id; token = token }) stream) (octets ∷ records) (one ∷ []) (book ∷ books) rest
+last-turn setup serves left terms first xid id acceptor initiator token one book books octets records others rest stream outcome called some wide xids is_id few within comes done b written heard =
     let offer : OfferSays = record { end = initiator; handle = handle_for id; token = token } in
     let call : List ℕ = creation_call terms xid (proc_for id) (handle_for id) token in
     let own : ℕ = id_of id book.before.history in
     let fits : xid < 2 ^ 32 = omega (arith, xids) in
     let is_call : octets ≡ call = front-record left terms first xid (proc_for id) offer stream octets records within (creation-fits terms xid id token few) written in
-    let t = turned-by setup terms width xid id acceptor token one book (steps.Done outcome done.lasts done.reply) called fits is_id few comes done.accepts (subst (λ (o : List ℕ). IsBooked setup width o one book) is_call b) in
-    let reply : List ℕ = reply_octets (granting xid outcome own width done.reply) in
-    let is_reply : (record_ruling call one width).reply ≡ Some reply = ap (λ (r : Ruling). r.reply) t.ruled in
-    let behind : List ℕ = replied width records others ++ rest in
+    let t = turned-by setup terms serves xid id acceptor token one book (steps.Done outcome done.lasts done.reply) called fits is_id few comes done.accepts (subst (λ (o : List ℕ). IsBooked setup serves o one book) is_call b) in
+    let reply : List ℕ = reply_octets (granting xid outcome own serves.serving.width done.reply) in
+    let is_reply : (record_ruling call one serves.serving).reply ≡ Some reply = ap (λ (r : Ruling). r.reply) t.ruled in
+    let behind : List ℕ = replied serves records others ++ rest in
     let stream_is : stream ≡ last_fragment reply ++ behind =
-    heard ∙ (ap (λ (o : List ℕ). (framed (record_ruling o one width).reply ++ replied width records others) ++ rest) is_call
-    ∙ (ap (λ (r : Option (List ℕ)). (framed r ++ replied width records others) ++ rest) is_reply ∙ append_assoc (last_fragment reply) (replied width records others) rest)) in
+    heard ∙ (ap (λ (o : List ℕ). (framed (record_ruling o one serves.serving).reply ++ replied serves records others) ++ rest) is_call
+    ∙ (ap (λ (r : Option (List ℕ)). (framed r ++ replied serves records others) ++ rest) is_reply ∙ append_assoc (last_fragment reply) (replied serves records others) rest)) in
     let all : creates (suc left) terms first xid (proc_for id) offer stream ≡ said (last_fragment call) (Ok (begun terms first (xid_after xid) outcome (handle_of own))) behind =
     ap (λ (zs : List ℕ). creates (suc left) terms first xid (proc_for id) offer zs) stream_is
-    ∙ established left terms first xid (proc_for id) offer reply behind outcome (handle_of own) (granting-fits xid outcome own width done.reply t.size)
-    (creation-stands xid initiator outcome own width done.reply fits some wide t.size done.initiates) in
+    ∙ established left terms first xid (proc_for id) offer reply behind outcome (handle_of own) (granting-fits xid outcome own serves.serving.width done.reply t.size)
+    (creation-stands xid initiator outcome own serves.serving.width done.reply fits some wide t.size done.initiates) in
     let whole : last_fragment call ≡ last_fragment call ++ flat_map last_fragment records =
     sym (ap (λ (s : Said SessionState). s.written) all) ∙ (written ∙ ap (λ (o : List ℕ). last_fragment o ++ flat_map last_fragment records) is_call) in
     let none : records ≡ [] = none-behind call records whole in
     let same : (creates (suc left) terms first xid (proc_for id) offer stream).written ≡ last_fragment call = ap (λ (s : Said SessionState). s.written) all in
     let wrote : last_fragment call ≡ flat_map last_fragment (octets ∷ records) = sym same ∙ written in
-    let left_is : behind ≡ rest = ap (λ (rs : List (List ℕ)). replied width rs others ++ rest) none in
+    let left_is : behind ≡ rest = ap (λ (rs : List (List ℕ)). replied serves rs others ++ rest) none in
     record {
       lasts = done.lasts;
-      settles = settles-last width (lease_on own outcome done.lasts) octets records one none (record {
+      settles = settles-last serves (lease_on own outcome done.lasts) octets records one none (record {
         answer = t.answer;
         is_kept = t.is_kept;
         token = done.reply;
         settled = t.is;
-        rule = ap (λ (o : List ℕ). (record_ruling o one width).rule) is_call ∙ ap (λ (r : Ruling). r.rule) t.ruled;
+        rule = ap (λ (o : List ℕ). (record_ruling o one serves.serving).rule) is_call ∙ ap (λ (r : Ruling). r.rule) t.ruled;
       });
       core = book.after;
       behind = refl;
@@ -218,33 +219,33 @@ last-turn setup width left terms first xid id acceptor initiator token one book 
           ∙ ap (λ (n : ℕ). said (flat_map last_fragment (octets ∷ records)) (Ok (begun terms first n outcome (handle_of own))) rest) (next-xid xid xids)));
     }
 
-turns-on : (setup : AcceptSetup) (width left : ℕ) (terms : Terms) (first xid : ℕ) (id : Option ℕ) (acceptor : AcceptEnd) (initiator : EndSays) (token : List ℕ) (answers : List KeptAnswers) (books : List Around) (records : List (List ℕ)) (later : List KeptAnswers) (rest stream : List ℕ) (outcome : Outcome)
-    → IsToServer terms → 0 < width → width < 2 ^ 32 → xid + length answers < 2 ^ 32 → length answers ≤ left → own_id id books < 2 ^ 64 → IsId id → length token ≤ 65536 → AllByRecursion IsWithin records → Awaits id acceptor books → IsLeftAlone (own_id id books) books
-    → exchange.Completes setup (map occasion_of answers) acceptor initiator token outcome → Booked setup width records answers books
+turns-on : (setup : AcceptSetup) (serves : Server) (left : ℕ) (terms : Terms) (first xid : ℕ) (id : Option ℕ) (acceptor : AcceptEnd) (initiator : EndSays) (token : List ℕ) (answers : List KeptAnswers) (books : List Around) (records : List (List ℕ)) (later : List KeptAnswers) (rest stream : List ℕ) (outcome : Outcome)
+    → IsToServer serves.serving.program terms → 0 < serves.serving.width → serves.serving.width < 2 ^ 32 → xid + length answers < 2 ^ 32 → length answers ≤ left → own_id id books < 2 ^ 64 → IsId id → length token ≤ 65536 → AllByRecursion IsWithin records → Awaits id acceptor books → IsLeftAlone (own_id id books) books
+    → exchange.Completes setup (map occasion_of answers) acceptor initiator token outcome → Booked setup serves records answers books
     → (creates left terms first xid (proc_for id) (record { end = initiator; handle = handle_for id; token = token }) stream).written ≡ flat_map last_fragment records
-    → stream ≡ replied width records (answers ++ later) ++ rest
-    → Stood terms first xid width (own_id id books) outcome (creates left terms first xid (proc_for id) (record { end = initiator; handle = handle_for id; token = token }) stream) records answers books rest
-turns-on setup width left terms first xid id acceptor initiator token [] books records later rest stream outcome called some wide xids turns ids is_id few within awaits alone c b written heard = absurd c
-turns-on setup width zero terms first xid id acceptor initiator token (one ∷ more) books records later rest stream outcome called some wide xids turns ids is_id few within awaits alone c b written heard = absurd (omega (arith, turns))
-turns-on setup width (suc left) terms first xid id acceptor initiator token (one ∷ more) books [] later rest stream outcome called some wide xids turns ids is_id few within awaits alone c b written heard = absurd b
-turns-on setup width (suc left) terms first xid id acceptor initiator token (one ∷ more) [] (octets ∷ records) later rest stream outcome called some wide xids turns ids is_id few within awaits alone c b written heard = absurd b
-turns-on setup width (suc left) terms first xid id acceptor initiator token (one ∷ []) (book ∷ books) (octets ∷ records) later rest stream outcome called some wide xids turns ids is_id few within awaits alone c b written heard =
-    subst (λ (n : ℕ). Stood terms first xid width n outcome (creates (suc left) terms first xid (proc_for id) (record { end = initiator; handle = handle_for id; token = token }) stream) (octets ∷ records) (one ∷ []) (book ∷ books) rest) (sym (own-id id book books))
-    (last-turn setup width left terms first xid id acceptor initiator token one book books octets records later rest stream outcome called some wide (omega (arith, xids)) is_id few within.0 awaits c b.0 written heard)
-turns-on setup width (suc left) terms first xid id acceptor initiator token (one ∷ two ∷ more) (book ∷ books) (octets ∷ records) later rest stream outcome called some wide xids turns ids is_id few within awaits alone c b written heard =
+    → stream ≡ replied serves records (answers ++ later) ++ rest
+    → Stood terms first xid serves (own_id id books) outcome (creates left terms first xid (proc_for id) (record { end = initiator; handle = handle_for id; token = token }) stream) records answers books rest
+turns-on setup serves left terms first xid id acceptor initiator token [] books records later rest stream outcome called some wide xids turns ids is_id few within awaits alone c b written heard = absurd c
+turns-on setup serves zero terms first xid id acceptor initiator token (one ∷ more) books records later rest stream outcome called some wide xids turns ids is_id few within awaits alone c b written heard = absurd (omega (arith, turns))
+turns-on setup serves (suc left) terms first xid id acceptor initiator token (one ∷ more) books [] later rest stream outcome called some wide xids turns ids is_id few within awaits alone c b written heard = absurd b
+turns-on setup serves (suc left) terms first xid id acceptor initiator token (one ∷ more) [] (octets ∷ records) later rest stream outcome called some wide xids turns ids is_id few within awaits alone c b written heard = absurd b
+turns-on setup serves (suc left) terms first xid id acceptor initiator token (one ∷ []) (book ∷ books) (octets ∷ records) later rest stream outcome called some wide xids turns ids is_id few within awaits alone c b written heard =
+    subst (λ (n : ℕ). Stood terms first xid serves n outcome (creates (suc left) terms first xid (proc_for id) (record { end = initiator; handle = handle_for id; token = token }) stream) (octets ∷ records) (one ∷ []) (book ∷ books) rest) (sym (own-id id book books))
+    (last-turn setup serves left terms first xid id acceptor initiator token one book books octets records later rest stream outcome called some wide (omega (arith, xids)) is_id few within.0 awaits c b.0 written heard)
+turns-on setup serves (suc left) terms first xid id acceptor initiator token (one ∷ two ∷ more) (book ∷ books) (octets ∷ records) later rest stream outcome called some wide xids turns ids is_id few within awaits alone c b written heard =
     let offer : OfferSays = record { end = initiator; handle = handle_for id; token = token } in
     let call : List ℕ = creation_call terms xid (proc_for id) (handle_for id) token in
     let own : ℕ = id_of id book.before.history in
     let fits : xid < 2 ^ 32 = omega (arith, xids) in
     let is_call : octets ≡ call = front-record left terms first xid (proc_for id) offer stream octets records within.0 (creation-fits terms xid id token few) written in
     let g = c.0 in
-    let t = turned-by setup terms width xid id acceptor token one book (steps.More g.acceptor_after g.reply) called fits is_id few awaits g.accepts (subst (λ (o : List ℕ). IsBooked setup width o one book) is_call b.0) in
+    let t = turned-by setup terms serves xid id acceptor token one book (steps.More g.acceptor_after g.reply) called fits is_id few awaits g.accepts (subst (λ (o : List ℕ). IsBooked setup serves o one book) is_call b.0) in
     let reply : List ℕ = reply_octets (going xid own g.reply) in
-    let is_reply : (record_ruling call one width).reply ≡ Some reply = ap (λ (r : Ruling). r.reply) t.ruled in
-    let behind : List ℕ = replied width records ((two ∷ more) ++ later) ++ rest in
+    let is_reply : (record_ruling call one serves.serving).reply ≡ Some reply = ap (λ (r : Ruling). r.reply) t.ruled in
+    let behind : List ℕ = replied serves records ((two ∷ more) ++ later) ++ rest in
     let stream_is : stream ≡ last_fragment reply ++ behind =
-    heard ∙ (ap (λ (o : List ℕ). (framed (record_ruling o one width).reply ++ replied width records ((two ∷ more) ++ later)) ++ rest) is_call
-    ∙ (ap (λ (r : Option (List ℕ)). (framed r ++ replied width records ((two ∷ more) ++ later)) ++ rest) is_reply ∙ append_assoc (last_fragment reply) (replied width records ((two ∷ more) ++ later)) rest)) in
+    heard ∙ (ap (λ (o : List ℕ). (framed (record_ruling o one serves.serving).reply ++ replied serves records ((two ∷ more) ++ later)) ++ rest) is_call
+    ∙ (ap (λ (r : Option (List ℕ)). (framed r ++ replied serves records ((two ∷ more) ++ later)) ++ rest) is_reply ∙ append_assoc (last_fragment reply) (replied serves records ((two ∷ more) ++ later)) rest)) in
     let next : OfferSays = record { end = g.initiator_after; handle = handle_of own; token = g.further } in
     let all : creates (suc left) terms first xid (proc_for id) offer stream ≡ after (last_fragment call) (creates left terms first (xid_after xid) 2 next behind) =
     ap (λ (zs : List ℕ). creates (suc left) terms first xid (proc_for id) offer zs) stream_is
@@ -256,12 +257,12 @@ turns-on setup width (suc left) terms first xid id acceptor initiator token (one
     sym (ap (λ (s : Said SessionState). s.written) all_next) ∙ (written ∙ ap (λ (o : List ℕ). last_fragment o ++ flat_map last_fragment records) is_call) in
     let own_is : own_id id (book ∷ books) ≡ own = own-id id book books in
     let n = next-awaits own g.acceptor_after book books (t.goes_on g.acceptor_after g.reply refl) (subst (λ (i : ℕ). IsLeftAlone i (book ∷ books)) own_is alone) in
-    let s = turns-on setup width left terms first (xid + 1) (Some own) g.acceptor_after g.initiator_after g.further (two ∷ more) books records later rest behind outcome called some wide (omega (arith, xids)) (omega (arith, turns))
+    let s = turns-on setup serves left terms first (xid + 1) (Some own) g.acceptor_after g.initiator_after g.further (two ∷ more) books records later rest behind outcome called some wide (omega (arith, xids)) (omega (arith, turns))
     (subst (λ (i : ℕ). i < 2 ^ 64) own_is ids) (subst (λ (i : ℕ). i < 2 ^ 64) own_is ids) g.short within.1 n.0 n.1 c.1 b.1 (same-behind (last_fragment call) _ _ whole) refl in
     let answered : Result SessionState ClientRefusal = Ok (begun terms first ((xid + 1) + length (two ∷ more)) outcome (handle_of own)) in
-    subst (λ (i : ℕ). Stood terms first xid width i outcome (creates (suc left) terms first xid (proc_for id) offer stream) (octets ∷ records) (one ∷ two ∷ more) (book ∷ books) rest) (sym own_is) (record {
+    subst (λ (i : ℕ). Stood terms first xid serves i outcome (creates (suc left) terms first xid (proc_for id) offer stream) (octets ∷ records) (one ∷ two ∷ more) (book ∷ books) rest) (sym own_is) (record {
       lasts = s.lasts;
-      settles = settles-more width (lease_on own outcome s.lasts) octets records one two more (ap (λ (o : List ℕ). (record_ruling o one width).rule) is_call ∙ ap (λ (r : Ruling). r.rule) t.ruled) s.settles;
+      settles = settles-more serves (lease_on own outcome s.lasts) octets records one two more (ap (λ (o : List ℕ). (record_ruling o one serves.serving).rule) is_call ∙ ap (λ (r : Ruling). r.rule) t.ruled) s.settles;
       core = s.core;
       behind = s.behind;
       whole = s.whole;
@@ -297,21 +298,21 @@ length-map : (answers : List KeptAnswers) → length (map occasion_of answers) �
 length-map [] = refl
 length-map (one ∷ more) = omega (arith, length-map more)
 
-pub few-answers : (setup : AcceptSetup) (width : ℕ) (start : StartSays) (stream : List ℕ) → (x : HonestExchange setup width start stream) → length x.answers ≤ 4
-few-answers setup width start stream x = omega (arith, length-map x.answers, x.pair.counted, tokens-few setup start.setup x.kind)
+pub few-answers : (setup : AcceptSetup) (serves : Server) (start : StartSays) (stream : List ℕ) → (x : HonestExchange setup serves start stream) → length x.answers ≤ 4
+few-answers setup serves start stream x = omega (arith, length-map x.answers, x.pair.counted, tokens-few setup start.setup x.kind)
 
-pub completes : (setup : AcceptSetup) (width : ℕ) (start : StartSays) (stream : List ℕ) → (x : HonestExchange setup width start stream) → Completes setup width start stream x
-completes setup width start stream x =
+pub completes : (setup : AcceptSetup) (serves : Server) (start : StartSays) (stream : List ℕ) → (x : HonestExchange setup serves start stream) → Completes setup serves start stream x
+completes setup serves start stream x =
     let a = exchanges setup start.setup x.kind (map occasion_of x.answers) x.pair in
     let started = x.pair.started in
     let offer : OfferSays = record { end = started.end; handle = []; token = started.token } in
     let left : ℕ = replies_left started.end in
     let is : created_from start stream ≡ creates left start.terms start.first 1 1 offer stream = created-is start started stream x.pair.starts in
     let four : left ≡ 4 = opens-four start.setup started x.pair.starts in
-    let few : length x.answers ≤ 4 = few-answers setup width start stream x in
+    let few : length x.answers ≤ 4 = few-answers setup serves start stream x in
     let turns : length x.answers ≤ left = omega (arith, few, four) in
-    let heard : stream ≡ replied width x.converses.records (x.answers ++ x.later) ++ x.converses.rest = x.converses.heard ∙ ap (λ (ks : List KeptAnswers). replied width x.converses.records ks ++ x.converses.rest) x.kept in
-    let s = turns-on setup width left start.terms start.first 1 None ends.New started.end started.token x.answers x.books x.converses.records x.later x.converses.rest stream a.outcome x.called x.some_width x.width_fits (omega (arith, few)) turns x.number tt x.pair.short x.converses.within (first-awaits x.books) x.left_alone a.completes x.booked
+    let heard : stream ≡ replied serves x.converses.records (x.answers ++ x.later) ++ x.converses.rest = x.converses.heard ∙ ap (λ (ks : List KeptAnswers). replied serves x.converses.records ks ++ x.converses.rest) x.kept in
+    let s = turns-on setup serves left start.terms start.first 1 None ends.New started.end started.token x.answers x.books x.converses.records x.later x.converses.rest stream a.outcome x.called x.some_width x.width_fits (omega (arith, few)) turns x.number tt x.pair.short x.converses.within (first-awaits x.books) x.left_alone a.completes x.booked
     (sym (ap (λ (s : Said SessionState). s.written) is) ∙ x.converses.written) heard in
     record {
       outcome = a.outcome;

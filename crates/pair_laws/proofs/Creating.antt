@@ -10,7 +10,7 @@ use Rattle.gss_client.specs.Creation as created
 use Rattle.gss_client.specs.declared.terms.Terms.{Terms}
 use Rattle.gss_client.specs.Calling.{creation_call}
 use Rattle.gss_client.specs.Hearing.{whole, next_of}
-use Rattle.gss_client.specs.Judging.{creation_by, creation_step}
+use Rattle.gss_client.specs.Judging.{creation_step}
 use Rattle.gss_client.specs.Rank.{replies_left}
 use Rattle.gss_client.specs.Session.{xid_after}
 use Rattle.gss_client.specs.Talk.{turns, turns_by, begun, by_turn, creates, creates_by, created_from}

@@ -25,12 +25,13 @@ use Rattle.gss_client.specs.Session.{SessionState}
 use Rattle.gss_client.specs.Talk.{creates, created_from}
 use Rattle.gss_client.specs.Talking.{Said}
 use Rattle.gss_server.specs.Connections.{octets_of}
+use Rattle.pair_laws.specs.Answering.{Server}
 use Rattle.pair_laws.specs.HonestCalls.{IsToServer}
 use Rattle.pair_laws.specs.Creation.{IsAt, idle, padded}
 use Rattle.pair_laws.specs.Honest.{occasion_of}
 use Rattle.pair_laws.specs.Resting.{RestsAt}
-use Rattle.pair_laws.specs.Rows.{InRow, AreCuts, IsNoRecord, answers_of}
-use Rattle.pair_laws.specs.Running.{Turn, heard_in}
+use Rattle.pair_laws.specs.Rows.{InRow, AreCuts, IsNoRecord}
+use Rattle.pair_laws.specs.Running.{Turn, heard_in, answers_of}
 use Rattle.pair_laws.specs.Walking.{Walks, Walked}
 use Rattle.pair_laws.proofs.Completing.{tokens-few, opens-four}
 use Rattle.pair_laws.proofs.Creating.{creates-front, created-is}
@@ -43,27 +44,27 @@ use Rattle.pair_laws.proofs.Walks.{walked}
 
 -- turns in a row as those of a creation, of which there are fewer than an honest pair has tokens,
 -- and nothing was written behind them but what is no record
-pub record IsShortCreation (width lasts : ℕ) (start : StartSays) (kind : MechKind) (count moment : ℕ)
+pub record IsShortCreation (serves : Server) (lasts : ℕ) (start : StartSays) (kind : MechKind) (count moment : ℕ)
     (tokens : ℕ) (stream more : List ℕ) (old new : BookOf) (front : List Turn)
     (records : List Fragments) (tail rest : List ℕ) : Type 0 where
-  pub called : IsToServer start.terms
+  pub called : IsToServer serves.serving.program start.terms
   pub rests : RestsAt count moment old.core
-  pub some_width : 0 < width
-  pub width_fits : width < 2 ^ 32
+  pub some_width : 0 < serves.serving.width
+  pub width_fits : serves.serving.width < 2 ^ 32
   pub number : count + 1 < 2 ^ 64
   pub pair : HonestPair old.setup start.setup kind
       (padded moment tokens (map occasion_of (answers_of front)))
   pub known : moment ≤ greatest_moment
   pub stamp : start.setup.stamp ≡ moment
   pub moments : AllByRecursion (IsAt moment) (answers_of front)
-  pub row : InRow width lasts old front new
+  pub row : InRow serves lasts old front new
   pub log : length old.core.history + 4 * length front ≤ old.core.limit
   pub table : 0 < old.core.table.limit
   pub cache : count < old.core.cache.capacity
   pub cuts : AreCuts records front
   pub none : IsNoRecord tail
   pub written : (created_from start stream).written ++ more ≡ octets_of records ++ tail
-  pub heard : stream ≡ flat_map (heard_in width) front ++ rest
+  pub heard : stream ≡ flat_map (heard_in serves) front ++ rest
 
 -- ---- the occasions
 
@@ -87,30 +88,30 @@ occasions-long (turn ∷ front) = ap suc (occasions-long front)
 -- ---- turn by turn
 
 -- once the turns are through, a token that is due is written, and it is none of what is no record
-never-due : (setup : AcceptSetup) (width lasts left : ℕ) (terms : Terms) (first xid : ℕ) (id : Option ℕ) (acceptor : AcceptEnd) (initiator : EndSays) (token : List ℕ) (front : List Turn) (next : Occasion) (extra : List Occasion) (records : List Fragments) (tail rest stream more : List ℕ) (outcome : Outcome) (count moment : ℕ) (marked : Bool) (old new : BookOf) → IsNoRecord tail
-    → Due setup width lasts left terms first xid id acceptor initiator token front (next ∷ extra) [] records tail rest stream more outcome count moment marked old new → ⊥
-never-due setup width lasts zero terms first xid id acceptor initiator token [] next extra records tail rest stream more outcome count moment marked old new none d = let few : suc (length extra) ≤ 0 = d.turns in omega (arith, few)
-never-due setup width lasts zero terms first xid id acceptor initiator token (turn ∷ front) next extra records tail rest stream more outcome count moment marked old new none d =
+never-due : (setup : AcceptSetup) (serves : Server) (lasts left : ℕ) (terms : Terms) (first xid : ℕ) (id : Option ℕ) (acceptor : AcceptEnd) (initiator : EndSays) (token : List ℕ) (front : List Turn) (next : Occasion) (extra : List Occasion) (records : List Fragments) (tail rest stream more : List ℕ) (outcome : Outcome) (count moment : ℕ) (marked : Bool) (old new : BookOf) → IsNoRecord tail
+    → Due setup serves lasts left terms first xid id acceptor initiator token front (next ∷ extra) [] records tail rest stream more outcome count moment marked old new → ⊥
+never-due setup serves lasts zero terms first xid id acceptor initiator token [] next extra records tail rest stream more outcome count moment marked old new none d = let few : suc (length extra) ≤ 0 = d.turns in omega (arith, few)
+never-due setup serves lasts zero terms first xid id acceptor initiator token (turn ∷ front) next extra records tail rest stream more outcome count moment marked old new none d =
     let few : suc (length (occasions_on front (next ∷ extra))) ≤ 0 = d.turns in omega (arith, few)
-never-due setup width lasts (suc left) terms first xid id acceptor initiator token [] next extra (cut ∷ records) tail rest stream more outcome count moment marked old new none d = absurd d.cuts
-never-due setup width lasts (suc left) terms first xid id acceptor initiator token [] next extra [] tail rest stream more outcome count moment marked old new none d =
+never-due setup serves lasts (suc left) terms first xid id acceptor initiator token [] next extra (cut ∷ records) tail rest stream more outcome count moment marked old new none d = absurd d.cuts
+never-due setup serves lasts (suc left) terms first xid id acceptor initiator token [] next extra [] tail rest stream more outcome count moment marked old new none d =
     let offer : OfferSays = record { end = initiator; handle = handle_for id; token = token } in
     let call : List ℕ = creation_call terms xid (proc_for id) (handle_for id) token in
     let f = creates-front left terms first xid (proc_for id) offer stream in
     none-first call (f.more ++ more) tail (creation-fits terms xid id token d.few) none (sym (ap (λ (zs : List ℕ). zs ++ more) f.same ∙ append_assoc (last_fragment call) f.more more) ∙ d.written)
-never-due setup width lasts (suc left) terms first xid id acceptor initiator token (turn ∷ front) next extra [] tail rest stream more outcome count moment marked old new none d = absurd d.cuts
-never-due setup width lasts (suc left) terms first xid id acceptor initiator token (turn ∷ []) next extra (cut ∷ records) tail rest stream more outcome count moment marked old new none d =
+never-due setup serves lasts (suc left) terms first xid id acceptor initiator token (turn ∷ front) next extra [] tail rest stream more outcome count moment marked old new none d = absurd d.cuts
+never-due setup serves lasts (suc left) terms first xid id acceptor initiator token (turn ∷ []) next extra (cut ∷ records) tail rest stream more outcome count moment marked old new none d =
     let g = d.completes.0 in
-    let t = steps-on setup width lasts left terms first xid id acceptor initiator token turn [] (next ∷ extra) [] cut records tail rest stream more outcome count moment marked old new d g d.walks.0 d.walks.1 d.completes.1 d.walks.2 in
-    never-due setup width lasts left terms first (xid + 1) (Some (id_of id turn.before.core.history)) g.acceptor_after g.initiator_after g.further [] next extra records tail rest t.behind more outcome count moment (marked_after marked t.opened.asked) turn.after new none t.due
-never-due setup width lasts (suc left) terms first xid id acceptor initiator token (turn ∷ two ∷ later) next extra (cut ∷ records) tail rest stream more outcome count moment marked old new none d =
+    let t = steps-on setup serves lasts left terms first xid id acceptor initiator token turn [] (next ∷ extra) [] cut records tail rest stream more outcome count moment marked old new d g d.walks.0 d.walks.1 d.completes.1 d.walks.2 in
+    never-due setup serves lasts left terms first (xid + 1) (Some (id_of id turn.before.core.history)) g.acceptor_after g.initiator_after g.further [] next extra records tail rest t.behind more outcome count moment (marked_after marked t.opened.asked) turn.after new none t.due
+never-due setup serves lasts (suc left) terms first xid id acceptor initiator token (turn ∷ two ∷ later) next extra (cut ∷ records) tail rest stream more outcome count moment marked old new none d =
     let g = d.completes.0 in
-    let t = steps-on setup width lasts left terms first xid id acceptor initiator token turn (two ∷ later) (next ∷ extra) [] cut records tail rest stream more outcome count moment marked old new d g d.walks.0 d.walks.1 d.completes.1 d.walks.2 in
-    never-due setup width lasts left terms first (xid + 1) (Some (id_of id turn.before.core.history)) g.acceptor_after g.initiator_after g.further (two ∷ later) next extra records tail rest t.behind more outcome count moment (marked_after marked t.opened.asked) turn.after new none t.due
+    let t = steps-on setup serves lasts left terms first xid id acceptor initiator token turn (two ∷ later) (next ∷ extra) [] cut records tail rest stream more outcome count moment marked old new d g d.walks.0 d.walks.1 d.completes.1 d.walks.2 in
+    never-due setup serves lasts left terms first (xid + 1) (Some (id_of id turn.before.core.history)) g.acceptor_after g.initiator_after g.further (two ∷ later) next extra records tail rest t.behind more outcome count moment (marked_after marked t.opened.asked) turn.after new none t.due
 
-never-short : (width lasts : ℕ) (start : StartSays) (kind : MechKind) (count moment tokens : ℕ) (stream more : List ℕ) (old new : BookOf) (front : List Turn) (records : List Fragments) (tail rest : List ℕ)
-    → IsShortCreation width lasts start kind count moment tokens stream more old new front records tail rest → length front < tokens → ⊥
-never-short width lasts start kind count moment tokens stream more old new front records tail rest x less =
+never-short : (serves : Server) (lasts : ℕ) (start : StartSays) (kind : MechKind) (count moment tokens : ℕ) (stream more : List ℕ) (old new : BookOf) (front : List Turn) (records : List Fragments) (tail rest : List ℕ)
+    → IsShortCreation serves lasts start kind count moment tokens stream more old new front records tail rest → length front < tokens → ⊥
+never-short serves lasts start kind count moment tokens stream more old new front records tail rest x less =
     let occasions : List Occasion = map occasion_of (answers_of front) in
     let started = x.pair.started in
     let left : ℕ = replies_left started.end in
@@ -128,7 +129,7 @@ never-short width lasts start kind count moment tokens stream more old new front
     let live = no-slots old.core.table.slots x.rests.empty in
     let places : live_of old.core.table < old.core.table.limit = omega (arith, live, x.table) in
     let same : front ≡ front ++ [] = sym (append-nil front) in
-    never-due old.setup width lasts left start.terms start.first 1 None ends.New started.end started.token front (idle moment) extra records tail rest stream more a.outcome count moment false old new x.none
+    never-due old.setup serves lasts left start.terms start.first 1 None ends.New started.end started.token front (idle moment) extra records tail rest stream more a.outcome count moment false old new x.none
     (record {
       called = x.called;
       some_width = x.some_width;
@@ -150,10 +151,10 @@ never-short width lasts start kind count moment tokens stream more old new front
       completes = a.completes;
       walks = subst (λ (stamp : ℕ). Walks old.setup stamp moment (occasions_on front (idle moment ∷ extra)) ends.New started.end started.token a.outcome a.completes) x.stamp a.walks;
       moments = x.moments;
-      row = subst (λ (ts : List Turn). InRow width lasts old ts new) same x.row;
+      row = subst (λ (ts : List Turn). InRow serves lasts old ts new) same x.row;
       cuts = subst (λ (ts : List Turn). AreCuts records ts) same x.cuts;
       written = sym (ap (λ (s : Said SessionState). s.written ++ more) is) ∙ x.written;
-      heard = subst (λ (ts : List Turn). stream ≡ flat_map (heard_in width) ts ++ rest) same x.heard;
+      heard = subst (λ (ts : List Turn). stream ≡ flat_map (heard_in serves) ts ++ rest) same x.heard;
     })
   where
     long_padded : (moment tokens : ℕ) (occasions : List Occasion) → length (padded moment tokens occasions) ≡ tokens
@@ -162,11 +163,11 @@ never-short width lasts start kind count moment tokens stream more old new front
     long_padded moment (suc tokens) (occasion ∷ occasions) = ap suc (long_padded moment tokens occasions)
 
 -- there are none such: the client writes each of its tokens
-pub each-token : (width lasts : ℕ) (start : StartSays) (kind : MechKind) (count moment tokens : ℕ) (stream more : List ℕ) (old new : BookOf) (front : List Turn) (records : List Fragments) (tail rest : List ℕ)
-    → IsShortCreation width lasts start kind count moment tokens stream more old new front records tail rest → tokens ≤ length front
-each-token width lasts start kind count moment tokens stream more old new front records tail rest x = by-less (nat_lt (length front) tokens) refl
+pub each-token : (serves : Server) (lasts : ℕ) (start : StartSays) (kind : MechKind) (count moment tokens : ℕ) (stream more : List ℕ) (old new : BookOf) (front : List Turn) (records : List Fragments) (tail rest : List ℕ)
+    → IsShortCreation serves lasts start kind count moment tokens stream more old new front records tail rest → tokens ≤ length front
+each-token serves lasts start kind count moment tokens stream more old new front records tail rest x = by-less (nat_lt (length front) tokens) refl
   where
     by-less : (less : Bool) → nat_lt (length front) tokens ≡ less → tokens ≤ length front
     by-less true e =
-        let less : length front < tokens = grind (arith, nat_tests) in absurd (never-short width lasts start kind count moment tokens stream more old new front records tail rest x less)
+        let less : length front < tokens = grind (arith, nat_tests) in absurd (never-short serves lasts start kind count moment tokens stream more old new front records tail rest x less)
     by-less false e = grind (arith, nat_tests)

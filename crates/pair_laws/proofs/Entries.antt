@@ -15,7 +15,7 @@ use Rattle.accept_book.specs.Booking.{taken}
 use Rattle.accept_core.specs.Aging.{in_use}
 use Rattle.accept_core.specs.Stepping.{settles}
 use Rattle.accept_core.specs.Entering.{id_of, lapsed, started, noted, finished, entered}
-use Rattle.accept_core.specs.History.{opened, numbers, posts, taken_of}
+use Rattle.accept_core.specs.History.{opened, numbers, taken_of}
 
 -- ---- what a step enters into the history
 
@@ -41,29 +41,6 @@ pub number-entered : (n : ℕ) (id gone : Option ℕ) (mark : Option Mark) (next
 number-entered n id gone mark next now h =
     number-finished n (is_none id) next (id_of id h) now (noted mark (id_of id h) now (started id gone now h))
     ∙ (number-noted n mark (id_of id h) now (started id gone now h) ∙ number-started n id gone now h)
-
-posts-finished : (first : Bool) (next : Next AcceptEnd Outcome) (id now : ℕ) (h : List Entry) → posts (finished first next id now h) ≡ posts h
-posts-finished true (nexts.Going end) id now h = refl
-posts-finished false (nexts.Going end) id now h = refl
-posts-finished true (nexts.Settled mech names value ends) id now h = refl
-posts-finished false (nexts.Settled mech names value ends) id now h = refl
-
-posts-noted : (mark : Option Mark) (id now : ℕ) (h : List Entry) → posts (noted mark id now h) ≡ posts h
-posts-noted None id now h = refl
-posts-noted (Some mark) id now h = refl
-
-posts-lapsed : (gone : Option ℕ) (h : List Entry) → posts (lapsed gone h) ≡ posts h
-posts-lapsed None h = refl
-posts-lapsed (Some id) h = refl
-
-posts-started : (id gone : Option ℕ) (now : ℕ) (h : List Entry) → posts (started id gone now h) ≡ posts h
-posts-started None gone now h = posts-lapsed gone h
-posts-started (Some id) gone now h = posts-lapsed gone h
-
-pub posts-entered : (id gone : Option ℕ) (mark : Option Mark) (next : Next AcceptEnd Outcome) (now : ℕ) (h : List Entry) → posts (entered id gone mark next now h) ≡ posts h
-posts-entered id gone mark next now h =
-    posts-finished (is_none id) next (id_of id h) now (noted mark (id_of id h) now (started id gone now h))
-    ∙ (posts-noted mark (id_of id h) now (started id gone now h) ∙ posts-started id gone now h)
 
 open-finished : (first : Bool) (next : Next AcceptEnd Outcome) (id now : ℕ) (h : List Entry) → opened (finished first next id now h) ≡ opened h
 open-finished true (nexts.Going end) id now h = refl

@@ -25,3 +25,4 @@ mod Whole
 pub mod Linked
 mod Meetings
 pub mod SpelledAlone
+pub mod PostsResults

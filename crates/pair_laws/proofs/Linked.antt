@@ -24,14 +24,16 @@ use Rattle.gss_client.specs.declared.refusal.ClientRefusal.{ClientRefusal}
 use Rattle.gss_client.specs.Start.{StartSays}
 use Rattle.gss_server.specs.declared.answer.Kept.{Kept}
 use Rattle.gss_client.specs.Conferring.{DueCall, confers, by_opening, talk_of, talk_behind}
+use Rattle.rpc_program.specs.Programs.{ProgramSays}
+use Rattle.pair_laws.specs.Answering.{Server}
 use Rattle.pair_laws.specs.HonestCalls.{IsToServer}
 use Rattle.pair_laws.specs.Creation.{IsAt, CreatesOn, IsCreation, Enters, padded}
 use Rattle.pair_laws.specs.Honest.{occasion_of}
 use Rattle.pair_laws.specs.Linked.{kept_of, IsServed, CreatedLaw, IsLinked, LinkedDone}
 use Rattle.pair_laws.specs.Resting.{IsBy}
-use Rattle.pair_laws.specs.Rows.{InRow, AreCuts, AreTurns, answers_of}
-use Rattle.pair_laws.specs.Running.{Turn, heard_in}
-use Rattle.pair_laws.specs.Sessions.{IsProper, ArePlanned}
+use Rattle.pair_laws.specs.Rows.{InRow, AreCuts, AreTurns}
+use Rattle.pair_laws.specs.Running.{Turn, heard_in, IsProper, answers_of}
+use Rattle.pair_laws.specs.Sessions.{ArePlanned}
 use Rattle.pair_laws.specs.Whole.{IsSession}
 use Rattle.pair_laws.proofs.Creations.{creation-runs}
 use Rattle.pair_laws.proofs.EachToken.{each-token}
@@ -91,8 +93,8 @@ each-drawn (one ∷ answers) h = (h zero one refl, each-drawn answers (λ i kept
 -- ---- the session
 
 -- calls with the octets that were drawn for them and others behind, so that there are enough
-pub planned-on : (terms : Terms) (first : ℕ) (due : List DueCall) (drawn : List ℕ) → IsToServer terms → first ≤ 0x80000000 → AllByRecursion (IsProper terms) due → IsOctets drawn → ArePlanned terms first due (drawn ++ replicate (16 * length due) 0)
-planned-on terms first due drawn called fits each octets = record {
+pub planned-on : (program : ProgramSays) (terms : Terms) (first : ℕ) (due : List DueCall) (drawn : List ℕ) → IsToServer program terms → first ≤ 0x80000000 → AllByRecursion (IsProper program terms) due → IsOctets drawn → ArePlanned program terms first due (drawn ++ replicate (16 * length due) 0)
+planned-on program terms first due drawn called fits each octets = record {
   called = called;
   first_fits = fits;
   each = each;
@@ -107,26 +109,26 @@ entered-as id moment kind tokens other old new same e = (record { marks = e.mark
 -- ---- the creation
 
 -- the turns of a link, cut where the creation ends
-record IsCreatedBy (width lasts tokens : ℕ) (start : StartSays) (kind : MechKind) (count moment : ℕ) (due : List DueCall) (draws stream : List ℕ) (old new : BookOf) (records : List Fragments) (answers : List Kept) (tail : List ℕ) : Type 0 where
+record IsCreatedBy (serves : Server) (lasts tokens : ℕ) (start : StartSays) (kind : MechKind) (count moment : ℕ) (due : List DueCall) (draws stream : List ℕ) (old new : BookOf) (records : List Fragments) (answers : List Kept) (tail : List ℕ) : Type 0 where
   more : List ℕ
   is : (talk_of start due draws stream).written ≡ (created_from start stream).written ++ more
   front : List Turn
   back : List Turn
   counted : length front ≡ tokens
-  creation : IsCreation width lasts start kind count moment stream more old new front back records tail []
+  creation : IsCreation serves lasts start kind count moment stream more old new front back records tail []
   moments : AllByRecursion (IsBy moment) (answers_of back)
 
 -- there are as many turns as tokens, for the client writes each of its tokens
-as-many : (width lasts tokens : ℕ) (start : StartSays) (kind : MechKind) (count moment : ℕ) (due : List DueCall) (draws stream : List ℕ) (old new : BookOf) (records : List Fragments) (answers : List Kept) (tail : List ℕ)
-    → IsServed width lasts tokens start kind count moment due draws stream old new records answers tail → (a : AreTurns width lasts records answers old new) → tokens ≤ length a.turns
-as-many width lasts tokens start kind count moment due draws stream old new records answers tail x a = by-count (enough-or-short tokens (length a.turns))
+as-many : (serves : Server) (lasts tokens : ℕ) (start : StartSays) (kind : MechKind) (count moment : ℕ) (due : List DueCall) (draws stream : List ℕ) (old new : BookOf) (records : List Fragments) (answers : List Kept) (tail : List ℕ)
+    → IsServed serves lasts tokens start kind count moment due draws stream old new records answers tail → (a : AreTurns serves lasts records answers old new) → tokens ≤ length a.turns
+as-many serves lasts tokens start kind count moment due draws stream old new records answers tail x a = by-count (enough-or-short tokens (length a.turns))
   where
     by-count : (tokens ≤ length a.turns) ⊎ (length a.turns < tokens) → tokens ≤ length a.turns
     by-count (inl enough) = enough
     by-count (inr short) =
         let w = talk-more due start draws stream in
         let room : length old.core.history + 4 * tokens + length due < old.core.limit = x.log in
-        each-token width lasts start kind count moment tokens stream w.more old new a.turns records tail [] (record {
+        each-token serves lasts start kind count moment tokens stream w.more old new a.turns records tail [] (record {
           called = x.planned.called;
           rests = x.rests;
           some_width = x.some_width;
@@ -143,17 +145,17 @@ as-many width lasts tokens start kind count moment due draws stream old new reco
           cuts = a.cuts;
           none = x.none;
           written = sym w.is ∙ x.written;
-          heard = x.heard ∙ (sym a.replies ∙ sym (append-nil (flat_map (heard_in width) a.turns)));
+          heard = x.heard ∙ (sym a.replies ∙ sym (append-nil (flat_map (heard_in serves) a.turns)));
         })
 
-served-creates : (width lasts tokens : ℕ) (start : StartSays) (kind : MechKind) (count moment : ℕ) (due : List DueCall) (draws stream : List ℕ) (old new : BookOf) (records : List Fragments) (answers : List Kept) (tail : List ℕ)
-    → IsServed width lasts tokens start kind count moment due draws stream old new records answers tail → IsCreatedBy width lasts tokens start kind count moment due draws stream old new records answers tail
-served-creates width lasts tokens start kind count moment due draws stream old new records answers tail x =
-    let a = answered-turns width lasts records answers old new x.answered in
+served-creates : (serves : Server) (lasts tokens : ℕ) (start : StartSays) (kind : MechKind) (count moment : ℕ) (due : List DueCall) (draws stream : List ℕ) (old new : BookOf) (records : List Fragments) (answers : List Kept) (tail : List ℕ)
+    → IsServed serves lasts tokens start kind count moment due draws stream old new records answers tail → IsCreatedBy serves lasts tokens start kind count moment due draws stream old new records answers tail
+served-creates serves lasts tokens start kind count moment due draws stream old new records answers tail x =
+    let a = answered-turns serves lasts records answers old new x.answered in
     let front : List Turn = take tokens a.turns in
     let back : List Turn = drop tokens a.turns in
     let all : a.turns ≡ front ++ back = sym (take-append-drop tokens a.turns) in
-    let enough : tokens ≤ length a.turns = as-many width lasts tokens start kind count moment due draws stream old new records answers tail x a in
+    let enough : tokens ≤ length a.turns = as-many serves lasts tokens start kind count moment due draws stream old new records answers tail x a in
     let kept_first : take tokens (kept_of answers) ≡ answers_of front = ap (λ (ks : List KeptAnswers). take tokens ks) (sym a.kept) ∙ take-map (λ (turn : Turn). turn.kept) tokens a.turns in
     let kept_last : drop tokens (kept_of answers) ≡ answers_of back = ap (λ (ks : List KeptAnswers). drop tokens ks) (sym a.kept) ∙ drop-map (λ (turn : Turn). turn.kept) tokens a.turns in
     let counted : length front ≡ tokens = omega (arith, length-take tokens a.turns, enough) in
@@ -178,13 +180,13 @@ served-creates width lasts tokens start kind count moment due draws stream old n
         known = x.known;
         stamp = x.stamp;
         moments = subst (λ (ks : List KeptAnswers). AllByRecursion (IsAt moment) ks) kept_first (first-all moment tokens (kept_of answers) x.moments);
-        row = subst (λ (ts : List Turn). InRow width lasts old ts new) all a.row;
+        row = subst (λ (ts : List Turn). InRow serves lasts old ts new) all a.row;
         log = omega (arith, counted, room);
         table = x.table;
         cache = x.cache;
         cuts = subst (λ (ts : List Turn). AreCuts records ts) all a.cuts;
         written = sym w.is ∙ x.written;
-        heard = x.heard ∙ (sym a.replies ∙ (ap (λ (ts : List Turn). flat_map (heard_in width) ts) all ∙ sym (append-nil (flat_map (heard_in width) (front ++ back)))));
+        heard = x.heard ∙ (sym a.replies ∙ (ap (λ (ts : List Turn). flat_map (heard_in serves) ts) all ∙ sym (append-nil (flat_map (heard_in serves) (front ++ back)))));
       };
       moments = subst (λ (ks : List KeptAnswers). AllByRecursion (IsBy moment) ks) kept_last (moments-of moment (drop tokens (kept_of answers)) (last-all moment tokens (kept_of answers) x.moments));
     }
@@ -199,18 +201,18 @@ told-on due start draws stream agreed c =
     ap (λ (answer : Result SessionState ClientRefusal). (by_opening due draws made.written made.rest answer).outcome) c.answer ∙ ap (λ (o : Outcome). Some o) c.outcome
 
 pub created-law : CreatedLaw
-created-law width lasts tokens start kind count moment due draws stream old new records answers tail x =
-    let s = served-creates width lasts tokens start kind count moment due draws stream old new records answers tail x in
-    let r = creation-runs width lasts start kind count moment stream s.more old new s.front s.back records tail [] s.creation in
+created-law serves lasts tokens start kind count moment due draws stream old new records answers tail x =
+    let s = served-creates serves lasts tokens start kind count moment due draws stream old new records answers tail x in
+    let r = creation-runs serves lasts start kind count moment stream s.more old new s.front s.back records tail [] s.creation in
     (r.agreed, told-on due start draws stream r.agreed r.created)
 
-pub linked-done : (keys keys' : SealKeys) (key : Key) → ForSealing keys key 22 → ForSealing keys' key 24 → (width lasts tokens : ℕ) (start : StartSays) (kind : MechKind) (count moment : ℕ) (due : List DueCall) (draws stream : List ℕ) (old new : BookOf) (records : List Fragments) (answers : List Kept) (tail : List ℕ) (outcome : Outcome)
-    → IsLinked key width lasts tokens start kind count moment due draws stream old new records answers tail outcome → LinkedDone tokens start kind count moment due draws stream old new outcome
-linked-done keys keys' key for for' width lasts tokens start kind count moment due draws stream old new records answers tail outcome x =
+pub linked-done : (keys keys' : SealKeys) (key : Key) → ForSealing keys key 22 → ForSealing keys' key 24 → (serves : Server) (lasts tokens : ℕ) (start : StartSays) (kind : MechKind) (count moment : ℕ) (due : List DueCall) (draws stream : List ℕ) (old new : BookOf) (records : List Fragments) (answers : List Kept) (tail : List ℕ) (outcome : Outcome)
+    → IsLinked key serves lasts tokens start kind count moment due draws stream old new records answers tail outcome → LinkedDone serves tokens start kind count moment due draws stream old new outcome
+linked-done keys keys' key for for' serves lasts tokens start kind count moment due draws stream old new records answers tail outcome x =
     let v = x.served in
-    let c = served-creates width lasts tokens start kind count moment due draws stream old new records answers tail v in
+    let c = served-creates serves lasts tokens start kind count moment due draws stream old new records answers tail v in
     let room : length old.core.history + 4 * tokens + length due < old.core.limit = v.log in
-    let s : IsSession key width lasts start kind count moment due draws stream old new c.front c.back [] outcome = record {
+    let s : IsSession key serves lasts start kind count moment due draws stream old new c.front c.back [] outcome = record {
       more = c.more;
       records = records;
       tail = tail;
@@ -224,9 +226,9 @@ linked-done keys keys' key for for' width lasts tokens start kind count moment d
       moments = c.moments;
       told = x.told;
       key_is = x.key_is;
-      name = x.name;
+      succeed = x.succeed;
     } in
-    let d = whole-done keys keys' key for for' width lasts start kind count moment due draws stream old new c.front c.back [] outcome s in
+    let d = whole-done keys keys' key for for' serves lasts start kind count moment due draws stream old new c.front c.back [] outcome s in
     let grown : length new.core.history ≤ length old.core.history + 4 * length c.front + length due + 1 = d.grown in
     let e = entered-as (count + 1) moment kind (length c.front) tokens old.core.history d.opened c.counted d.enters in
     record {
@@ -240,7 +242,6 @@ linked-done keys keys' key for for' width lasts tokens start kind count moment d
       enters = e.0;
       names = e.1 ∙ d.names;
       history = d.history;
-      posted = d.posted;
       grown = omega (arith, grown, c.counted);
       limits = d.limits;
       rests = d.rests;

@@ -15,12 +15,11 @@ use Rattle.krb_derive.specs.Key.{key_octets}
 use Rattle.spnego_core.specs.declared.accept_end.AcceptEnd.{AcceptEnd}
 use Rattle.spnego_core.specs.declared.outcome.Outcome.{Outcome}
 use Rattle.accept_core.specs.History.{Whole, standing, numbers}
-use Rattle.accept_core.specs.Answers.{admitted, or_refused, receipt_of, after}
+use Rattle.accept_core.specs.Answers.{or_refused, receipt_of, after}
 use Rattle.accept_book.specs.Booking.{BookOf, NotesMoment, names_of, has_key, lease_refused, LeasedBy}
 use Rattle.accept_core.specs.declared.answer.AdmitRefusal.{AdmitRefusal}
 use Rattle.accept_core.specs.declared.answer.LookRefusal.{LookRefusal}
 use Rattle.accept_book.specs.declared.book_answer.Lease.{Lease}
-use Rattle.accept_core.specs.declared.entry.Admitted.{Admitted}
 use Rattle.accept_core.specs.declared.entry.Entry.{Entry}
 use Rattle.accept_core.specs.declared.entry.Receipt.{Receipt}
 use Rattle.accept_core.specs.declared.entry.Entry.TheVariants.{Call, Ended}
@@ -105,12 +104,12 @@ same-id n = grind (arith, nat_tests)
 called-more : (id next procedure : ℕ) (args : List ℕ) (h : List Entry) → greatest (numbers id h) < next → greatest (numbers id (Call id next procedure args ∷ h)) < next + 1
 called-more id next procedure args h few = rw (same-id id) (omega (arith, few))
 
-pub called : (old new : BookOf) (lease : Lease) (next procedure : ℕ) (args : List ℕ) (result : Result Admitted AdmitRefusal) → BookAdmitted old new lease next procedure args result → IsLiveAt old lease next → next ≤ 0x80000000 → length old.core.history < old.core.limit
+pub called : (old new : BookOf) (lease : Lease) (next procedure : ℕ) (args : List ℕ) (result : Result Receipt AdmitRefusal) → BookAdmitted old new lease next procedure args result → IsLiveAt old lease next → next ≤ 0x80000000 → length old.core.history < old.core.limit
     → IsCalled old new lease next procedure args result
 called old new lease next procedure args result b l few room =
     let none = unrefused old lease next l few room in
     let entry : Entry = Call lease.id next procedure args in
-    let answer : result ≡ Ok (admitted old.core.history entry) = b.answer ∙ ap (λ (o : Option AdmitRefusal). or_refused o (admitted old.core.history entry)) none in
+    let answer : result ≡ Ok (receipt_of old.core.history entry) = b.answer ∙ ap (λ (o : Option AdmitRefusal). or_refused o (receipt_of old.core.history entry)) none in
     let history : new.core.history ≡ entry ∷ old.core.history = b.history ∙ ap (λ (o : Option AdmitRefusal). after o entry old.core.history) none in record {
       answer = answer;
       live = record {

@@ -6,13 +6,15 @@ use Rattle.accept_book.specs.Booking.{BookOf}
 use Rattle.accept_book.specs.BookAnswers.{BookStepped}
 use Rattle.accept_book.specs.RecordRule.{record_ruling, ask_step, stepped}
 use Rattle.accept_book.specs.RecordShown.{KeptAnswers, Shown, Ruling, Asked, AskedStep, asking}
+use Rattle.accept_book.specs.declared.book_answer.Admitted.{Admitted}
 use Rattle.accept_book.specs.declared.book_answer.BookRefusal.TheVariants as books
 use Rattle.accept_book.specs.declared.book_answer.NegAnswer.{NegAnswer}
 use Rattle.accept_book.specs.declared.book_answer.NegAnswer.TheVariants as steps
 use Rattle.accept_book.specs.declared.book_answer.Negotiated.{Negotiated}
 use Rattle.gss_client.specs.Calling.{creation_call}
 use Rattle.gss_server.specs.Answers.{IsDecided}
-use Rattle.gss_server.specs.Asking.{Asking, BookAnswers}
+use Rattle.gss_server.specs.Asking.{Asking}
+use Rattle.pair_laws.specs.Answering.{Server, AnswersBy}
 use Rattle.pair_laws.specs.HonestCalls.{IsToServer}
 use Rattle.pair_laws.specs.Booked.{IsBooked}
 use Rattle.pair_laws.specs.Opening.{creation_of, FitsCreation, HasPlaces, IsStepped}
@@ -45,19 +47,19 @@ undecided-none : (s : Shown) (id : Option ℕ) (token : List ℕ) (now : ℕ) (d
 undecided-none s id token now drawn answer d = omega (arith, d)
 
 -- what the book answered to the token, and what it comes to
-pub record AnsweredStep (width : ℕ) (id : Option ℕ) (token octets : List ℕ) (kept : KeptAnswers) (old new : BookOf) : Type 0 where
+pub record AnsweredStep (serves : Server) (id : Option ℕ) (token octets : List ℕ) (kept : KeptAnswers) (old new : BookOf) : Type 0 where
   pub answer : Negotiated
   pub is_kept : kept.negotiated ≡ Some answer
-  pub asked : (record_ruling octets kept width).asked ≡ AskedStep id token kept.now (take 66 kept.draws) answer ∷ []
+  pub asked : (record_ruling octets kept serves.serving).asked ≡ AskedStep id token kept.now (take 66 kept.draws) answer ∷ []
   pub stepped : BookStepped old new id token kept.now (take 66 kept.draws) answer
   pub some : answer.answer ≢ steps.NoMemory
 
-pub answered-step : (terms : Terms) (xid width : ℕ) (id : Option ℕ) (token : List ℕ) (kept : KeptAnswers) (old new : BookOf) → IsToServer terms → FitsCreation xid id token → IsDecided (record_ruling (creation_of terms xid id token) kept width)
-    → Asking BookAnswers old (record_ruling (creation_of terms xid id token) kept width).asked new → AnsweredStep width id token (creation_of terms xid id token) kept old new
-answered-step terms xid width id token kept old new called f decided put = by-kept kept.negotiated refl
+pub answered-step : (terms : Terms) (xid : ℕ) (serves : Server) (id : Option ℕ) (token : List ℕ) (kept : KeptAnswers) (old new : BookOf) → IsToServer serves.serving.program terms → FitsCreation xid id token → IsDecided (record_ruling (creation_of terms xid id token) kept serves.serving)
+    → Asking (AnswersBy serves) old (record_ruling (creation_of terms xid id token) kept serves.serving).asked new → AnsweredStep serves id token (creation_of terms xid id token) kept old new
+answered-step terms xid serves id token kept old new called f decided put = by-kept kept.negotiated refl
   where
     shown : Shown
-    shown = creation_shown terms xid id token kept width
+    shown = creation_shown terms xid id token kept serves
 
     octets : List ℕ
     octets = creation_of terms xid id token
@@ -65,30 +67,30 @@ answered-step terms xid width id token kept old new called f decided put = by-ke
     drawn : List ℕ
     drawn = take 66 kept.draws
 
-    ruled : record_ruling octets kept width ≡ ask_step shown id token kept.negotiated
-    ruled = ap (λ (o : List ℕ). record_ruling o kept width) (same-call terms xid id token) ∙ asks terms xid id token kept width called f.xid_fits (is-id id f.id_fits) f.size
+    ruled : record_ruling octets kept serves.serving ≡ ask_step shown id token kept.negotiated
+    ruled = ap (λ (o : List ℕ). record_ruling o kept serves.serving) (same-call terms xid id token) ∙ asks terms xid id token kept serves called f.xid_fits (is-id id f.id_fits) f.size
 
-    by-kept : (found : Option Negotiated) → kept.negotiated ≡ found → AnsweredStep width id token octets kept old new
+    by-kept : (found : Option Negotiated) → kept.negotiated ≡ found → AnsweredStep serves id token octets kept old new
     by-kept None e =
         let d : IsDecided (ask_step shown id token None) = subst IsDecided (ruled ∙ ap (λ (n : Option Negotiated). ask_step shown id token n) e) decided in
         absurd (omega (arith, d))
     by-kept (Some answer) e =
-        let r : record_ruling octets kept width ≡ asking (AskedStep id token kept.now drawn answer) (stepped shown answer.answer) = ruled ∙ ap (λ (n : Option Negotiated). ask_step shown id token n) e in
-        let one : (record_ruling octets kept width).asked ≡ AskedStep id token kept.now drawn answer ∷ [] = ap (λ (x : Ruling). x.asked) r ∙ ap (λ (zs : List Asked). AskedStep id token kept.now drawn answer ∷ zs) (asks-once shown answer.answer) in
-        let c : Asking BookAnswers old (AskedStep id token kept.now drawn answer ∷ []) new = subst (λ (zs : List Asked). Asking BookAnswers old zs new) one put in
+        let r : record_ruling octets kept serves.serving ≡ asking (AskedStep id token kept.now drawn answer) (stepped shown answer.answer) = ruled ∙ ap (λ (n : Option Negotiated). ask_step shown id token n) e in
+        let one : (record_ruling octets kept serves.serving).asked ≡ AskedStep id token kept.now drawn answer ∷ [] = ap (λ (x : Ruling). x.asked) r ∙ ap (λ (zs : List (Asked Admitted)). AskedStep id token kept.now drawn answer ∷ zs) (asks-once shown answer.answer) in
+        let c : Asking (AnswersBy serves) old (AskedStep id token kept.now drawn answer ∷ []) new = subst (λ (zs : List (Asked Admitted)). Asking (AnswersBy serves) old zs new) one put in
         let due : IsDecided (asking (AskedStep id token kept.now drawn answer) (stepped shown answer.answer)) = subst IsDecided r decided in
         record {
           answer = answer;
           is_kept = e;
           asked = one;
-          stepped = subst (λ (m : BookOf). BookStepped old m id token kept.now drawn answer) (sym c.2) c.1;
+          stepped = subst (λ (m : BookOf). BookStepped old m id token kept.now drawn answer) (sym c.2) c.1.book;
           some = λ none. undecided-none shown id token kept.now drawn answer (subst (λ (a : NegAnswer). IsDecided (asking (AskedStep id token kept.now drawn answer) (stepped shown a))) none due);
         }
 
-pub step-turn : (terms : Terms) (xid width : ℕ) (id : Option ℕ) (token : List ℕ) (kept : KeptAnswers) (old new : BookOf) → IsToServer terms → FitsCreation xid id token → IsStepped width (creation_of terms xid id token) kept old new → HasPlaces old.setup old.core id token kept
-    → IsBooked old.setup width (creation_of terms xid id token) kept (record { before = old.core; after = new.core })
-step-turn terms xid width id token kept old new called f s p =
-    let a = answered-step terms xid width id token kept old new called f s.decided s.asked in
+pub step-turn : (terms : Terms) (xid : ℕ) (serves : Server) (id : Option ℕ) (token : List ℕ) (kept : KeptAnswers) (old new : BookOf) → IsToServer serves.serving.program terms → FitsCreation xid id token → IsStepped serves (creation_of terms xid id token) kept old new → HasPlaces old.setup old.core id token kept
+    → IsBooked old.setup serves (creation_of terms xid id token) kept (record { before = old.core; after = new.core })
+step-turn terms xid serves id token kept old new called f s p =
+    let a = answered-step terms xid serves id token kept old new called f s.decided s.asked in
     let o = a.stepped.comes.outcome p.past p.is_past a.some in record {
       id = id;
       token = token;

@@ -14,7 +14,7 @@ use Rattle.accept_core.specs.declared.entry.Entry.{Entry}
 use Rattle.accept_book.specs.Booking.{BookOf, Fits, mark_of, NotesMoment, names_of}
 use Rattle.accept_core.specs.Entering.{id_of, entered, noted}
 use Rattle.accept_core.specs.Aging.{in_use}
-use Rattle.accept_core.specs.History.{posts}
+use Rattle.pair_laws.specs.Answering.{Server}
 use Rattle.pair_laws.proofs.Settling.{ComesTo}
 use Rattle.std.proofs.lemmas.List.{append-nil}
 use Rattle.spnego_core.specs.Exchange as exchange
@@ -33,8 +33,8 @@ use Rattle.pair_laws.specs.Creation.{around_of, records_of, IsAt, CreatesOn, Sam
 use Rattle.pair_laws.specs.HonestCalls.{IsToServer}
 use Rattle.pair_laws.specs.Honest.{occasion_of}
 use Rattle.pair_laws.specs.Laws.{IsBehind}
-use Rattle.pair_laws.specs.Rows.{IsTurn, InRow, AreCuts, answers_of}
-use Rattle.pair_laws.specs.Running.{Turn, sent_in, heard_in}
+use Rattle.pair_laws.specs.Rows.{IsTurn, InRow, AreCuts}
+use Rattle.pair_laws.specs.Running.{Turn, sent_in, heard_in, answers_of}
 use Rattle.pair_laws.specs.Walking.{IsStamped, Walks}
 use Rattle.pair_laws.proofs.Completing.{next-xid}
 use Rattle.pair_laws.proofs.Creating.{creates-front, established, continued}
@@ -56,10 +56,10 @@ abbrev pub occasions_on : List Turn → List exchange.Occasion → List exchange
 occasions_on front extra = map occasion_of (answers_of front) ++ extra
 
 -- a creation that is due, from some turn on; behind its turns further tokens may be due
-pub record Due (setup : AcceptSetup) (width lasts left : ℕ) (terms : Terms) (first xid : ℕ) (id : Option ℕ) (acceptor : AcceptEnd) (initiator : EndSays) (token : List ℕ) (front : List Turn) (extra : List exchange.Occasion) (back : List Turn) (records : List Fragments) (tail rest stream more : List ℕ) (outcome : Outcome) (count moment : ℕ) (marked : Bool) (old new : BookOf) : Type 0 where
-  pub called : IsToServer terms
-  pub some_width : 0 < width
-  pub width_fits : width < 2 ^ 32
+pub record Due (setup : AcceptSetup) (serves : Server) (lasts left : ℕ) (terms : Terms) (first xid : ℕ) (id : Option ℕ) (acceptor : AcceptEnd) (initiator : EndSays) (token : List ℕ) (front : List Turn) (extra : List exchange.Occasion) (back : List Turn) (records : List Fragments) (tail rest stream more : List ℕ) (outcome : Outcome) (count moment : ℕ) (marked : Bool) (old new : BookOf) : Type 0 where
+  pub called : IsToServer serves.serving.program terms
+  pub some_width : 0 < serves.serving.width
+  pub width_fits : serves.serving.width < 2 ^ 32
   pub xids : xid + length front < 2 ^ 32
   pub turns : length (occasions_on front extra) ≤ left
   pub number : count + 1 < 2 ^ 64
@@ -77,25 +77,24 @@ pub record Due (setup : AcceptSetup) (width lasts left : ℕ) (terms : Terms) (f
   pub completes : exchange.Completes setup (occasions_on front extra) acceptor initiator token outcome
   pub walks : Walks setup moment moment (occasions_on front extra) acceptor initiator token outcome completes
   pub moments : AllByRecursion (IsAt moment) (answers_of front)
-  pub row : InRow width lasts old (front ++ back) new
+  pub row : InRow serves lasts old (front ++ back) new
   pub cuts : AreCuts records (front ++ back)
   pub written : (creates left terms first xid (proc_for id) (record { end = initiator; handle = handle_for id; token = token }) stream).written ++ more ≡ octets_of records ++ tail
-  pub heard : stream ≡ flat_map (heard_in width) (front ++ back) ++ rest
+  pub heard : stream ≡ flat_map (heard_in serves) (front ++ back) ++ rest
 
-pub record Done (setup : AcceptSetup) (width lasts : ℕ) (id : Option ℕ) (outcome : Outcome) (before : Bool) (part : Said SessionState) (front back : List Turn) (tail more : List ℕ) (count moment : ℕ) (old new : BookOf) : Type 0 where
-  pub booked : Booked setup width (records_of front) (answers_of front) (map around_of front)
+pub record Done (setup : AcceptSetup) (serves : Server) (lasts : ℕ) (id : Option ℕ) (outcome : Outcome) (before : Bool) (part : Said SessionState) (front back : List Turn) (tail more : List ℕ) (count moment : ℕ) (old new : BookOf) : Type 0 where
+  pub booked : Booked setup serves (records_of front) (answers_of front) (map around_of front)
   pub wrote : part.written ≡ flat_map sent_in front
   pub created : CreatesOn part outcome
   pub others : List Fragments
   pub cuts : AreCuts others back
   pub later : more ≡ octets_of others ++ tail
   pub middle : BookOf
-  pub front_row : InRow width lasts old front middle
-  pub row : InRow width lasts middle back new
+  pub front_row : InRow serves lasts old front middle
+  pub row : InRow serves lasts middle back new
   pub behind : IsBehind (answers_of front) (map around_of front) middle.core
   pub limits : SameLimits old middle
   pub grown : length middle.core.history ≤ length old.core.history + 4 * length front
-  pub posted : posts middle.core.history ≡ posts old.core.history
   pub marks : List (Option Mark)
   pub counted : length marks ≡ length front
   pub names : List ℕ
@@ -130,11 +129,11 @@ behind-front : (call part wrote more rest : List ℕ) (cut : Fragments) → leng
 behind-front call part wrote more rest cut few r e f = (same-front call (wrote ++ more) cut rest few r (sym (ap (λ (zs : List ℕ). zs ++ more) e ∙ append_assoc (last_fragment call) wrote more) ∙ f)).more_is
 
 -- what is heard of a turn, whose record is the call and whose reply is known
-heard-reply : (width : ℕ) (turn : Turn) (turns : List Turn) (stream call reply rest : List ℕ) → stream ≡ flat_map (heard_in width) (turn ∷ turns) ++ rest → turn.octets ≡ call → (record_ruling call turn.kept width).reply ≡ Some reply → stream ≡ last_fragment reply ++ (flat_map (heard_in width) turns ++ rest)
-heard-reply width turn turns stream call reply rest heard is said_so =
-    let behind : List ℕ = flat_map (heard_in width) turns ++ rest in
-    heard ∙ (append_assoc (heard_in width turn) (flat_map (heard_in width) turns) rest
-    ∙ (ap (λ (o : List ℕ). framed (record_ruling o turn.kept width).reply ++ behind) is ∙ ap (λ (r : Option (List ℕ)). framed r ++ behind) said_so))
+heard-reply : (serves : Server) (turn : Turn) (turns : List Turn) (stream call reply rest : List ℕ) → stream ≡ flat_map (heard_in serves) (turn ∷ turns) ++ rest → turn.octets ≡ call → (record_ruling call turn.kept serves.serving).reply ≡ Some reply → stream ≡ last_fragment reply ++ (flat_map (heard_in serves) turns ++ rest)
+heard-reply serves turn turns stream call reply rest heard is said_so =
+    let behind : List ℕ = flat_map (heard_in serves) turns ++ rest in
+    heard ∙ (append_assoc (heard_in serves turn) (flat_map (heard_in serves) turns) rest
+    ∙ (ap (λ (o : List ℕ). framed (record_ruling o turn.kept serves.serving).reply ++ behind) is ∙ ap (λ (r : Option (List ℕ)). framed r ++ behind) said_so))
 
 or-false : (b : Bool) → (b || false) ≡ b
 or-false true = refl
@@ -166,32 +165,32 @@ more-entries : (own moment : ℕ) (settled : Entry) (id : Option ℕ) (mark : Op
 more-entries own moment settled id mark [] count e here old each = absurd (omega (arith, e))
 more-entries own moment settled id mark (two ∷ marks) count e here old each = each two marks
 
-opens-last : (setup : AcceptSetup) (width lasts left : ℕ) (terms : Terms) (first xid : ℕ) (id : Option ℕ) (acceptor : AcceptEnd) (initiator : EndSays) (token : List ℕ) (turn : Turn) (back : List Turn) (cut : Fragments) (records : List Fragments) (tail rest stream more : List ℕ) (outcome : Outcome) (count moment : ℕ) (marked : Bool) (old new : BookOf)
-    → Due setup width lasts (suc left) terms first xid id acceptor initiator token (turn ∷ []) [] back (cut ∷ records) tail rest stream more outcome count moment marked old new
-    → Done setup width lasts id outcome marked (creates (suc left) terms first xid (proc_for id) (record { end = initiator; handle = handle_for id; token = token }) stream) (turn ∷ []) back tail more count moment old new
-opens-last setup width lasts left terms first xid id acceptor initiator token turn back cut records tail rest stream more outcome count moment marked old new d =
+opens-last : (setup : AcceptSetup) (serves : Server) (lasts left : ℕ) (terms : Terms) (first xid : ℕ) (id : Option ℕ) (acceptor : AcceptEnd) (initiator : EndSays) (token : List ℕ) (turn : Turn) (back : List Turn) (cut : Fragments) (records : List Fragments) (tail rest stream more : List ℕ) (outcome : Outcome) (count moment : ℕ) (marked : Bool) (old new : BookOf)
+    → Due setup serves lasts (suc left) terms first xid id acceptor initiator token (turn ∷ []) [] back (cut ∷ records) tail rest stream more outcome count moment marked old new
+    → Done setup serves lasts id outcome marked (creates (suc left) terms first xid (proc_for id) (record { end = initiator; handle = handle_for id; token = token }) stream) (turn ∷ []) back tail more count moment old new
+opens-last setup serves lasts left terms first xid id acceptor initiator token turn back cut records tail rest stream more outcome count moment marked old new d =
     let offer : OfferSays = record { end = initiator; handle = handle_for id; token = token } in
     let call : List ℕ = creation_call terms xid (proc_for id) (handle_for id) token in
     let done : exchange.IsDone setup (occasion_of turn.kept) acceptor initiator token outcome = d.completes in
     let xids : xid < 2 ^ 32 = omega (arith, d.xids) in
-    let v : IsTurn width lasts turn = d.row.1 in
+    let v : IsTurn serves lasts turn = d.row.1 in
     let before : old ≡ turn.before = sym d.row.0 in
     let room : length old.core.history + 4 * 1 ≤ old.core.limit = d.log in
     let log : length old.core.history + 4 ≤ old.core.limit = omega (arith, room) in
     let written : (creates (suc left) terms first xid (proc_for id) offer stream).written ++ more ≡ frame cut ++ (octets_of records ++ tail) = d.written ∙ append_assoc (frame cut) (octets_of records) tail in
     let is : turn.octets ≡ call = front-call left terms first xid id initiator token turn cut stream more (octets_of records ++ tail) d.few d.cuts.0 d.cuts.1 written in
     let own : ℕ = id_of id turn.before.core.history in
-    let o = turn-opens setup terms width lasts xid id acceptor token count moment marked turn (steps.Done outcome done.lasts done.reply) d.called xids d.is_id d.few v is (subst (λ (b : BookOf). id_of id b.core.history ≡ count + 1) before d.own) (subst (λ (b : BookOf). ComesTo id b.core acceptor) before d.comes) d.fits
+    let o = turn-opens setup terms serves lasts xid id acceptor token count moment marked turn (steps.Done outcome done.lasts done.reply) d.called xids d.is_id d.few v is (subst (λ (b : BookOf). id_of id b.core.history ≡ count + 1) before d.own) (subst (λ (b : BookOf). ComesTo id b.core acceptor) before d.comes) d.fits
     (subst (λ (b : BookOf). Ready id count moment marked b.core) before d.ready) d.moments.0 d.walks.0 d.walks.1 (subst (λ (b : BookOf). b.setup ≡ setup) before d.set) (subst (λ (b : BookOf). length b.core.history + 4 ≤ b.core.limit) before log)
     (subst (λ (b : BookOf). id ≡ None → live_of b.core.table < b.core.table.limit) before d.table) (subst (λ (b : BookOf). in_use b.core.history ≡ []) before d.unused) (subst (λ (b : BookOf). count < b.core.cache.capacity) before d.cache) done.accepts in
-    let reply : List ℕ = reply_octets (granting xid outcome own width done.reply) in
-    let is_reply : (record_ruling call turn.kept width).reply ≡ Some reply = ap (λ (r : Ruling). r.reply) o.turned.ruled in
-    let behind : List ℕ = flat_map (heard_in width) back ++ rest in
-    let stream_is : stream ≡ last_fragment reply ++ behind = heard-reply width turn back stream call reply rest d.heard is is_reply in
+    let reply : List ℕ = reply_octets (granting xid outcome own serves.serving.width done.reply) in
+    let is_reply : (record_ruling call turn.kept serves.serving).reply ≡ Some reply = ap (λ (r : Ruling). r.reply) o.turned.ruled in
+    let behind : List ℕ = flat_map (heard_in serves) back ++ rest in
+    let stream_is : stream ≡ last_fragment reply ++ behind = heard-reply serves turn back stream call reply rest d.heard is is_reply in
     let all : creates (suc left) terms first xid (proc_for id) offer stream ≡ said (last_fragment call) (Ok (begun terms first (xid_after xid) outcome (handle_of own))) behind =
     ap (λ (zs : List ℕ). creates (suc left) terms first xid (proc_for id) offer zs) stream_is
-    ∙ established left terms first xid (proc_for id) offer reply behind outcome (handle_of own) (granting-fits xid outcome own width done.reply o.turned.size)
-    (creation-stands xid initiator outcome own width done.reply xids d.some_width d.width_fits o.turned.size done.initiates) in
+    ∙ established left terms first xid (proc_for id) offer reply behind outcome (handle_of own) (granting-fits xid outcome own serves.serving.width done.reply o.turned.size)
+    (creation-stands xid initiator outcome own serves.serving.width done.reply xids d.some_width d.width_fits o.turned.size done.initiates) in
     let wrote : (creates (suc left) terms first xid (proc_for id) offer stream).written ≡ last_fragment call = ap (λ (s : Said SessionState). s.written) all in
     let limits : SameLimits turn.before turn.after = limits-of turn.before turn.after turn.kept.now o.notes in
     record {
@@ -207,7 +206,6 @@ opens-last setup width lasts left terms first xid id acceptor initiator token tu
       behind = refl;
       limits = subst (λ (b : BookOf). SameLimits b turn.after) d.row.0 limits;
       grown = subst (λ (b : BookOf). length turn.after.core.history ≤ length b.core.history + 4) d.row.0 o.grown;
-      posted = o.posted ∙ ap (λ (b : BookOf). posts b.core.history) d.row.0;
       marks = mark_of o.asked ∷ [];
       counted = refl;
       names = names_of outcome;
@@ -224,26 +222,26 @@ opens-last setup width lasts left terms first xid id acceptor initiator token tu
     }
 
 -- what a turn leaves due that isn't the last: the client goes on with its next token
-pub record Stepped (setup : AcceptSetup) (width lasts left : ℕ) (terms : Terms) (first xid : ℕ) (id : Option ℕ) (acceptor : AcceptEnd) (initiator : EndSays) (token : List ℕ) (turn : Turn) (front : List Turn) (extra : List exchange.Occasion) (back : List Turn) (records : List Fragments) (tail rest stream more : List ℕ) (outcome : Outcome) (count moment : ℕ) (marked : Bool) (new : BookOf) (g : exchange.GoesOn setup (occasion_of turn.kept) acceptor initiator token) : Type 0 where
+pub record Stepped (setup : AcceptSetup) (serves : Server) (lasts left : ℕ) (terms : Terms) (first xid : ℕ) (id : Option ℕ) (acceptor : AcceptEnd) (initiator : EndSays) (token : List ℕ) (turn : Turn) (front : List Turn) (extra : List exchange.Occasion) (back : List Turn) (records : List Fragments) (tail rest stream more : List ℕ) (outcome : Outcome) (count moment : ℕ) (marked : Bool) (new : BookOf) (g : exchange.GoesOn setup (occasion_of turn.kept) acceptor initiator token) : Type 0 where
   pub is : turn.octets ≡ creation_call terms xid (proc_for id) (handle_for id) token
-  pub opened : Turns setup terms width xid id token (id_of id turn.before.core.history) count moment marked turn (steps.More g.acceptor_after g.reply)
+  pub opened : Turns setup terms serves xid id token (id_of id turn.before.core.history) count moment marked turn (steps.More g.acceptor_after g.reply)
   pub behind : List ℕ
   pub goes : creates (suc left) terms first xid (proc_for id) (record { end = initiator; handle = handle_for id; token = token }) stream
       ≡ after (last_fragment (creation_call terms xid (proc_for id) (handle_for id) token)) (creates left terms first (xid + 1) 2 (record { end = g.initiator_after; handle = handle_of (id_of id turn.before.core.history); token = g.further }) behind)
-  pub due : Due setup width lasts left terms first (xid + 1) (Some (id_of id turn.before.core.history)) g.acceptor_after g.initiator_after g.further front extra back records tail rest behind more outcome count moment (marked_after marked opened.asked) turn.after new
+  pub due : Due setup serves lasts left terms first (xid + 1) (Some (id_of id turn.before.core.history)) g.acceptor_after g.initiator_after g.further front extra back records tail rest behind more outcome count moment (marked_after marked opened.asked) turn.after new
 
-pub steps-on : (setup : AcceptSetup) (width lasts left : ℕ) (terms : Terms) (first xid : ℕ) (id : Option ℕ) (acceptor : AcceptEnd) (initiator : EndSays) (token : List ℕ) (turn : Turn) (front : List Turn) (extra : List exchange.Occasion) (back : List Turn) (cut : Fragments) (records : List Fragments) (tail rest stream more : List ℕ) (outcome : Outcome) (count moment : ℕ) (marked : Bool) (old new : BookOf)
-    → Due setup width lasts (suc left) terms first xid id acceptor initiator token (turn ∷ front) extra back (cut ∷ records) tail rest stream more outcome count moment marked old new
+pub steps-on : (setup : AcceptSetup) (serves : Server) (lasts left : ℕ) (terms : Terms) (first xid : ℕ) (id : Option ℕ) (acceptor : AcceptEnd) (initiator : EndSays) (token : List ℕ) (turn : Turn) (front : List Turn) (extra : List exchange.Occasion) (back : List Turn) (cut : Fragments) (records : List Fragments) (tail rest stream more : List ℕ) (outcome : Outcome) (count moment : ℕ) (marked : Bool) (old new : BookOf)
+    → Due setup serves lasts (suc left) terms first xid id acceptor initiator token (turn ∷ front) extra back (cut ∷ records) tail rest stream more outcome count moment marked old new
     → (g : exchange.GoesOn setup (occasion_of turn.kept) acceptor initiator token) → IsStamped setup moment (occasion_of turn.kept) acceptor token → IsShort g.reply
     → (c : exchange.Completes setup (occasions_on front extra) g.acceptor_after g.initiator_after g.further outcome) → Walks setup moment moment (occasions_on front extra) g.acceptor_after g.initiator_after g.further outcome c
-    → Stepped setup width lasts left terms first xid id acceptor initiator token turn front extra back records tail rest stream more outcome count moment marked new g
-steps-on setup width lasts left terms first xid id acceptor initiator token turn front extra back cut records tail rest stream more outcome count moment marked old new d g stamped short c walks =
+    → Stepped setup serves lasts left terms first xid id acceptor initiator token turn front extra back records tail rest stream more outcome count moment marked new g
+steps-on setup serves lasts left terms first xid id acceptor initiator token turn front extra back cut records tail rest stream more outcome count moment marked old new d g stamped short c walks =
     let offer : OfferSays = record { end = initiator; handle = handle_for id; token = token } in
     let call : List ℕ = creation_call terms xid (proc_for id) (handle_for id) token in
     let many : xid + suc (length front) < 2 ^ 32 = d.xids in
     let enough : suc (length (occasions_on front extra)) ≤ suc left = d.turns in
     let xids : xid < 2 ^ 32 = omega (arith, many) in
-    let v : IsTurn width lasts turn = d.row.1 in
+    let v : IsTurn serves lasts turn = d.row.1 in
     let before : old ≡ turn.before = sym d.row.0 in
     let room : length old.core.history + 4 * suc (length front) ≤ old.core.limit = d.log in
     let log : length old.core.history + 4 ≤ old.core.limit = omega (arith, room) in
@@ -251,13 +249,13 @@ steps-on setup width lasts left terms first xid id acceptor initiator token turn
     let is : turn.octets ≡ call = front-call left terms first xid id initiator token turn cut stream more (octets_of records ++ tail) d.few d.cuts.0 d.cuts.1 written in
     let own : ℕ = id_of id turn.before.core.history in
     let own_is : own ≡ count + 1 = subst (λ (b : BookOf). id_of id b.core.history ≡ count + 1) before d.own in
-    let o = turn-opens setup terms width lasts xid id acceptor token count moment marked turn (steps.More g.acceptor_after g.reply) d.called xids d.is_id d.few v is own_is (subst (λ (b : BookOf). ComesTo id b.core acceptor) before d.comes) d.fits
+    let o = turn-opens setup terms serves lasts xid id acceptor token count moment marked turn (steps.More g.acceptor_after g.reply) d.called xids d.is_id d.few v is own_is (subst (λ (b : BookOf). ComesTo id b.core acceptor) before d.comes) d.fits
     (subst (λ (b : BookOf). Ready id count moment marked b.core) before d.ready) d.moments.0 stamped short (subst (λ (b : BookOf). b.setup ≡ setup) before d.set) (subst (λ (b : BookOf). length b.core.history + 4 ≤ b.core.limit) before log)
     (subst (λ (b : BookOf). id ≡ None → live_of b.core.table < b.core.table.limit) before d.table) (subst (λ (b : BookOf). in_use b.core.history ≡ []) before d.unused) (subst (λ (b : BookOf). count < b.core.cache.capacity) before d.cache) g.accepts in
     let reply : List ℕ = reply_octets (going xid own g.reply) in
-    let is_reply : (record_ruling call turn.kept width).reply ≡ Some reply = ap (λ (r : Ruling). r.reply) o.turned.ruled in
-    let behind : List ℕ = flat_map (heard_in width) (front ++ back) ++ rest in
-    let stream_is : stream ≡ last_fragment reply ++ behind = heard-reply width turn (front ++ back) stream call reply rest d.heard is is_reply in
+    let is_reply : (record_ruling call turn.kept serves.serving).reply ≡ Some reply = ap (λ (r : Ruling). r.reply) o.turned.ruled in
+    let behind : List ℕ = flat_map (heard_in serves) (front ++ back) ++ rest in
+    let stream_is : stream ≡ last_fragment reply ++ behind = heard-reply serves turn (front ++ back) stream call reply rest d.heard is is_reply in
     let further : OfferSays = record { end = g.initiator_after; handle = handle_of own; token = g.further } in
     let all : creates (suc left) terms first xid (proc_for id) offer stream ≡ after (last_fragment call) (creates left terms first (xid_after xid) 2 further behind) =
     ap (λ (zs : List ℕ). creates (suc left) terms first xid (proc_for id) offer zs) stream_is
@@ -303,19 +301,19 @@ steps-on setup width lasts left terms first xid id acceptor initiator token turn
       };
     }
 
-opens-more : (setup : AcceptSetup) (width lasts left : ℕ) (terms : Terms) (first xid : ℕ) (id : Option ℕ) (acceptor : AcceptEnd) (initiator : EndSays) (token : List ℕ) (turn next : Turn) (later back : List Turn) (cut : Fragments) (records : List Fragments) (tail rest stream more : List ℕ) (outcome : Outcome) (count moment : ℕ) (marked : Bool) (old new : BookOf)
-    → ((own : ℕ) (acceptor : AcceptEnd) (initiator : EndSays) (token : List ℕ) (stream : List ℕ) (marked : Bool) (old : BookOf) → Due setup width lasts left terms first (xid + 1) (Some own) acceptor initiator token (next ∷ later) [] back records tail rest stream more outcome count moment marked old new
-    → Done setup width lasts (Some own) outcome marked (creates left terms first (xid + 1) 2 (record { end = initiator; handle = handle_of own; token = token }) stream) (next ∷ later) back tail more count moment old new)
-    → Due setup width lasts (suc left) terms first xid id acceptor initiator token (turn ∷ next ∷ later) [] back (cut ∷ records) tail rest stream more outcome count moment marked old new
-    → Done setup width lasts id outcome marked (creates (suc left) terms first xid (proc_for id) (record { end = initiator; handle = handle_for id; token = token }) stream) (turn ∷ next ∷ later) back tail more count moment old new
-opens-more setup width lasts left terms first xid id acceptor initiator token turn next later back cut records tail rest stream more outcome count moment marked old new ih d =
+opens-more : (setup : AcceptSetup) (serves : Server) (lasts left : ℕ) (terms : Terms) (first xid : ℕ) (id : Option ℕ) (acceptor : AcceptEnd) (initiator : EndSays) (token : List ℕ) (turn next : Turn) (later back : List Turn) (cut : Fragments) (records : List Fragments) (tail rest stream more : List ℕ) (outcome : Outcome) (count moment : ℕ) (marked : Bool) (old new : BookOf)
+    → ((own : ℕ) (acceptor : AcceptEnd) (initiator : EndSays) (token : List ℕ) (stream : List ℕ) (marked : Bool) (old : BookOf) → Due setup serves lasts left terms first (xid + 1) (Some own) acceptor initiator token (next ∷ later) [] back records tail rest stream more outcome count moment marked old new
+    → Done setup serves lasts (Some own) outcome marked (creates left terms first (xid + 1) 2 (record { end = initiator; handle = handle_of own; token = token }) stream) (next ∷ later) back tail more count moment old new)
+    → Due setup serves lasts (suc left) terms first xid id acceptor initiator token (turn ∷ next ∷ later) [] back (cut ∷ records) tail rest stream more outcome count moment marked old new
+    → Done setup serves lasts id outcome marked (creates (suc left) terms first xid (proc_for id) (record { end = initiator; handle = handle_for id; token = token }) stream) (turn ∷ next ∷ later) back tail more count moment old new
+opens-more setup serves lasts left terms first xid id acceptor initiator token turn next later back cut records tail rest stream more outcome count moment marked old new ih d =
     let offer : OfferSays = record { end = initiator; handle = handle_for id; token = token } in
     let call : List ℕ = creation_call terms xid (proc_for id) (handle_for id) token in
     let g = d.completes.0 in
-    let v : IsTurn width lasts turn = d.row.1 in
+    let v : IsTurn serves lasts turn = d.row.1 in
     let own : ℕ = id_of id turn.before.core.history in
     let own_is : own ≡ count + 1 = subst (λ (b : BookOf). id_of id b.core.history ≡ count + 1) (sym d.row.0) d.own in
-    let t = steps-on setup width lasts left terms first xid id acceptor initiator token turn (next ∷ later) [] back cut records tail rest stream more outcome count moment marked old new d g d.walks.0 d.walks.1 d.completes.1 d.walks.2 in
+    let t = steps-on setup serves lasts left terms first xid id acceptor initiator token turn (next ∷ later) [] back cut records tail rest stream more outcome count moment marked old new d g d.walks.0 d.walks.1 d.completes.1 d.walks.2 in
     let o = t.opened in
     let further : OfferSays = record { end = g.initiator_after; handle = handle_of own; token = g.further } in
     let part : Said SessionState = creates left terms first (xid + 1) 2 further t.behind in
@@ -338,7 +336,6 @@ opens-more setup width lasts left terms first xid id acceptor initiator token tu
       behind = r.behind;
       limits = limits-on old turn.after r.middle limits r.limits;
       grown = omega (arith, most, grown);
-      posted = r.posted ∙ (o.posted ∙ ap (λ (b : BookOf). posts b.core.history) d.row.0);
       marks = mark_of o.asked ∷ r.marks;
       counted = ap suc r.counted;
       names = r.names;
@@ -356,14 +353,14 @@ opens-more setup width lasts left terms first xid id acceptor initiator token tu
       used = r.used;
     }
 
-pub opens-on : (setup : AcceptSetup) (width lasts left : ℕ) (terms : Terms) (first xid : ℕ) (id : Option ℕ) (acceptor : AcceptEnd) (initiator : EndSays) (token : List ℕ) (front back : List Turn) (records : List Fragments) (tail rest stream more : List ℕ) (outcome : Outcome) (count moment : ℕ) (marked : Bool) (old new : BookOf)
-    → Due setup width lasts left terms first xid id acceptor initiator token front [] back records tail rest stream more outcome count moment marked old new
-    → Done setup width lasts id outcome marked (creates left terms first xid (proc_for id) (record { end = initiator; handle = handle_for id; token = token }) stream) front back tail more count moment old new
-opens-on setup width lasts left terms first xid id acceptor initiator token [] back records tail rest stream more outcome count moment marked old new d = absurd d.completes
-opens-on setup width lasts zero terms first xid id acceptor initiator token (turn ∷ front) back records tail rest stream more outcome count moment marked old new d = absurd (omega (arith, d.turns))
-opens-on setup width lasts (suc left) terms first xid id acceptor initiator token (turn ∷ front) back [] tail rest stream more outcome count moment marked old new d = absurd d.cuts
-opens-on setup width lasts (suc left) terms first xid id acceptor initiator token (turn ∷ []) back (cut ∷ records) tail rest stream more outcome count moment marked old new d =
-    opens-last setup width lasts left terms first xid id acceptor initiator token turn back cut records tail rest stream more outcome count moment marked old new d
-opens-on setup width lasts (suc left) terms first xid id acceptor initiator token (turn ∷ next ∷ later) back (cut ∷ records) tail rest stream more outcome count moment marked old new d =
-    opens-more setup width lasts left terms first xid id acceptor initiator token turn next later back cut records tail rest stream more outcome count moment marked old new
-    (λ own acceptor' initiator' token' stream' marked' old' d'. opens-on setup width lasts left terms first (xid + 1) (Some own) acceptor' initiator' token' (next ∷ later) back records tail rest stream' more outcome count moment marked' old' new d') d
+pub opens-on : (setup : AcceptSetup) (serves : Server) (lasts left : ℕ) (terms : Terms) (first xid : ℕ) (id : Option ℕ) (acceptor : AcceptEnd) (initiator : EndSays) (token : List ℕ) (front back : List Turn) (records : List Fragments) (tail rest stream more : List ℕ) (outcome : Outcome) (count moment : ℕ) (marked : Bool) (old new : BookOf)
+    → Due setup serves lasts left terms first xid id acceptor initiator token front [] back records tail rest stream more outcome count moment marked old new
+    → Done setup serves lasts id outcome marked (creates left terms first xid (proc_for id) (record { end = initiator; handle = handle_for id; token = token }) stream) front back tail more count moment old new
+opens-on setup serves lasts left terms first xid id acceptor initiator token [] back records tail rest stream more outcome count moment marked old new d = absurd d.completes
+opens-on setup serves lasts zero terms first xid id acceptor initiator token (turn ∷ front) back records tail rest stream more outcome count moment marked old new d = absurd (omega (arith, d.turns))
+opens-on setup serves lasts (suc left) terms first xid id acceptor initiator token (turn ∷ front) back [] tail rest stream more outcome count moment marked old new d = absurd d.cuts
+opens-on setup serves lasts (suc left) terms first xid id acceptor initiator token (turn ∷ []) back (cut ∷ records) tail rest stream more outcome count moment marked old new d =
+    opens-last setup serves lasts left terms first xid id acceptor initiator token turn back cut records tail rest stream more outcome count moment marked old new d
+opens-on setup serves lasts (suc left) terms first xid id acceptor initiator token (turn ∷ next ∷ later) back (cut ∷ records) tail rest stream more outcome count moment marked old new d =
+    opens-more setup serves lasts left terms first xid id acceptor initiator token turn next later back cut records tail rest stream more outcome count moment marked old new
+    (λ own acceptor' initiator' token' stream' marked' old' d'. opens-on setup serves lasts left terms first (xid + 1) (Some own) acceptor' initiator' token' (next ∷ later) back records tail rest stream' more outcome count moment marked' old' new d') d

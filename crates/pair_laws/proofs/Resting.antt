@@ -27,8 +27,8 @@ use Rattle.accept_core.specs.declared.entry.Entry.TheVariants.{Call}
 use Rattle.gss_client.specs.Conferring.{DueCall}
 use Rattle.pair_laws.specs.Opening.{HasPlaces}
 use Rattle.pair_laws.specs.Resting.{IsBefore, RestsAt, RestGives, MarksAt, HoldsOne, IsBy}
-use Rattle.pair_laws.specs.Rows.{history_after, greatest_after, RowLeaves, answers_of}
-use Rattle.pair_laws.specs.Running.{Turn}
+use Rattle.pair_laws.specs.Rows.{history_after, greatest_after, RowLeaves}
+use Rattle.pair_laws.specs.Running.{Turn, answers_of}
 
 -- ---- the table
 

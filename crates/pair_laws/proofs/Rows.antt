@@ -1,6 +1,8 @@
 -- Records that were answered one after the other are turns in a row, and a session in a row is served.
 use Rattle.std.proofs.Common.{◌≡◌, ◌⊎◌, inl, inr, ℕ, suc, ◌+◌, ◌<◌, ◌≤◌, refl, ap, sym, subst, ◌∙◌, arith, lit<, List, [], ◌∷◌, ◌++◌, length, take, append_assoc}
 use Rattle.std.specs.List.{AllByRecursion, flat_map}
+use Rattle.sha1.specs.Sha1.{sha1}
+use Rattle.accept_core.specs.declared.entry.Entry.TheVariants.{Call}
 use Rattle.rpc_msgs.specs.Records.{Fragments, octets_in, frame, last_fragment, IsRecord, IsFront, IsTooLong, IsTooMany}
 use Rattle.rpc_msgs.specs.Reading.{First, nothing, short, long, many, whole, first_record}
 use Rattle.rpc_msgs.proofs.Readings.{first-none, of-frame, of-too-long, of-too-many, of-torn}
@@ -10,61 +12,61 @@ use Rattle.context_table.specs.Places.{slot_at}
 use Rattle.spnego_core.specs.declared.accept_end.AcceptEnd.{AcceptEnd}
 use Rattle.spnego_core.specs.declared.outcome.Outcome.{Outcome}
 use Rattle.accept_book.specs.Booking.{BookOf, NotesMoment}
-use Rattle.accept_core.specs.History.{standing, numbers, posts}
-use Rattle.accept_book.specs.Served.{result_of}
+use Rattle.accept_core.specs.History.{standing, numbers}
 use Rattle.accept_book.specs.RecordShown.{KeptAnswers, Asked}
 use Rattle.accept_core.specs.Replays.{Accepting}
 use Rattle.accept_book.specs.declared.book_answer.Lease.{Lease}
 use Rattle.accept_core.specs.declared.entry.Entry.{Entry}
+use Rattle.accept_book.specs.declared.book_answer.Admitted.{Admitted}
 use Rattle.gss_client.specs.declared.terms.Terms.{Terms}
-use Rattle.gss_server.specs.Asking.{Asking, BookAnswers}
+use Rattle.gss_server.specs.Asking.{Asking}
 use Rattle.gss_server.specs.Connections.{octets_of, written_for, asked_for, asked_in}
 use Rattle.gss_server.specs.Hearing.{kept_answers}
 use Rattle.gss_server.specs.declared.answer.Kept.{Kept}
 use Rattle.gss_client.specs.Conferring.{DueCall}
+use Rattle.pair_laws.specs.Answering.{Server, AnswersBy}
 use Rattle.pair_laws.specs.Conversing.{IsWithin}
-use Rattle.pair_laws.specs.Running.{Turn, sent_in, IsServed}
-use Rattle.pair_laws.specs.Rows.{IsTurn, InRow, AreAnswered, AreCuts, AreTurns, IsCutAt, IsNoRecord, IsRow, history_after, greatest_after, posts_with, results_by, RowLeaves, RowRuns}
-use Rattle.pair_laws.specs.Sessions.{results_in}
-use Rattle.pair_laws.proofs.Sessions.{Serving, WereTurns, run-all}
+use Rattle.pair_laws.specs.Running.{Turn, sent_in, results_in, IsServed}
+use Rattle.pair_laws.specs.Rows.{IsTurn, InRow, AreAnswered, AreCuts, AreTurns, IsCutAt, IsNoRecord, IsRow, history_after, greatest_after, results_by, RowLeaves, RowRuns}
+use Rattle.pair_laws.proofs.Sessions.{Wording, WereTurns, run-all}
 
 -- ---- a chain of questions, cut
 
-record Cut (old : BookOf) (front back : List Asked) (new : BookOf) : Type 0 where
+record Cut (serves : Server) (old : BookOf) (front back : List (Asked Admitted)) (new : BookOf) : Type 0 where
   middle : BookOf
-  before : Asking BookAnswers old front middle
-  behind : Asking BookAnswers middle back new
+  before : Asking (AnswersBy serves) old front middle
+  behind : Asking (AnswersBy serves) middle back new
 
-asking-cut : (front back : List Asked) (old new : BookOf) → Asking BookAnswers old (front ++ back) new → Cut old front back new
-asking-cut [] back old new a = record { middle = old; before = refl; behind = a }
-asking-cut (one ∷ front) back old new a =
-    let c = asking-cut front back a.0 new a.2 in
+asking-cut : (serves : Server) (front back : List (Asked Admitted)) (old new : BookOf) → Asking (AnswersBy serves) old (front ++ back) new → Cut serves old front back new
+asking-cut serves [] back old new a = record { middle = old; before = refl; behind = a }
+asking-cut serves (one ∷ front) back old new a =
+    let c = asking-cut serves front back a.0 new a.2 in
     record { middle = c.middle; before = (a.0, a.1, c.before); behind = c.behind }
 
-pub row-cut : (width lasts : ℕ) (old : BookOf) (front back : List Turn) (new : BookOf) → InRow width lasts old (front ++ back) new → IsCutAt width lasts old front back new
-row-cut width lasts old [] back new r = record { middle = old; before = refl; behind = r }
-row-cut width lasts old (turn ∷ front) back new r =
-    let c = row-cut width lasts turn.after front back new r.2 in
+pub row-cut : (serves : Server) (lasts : ℕ) (old : BookOf) (front back : List Turn) (new : BookOf) → InRow serves lasts old (front ++ back) new → IsCutAt serves lasts old front back new
+row-cut serves lasts old [] back new r = record { middle = old; before = refl; behind = r }
+row-cut serves lasts old (turn ∷ front) back new r =
+    let c = row-cut serves lasts turn.after front back new r.2 in
     record { middle = c.middle; before = (r.0, r.1, c.before); behind = c.behind }
 
 -- ---- records that were answered
 
-pub answered-turns : (width lasts : ℕ) (records : List Fragments) (answers : List Kept) (old new : BookOf) → AreAnswered width lasts records answers old new → AreTurns width lasts records answers old new
-answered-turns width lasts [] [] old new a = record { turns = []; row = a.asked; cuts = tt; kept = refl; replies = refl }
-answered-turns width lasts [] (one ∷ answers) old new a = absurd (omega (arith, a.counted))
-answered-turns width lasts (cut ∷ records) [] old new a = absurd (omega (arith, a.counted))
-answered-turns width lasts (cut ∷ records) (one ∷ answers) old new a =
-    let c = asking-cut (asked_for width (octets_in cut) one) (asked_in width records answers) old new a.asked in
+pub answered-turns : (serves : Server) (lasts : ℕ) (records : List Fragments) (answers : List Kept) (old new : BookOf) → AreAnswered serves lasts records answers old new → AreTurns serves lasts records answers old new
+answered-turns serves lasts [] [] old new a = record { turns = []; row = a.asked; cuts = tt; kept = refl; replies = refl }
+answered-turns serves lasts [] (one ∷ answers) old new a = absurd (omega (arith, a.counted))
+answered-turns serves lasts (cut ∷ records) [] old new a = absurd (omega (arith, a.counted))
+answered-turns serves lasts (cut ∷ records) (one ∷ answers) old new a =
+    let c = asking-cut serves (asked_for serves.serving (octets_in cut) one) (asked_in serves.serving records answers) old new a.asked in
     let counted : suc (length records) ≡ suc (length answers) = a.counted in
-    let r = answered-turns width lasts records answers c.middle new (record { each = a.each.1; counted = omega (arith, counted); exact = a.exact.1; decided = a.decided.1; asked = c.behind; kept = a.kept.1 }) in
+    let r = answered-turns serves lasts records answers c.middle new (record { each = a.each.1; counted = omega (arith, counted); exact = a.exact.1; decided = a.decided.1; asked = c.behind; kept = a.kept.1 }) in
     let turn : Turn = record { octets = octets_in cut; kept = kept_answers one; before = old; after = c.middle } in
-    let is : IsTurn width lasts turn = record { within = a.each.0.size; decided = a.decided.0; asked = c.before; lasting = a.kept.0.lasting; drawn = a.exact.0.1; octets = a.kept.0.octets } in
+    let is : IsTurn serves lasts turn = record { within = a.each.0.size; decided = a.decided.0.0; asked = c.before; lasting = a.kept.0.lasting; drawn = a.exact.0.1; octets = a.kept.0.octets } in
     record {
       turns = turn ∷ r.turns;
       row = (refl, is, r.row);
       cuts = (a.each.0, refl, r.cuts);
       kept = ap (λ (ks : List KeptAnswers). kept_answers one ∷ ks) r.kept;
-      replies = ap (λ (os : List ℕ). written_for width (octets_in cut) one ++ os) r.replies;
+      replies = ap (λ (os : List ℕ). written_for serves.serving (octets_in cut) one ++ os) r.replies;
     }
 
 -- ---- a stream of calls
@@ -140,16 +142,16 @@ reads calls (cut ∷ records) [] rest few cuts none e = absurd cuts
 -- ---- a session in a row
 
 -- the turns are a row from a book whose log has a place for each call that is left, and for the end
-record RowFrom (width lasts : ℕ) (new : BookOf) (left : ℕ) (core : Accepting AcceptEnd Outcome) (turns : List Turn) : Type 0 where
+record RowFrom (serves : Server) (lasts : ℕ) (new : BookOf) (left : ℕ) (core : Accepting AcceptEnd Outcome) (turns : List Turn) : Type 0 where
   book : BookOf
   is : book.core ≡ core
-  row : InRow width lasts book turns new
+  row : InRow serves lasts book turns new
   room : length book.core.history + left < book.core.limit
   wide : 0 < book.core.width
 
-row-served : (width : ℕ) (lease : Lease) (new : BookOf) (left : ℕ) (core : Accepting AcceptEnd Outcome) (turn : Turn) (turns : List Turn) → RowFrom width lease.ends new left core (turn ∷ turns) → IsServed width lease core turn
-row-served width lease new left core turn turns w =
-    let t : IsTurn width lease.ends turn = w.row.1 in
+row-served : (serves : Server) (lease : Lease) (new : BookOf) (left : ℕ) (core : Accepting AcceptEnd Outcome) (turn : Turn) (turns : List Turn) → RowFrom serves lease.ends new left core (turn ∷ turns) → IsServed serves lease core turn
+row-served serves lease new left core turn turns w =
+    let t : IsTurn serves lease.ends turn = w.row.1 in
     let same : turn.before.core ≡ core = ap (λ (b : BookOf). b.core) w.row.0 ∙ w.is in
     let room : length w.book.core.history < w.book.core.limit = omega (arith, w.room) in
     record {
@@ -165,9 +167,9 @@ row-served width lease new left core turn turns w =
       octets = t.octets;
     }
 
-row-later : (width : ℕ) (lease : Lease) (new : BookOf) (left : ℕ) (core : Accepting AcceptEnd Outcome) (turn : Turn) (turns : List Turn) → RowFrom width lease.ends new (suc left) core (turn ∷ turns) → (entry : Entry) → turn.after.core.history ≡ entry ∷ turn.before.core.history → NotesMoment turn.before turn.after turn.kept.now
-    → RowFrom width lease.ends new left turn.after.core turns
-row-later width lease new left core turn turns w entry history notes =
+row-later : (serves : Server) (lease : Lease) (new : BookOf) (left : ℕ) (core : Accepting AcceptEnd Outcome) (turn : Turn) (turns : List Turn) → RowFrom serves lease.ends new (suc left) core (turn ∷ turns) → (entry : Entry) → turn.after.core.history ≡ entry ∷ turn.before.core.history → NotesMoment turn.before turn.after turn.kept.now
+    → RowFrom serves lease.ends new left turn.after.core turns
+row-later serves lease new left core turn turns w entry history notes =
     let before : length turn.before.core.history + suc left < turn.before.core.limit = subst (λ (b : BookOf). length b.core.history + suc left < b.core.limit) (sym w.row.0) w.room in
     let grown : length turn.after.core.history ≡ suc (length turn.before.core.history) = ap (λ (hs : List Entry). length hs) history in
     let wide : 0 < turn.before.core.width = subst (λ (b : BookOf). 0 < b.core.width) (sym w.row.0) w.wide in
@@ -179,12 +181,12 @@ row-later width lease new left core turn turns w entry history notes =
       wide = omega (arith, wide, notes.width);
     }
 
-by-row : (width : ℕ) (lease : Lease) (new : BookOf) → Serving width lease (RowFrom width lease.ends new)
-by-row width lease new = record { served = row-served width lease new; later = row-later width lease new }
+by-row : (serves : Server) (lease : Lease) (new : BookOf) → Wording serves lease (RowFrom serves lease.ends new)
+by-row serves lease new = record { served = row-served serves lease new; later = row-later serves lease new }
 
 -- what the turns leave
-last-leaves : (lease : Lease) (number : ℕ) (turn : Turn) → WereTurns lease [] number (turn ∷ []) → RowLeaves lease.id number [] (turn ∷ []) turn.before turn.after
-last-leaves lease number turn e = record {
+last-leaves : (serves : Server) (lease : Lease) (number : ℕ) (turn : Turn) → WereTurns serves lease [] number (turn ∷ []) → RowLeaves lease.id number [] (turn ∷ []) turn.before turn.after
+last-leaves serves lease number turn e = record {
   history = e.history;
   gone = e.gone;
   others = e.others;
@@ -195,15 +197,15 @@ last-leaves lease number turn e = record {
   greatest = e.notes.greatest;
 }
 
-leaves-on : (width lasts : ℕ) (lease : Lease) (due : List DueCall) (number : ℕ) (turns : List Turn) (old new : BookOf) → InRow width lasts old turns new → WereTurns lease due number turns → RowLeaves lease.id number due turns old new
-leaves-on width lasts lease [] number [] old new r w = absurd w
-leaves-on width lasts lease [] number (turn ∷ []) old new r w =
-    subst (λ (b : BookOf). RowLeaves lease.id number [] (turn ∷ []) b new) r.0 (subst (λ (b : BookOf). RowLeaves lease.id number [] (turn ∷ []) turn.before b) (sym r.2) (last-leaves lease number turn w))
-leaves-on width lasts lease [] number (turn ∷ next ∷ turns) old new r w = absurd w
-leaves-on width lasts lease (call ∷ later) number [] old new r w = absurd w
-leaves-on width lasts lease (call ∷ later) number (turn ∷ turns) old new r w =
+leaves-on : (serves : Server) (lasts : ℕ) (lease : Lease) (due : List DueCall) (number : ℕ) (turns : List Turn) (old new : BookOf) → InRow serves lasts old turns new → WereTurns serves lease due number turns → RowLeaves lease.id number due turns old new
+leaves-on serves lasts lease [] number [] old new r w = absurd w
+leaves-on serves lasts lease [] number (turn ∷ []) old new r w =
+    subst (λ (b : BookOf). RowLeaves lease.id number [] (turn ∷ []) b new) r.0 (subst (λ (b : BookOf). RowLeaves lease.id number [] (turn ∷ []) turn.before b) (sym r.2) (last-leaves serves lease number turn w))
+leaves-on serves lasts lease [] number (turn ∷ next ∷ turns) old new r w = absurd w
+leaves-on serves lasts lease (call ∷ later) number [] old new r w = absurd w
+leaves-on serves lasts lease (call ∷ later) number (turn ∷ turns) old new r w =
     let t = w.0 in
-    let l = leaves-on width lasts lease later (number + 1) turns turn.after new r.2 w.1 in
+    let l = leaves-on serves lasts lease later (number + 1) turns turn.after new r.2 w.1 in
     let all : RowLeaves lease.id number (call ∷ later) (turn ∷ turns) turn.before new = record {
       history = l.history ∙ ap (λ (hs : List Entry). history_after lease.id (number + 1) later hs) t.history;
       gone = l.gone;
@@ -220,26 +222,25 @@ leaves-on width lasts lease (call ∷ later) number (turn ∷ turns) old new r w
     } in
     subst (λ (b : BookOf). RowLeaves lease.id number (call ∷ later) (turn ∷ turns) b new) r.0 all
 
--- nobody else posts meanwhile
-results-on : (width lasts : ℕ) (lease : Lease) (name : List ℕ) (due : List DueCall) (number : ℕ) (turns : List Turn) (old new : BookOf) → InRow width lasts old turns new → WereTurns lease due number turns → results_in due name turns ≡ results_by (posts old.core.history) name due
-results-on width lasts lease name [] number turns old new r w = refl
-results-on width lasts lease name (call ∷ later) number [] old new r w = absurd w
-results-on width lasts lease name (call ∷ later) number (turn ∷ turns) old new r w =
-    let t = w.0 in
+-- nobody else asks the book anything meanwhile
+results-on : (serves : Server) (lasts : ℕ) (lease : Lease) (name : List ℕ) (due : List DueCall) (number : ℕ) (turns : List Turn) (old new : BookOf) → InRow serves lasts old turns new → WereTurns serves lease due number turns → results_in serves due name turns ≡ results_by serves name lease.id number due old.core.history
+results-on serves lasts lease name [] number turns old new r w = refl
+results-on serves lasts lease name (call ∷ later) number [] old new r w = absurd w
+results-on serves lasts lease name (call ∷ later) number (turn ∷ turns) old new r w =
     let p : ℕ = call.query.number in
-    let count : posts turn.after.core.history ≡ posts_with (posts old.core.history) call = ap (λ (hs : List Entry). posts hs) t.history ∙ ap (λ (b : BookOf). posts_with (posts b.core.history) call) r.0 in
-    let others : results_in later name turns ≡ results_by (posts_with (posts old.core.history) call) name later =
-    results-on width lasts lease name later (number + 1) turns turn.after new r.2 w.1 ∙ ap (λ (n : ℕ). results_by n name later) count in
-    ap (λ (n : ℕ). result_of p call.args name n ∷ results_in later name turns) count ∙ ap (λ (rs : List (List ℕ)). result_of p call.args name (posts_with (posts old.core.history) call) ∷ rs) others
+    let is : turn.after.core.history ≡ Call lease.id number p (sha1 call.args) ∷ old.core.history = w.0.history ∙ ap (λ (b : BookOf). Call lease.id number p (sha1 call.args) ∷ b.core.history) r.0 in
+    let others : results_in serves later name turns ≡ results_by serves name lease.id (number + 1) later (Call lease.id number p (sha1 call.args) ∷ old.core.history) =
+    results-on serves lasts lease name later (number + 1) turns turn.after new r.2 w.1 ∙ ap (λ (h : List Entry). results_by serves name lease.id (number + 1) later h) is in
+    ap (λ (h : List Entry). serves.results name p call.args h ∷ results_in serves later name turns) is ∙ ap (λ (rs : List (List ℕ)). serves.results name p call.args (Call lease.id number p (sha1 call.args) ∷ old.core.history) ∷ rs) others
 
-pub row-runs : (keys keys' : SealKeys) (width : ℕ) (lease : Lease) (terms : Terms) (first xid : ℕ) (due : List DueCall) (draws stream : List ℕ) (old new : BookOf) (turns : List Turn) (rest : List ℕ) → ForSealing keys lease.outcome.key 22 → ForSealing keys' lease.outcome.key 24
-    → IsRow width lease terms first xid due draws stream old new turns rest → RowRuns width lease first due turns old new
-row-runs keys keys' width lease terms first xid due draws stream old new turns rest for for' r =
-    let word : RowFrom width lease.ends new (length due) old.core turns = record { book = old; is = refl; row = r.row; room = r.room; wide = r.live.wide } in
-    let a = run-all keys keys' width lease (RowFrom width lease.ends new) (by-row width lease new) terms for for' r.id r.name due first xid draws stream old.core turns rest r.planned r.xid_fits word r.live.whole r.live.called r.written r.heard in
+pub row-runs : (keys keys' : SealKeys) (serves : Server) (lease : Lease) (terms : Terms) (first xid : ℕ) (due : List DueCall) (draws stream : List ℕ) (old new : BookOf) (turns : List Turn) (rest : List ℕ) → ForSealing keys lease.outcome.key 22 → ForSealing keys' lease.outcome.key 24
+    → IsRow serves lease terms first xid due draws stream old new turns rest → RowRuns serves lease first due turns old new
+row-runs keys keys' serves lease terms first xid due draws stream old new turns rest for for' r =
+    let word : RowFrom serves lease.ends new (length due) old.core turns = record { book = old; is = refl; row = r.row; room = r.room; wide = r.live.wide } in
+    let a = run-all keys keys' serves lease (RowFrom serves lease.ends new) (by-row serves lease new) terms for for' r.id due first xid draws stream old.core turns rest r.planned r.succeed r.xid_fits word r.live.whole r.live.called r.written r.heard in
     record {
-      served = a.serves;
-      results = subst (λ (n : ℕ). results_in (take n due) lease.outcome.initiator turns ≡ results_by (posts old.core.history) lease.outcome.initiator (take n due)) a.made_is
-          (results-on width lease.ends lease lease.outcome.initiator (take a.made due) first turns old new r.row a.were);
-      leaves = subst (λ (n : ℕ). RowLeaves lease.id first (take n due) turns old new) a.made_is (leaves-on width lease.ends lease (take a.made due) first turns old new r.row a.were);
+      served = a.served;
+      results = subst (λ (n : ℕ). results_in serves (take n due) lease.outcome.initiator turns ≡ results_by serves lease.outcome.initiator lease.id first (take n due) old.core.history) a.made_is
+          (results-on serves lease.ends lease lease.outcome.initiator (take a.made due) first turns old new r.row a.were);
+      leaves = subst (λ (n : ℕ). RowLeaves lease.id first (take n due) turns old new) a.made_is (leaves-on serves lease.ends lease (take a.made due) first turns old new r.row a.were);
     }

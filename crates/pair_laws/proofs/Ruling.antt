@@ -1,5 +1,7 @@
 -- A record of a creation is answered by the step of its token.
-use Rattle.std.proofs.Common.{◌≡◌, ℕ, ◌<◌, ◌≤◌, ◌^◌, lit<, lit≤, refl, ap, sym, ◌∙◌, List, [], ◌∷◌, length, take, Option, None, Some, Ok, append-nil, arith}
+use Rattle.std.proofs.Common.{◌≡◌, ℕ, ◌<◌, ◌≤◌, ◌^◌, lit<, lit≤, true, refl, ap, sym, ◌∙◌, List, [], ◌∷◌, length, take, Option, None, Some, Ok, append-nil, arith}
+use Rattle.std.specs.Prelude.{◌==◌}
+use Rattle.std.proofs.lemmas.Bool.{eq-eqb}
 use Rattle.std.proofs.lemmas.Nat.{from_be_bytes-to_be_bytes_8}
 use Rattle.rpc_msgs.specs.Words.{opaque}
 use Rattle.rpc_msgs.specs.Xdr.{opaque_at}
@@ -11,15 +13,19 @@ use Rattle.rpcsec_msgs.specs.Cred.{CredValue, cred_octets, cred_at}
 use Rattle.rpcsec_msgs.proofs.BodyLaws.{end-only}
 use Rattle.rpcsec_msgs.proofs.CredLaws.{cred-only}
 use Rattle.accept_book.specs.Served.{one_opaque}
-use Rattle.accept_book.specs.RecordShown.{KeptAnswers, AskedStep, asking, Shown, Ruling, handle_of, handle_id}
+use Rattle.accept_book.specs.RecordShown.{KeptAnswers, Asked, AskedStep, asking, Shown, Ruling, handle_of, handle_id}
 use Rattle.accept_book.specs.RecordRule.{stepped, ask_step, record_ruling, call_ruling, creation_ruling}
+use Rattle.accept_book.specs.declared.book_answer.Admitted.{Admitted}
 use Rattle.accept_book.specs.declared.book_answer.Negotiated.{Negotiated}
 use Rattle.rpcsec_bodies.specs.declared.service.Service.{Service}
 use Rattle.gss_client.specs.declared.terms.Terms.{Terms}
 use Rattle.rpcsec_bodies.specs.declared.service.Service.TheVariants as services
-use Rattle.rpc_msgs.specs.declared.numbers.TheConstants.{PROGRAM, VERSION, NULL}
+use Rattle.rpc_msgs.specs.declared.numbers.TheConstants.{NULL}
 use Rattle.rpcsec_bodies.specs.Service.{number_of}
 use Rattle.gss_client.specs.Calling.{creation_cred, creation_call}
+use Rattle.rpc_program.specs.Programs.{ProgramSays}
+use Rattle.rpc_program.specs.declared.program.ProgramId.{ProgramId}
+use Rattle.pair_laws.specs.Answering.{Server}
 use Rattle.pair_laws.specs.HonestCalls.{IsToServer}
 use Rattle.gss_client.proofs.CallLengths.{cred-fits, call-fits}
 
@@ -53,8 +59,8 @@ abbrev cred_of : Terms → Option ℕ → CredValue
 cred_of terms id = creation_cred terms (proc_for id) (handle_for id)
 
 -- the call that is heard
-abbrev pub creation_value : Terms → ℕ → Option ℕ → List ℕ → CallValue
-creation_value terms xid id token = secure_call xid PROGRAM VERSION NULL (cred_octets (cred_of terms id)) (record { flavour = 0; body = [] }) (opaque token)
+abbrev pub creation_value : ProgramId → Terms → ℕ → Option ℕ → List ℕ → CallValue
+creation_value program terms xid id token = secure_call xid program.number program.version NULL (cred_octets (cred_of terms id)) (record { flavour = 0; body = [] }) (opaque token)
 
 handle-length : (id : ℕ) → length (handle_of id) ≡ 8
 handle-length id = refl
@@ -67,17 +73,17 @@ short-cred : (terms : Terms) (id : Option ℕ) → length (cred_octets (cred_of 
 short-cred terms id = cred-fits (cred_of terms id) (handle-few id)
 
 -- the call of the server's program
-spelled : (terms : Terms) (xid : ℕ) (id : Option ℕ) (token : List ℕ) → IsToServer terms → creation_call terms xid (proc_for id) (handle_for id) token ≡ call_octets (creation_value terms xid id token)
+spelled : (program : ProgramSays) (terms : Terms) (xid : ℕ) (id : Option ℕ) (token : List ℕ) → IsToServer program terms → creation_call terms xid (proc_for id) (handle_for id) token ≡ call_octets (creation_value program.id terms xid id token)
 unfolding creation_call
-spelled terms xid id token called =
-    ap (λ (program : ℕ). call_octets (secure_call xid program terms.version NULL (cred_octets (cred_of terms id)) (record { flavour = 0; body = [] }) (opaque token))) called.program
-    ∙ ap (λ (version : ℕ). call_octets (secure_call xid PROGRAM version NULL (cred_octets (cred_of terms id)) (record { flavour = 0; body = [] }) (opaque token))) called.version
+spelled program terms xid id token called =
+    ap (λ (n : ℕ). call_octets (secure_call xid n terms.version NULL (cred_octets (cred_of terms id)) (record { flavour = 0; body = [] }) (opaque token))) called.number
+    ∙ ap (λ (version : ℕ). call_octets (secure_call xid program.id.number version NULL (cred_octets (cred_of terms id)) (record { flavour = 0; body = [] }) (opaque token))) called.version
 
-reads : (terms : Terms) (xid : ℕ) (id : Option ℕ) (token : List ℕ) → IsToServer terms → xid < 2 ^ 32 → call_at (creation_call terms xid (proc_for id) (handle_for id) token) ≡ Ok (creation_value terms xid id token)
-reads terms xid id token called fits = ap call_at (spelled terms xid id token called) ∙ call-only (creation_value terms xid id token) (record {
+reads : (program : ProgramSays) (terms : Terms) (xid : ℕ) (id : Option ℕ) (token : List ℕ) → IsToServer program terms → xid < 2 ^ 32 → call_at (creation_call terms xid (proc_for id) (handle_for id) token) ≡ Ok (creation_value program.id terms xid id token)
+reads program terms xid id token called fits = ap call_at (spelled program terms xid id token called) ∙ call-only (creation_value program.id terms xid id token) (record {
   xid = fits;
-  program = lit< tt;
-  version = lit< tt;
+  program = called.fits.number;
+  version = called.fits.version;
   procedure = lit< tt;
   cred = record { flavour = lit< tt; body = short-cred terms id };
   verf = record { flavour = lit< tt; body = lit≤ tt };
@@ -88,18 +94,21 @@ cred-is : (terms : Terms) (id : Option ℕ) → cred_at (cred_octets (cred_of te
 cred-is terms None = cred-only (creation_cred terms 1 []) (record { proc = lit≤ tt; seq = lit< tt; service = few-services terms.service; served = refl; context = lit≤ tt })
 cred-is terms (Some id) = cred-only (creation_cred terms 2 (handle_of id)) (record { proc = lit≤ tt; seq = lit< tt; service = few-services terms.service; served = refl; context = omega (arith, handle-length id) })
 
-abbrev pub creation_shown : Terms → ℕ → Option ℕ → List ℕ → KeptAnswers → ℕ → Shown
-creation_shown terms xid id token kept width = record { record_octets = creation_call terms xid (proc_for id) (handle_for id) token; call = creation_value terms xid id token; now = kept.now; draws = kept.draws; width = width }
+abbrev pub creation_shown : Terms → ℕ → Option ℕ → List ℕ → KeptAnswers → Server → Shown
+creation_shown terms xid id token kept serves = record { record_octets = creation_call terms xid (proc_for id) (handle_for id) token; call = creation_value serves.serving.program.id terms xid id token; now = kept.now; draws = kept.draws; serves = serves.serving }
 
 id-again : (id : ℕ) → id < 2 ^ 64 → handle_id (handle_of id) ≡ Some id
 id-again id h = ap Some (from_be_bytes-to_be_bytes_8 id h)
 
+same-number : (n : ℕ) → (n == n) ≡ true
+same-number n = eq-eqb n n refl
+
 -- the record asks for the step
-pub asks : (terms : Terms) (xid : ℕ) (id : Option ℕ) (token : List ℕ) (kept : KeptAnswers) (width : ℕ) → IsToServer terms → xid < 2 ^ 32 → IsId id → length token ≤ 65536
-    → record_ruling (creation_call terms xid (proc_for id) (handle_for id) token) kept width ≡ ask_step (creation_shown terms xid id token kept width) id token kept.negotiated
+pub asks : (terms : Terms) (xid : ℕ) (id : Option ℕ) (token : List ℕ) (kept : KeptAnswers) (serves : Server) → IsToServer serves.serving.program terms → xid < 2 ^ 32 → IsId id → length token ≤ 65536
+    → record_ruling (creation_call terms xid (proc_for id) (handle_for id) token) kept serves.serving ≡ ask_step (creation_shown terms xid id token kept serves) id token kept.negotiated
 unfolding record_ruling call_ruling creation_ruling
-asks terms xid None token kept width called fits is few = rw (reads terms xid None token called fits) (rw (cred-is terms None) (rw (one-token token few) refl))
-asks terms xid (Some id) token kept width called fits is few = rw (reads terms xid (Some id) token called fits) (rw (cred-is terms (Some id)) (rw (one-token token few, id-again id is) refl))
+asks terms xid None token kept serves called fits is few = rw (reads serves.serving.program terms xid None token called fits) (rw (cred-is terms None) (rw (same-number serves.serving.program.id.number, same-number serves.serving.program.id.version, one-token token few) refl))
+asks terms xid (Some id) token kept serves called fits is few = rw (reads serves.serving.program terms xid (Some id) token called fits) (rw (cred-is terms (Some id)) (rw (same-number serves.serving.program.id.number, same-number serves.serving.program.id.version, one-token token few, id-again id is) refl))
 
 -- the one question of a record, and its answer
 pub record IsAsked (id : Option ℕ) (token : List ℕ) (kept : KeptAnswers) (other : Option ℕ) (others : List ℕ) (answer : Negotiated) (ruling : Ruling) (s : Shown) : Type 0 where
@@ -112,7 +121,7 @@ was-asked : (s : Shown) (id other : Option ℕ) (token others : List ℕ) (kept 
     → (ask_step s id token found).asked ≡ AskedStep other others s.now (take 66 s.draws) answer ∷ [] → IsAsked id token kept other others answer (ask_step s id token found) s
 was-asked s id other token others kept None answer e asked = absurd cc
 was-asked s id other token others kept (Some found) answer e asked =
-    let first : AskedStep id token s.now (take 66 s.draws) found ≡ AskedStep other others s.now (take 66 s.draws) answer = cc in
+    let first : ◌≡◌ {A = Asked Admitted} (AskedStep id token s.now (take 66 s.draws) found) (AskedStep other others s.now (take 66 s.draws) answer) = cc in
     let same : found ≡ answer = cc in
     record {
       id_is = cc;
@@ -121,12 +130,12 @@ was-asked s id other token others kept (Some found) answer e asked =
       ruled = ap (λ (n : Negotiated). asking (AskedStep id token s.now (take 66 s.draws) n) (stepped s n.answer)) same;
     }
 
-pub asked-step : (terms : Terms) (xid : ℕ) (id other : Option ℕ) (token others : List ℕ) (kept : KeptAnswers) (width : ℕ) (answer : Negotiated) → IsToServer terms → xid < 2 ^ 32 → IsId id → length token ≤ 65536
-    → (record_ruling (creation_call terms xid (proc_for id) (handle_for id) token) kept width).asked ≡ AskedStep other others kept.now (take 66 kept.draws) answer ∷ []
-    → IsAsked id token kept other others answer (record_ruling (creation_call terms xid (proc_for id) (handle_for id) token) kept width) (creation_shown terms xid id token kept width)
-asked-step terms xid id other token others kept width answer called fits is few asked =
-    let a = asks terms xid id token kept width called fits is few in
-    let w = was-asked (creation_shown terms xid id token kept width) id other token others kept kept.negotiated answer refl (sym (ap (λ (r : Ruling). r.asked) a) ∙ asked) in
+pub asked-step : (terms : Terms) (xid : ℕ) (id other : Option ℕ) (token others : List ℕ) (kept : KeptAnswers) (serves : Server) (answer : Negotiated) → IsToServer serves.serving.program terms → xid < 2 ^ 32 → IsId id → length token ≤ 65536
+    → (record_ruling (creation_call terms xid (proc_for id) (handle_for id) token) kept serves.serving).asked ≡ AskedStep other others kept.now (take 66 kept.draws) answer ∷ []
+    → IsAsked id token kept other others answer (record_ruling (creation_call terms xid (proc_for id) (handle_for id) token) kept serves.serving) (creation_shown terms xid id token kept serves)
+asked-step terms xid id other token others kept serves answer called fits is few asked =
+    let a = asks terms xid id token kept serves called fits is few in
+    let w = was-asked (creation_shown terms xid id token kept serves) id other token others kept kept.negotiated answer refl (sym (ap (λ (r : Ruling). r.asked) a) ∙ asked) in
     record { id_is = w.id_is; token_is = w.token_is; is_kept = w.is_kept; ruled = a ∙ w.ruled }
 
 opaque-fits : (token : List ℕ) → length token ≤ 65536 → length (opaque token) ≤ 130000

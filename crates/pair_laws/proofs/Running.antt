@@ -7,8 +7,6 @@ use Rattle.krb_derive.specs.declared.sealing.SealKeys.{SealKeys}
 use Rattle.krb_derive.specs.Kept.{ForSealing}
 use Rattle.rpc_msgs.specs.Records.{last_fragment}
 use Rattle.spnego_core.specs.declared.setup.AcceptSetup.{AcceptSetup}
-use Rattle.accept_book.specs.Served.{result_of}
-use Rattle.accept_core.specs.History.{posts}
 use Rattle.accept_book.specs.declared.book_answer.Lease.{Lease}
 use Rattle.gss_client.specs.declared.conversation.Parting.TheVariants.{Spent, Foreign}
 use Rattle.gss_client.specs.Query.{QuerySays}
@@ -19,14 +17,16 @@ use Rattle.gss_client.specs.Conversation.{Conversed, conversed, behind, leaves, 
 use Rattle.gss_client.specs.Session.{SessionState}
 use Rattle.gss_client.specs.Talk.{created_from, calls, destroys}
 use Rattle.gss_client.specs.Talking.{Said}
+use Rattle.rpc_program.specs.Programs.{ProgramSays}
+use Rattle.pair_laws.specs.Answering.{Server}
 use Rattle.pair_laws.specs.Booked.{id_in}
 use Rattle.gss_client.specs.Conferring.{DueCall, confers, by_opening, talk_of, talk_behind}
 use Rattle.pair_laws.specs.Honest.{HonestExchange}
 use Rattle.pair_laws.specs.HonestCalls.{session_on}
 use Rattle.pair_laws.specs.Laws.{Completes}
 use Rattle.pair_laws.specs.Live.{lease_on}
-use Rattle.pair_laws.specs.Running.{Turn, sent_in, HonestRun, calls_made, parting_of, results_of, Logged, Runs}
-use Rattle.pair_laws.specs.Sessions.{IsProper, HonestSession, made_of, results_in, AreLogged}
+use Rattle.pair_laws.specs.Running.{Turn, sent_in, IsProper, HonestRun, Succeeds, results_in, calls_made, parting_of, Logged, Runs}
+use Rattle.pair_laws.specs.Sessions.{HonestSession, made_of, AreLogged}
 use Rattle.pair_laws.proofs.SessionParts.{few-made}
 use Rattle.pair_laws.proofs.Sessions.{session-runs}
 
@@ -56,34 +56,33 @@ equal-session start times call draws stream =
 
 -- ---- what comes of it
 
-same-results : (made : ℕ) (call : DueCall) (name : List ℕ) (turns : List Turn) → results_in (replicate made call) name turns ≡ results_of made call.query.number call.args name turns
-same-results zero call name turns = refl
-same-results (suc made) call name [] = refl
-same-results (suc made) call name (turn ∷ turns) = ap (λ (rs : List (List ℕ)). result_of call.query.number call.args name (posts turn.after.core.history) ∷ rs) (same-results made call name turns)
-
-same-logged : (width : ℕ) (lease : Lease) (made : ℕ) (call : DueCall) (number : ℕ) (turns : List Turn) → AreLogged width lease (replicate made call) number turns → Logged width lease call.query.number call.args made number turns
-same-logged width lease zero call number [] a = a
-same-logged width lease zero call number (last ∷ []) a = a
-same-logged width lease zero call number (turn ∷ next ∷ turns) a = a
-same-logged width lease (suc made) call number [] a = a
-same-logged width lease (suc made) call number (turn ∷ turns) a = (a.0, same-logged width lease made call (number + 1) turns a.1)
+same-logged : (serves : Server) (lease : Lease) (made : ℕ) (call : DueCall) (number : ℕ) (turns : List Turn) → AreLogged serves lease (replicate made call) number turns → Logged serves lease call.query.number call.args made number turns
+same-logged serves lease zero call number [] a = a
+same-logged serves lease zero call number (last ∷ []) a = a
+same-logged serves lease zero call number (turn ∷ next ∷ turns) a = a
+same-logged serves lease (suc made) call number [] a = a
+same-logged serves lease (suc made) call number (turn ∷ turns) a = (a.0, same-logged serves lease made call (number + 1) turns a.1)
 
 same-made : (first times : ℕ) (call : DueCall) → made_of first (replicate times call) ≡ replicate (calls_made first times) call
 same-made first times call =
     ap (λ (n : ℕ). take (calls_made first n) (replicate times call)) (length-replicate times call) ∙ take-replicate (calls_made first times) times call (few-made first times)
 
-every : (terms : Terms) (times : ℕ) (call : DueCall) → IsProper terms call → AllByRecursion (IsProper terms) (replicate times call)
-every terms zero call own = tt
-every terms (suc left) call own = (own, every terms left call own)
+every : (program : ProgramSays) (terms : Terms) (times : ℕ) (call : DueCall) → IsProper program terms call → AllByRecursion (IsProper program terms) (replicate times call)
+every program terms zero call own = tt
+every program terms (suc left) call own = (own, every program terms left call own)
 
-pub runs : (keys keys' : SealKeys) (setup : AcceptSetup) (width : ℕ) (start : StartSays) (stream : List ℕ) (x : HonestExchange setup width start stream) (c : Completes setup width start stream x) (times : ℕ) (query : QuerySays) (args draws : List ℕ) → ForSealing keys c.outcome.key 22 → ForSealing keys' c.outcome.key 24
-    → (r : HonestRun setup width start stream x c times query args draws) → Runs setup width start stream x c times query args draws r
-runs keys keys' setup width start stream x c times query args draws for for' r =
+all-succeed : (serves : Server) (name : List ℕ) (times : ℕ) (call : DueCall) → Succeeds serves name call → AllByRecursion (Succeeds serves name) (replicate times call)
+all-succeed serves name zero call one = tt
+all-succeed serves name (suc left) call one = (one, all-succeed serves name left call one)
+
+pub runs : (keys keys' : SealKeys) (setup : AcceptSetup) (serves : Server) (start : StartSays) (stream : List ℕ) (x : HonestExchange setup serves start stream) (c : Completes setup serves start stream x) (times : ℕ) (query : QuerySays) (args draws : List ℕ) → ForSealing keys c.outcome.key 22 → ForSealing keys' c.outcome.key 24
+    → (r : HonestRun setup serves start stream x c times query args draws) → Runs setup serves start stream x c times query args draws r
+runs keys keys' setup serves start stream x c times query args draws for for' r =
     let call : DueCall = record { query = query; args = args } in
     let due : List DueCall = replicate times call in
     let count : length due ≡ times = length-replicate times call in
     let lease : Lease = lease_on (id_in x.books) c.outcome c.lasts in
-    let h : HonestSession setup width start stream x c due draws = record {
+    let h : HonestSession setup serves start stream x c due draws = record {
       turns = r.turns;
       rest = r.rest;
       written = sym (ap (λ (v : Conversed). v.written) (equal-calls times call (session_on lease start.terms start.first (1 + length x.answers)) draws x.converses.rest)) ∙ r.written;
@@ -91,23 +90,22 @@ runs keys keys' setup width start stream x c times query args draws for for' r =
       served = r.served;
       unused = r.unused;
       planned = record {
-        called = x.called;
+        called = r.plan.called;
         first_fits = r.plan.first_fits;
-        each = every start.terms times call (record { asked = r.plan.asked; proper = r.plan.proper; protected = r.plan.protected; size = r.plan.size; octets = r.plan.args_octets });
+        each = every serves.serving.program start.terms times call r.plan.proper;
         octets = r.plan.octets;
         enough = subst (λ (n : ℕ). 16 * n ≤ length draws) (sym count) r.enough;
       };
-      name = r.name;
+      succeed = all-succeed serves c.outcome.initiator times call r.succeeds;
     } in
-    let a = session-runs keys keys' setup width start stream x c due draws for for' h in
+    let a = session-runs keys keys' setup serves start stream x c due draws for for' h in
     let made = same-made start.first times call in
     let wrote : List ℕ = flat_map last_fragment x.converses.records ++ flat_map sent_in r.turns in
-    let name : List ℕ = c.outcome.initiator in
     record {
       session = equal-session start times call draws stream
           ∙ (a.session
-          ∙ (ap (λ (n : ℕ). record { written = wrote; outcome = Some c.outcome; results = results_in (made_of start.first due) name r.turns; parting = parting_of start.first n; undrawn = drop (16 * calls_made start.first n) draws; rest = r.rest }) count
+          ∙ (ap (λ (n : ℕ). record { written = wrote; outcome = Some c.outcome; results = results_in serves (made_of start.first due) c.outcome.initiator r.turns; parting = parting_of start.first n; undrawn = drop (16 * calls_made start.first n) draws; rest = r.rest }) count
           ∙ ap (λ (rs : List (List ℕ)). record { written = wrote; outcome = Some c.outcome; results = rs; parting = parting_of start.first times; undrawn = drop (16 * calls_made start.first times) draws; rest = r.rest })
-          (ap (λ (ds : List DueCall). results_in ds name r.turns) made ∙ same-results (calls_made start.first times) call name r.turns)));
-      logged = same-logged width lease (calls_made start.first times) call start.first r.turns (subst (λ (ds : List DueCall). AreLogged width lease ds start.first r.turns) made a.logged);
+          (ap (λ (ds : List DueCall). results_in serves ds c.outcome.initiator r.turns) made)));
+      logged = same-logged serves lease (calls_made start.first times) call start.first r.turns (subst (λ (ds : List DueCall). AreLogged serves lease ds start.first r.turns) made a.logged);
     }

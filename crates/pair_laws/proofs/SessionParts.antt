@@ -1,9 +1,8 @@
 -- The parts of a session's run: how long its calls and results are, how many calls it makes, and what is written first.
-use Rattle.std.proofs.Common.{◌≡◌, ℕ, zero, suc, ◌+◌, ◌*◌, ◌<◌, ◌≤◌, ◌^◌, ◌/◌, lit<, Bool, true, false, refl, ap, sym, subst, ◌∙◌, arith, nat_le, List, [], ◌∷◌, ◌++◌, length, replicate, Option, Result, Ok, Err, append_assoc}
-use Rattle.std.specs.Prelude.{◌==◌, if◌then◌else◌}
+use Rattle.std.proofs.Common.{◌≡◌, ℕ, zero, suc, ◌+◌, ◌*◌, ◌<◌, ◌≤◌, ◌^◌, ◌/◌, Bool, true, false, refl, ap, sym, subst, ◌∙◌, arith, nat_le, List, [], ◌∷◌, ◌++◌, length, replicate, Option, Result, Ok, Err, append_assoc}
+use Rattle.std.specs.Prelude.{◌==◌}
 use Rattle.std.specs.Int.{byte_at, bytes_high_first}
 use Rattle.std.specs.List.{flat_map}
-use Rattle.std.specs.Str.{is_utf8}
 use Rattle.std.proofs.lemmas.Bool.Decides.{nat_tests}
 use Rattle.std.proofs.lemmas.List.{append-nil}
 use Rattle.std.proofs.lemmas.Nat.{mod_below}
@@ -11,11 +10,7 @@ use Rattle.aes_cts.proofs.Restored.{append-IsOctets, replicate-IsOctets}
 use Rattle.krb_tokens.proofs.Octets.{octets_nil, octets_cons}
 use Rattle.rpc_msgs.specs.Words.{word, opaque, padding_length}
 use Rattle.rpc_msgs.specs.Records.{last_fragment}
-use Rattle.rpc_msgs.specs.Xdr.{opaque_at}
-use Rattle.rpc_msgs.proofs.WordLengths.{length-word}
-use Rattle.rpc_msgs.proofs.XdrLaws.{opaque_law}
 use Rattle.rpcsec_msgs.specs.Cred.{CredValue, cred_octets}
-use Rattle.rpcsec_msgs.proofs.BodyLaws.{end-only}
 use Rattle.seq_window.specs.Marks.{greatest}
 use Rattle.context_table.specs.declared.slot.Slot.{Slot}
 use Rattle.context_table.specs.Places.{HasValue}
@@ -25,18 +20,14 @@ use Rattle.accept_book.specs.Booking.{BookOf}
 use Rattle.accept_core.specs.History.{numbers}
 use Rattle.accept_book.specs.Honest.{IsOctets}
 use Rattle.accept_core.specs.Replays.{Accepting}
-use Rattle.accept_book.specs.Served.{are_args, result_of}
 use Rattle.accept_book.specs.declared.book_answer.Lease.{Lease}
 use Rattle.gss_client.specs.declared.conversation.Parting.TheVariants.{Finished, Spent}
-use Rattle.gss_client.specs.declared.procedure.Procedure.{Procedure}
-use Rattle.gss_client.specs.declared.procedure.Procedure.TheVariants as procedures
 use Rattle.gss_client.specs.declared.refusal.ClientRefusal.{ClientRefusal}
 use Rattle.rpcsec_bodies.specs.declared.service.Service.{Service}
 use Rattle.rpcsec_bodies.specs.Service.{number_of}
 use Rattle.gss_client.specs.Calling.{own_end, header_of, verifier_of, signed_call, body_of, data_call, destroy_call}
 use Rattle.gss_client.specs.Conversation.{Conversed, goes_on}
 use Rattle.gss_client.specs.Judging.{result_taken, destroyed_in}
-use Rattle.gss_client.specs.Procedure.{procedure_number, opaque_alone, is_result, query_of}
 use Rattle.gss_client.specs.Query.{QuerySays}
 use Rattle.gss_client.specs.declared.terms.Terms.{Terms}
 use Rattle.gss_client.specs.Session.{SessionState}
@@ -47,7 +38,7 @@ use Rattle.rpcsec_bodies.proofs.Lengths.{mic-size, protected-fits}
 use Rattle.krb_tokens.specs.Mic.{mic_of}
 use Rattle.pair_laws.specs.HonestCalls.{session_on}
 use Rattle.pair_laws.specs.Live.{IsWhole, IsLiveAt}
-use Rattle.pair_laws.specs.Running.{Turn, sent_in, IsUntouched, IsServersQuery, calls_made, parting_of}
+use Rattle.pair_laws.specs.Running.{Turn, sent_in, IsUntouched, calls_made, parting_of}
 use Rattle.pair_laws.proofs.Answered.{handle-length}
 use Rattle.pair_laws.proofs.Completing.{framed-some, same-record, octets_heard, same-behind}
 use Rattle.pair_laws.proofs.Creating.{goes-front, exchange-front}
@@ -70,47 +61,6 @@ pub opaque-octets : (xs : List ℕ) → IsOctets xs → IsOctets (opaque xs)
 unfolding opaque
 opaque-octets xs h =
     append-IsOctets (word (length xs)) (xs ++ replicate (padding_length (length xs)) 0) (word-octets (length xs)) (append-IsOctets xs (replicate (padding_length (length xs)) 0) h (replicate-IsOctets (padding_length (length xs))))
-
-pub result-octets : (procedure : ℕ) (args name : List ℕ) (count : ℕ) → IsOctets args → IsOctets name → IsOctets (result_of procedure args name count)
-result-octets procedure args name count h k = chosen (procedure == 0) (procedure == 1) (procedure == 2)
-  where
-    chosen : (null echo whoami : Bool) → IsOctets (if null then [] else if echo then args else if whoami then opaque name else word count)
-    chosen true echo whoami = octets_nil
-    chosen false true whoami = h
-    chosen false false true = opaque-octets name k
-    chosen false false false = word-octets count
-
--- ---- results
-
-alone-read : (name : List ℕ) → length name ≤ 1024 → opaque_alone 1024 (opaque name) ≡ Ok name
-unfolding opaque_alone
-alone-read name h =
-    let end : ℕ = length (opaque name) in
-    let read : opaque_at 1024 (record { octets = opaque name; end = end }) ≡ Ok (name, record { octets = []; end = end }) =
-    ap (λ (zs : List ℕ). opaque_at 1024 (record { octets = zs; end = end })) (sym (append-nil (opaque name))) ∙ (opaque_law 1024 (lit< tt)).only name [] end h in
-    rw (read, end-only end) refl
-
-pub result-fits : (procedure : Procedure) (args name : List ℕ) (count : ℕ) → are_args (procedure_number procedure) args ≡ true → length name ≤ 255 → is_utf8 name ≡ true → is_result procedure (result_of (procedure_number procedure) args name count) ≡ true
-unfolding is_result opaque_alone
-result-fits procedures.Null args name count h few text = refl
-result-fits procedures.Echo args name count h few text = h
-result-fits procedures.Whoami args name count h few text = rw (alone-read name (omega (arith, few))) text
-result-fits procedures.Post args name count h few text = rw (length-word count) refl
-result-fits procedures.Count args name count h few text = rw (length-word count) refl
-
-pub low : (procedure : Procedure) → procedure_number procedure ≤ 4
-low procedures.Null = omega arith
-low procedures.Echo = omega arith
-low procedures.Whoami = omega arith
-low procedures.Post = omega arith
-low procedures.Count = omega arith
-
--- what the five procedures ask is the server's
-pub own-query : (procedure : Procedure) → IsServersQuery (query_of procedure)
-own-query procedure = record {
-  served = low procedure;
-  takes = λ args name count h named. result-fits procedure args name count h named.size named.text;
-}
 
 -- ---- how many calls
 

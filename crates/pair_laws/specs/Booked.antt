@@ -17,6 +17,7 @@ use Rattle.accept_book.specs.Booking.{Changed, negotiated, raised, token_size, l
 use Rattle.accept_book.specs.RecordShown.{KeptAnswers, AskedStep}
 use Rattle.accept_book.specs.RecordRule.{record_ruling}
 use Rattle.accept_book.specs.declared.book_answer.Negotiated.{Negotiated}
+use Rattle.pair_laws.specs.Answering.{Server}
 
 -- how a book stands before a call, and after it
 pub record Around : Type 0 where
@@ -32,12 +33,12 @@ end_in table (Some id) = state_of (slot_at table id)
 -- token of at most 65,536 octets, and has places: four in its log; for a first token one in its
 -- table, or a context that gives its own; and one in its cache for the mark of an authenticator,
 -- which isn't stale by the greatest moment, and which no authenticator that was taken has
-pub record IsBooked (setup : AcceptSetup) (width : ℕ) (octets : List ℕ) (kept : KeptAnswers)
+pub record IsBooked (setup : AcceptSetup) (serves : Server) (octets : List ℕ) (kept : KeptAnswers)
     (book : Around) : Type 0 where
   pub id : Option ℕ
   pub token : List ℕ
   pub answer : Negotiated
-  pub asked : (record_ruling octets kept width).asked
+  pub asked : (record_ruling octets kept serves.serving).asked
       ≡ AskedStep id token kept.now (take 66 kept.draws) answer ∷ []
   pub past : Option ℕ
   pub is_past : id ≡ None
@@ -59,12 +60,12 @@ pub record IsBooked (setup : AcceptSetup) (width : ℕ) (octets : List ℕ) (kep
       (taken_of book.before.history) (mark_asked pause) ≡ Taken
 
 -- one call of the book for each of these answers, in order, each to the question of its record
-abbrev pub Booked : AcceptSetup → ℕ → List (List ℕ) → List KeptAnswers → List Around → Type 0
-Booked setup width records [] books = Unit {0}
-Booked setup width [] (one ∷ kept) books = ⊥
-Booked setup width (octets ∷ records) (one ∷ kept) [] = ⊥
-Booked setup width (octets ∷ records) (one ∷ kept) (book ∷ books) =
-    IsBooked setup width octets one book × Booked setup width records kept books
+abbrev pub Booked : AcceptSetup → Server → List (List ℕ) → List KeptAnswers → List Around → Type 0
+Booked setup serves records [] books = Unit {0}
+Booked setup serves [] (one ∷ kept) books = ⊥
+Booked setup serves (octets ∷ records) (one ∷ kept) [] = ⊥
+Booked setup serves (octets ∷ records) (one ∷ kept) (book ∷ books) =
+    IsBooked setup serves octets one book × Booked setup serves records kept books
 
 -- the context of an id is the same in both
 pub record SameContext (id : ℕ) (old new : Accepting AcceptEnd Outcome) : Type 0 where

@@ -13,7 +13,7 @@ use Rattle.spnego_core.specs.Exchange.{Occasion, HonestPair}
 use Rattle.spnego_core.specs.declared.outcome.Outcome.{Outcome}
 use Rattle.accept_book.specs.Booking.{BookOf}
 use Rattle.accept_core.specs.Entering.{noted}
-use Rattle.accept_core.specs.History.{numbers, posts}
+use Rattle.accept_core.specs.History.{numbers}
 use Rattle.accept_book.specs.RecordShown.{KeptAnswers}
 use Rattle.accept_core.specs.declared.entry.Entry.{Entry}
 use Rattle.accept_core.specs.declared.entry.Entry.TheVariants.{Opened, Went, Settled}
@@ -22,13 +22,14 @@ use Rattle.gss_client.specs.Session.{SessionState}
 use Rattle.gss_client.specs.Talk.{created_from}
 use Rattle.gss_client.specs.Talking.{Said}
 use Rattle.gss_server.specs.Connections.{octets_of}
+use Rattle.pair_laws.specs.Answering.{Server}
 use Rattle.pair_laws.specs.Booked.{Around}
 use Rattle.pair_laws.specs.Honest.{occasion_of, HonestExchange}
 use Rattle.pair_laws.specs.HonestCalls.{IsToServer}
 use Rattle.pair_laws.specs.Laws.{IsBehind}
 use Rattle.pair_laws.specs.Resting.{RestsAt, HoldsOne}
-use Rattle.pair_laws.specs.Rows.{InRow, AreCuts, answers_of}
-use Rattle.pair_laws.specs.Running.{Turn, heard_in}
+use Rattle.pair_laws.specs.Rows.{InRow, AreCuts}
+use Rattle.pair_laws.specs.Running.{Turn, heard_in, answers_of}
 use Rattle.pair_laws.specs.Walking.{IsNamed}
 
 -- how the book stands around a turn
@@ -87,49 +88,50 @@ pub record SameLimits (old new : BookOf) : Type 0 where
 -- turns in a row from a book at rest with places: those of a creation by an honest pair, with which
 -- a session's writing and hearing begins, all at the moment of the client's stamp, and those behind
 -- it; what was written reads as their records, however these are cut
-pub record IsCreation (width lasts : ℕ) (start : StartSays) (kind : MechKind) (count moment : ℕ)
+pub record IsCreation (serves : Server) (lasts : ℕ) (start : StartSays) (kind : MechKind)
+    (count moment : ℕ)
     (stream more : List ℕ) (old new : BookOf) (front back : List Turn) (records : List Fragments)
     (tail rest : List ℕ) : Type 0 where
-  pub called : IsToServer start.terms
+  pub called : IsToServer serves.serving.program start.terms
   pub rests : RestsAt count moment old.core
-  pub some_width : 0 < width
-  pub width_fits : width < 2 ^ 32
+  pub some_width : 0 < serves.serving.width
+  pub width_fits : serves.serving.width < 2 ^ 32
   pub number : count + 1 < 2 ^ 64
   pub pair : HonestPair old.setup start.setup kind (map occasion_of (answers_of front))
   pub known : moment ≤ greatest_moment
   pub stamp : start.setup.stamp ≡ moment
   pub moments : AllByRecursion (IsAt moment) (answers_of front)
-  pub row : InRow width lasts old (front ++ back) new
+  pub row : InRow serves lasts old (front ++ back) new
   pub log : length old.core.history + 4 * length front ≤ old.core.limit
   pub table : 0 < old.core.table.limit
   pub cache : count < old.core.cache.capacity
   pub cuts : AreCuts records (front ++ back)
   pub written : (created_from start stream).written ++ more ≡ octets_of records ++ tail
-  pub heard : stream ≡ flat_map (heard_in width) (front ++ back) ++ rest
+  pub heard : stream ≡ flat_map (heard_in serves) (front ++ back) ++ rest
 
 -- the exchange is honest, over these turns and no others; a book stands behind it in which the new
--- context alone lives, with the next id, until this moment or longer; no call of it was made, and
--- nobody posted meanwhile. The session has an outcome of the credential's names.
-pub record CreationRuns (width lasts : ℕ) (start : StartSays) (kind : MechKind) (count moment : ℕ)
+-- context alone lives, with the next id, until this moment or longer, and no call of it was made.
+-- The session has an outcome of the credential's names.
+pub record CreationRuns (serves : Server) (lasts : ℕ) (start : StartSays) (kind : MechKind)
+    (count moment : ℕ)
     (stream more : List ℕ) (old new : BookOf) (front back : List Turn) (records : List Fragments)
     (tail rest : List ℕ) : Type 0 where
-  pub exchange : HonestExchange old.setup width start stream
+  pub exchange : HonestExchange old.setup serves start stream
   pub kind_is : exchange.kind ≡ kind
   pub answers : exchange.answers ≡ answers_of front
   pub books : exchange.books ≡ map around_of front
-  pub left : exchange.converses.rest ≡ flat_map (heard_in width) back ++ rest
+  pub left : exchange.converses.rest ≡ flat_map (heard_in serves) back ++ rest
   pub records_are : exchange.converses.records ≡ records_of front
   pub others : List Fragments
   pub cuts : AreCuts others back
   pub wrote : more ≡ octets_of others ++ tail
   pub middle : BookOf
   pub behind : IsBehind (answers_of front) (map around_of front) middle.core
-  pub row : InRow width lasts middle back new
+  pub row : InRow serves lasts middle back new
   pub limits : SameLimits old middle
   pub enters : Enters (count + 1) moment kind (length front) old.core.history middle.core.history
   pub lasting : moment ≤ enters.lasts
   pub grown : length middle.core.history ≤ length old.core.history + 4 * length front
-  pub posted : posts middle.core.history ≡ posts old.core.history
   pub holds : (later : ℕ) → moment < later → HoldsOne (count + 1) (count + 1) later middle.core
   pub unused : numbers (count + 1) middle.core.history ≡ []
   pub agreed : Outcome
@@ -139,12 +141,12 @@ pub record CreationRuns (width lasts : ℕ) (start : StartSays) (kind : MechKind
 -- every creation in a row is an honest exchange
 abbrev pub CreationLaw : Type 0
 CreationLaw =
-    (width lasts : ℕ) (start : StartSays) (kind : MechKind) (count moment : ℕ)
+    (serves : Server) (lasts : ℕ) (start : StartSays) (kind : MechKind) (count moment : ℕ)
     (stream more : List ℕ) (old new : BookOf) (front back : List Turn) (records : List Fragments)
     (tail rest : List ℕ)
-    → IsCreation width lasts start kind count moment stream more old new front back records tail
+    → IsCreation serves lasts start kind count moment stream more old new front back records tail
     rest
-    → CreationRuns width lasts start kind count moment stream more old new front back records tail
+    → CreationRuns serves lasts start kind count moment stream more old new front back records tail
     rest
 
 -- ---- as many answers as tokens

@@ -11,6 +11,7 @@ use Rattle.gss_client.specs.Calling.{destroy_call}
 use Rattle.gss_client.specs.Talk.{destroys}
 use Rattle.gss_client.specs.Talking.{said}
 use Rattle.gss_server.specs.Connections.{framed}
+use Rattle.pair_laws.specs.Answering.{Server}
 use Rattle.pair_laws.specs.HonestCalls.{IsToServer, session_on}
 
 -- a session on a context whose number and transaction number fit
@@ -28,18 +29,21 @@ pub record IsTaken (lease : Lease) (kept : KeptAnswers) : Type 0 where
 -- the destruction's rule is 24, it asks for the context and for its end and for nothing else, and
 -- where its reply comes next the context is destroyed, and the rest of the stream is left
 pub record IsDestroyed (lease : Lease) (terms : Terms) (number xid : ℕ) (kept : KeptAnswers)
-    (width : ℕ) (receipt : Receipt) (rest : List ℕ) : Type 0 where
-  pub rule : (record_ruling (destroy_call (session_on lease terms number xid)) kept width).rule
+    (serves : Server) (receipt : Receipt) (rest : List ℕ) : Type 0 where
+  pub rule : (record_ruling (destroy_call (session_on lease terms number xid)) kept
+      serves.serving).rule
       ≡ 24
-  pub asked : (record_ruling (destroy_call (session_on lease terms number xid)) kept width).asked
+  pub asked : (record_ruling (destroy_call (session_on lease terms number xid)) kept
+      serves.serving).asked
       ≡ AskedLook lease.id kept.now (Ok lease) ∷ AskedEnd lease number (Ok receipt) ∷ []
   pub result : destroys (session_on lease terms number xid) (framed (record_ruling
-      (destroy_call (session_on lease terms number xid)) kept width).reply ++ rest)
+      (destroy_call (session_on lease terms number xid)) kept serves.serving).reply ++ rest)
       ≡ said (last_fragment (destroy_call (session_on lease terms number xid))) (Ok tt) rest
 
 -- every end of a session whose context is shown, and whose number is taken, is answered
 abbrev pub EndLaw : Type 0
 EndLaw =
-    (lease : Lease) (terms : Terms) (number xid : ℕ) (kept : KeptAnswers) (width : ℕ)
-    (rest : List ℕ) → IsToServer terms → HonestEnd lease number xid → (t : IsTaken lease kept)
-    → IsDestroyed lease terms number xid kept width t.receipt rest
+    (lease : Lease) (terms : Terms) (number xid : ℕ) (kept : KeptAnswers) (serves : Server)
+    (rest : List ℕ) → IsToServer serves.serving.program terms → HonestEnd lease number xid →
+    (t : IsTaken lease kept)
+    → IsDestroyed lease terms number xid kept serves t.receipt rest

@@ -19,29 +19,32 @@ use Rattle.gss_client.specs.Exchanging.{Talks}
 use Rattle.gss_client.specs.Session.{SessionState}
 use Rattle.gss_client.specs.Talk.{begun, created_from}
 use Rattle.gss_client.specs.Talking.{said}
+use Rattle.pair_laws.specs.Answering.{Server}
 use Rattle.pair_laws.specs.Conversing.{IsStream}
 use Rattle.pair_laws.specs.Booked.{Around, id_in}
 use Rattle.pair_laws.specs.Live.{lease_on, IsWhole}
 use Rattle.pair_laws.specs.Honest.{HonestExchange}
 
 -- the record was answered by the rule of a context that is complete, and the book settled it so
-pub record IsSettled (width : ℕ) (lease : Lease) (octets : List ℕ) (kept : KeptAnswers) : Type 0
+pub record IsSettled (serves : Server) (lease : Lease) (octets : List ℕ) (kept : KeptAnswers)
+    : Type 0
   where
     pub answer : Negotiated
     pub is_kept : kept.negotiated ≡ Some answer
     pub token : List ℕ
     pub settled : answer.answer ≡ Settled lease token
-    pub rule : (record_ruling octets kept width).rule ≡ 22
+    pub rule : (record_ruling octets kept serves.serving).rule ≡ 22
 
 -- each record but the last was answered by the rule of a context that goes on, and with the last
 -- the context was settled; there are as many answers as records
-abbrev pub Settles : ℕ → Lease → List (List ℕ) → List KeptAnswers → Type 0
-Settles width lease [] kept = ⊥
-Settles width lease (octets ∷ records) [] = ⊥
-Settles width lease (last ∷ []) (one ∷ []) = IsSettled width lease last one
-Settles width lease (last ∷ []) (one ∷ two ∷ kept) = ⊥
-Settles width lease (octets ∷ next ∷ records) (one ∷ kept) =
-    ((record_ruling octets one width).rule ≡ 21) × Settles width lease (next ∷ records) kept
+abbrev pub Settles : Server → Lease → List (List ℕ) → List KeptAnswers → Type 0
+Settles serves lease [] kept = ⊥
+Settles serves lease (octets ∷ records) [] = ⊥
+Settles serves lease (last ∷ []) (one ∷ []) = IsSettled serves lease last one
+Settles serves lease (last ∷ []) (one ∷ two ∷ kept) = ⊥
+Settles serves lease (octets ∷ next ∷ records) (one ∷ kept) =
+    ((record_ruling octets one serves.serving).rule ≡ 21) × Settles serves lease
+    (next ∷ records) kept
 
 -- this is the book as the last of these answers left it
 abbrev pub IsBehind : List KeptAnswers → List Around → Accepting AcceptEnd Outcome → Type 0
@@ -53,12 +56,13 @@ IsBehind (one ∷ two ∷ answers) (book ∷ books) core = IsBehind (two ∷ ans
 -- both ends are done with one outcome, by the chosen mechanism: the book settled its next context
 -- with it, and has it so; the session stands on it, with the context's handle; its records are
 -- those of the creation, its transaction number is the next, and the rest of the stream is left
-pub record Completes (setup : AcceptSetup) (width : ℕ) (start : StartSays) (stream : List ℕ)
-    (x : HonestExchange setup width start stream) : Type 0 where
+pub record Completes (setup : AcceptSetup) (serves : Server) (start : StartSays) (stream : List ℕ)
+    (x : HonestExchange setup serves start stream) : Type 0 where
   pub outcome : Outcome
   pub lasts : ℕ
   pub mech : outcome.mech ≡ x.kind
-  pub settles : Settles width (lease_on (id_in x.books) outcome lasts) x.converses.records x.answers
+  pub settles : Settles serves (lease_on (id_in x.books) outcome lasts) x.converses.records
+      x.answers
   pub core : Accepting AcceptEnd Outcome
   pub behind : IsBehind x.answers x.books core
   pub whole : IsWhole core (lease_on (id_in x.books) outcome lasts)
@@ -73,11 +77,11 @@ CameTo result session = (result ≡ Ok session) ⊎ (result ≡ Err LinkFault) �
 -- an honest pair completes by its records, and so does a session's creation over a link
 pub record PairLaw : Type 0 where
   -- an honest exchange completes
-  pub completes : (setup : AcceptSetup) (width : ℕ) (start : StartSays) (stream : List ℕ)
-      → (x : HonestExchange setup width start stream) → Completes setup width start stream x
+  pub completes : (setup : AcceptSetup) (serves : Server) (start : StartSays) (stream : List ℕ)
+      → (x : HonestExchange setup serves start stream) → Completes setup serves start stream x
   -- so does the creation of a session over a link that has these octets to come
-  pub over_a_link : (setup : AcceptSetup) (width : ℕ) (start : StartSays) (stream : List ℕ)
-      → (x : HonestExchange setup width start stream) → (c : Completes setup width start stream x)
+  pub over_a_link : (setup : AcceptSetup) (serves : Server) (start : StartSays) (stream : List ℕ)
+      → (x : HonestExchange setup serves start stream) → (c : Completes setup serves start stream x)
       → (old new : Wire) (result : Result SessionState ClientRefusal) → IsStream old new stream
       → Talks (created_from start) old new result
       → CameTo result

@@ -17,3 +17,5 @@ pub mod Creation
 pub mod Whole
 pub mod Linked
 pub mod Meeting
+pub mod Posts
+pub mod Answering

@@ -10,7 +10,6 @@ use Rattle.rpc_msgs.specs.Records.{Fragments}
 use Rattle.spnego_core.specs.Exchange.{HonestPair}
 use Rattle.spnego_core.specs.declared.outcome.Outcome.{Outcome}
 use Rattle.accept_book.specs.Booking.{BookOf, names_of}
-use Rattle.accept_core.specs.History.{posts}
 use Rattle.accept_book.specs.RecordShown.{KeptAnswers}
 use Rattle.accept_core.specs.declared.entry.Entry.{Entry}
 use Rattle.gss_client.specs.Start.{StartSays}
@@ -18,14 +17,14 @@ use Rattle.gss_server.specs.Connections.{octets_of, written_in}
 use Rattle.gss_server.specs.Hearing.{kept_answers}
 use Rattle.gss_server.specs.declared.answer.Kept.{Kept}
 use Rattle.gss_client.specs.Conferring.{DueCall, talk_of}
+use Rattle.pair_laws.specs.Answering.{Server}
 use Rattle.pair_laws.specs.Creation.{IsAt, SameLimits, Enters, padded}
 use Rattle.pair_laws.specs.Honest.{occasion_of}
 use Rattle.pair_laws.specs.Resting.{RestsAt}
 use Rattle.pair_laws.specs.Rows.{AreAnswered, IsNoRecord, history_after, results_by}
-use Rattle.pair_laws.specs.Running.{IsName, calls_made, parting_of}
+use Rattle.pair_laws.specs.Running.{Succeeds, calls_made, parting_of}
 use Rattle.pair_laws.specs.Sessions.{ArePlanned, made_of}
 use Rattle.pair_laws.specs.Walking.{IsNamed}
-use Rattle.pair_laws.specs.Whole.{posts_behind}
 
 -- what was kept of answers, in the terms of the rule of a record
 abbrev pub kept_of : List Kept → List KeptAnswers
@@ -34,16 +33,16 @@ kept_of answers = map kept_answers answers
 -- what a session's talk wrote are these records and no other, which a book at rest answered, all
 -- of them at the moment of the client's stamp; with what was drawn for the first answers, so many,
 -- both ends are an honest pair
-pub record IsServed (width lasts tokens : ℕ) (start : StartSays) (kind : MechKind)
+pub record IsServed (serves : Server) (lasts tokens : ℕ) (start : StartSays) (kind : MechKind)
     (count moment : ℕ) (due : List DueCall) (confounders stream : List ℕ) (old new : BookOf)
     (records : List Fragments) (answers : List Kept) (tail : List ℕ) : Type 0 where
   -- the link
-  pub answered : AreAnswered width lasts records answers old new
+  pub answered : AreAnswered serves lasts records answers old new
   pub none : IsNoRecord tail
   pub written : (talk_of start due confounders stream).written ≡ octets_of records ++ tail
-  pub heard : stream ≡ written_in width records answers
-  pub some_width : 0 < width
-  pub width_fits : width < 2 ^ 32
+  pub heard : stream ≡ written_in serves.serving records answers
+  pub some_width : 0 < serves.serving.width
+  pub width_fits : serves.serving.width < 2 ^ 32
   -- the answers
   pub pair : HonestPair old.setup start.setup kind
       (padded moment tokens (map occasion_of (kept_of answers)))
@@ -59,51 +58,52 @@ pub record IsServed (width lasts tokens : ℕ) (start : StartSays) (kind : MechK
   pub log : length old.core.history + 4 * tokens + length due < old.core.limit
   -- the session
   pub some : 0 < start.first
-  pub planned : ArePlanned start.terms start.first due confounders
+  pub planned : ArePlanned serves.serving.program start.terms start.first due confounders
 
 -- such a session is created: it tells an outcome
 abbrev pub CreatedLaw : Type 0
 CreatedLaw =
-    (width lasts tokens : ℕ) (start : StartSays) (kind : MechKind) (count moment : ℕ)
+    (serves : Server) (lasts tokens : ℕ) (start : StartSays) (kind : MechKind) (count moment : ℕ)
     (due : List DueCall) (confounders stream : List ℕ) (old new : BookOf)
     (records : List Fragments) (answers : List Kept) (tail : List ℕ)
-    → IsServed width lasts tokens start kind count moment due confounders stream old new records
+    → IsServed serves lasts tokens start kind count moment due confounders stream old new records
     answers tail
     → (agreed : Outcome) × ((talk_of start due confounders stream).outcome ≡ Some agreed)
 
--- the same of a session that tells this outcome, on this key
-pub record IsLinked (key : Key) (width lasts tokens : ℕ) (start : StartSays) (kind : MechKind)
+-- the same of a session that tells this outcome, on this key, where the server's results are
+-- results of what is asked
+pub record IsLinked (key : Key) (serves : Server) (lasts tokens : ℕ) (start : StartSays)
+    (kind : MechKind)
     (count moment : ℕ) (due : List DueCall) (confounders stream : List ℕ) (old new : BookOf)
     (records : List Fragments) (answers : List Kept) (tail : List ℕ) (outcome : Outcome) : Type 0
   where
-    pub served : IsServed width lasts tokens start kind count moment due confounders stream old new
+    pub served : IsServed serves lasts tokens start kind count moment due confounders stream old new
         records answers tail
     pub told : (talk_of start due confounders stream).outcome ≡ Some outcome
     pub key_is : outcome.key ≡ key
-    pub name : IsName outcome.initiator
+    pub succeed : AllByRecursion (Succeeds serves outcome.initiator) due
 
--- the session is answered the service's results by the posts of the book, parts with all calls made
--- or its numbers spent, and leaves no octet; the book has the entries of its creation, its calls
--- and its end in the log and nothing else, and rests again
-pub record LinkedDone (tokens : ℕ) (start : StartSays) (kind : MechKind) (count moment : ℕ)
+-- the session is answered the server's results, parts with all calls made or its numbers spent, and
+-- leaves no octet; the book has the entries of its creation, its calls and its end in the log and
+-- nothing else, and rests again
+pub record LinkedDone (serves : Server) (tokens : ℕ) (start : StartSays) (kind : MechKind)
+    (count moment : ℕ)
     (due : List DueCall) (confounders stream : List ℕ) (old new : BookOf) (outcome : Outcome)
     : Type 0 where
   pub mech : outcome.mech ≡ kind
   pub named : IsNamed start.setup kind outcome
+  pub opened : List Entry
   pub results_are : (talk_of start due confounders stream).results
-      ≡ results_by (posts old.core.history) outcome.initiator (made_of start.first due)
+      ≡ results_by serves outcome.initiator (count + 1) start.first (made_of start.first due) opened
   pub parts : (talk_of start due confounders stream).parting
       ≡ parting_of start.first (length due)
   pub undrawn_is : (talk_of start due confounders stream).undrawn
       ≡ drop (16 * calls_made start.first (length due)) confounders
   pub left : (talk_of start due confounders stream).rest ≡ []
-  pub opened : List Entry
   pub enters : Enters (count + 1) moment kind tokens old.core.history opened
   pub names : enters.names ≡ names_of outcome
   pub history : new.core.history
       ≡ history_after (count + 1) start.first (made_of start.first due) opened
-  pub posted : posts new.core.history
-      ≡ posts_behind (posts old.core.history) (made_of start.first due)
   pub grown : length new.core.history ≤ length old.core.history + 4 * tokens + length due + 1
   pub limits : SameLimits old new
   pub rests : (later : ℕ) → moment < later → RestsAt (count + 1) later new.core
@@ -111,9 +111,10 @@ pub record LinkedDone (tokens : ℕ) (start : StartSays) (kind : MechKind) (coun
 -- every session over such a link on this key is done
 abbrev pub LinkedLaw : Key → Type 0
 LinkedLaw key =
-    (width lasts tokens : ℕ) (start : StartSays) (kind : MechKind) (count moment : ℕ)
+    (serves : Server) (lasts tokens : ℕ) (start : StartSays) (kind : MechKind) (count moment : ℕ)
     (due : List DueCall) (confounders stream : List ℕ) (old new : BookOf)
     (records : List Fragments) (answers : List Kept) (tail : List ℕ) (outcome : Outcome)
-    → IsLinked key width lasts tokens start kind count moment due confounders stream old new records
+    → IsLinked key serves lasts tokens start kind count moment due confounders stream old new
+    records
     answers tail outcome
-    → LinkedDone tokens start kind count moment due confounders stream old new outcome
+    → LinkedDone serves tokens start kind count moment due confounders stream old new outcome

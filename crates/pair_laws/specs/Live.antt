@@ -6,13 +6,12 @@ use Rattle.context_table.specs.Places.{slot_at, HasValue}
 use Rattle.spnego_core.specs.declared.accept_end.AcceptEnd.{AcceptEnd}
 use Rattle.spnego_core.specs.declared.outcome.Outcome.{Outcome}
 use Rattle.accept_core.specs.History.{Whole, standing, numbers}
-use Rattle.accept_core.specs.Answers.{admitted, receipt_of}
+use Rattle.accept_core.specs.Answers.{receipt_of}
 use Rattle.accept_book.specs.Booking.{BookOf, names_of}
 use Rattle.accept_core.specs.Replays.{Accepting}
 use Rattle.accept_core.specs.declared.answer.AdmitRefusal.{AdmitRefusal}
 use Rattle.accept_core.specs.declared.answer.LookRefusal.{LookRefusal}
 use Rattle.accept_book.specs.declared.book_answer.Lease.{Lease}
-use Rattle.accept_core.specs.declared.entry.Admitted.{Admitted}
 use Rattle.accept_core.specs.declared.entry.Receipt.{Receipt}
 use Rattle.accept_core.specs.declared.entry.Entry.TheVariants.{Call, Ended}
 use Rattle.accept_core.specs.declared.entry.EndCause.TheVariants.{Destroyed}
@@ -43,8 +42,8 @@ pub record IsSeen (old new : BookOf) (lease : Lease) (next : ℕ)
 
 -- its next number is admitted, and the log has the call
 pub record IsCalled (old new : BookOf) (lease : Lease) (next procedure : ℕ) (args : List ℕ)
-    (result : Result Admitted AdmitRefusal) : Type 0 where
-  pub answer : result ≡ Ok (admitted old.core.history (Call lease.id next procedure args))
+    (result : Result Receipt AdmitRefusal) : Type 0 where
+  pub answer : result ≡ Ok (receipt_of old.core.history (Call lease.id next procedure args))
   pub live : IsLiveAt new lease (next + 1)
   pub history : new.core.history ≡ Call lease.id next procedure args ∷ old.core.history
 

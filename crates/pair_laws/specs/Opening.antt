@@ -23,7 +23,8 @@ use Rattle.accept_core.specs.Stepping.{IsNext}
 use Rattle.accept_book.specs.declared.book_answer.Negotiated.{Negotiated}
 use Rattle.gss_client.specs.Calling.{creation_call}
 use Rattle.gss_server.specs.Answers.{IsDecided}
-use Rattle.gss_server.specs.Asking.{Asking, BookAnswers}
+use Rattle.gss_server.specs.Asking.{Asking}
+use Rattle.pair_laws.specs.Answering.{Server, AnswersBy}
 use Rattle.pair_laws.specs.HonestCalls.{IsToServer}
 use Rattle.pair_laws.specs.Booked.{end_in, IsBooked}
 
@@ -57,19 +58,21 @@ pub record HasPlaces (setup : AcceptSetup) (core : Accepting AcceptEnd Outcome) 
 
 -- a rule decided the record by what was kept, and the book gave the answer that the rule asked for,
 -- in a token of at most 65,536 octets
-pub record IsStepped (width : ℕ) (octets : List ℕ) (kept : KeptAnswers) (old new : BookOf) : Type 0
+pub record IsStepped (serves : Server) (octets : List ℕ) (kept : KeptAnswers) (old new : BookOf)
+    : Type 0
   where
-    pub decided : IsDecided (record_ruling octets kept width)
-    pub asked : Asking BookAnswers old (record_ruling octets kept width).asked new
+    pub decided : IsDecided (record_ruling octets kept serves.serving)
+    pub asked : Asking (AnswersBy serves) old (record_ruling octets kept serves.serving).asked new
     pub size : (answer : Negotiated) → kept.negotiated ≡ Some answer
         → token_size answer.answer ≤ 65536
 
 -- a book that has places for a token of a creation books it, as `HonestExchange` asks for
 abbrev pub StepTurnLaw : Type 0
 StepTurnLaw =
-    (terms : Terms) (xid width : ℕ) (id : Option ℕ) (token : List ℕ) (kept : KeptAnswers)
-    (old new : BookOf) → IsToServer terms → FitsCreation xid id token
-    → IsStepped width (creation_of terms xid id token) kept old new
+    (terms : Terms) (xid : ℕ) (serves : Server) (id : Option ℕ) (token : List ℕ)
+    (kept : KeptAnswers)
+    (old new : BookOf) → IsToServer serves.serving.program terms → FitsCreation xid id token
+    → IsStepped serves (creation_of terms xid id token) kept old new
     → HasPlaces old.setup old.core id token kept
-    → IsBooked old.setup width (creation_of terms xid id token) kept
+    → IsBooked old.setup serves (creation_of terms xid id token) kept
     (record { before = old.core; after = new.core })

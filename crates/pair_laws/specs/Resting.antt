@@ -23,8 +23,8 @@ use Rattle.accept_core.specs.Replays.{Accepting}
 use Rattle.accept_core.specs.Stepping.{IsNext}
 use Rattle.gss_client.specs.Conferring.{DueCall}
 use Rattle.pair_laws.specs.Opening.{HasPlaces}
-use Rattle.pair_laws.specs.Rows.{RowLeaves, answers_of}
-use Rattle.pair_laws.specs.Running.{Turn}
+use Rattle.pair_laws.specs.Rows.{RowLeaves}
+use Rattle.pair_laws.specs.Running.{Turn, answers_of}
 
 -- a mark of an authenticator lies before this moment
 abbrev pub IsBefore : ℕ → TakenMark → Type 0

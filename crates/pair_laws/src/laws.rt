@@ -7,6 +7,7 @@ ghost use Rattle.pair_laws.specs.HonestCalls.{CallLaw};
 ghost use Rattle.pair_laws.specs.Laws.{PairLaw};
 ghost use Rattle.pair_laws.specs.Linked.{CreatedLaw, LinkedLaw};
 ghost use Rattle.pair_laws.specs.Opening.{StepTurnLaw};
+ghost use Rattle.pair_laws.specs.Posts.{PostsLaw};
 ghost use Rattle.pair_laws.specs.Resting.{RestLaw};
 ghost use Rattle.pair_laws.specs.Rows.{ChainLaw, RowLaw};
 ghost use Rattle.pair_laws.specs.Running.{RunLaw};
@@ -25,8 +26,8 @@ pub fn prove_pair()
     ensures { PairLaw }
 {}
 
-/// Does nothing that stays; its contract says that an honest call of a session on this context, which the server shows and whose number it admits,
-/// is answered by rule 23, and that the session takes the service's result from the reply.
+/// Does nothing that stays; its contract says that an honest call of a session on this context, which the server shows, whose number it admits and
+/// which comes to a result, is answered by rule 23, and that the session takes this result from the reply.
 pub fn prove_calls(lease: &Lease)
     ensures { CallLaw lease.now }
 {
@@ -55,7 +56,7 @@ pub fn prove_end_turns()
 {}
 
 /// Does nothing that stays; its contract says that a session on this key, whose creation an honest server completes and whose records it then answers,
-/// is answered the service's results, parts with all its calls made or its numbers spent, and has its context destroyed.
+/// is answered what its calls came to, parts with all its calls made or its numbers spent, and has its context destroyed.
 pub fn prove_runs(key: &Key)
     ensures { RunLaw key.now }
 {
@@ -69,7 +70,7 @@ pub fn prove_equal_calls()
 {}
 
 /// Does nothing that stays; its contract says of a session on this key what `prove_runs` says, where its calls may differ: it makes each call of a list,
-/// as far as it has numbers, and is answered the service's result of each.
+/// as far as it has numbers, and is answered what each came to.
 pub fn prove_sessions(key: &Key)
     ensures { SessionLaw key.now }
 {
@@ -108,7 +109,7 @@ pub fn prove_creations()
 {}
 
 /// Does nothing that stays; its contract says that a whole session on this key, whose turns are a row from a book at rest with places, is done: it is
-/// created, is answered the service's results, and ends, and the book rests again, with all of it in its log.
+/// created, is answered what its calls came to, and ends, and the book rests again, with all of it in its log.
 pub fn prove_wholes(key: &Key)
     ensures { WholeLaw key.now }
 {
@@ -123,10 +124,15 @@ pub fn prove_created()
 {}
 
 /// Does nothing that stays; its contract says that a whole session on this key over a link that answers by a book at rest is done, by the link's records
-/// and the answers that were kept for them: it is created, is answered the service's results, and ends, and the book rests again.
+/// and the answers that were kept for them: it is created, is answered what its calls came to, and ends, and the book rests again.
 pub fn prove_links(key: &Key)
     ensures { LinkedLaw key.now }
 {
     let _answers = SealKeys::of(key, 22);
     let _calls = SealKeys::of(key, 24);
 }
+
+/// Does nothing; its contract says that what the program of posts gives, by whatever count, is a result of what its client asks.
+pub fn prove_posts()
+    ensures { PostsLaw }
+{}

@@ -1,7 +1,7 @@
 //! What the types of octets and of labels tell.
 
 ghost use Rattle.accept_book.specs.Honest.{IsOctets};
-ghost use Rattle.pair_laws.specs.Running.{IsName};
+ghost use Rattle.pair_laws.specs.Posts.{IsName};
 
 use gss_base::Label;
 

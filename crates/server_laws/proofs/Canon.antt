@@ -17,13 +17,12 @@ use Rattle.accept_core.specs.declared.answer.LookRefusal.{LookRefusal}
 use Rattle.accept_book.specs.declared.book_answer.Lease.{Lease}
 use Rattle.accept_book.specs.declared.book_answer.NegAnswer.TheVariants as answers
 use Rattle.accept_book.specs.declared.book_answer.Negotiated.{Negotiated}
-use Rattle.accept_core.specs.declared.entry.Admitted.{Admitted}
 use Rattle.accept_core.specs.declared.entry.EndCause.{EndCause}
 use Rattle.accept_core.specs.declared.entry.EndCause.TheVariants.{Destroyed}
 use Rattle.accept_core.specs.declared.entry.Entry.{Entry}
 use Rattle.accept_core.specs.declared.entry.Entry.TheVariants.{Call, Ended}
 use Rattle.accept_core.specs.declared.entry.Receipt.{Receipt}
-use Rattle.accept_core.specs.Answers.{or_refused, after, refused, admitted, receipt_of}
+use Rattle.accept_core.specs.Answers.{or_refused, after, refused, receipt_of}
 use Rattle.accept_core.specs.History.{Standing, Over, standing, numbers, opened, living, latest, taken_of}
 use Rattle.accept_core.specs.Legal.{Legal}
 use Rattle.accept_core.specs.Replays.{Accepting, SameSlot}
@@ -32,6 +31,7 @@ use Rattle.accept_book.specs.Booking.{BookOf, by_outcome, Outcomes, changed, rai
 use Rattle.accept_book.specs.BookAnswers.{IsOutcome, ComesTo, BookStepped, BookLooked, BookAdmitted, BookEnded}
 use Rattle.accept_book.specs.RecordShown.{Asked, AskedStep, AskedLook, AskedAdmit, AskedEnd}
 use Rattle.accept_core.proofs.Appended.{Silent, silent}
+use Rattle.sha1.specs.Sha1.{sha1}
 use Rattle.gss_server.specs.Asking.{BookAnswers}
 use Rattle.world_laws.specs.Events.{IsBook}
 use Rattle.history_laws.proofs.Answering.{memory-cases}
@@ -118,7 +118,6 @@ is-book book legal a = record {
       (sym (slot-as book.core.width book.core.history book.core.table id))
       (slot-same book.core.width (numbers id book.core.history) (slot_at book.core.table id) (standing id book.core.history) (a.each id));
   live = live-as book.core a.lives;
-  count = refl;
   width = refl;
   past = a.past;
   marks = record { kept = refl };
@@ -351,17 +350,17 @@ marks-by width wide seq ns ms (Some before) (Some after) w n m = record {
 marks-by width wide seq ns ms (Some before) None w n m = absurd m
 marks-by width wide seq ns ms None after w n m = absurd m
 
-admitted-log : (old new : BookOf) (lease : Lease) (seq procedure : ℕ) (args : List ℕ) (result : Result Admitted AdmitRefusal) → BookAdmitted old new lease seq procedure args result → IsOk result
+admitted-log : (old new : BookOf) (lease : Lease) (seq procedure : ℕ) (args : List ℕ) (result : Result Receipt AdmitRefusal) → BookAdmitted old new lease seq procedure args result → IsOk result
     → new.core.history ≡ Call lease.id seq procedure args ∷ old.core.history
 admitted-log old new lease seq procedure args result b ok =
     b.history ∙ ap (λ (r : Option AdmitRefusal). after r (Call lease.id seq procedure args) old.core.history) (not-refused result (lease_refused old.core lease seq) _ b.answer ok)
 
-admitted-as : (old new : BookOf) (lease : Lease) (seq procedure : ℕ) (args : List ℕ) (result : Result Admitted AdmitRefusal) → BookAdmitted old new lease seq procedure args result
+admitted-as : (old new : BookOf) (lease : Lease) (seq procedure : ℕ) (args : List ℕ) (result : Result Receipt AdmitRefusal) → BookAdmitted old new lease seq procedure args result
     → BookAdmitted (book_as old) (book_as new) lease seq procedure args result
 admitted-as old new lease seq procedure args result b =
     let entry = Call lease.id seq procedure args in
     record {
-      answer = b.answer ∙ ap (λ (r : Option AdmitRefusal). or_refused r (admitted old.core.history entry)) (sym (refused-as old.core lease seq));
+      answer = b.answer ∙ ap (λ (r : Option AdmitRefusal). or_refused r (receipt_of old.core.history entry)) (sym (refused-as old.core lease seq));
       history = b.history ∙ ap (λ (r : Option AdmitRefusal). after r entry old.core.history) (sym (refused-as old.core lease seq));
       exactly = (λ ok. free-as old.core lease seq (b.exactly.0 ok), λ f. b.exactly.1 (free-back old.core lease seq f));
       slot = λ ok.
@@ -392,7 +391,7 @@ kept-agrees old new a contexts stands moments greatest lives = record {
   past = omega (arith, a.past, moments, greatest);
 }
 
-admitted-agrees : (old new : BookOf) (lease : Lease) (seq procedure : ℕ) (args : List ℕ) (result : Result Admitted AdmitRefusal) → Agrees old.core → BookAdmitted old new lease seq procedure args result → Agrees new.core
+admitted-agrees : (old new : BookOf) (lease : Lease) (seq procedure : ℕ) (args : List ℕ) (result : Result Receipt AdmitRefusal) → Agrees old.core → BookAdmitted old new lease seq procedure args result → Agrees new.core
 admitted-agrees old new lease seq procedure args (Ok x) a b =
     let log = admitted-log old new lease seq procedure args (Ok x) b refl in
     kept-agrees old.core new.core a
@@ -446,15 +445,15 @@ ended-agrees old new lease seq (Err refusal) a b = subst (λ (x : BookOf). Agree
 
 -- ---- any question
 
-pub answers-as : (old new : BookOf) (asked : Asked) → Legal old.core.width old.core.history → Agrees old.core → BookAnswers old asked new → BookAnswers (book_as old) asked (book_as new)
+pub answers-as : (old new : BookOf) (asked : Asked Receipt) → Legal old.core.width old.core.history → Agrees old.core → BookAnswers old asked new → BookAnswers (book_as old) asked (book_as new)
 answers-as old new (AskedStep id token now draws answer) legal a b = stepped-as old new id token now draws answer (ready old.core now legal a) b
 answers-as old new (AskedLook id now answer) legal a b = looked-as old new id now answer b
-answers-as old new (AskedAdmit lease seq procedure args answer) legal a b = admitted-as old new lease seq procedure args answer b
+answers-as old new (AskedAdmit lease seq service procedure args answer) legal a b = admitted-as old new lease seq procedure (sha1 args) answer b
 answers-as old new (AskedEnd lease seq answer) legal a b = ended-as old new lease seq answer b
 
-pub answers-agree : (old new : BookOf) (asked : Asked) → Legal old.core.width old.core.history → Agrees old.core → BookAnswers old asked new → Agrees new.core
+pub answers-agree : (old new : BookOf) (asked : Asked Receipt) → Legal old.core.width old.core.history → Agrees old.core → BookAnswers old asked new → Agrees new.core
 answers-agree old new (AskedStep id token now draws answer) legal a b =
     came-agrees old.core now answer new.core (came old new id token now draws answer (ready old.core now legal a) b) b.notes.greatest b.lives
 answers-agree old new (AskedLook id now answer) legal a b = looked-agrees old new id now answer a b
-answers-agree old new (AskedAdmit lease seq procedure args answer) legal a b = admitted-agrees old new lease seq procedure args answer a b
+answers-agree old new (AskedAdmit lease seq service procedure args answer) legal a b = admitted-agrees old new lease seq procedure (sha1 args) answer a b
 answers-agree old new (AskedEnd lease seq answer) legal a b = ended-agrees old new lease seq answer a b

@@ -16,6 +16,10 @@ use Rattle.scram_mech.specs.declared.verifiers.Verifier.{Verifier}
 use Rattle.scram_mech.specs.declared.refusal.VerifierRefusal.{VerifierRefusal}
 use Rattle.spnego_core.specs.Ends.{PlainSetup}
 use Rattle.accept_book.specs.Booking.{BookOf}
+use Rattle.rpc_program.specs.Programs.{Serving}
+use Rattle.rpc_program.specs.declared.program.Program as programs
+use Rattle.rpc_program.specs.declared.program.Speller as spellers
+use Rattle.gss_server.specs.Hearing.{serving}
 use Rattle.cli_base.specs.declared.files.FileStop.{FileStop}
 use Rattle.gss_server.specs.declared.answer.Kept.{Kept}
 use Rattle.gss_server.specs.declared.connection.Served.{Served}
@@ -77,18 +81,19 @@ free-in zero lane below = grind (arith, below)
 free-in (suc count) zero below = refl
 free-in (suc count) (suc lane) below = free-in count lane (omega (arith, below))
 
-free : (initiators : List PlainSetup) (book : BookOf) (desks : ℕ) → AreFree (world_of initiators book desks) (λ desk. desk) desks
-free initiators book desks = record { apart = λ i j first next same. same; free = λ i below. free-in desks i below }
+free : (serves : Serving) (initiators : List PlainSetup) (book : BookOf) (desks : ℕ) → AreFree (world_of serves initiators book desks) (λ desk. desk) desks
+free serves initiators book desks = record { apart = λ i j first next same. same; free = λ i below. free-in desks i below }
 
 -- ---- the headline
 
-pub server-headline : Laws → Headline → {F P C D K M L Q R : Type 0} (shelf : shelves.Ghosts F) (port : ports.Ghosts P L) (link : links.Ghosts L) (clock : clocks.Ghosts C) (draw : draws.Ghosts D)
-    (keeper : keepers.Ghosts K Kept Q) (kept : keepers.Ghosts M (Served L) R) → ServerHeadline shelf port link clock draw keeper kept
-server-headline laws headline shelf port link clock draw keeper kept options keys start faults faults' before after olds end news log files one legal initiators meanwhile are =
+pub server-headline : Laws → Headline → {F V P C D K M T W L Q R : Type 0} (shelf : shelves.Ghosts F) (served : programs.Ghosts V T) (spelling : spellers.Ghosts W T) (port : ports.Ghosts P L) (link : links.Ghosts L) (clock : clocks.Ghosts C) (draw : draws.Ghosts D)
+    (keeper : keepers.Ghosts K Kept Q) (kept : keepers.Ghosts M (Served L) R) → ServerHeadline shelf served spelling port link clock draw keeper kept
+server-headline laws headline shelf served spelling port link clock draw keeper kept program spells options keys start faults faults' before after olds old end news new log files one legal initiators meanwhile are =
+    let serves : Serving = serving spelling.says options.window in
     let book = opened_book options keys start in
-    let w = world_of initiators book (length olds) in
-    let begin : Begins w = begins initiators book (length olds) refl (opened options keys start) (keys-lines laws shelf before after options.files options.name keys files) are.lists are.setups in
-    let is = server-run port link clock draw keeper kept options keys start faults faults' olds end news log one legal w (λ desk. desk) meanwhile refl (free initiators book (length olds)) in
+    let w = world_of serves initiators book (length olds) in
+    let begin : Begins w = begins serves program initiators book (length olds) refl (opened options keys start) (keys-lines laws shelf before after options.files options.name keys files) are.lists are.setups in
+    let is = server-run served spelling port link clock draw keeper kept spells options keys start faults faults' olds old end news new log one legal w (λ desk. desk) meanwhile refl refl (free serves initiators book (length olds)) in
     let logged : is.runs.next.book.core.history ≡ reverse log.entries = ap (λ (b : BookOf). b.core.history) is.runs.booked ∙ is.logged in record {
       begins = begin;
       is = is;

@@ -7,6 +7,7 @@ pub mod Canon
 pub mod Chains
 pub mod Openings
 pub mod Beside
+pub mod ToldOf
 pub mod Desks
 pub mod AllDesks
 pub mod Keepers

@@ -11,8 +11,9 @@ use Rattle.history_laws.specs.Receipts.{receipts_in}
 
 -- the receipts of all desks of a history are the entries of the log, each once, none missing and
 -- none invented: however receipts are weighed, those of the desks weigh together what the log does
-abbrev pub OfAllDesksLaw : Type 0
-OfAllDesksLaw = (desks : ℕ) (weight : Receipt → ℕ) (all : List Note) (first last : BookOf)
+abbrev pub OfAllDesksLaw : Type 0 → Type 0
+OfAllDesksLaw T = (desks : ℕ) (weight : Receipt → ℕ) (all : List (Note T))
+    (first last : BookOf)
     → first.core.history ≡ [] → Asking BookAnswers first (questions_of all) last
     → ((desk : ℕ) → desks ≤ desk → asked_by desk all ≡ [])
     → total desks (λ desk. weigh weight (flat_map receipts_in (asked_by desk all)))

@@ -3,9 +3,13 @@ use Rattle.std.specs.Prelude.{◌≡◌, ◌⊎◌, ℕ, true, List, [], ◌∷�
 use Rattle.std.specs.List.{AllByRecursion}
 use Rattle.accept_book.specs.Booking.{BookOf}
 use Rattle.accept_book.specs.RecordRule.{record_ruling}
-use Rattle.accept_book.specs.RecordShown.{Ruling, Asked}
+use Rattle.accept_book.specs.RecordShown.{Ruling, Asked, booked}
+use Rattle.accept_book.specs.declared.book_answer.Admitted.{Admitted}
 use Rattle.gss_server.specs.Answers.{IsDecided, may_want}
 use Rattle.gss_server.specs.Asking.{Asking, BookAnswers}
+use Rattle.gss_server.specs.Hearing.{serving}
+use Rattle.rpc_program.specs.Programs.{Serving}
+use Rattle.world_laws.specs.Apart.{ToldApart}
 use Rattle.world_laws.specs.declared.event.WorldEvent.{WorldEvent}
 use Rattle.world_laws.specs.declared.event.WorldEvent.TheVariants.{Lane}
 use Rattle.world_laws.specs.Events.{IsBook, Run}
@@ -13,14 +17,18 @@ use Rattle.world_laws.specs.State.{InHand, World}
 
 -- ---- records that were answered
 
--- what a book may answer to a question, and its log is legal afterwards
-abbrev pub LegalAnswers : BookOf → Asked → BookOf → Type 0
-LegalAnswers old one new = BookAnswers old one new × IsBook new
+-- what a book may answer to what it has of a gate's question; the result of an admitted call is
+-- told apart from a list of mechanisms
+abbrev pub GateAnswers : BookOf → Asked Admitted → BookOf → Type 0
+GateAnswers old one new = BookAnswers old (booked one) new × ToldApart one
 
--- what a record comes to by the answers that were kept for it, where replies tell windows of this
--- width
-abbrev pub ruling_at : ℕ → InHand → Ruling
-ruling_at width hand = record_ruling hand.octets hand.kept width
+-- the same, and the book's log is legal afterwards
+abbrev pub LegalAnswers : BookOf → Asked Admitted → BookOf → Type 0
+LegalAnswers old one new = GateAnswers old one new × IsBook new
+
+-- what a record comes to by the answers that were kept for it, where this is served
+abbrev pub ruling_at : Serving → InHand → Ruling
+ruling_at serves hand = record_ruling hand.octets hand.kept serves
 
 -- a rule decides, or memory was wanted where it may be
 abbrev pub IsOver : Ruling → Type 0
@@ -29,18 +37,18 @@ IsOver ruling = IsDecided ruling ⊎ (may_want ruling ≡ true)
 -- a record was answered: 82 octets were drawn for it, the book was asked exactly the rule's
 -- questions, in order, and answered as it may
 pub record Answered
-    (Answers : BookOf → Asked → BookOf → Type 0) (width : ℕ) (hand : InHand)
+    (Answers : BookOf → Asked Admitted → BookOf → Type 0) (serves : Serving) (hand : InHand)
     (old new : BookOf) : Type 0 where
   pub drawn : length hand.kept.draws ≡ 82
-  pub over : IsOver (ruling_at width hand)
-  pub asked : Asking Answers old (ruling_at width hand).asked new
+  pub over : IsOver (ruling_at serves hand)
+  pub asked : Asking Answers old (ruling_at serves hand).asked new
 
 -- records were answered, one after the other
-abbrev pub AllAnswered : (BookOf → Asked → BookOf → Type 0) → ℕ → List InHand → BookOf → BookOf
-    → Type 0
-AllAnswered Answers width [] old new = new ≡ old
-AllAnswered Answers width (hand ∷ more) old new = (middle : BookOf)
-    × Answered Answers width hand old middle × AllAnswered Answers width more middle new
+abbrev pub AllAnswered : (BookOf → Asked Admitted → BookOf → Type 0) → Serving → List InHand
+    → BookOf → BookOf → Type 0
+AllAnswered Answers serves [] old new = new ≡ old
+AllAnswered Answers serves (hand ∷ more) old new = (middle : BookOf)
+    × Answered Answers serves hand old middle × AllAnswered Answers serves more middle new
 
 -- ---- the events that they are
 
@@ -64,7 +72,8 @@ pub record Serves (lane : ℕ) (hand : InHand) (old : World) (book : BookOf) : T
 -- questions of a rule, and whether it decides, don't depend on the width
 abbrev pub ServedLaw : Type 0
 ServedLaw = (w : World) (lane width : ℕ) (hand : InHand) (book : BookOf) → IsBook w.book
-    → slice_get w.lanes lane ≡ Some None → Answered LegalAnswers width hand w.book book
+    → slice_get w.lanes lane ≡ Some None
+    → Answered LegalAnswers (serving w.serves.program width) hand w.book book
     → Serves lane hand w book
 
 -- ---- records in a row
@@ -99,4 +108,5 @@ pub record IsRun (lane : ℕ) (meanwhile : (w : World) → Meanwhile w) (hands :
 abbrev pub AllServedLaw : Type 0
 AllServedLaw = (w : World) (lane width : ℕ) (meanwhile : (w : World) → Meanwhile w)
     (hands : List InHand) (book : BookOf) → IsBook w.book → slice_get w.lanes lane ≡ Some None
-    → AllAnswered LegalAnswers width hands w.book book → IsRun lane meanwhile hands w book
+    → AllAnswered LegalAnswers (serving w.serves.program width) hands w.book book
+    → IsRun lane meanwhile hands w book

@@ -9,13 +9,16 @@ use Rattle.sec_base.specs.declared.shelf.Shelf as shelves
 use Rattle.spnego_core.specs.Ends.{PlainSetup}
 use Rattle.spnego_core.specs.InitMech.{is_own_list}
 use Rattle.accept_book.specs.Booking.{BookOf}
+use Rattle.rpc_program.specs.Programs.{Serving}
+use Rattle.rpc_program.specs.declared.program.Program as programs
+use Rattle.rpc_program.specs.declared.program.Speller as spellers
+use Rattle.gss_server.specs.Hearing.{serving}
 use Rattle.accept_core.specs.Legal.{Legal}
 use Rattle.accept_core.specs.Logs.{LogOf}
 use Rattle.accept_core.specs.declared.entry.Entry.{Entry}
 use Rattle.gss_server.specs.declared.answer.Kept.{Kept}
 use Rattle.gss_server.specs.declared.connection.Served.{Served}
 use Rattle.gss_server.specs.declared.keeper.Keeper as keepers
-use Rattle.book_seats.specs.Notes.{Note}
 use Rattle.server_desks.specs.Desks.{run_limit}
 use Rattle.server_desks.specs.declared.desk.Desk.{Desk}
 use Rattle.server_command.specs.Through.{OneHistory}
@@ -32,15 +35,19 @@ use Rattle.world_laws.specs.Premises.{Marking, NoForgery, Fresh}
 use Rattle.world_laws.specs.Setups.{IsSetup}
 use Rattle.world_laws.specs.Stages.{Ready}
 use Rattle.world_laws.specs.State.{InHand, World}
+use Rattle.world_laws.specs.Apart.{IsApart}
+use Rattle.server_laws.specs.Apart.{SpellsApart}
+use Rattle.server_laws.specs.Beside.{BookNote}
 use Rattle.server_laws.specs.Served.{Meanwhile}
-use Rattle.server_laws.specs.ServerRun.{opened_book, AreTheirs, LogIsRun}
+use Rattle.server_laws.specs.ServerRun.{opened_book, book_notes, AreTheirs, LogIsRun}
 
 -- ---- the world that a run begins in
 
--- these initiators, of whom nobody was started, a book, and a free lane for each of so many desks;
--- nothing was fixed or handed out
-abbrev pub world_of : List PlainSetup → BookOf → ℕ → World
-world_of initiators book desks = record {
+-- what is served, these initiators, of whom nobody was started, a book, and a free lane for each of
+-- so many desks; nothing was fixed or handed out
+abbrev pub world_of : Serving → List PlainSetup → BookOf → ℕ → World
+world_of serves initiators book desks = record {
+  serves = serves;
   facts = initiators;
   stages = map (λ own. Ready own) initiators;
   book = book;
@@ -71,7 +78,7 @@ pub record HeadlineOf (marking : Marking) (old : World) (events : List WorldEven
 -- Where nothing was forged in that run under guarded keys, and draws were fresh, agreement and
 -- origin hold of this very log. And whatever was forged, nothing stands in it twice
 pub record OfThatLog (Are : (ℕ → List InHand) → Type 0) (meanwhile : (w : World) → Meanwhile w)
-    (notes : List Note) (old : World) (log : List Entry) : Type 0 where
+    (notes : List BookNote) (old : World) (log : List Entry) : Type 0 where
   pub begins : Begins old
   pub is : LogIsRun Are (λ desk. desk) meanwhile notes old log
   pub says : (marking : Marking)
@@ -81,21 +88,27 @@ pub record OfThatLog (Are : (ℕ → List InHand) → Type 0) (meanwhile : (w : 
   pub once : StandsOnce log
 
 -- the server's headline. What `run_server` promises of its log in `booked` and `legal` is enough:
--- files gave these keys, one book with them answered all questions of all desks, and its log is
--- legal. Then for any initiators, whatever they do meanwhile, the headline holds of that log
-abbrev pub ServerHeadline : {F P C D K M L Q R : Type 0} → shelves.Ghosts F → ports.Ghosts P L
-    → links.Ghosts L → clocks.Ghosts C → draws.Ghosts D → keepers.Ghosts K Kept Q
-    → keepers.Ghosts M (Served L) R → Type 0
-ServerHeadline {F} {P} {C} {D} {K} {M} shelf port link clock draw keeper kept =
-    (options : Options) (keys : Keys) (start faults faults' : ℕ) (before after : F)
-    (olds : List (Desk P C D K M)) (end : RunEnd) (news : List (Desk P C D K M)) (log : LogOf)
+-- files gave these keys, one book with them and one program answered all questions of all desks,
+-- and the log is legal; what the program takes, and what is spelled, is told apart from what else
+-- is signed by a context's key. Then for any initiators, whatever they do meanwhile, the headline
+-- holds of that log, whatever the program does
+abbrev pub ServerHeadline : {F V P C D K M T W L Q R : Type 0} → shelves.Ghosts F
+    → programs.Ghosts V T → spellers.Ghosts W T → ports.Ghosts P L → links.Ghosts L
+    → clocks.Ghosts C → draws.Ghosts D → keepers.Ghosts K Kept Q → keepers.Ghosts M (Served L) R
+    → Type 0
+ServerHeadline {F} {V} {P} {C} {D} {K} {M} {T} {W} shelf served spelling port link clock draw keeper
+    kept = IsApart spelling.says → SpellsApart spelling
+    → (options : Options) (keys : Keys) (start faults faults' : ℕ) (before after : F)
+    (olds : List (Desk P C D K M W)) (old : V) (end : RunEnd) (news : List (Desk P C D K M W))
+    (new : V) (log : LogOf)
     → KeysFrom shelf before after options.files options.name (Ok keys)
-    → (one : OneHistory options keys start faults faults' port link clock draw keeper kept olds end
-    news log)
+    → (one : OneHistory served spelling options keys start faults faults' port link clock draw
+    keeper kept olds old end news new log)
     → Legal log.width (reverse log.entries)
     → (initiators : List PlainSetup) (meanwhile : (w : World) → Meanwhile w)
     → AreInitiators initiators → OfThatLog
-    (AreTheirs (is_some options.files.journal) faults faults' options.window
-    (run_limit options.connections (length olds)) port link clock draw keeper kept olds one.ends
-    news one.all) meanwhile one.all
-    (world_of initiators (opened_book options keys start) (length olds)) (reverse log.entries)
+    (AreTheirs spelling (is_some options.files.journal) faults faults'
+    (serving spelling.says options.window) (run_limit options.connections (length olds)) port link
+    clock draw keeper kept olds one.ends news one.all) meanwhile (book_notes one.all)
+    (world_of (serving spelling.says options.window) initiators (opened_book options keys start)
+    (length olds)) (reverse log.entries)

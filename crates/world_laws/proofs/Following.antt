@@ -9,7 +9,9 @@ use Rattle.rpc_msgs.specs.declared.xdr_reader.XdrRefusal.{XdrRefusal}
 use Rattle.rpcsec_msgs.specs.Cred.{CredValue, cred_at}
 use Rattle.rpcsec_msgs.specs.declared.cred.CredRefusal.{CredRefusal}
 use Rattle.accept_book.specs.Served.{one_opaque}
+use Rattle.accept_book.specs.declared.book_answer.Admitted.{Admitted}
 use Rattle.accept_book.specs.declared.book_answer.Negotiated.{Negotiated}
+use Rattle.rpc_program.specs.Programs.{Serving}
 use Rattle.accept_book.specs.RecordShown.{KeptAnswers, Question, Negotiate, Asked, AskedStep, Ruling, asking, Shown, handle_id}
 use Rattle.accept_book.specs.RecordRule.{is_other_program, is_other_version_of_it, is_misplaced, plain_ruling, stepped, ask_step, continued, token_ruling, creation_ruling, id_ruling, cred_ruling, call_ruling, read_ruling, record_ruling}
 use Rattle.world_laws.proofs.Due.{shown, plain-due, id-says}
@@ -21,7 +23,7 @@ answered k answer = record { now = k.now; draws = k.draws; negotiated = Some ans
 -- the step's answer decides
 pub record Decides (answer : Negotiated) (ruling : Ruling) : Type 0 where
   pub shown_by : Shown
-  pub one : Asked
+  pub one : Asked Admitted
   pub is : ruling ≡ asking one (stepped shown_by answer.answer)
 
 -- where the first asks for a step, the second is what its answer decides
@@ -56,44 +58,44 @@ token-follows s cred (Ok token) found answer =
 creation-follows : (s : Shown) (cred : CredValue) (found : Option Negotiated) (answer : Negotiated) → Follows answer (creation_ruling s cred found) (creation_ruling s cred (Some answer))
 unfolding creation_ruling
 creation-follows s cred found answer =
-    row-follows answer (is_other_program s.call) _ _ _ _ refl
-    (row-follows answer (is_other_version_of_it s.call) _ (token_ruling s cred found (one_opaque s.call.args)) _ (token_ruling s cred (Some answer) (one_opaque s.call.args)) refl
+    row-follows answer (is_other_program s) _ _ _ _ refl
+    (row-follows answer (is_other_version_of_it s) _ (token_ruling s cred found (one_opaque s.call.args)) _ (token_ruling s cred (Some answer) (one_opaque s.call.args)) refl
     (token-follows s cred (one_opaque s.call.args) found answer))
 
-later-follows : (octets : List ℕ) (kept : KeptAnswers) (width : ℕ) (call : CallValue) (cred : CredValue) (id : Option ℕ) (answer : Negotiated) (after : Ruling) → call_at octets ≡ Ok call → cred_at call.cred.body ≡ Ok cred
-    → Follows answer (id_ruling (shown octets kept width call) cred kept.looked kept.admitted kept.ended id) after
-later-follows octets kept width call cred id answer after read cred_read other token now draws due = absurd (id-says octets kept width call cred id read cred_read (Negotiate other token now draws) due)
+later-follows : (octets : List ℕ) (kept : KeptAnswers) (serves : Serving) (call : CallValue) (cred : CredValue) (id : Option ℕ) (answer : Negotiated) (after : Ruling) → call_at octets ≡ Ok call → cred_at call.cred.body ≡ Ok cred
+    → Follows answer (id_ruling (shown octets kept serves call) cred kept.looked kept.admitted kept.ended id) after
+later-follows octets kept serves call cred id answer after read cred_read other token now draws due = absurd (id-says octets kept serves call cred id read cred_read (Negotiate other token now draws) due)
 
-cred-follows : (octets : List ℕ) (kept : KeptAnswers) (width : ℕ) (call : CallValue) (cred : Result CredValue CredRefusal) (answer : Negotiated) → call_at octets ≡ Ok call → cred_at call.cred.body ≡ cred
-    → Follows answer (cred_ruling (shown octets kept width call) kept.negotiated kept.looked kept.admitted kept.ended cred)
-    (cred_ruling (shown octets (answered kept answer) width call) (Some answer) kept.looked kept.admitted kept.ended cred)
-cred-follows octets kept width call (Err refusal) answer read e = none-follows answer None _ refl
-cred-follows octets kept width call (Ok cred) answer read e =
-    let s : Shown = shown octets kept width call in
+cred-follows : (octets : List ℕ) (kept : KeptAnswers) (serves : Serving) (call : CallValue) (cred : Result CredValue CredRefusal) (answer : Negotiated) → call_at octets ≡ Ok call → cred_at call.cred.body ≡ cred
+    → Follows answer (cred_ruling (shown octets kept serves call) kept.negotiated kept.looked kept.admitted kept.ended cred)
+    (cred_ruling (shown octets (answered kept answer) serves call) (Some answer) kept.looked kept.admitted kept.ended cred)
+cred-follows octets kept serves call (Err refusal) answer read e = none-follows answer None _ refl
+cred-follows octets kept serves call (Ok cred) answer read e =
+    let s : Shown = shown octets kept serves call in
     let later : Ruling = id_ruling s cred kept.looked kept.admitted kept.ended (handle_id cred.context) in
     row-follows answer (is_misplaced call cred) _ _ _ _ refl
     (if-follows answer (cred.proc == 1 || cred.proc == 2) (creation_ruling s cred kept.negotiated) later (creation_ruling s cred (Some answer)) later
-    (creation-follows s cred kept.negotiated answer) (later-follows octets kept width call cred (handle_id cred.context) answer later read e))
+    (creation-follows s cred kept.negotiated answer) (later-follows octets kept serves call cred (handle_id cred.context) answer later read e))
 
-call-follows : (octets : List ℕ) (kept : KeptAnswers) (width : ℕ) (call : CallValue) (answer : Negotiated) → call_at octets ≡ Ok call
-    → Follows answer (call_ruling (shown octets kept width call) kept.negotiated kept.looked kept.admitted kept.ended)
-    (call_ruling (shown octets (answered kept answer) width call) (Some answer) kept.looked kept.admitted kept.ended)
+call-follows : (octets : List ℕ) (kept : KeptAnswers) (serves : Serving) (call : CallValue) (answer : Negotiated) → call_at octets ≡ Ok call
+    → Follows answer (call_ruling (shown octets kept serves call) kept.negotiated kept.looked kept.admitted kept.ended)
+    (call_ruling (shown octets (answered kept answer) serves call) (Some answer) kept.looked kept.admitted kept.ended)
 unfolding call_ruling
-call-follows octets kept width call answer read =
-    let s : Shown = shown octets kept width call in
+call-follows octets kept serves call answer read =
+    let s : Shown = shown octets kept serves call in
     row-follows answer (not (call.cred.flavour == 0) && not (call.cred.flavour == 6)) _ _ _ _ refl
     (row-follows answer (call.cred.flavour == 0) (plain_ruling s) (cred_ruling s kept.negotiated kept.looked kept.admitted kept.ended (cred_at call.cred.body))
     (plain_ruling s) (cred_ruling s (Some answer) kept.looked kept.admitted kept.ended (cred_at call.cred.body)) (plain-due s)
-    (cred-follows octets kept width call (cred_at call.cred.body) answer read refl))
+    (cred-follows octets kept serves call (cred_at call.cred.body) answer read refl))
 
-read-follows : (octets : List ℕ) (kept : KeptAnswers) (width : ℕ) (call : Result CallValue CallRefusal) (answer : Negotiated) → call_at octets ≡ call
-    → Follows answer (read_ruling octets kept width call) (read_ruling octets (answered kept answer) width call)
-read-follows octets kept width (Err (Unreadable at)) answer e = none-follows answer None _ refl
-read-follows octets kept width (Err NotCall) answer e = none-follows answer None _ refl
-read-follows octets kept width (Err (RpcVersion xid)) answer e = none-follows answer None _ refl
-read-follows octets kept width (Ok call) answer e = call-follows octets kept width call answer e
+read-follows : (octets : List ℕ) (kept : KeptAnswers) (serves : Serving) (call : Result CallValue CallRefusal) (answer : Negotiated) → call_at octets ≡ call
+    → Follows answer (read_ruling octets kept serves call) (read_ruling octets (answered kept answer) serves call)
+read-follows octets kept serves (Err (Unreadable at)) answer e = none-follows answer None _ refl
+read-follows octets kept serves (Err NotCall) answer e = none-follows answer None _ refl
+read-follows octets kept serves (Err (RpcVersion xid)) answer e = none-follows answer None _ refl
+read-follows octets kept serves (Ok call) answer e = call-follows octets kept serves call answer e
 
-pub step-decides : (octets : List ℕ) (kept : KeptAnswers) (width : ℕ) (answer : Negotiated) (id : Option ℕ) (token : List ℕ) (now : ℕ) (draws : List ℕ) → (record_ruling octets kept width).due ≡ Some (Negotiate id token now draws)
-    → Decides answer (record_ruling octets (answered kept answer) width)
+pub step-decides : (octets : List ℕ) (kept : KeptAnswers) (serves : Serving) (answer : Negotiated) (id : Option ℕ) (token : List ℕ) (now : ℕ) (draws : List ℕ) → (record_ruling octets kept serves).due ≡ Some (Negotiate id token now draws)
+    → Decides answer (record_ruling octets (answered kept answer) serves)
 unfolding record_ruling
-step-decides octets kept width answer id token now draws due = read-follows octets kept width (call_at octets) answer refl id token now draws due
+step-decides octets kept serves answer id token now draws due = read-follows octets kept serves (call_at octets) answer refl id token now draws due

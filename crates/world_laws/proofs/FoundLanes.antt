@@ -20,6 +20,7 @@ use Rattle.spnego_core.specs.Outcome.{outcome_of}
 use Rattle.spnego_core.specs.AcceptLaws.{ByKerberos, ByScram}
 use Rattle.spnego_core.specs.AcceptMech.{ByRequest, ByProof}
 use Rattle.spnego_core.specs.Accepting.{Fixed, Accepted, accept_step}
+use Rattle.accept_book.specs.declared.book_answer.Admitted.{Admitted}
 use Rattle.accept_book.specs.declared.book_answer.NegAnswer.{NegAnswer}
 use Rattle.accept_book.specs.declared.book_answer.NegAnswer.TheVariants as answers
 use Rattle.accept_book.specs.declared.book_answer.Negotiated.{Negotiated}
@@ -185,12 +186,12 @@ step-context laws marking w id past token now draws answer deed x good unforged 
     (step-fixes laws marking w id past token now draws deed (id_of id w.book.core.history) m.fixed good unforged found opens
     (unshort answer.answer (fixes_of (step_taken w.book.setup (raised w.book.core now) id past token now draws)) m.fixed m.was))
 
-asked-context : (laws : Below) (marking : Marking) (w : World) (past : Option ℕ) (hand : InHand) (asked : Asked) (deed : Deed) (x : Context) → AllGood w.book.setup w.book.core.table → Unforged marking w deed
+asked-context : (laws : Below) (marking : Marking) (w : World) (past : Option ℕ) (hand : InHand) (asked : Asked Admitted) (deed : Deed) (x : Context) → AllGood w.book.setup w.book.core.table → Unforged marking w deed
     → deed.found ≡ found_by w.book past hand asked → deed.opened ≡ opened_by w.book asked → fixes_by w.book past asked ≡ Some x → ContextFound marking w x
 asked-context laws marking w past hand (AskedStep id token now draws answer) deed x good unforged found opens e =
     step-context laws marking w id past token now draws answer deed x good unforged found opens (mapped _ _ x e)
 asked-context laws marking w past hand (AskedLook id now answer) deed x good unforged found opens e = absurd (none-some x e)
-asked-context laws marking w past hand (AskedAdmit lease seq procedure args answer) deed x good unforged found opens e = absurd (none-some x e)
+asked-context laws marking w past hand (AskedAdmit lease seq service procedure args answer) deed x good unforged found opens e = absurd (none-some x e)
 asked-context laws marking w past hand (AskedEnd lease seq answer) deed x good unforged found opens e = absurd (none-some x e)
 
 -- ---- the lane's move

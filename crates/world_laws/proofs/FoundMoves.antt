@@ -80,11 +80,11 @@ unchosen-found marking old end e = record {
   listed = λ outcome f l. absurd (unfinished end outcome e f);
 }
 
-starts-found : (laws : Below) (marking : Marking) (old : World) (i : ℕ) (own : PlainSetup) (r : Result Started NegRefusal) → init_start own ≡ r → StageFound marking old i (started_by r).stage
+starts-found : (laws : Below) (marking : Marking) (old : World) (i : ℕ) (own : PlainSetup) (r : Result Started NegRefusal) → init_start own ≡ r → StageFound marking old i (started_by old.serves r).stage
 starts-found laws marking old i own (Err refusal) e = over-found marking old i
 starts-found laws marking old i own (Ok started) e = asks-found marking old i 1 started.end (unchosen-found marking old started.end (laws.init.starts own started e).unchosen)
 
-starts-lost : (marking : Marking) (old : World) (i : ℕ) (r : Result Started NegRefusal) → StageFound marking old i (started_by r).lost
+starts-lost : (marking : Marking) (old : World) (i : ℕ) (r : Result Started NegRefusal) → StageFound marking old i (started_by old.serves r).lost
 starts-lost marking old i (Err refusal) = over-found marking old i
 starts-lost marking old i (Ok started) = over-found marking old i
 
@@ -119,7 +119,7 @@ append-none [] = refl
 append-none (x ∷ xs) = ap (λ (l : List MechMaking). x ∷ l) (append-none xs)
 
 takes-found : (laws : Below) (marking : Marking) (old : World) (i first xid : ℕ) (end : EndSays) (octets : List ℕ) (r : Result CreatedSays ClientRefusal) → Built marking old → slice_get old.facts i ≡ Some (own_of end) → GoodInit end → EndFound marking old end
-    → Behind xid end octets r → Verified marking old (created_by first xid end octets r).found → StageFound marking old i (created_by first xid end octets r).stage
+    → Behind xid end octets r → Verified marking old (created_by old.serves first xid end octets r).found → StageFound marking old i (created_by old.serves first xid end octets r).stage
 takes-found laws marking old i first xid end octets (Err refusal) built there good f s found = over-found marking old i
 takes-found laws marking old i first xid end octets (Ok (created.Going offer)) built there good f s found =
     asks-found marking old i _ offer.end (going marking old xid end offer.end octets offer.token s (laws.init.steps end s.token s.taken good s.steps)
@@ -130,7 +130,7 @@ takes-found laws marking old i first xid end octets (Ok (created.Stands outcome 
     (step-of laws marking old i xid end octets (steps.Done outcome) built there f s (laws.init.steps end s.token s.taken good s.steps)
     (verified-in marking old (window_found outcome (granted_in xid octets)) (initiated xid end octets) s.taken s.is found)))
 
-takes-lost : (marking : Marking) (old : World) (i first xid : ℕ) (end : EndSays) (octets : List ℕ) (r : Result CreatedSays ClientRefusal) → StageFound marking old i (created_by first xid end octets r).lost
+takes-lost : (marking : Marking) (old : World) (i first xid : ℕ) (end : EndSays) (octets : List ℕ) (r : Result CreatedSays ClientRefusal) → StageFound marking old i (created_by old.serves first xid end octets r).lost
 takes-lost marking old i first xid end octets (Err refusal) = over-found marking old i
 takes-lost marking old i first xid end octets (Ok (created.Going offer)) = over-found marking old i
 takes-lost marking old i first xid end octets (Ok (created.Stands outcome handle)) = over-found marking old i
@@ -142,10 +142,10 @@ pub record MoveFound (marking : Marking) (old : World) (i : ℕ) (moved : Moved)
   pub did : Verified marking old moved.found → StageFound marking old i moved.stage
   pub lost : StageFound marking old i moved.lost
 
-starting : (laws : Below) (marking : Marking) (old : World) (i : ℕ) (own : PlainSetup) → MoveFound marking old i (starts own)
+starting : (laws : Below) (marking : Marking) (old : World) (i : ℕ) (own : PlainSetup) → MoveFound marking old i (starts old.serves own)
 starting laws marking old i own = record { did = λ found. starts-found laws marking old i own (init_start own) refl; lost = starts-lost marking old i (init_start own) }
 
-taking : (laws : Below) (marking : Marking) (old : World) (i first xid : ℕ) (end : EndSays) (octets : List ℕ) → Built marking old → slice_get old.facts i ≡ Some (own_of end) → GoodInit end → EndFound marking old end → MoveFound marking old i (takes first xid end octets)
+taking : (laws : Below) (marking : Marking) (old : World) (i first xid : ℕ) (end : EndSays) (octets : List ℕ) → Built marking old → slice_get old.facts i ≡ Some (own_of end) → GoodInit end → EndFound marking old end → MoveFound marking old i (takes old.serves first xid end octets)
 taking laws marking old i first xid end octets built there good f = record {
   did = λ found. takes-found laws marking old i first xid end octets (creation_step end xid octets) built there good f (behind xid end octets) found;
   lost = takes-lost marking old i first xid end octets (creation_step end xid octets);

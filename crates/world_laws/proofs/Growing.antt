@@ -9,9 +9,11 @@ use Rattle.spnego_core.specs.Ends.{PlainSetup}
 use Rattle.spnego_core.proofs.Makings.{among_front}
 use Rattle.accept_core.specs.Stepping.{IsNext}
 use Rattle.accept_core.specs.declared.entry.Entry.{Entry}
+use Rattle.rpc_program.specs.Programs.{Serving}
+use Rattle.accept_book.specs.declared.book_answer.Admitted.{Admitted}
 use Rattle.accept_book.specs.Booking.{BookOf}
 use Rattle.accept_core.specs.History.{entry_at}
-use Rattle.accept_book.specs.RecordShown.{Negotiate, Asked, AskedStep, AskedLook, AskedAdmit, AskedEnd}
+use Rattle.accept_book.specs.RecordShown.{Negotiate, booked, Asked, AskedStep, AskedLook, AskedAdmit, AskedEnd}
 use Rattle.gss_client.specs.Session.{SessionState}
 use Rattle.world_laws.specs.declared.event.WorldEvent.{WorldEvent}
 use Rattle.world_laws.specs.Stages.{StageSays}
@@ -19,7 +21,7 @@ use Rattle.world_laws.specs.Stages as stages
 use Rattle.world_laws.specs.Deeds.{Deed, quiet}
 use Rattle.world_laws.specs.State.{InHand, Context, World, moved_to}
 use Rattle.world_laws.specs.Initiators.{Moved, calls, leaves}
-use Rattle.world_laws.specs.Lanes.{in_hand, ruling_of, question_of, told_width, with_lane, LaneMoves}
+use Rattle.world_laws.specs.Lanes.{in_hand, ruling_of, question_of, with_lane, LaneMoves}
 use Rattle.world_laws.specs.Events.{Moves, Happens, Run}
 use Rattle.world_laws.specs.Premises.{Marking, Listed, BuiltKey, WasSettled, IsWordMic, WasMade, session_in, Completed}
 use Rattle.world_laws.proofs.Slices.{set-same, set-other, get-front}
@@ -37,6 +39,7 @@ pub record StandsAt (places : List StageSays) (i : ℕ) (outcome : Outcome) : Ty
   pub outcome_is : session.outcome ≡ outcome
 
 pub record Grows (old new : World) : Type 0 where
+  pub serves : new.serves ≡ old.serves
   pub facts : new.facts ≡ old.facts
   pub setup : new.book.setup ≡ old.book.setup
   pub more : List Context
@@ -48,6 +51,7 @@ pub record Grows (old new : World) : Type 0 where
 
 pub same-grows : (w : World) → Grows w w
 same-grows w = record {
+  serves = refl;
   facts = refl;
   setup = refl;
   more = [];
@@ -112,6 +116,7 @@ move-sessions w i moved (Leaving session procedure args there left last served p
 moved-grows : (w : World) (i : ℕ) (stage : StageSays) (makes : List MechMaking) → ((j : ℕ) (outcome : Outcome) → StandsAt w.stages j outcome → StandsAt (slice_set w.stages i stage) j outcome)
     → Grows w (moved_to w i stage makes)
 moved-grows w i stage makes sessions = record {
+  serves = refl;
   facts = refl;
   setup = refl;
   more = [];
@@ -131,6 +136,7 @@ move-grows old i moved deed new move (inr b) = subst (Grows old) (sym b.1) (move
 lane-grows : (old : World) (lane : ℕ) (left : Option InHand) (book : BookOf) (deed : Deed) → book.setup ≡ old.book.setup → Fronts old.book.core.history book.core.history
     → Grows old (with_lane old lane left book deed)
 lane-grows old lane left book deed setup front = record {
+  serves = refl;
   facts = refl;
   setup = setup;
   more = option_to_list deed.fixes;
@@ -142,18 +148,18 @@ lane-grows old lane left book deed setup front = record {
 }
 
 -- the moment of a step that is due is the record's
-pub asks-past : (book : BookOf) (past : Option ℕ) (hand : InHand) (asked : Asked) → (ruling_of hand).due ≡ Some (question_of asked) → IsNext book.core.table (max book.core.cache.greatest hand.kept.now) past → IsNextFor book past asked
-asks-past book past hand (AskedStep id token now draws answer) due is_past =
-    subst (λ (n : ℕ). IsNext book.core.table (max book.core.cache.greatest n) past) (sym (due-says hand.octets hand.kept told_width (Negotiate id token now draws) due).0) is_past
-asks-past book past hand (AskedLook id now answer) due is_past = tt
-asks-past book past hand (AskedAdmit lease seq procedure args answer) due is_past = tt
-asks-past book past hand (AskedEnd lease seq answer) due is_past = tt
+pub asks-past : (serves : Serving) (book : BookOf) (past : Option ℕ) (hand : InHand) (asked : Asked Admitted) → (ruling_of serves hand).due ≡ Some (question_of asked) → IsNext book.core.table (max book.core.cache.greatest hand.kept.now) past → IsNextFor book past (booked asked)
+asks-past serves book past hand (AskedStep id token now draws answer) due is_past =
+    subst (λ (n : ℕ). IsNext book.core.table (max book.core.cache.greatest n) past) (sym (due-says hand.octets hand.kept serves (Negotiate id token now draws) due).0) is_past
+asks-past serves book past hand (AskedLook id now answer) due is_past = tt
+asks-past serves book past hand (AskedAdmit lease seq service procedure args answer) due is_past = tt
+asks-past serves book past hand (AskedEnd lease seq answer) due is_past = tt
 
 laning-grows : (old : World) (lane : ℕ) (hand : InHand) (deed : Deed) (new : World) → LaneMoves old lane hand deed new → Grows old new
 laning-grows old lane hand deed new (inl a) = subst (Grows old) (sym a.new_is) (lane-grows old lane None old.book (quiet deed.answer) refl (no-front old.book.core.history))
 laning-grows old lane hand deed new (inr b) = subst (Grows old) (sym b.new_is)
-    (lane-grows old lane b.left new.book deed (answers-setup old.book new.book b.asked b.answers)
-    (answers-front old.book new.book b.past b.asked (asks-past old.book b.past hand b.asked b.due b.is_past) b.answers))
+    (lane-grows old lane b.left new.book deed (answers-setup old.book new.book (booked b.asked) b.answers)
+    (answers-front old.book new.book b.past (booked b.asked) (asks-past old.serves old.book b.past hand b.asked b.due b.is_past) b.answers))
 
 came-grows : (old : World) (deed : Deed) (new : World) → Came old deed new → Grows old new
 came-grows old deed new (Idling i) = subst (Grows old) (sym i.1) (same-grows old)
@@ -223,6 +229,7 @@ fronts-on a b c f g = record { more = g.more ++ f.more; is = g.is ∙ (ap (λ (h
 
 pub grows-on : (a b c : World) → Grows a b → Grows b c → Grows a c
 grows-on a b c f g = record {
+  serves = g.serves ∙ f.serves;
   facts = g.facts ∙ f.facts;
   setup = g.setup ∙ f.setup;
   more = f.more ++ g.more;

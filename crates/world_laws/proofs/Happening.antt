@@ -1,7 +1,6 @@
 -- What an event came to: nothing, an initiator's move, or a lane's.
-use Rattle.std.proofs.Common.{◌≡◌, ℕ, ◌≤◌, ◌==◌, Bool, true, false, nat_le, List, slice_get, Option, Some, None, refl}
+use Rattle.std.proofs.Common.{◌≡◌, ℕ, ◌<◌, ◌^◌, ◌==◌, Bool, true, false, nat_le, List, slice_get, Option, Some, None, refl}
 use Rattle.spnego_core.specs.Ends.{PlainSetup, EndSays}
-use Rattle.accept_book.specs.Served.{are_args}
 use Rattle.gss_client.specs.Session.{SessionState}
 use Rattle.world_laws.specs.declared.event.WorldEvent.{WorldEvent}
 use Rattle.world_laws.specs.declared.event.WorldEvent.TheVariants.{Start, Deliver, Lane, CallBy}
@@ -15,11 +14,11 @@ use Rattle.world_laws.specs.Events.{Idles, Moves, StartsBy, DeliversBy, CallsWit
 
 -- an initiator's move, from where it is
 pub data Move (w : World) (i : ℕ) (moved : Moved) : Type 0 where
-  Starting : (own : PlainSetup) → slice_get w.stages i ≡ Some (stages.Ready own) → moved ≡ starts own → Move w i moved
-  Taking : (first xid : ℕ) (end : EndSays) (octets : List ℕ) → slice_get w.stages i ≡ Some (stages.Asks xid end) → moved ≡ takes first xid end octets → Move w i moved
-  Calling : (s : SessionState) (procedure : ℕ) (args : List ℕ) → slice_get w.stages i ≡ Some (stages.Stands s) → nat_le s.number 0x7fffffff ≡ true → procedure ≤ 4 → are_args procedure args ≡ true
+  Starting : (own : PlainSetup) → slice_get w.stages i ≡ Some (stages.Ready own) → moved ≡ starts w.serves own → Move w i moved
+  Taking : (first xid : ℕ) (end : EndSays) (octets : List ℕ) → slice_get w.stages i ≡ Some (stages.Asks xid end) → moved ≡ takes w.serves first xid end octets → Move w i moved
+  Calling : (s : SessionState) (procedure : ℕ) (args : List ℕ) → slice_get w.stages i ≡ Some (stages.Stands s) → nat_le s.number 0x7fffffff ≡ true → procedure < 2 ^ 32 → w.serves.program.takes procedure args ≡ true
       → moved ≡ calls s procedure args → Move w i moved
-  Leaving : (s : SessionState) (procedure : ℕ) (args : List ℕ) → slice_get w.stages i ≡ Some (stages.Stands s) → nat_le s.number 0x7fffffff ≡ false → (s.number == 0x80000000) ≡ true → procedure ≤ 4 → are_args procedure args ≡ true
+  Leaving : (s : SessionState) (procedure : ℕ) (args : List ℕ) → slice_get w.stages i ≡ Some (stages.Stands s) → nat_le s.number 0x7fffffff ≡ false → (s.number == 0x80000000) ≡ true → procedure < 2 ^ 32 → w.serves.program.takes procedure args ≡ true
       → moved ≡ leaves s → Move w i moved
 
 pub data Came (old : World) (deed : Deed) (new : World) : Type 0 where
@@ -29,7 +28,7 @@ pub data Came (old : World) (deed : Deed) (new : World) : Type 0 where
 
 started : (old : World) (i : ℕ) (stage : Option StageSays) (deed : Deed) (new : World) → slice_get old.stages i ≡ stage → StartsBy old i stage deed new → Came old deed new
 started old i None deed new there did = Idling did
-started old i (Some (stages.Ready own)) deed new there did = Moving i (starts own) (Starting own there refl) did
+started old i (Some (stages.Ready own)) deed new there did = Moving i (starts old.serves own) (Starting own there refl) did
 started old i (Some (stages.Asks xid end)) deed new there did = Idling did
 started old i (Some (stages.Stands s)) deed new there did = Idling did
 started old i (Some (stages.Left s)) deed new there did = Idling did
@@ -38,18 +37,18 @@ started old i (Some stages.Over) deed new there did = Idling did
 delivered : (old : World) (i : ℕ) (octets : List ℕ) (first : ℕ) (stage : Option StageSays) (deed : Deed) (new : World) → slice_get old.stages i ≡ stage → DeliversBy old i octets first stage deed new → Came old deed new
 delivered old i octets first None deed new there did = Idling did
 delivered old i octets first (Some (stages.Ready own)) deed new there did = Idling did
-delivered old i octets first (Some (stages.Asks xid end)) deed new there did = Moving i (takes first xid end octets) (Taking first xid end octets there refl) did
+delivered old i octets first (Some (stages.Asks xid end)) deed new there did = Moving i (takes old.serves first xid end octets) (Taking first xid end octets there refl) did
 delivered old i octets first (Some (stages.Stands s)) deed new there did = Idling did
 delivered old i octets first (Some (stages.Left s)) deed new there did = Idling did
 delivered old i octets first (Some stages.Over) deed new there did = Idling did
 
-numbered : (old : World) (i : ℕ) (s : SessionState) (procedure : ℕ) (args : List ℕ) (deed : Deed) (new : World) (b c : Bool) → slice_get old.stages i ≡ Some (stages.Stands s) → procedure ≤ 4 → are_args procedure args ≡ true
+numbered : (old : World) (i : ℕ) (s : SessionState) (procedure : ℕ) (args : List ℕ) (deed : Deed) (new : World) (b c : Bool) → slice_get old.stages i ≡ Some (stages.Stands s) → procedure < 2 ^ 32 → old.serves.program.takes procedure args ≡ true
     → nat_le s.number 0x7fffffff ≡ b → (s.number == 0x80000000) ≡ c → CallsWith b c old i s procedure args deed new → Came old deed new
 numbered old i s procedure args deed new true c there served proper left last did = Moving i (calls s procedure args) (Calling s procedure args there left served proper refl) did
 numbered old i s procedure args deed new false true there served proper left last did = Moving i (leaves s) (Leaving s procedure args there left last served proper refl) did
 numbered old i s procedure args deed new false false there served proper left last did = Idling did
 
-called : (old : World) (i procedure : ℕ) (args : List ℕ) (stage : Option StageSays) (deed : Deed) (new : World) → slice_get old.stages i ≡ stage → procedure ≤ 4 → are_args procedure args ≡ true
+called : (old : World) (i procedure : ℕ) (args : List ℕ) (stage : Option StageSays) (deed : Deed) (new : World) → slice_get old.stages i ≡ stage → procedure < 2 ^ 32 → old.serves.program.takes procedure args ≡ true
     → CallsBy old i procedure args stage deed new → Came old deed new
 called old i procedure args None deed new there served proper did = Idling did
 called old i procedure args (Some (stages.Ready own)) deed new there served proper did = Idling did

@@ -6,6 +6,7 @@ use Rattle.spnego_core.specs.declared.outcome.Outcome.{Outcome}
 use Rattle.spnego_core.specs.declared.setup.AcceptSetup.{AcceptSetup}
 use Rattle.context_table.specs.declared.slot.Slot.{Slot as TableSlot}
 use Rattle.context_table.specs.Places.{Places, slot_at}
+use Rattle.accept_book.specs.declared.book_answer.Admitted.{Admitted}
 use Rattle.accept_book.specs.declared.book_answer.NegAnswer.{NegAnswer}
 use Rattle.accept_book.specs.declared.book_answer.NegAnswer.TheVariants as answers
 use Rattle.accept_book.specs.declared.book_answer.Negotiated.{Negotiated}
@@ -16,8 +17,9 @@ use Rattle.accept_book.specs.BookLaws.{GoodContext, BookLaws}
 use Rattle.accept_core.specs.Entering.{id_of}
 use Rattle.accept_book.specs.Found.{fixes_of}
 use Rattle.accept_core.specs.History.{Unknown, standing, numbers}
-use Rattle.accept_book.specs.RecordShown.{Asked, AskedStep, AskedLook, AskedAdmit, AskedEnd}
+use Rattle.accept_book.specs.RecordShown.{with_ok, booked, Asked, AskedStep, AskedLook, AskedAdmit, AskedEnd}
 use Rattle.accept_core.specs.Replays.{SameSlot}
+use Rattle.sha1.specs.Sha1.{sha1}
 use Rattle.accept_core.specs.Stepping.{context_of, IsNext}
 use Rattle.gss_client.specs.Session.{SessionState}
 use Rattle.accept_book.specs.BookAnswers.{BookStepped}
@@ -29,7 +31,7 @@ use Rattle.world_laws.specs.Stages as stages
 use Rattle.world_laws.specs.Deeds.{Deed, quiet}
 use Rattle.world_laws.specs.State.{InHand, Context, World, moved_to}
 use Rattle.world_laws.specs.Initiators.{Moved, calls, leaves}
-use Rattle.world_laws.specs.Lanes.{told_width, in_hand, ruling_of, question_of, hand_after, accepted_in, context_with, unless_short, fixes_by, with_lane, Follows, AnswersAtOnce, Asks, LaneMoves}
+use Rattle.world_laws.specs.Lanes.{in_hand, ruling_of, question_of, hand_after, accepted_in, context_with, unless_short, fixes_by, with_lane, Follows, AnswersAtOnce, Asks, LaneMoves}
 use Rattle.world_laws.specs.Events.{IsBook, Idles, Moves, StartsBy, DeliversBy, CallsWith, CallsBy, LanesBy, HappensBy, Happens, Begins}
 use Rattle.world_laws.proofs.Invariants.{Below, Held}
 use Rattle.world_laws.proofs.HeldFacts.{Contexts, contexts_of, Facts, HandHolds, facts-of, leases-of, held-from}
@@ -95,14 +97,15 @@ step-passes laws old id past token now draws result book held is late stepped = 
     go (answers.Refused refusal) e = taken (λ f. let z : answers.Refused refusal ≡ answers.NoMemory = sym e ∙ f in absurd cc)
     go answers.NoMemory e = short-passes old id token now draws result book held stepped e
 
-question-passes : (laws : BookLaws) (old : World) (past : Option ℕ) (hand : InHand) (asked : Asked) (book : BookOf) → Held old → IsBook book
-    → IsNext old.book.core.table (max old.book.core.cache.greatest hand.kept.now) past → (ruling_of hand).due ≡ Some (question_of asked) → BookAnswers old.book asked book
+question-passes : (laws : BookLaws) (old : World) (past : Option ℕ) (hand : InHand) (asked : Asked Admitted) (book : BookOf) → Held old → IsBook book
+    → IsNext old.book.core.table (max old.book.core.cache.greatest hand.kept.now) past → (ruling_of old.serves hand).due ≡ Some (question_of asked) → BookAnswers old.book (booked asked) book
     → Passes (old.fixed ++ option_to_list (fixes_by old.book past asked)) book
 question-passes laws old past hand (AskedStep id token now draws result) book held is late due answers =
     step-passes laws old id past token now draws result book held is
-    (subst (λ (n : ℕ). IsNext old.book.core.table (max old.book.core.cache.greatest n) past) (sym (due-moment hand.octets hand.kept told_width id token now draws due)) late) answers
+    (subst (λ (n : ℕ). IsNext old.book.core.table (max old.book.core.cache.greatest n) past) (sym (due-moment hand.octets hand.kept old.serves id token now draws due)) late) answers
 question-passes laws old past hand (AskedLook id now answer) book held is late due answers = look-passes old id now answer book held answers
-question-passes laws old past hand (AskedAdmit lease seq procedure args answer) book held is late due answers = admit-passes old lease seq procedure args answer book held answers
+question-passes laws old past hand (AskedAdmit lease seq service procedure args answer) book held is late due answers =
+    admit-passes old lease seq procedure (sha1 args) (with_ok (λ (admitted : Admitted). admitted.receipt) answer) book held answers
 question-passes laws old past hand (AskedEnd lease seq answer) book held is late due answers = end-passes old lease seq answer book held answers
 
 -- ---- a lane
@@ -120,7 +123,7 @@ at-once-held old lane hand deed new held a =
     (subst (λ (f : List Context). Passes f old.book) (sym (append-nil old.fixed)) (record { good = held.good; facts = facts-of old held }))
     (λ other e. absurd (none-some other e)))
 
-left-holds : (old : World) (hand : InHand) (deed : Deed) (left : Option InHand) → Follows hand deed.answer left → HandHolds old.fixed hand → (other : InHand) → left ≡ Some other → HandHolds old.fixed other
+left-holds : (old : World) (hand : InHand) (deed : Deed) (left : Option InHand) → Follows old.serves hand deed.answer left → HandHolds old.fixed hand → (other : InHand) → left ≡ Some other → HandHolds old.fixed other
 left-holds old hand deed left (inl due) holds other e = subst (HandHolds old.fixed) (same_Some hand other (sym due.3 ∙ e)) holds
 left-holds old hand deed left (inr answered) holds other e = absurd (none-some other (sym answered.1 ∙ e))
 

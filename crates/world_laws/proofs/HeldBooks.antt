@@ -12,7 +12,6 @@ use Rattle.accept_core.specs.declared.answer.LookRefusal.{LookRefusal}
 use Rattle.accept_book.specs.declared.book_answer.Lease.{Lease}
 use Rattle.accept_book.specs.declared.book_answer.NegAnswer.TheVariants as answers
 use Rattle.accept_book.specs.declared.book_answer.Negotiated.{Negotiated}
-use Rattle.accept_core.specs.declared.entry.Admitted.{Admitted}
 use Rattle.accept_core.specs.declared.entry.EndCause.TheVariants.{Destroyed}
 use Rattle.accept_core.specs.declared.entry.Entry.{Entry}
 use Rattle.accept_core.specs.declared.entry.Entry.TheVariants.{Call, Ended}
@@ -106,7 +105,7 @@ same-passes old book held same =
 pub quiet-history : (h new : List Entry) (refusal : Option AdmitRefusal) (entry : Entry) → Quiet h (after refusal entry h) → new ≡ after refusal entry h → Quiet h new
 quiet-history h new refusal entry quiet same = subst (λ (x : List Entry). Quiet h x) (sym same) quiet
 
-pub admit-passes : (old : World) (lease : Lease) (seq procedure : ℕ) (args : List ℕ) (answer : Result Admitted AdmitRefusal) (book : BookOf) → Held old
+pub admit-passes : (old : World) (lease : Lease) (seq procedure : ℕ) (args : List ℕ) (answer : Result Receipt AdmitRefusal) (book : BookOf) → Held old
     → BookAdmitted old.book book lease seq procedure args answer → Passes (old.fixed ++ []) book
 admit-passes old lease seq procedure args (Ok admitted) book held a =
     quiet-passes old book held a.setup
@@ -181,4 +180,4 @@ fixes-pass laws old id past token now draws book held is same comes None e =
     unfixed-passes laws old id past token now draws book held same comes (taken_in old.book id past token now draws) refl e
 fixes-pass laws old id past token now draws book held is same comes (Some f) e =
     fact-passes laws old id past token now draws book (old.fixed ++ context_with (id_of id old.book.core.history) f ∷ []) held same comes
-    (fixed-facts laws old.book.core.width _ _ _ old.book.setup (raised old.book.core now) id past token now draws book.core.history book.core.table f old.fixed held.book.slots held.good e comes is (facts-of old held))
+    (fixed-facts laws old.book.core.width _ _ old.book.setup (raised old.book.core now) id past token now draws book.core.history book.core.table f old.fixed held.book.slots held.good e comes is (facts-of old held))

@@ -1,14 +1,13 @@
 -- A token that is due to the book is due with the record's moment.
 use Rattle.std.proofs.Common.{◌≡◌, ℕ, Bool, true, false, ◌==◌, ◌||◌, ◌&&◌, nat_lt, if◌then◌else◌, List, length, take, Option, Some, None, Result, Ok, Err, refl, subst}
 use Rattle.std.specs.Prelude.{not}
-use Rattle.sha1.specs.Sha1.{sha1}
 use Rattle.rpc_msgs.specs.Calls.{CallValue, call_at}
 use Rattle.rpc_msgs.specs.declared.call.CallRefusal.{CallRefusal}
 use Rattle.rpc_msgs.specs.declared.call.CallRefusal.TheVariants.{Unreadable, NotCall, RpcVersion}
 use Rattle.rpc_msgs.specs.declared.xdr_reader.XdrRefusal.{XdrRefusal}
 use Rattle.rpcsec_msgs.specs.Cred.{CredValue, cred_at}
 use Rattle.rpcsec_msgs.specs.declared.cred.CredRefusal.{CredRefusal}
-use Rattle.accept_book.specs.Served.{one_opaque, are_args}
+use Rattle.accept_book.specs.Served.{one_opaque}
 use Rattle.accept_core.specs.declared.answer.AdmitRefusal.{AdmitRefusal}
 use Rattle.accept_core.specs.declared.answer.AdmitRefusal.TheVariants as admits
 use Rattle.accept_core.specs.declared.answer.LookRefusal.{LookRefusal}
@@ -19,16 +18,20 @@ use Rattle.accept_book.specs.declared.book_answer.Lease.{Lease}
 use Rattle.accept_book.specs.declared.book_answer.NegAnswer.{NegAnswer}
 use Rattle.accept_book.specs.declared.book_answer.NegAnswer.TheVariants as steps
 use Rattle.accept_book.specs.declared.book_answer.Negotiated.{Negotiated}
-use Rattle.accept_core.specs.declared.entry.Admitted.{Admitted}
+use Rattle.accept_book.specs.declared.book_answer.Admitted.{Admitted}
+use Rattle.rpc_program.specs.Programs.{Serving}
+use Rattle.rpcsec_bodies.specs.Service.{service_of}
+use Rattle.rpc_program.specs.declared.outcome.Outcome.{Outcome}
+use Rattle.rpc_program.specs.declared.outcome.Outcome.TheVariants as outcomes
 use Rattle.accept_core.specs.declared.entry.Receipt.{Receipt}
 use Rattle.accept_book.specs.RecordShown.{KeptAnswers, Question, Negotiate, Look, Admit, End, Asked, AskedStep, AskedLook, AskedAdmit, AskedEnd, Ruling, decided, asking, Shown, handle_id, end_of, is_verified, body_args}
-use Rattle.accept_book.specs.RecordRule.{is_other_program, is_other_version_of_it, is_misplaced, plain_ruling, stepped, ask_step, continued, token_ruling, creation_ruling, unadmitted, admitted_ruling, ask_admit, args_ruling, data_ruling, ended_ruling, ask_end, destroy_ruling, looked_ruling, ask_look, id_ruling, cred_ruling, call_ruling, read_ruling, record_ruling}
+use Rattle.accept_book.specs.RecordRule.{is_other_program, is_other_version_of_it, is_no_procedure, is_weak, is_misplaced, plain_ruling, stepped, ask_step, continued, token_ruling, creation_ruling, unadmitted, outcome_ruling, admitted_ruling, ask_admit, args_ruling, data_ruling, ended_ruling, ask_end, destroy_ruling, looked_ruling, ask_look, id_ruling, cred_ruling, call_ruling, read_ruling, record_ruling}
 
 abbrev pub AtMoment : ℕ → Option Question → Type 0
 AtMoment now None = Unit {0}
 AtMoment now (Some (Negotiate id token moment draws)) = moment ≡ now
 AtMoment now (Some (Look id moment)) = Unit {0}
-AtMoment now (Some (Admit lease seq procedure args)) = Unit {0}
+AtMoment now (Some (Admit lease seq service procedure args)) = Unit {0}
 AtMoment now (Some (End lease seq)) = Unit {0}
 
 record IsNow (now : ℕ) (ruling : Ruling) : Type 0 where
@@ -41,15 +44,15 @@ either : (now : ℕ) (b : Bool) (first rest : Ruling) → IsNow now first → Is
 either now true first rest f g = f
 either now false first rest f g = g
 
-asks : (now : ℕ) (one : Asked) (ruling : Ruling) → IsNow now ruling → IsNow now (asking one ruling)
+asks : (now : ℕ) (one : Asked Admitted) (ruling : Ruling) → IsNow now ruling → IsNow now (asking one ruling)
 asks now one ruling r = record { due = r.due }
 
 plain-now : (s : Shown) → IsNow s.now (plain_ruling s)
 unfolding plain_ruling
 plain-now s =
-    either s.now (is_other_program s.call) _ _ (decides s.now _ _)
-    (either s.now (is_other_version_of_it s.call) _ _ (decides s.now _ _)
-    (either s.now (nat_lt 4 s.call.procedure) _ _ (decides s.now _ _)
+    either s.now (is_other_program s) _ _ (decides s.now _ _)
+    (either s.now (is_other_version_of_it s) _ _ (decides s.now _ _)
+    (either s.now (is_no_procedure s) _ _ (decides s.now _ _)
     (either s.now (not (s.call.procedure == 0)) _ _ (decides s.now _ _)
     (either s.now (not (length s.call.args == 0)) _ _ (decides s.now _ _) (decides s.now _ _)))))
 
@@ -89,8 +92,8 @@ token-now s cred answer (Ok token) =
 creation-now : (s : Shown) (cred : CredValue) (answer : Option Negotiated) → IsNow s.now (creation_ruling s cred answer)
 unfolding creation_ruling
 creation-now s cred answer =
-    either s.now (is_other_program s.call) _ _ (decides s.now _ _)
-    (either s.now (is_other_version_of_it s.call) _ _ (decides s.now _ _) (token-now s cred answer (one_opaque s.call.args)))
+    either s.now (is_other_program s) _ _ (decides s.now _ _)
+    (either s.now (is_other_version_of_it s) _ _ (decides s.now _ _) (token-now s cred answer (one_opaque s.call.args)))
 
 -- ---- calls of a context
 
@@ -101,28 +104,36 @@ unadmitted-now s cred lease (admits.Below last) = decides s.now _ _
 unadmitted-now s cred lease admits.Repeat = decides s.now _ _
 unadmitted-now s cred lease admits.LogFull = decides s.now _ _
 
+outcome-now : (s : Shown) (cred : CredValue) (lease : Lease) (args : List ℕ) (outcome : Outcome) → IsNow s.now (outcome_ruling s cred lease args outcome)
+outcome-now s cred lease args outcomes.Args = decides s.now _ _
+outcome-now s cred lease args (outcomes.Done result) = decides s.now _ _
+outcome-now s cred lease args (outcomes.Refused why) = decides s.now _ _
+outcome-now s cred lease args (outcomes.Mismatch low high) = decides s.now _ _
+outcome-now s cred lease args outcomes.Gone = decides s.now _ _
+outcome-now s cred lease args outcomes.NoMemory = decides s.now _ _
+
 admitted-now : (s : Shown) (cred : CredValue) (lease : Lease) (args : List ℕ) (answer : Result Admitted AdmitRefusal) → IsNow s.now (admitted_ruling s cred lease args answer)
-admitted-now s cred lease args (Ok admitted) = decides s.now _ _
+admitted-now s cred lease args (Ok admitted) = outcome-now s cred lease args admitted.outcome
 admitted-now s cred lease args (Err refusal) = unadmitted-now s cred lease refusal
 
 admit-now : (s : Shown) (cred : CredValue) (lease : Lease) (args : List ℕ) (answer : Option (Result Admitted AdmitRefusal)) → IsNow s.now (ask_admit s cred lease args answer)
 admit-now s cred lease args None = record { due = tt }
 admit-now s cred lease args (Some answer) =
-    asks s.now (AskedAdmit lease cred.seq s.call.procedure (sha1 args) answer) (admitted_ruling s cred lease args answer) (admitted-now s cred lease args answer)
+    asks s.now (AskedAdmit lease cred.seq (service_of cred.service) s.call.procedure args answer) (admitted_ruling s cred lease args answer) (admitted-now s cred lease args answer)
 
 args-now : (s : Shown) (cred : CredValue) (lease : Lease) (answer : Option (Result Admitted AdmitRefusal)) (args : Option (List ℕ)) → IsNow s.now (args_ruling s cred lease answer args)
 args-now s cred lease answer None = decides s.now _ _
 args-now s cred lease answer (Some args) =
-    either s.now (not (are_args s.call.procedure args)) _ _ (decides s.now _ _) (admit-now s cred lease args answer)
+    either s.now (not (s.serves.program.takes s.call.procedure args)) _ _ (decides s.now _ _) (admit-now s cred lease args answer)
 
 data-now : (s : Shown) (cred : CredValue) (lease : Lease) (answer : Option (Result Admitted AdmitRefusal)) → IsNow s.now (data_ruling s cred lease answer)
 unfolding data_ruling
 data-now s cred lease answer =
     either s.now (not (is_verified s lease)) _ _ (decides s.now _ _)
-    (either s.now (is_other_program s.call) _ _ (decides s.now _ _)
-    (either s.now (is_other_version_of_it s.call) _ _ (decides s.now _ _)
-    (either s.now (nat_lt 4 s.call.procedure) _ _ (decides s.now _ _)
-    (either s.now (cred.service == 1 && not (s.call.procedure == 0)) _ _ (decides s.now _ _)
+    (either s.now (is_other_program s) _ _ (decides s.now _ _)
+    (either s.now (is_other_version_of_it s) _ _ (decides s.now _ _)
+    (either s.now (is_no_procedure s) _ _ (decides s.now _ _)
+    (either s.now (is_weak s cred) _ _ (decides s.now _ _)
     (args-now s cred lease answer (body_args (end_of lease) cred s.call.args))))))
 
 ended-now : (s : Shown) (cred : CredValue) (lease : Lease) (answer : Result Receipt AdmitRefusal) → IsNow s.now (ended_ruling s cred lease answer)
@@ -137,8 +148,8 @@ destroy-now : (s : Shown) (cred : CredValue) (lease : Lease) (answer : Option (R
 unfolding destroy_ruling
 destroy-now s cred lease answer =
     either s.now (not (is_verified s lease)) _ _ (decides s.now _ _)
-    (either s.now (is_other_program s.call) _ _ (decides s.now _ _)
-    (either s.now (is_other_version_of_it s.call) _ _ (decides s.now _ _) (end-now s cred lease answer)))
+    (either s.now (is_other_program s) _ _ (decides s.now _ _)
+    (either s.now (is_other_version_of_it s) _ _ (decides s.now _ _) (end-now s cred lease answer)))
 
 looked-now : (s : Shown) (cred : CredValue) (admitted : Option (Result Admitted AdmitRefusal)) (ended : Option (Result Receipt AdmitRefusal)) (answer : Result Lease LookRefusal)
     → IsNow s.now (looked_ruling s cred admitted ended answer)
@@ -174,17 +185,17 @@ call-now s answer looked admitted ended =
     either s.now (not (s.call.cred.flavour == 0) && not (s.call.cred.flavour == 6)) _ _ (decides s.now _ _)
     (either s.now (s.call.cred.flavour == 0) _ _ (plain-now s) (cred-now s answer looked admitted ended (cred_at s.call.cred.body)))
 
-read-now : (octets : List ℕ) (kept : KeptAnswers) (width : ℕ) (call : Result CallValue CallRefusal) → IsNow kept.now (read_ruling octets kept width call)
-read-now octets kept width (Err (Unreadable at)) = decides kept.now _ _
-read-now octets kept width (Err NotCall) = decides kept.now _ _
-read-now octets kept width (Err (RpcVersion xid)) = decides kept.now _ _
-read-now octets kept width (Ok call) =
-    call-now (record { record_octets = octets; call = call; now = kept.now; draws = kept.draws; width = width }) kept.negotiated kept.looked kept.admitted kept.ended
+read-now : (octets : List ℕ) (kept : KeptAnswers) (serves : Serving) (call : Result CallValue CallRefusal) → IsNow kept.now (read_ruling octets kept serves call)
+read-now octets kept serves (Err (Unreadable at)) = decides kept.now _ _
+read-now octets kept serves (Err NotCall) = decides kept.now _ _
+read-now octets kept serves (Err (RpcVersion xid)) = decides kept.now _ _
+read-now octets kept serves (Ok call) =
+    call-now (record { record_octets = octets; call = call; now = kept.now; draws = kept.draws; serves = serves }) kept.negotiated kept.looked kept.admitted kept.ended
 
-record-now : (octets : List ℕ) (kept : KeptAnswers) (width : ℕ) → IsNow kept.now (record_ruling octets kept width)
+record-now : (octets : List ℕ) (kept : KeptAnswers) (serves : Serving) → IsNow kept.now (record_ruling octets kept serves)
 unfolding record_ruling
-record-now octets kept width = read-now octets kept width (call_at octets)
+record-now octets kept serves = read-now octets kept serves (call_at octets)
 
-pub due-moment : (octets : List ℕ) (kept : KeptAnswers) (width : ℕ) (id : Option ℕ) (token : List ℕ) (now : ℕ) (draws : List ℕ)
-    → (record_ruling octets kept width).due ≡ Some (Negotiate id token now draws) → now ≡ kept.now
-due-moment octets kept width id token now draws e = subst (AtMoment kept.now) e (record-now octets kept width).due
+pub due-moment : (octets : List ℕ) (kept : KeptAnswers) (serves : Serving) (id : Option ℕ) (token : List ℕ) (now : ℕ) (draws : List ℕ)
+    → (record_ruling octets kept serves).due ≡ Some (Negotiate id token now draws) → now ≡ kept.now
+due-moment octets kept serves id token now draws e = subst (AtMoment kept.now) e (record-now octets kept serves).due

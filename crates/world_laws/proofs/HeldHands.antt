@@ -10,10 +10,11 @@ use Rattle.context_table.specs.Places.{slot_at, HasValue}
 use Rattle.context_table.specs.Slots.{HasState}
 use Rattle.accept_core.specs.declared.answer.LookRefusal.{LookRefusal}
 use Rattle.accept_core.specs.declared.answer.LookRefusal.TheVariants as looks
+use Rattle.accept_book.specs.declared.book_answer.Admitted.{Admitted}
 use Rattle.accept_book.specs.declared.book_answer.Lease.{Lease}
 use Rattle.accept_book.specs.Booking.{BookOf, LeasedBy}
 use Rattle.accept_core.specs.History.{Standing, Unknown, Open, Whole, Over, standing}
-use Rattle.accept_book.specs.RecordShown.{Asked, AskedStep, AskedLook, AskedAdmit, AskedEnd}
+use Rattle.accept_book.specs.RecordShown.{booked, Asked, AskedStep, AskedLook, AskedAdmit, AskedEnd}
 use Rattle.accept_core.specs.Stepping.{Context as Slot, context_of}
 use Rattle.accept_book.specs.BookAnswers.{BookLooked}
 use Rattle.gss_server.specs.Asking.{BookAnswers}
@@ -63,11 +64,11 @@ pub in-hand-holds : (hand : Option InHand) (octets : List ℕ) (now : ℕ) (draw
 in-hand-holds None octets now draws fixed holds = λ lease e. absurd (none-some (Ok lease) e)
 in-hand-holds (Some hand) octets now draws fixed holds = holds hand refl
 
-pub after-holds : (old new : BookOf) (hand : InHand) (asked : Asked) (fixed : List Context) → Slots (contexts_of old.core.table) fixed → BookAnswers old asked new → HandHolds fixed hand
+pub after-holds : (old new : BookOf) (hand : InHand) (asked : Asked Admitted) (fixed : List Context) → Slots (contexts_of old.core.table) fixed → BookAnswers old (booked asked) new → HandHolds fixed hand
     → HandHolds fixed (hand_after hand asked)
 after-holds old new hand (AskedStep id token now draws answer) fixed slots answers holds = holds
 after-holds old new hand (AskedLook id now answer) fixed slots answers holds = λ lease e. look-fixed old new id now answer lease fixed slots answers e
-after-holds old new hand (AskedAdmit lease seq procedure args answer) fixed slots answers holds = holds
+after-holds old new hand (AskedAdmit lease seq service procedure args answer) fixed slots answers holds = holds
 after-holds old new hand (AskedEnd lease seq answer) fixed slots answers holds = holds
 
 pub more-leases : (lanes : List (Option InHand)) (fixed more : List Context) → Leases lanes fixed → Leases lanes (fixed ++ more)

@@ -198,13 +198,13 @@ some-slot : (slot : Option (TableSlot AcceptEnd Outcome)) (L : Lasting) → fixe
 some-slot None L e = absurd (none-some L e)
 some-slot (Some slot) L e = refl
 
-adds : (laws : BookLaws) (wide broad posted : ℕ) (cache : Cached) (setup : AcceptSetup) (book : Stands) (id past : Option ℕ) (token : List ℕ) (now : ℕ) (draws : List ℕ) (h : List Entry) (table : Places AcceptEnd Outcome)
+adds : (laws : BookLaws) (wide broad : ℕ) (cache : Cached) (setup : AcceptSetup) (book : Stands) (id past : Option ℕ) (token : List ℕ) (now : ℕ) (draws : List ℕ) (h : List Entry) (table : Places AcceptEnd Outcome)
     (f : Fixed) (fixed : List Context) → AllSame wide book → fixes_of (step_taken setup book id past token now draws) ≡ Some f
     → (fc : FixesContext setup book id past token now draws f) → Takes setup book id past token now draws fc.accepted
-    → Comes setup book id past token now draws h table → Replays by_outcome broad posted h table cache → Quiet book.history h ⊎ Settling book.history h (contexts_of table)
+    → Comes setup book id past token now draws h table → Replays by_outcome broad h table cache → Quiet book.history h ⊎ Settling book.history h (contexts_of table)
     → Facts setup book.history (contexts_of book.table) fixed
     → Adds setup book.history h (contexts_of book.table) (contexts_of table) fixed (context_with (id_of id book.history) f)
-adds laws wide broad posted cache setup book id past token now draws h table f fixed same fixes fc takes comes replays settles facts =
+adds laws wide broad cache setup book id past token now draws h table f fixed same fixes fc takes comes replays settles facts =
     let own : fixed_in (contexts_of table (id_of id book.history)) ≡ Some (record { outcome = f.outcome; ends = f.lasts }) =
     ap fixed_in (comes.contexts (id_of id book.history)) ∙ takes.fixed (contexts_of book.table (id_of id book.history))
     ∙ ap (λ (o : Option Fixed). fixed_after o (fixed_end (stepped_from book id))) (sym (ap fixes_of fc.taken) ∙ fixes) in
@@ -213,7 +213,7 @@ adds laws wide broad posted cache setup book id past token now draws h table f f
       own = own;
       absent = own-absent wide setup book id fixed same takes.negotiates fc.unfixed facts;
       within =
-          let lt = lives-opened by_outcome broad posted h table cache (id_of id book.history) replays (some-slot (slot_at table (id_of id book.history)) _ own) in
+          let lt = lives-opened by_outcome broad h table cache (id_of id book.history) replays (some-slot (slot_at table (id_of id book.history)) _ own) in
           omega (arith, lt);
       opens = slot-opened broad h (slot_at table (id_of id book.history)) (id_of id book.history) (record { outcome = f.outcome; ends = f.lasts }) replays.legal (replays.slots (id_of id book.history)) own;
       grows = grown book.history h (contexts_of table) settles;
@@ -223,11 +223,11 @@ adds laws wide broad posted cache setup book id past token now draws h table f f
       best_is = fc.fixes.best_is;
     }
 
-pub fixed-facts : (laws : BookLaws) (wide broad posted : ℕ) (cache : Cached) (setup : AcceptSetup) (book : Stands) (id past : Option ℕ) (token : List ℕ) (now : ℕ) (draws : List ℕ) (h : List Entry) (table : Places AcceptEnd Outcome)
+pub fixed-facts : (laws : BookLaws) (wide broad : ℕ) (cache : Cached) (setup : AcceptSetup) (book : Stands) (id past : Option ℕ) (token : List ℕ) (now : ℕ) (draws : List ℕ) (h : List Entry) (table : Places AcceptEnd Outcome)
     (f : Fixed) (fixed : List Context) → AllSame wide book → AllGood setup book.table → fixes_of (step_taken setup book id past token now draws) ≡ Some f
-    → Comes setup book id past token now draws h table → Replays by_outcome broad posted h table cache
+    → Comes setup book id past token now draws h table → Replays by_outcome broad h table cache
     → Facts setup book.history (contexts_of book.table) fixed → Facts setup h (contexts_of table) (fixed ++ context_with (id_of id book.history) f ∷ [])
-fixed-facts laws wide broad posted cache setup book id past token now draws h table f fixed same good fixes comes replays facts =
+fixed-facts laws wide broad cache setup book id past token now draws h table f fixed same good fixes comes replays facts =
     go (settling laws setup book id past token now draws h table good comes (told setup book id past token now draws)) (laws.fixes setup book id past token now draws f good fixes)
   where
     x : Context
@@ -242,4 +242,4 @@ fixed-facts laws wide broad posted cache setup book id past token now draws h ta
     go : Quiet book.history h ⊎ Settling book.history h (contexts_of table) → FixesContext setup book id past token now draws f → Facts setup h (contexts_of table) (fixed ++ x ∷ [])
     go settles fc =
         from settles
-        (adds laws wide broad posted cache setup book id past token now draws h table f fixed same fixes fc (laws.takes setup book id past token now draws fc.accepted fc.taken) comes replays settles facts)
+        (adds laws wide broad cache setup book id past token now draws h table f fixed same fixes fc (laws.takes setup book id past token now draws fc.accepted fc.taken) comes replays settles facts)

@@ -6,6 +6,8 @@ use Rattle.spnego_core.specs.declared.outcome.Outcome.{Outcome}
 use Rattle.spnego_core.specs.declared.setup.AcceptSetup.{AcceptSetup}
 use Rattle.spnego_core.specs.Ends.{PlainSetup}
 use Rattle.spnego_core.specs.AcceptMech.{Basis, ByRequest, ByProof}
+use Rattle.rpc_program.specs.Programs.{Serving}
+use Rattle.world_laws.specs.Apart.{IsApart}
 use Rattle.world_laws.specs.State.{Context, World}
 use Rattle.world_laws.specs.Premises.{Marking, GuardedBasis, BuiltKey, OnTicket, Fresh, HasAuth, Completed, Proved, AtInitiator}
 use Rattle.world_laws.specs.Agreement.{Partner}
@@ -23,6 +25,7 @@ pub proper-on : (old new : World) → Grows old new → Proper old → Proper ne
 proper-on old new g p = record {
   setups = λ i own there. p.setups i own (ap (λ (facts : List PlainSetup). slice_get facts i) (sym g.facts) ∙ there);
   lines = λ place line there. p.lines place line (ap (λ (setup : AcceptSetup). slice_get setup.verifiers place) (sym g.setup) ∙ there);
+  program = subst (λ (serves : Serving). IsApart serves.program) (sym g.serves) p.program;
 }
 
 -- ---- who completed by Kerberos

@@ -34,7 +34,6 @@ use Rattle.accept_book.specs.Booking.{names_of}
 use Rattle.accept_book.specs.BookLaws.{AllGood, Lasting, fixed_in}
 use Rattle.accept_core.specs.History.{opened, entry_at}
 use Rattle.accept_book.specs.RecordShown.{end_of}
-use Rattle.accept_book.specs.Served.{are_args, result_of}
 use Rattle.accept_core.specs.Stepping.{Context as Slot, context_of}
 use Rattle.spnego_core.specs.declared.accept_end.AcceptEnd.{AcceptEnd}
 use Rattle.spnego_core.specs.Ends.{PlainSetup, EndSays}
@@ -44,6 +43,7 @@ use Rattle.world_laws.specs.Stages as stages
 pub use Rattle.world_laws.specs.Agreement.{FixedAs, WasOpened, HasAuthEntry}
 pub use Rattle.world_laws.specs.Below.{Below}
 use Rattle.world_laws.specs.State.{InHand, Context, World}
+use Rattle.world_laws.specs.Apart.{NoList}
 use Rattle.world_laws.specs.Initiators.{call_makings}
 use Rattle.world_laws.specs.Lanes.{result_makings}
 use Rattle.world_laws.specs.Events.{IsBook}
@@ -105,8 +105,6 @@ pub record MadeCall (w : World) (i : ℕ) (own : PlainSetup) (making : MechMakin
   pub completed : Completed w i own session.outcome
   pub procedure : ℕ
   pub args : List ℕ
-  pub served : procedure ≤ 4
-  pub proper : are_args procedure args ≡ true
   pub made : AmongMakings (map typed (call_makings session procedure args)) making
 
 abbrev pub InitMade : World → ℕ → PlainSetup → MechMaking → Type 0
@@ -145,11 +143,9 @@ pub record MadeResult (x : Context) (making : MechMaking) : Type 0 where
   pub outcome_is : x.fixed.outcome ≡ lease.outcome
   pub service : ℕ
   pub seq : ℕ
-  pub procedure : ℕ
-  pub args : List ℕ
-  pub posts : ℕ
-  pub proper : are_args procedure args ≡ true
-  pub made : AmongMakings (map typed (result_makings (end_of lease) service seq (result_of procedure args lease.outcome.initiator posts))) making
+  pub result : List ℕ
+  pub apart : NoList result
+  pub made : AmongMakings (map typed (result_makings (end_of lease) service seq result)) making
 
 abbrev pub ContextMade : Context → MechMaking → Type 0
 ContextMade x making = MadeAnswer x making ⊎ (MadeSignature x making ⊎ (MadeAcceptMic x making ⊎ MadeResult x making))

@@ -51,8 +51,8 @@ asks-known facts i xid end own there e good = (subst (λ (o : PlainSetup). slice
 pub goes-on : (old : EndSays) (taken : Initiated) (end : EndSays) (token : List ℕ) → InitLaw old taken → taken.step ≡ steps.More end token → GoesOn (own_of old) taken.chosen taken.listed end
 goes-on old taken end token law e = subst (After (own_of old) taken.chosen taken.listed) e law.after
 
-starting-known : (laws : Below) (w : World) (i : ℕ) (own : PlainSetup) → slice_get w.stages i ≡ Some (stages.Ready own) → Known w → StartedBy own (starts own)
-    → KnownStage w.facts i (starts own).stage × KnownStage w.facts i (starts own).lost
+starting-known : (laws : Below) (w : World) (i : ℕ) (own : PlainSetup) → slice_get w.stages i ≡ Some (stages.Ready own) → Known w → StartedBy own (starts w.serves own)
+    → KnownStage w.facts i (starts w.serves own).stage × KnownStage w.facts i (starts w.serves own).lost
 starting-known laws w i own there k by =
     let law : StartLaw own by.started = laws.init.starts own by.started by.is in
     (subst (KnownStage w.facts i) (sym by.stage) (asks-known w.facts i 1 by.started.end own (k.ready i own there) law.own_is law.good), subst (KnownStage w.facts i) (sym by.lost) tt)
@@ -68,15 +68,15 @@ stood-known : (w : World) (i xid : ℕ) (end : EndSays) (octets : List ℕ) (mov
 stood-known w i xid end octets moved by = (subst (KnownStage w.facts i) (sym by.stage) tt, subst (KnownStage w.facts i) (sym by.lost) tt)
 
 move-known : (laws : Below) (w : World) (i : ℕ) (moved : Moved) → Known w → Move w i moved → KnownStage w.facts i moved.stage × KnownStage w.facts i moved.lost
-move-known laws w i moved k (Starting own there is) = subst (λ (m : Moved). KnownStage w.facts i m.stage × KnownStage w.facts i m.lost) (sym is) (elim (starts-by own) [
+move-known laws w i moved k (Starting own there is) = subst (λ (m : Moved). KnownStage w.facts i m.stage × KnownStage w.facts i m.lost) (sym is) (elim (starts-by w.serves own) [
   | inl e ↦ subst (λ (m : Moved). KnownStage w.facts i m.stage × KnownStage w.facts i m.lost) (sym e) (tt, tt)
   | inr by ↦ starting-known laws w i own there k by
 ])
-move-known laws w i moved k (Taking first xid end octets there is) = subst (λ (m : Moved). KnownStage w.facts i m.stage × KnownStage w.facts i m.lost) (sym is) (elim (takes-by first xid end octets) [
+move-known laws w i moved k (Taking first xid end octets there is) = subst (λ (m : Moved). KnownStage w.facts i m.stage × KnownStage w.facts i m.lost) (sym is) (elim (takes-by w.serves first xid end octets) [
   | inl e ↦ subst (λ (m : Moved). KnownStage w.facts i m.stage × KnownStage w.facts i m.lost) (sym e) (tt, tt)
   | inr more ↦ elim more [
-    | inl by ↦ going-known laws w i xid end octets (takes first xid end octets) there k by
-    | inr by ↦ stood-known w i xid end octets (takes first xid end octets) by
+    | inl by ↦ going-known laws w i xid end octets (takes w.serves first xid end octets) there k by
+    | inr by ↦ stood-known w i xid end octets (takes w.serves first xid end octets) by
   ]
 ])
 move-known laws w i moved k (Calling s procedure args there left served proper is) = subst (λ (m : Moved). KnownStage w.facts i m.stage × KnownStage w.facts i m.lost) (sym is) (tt, tt)

@@ -27,6 +27,8 @@ use Rattle.context_table.specs.declared.slot.SlotState.TheVariants as states
 use Rattle.context_table.specs.declared.slot.SlotState.TheVariants.{Negotiating, Complete}
 use Rattle.context_table.specs.Places.{slot_at, state_of}
 use Rattle.context_table.specs.Slots.{state_taken}
+use Rattle.sha1.specs.Sha1.{sha1}
+use Rattle.accept_book.specs.declared.book_answer.Admitted.{Admitted}
 use Rattle.accept_book.specs.declared.book_answer.NegAnswer.{NegAnswer}
 use Rattle.accept_book.specs.declared.book_answer.NegAnswer.TheVariants as answers
 use Rattle.accept_book.specs.declared.book_answer.Negotiated.{Negotiated}
@@ -38,13 +40,13 @@ use Rattle.accept_book.specs.Booking.{BookOf, Stands, raised, names_of, negotiat
 use Rattle.accept_book.specs.BookLaws.{BookLaws, Lasting, fixed_in}
 use Rattle.accept_core.specs.Entering.{id_of}
 use Rattle.accept_book.specs.Found.{step_taken, found_of, end_before, stepped_from}
-use Rattle.accept_book.specs.RecordShown.{Asked, AskedStep, AskedLook, AskedAdmit, AskedEnd}
+use Rattle.accept_book.specs.RecordShown.{booked, Asked, AskedStep, AskedLook, AskedAdmit, AskedEnd}
 use Rattle.accept_core.specs.Stepping.{Context as Slot, context_of, IsNext}
 use Rattle.gss_server.specs.Asking.{BookAnswers}
 use Rattle.world_laws.specs.declared.event.WorldEvent.{WorldEvent}
 use Rattle.world_laws.specs.Deeds.{Deed}
 use Rattle.world_laws.specs.State.{InHand, Context, World}
-use Rattle.world_laws.specs.Lanes.{told_width, in_hand, ruling_of, question_of, found_by}
+use Rattle.world_laws.specs.Lanes.{in_hand, ruling_of, question_of, found_by}
 use Rattle.world_laws.specs.Events.{Happens, Begins}
 use Rattle.world_laws.specs.KnownList.{UnforgedList}
 use Rattle.world_laws.specs.Premises.{Marking, GuardedBasis, BuiltKey, OnGuarded, WasSettled, WasMade, Unforged}
@@ -183,18 +185,18 @@ quiet-settles old deed new id quiet s = inl (from-quiet old.book.core.history ne
 same-settles : (old : World) (deed : Deed) (new : World) (id : ℕ) → new.book ≡ old.book → WasSettled new.book.core.history id → SettledBy old deed new id
 same-settles old deed new id same s = inl (subst (λ (b : BookOf). WasSettled b.core.history id) same s)
 
-question-settles : (laws : BookLaws) (old : World) (past : Option ℕ) (hand : InHand) (asked : Asked) (deed : Deed) (new : World) (id : ℕ) → Held old → IsNext old.book.core.table (max old.book.core.cache.greatest hand.kept.now) past
-    → (ruling_of hand).due ≡ Some (question_of asked) → BookAnswers old.book asked new.book → deed.found ≡ found_by old.book past hand asked → WasSettled new.book.core.history id → SettledBy old deed new id
+question-settles : (laws : BookLaws) (old : World) (past : Option ℕ) (hand : InHand) (asked : Asked Admitted) (deed : Deed) (new : World) (id : ℕ) → Held old → IsNext old.book.core.table (max old.book.core.cache.greatest hand.kept.now) past
+    → (ruling_of old.serves hand).due ≡ Some (question_of asked) → BookAnswers old.book (booked asked) new.book → deed.found ≡ found_by old.book past hand asked → WasSettled new.book.core.history id → SettledBy old deed new id
 question-settles laws old past hand (AskedStep tid token now draws result) deed new id held late due said found s =
     step-settles laws old deed new tid past token now draws result id held
-    (subst (λ (n : ℕ). IsNext old.book.core.table (max old.book.core.cache.greatest n) past) (sym (due-moment hand.octets hand.kept told_width tid token now draws due)) late) said found s
+    (subst (λ (n : ℕ). IsNext old.book.core.table (max old.book.core.cache.greatest n) past) (sym (due-moment hand.octets hand.kept old.serves tid token now draws due)) late) said found s
 question-settles laws old past hand (AskedLook number now answer) deed new id held late due said found s =
     quiet-settles old deed new id (subst (λ (h : List Entry). Quiet old.book.core.history h) (sym said.looked.history) (quiet-same old.book.core.history)) s
-question-settles laws old past hand (AskedAdmit lease seq procedure args (Ok admitted)) deed new id held late due said found s =
+question-settles laws old past hand (AskedAdmit lease seq service procedure args (Ok admitted)) deed new id held late due said found s =
     quiet-settles old deed new id
-    (quiet-history old.book.core.history new.book.core.history (lease_refused old.book.core lease seq) (Call lease.id seq procedure args)
-    (quiet-after (lease_refused old.book.core lease seq) (Call lease.id seq procedure args) old.book.core.history tt) said.history) s
-question-settles laws old past hand (AskedAdmit lease seq procedure args (Err refusal)) deed new id held late due said found s = same-settles old deed new id said.unchanged s
+    (quiet-history old.book.core.history new.book.core.history (lease_refused old.book.core lease seq) (Call lease.id seq procedure (sha1 args))
+    (quiet-after (lease_refused old.book.core lease seq) (Call lease.id seq procedure (sha1 args)) old.book.core.history tt) said.history) s
+question-settles laws old past hand (AskedAdmit lease seq service procedure args (Err refusal)) deed new id held late due said found s = same-settles old deed new id said.unchanged s
 question-settles laws old past hand (AskedEnd lease seq (Ok receipt)) deed new id held late due said found s =
     quiet-settles old deed new id
     (quiet-history old.book.core.history new.book.core.history (lease_refused old.book.core lease seq) (Ended lease.id (Destroyed seq))

@@ -16,7 +16,6 @@ use Rattle.spnego_core.specs.declared.outcome.Outcome.{Outcome}
 use Rattle.spnego_core.specs.ListMic.{is_list_mic, mic_found}
 use Rattle.spnego_core.specs.Outcome.{token_end}
 use Rattle.accept_book.specs.RecordShown.{end_of}
-use Rattle.accept_book.specs.Served.{result_of}
 use Rattle.world_laws.specs.State.{Context, World}
 use Rattle.world_laws.specs.Premises.{IsWordMic, WasMade}
 use Rattle.world_laws.proofs.Invariants.{MadeAcceptMic, MadeResult, Owning}
@@ -72,12 +71,12 @@ result-mic false false key subkey number octets m t a = absurd a
 
 no-result : {A : Type 0} (tokens : TokenLaws) (x : Context) (m : MechMaking) (list : List (List ℕ)) (key : Key) → SaysList m list key → OfList (list_octets list) → MadeResult x m → A
 no-result tokens x m list key s o made =
-    let said : List ℕ = word made.seq ++ result_of made.procedure made.args made.lease.outcome.initiator made.posts in
+    let said : List ℕ = word made.seq ++ made.result in
     let end : TokenEnd = end_of made.lease in
     let is : m.octets ≡ said ++ mic_header end (2 * made.seq + 1) =
-    result-mic (made.service == 2) (made.service == 3) made.lease.outcome.key made.lease.outcome.subkey (2 * made.seq + 1) (word made.seq ++ result_of made.procedure made.args made.lease.outcome.initiator made.posts) m s.tag_is made.made in
+    result-mic (made.service == 2) (made.service == 3) made.lease.outcome.key made.lease.outcome.subkey (2 * made.seq + 1) (word made.seq ++ made.result) m s.tag_is made.made in
     let parts = split-back (list_octets list) s.header said (mic_header end (2 * made.seq + 1)) (s.long ∙ sym (tokens.long_mic end (2 * made.seq + 1))) (sym s.octets ∙ is) in
-    absurd (list-result (list_octets list) made.args made.lease.outcome.initiator made.seq made.procedure made.posts o made.proper parts.0)
+    absurd (list-result (list_octets list) made.result made.seq o made.apart parts.0)
 
 -- ---- so the list came so
 

@@ -1,4 +1,4 @@
--- The octets of a list of own mechanisms: the number behind the first four is greater than each length that arguments or results say.
+-- The octets of a list of own mechanisms: behind the first four stands an object identifier of a mechanism.
 use Rattle.std.proofs.Common.{◌≡◌, ℕ, ◌*◌, ◌<◌, ◌≤◌, lit<, true, List, [], ◌∷◌, ◌++◌, length, map, nat_lt, refl, sym, subst, arith}
 use Rattle.std.proofs.lemmas.Bool.Decides.{nat_tests}
 use Rattle.std.proofs.lemmas.List.{length-append}
@@ -12,10 +12,13 @@ use Rattle.der_core.specs.Values.{object_identifier}
 use Rattle.spnego_msgs.specs.Lists.{list_octets}
 use Rattle.spnego_core.specs.declared.setup.MechCred.{MechCred}
 use Rattle.spnego_core.specs.InitMech.{name_of, oid_listed, is_own_list}
+use Rattle.world_laws.specs.Apart.{oid_word}
 use Rattle.world_laws.proofs.OriginReading.{word_of}
 
 pub record IsHigh (octets : List ℕ) : Type 0 where
   pub long : 8 < length octets
+  pub name : MechName
+  pub is : word_of 4 octets ≡ oid_word name
   pub high : 65536 < word_of 4 octets
   pub short : length octets < 100
 
@@ -49,9 +52,9 @@ three-own (a ∷ b ∷ c ∷ d ∷ rest) e = absurd cc
 
 high-by : (name : MechName) (n : ℕ) (rest : List ℕ) → length (object_identifier.spell (oid_named name) ++ rest) ≤ 33 → IsHigh (0x30 ∷ n ∷ (object_identifier.spell (oid_named name) ++ rest))
 unfolding object_identifier tlv length_octets
-high-by (names.Kerberos Standard) n rest few = record { long = omega arith; high = lit< tt; short = omega (arith, few) }
-high-by (names.Kerberos Microsoft) n rest few = record { long = omega arith; high = lit< tt; short = omega (arith, few) }
-high-by names.Scram n rest few = record { long = omega arith; high = lit< tt; short = omega (arith, few) }
+high-by (names.Kerberos Standard) n rest few = record { long = omega arith; name = names.Kerberos Standard; is = refl; high = lit< tt; short = omega (arith, few) }
+high-by (names.Kerberos Microsoft) n rest few = record { long = omega arith; name = names.Kerberos Microsoft; is = refl; high = lit< tt; short = omega (arith, few) }
+high-by names.Scram n rest few = record { long = omega arith; name = names.Scram; is = refl; high = lit< tt; short = omega (arith, few) }
 
 pub high-list : (creds : List MechCred) → is_own_list creds ≡ true → IsHigh (list_octets (map oid_listed creds))
 unfolding tlv

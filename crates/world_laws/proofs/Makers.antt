@@ -10,7 +10,6 @@ use Rattle.scram_mech.specs.Initiator.{InitAnswered, answer_with, bare_of, secre
 use Rattle.scram_mech.specs.Acceptor.{AcceptFinished, finish_with, auth_with}
 use Rattle.scram_mech.specs.Laws.{Laws as ScramLaws}
 use Rattle.spnego_core.specs.Ends.{PlainSetup}
-use Rattle.accept_book.specs.Served.{result_of}
 use Rattle.gss_client.specs.Calling.{own_end}
 use Rattle.gss_client.specs.Session.{SessionState}
 use Rattle.world_laws.specs.State.{Context, World}
@@ -127,7 +126,7 @@ tag-results false false key subkey number octets m a = absurd a
 pub tag-result : (x : Context) (m : MechMaking) → MadeResult x m → IsAcceptors m
 tag-result x m made =
     tag-results (made.service == 2) (made.service == 3) made.lease.outcome.key made.lease.outcome.subkey (2 * made.seq + 1)
-    (word made.seq ++ result_of made.procedure made.args made.lease.outcome.initiator made.posts) m made.made
+    (word made.seq ++ made.result) m made.made
 
 pub tag-word : (w : World) (m : MechMaking) → IsWordMic w m → tag m ≡ 92
 tag-word w m made = tag-of m _ made.is_mic

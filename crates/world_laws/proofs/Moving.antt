@@ -15,6 +15,7 @@ use Rattle.gss_client.specs.Creation as creations
 use Rattle.gss_client.specs.Judging.{◌>>=◌, due, is_verified, GrantedValue, granted_in, negotiated, by_step, creation_by, creation_step}
 use Rattle.gss_client.specs.Session.{xid_after}
 use Rattle.gss_client.specs.Talk.{begun}
+use Rattle.rpc_program.specs.Programs.{Serving}
 use Rattle.world_laws.specs.Stages as stages
 use Rattle.world_laws.specs.Initiators.{own_terms, Moved, refused, started_by, starts, initiated_by, initiated_with, initiated, handed_out, verified, window_found, created_by, takes}
 
@@ -27,12 +28,12 @@ pub record StartedBy (own : PlainSetup) (moved : Moved) : Type 0 where
   pub lost : moved.lost ≡ stages.Over
   pub makes : moved.makes ≡ started.makes
 
-start-by : (own : PlainSetup) (started : Result Started NegRefusal) → init_start own ≡ started → (started_by started ≡ refused) ⊎ StartedBy own (started_by started)
-start-by own (Err refusal) e = inl refl
-start-by own (Ok started) e = inr (record { started = started; is = e; stage = refl; lost = refl; makes = refl })
+start-by : (serves : Serving) (own : PlainSetup) (started : Result Started NegRefusal) → init_start own ≡ started → (started_by serves started ≡ refused) ⊎ StartedBy own (started_by serves started)
+start-by serves own (Err refusal) e = inl refl
+start-by serves own (Ok started) e = inr (record { started = started; is = e; stage = refl; lost = refl; makes = refl })
 
-pub starts-by : (own : PlainSetup) → (starts own ≡ refused) ⊎ StartedBy own (starts own)
-starts-by own = start-by own (init_start own) refl
+pub starts-by : (serves : Serving) (own : PlainSetup) → (starts serves own ≡ refused) ⊎ StartedBy own (starts serves own)
+starts-by serves own = start-by serves own (init_start own) refl
 
 -- ---- what comes of a reply to its creation call
 
@@ -102,24 +103,26 @@ pub record Went (xid : ℕ) (end : EndSays) (octets : List ℕ) (moved : Moved) 
 
 -- its context stands
 pub record Stood (xid : ℕ) (end : EndSays) (octets : List ℕ) (moved : Moved) : Type 0 where
+  pub serves : Serving
   pub first : ℕ
   pub outcome : Outcome
   pub handle : List ℕ
   pub by : SteppedBy end xid octets (creations.Stands outcome handle)
-  pub stage : moved.stage ≡ stages.Stands (begun own_terms first (xid_after xid) outcome handle)
+  pub stage : moved.stage ≡ stages.Stands (begun (own_terms serves) first (xid_after xid) outcome handle)
   pub lost : moved.lost ≡ stages.Over
   pub makes : moved.makes ≡ by.taken.makes
   pub found : moved.found ≡ by.taken.found ++ window_found outcome (granted_in xid octets)
 
-take-by : (first xid : ℕ) (end : EndSays) (octets : List ℕ) (what : Result CreatedSays ClientRefusal) → creation_step end xid octets ≡ what
-    → (created_by first xid end octets what ≡ refused) ⊎ (Went xid end octets (created_by first xid end octets what) ⊎ Stood xid end octets (created_by first xid end octets what))
-take-by first xid end octets (Err refusal) e = inl refl
-take-by first xid end octets (Ok (creations.Going offer)) e =
+take-by : (serves : Serving) (first xid : ℕ) (end : EndSays) (octets : List ℕ) (what : Result CreatedSays ClientRefusal) → creation_step end xid octets ≡ what
+    → (created_by serves first xid end octets what ≡ refused) ⊎ (Went xid end octets (created_by serves first xid end octets what) ⊎ Stood xid end octets (created_by serves first xid end octets what))
+take-by serves first xid end octets (Err refusal) e = inl refl
+take-by serves first xid end octets (Ok (creations.Going offer)) e =
     let by = stepped-by end xid octets (creations.Going offer) e in
     inr (inl (record { offer = offer; by = by; stage = refl; lost = refl; makes = ap handed_out by.initiated_is; found = ap verified by.initiated_is }))
-take-by first xid end octets (Ok (creations.Stands outcome handle)) e =
+take-by serves first xid end octets (Ok (creations.Stands outcome handle)) e =
     let by = stepped-by end xid octets (creations.Stands outcome handle) e in
     inr (inr (record {
+      serves = serves;
       first = first;
       outcome = outcome;
       handle = handle;
@@ -130,5 +133,5 @@ take-by first xid end octets (Ok (creations.Stands outcome handle)) e =
       found = ap (λ (o : Option Initiated). verified o ++ window_found outcome (granted_in xid octets)) by.initiated_is;
     }))
 
-pub takes-by : (first xid : ℕ) (end : EndSays) (octets : List ℕ) → (takes first xid end octets ≡ refused) ⊎ (Went xid end octets (takes first xid end octets) ⊎ Stood xid end octets (takes first xid end octets))
-takes-by first xid end octets = take-by first xid end octets (creation_step end xid octets) refl
+pub takes-by : (serves : Serving) (first xid : ℕ) (end : EndSays) (octets : List ℕ) → (takes serves first xid end octets ≡ refused) ⊎ (Went xid end octets (takes serves first xid end octets) ⊎ Stood xid end octets (takes serves first xid end octets))
+takes-by serves first xid end octets = take-by serves first xid end octets (creation_step end xid octets) refl

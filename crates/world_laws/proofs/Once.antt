@@ -10,7 +10,6 @@ use Rattle.spnego_core.specs.EndSteps as steps
 use Rattle.spnego_core.specs.Initiating.{Initiated}
 use Rattle.spnego_core.specs.InitLaws.{own_of, chosen_of, finished_in, answers_next, answers_in, IsRequest, IsProof, InitLaw}
 use Rattle.spnego_core.proofs.Makings.{among_split}
-use Rattle.accept_book.specs.Served.{are_args}
 use Rattle.gss_client.specs.Session.{SessionState}
 use Rattle.world_laws.specs.declared.event.WorldEvent.{WorldEvent}
 use Rattle.world_laws.specs.Stages.{StageSays}
@@ -206,10 +205,10 @@ stood-comes laws w i xid end octets moved k there ones once by =
       lost = over-comes (own_of end) w.makings moved.lost by.lost ones;
     }
 
-call-comes : (laws : Below) (w : World) (i : ℕ) (own : PlainSetup) (s : SessionState) (procedure : ℕ) (args : List ℕ) → slice_get w.facts i ≡ Some own → slice_get w.stages i ≡ Some (stages.Stands s) → procedure ≤ 4 → are_args procedure args ≡ true
+call-comes : (laws : Below) (w : World) (i : ℕ) (own : PlainSetup) (s : SessionState) (procedure : ℕ) (args : List ℕ) → slice_get w.facts i ≡ Some own → slice_get w.stages i ≡ Some (stages.Stands s)
     → OneOf own w.makings → OnceStanding own w.makings s.outcome → MoveComes w i (calls s procedure args)
-call-comes laws w i own s procedure args there stands served proper ones once =
-    let n = calls-none laws.scram w i own own (calls s procedure args).makes (λ making a. call-made w i own s procedure args making there stands served proper a) in
+call-comes laws w i own s procedure args there stands ones once =
+    let n = calls-none laws.scram w i own own (calls s procedure args).makes (λ making a. call-made w i own s procedure args making there stands a) in
     record {
       own = own;
       there = there;
@@ -217,10 +216,10 @@ call-comes laws w i own s procedure args there stands served proper ones once =
       lost = record { ones = ones-more own w.makings [] (none-of own) ones; at = standing-more own w.makings [] s.outcome (none-of own) once };
     }
 
-leave-comes : (laws : Below) (w : World) (i : ℕ) (own : PlainSetup) (s : SessionState) (procedure : ℕ) (args : List ℕ) → slice_get w.facts i ≡ Some own → slice_get w.stages i ≡ Some (stages.Stands s) → procedure ≤ 4
-    → are_args procedure args ≡ true → OneOf own w.makings → OnceStanding own w.makings s.outcome → MoveComes w i (leaves s)
-leave-comes laws w i own s procedure args there stands served proper ones once =
-    let n = calls-none laws.scram w i own own (leaves s).makes (λ making a. call-made w i own s procedure args making there stands served proper (leave-among s procedure args making a)) in
+leave-comes : (laws : Below) (w : World) (i : ℕ) (own : PlainSetup) (s : SessionState) (procedure : ℕ) (args : List ℕ) → slice_get w.facts i ≡ Some own → slice_get w.stages i ≡ Some (stages.Stands s)
+    → OneOf own w.makings → OnceStanding own w.makings s.outcome → MoveComes w i (leaves s)
+leave-comes laws w i own s procedure args there stands ones once =
+    let n = calls-none laws.scram w i own own (leaves s).makes (λ making a. call-made w i own s procedure args making there stands (leave-among s procedure args making a)) in
     record {
       own = own;
       there = there;
@@ -231,32 +230,32 @@ leave-comes laws w i own s procedure args there stands served proper ones once =
 move-comes : (laws : Below) (w : World) (i : ℕ) (moved : Moved) → Known w → OnceAll w.facts w.stages w.makings → Move w i moved → MoveComes w i moved
 move-comes laws w i moved k h (Starting own there is) =
     let here = k.ready i own there in
-    subst (MoveComes w i) (sym is) (elim (starts-by own) [
-      | inl e ↦ refused-comes w i own (starts own) here (h.ones i own here) e
+    subst (MoveComes w i) (sym is) (elim (starts-by w.serves own) [
+      | inl e ↦ refused-comes w i own (starts w.serves own) here (h.ones i own here) e
       | inr by ↦ record {
         own = own;
         there = here;
-        stage = start-comes laws own w.makings (starts own) by (h.at i own (stages.Ready own) here there);
-        lost = over-comes own w.makings (starts own).lost by.lost (h.ones i own here);
+        stage = start-comes laws own w.makings (starts w.serves own) by (h.at i own (stages.Ready own) here there);
+        lost = over-comes own w.makings (starts w.serves own).lost by.lost (h.ones i own here);
       }
     ])
 move-comes laws w i moved k h (Taking first xid end octets there is) =
     let here = (k.asks i xid end there).0 in
     let ones = h.ones i (own_of end) here in
     let once = h.at i (own_of end) (stages.Asks xid end) here there in
-    subst (MoveComes w i) (sym is) (elim (takes-by first xid end octets) [
-      | inl e ↦ refused-comes w i (own_of end) (takes first xid end octets) here ones e
+    subst (MoveComes w i) (sym is) (elim (takes-by w.serves first xid end octets) [
+      | inl e ↦ refused-comes w i (own_of end) (takes w.serves first xid end octets) here ones e
       | inr more ↦ elim more [
-        | inl by ↦ went-comes laws w i xid end octets (takes first xid end octets) k there ones once by
-        | inr by ↦ stood-comes laws w i xid end octets (takes first xid end octets) k there ones once by
+        | inl by ↦ went-comes laws w i xid end octets (takes w.serves first xid end octets) k there ones once by
+        | inr by ↦ stood-comes laws w i xid end octets (takes w.serves first xid end octets) k there ones once by
       ]
     ])
 move-comes laws w i moved k h (Calling s procedure args there left served proper is) =
     let p = k.placed i (stages.Stands s) there in
-    subst (MoveComes w i) (sym is) (call-comes laws w i p.0 s procedure args p.1 there served proper (h.ones i p.0 p.1) (h.at i p.0 (stages.Stands s) p.1 there))
+    subst (MoveComes w i) (sym is) (call-comes laws w i p.0 s procedure args p.1 there (h.ones i p.0 p.1) (h.at i p.0 (stages.Stands s) p.1 there))
 move-comes laws w i moved k h (Leaving s procedure args there left last served proper is) =
     let p = k.placed i (stages.Stands s) there in
-    subst (MoveComes w i) (sym is) (leave-comes laws w i p.0 s procedure args p.1 there served proper (h.ones i p.0 p.1) (h.at i p.0 (stages.Stands s) p.1 there))
+    subst (MoveComes w i) (sym is) (leave-comes laws w i p.0 s procedure args p.1 there (h.ones i p.0 p.1) (h.at i p.0 (stages.Stands s) p.1 there))
 
 -- ---- each event
 

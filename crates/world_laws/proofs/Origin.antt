@@ -2,6 +2,8 @@
 use Rattle.std.proofs.Common.{◌≡◌, ◌⊎◌, inl, inr, ℕ, sym, subst, List, [], ◌∷◌, slice_get, Some}
 use Rattle.world_laws.specs.declared.event.WorldEvent.{WorldEvent}
 use Rattle.world_laws.specs.Deeds.{Deed}
+use Rattle.rpc_program.specs.Programs.{Serving}
+use Rattle.world_laws.specs.Apart.{IsApart}
 use Rattle.world_laws.specs.State.{Context, World}
 use Rattle.world_laws.specs.Events.{Happens, Run, Begins}
 use Rattle.world_laws.specs.Premises.{Marking, GuardedBasis, Unforged, NoForgery, Fresh}
@@ -9,7 +11,7 @@ use Rattle.world_laws.specs.Setups.{Proper}
 use Rattle.world_laws.specs.Agreement.{HasInitiator, Agreement}
 use Rattle.world_laws.specs.Origin.{WasCalled, CameFrom, Means, Origin, OriginLaw}
 use Rattle.world_laws.proofs.Invariants.{Below, Known, Held, Kept}
-use Rattle.world_laws.proofs.Growing.{run-grows}
+use Rattle.world_laws.proofs.Growing.{grows, run-grows}
 use Rattle.world_laws.proofs.Known.{known-start, known-step}
 use Rattle.world_laws.proofs.Held.{held-start, held-step}
 use Rattle.world_laws.proofs.Holders.{proper-on}
@@ -37,13 +39,13 @@ no-call i number procedure args = ⊥
 carried-start : (marking : Marking) (w : World) → Begins w → Carried marking no-call w
 carried-start marking w b = record { known = known-start w b; held = held-start w b; evidence = evidence-start marking w b; calls = calls-start w b; proofs = proofs-start w b }
 
-carried-step : (laws : Below) (marking : Marking) (called : Called) (old : World) (event : WorldEvent) (deed : Deed) (new : World) → Unforged marking old deed → Happens old event deed new → Carried marking called old
+carried-step : (laws : Below) (marking : Marking) (called : Called) (old : World) (event : WorldEvent) (deed : Deed) (new : World) → IsApart old.serves.program → Unforged marking old deed → Happens old event deed new → Carried marking called old
     → Carried marking (and_now called old event deed) new
-carried-step laws marking called old event deed new unforged h c = record {
+carried-step laws marking called old event deed new apart unforged h c = record {
   known = known-step laws old event deed new c.known h;
   held = held-step laws old event deed new c.held h;
-  evidence = evidence-step marking old event deed new c.held unforged h c.evidence;
-  calls = calls-step called laws old event deed new c.known c.held h c.calls;
+  evidence = evidence-step marking old event deed new apart c.held unforged h c.evidence;
+  calls = calls-step called laws old event deed new apart c.known c.held h c.calls;
   proofs = proofs-step laws old event deed new c.known h c.proofs;
 }
 
@@ -55,13 +57,14 @@ carried-named marking called other w to from c = record { known = c.known; held 
 abbrev and_run : Called → (old : World) → (events : List WorldEvent) → (new : World) → Run old events new → Called
 and_run called old events new run = λ i number procedure args. called i number procedure args ⊎ WasCalled old events new run i number procedure args
 
-carried-run : (laws : Below) (marking : Marking) (called : Called) (old : World) (events : List WorldEvent) (new : World) (run : Run old events new) → NoForgery marking old events new run → Carried marking called old
+carried-run : (laws : Below) (marking : Marking) (called : Called) (old : World) (events : List WorldEvent) (new : World) (run : Run old events new) → IsApart old.serves.program → NoForgery marking old events new run → Carried marking called old
     → Carried marking (and_run called old events new run) new
-carried-run laws marking called old [] new run forged c =
+carried-run laws marking called old [] new run apart forged c =
     subst (Carried marking (and_run called old [] new run)) (sym run) (carried-named marking called (and_run called old [] new run) old (λ i number procedure args x. inl x) (λ i number procedure args x. elim x [ inl y ↦ y | inr y ↦ absurd y ]) c)
-carried-run laws marking called old (event ∷ later) new run forged c =
+carried-run laws marking called old (event ∷ later) new run apart forged c =
     carried-named marking (and_run (and_now called old event run.0.deed) run.0.world later new run.1) (and_run called old (event ∷ later) new run) new (λ i number procedure args x. to i number procedure args x) (λ i number procedure args x. from i number procedure args x)
-    (carried-run laws marking (and_now called old event run.0.deed) run.0.world later new run.1 forged.1 (carried-step laws marking called old event run.0.deed run.0.world forged.0 run.0.happens c))
+    (carried-run laws marking (and_now called old event run.0.deed) run.0.world later new run.1
+    (subst (λ (serves : Serving). IsApart serves.program) (sym (grows old event run.0.deed run.0.world run.0.happens).serves) apart) forged.1 (carried-step laws marking called old event run.0.deed run.0.world apart forged.0 run.0.happens c))
   where
     to : (i number procedure : ℕ) (args : List ℕ) → and_run (and_now called old event run.0.deed) run.0.world later new run.1 i number procedure args → and_run called old (event ∷ later) new run i number procedure args
     to i number procedure args (inl (inl x)) = inl x
@@ -110,4 +113,4 @@ pub origin-law : Below → OriginLaw
 origin-law laws marking old events new run begins forged fresh =
     let proper : Proper new = proper-on old new (run-grows old events new run) begins.proper in
     let kept : Kept marking new = kept-end laws marking old events new run begins forged fresh in
-    origin-by laws marking old events new run (carried-run laws marking no-call old events new run forged (carried-start marking old begins)) proper fresh kept (agreement laws marking new proper fresh kept)
+    origin-by laws marking old events new run (carried-run laws marking no-call old events new run begins.proper.program forged (carried-start marking old begins)) proper fresh kept (agreement laws marking new proper fresh kept)

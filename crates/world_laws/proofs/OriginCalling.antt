@@ -7,25 +7,25 @@ use Rattle.spnego_core.specs.InitLaws.{own_of, answers_next, InitLaw}
 use Rattle.spnego_core.specs.InitMech.{is_own_list}
 use Rattle.spnego_core.specs.Initiating.{Initiated}
 use Rattle.spnego_core.proofs.Makings.{among_split}
-use Rattle.accept_book.specs.RecordShown.{Admit, Asked, AskedStep, AskedLook, AskedAdmit, AskedEnd}
 use Rattle.gss_client.specs.Session.{SessionState}
+use Rattle.rpc_program.specs.Programs.{Serving}
 use Rattle.world_laws.specs.declared.event.Happened.{Happened}
 use Rattle.world_laws.specs.declared.event.WorldEvent.{WorldEvent}
 use Rattle.world_laws.specs.declared.event.WorldEvent.TheVariants.{Start, Deliver, Lane, CallBy}
+use Rattle.world_laws.specs.Apart.{IsApart}
 use Rattle.world_laws.specs.Stages.{StageSays}
 use Rattle.world_laws.specs.Stages as stages
 use Rattle.world_laws.specs.Deeds.{Deed}
 use Rattle.world_laws.specs.State.{InHand, World}
 use Rattle.world_laws.specs.Initiators.{Moved, starts, takes, calls, leaves}
-use Rattle.world_laws.specs.Lanes.{told_width, in_hand, ruling_of, question_of, hand_after, makes_by, fixes_by, Follows, LaneMoves}
+use Rattle.world_laws.specs.Lanes.{in_hand, LaneMoves}
 use Rattle.world_laws.specs.Events.{Idles, Moves, StartsBy, DeliversBy, CallsWith, CallsBy, LanesBy, HappensBy, IsProper, Happens}
 use Rattle.world_laws.proofs.Invariants.{Below, Known, Held, ByContext}
-use Rattle.world_laws.proofs.Due.{due-says}
 use Rattle.world_laws.proofs.Growing.{Grows, grows, completed-stays}
 use Rattle.world_laws.proofs.Happening.{Came, came}
 use Rattle.world_laws.proofs.Moving.{starts-by, takes-by}
-use Rattle.world_laws.proofs.Owning.{proof-made, request-made, taken-law, leave-among, context-grows}
-use Rattle.world_laws.proofs.OwningLane.{given, step-owned, leased, admit-owned}
+use Rattle.world_laws.proofs.Owning.{proof-made, request-made, taken-law, leave-among}
+use Rattle.world_laws.proofs.OwningStep.{asks-owned}
 use Rattle.world_laws.proofs.OriginCalls.{Uncalled, uncalled-request, uncalled-proof, uncalled-list, uncalled-context, Called, IsPast, CalledMaking, Fitting, Calls, and_now, now-fits, now-same, came-past, now-past}
 
 -- ---- what an initiator hands out, and what a lane does
@@ -40,9 +40,9 @@ AllUncalled makes = (m : MechMaking) → AmongMakings makes m → Uncalled m
 none-uncalled : (makes : List MechMaking) → makes ≡ [] → AllUncalled makes
 none-uncalled makes e = λ m a. absurd (among-none makes m e a)
 
-starts-uncalled : (laws : Below) (own : PlainSetup) → AllUncalled (starts own).makes
-starts-uncalled laws own = elim (starts-by own) [
-  | inl e ↦ none-uncalled (starts own).makes (ap (λ (v : Moved). v.makes) e)
+starts-uncalled : (laws : Below) (serves : Serving) (own : PlainSetup) → AllUncalled (starts serves own).makes
+starts-uncalled laws serves own = elim (starts-by serves own) [
+  | inl e ↦ none-uncalled (starts serves own).makes (ap (λ (v : Moved). v.makes) e)
   | inr by ↦ λ m a. (let r = (laws.init.starts own by.started by.is).made m (subst (λ (ms : List MechMaking). AmongMakings ms m) by.makes a) in
       uncalled-request own m (record { credential = r.0; is_own = r.1; made = r.2 }))
 ]
@@ -56,28 +56,14 @@ step-uncalled laws end taken sized law = λ m a. elim (law.made m a) [
   ]
 ]
 
-takes-uncalled : (laws : Below) (w : World) (i first xid : ℕ) (end : EndSays) (octets : List ℕ) → Known w → slice_get w.stages i ≡ Some (stages.Asks xid end) → AllUncalled (takes first xid end octets).makes
-takes-uncalled laws w i first xid end octets k there = elim (takes-by first xid end octets) [
-  | inl e ↦ none-uncalled (takes first xid end octets).makes (ap (λ (v : Moved). v.makes) e)
+takes-uncalled : (laws : Below) (w : World) (i first xid : ℕ) (end : EndSays) (octets : List ℕ) → Known w → slice_get w.stages i ≡ Some (stages.Asks xid end) → AllUncalled (takes w.serves first xid end octets).makes
+takes-uncalled laws w i first xid end octets k there = elim (takes-by w.serves first xid end octets) [
+  | inl e ↦ none-uncalled (takes w.serves first xid end octets).makes (ap (λ (v : Moved). v.makes) e)
   | inr more ↦ elim more [
     | inl by ↦ subst AllUncalled (sym by.makes) (step-uncalled laws end by.by.taken (k.sized i (own_of end) (k.asks i xid end there).0) (taken-law laws w i xid end by.by.granted.result.token by.by.taken k there by.by.step_is))
     | inr by ↦ subst AllUncalled (sym by.makes) (step-uncalled laws end by.by.taken (k.sized i (own_of end) (k.asks i xid end there).0) (taken-law laws w i xid end by.by.granted.result.token by.by.taken k there by.by.step_is))
   ]
 ]
-
-asked-uncalled : (laws : Below) (old new : World) (lane : ℕ) (held : Option InHand) (octets : List ℕ) (now : ℕ) (draws : List ℕ) (deed : Deed) (past : Option ℕ) (left : Option InHand) (asked : Asked) (happened : Happened) (m : MechMaking)
-    → Held old → Grows old new → slice_get old.lanes lane ≡ Some held → (ruling_of (in_hand held octets now draws)).due ≡ Some (question_of asked)
-    → Follows (hand_after (in_hand held octets now draws) asked) (Some happened) left → deed.fixes ≡ fixes_by old.book past asked → new.fixed ≡ old.fixed ++ option_to_list deed.fixes
-    → AmongMakings (makes_by old.book past (in_hand held octets now draws) asked) m → ByContext new m
-asked-uncalled laws old new lane held octets now draws deed past left (AskedStep id token at drawn answer) happened m h g there due follows fixes fixed a =
-    step-owned laws old new (in_hand held octets now draws) deed past left id token at drawn answer happened m h due follows fixes fixed a
-asked-uncalled laws old new lane held octets now draws deed past left (AskedLook id at answer) happened m h g there due follows fixes fixed a = absurd a
-asked-uncalled laws old new lane held octets now draws deed past left (AskedAdmit lease seq procedure args (Ok admitted)) happened m h g there due follows fixes fixed a =
-    let hand : InHand = in_hand held octets now draws in
-    let d = due-says hand.octets hand.kept told_width (Admit lease seq procedure args) due in
-    context-grows old new m g (admit-owned old hand.octets hand.kept told_width lease seq procedure admitted.posts args m d (leased old lane held octets now draws lease h there d.looked) a)
-asked-uncalled laws old new lane held octets now draws deed past left (AskedAdmit lease seq procedure args (Err refusal)) happened m h g there due follows fixes fixed a = absurd a
-asked-uncalled laws old new lane held octets now draws deed past left (AskedEnd lease seq answer) happened m h g there due follows fixes fixed a = absurd a
 
 -- ---- what an event handed out
 
@@ -99,7 +85,7 @@ now-uncalled called old i moved deed new un (inr m) = record { makes = []; is = 
 
 now-started : (called : Called) (laws : Below) (old : World) (i : ℕ) (stage : Option StageSays) (deed : Deed) (new : World) → StartsBy old i stage deed new → Now called old new
 now-started called laws old i None deed new did = now-idle called old deed new did
-now-started called laws old i (Some (stages.Ready own)) deed new did = now-uncalled called old i (starts own) deed new (starts-uncalled laws own) did
+now-started called laws old i (Some (stages.Ready own)) deed new did = now-uncalled called old i (starts old.serves own) deed new (starts-uncalled laws old.serves own) did
 now-started called laws old i (Some (stages.Asks xid end)) deed new did = now-idle called old deed new did
 now-started called laws old i (Some (stages.Stands s)) deed new did = now-idle called old deed new did
 now-started called laws old i (Some (stages.Left s)) deed new did = now-idle called old deed new did
@@ -109,7 +95,7 @@ now-delivered : (called : Called) (laws : Below) (old : World) (i : ℕ) (octets
     → DeliversBy old i octets first stage deed new → Now called old new
 now-delivered called laws old i octets first None deed new k there did = now-idle called old deed new did
 now-delivered called laws old i octets first (Some (stages.Ready own)) deed new k there did = now-idle called old deed new did
-now-delivered called laws old i octets first (Some (stages.Asks xid end)) deed new k there did = now-uncalled called old i (takes first xid end octets) deed new (takes-uncalled laws old i first xid end octets k there) did
+now-delivered called laws old i octets first (Some (stages.Asks xid end)) deed new k there did = now-uncalled called old i (takes old.serves first xid end octets) deed new (takes-uncalled laws old i first xid end octets k there) did
 now-delivered called laws old i octets first (Some (stages.Stands s)) deed new k there did = now-idle called old deed new did
 now-delivered called laws old i octets first (Some (stages.Left s)) deed new k there did = now-idle called old deed new did
 now-delivered called laws old i octets first (Some stages.Over) deed new k there did = now-idle called old deed new did
@@ -120,9 +106,7 @@ now-laned called laws old lane held octets now draws deed new h g there (inl a) 
 now-laned called laws old lane held octets now draws deed new h g there (inr b) = record {
   makes = deed.makes;
   is = ap (λ (w : World). w.makings) b.new_is;
-  of = λ m among. (let y = given deed.answer (makes_by old.book b.past (in_hand held octets now draws) b.asked) m (subst (λ (ms : List MechMaking). AmongMakings ms m) b.makes among) in
-      let by = asked-uncalled laws old new lane held octets now draws deed b.past b.left b.asked y.happened m h g there b.due
-      (subst (λ (answer : Option Happened). Follows (hand_after (in_hand held octets now draws) b.asked) answer b.left) y.is b.follows) b.fixes (ap (λ (w : World). w.fixed) b.new_is) y.among in
+  of = λ m among. (let by = asks-owned laws old lane held octets now draws deed new h g there b m among in
       inr (uncalled-context laws.scram by.context m by.made));
 }
 
@@ -247,16 +231,16 @@ past-more : (called : Called) (old : World) (event : WorldEvent) (deed : Deed) (
 past-more called old event deed new c came did i number procedure args (inl x) = came-past old deed new came i number (c.past i number procedure args x)
 past-more called old event deed new c came did i number procedure args (inr x) = now-past old event deed new i number procedure args did x
 
-fits-more : (called : Called) (old : World) (event : WorldEvent) (deed : Deed) → Calls called old → IsProper event → (i number procedure : ℕ) (args : List ℕ) → and_now called old event deed i number procedure args → Fitting number procedure args
-fits-more called old event deed c proper i number procedure args (inl x) = c.fits i number procedure args x
-fits-more called old event deed c proper i number procedure args (inr x) = now-fits old event deed i number procedure args proper x
+fits-more : (called : Called) (old : World) (event : WorldEvent) (deed : Deed) → IsApart old.serves.program → Calls called old → IsProper old.serves event → (i number procedure : ℕ) (args : List ℕ) → and_now called old event deed i number procedure args → Fitting number procedure args
+fits-more called old event deed apart c proper i number procedure args (inl x) = c.fits i number procedure args x
+fits-more called old event deed apart c proper i number procedure args (inr x) = now-fits old event deed i number procedure args apart proper x
 
-pub calls-step : (called : Called) (laws : Below) (old : World) (event : WorldEvent) (deed : Deed) (new : World) → Known old → Held old → Happens old event deed new → Calls called old → Calls (and_now called old event deed) new
-calls-step called laws old event deed new k held h c =
+pub calls-step : (called : Called) (laws : Below) (old : World) (event : WorldEvent) (deed : Deed) (new : World) → IsApart old.serves.program → Known old → Held old → Happens old event deed new → Calls called old → Calls (and_now called old event deed) new
+calls-step called laws old event deed new apart k held h c =
     let g = grows old event deed new h in record {
       made = made-more called old event deed new g c (now-made called laws old event deed new k held g h.did);
       past = past-more called old event deed new c (came old event deed new h) h.did;
-      fits = fits-more called old event deed c h.proper;
+      fits = fits-more called old event deed apart c h.proper;
       same = now-same called old event deed c;
     }
 

@@ -1,15 +1,15 @@
 -- The calls that were made: what was handed out for each, and its number, which no other call of the initiator has.
-use Rattle.std.proofs.Common.{◌≡◌, ◌≢◌, ◌⊎◌, inl, inr, ℕ, ◌<◌, ◌≤◌, ◌==◌, Bool, true, false, nat_le, refl, sym, ◌∙◌, ap, subst, arith, List, map, slice_get, slice_set, Option, Some, None}
+use Rattle.std.proofs.Common.{◌≡◌, ◌≢◌, ◌⊎◌, inl, inr, ℕ, ◌<◌, ◌^◌, ◌≤◌, ◌==◌, Bool, true, false, nat_le, refl, sym, ◌∙◌, ap, subst, arith, List, [], map, slice_get, slice_set, Option, Some, None}
 use Rattle.std.proofs.lemmas.Bool.{cases_eq}
 use Rattle.std.proofs.lemmas.Bool.Decides.{nat_tests}
 use Rattle.scram_mech.specs.Laws.{Laws as ScramLaws}
 use Rattle.scram_mech.specs.MechMaking.{MechMaking, AmongMakings, typed}
 use Rattle.spnego_core.specs.Ends.{PlainSetup}
 use Rattle.spnego_core.specs.InitMech.{is_own_list}
-use Rattle.accept_book.specs.Served.{are_args}
 use Rattle.gss_client.specs.Session.{SessionState, session_after}
 use Rattle.world_laws.specs.declared.event.WorldEvent.{WorldEvent}
 use Rattle.world_laws.specs.declared.event.WorldEvent.TheVariants.{CallBy}
+use Rattle.world_laws.specs.Apart.{NoHeader, IsApart}
 use Rattle.world_laws.specs.Stages.{StageSays}
 use Rattle.world_laws.specs.Stages as stages
 use Rattle.world_laws.specs.Deeds.{Deed}
@@ -84,8 +84,9 @@ pub record CalledMaking (called : Called) (w : World) (m : MechMaking) : Type 0 
 
 pub record Fitting (number procedure : ℕ) (args : List ℕ) : Type 0 where
   pub low : number ≤ 0x80000000
-  pub served : procedure ≤ 4
-  pub proper : are_args procedure args ≡ true
+  pub served : procedure < 2 ^ 32
+  pub apart : NoHeader args
+  pub null : procedure ≡ 0 → args ≡ []
 
 pub record Calls (called : Called) (w : World) : Type 0 where
   pub made : (m : MechMaking) → AmongMakings w.makings m → CalledMaking called w m ⊎ Uncalled m
@@ -108,12 +109,17 @@ calls-start w b = record {
 
 -- ---- numbers
 
-pub now-fits : (old : World) (event : WorldEvent) (deed : Deed) (i number procedure : ℕ) (args : List ℕ) → IsProper event → IsCall old event deed i number procedure args → Fitting number procedure args
-now-fits old event deed i number procedure args proper c =
-    let p : IsProper (CallBy i procedure args) = subst IsProper c.event_is proper in
+pub now-fits : (old : World) (event : WorldEvent) (deed : Deed) (i number procedure : ℕ) (args : List ℕ) → IsApart old.serves.program → IsProper old.serves event → IsCall old event deed i number procedure args → Fitting number procedure args
+now-fits old event deed i number procedure args apart proper c =
+    let p : IsProper old.serves (CallBy i procedure args) = subst (IsProper old.serves) c.event_is proper in
     let left = c.left in
     let low : number ≤ 0x80000000 = grind (arith, nat_tests) in
-    record { low = low; served = p.0; proper = p.1 }
+    record {
+      low = low;
+      served = p.0;
+      apart = apart.headers procedure args p.1;
+      null = λ z. apart.null args (subst (λ (q : ℕ). old.serves.program.takes q args ≡ true) z p.1);
+    }
 
 same-event : (i j p q : ℕ) (a b : List ℕ) → CallBy i p a ≡ CallBy j q b → (p ≡ q) × (a ≡ b)
 same-event i j p q a b e = (cc, cc)

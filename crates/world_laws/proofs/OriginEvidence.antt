@@ -17,6 +17,8 @@ use Rattle.rpc_msgs.specs.Calls.{CallValue}
 use Rattle.rpc_msgs.specs.declared.xdr_reader.XdrRefusal.{XdrRefusal}
 use Rattle.rpcsec_msgs.specs.Bodies.{checked_at, sealed_at}
 use Rattle.rpcsec_msgs.specs.Cred.{CredValue}
+use Rattle.sha1.specs.Sha1.{sha1}
+use Rattle.rpc_program.specs.Programs.{Serving}
 use Rattle.scram_mech.specs.MechMaking.{OfType, MechMaking, AmongMakings, typed}
 use Rattle.accept_core.specs.Stepping.{IsNext}
 use Rattle.accept_book.specs.declared.book_answer.Lease.{Lease}
@@ -24,12 +26,14 @@ use Rattle.accept_core.specs.declared.entry.EndCause.TheVariants.{Destroyed}
 use Rattle.accept_core.specs.declared.entry.Entry.TheVariants.{Call, Ended}
 use Rattle.accept_book.specs.Booking.{lease_refused}
 use Rattle.accept_core.specs.History.{entry_at}
-use Rattle.accept_book.specs.RecordShown.{KeptAnswers, Admit, End, Asked, AskedStep, AskedLook, AskedAdmit, AskedEnd, end_of}
+use Rattle.accept_book.specs.declared.book_answer.Admitted.{Admitted}
+use Rattle.accept_book.specs.RecordShown.{KeptAnswers, Admit, End, Asked, booked, AskedStep, AskedLook, AskedAdmit, AskedEnd, end_of}
 use Rattle.world_laws.specs.declared.event.WorldEvent.{WorldEvent}
 use Rattle.world_laws.specs.Deeds.{Deed}
 use Rattle.world_laws.specs.State.{InHand, Context, World}
 use Rattle.gss_server.specs.Asking.{BookAnswers}
-use Rattle.world_laws.specs.Lanes.{told_width, in_hand, ruling_of, question_of, secure_call_in, found_by, found_in_checked, found_in_sealed, found_in_body, found_in_header, found_in_call, found_in_end, Asks}
+use Rattle.world_laws.specs.Apart.{IsApart}
+use Rattle.world_laws.specs.Lanes.{in_hand, ruling_of, question_of, secure_call_in, found_by, found_in_checked, found_in_sealed, found_in_body, found_in_header, found_in_call, found_in_end, Asks}
 use Rattle.world_laws.specs.Events.{Happens, Begins}
 use Rattle.world_laws.specs.Premises.{Marking, GuardedBasis, Guarded, WasMade, Unforged}
 use Rattle.world_laws.proofs.Invariants.{FixedAs, Held}
@@ -121,7 +125,11 @@ pub record CallBacked (marking : Marking) (w : World) (id seq procedure : ℕ) (
   pub octets : List ℕ
   pub kept : KeptAnswers
   pub lease : Lease
-  pub due : Admitting octets kept told_width lease seq procedure digest
+  pub serves : Serving
+  pub apart : IsApart serves.program
+  pub said : List ℕ
+  pub digest_is : digest ≡ sha1 said
+  pub due : Admitting octets kept serves lease seq procedure said
   pub of_data : (due.cred.proc == 0) ≡ true
   pub backed : Backed marking w id lease (found_in_call lease octets (secure_call_in octets))
 
@@ -129,7 +137,8 @@ pub record EndBacked (marking : Marking) (w : World) (id seq : ℕ) : Type 0 whe
   pub octets : List ℕ
   pub kept : KeptAnswers
   pub lease : Lease
-  pub due : Ending octets kept told_width lease seq
+  pub serves : Serving
+  pub due : Ending octets kept serves lease seq
   pub backed : Backed marking w id lease (found_in_end lease octets (secure_call_in octets))
 
 pub record Evidence (marking : Marking) (w : World) : Type 0 where
@@ -148,10 +157,10 @@ backed-on marking old new id lease found g b = record {
 
 call-on : (marking : Marking) (old new : World) (id seq procedure : ℕ) (digest : List ℕ) → Grows old new → CallBacked marking old id seq procedure digest → CallBacked marking new id seq procedure digest
 call-on marking old new id seq procedure digest g c =
-    record { octets = c.octets; kept = c.kept; lease = c.lease; due = c.due; of_data = c.of_data; backed = backed-on marking old new id c.lease _ g c.backed }
+    record { octets = c.octets; kept = c.kept; lease = c.lease; serves = c.serves; apart = c.apart; said = c.said; digest_is = c.digest_is; due = c.due; of_data = c.of_data; backed = backed-on marking old new id c.lease _ g c.backed }
 
 end-on : (marking : Marking) (old new : World) (id seq : ℕ) → Grows old new → EndBacked marking old id seq → EndBacked marking new id seq
-end-on marking old new id seq g c = record { octets = c.octets; kept = c.kept; lease = c.lease; due = c.due; backed = backed-on marking old new id c.lease _ g c.backed }
+end-on marking old new id seq g c = record { octets = c.octets; kept = c.kept; lease = c.lease; serves = c.serves; due = c.due; backed = backed-on marking old new id c.lease _ g c.backed }
 
 -- ---- at the start
 
@@ -238,43 +247,48 @@ end-added marking old new id seq g is backed e = record {
 
 -- ---- a lane's question, by its answer
 
-asks-evidence : (marking : Marking) (old : World) (lane : ℕ) (hand : Option InHand) (octets : List ℕ) (now : ℕ) (draws : List ℕ) (deed : Deed) (new : World) → Held old → Unforged marking old deed → Grows old new
+asks-evidence : (marking : Marking) (old : World) (lane : ℕ) (hand : Option InHand) (octets : List ℕ) (now : ℕ) (draws : List ℕ) (deed : Deed) (new : World) → IsApart old.serves.program → Held old → Unforged marking old deed → Grows old new
     → slice_get old.lanes lane ≡ Some hand → (a : Asks old lane (in_hand hand octets now draws) deed new) → Evidence marking old → Evidence marking new
-asks-evidence marking old lane hand octets now draws deed new held unforged g there a e = by a.asked a.due a.answers a.found a.is_past
+asks-evidence marking old lane hand octets now draws deed new apart held unforged g there a e = by a.asked a.due a.answers a.found a.is_past
   where
     own : InHand
     own = in_hand hand octets now draws
 
-    by : (asked : Asked) → (ruling_of own).due ≡ Some (question_of asked) → BookAnswers old.book asked new.book → deed.found ≡ found_by old.book a.past own asked
+    by : (asked : Asked Admitted) → (ruling_of old.serves own).due ≡ Some (question_of asked) → BookAnswers old.book (booked asked) new.book → deed.found ≡ found_by old.book a.past own asked
         → IsNext old.book.core.table (max old.book.core.cache.greatest own.kept.now) a.past → Evidence marking new
     by (AskedStep id token at drawn answer) due answers found is_past =
-        silent-evidence marking old new g (silent-stepped old.book new.book id a.past token at drawn answer (asks-past old.book a.past own (AskedStep id token at drawn answer) due is_past) answers) e
+        silent-evidence marking old new g (silent-stepped old.book new.book id a.past token at drawn answer (asks-past old.serves old.book a.past own (AskedStep id token at drawn answer) due is_past) answers) e
     by (AskedLook id at answer) due answers found is_past = silent-evidence marking old new g (silent-same old.book.core.history new.book.core.history answers.looked.history) e
-    by (AskedAdmit lease seq procedure digest (Err refusal)) due answers found is_past =
+    by (AskedAdmit lease seq service procedure said (Err refusal)) due answers found is_past =
         silent-evidence marking old new g (silent-same old.book.core.history new.book.core.history (ap (λ b. b.core.history) answers.unchanged)) e
-    by (AskedAdmit lease seq procedure digest (Ok admitted)) due answers found is_past =
-        let says : Admitting own.octets own.kept told_width lease seq procedure digest = due-says own.octets own.kept told_width (Admit lease seq procedure digest) due in
-        call-added marking old new lease.id seq procedure digest g
-        (taken-is (lease_refused old.book.core lease seq) _ admitted (Call lease.id seq procedure digest) old.book.core.history new.book.core.history answers.answer answers.history)
+    by (AskedAdmit lease seq service procedure said (Ok admitted)) due answers found is_past =
+        let says : Admitting own.octets own.kept old.serves lease seq procedure said = due-says own.octets own.kept old.serves (Admit lease seq service procedure said) due in
+        call-added marking old new lease.id seq procedure (sha1 said) g
+        (taken-is (lease_refused old.book.core lease seq) _ admitted.receipt (Call lease.id seq procedure (sha1 said)) old.book.core.history new.book.core.history answers.answer answers.history)
         (record {
           octets = own.octets;
           kept = own.kept;
           lease = lease;
+          serves = old.serves;
+          apart = apart;
+          said = said;
+          digest_is = refl;
           due = says;
-          of_data = admits-data own.octets own.kept told_width says.call says.cred lease seq procedure digest says.read says.cred_read due;
+          of_data = admits-data own.octets own.kept old.serves says.call says.cred lease seq service procedure said says.read says.cred_read due;
           backed = backs marking old new deed lease (found_in_call lease own.octets (secure_call_in own.octets)) g unforged found (under-call lease own.octets (secure_call_in own.octets))
               (lease-fixed old lane hand octets now draws lease held there says.looked);
         }) e
     by (AskedEnd lease seq (Err refusal)) due answers found is_past =
         silent-evidence marking old new g (silent-same old.book.core.history new.book.core.history (ap (λ b. b.core.history) answers.unchanged)) e
     by (AskedEnd lease seq (Ok receipt)) due answers found is_past =
-        let says : Ending own.octets own.kept told_width lease seq = due-says own.octets own.kept told_width (End lease seq) due in
+        let says : Ending own.octets own.kept old.serves lease seq = due-says own.octets own.kept old.serves (End lease seq) due in
         end-added marking old new lease.id seq g
         (taken-is (lease_refused old.book.core lease seq) _ receipt (Ended lease.id (Destroyed seq)) old.book.core.history new.book.core.history answers.answer answers.history)
         (record {
           octets = own.octets;
           kept = own.kept;
           lease = lease;
+          serves = old.serves;
           due = says;
           backed = backs marking old new deed lease (found_in_end lease own.octets (secure_call_in own.octets)) g unforged found (under-end lease own.octets (secure_call_in own.octets))
               (lease-fixed old lane hand octets now draws lease held there says.looked);
@@ -282,14 +296,14 @@ asks-evidence marking old lane hand octets now draws deed new held unforged g th
 
 -- ---- an event
 
-came-evidence : (marking : Marking) (old : World) (deed : Deed) (new : World) → Held old → Unforged marking old deed → Grows old new → Came old deed new → Evidence marking old → Evidence marking new
-came-evidence marking old deed new held unforged g (Idling i) e = silent-evidence marking old new g (silent-same old.book.core.history new.book.core.history (ap (λ (w : World). w.book.core.history) i.1)) e
-came-evidence marking old deed new held unforged g (Moving i moved move (inl m)) e = silent-evidence marking old new g (silent-same old.book.core.history new.book.core.history (ap (λ (w : World). w.book.core.history) m.1)) e
-came-evidence marking old deed new held unforged g (Moving i moved move (inr m)) e = silent-evidence marking old new g (silent-same old.book.core.history new.book.core.history (ap (λ (w : World). w.book.core.history) m.1)) e
-came-evidence marking old deed new held unforged g (Laning lane hand octets now draws there (inl a)) e =
+came-evidence : (marking : Marking) (old : World) (deed : Deed) (new : World) → IsApart old.serves.program → Held old → Unforged marking old deed → Grows old new → Came old deed new → Evidence marking old → Evidence marking new
+came-evidence marking old deed new apart held unforged g (Idling i) e = silent-evidence marking old new g (silent-same old.book.core.history new.book.core.history (ap (λ (w : World). w.book.core.history) i.1)) e
+came-evidence marking old deed new apart held unforged g (Moving i moved move (inl m)) e = silent-evidence marking old new g (silent-same old.book.core.history new.book.core.history (ap (λ (w : World). w.book.core.history) m.1)) e
+came-evidence marking old deed new apart held unforged g (Moving i moved move (inr m)) e = silent-evidence marking old new g (silent-same old.book.core.history new.book.core.history (ap (λ (w : World). w.book.core.history) m.1)) e
+came-evidence marking old deed new apart held unforged g (Laning lane hand octets now draws there (inl a)) e =
     silent-evidence marking old new g (silent-same old.book.core.history new.book.core.history (ap (λ (w : World). w.book.core.history) a.new_is)) e
-came-evidence marking old deed new held unforged g (Laning lane hand octets now draws there (inr a)) e = asks-evidence marking old lane hand octets now draws deed new held unforged g there a e
+came-evidence marking old deed new apart held unforged g (Laning lane hand octets now draws there (inr a)) e = asks-evidence marking old lane hand octets now draws deed new apart held unforged g there a e
 
-pub evidence-step : (marking : Marking) (old : World) (event : WorldEvent) (deed : Deed) (new : World) → Held old → Unforged marking old deed → Happens old event deed new → Evidence marking old → Evidence marking new
-evidence-step marking old event deed new held unforged h e =
-    came-evidence marking old deed new held unforged (grows old event deed new h) (came old event deed new h) e
+pub evidence-step : (marking : Marking) (old : World) (event : WorldEvent) (deed : Deed) (new : World) → IsApart old.serves.program → Held old → Unforged marking old deed → Happens old event deed new → Evidence marking old → Evidence marking new
+evidence-step marking old event deed new apart held unforged h e =
+    came-evidence marking old deed new apart held unforged (grows old event deed new h) (came old event deed new h) e

@@ -11,7 +11,7 @@ use Rattle.accept_core.specs.Answers.{after, or_refused}
 use Rattle.accept_book.specs.Booking.{BookOf, raised}
 use Rattle.accept_book.specs.BookAnswers.{BookStepped}
 use Rattle.history_laws.proofs.Answering.{memory-cases}
-use Rattle.history_laws.proofs.LogWalk.{IsSaid, Walk, refusal-walk, negotiated-walk}
+use Rattle.accept_book.proofs.LogWalk.{IsSaid, Walk, refusal-walk, negotiated-walk}
 
 -- each call of the new log stood in the old one
 abbrev pub Silent : List Entry → List Entry → Type 0

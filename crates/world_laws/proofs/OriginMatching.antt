@@ -1,5 +1,6 @@
 -- Whose call a record is, that was found verified under a key: by its header, and by its body.
-use Rattle.std.proofs.Common.{◌≡◌, ◌⊎◌, inl, inr, ℕ, ◌+◌, ◌*◌, ◌<◌, ◌≤◌, ◌^◌, Bool, true, false, nat_le, refl, sym, ◌∙◌, ap, subst, arith, List, [], ◌∷◌, ◌++◌, length, length-append, drop}
+use Rattle.std.proofs.Common.{◌≡◌, ◌⊎◌, inl, inr, ℕ, ◌+◌, ◌*◌, ◌<◌, ◌≤◌, ◌^◌, Bool, true, false, nat_le, refl, sym, ◌∙◌, ap, subst, arith, List, [], ◌∷◌, ◌++◌, length, length-append, take, drop}
+use Rattle.std.specs.Int.{w32, from_be_bytes}
 use Rattle.krb_derive.specs.declared.key.Key.{Key}
 use Rattle.krb_derive.specs.Making.{check_making, sealed_making}
 use Rattle.krb_tokens.specs.declared.end.Side.TheVariants.{Initiator}
@@ -18,11 +19,12 @@ use Rattle.spnego_core.specs.Initiating.{own_list}
 use Rattle.spnego_core.specs.Outcome.{token_end}
 use Rattle.gss_client.specs.Calling.{own_end, header_of}
 use Rattle.gss_client.specs.Session.{SessionState}
+use Rattle.world_laws.specs.Apart.{NoHeader, NoList}
 use Rattle.world_laws.specs.State.{World}
 use Rattle.world_laws.specs.Premises.{WasMade, Completed}
 use Rattle.world_laws.proofs.Makers.{tag, tag-word}
-use Rattle.world_laws.proofs.OriginReading.{word_of, Told}
-use Rattle.world_laws.proofs.OriginWords.{header-kind, header-procedure, header-proc, header-seq, header-service, header-long, number-first, args-behind, AreShort, args-short, args-few, args-low}
+use Rattle.world_laws.proofs.OriginReading.{word_of, drop-drop, Told}
+use Rattle.world_laws.proofs.OriginWords.{header-kind, header-version, header-procedure, header-proc, header-seq, header-service, header-long, number-first, args-behind}
 use Rattle.world_laws.proofs.ListOctets.{IsHigh, high-list}
 use Rattle.world_laws.proofs.OriginShown.{same-heads, content-sealed, HeaderMaking, BodyMaking, SealedMaking, one-of, NumberedBy}
 use Rattle.world_laws.proofs.OriginCalls.{OwnListMic, Uncalled, Called, CalledMaking, Fitting, Calls}
@@ -64,10 +66,16 @@ pub record HeaderFrom (called : Called) (w : World) (key : Key) (call : CallValu
   pub of_data : cred.proc ≡ 0 → (procedure ≡ call.procedure) × (cred.service ≡ 1 → procedure ≡ 0)
   pub left : cred.proc ≡ 0 → nat_le session.number 0x7fffffff ≡ true
 
-no-body : (header args : List ℕ) (n : ℕ) → AreShort args → word_of 4 header ≡ 0 → 48 ≤ length header → header ≡ word n ++ args → ⊥
-no-body header args n short zero_is long is =
+-- the word behind a body's number and its arguments' first
+second-behind : (n : ℕ) (args : List ℕ) → word_of 8 (word n ++ args) ≡ word_of 4 args
+unfolding word
+second-behind n args = refl
+
+no-body : (header args : List ℕ) (n : ℕ) → NoHeader args → word_of 4 header ≡ 0 → word_of 8 header ≡ 2 → 48 ≤ length header → header ≡ word n ++ args → ⊥
+no-body header args n apart zero_is two_is long is =
     let first : word_of 4 header ≡ word_of 0 args = ap (word_of 4) is ∙ ap (word_of 0) (args-behind n args) in
-    let few : length args ≤ 4 = args-few args short (sym first ∙ zero_is) in
+    let second : word_of 8 header ≡ word_of 4 args = ap (word_of 8) is ∙ second-behind n args in
+    let few : length args < 44 = apart.few (sym first ∙ zero_is) (sym second ∙ two_is) in
     let size : length header ≡ length (word n) + length args = ap length is ∙ length-append (word n) args in
     let four = length-word n in
     omega (arith, few, size, four, long)
@@ -103,8 +111,8 @@ header-of-call called w key header call cred m by calls t h is key_is spent =
       left = λ z. is-left (nat_le by.session.number 0x7fffffff) refl z;
     }
   where
-    small-name : (name procedure : ℕ) → (name ≡ procedure) ⊎ (name ≡ 0) → procedure ≤ 4 → name < 2 ^ 32
-    small-name name procedure (inl e) served = omega (arith, e, served)
+    small-name : (name procedure : ℕ) → (name ≡ procedure) ⊎ (name ≡ 0) → procedure < 2 ^ 32 → name < 2 ^ 32
+    small-name name procedure (inl e) served = subst (λ (k : ℕ). k < 2 ^ 32) (sym e) served
     small-name name procedure (inr e) served = omega (arith, e)
 
     -- what is handed out after the last call is no header of data
@@ -123,7 +131,7 @@ header-by called tokens w key header tail call cred calls t long by (inl h) =
 header-by called tokens w key header tail call cred calls t long by (inr (inl b)) =
     let same = check-octets key by.session.outcome.key header (word by.session.number ++ by.args) tail (mic_header (own_end by.session) (2 * by.session.number + 1)) long (tokens.long_mic (own_end by.session) (2 * by.session.number + 1)) b in
     let f : Fitting by.session.number by.procedure by.args = calls.fits by.i by.session.number by.procedure by.args by.was in
-    absurd (no-body header by.args by.session.number (args-short by.procedure by.args f.proper) t.kind t.long same.0)
+    absurd (no-body header by.args by.session.number f.apart t.kind t.version t.long same.0)
 header-by called tokens w key header tail call cred calls t long by (inr (inr s)) = absurd (let e = ap tag s in omega (arith, e))
 
 pub header-from : (called : Called) (tokens : TokenLaws) (w : World) (key : Key) (header tail : List ℕ) (call : CallValue) (cred : CredValue) → Calls called w → Told header call cred → length tail ≡ 16
@@ -175,42 +183,44 @@ second-word seq octets args n = (ap (word_of 0) (sym n.args_is), cut octets args
     cut (a ∷ b ∷ c ∷ []) ys h e = absurd (omega (arith, h))
     cut (a ∷ b ∷ c ∷ d ∷ zs) ys h e = let same = ap length e in omega (arith, same)
 
-no-header : (seq : ℕ) (octets args : List ℕ) (s : SessionState) (proc service named : ℕ) → AreShort args → NumberedBy seq octets args → octets ≡ header_of s proc service named → ⊥
-no-header seq octets args s proc service named short n is =
+-- and the one behind it their second
+third-word : (seq : ℕ) (octets args : List ℕ) → NumberedBy seq octets args → word_of 4 args ≡ word_of 8 octets
+third-word seq octets args n = ap (word_of 4) n.args_is ∙ ap (λ (k : List ℕ). from_be_bytes w32 (take 4 k)) (drop-drop 4 4 octets)
+
+no-header : (seq : ℕ) (octets args : List ℕ) (s : SessionState) (proc service named : ℕ) → NoHeader args → NumberedBy seq octets args → octets ≡ header_of s proc service named → ⊥
+no-header seq octets args s proc service named apart n is =
     let second = second-word seq octets args n in
     let size = second.1 in
-    let few : length args ≤ 4 = args-few args short (sym second.0 ∙ (ap (word_of 4) is ∙ header-kind s proc service named)) in
+    let few : length args < 44 = apart.few (sym second.0 ∙ (ap (word_of 4) is ∙ header-kind s proc service named)) (third-word seq octets args n ∙ (ap (word_of 8) is ∙ header-version s proc service named)) in
     let long : 48 ≤ length octets = subst (λ k. 48 ≤ length k) (sym is) (header-long s proc service named) in
     omega (arith, few, size, long)
 
-not-high : (seq : ℕ) (octets args : List ℕ) → AreShort args → NumberedBy seq octets args → IsHigh octets → ⊥
-not-high seq octets args short n high =
+not-high : (seq : ℕ) (octets args : List ℕ) → NoList args → NumberedBy seq octets args → IsHigh octets → ⊥
+not-high seq octets args apart n high =
     let second = second-word seq octets args n in
-    let first = second.0 in
     let size = second.1 in
     let long = high.long in
-    let over = high.high in
-    let low : word_of 0 args ≤ 65536 = args-low args short (omega (arith, size, long)) in
-    omega (arith, low, first, over)
+    let short = high.short in
+    apart.other high.name (omega (arith, size, long)) (omega (arith, size, short)) (sym second.0 ∙ high.is)
 
-checked-case : (called : Called) (tokens : TokenLaws) (w : World) (key : Key) (seq : ℕ) (octets tail args : List ℕ) → Calls called w → AreShort args → NumberedBy seq octets args → length tail ≡ 16
+checked-case : (called : Called) (tokens : TokenLaws) (w : World) (key : Key) (seq : ℕ) (octets tail args : List ℕ) → Calls called w → NoHeader args → NoList args → NumberedBy seq octets args → length tail ≡ 16
     → (by : CalledMaking called w (typed (check_making key 25 (octets ++ tail))))
     → HeaderMaking by.session by.procedure (typed (check_making key 25 (octets ++ tail))) ⊎ (BodyMaking by.session by.args (typed (check_making key 25 (octets ++ tail))) ⊎ SealedMaking by.session by.args (typed (check_making key 25 (octets ++ tail))))
     → BodyFrom called w key seq args
-checked-case called tokens w key seq octets tail args calls short n long by (inl h) =
+checked-case called tokens w key seq octets tail args calls apart other n long by (inl h) =
     let same = check-octets key by.session.outcome.key octets (header_of by.session h.proc h.service h.named) tail (mic_header (own_end by.session) (2 * by.session.number)) long (tokens.long_mic (own_end by.session) (2 * by.session.number)) h.is in
-    absurd (no-header seq octets args by.session h.proc h.service h.named short n same.0)
-checked-case called tokens w key seq octets tail args calls short n long by (inr (inl b)) =
+    absurd (no-header seq octets args by.session h.proc h.service h.named apart n same.0)
+checked-case called tokens w key seq octets tail args calls apart other n long by (inr (inl b)) =
     let same = check-octets key by.session.outcome.key octets (word by.session.number ++ by.args) tail (mic_header (own_end by.session) (2 * by.session.number + 1)) long (tokens.long_mic (own_end by.session) (2 * by.session.number + 1)) b in
     body-of-call called w key seq octets args _ by calls n same.0 same.1
-checked-case called tokens w key seq octets tail args calls short n long by (inr (inr s)) = absurd (let e = ap tag s in omega (arith, e))
+checked-case called tokens w key seq octets tail args calls apart other n long by (inr (inr s)) = absurd (let e = ap tag s in omega (arith, e))
 
-pub checked-from : (called : Called) (tokens : TokenLaws) (w : World) (key : Key) (seq : ℕ) (octets tail args : List ℕ) → Calls called w → AreShort args → NumberedBy seq octets args → length tail ≡ 16
+pub checked-from : (called : Called) (tokens : TokenLaws) (w : World) (key : Key) (seq : ℕ) (octets tail args : List ℕ) → Calls called w → NoHeader args → NoList args → NumberedBy seq octets args → length tail ≡ 16
     → WasMade w (typed (check_making key 25 (octets ++ tail))) → BodyFrom called w key seq args
-checked-from called tokens w key seq octets tail args calls short n long made =
+checked-from called tokens w key seq octets tail args calls apart other n long made =
     elim (of-made called w (typed (check_making key 25 (octets ++ tail))) calls (λ e. absurd (omega (arith, e))) made) [
-      | inl by ↦ checked-case called tokens w key seq octets tail args calls short n long by (one-of by.session by.procedure by.args _ by.made)
-      | inr un ↦ absurd (no-list tokens key octets tail long (not-high seq octets args short n) (un.signed refl))
+      | inl by ↦ checked-case called tokens w key seq octets tail args calls apart other n long by (one-of by.session by.procedure by.args _ by.made)
+      | inr un ↦ absurd (no-list tokens key octets tail long (not-high seq octets args other n) (un.signed refl))
     ]
 
 sealed-plain : (key last : Key) (a b : List ℕ) → typed (sealed_making key 24 a) ≡ typed (sealed_making last 24 b) → (a ≡ b) × (last ≡ key)

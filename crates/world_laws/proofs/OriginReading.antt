@@ -24,7 +24,7 @@ word_of at octets = from_be_bytes w32 (take 4 (drop at octets))
 
 -- ---- the places of words
 
-drop-drop : (n m : ℕ) (xs : List ℕ) → drop n (drop m xs) ≡ drop (m + n) xs
+pub drop-drop : (n m : ℕ) (xs : List ℕ) → drop n (drop m xs) ≡ drop (m + n) xs
 drop-drop n zero xs = let same : n ≡ 0 + n = omega arith in ap (λ k. drop k xs) same
 drop-drop n (suc m) [] = drop-nil n ∙ sym (drop-nil (suc m + n))
 drop-drop n (suc m) (x ∷ xs) = let same : suc (m + n) ≡ suc m + n = omega arith in drop-drop n m xs ∙ ap (λ k. drop k (x ∷ xs)) same
@@ -132,6 +132,7 @@ placed-ok (Err d) y e = absurd cc
 
 pub record CallAt (octets : List ℕ) (call : CallValue) : Type 0 where
   pub kind : word_of 4 octets ≡ 0
+  pub version : word_of 8 octets ≡ 2
   pub procedure : call.procedure ≡ word_of 20 octets
   pub size : ℕ
   pub body : call.cred.body ≡ take size (drop 32 octets)
@@ -193,6 +194,7 @@ call-read octets call e =
     let r = rest-at a.0.0 octets a.0.1 call left end (readable-ok (rest_at a.0.0 a.0.1) call a.2) in
     record {
       kind = sym u.value ∙ eqb-true c.0.0 0 k.0;
+      version = sym w.value ∙ eqb-true d.0.0 2 l.0;
       procedure = r.procedure;
       size = r.size;
       body = r.body;
@@ -246,6 +248,7 @@ cred-read body cred e =
 
 pub record Told (header : List ℕ) (call : CallValue) (cred : CredValue) : Type 0 where
   pub kind : word_of 4 header ≡ 0
+  pub version : word_of 8 header ≡ 2
   pub procedure : call.procedure ≡ word_of 20 header
   pub proc : cred.proc ≡ word_of 36 header
   pub seq : cred.seq ≡ word_of 40 header
@@ -257,6 +260,7 @@ told-by : (octets body : List ℕ) (call : CallValue) (cred : CredValue) (size :
     → call.header ≤ length octets → Told (take call.header octets) call cred
 told-by octets body call cred size c d is enough header within = record {
   kind = word-in 4 call.header 0 octets (omega (arith, header, enough)) ∙ c.kind;
+  version = word-in 8 call.header 0 octets (omega (arith, header, enough)) ∙ c.version;
   procedure = c.procedure ∙ sym (word-in 20 call.header 0 octets (omega (arith, header, enough)));
   proc = d.proc ∙ (ap (word_of 4) is ∙ (word-in 4 size 32 octets (omega (arith, enough)) ∙ sym (word-in 36 call.header 0 octets (omega (arith, header, enough)))));
   seq = d.seq ∙ (ap (word_of 8) is ∙ (word-in 8 size 32 octets (omega (arith, enough)) ∙ sym (word-in 40 call.header 0 octets (omega (arith, header, enough)))));

@@ -17,11 +17,12 @@ use Rattle.rpcsec_msgs.specs.Cred.{CredValue, cred_at}
 use Rattle.scram_mech.specs.MechMaking.{MechMaking, AmongMakings, typed}
 use Rattle.spnego_core.specs.declared.outcome.Outcome.{Outcome}
 use Rattle.spnego_core.specs.Ends.{PlainSetup}
-use Rattle.accept_book.specs.Served.{are_args}
+use Rattle.rpc_program.specs.Programs.{ProgramSays, Serving}
 use Rattle.accept_book.specs.declared.book_answer.Lease.{Lease}
 use Rattle.accept_book.specs.RecordShown.{KeptAnswers, end_of, is_verified}
+use Rattle.world_laws.specs.Apart.{NoHeader, NoList, IsApart}
 use Rattle.world_laws.specs.State.{Context, World}
-use Rattle.world_laws.specs.Lanes.{told_width, cred_with, secure_call_by, secure_call_in, found_in_checked, found_in_sealed, found_in_body, found_in_header, found_in_call, found_in_end}
+use Rattle.world_laws.specs.Lanes.{cred_with, secure_call_by, secure_call_in, found_in_checked, found_in_sealed, found_in_body, found_in_header, found_in_call, found_in_end}
 use Rattle.world_laws.specs.Premises.{Marking, GuardedBasis, WasMade, Completed}
 use Rattle.world_laws.specs.Agreement.{HasInitiator}
 use Rattle.world_laws.specs.Origin.{Means}
@@ -30,7 +31,6 @@ use Rattle.world_laws.proofs.Kerberos.{same-context}
 use Rattle.world_laws.proofs.Due.{shown, Admitting}
 use Rattle.world_laws.proofs.OriginReading.{told}
 use Rattle.world_laws.proofs.Owning.{among-back}
-use Rattle.world_laws.proofs.OriginWords.{args-short}
 use Rattle.rpcsec_bodies.specs.Carried.{IsCheckedBody, IsSealedBody}
 use Rattle.world_laws.proofs.OriginShown.{BodyBy, body-by, NumberedBy, numbered-by}
 use Rattle.world_laws.proofs.OriginCalls.{Called, Fitting, Calls}
@@ -71,9 +71,9 @@ sealed-found end service body token three read = rw (three) (ap (found_in_sealed
 
 -- ---- the verifier
 
-verified-mic : (octets : List ℕ) (kept : KeptAnswers) (width : ℕ) (call : CallValue) (lease : Lease) → is_verified (shown octets kept width call) lease ≡ true → checked_mic (end_of lease) call.verf.body (take call.header octets) ≡ Ok tt
+verified-mic : (octets : List ℕ) (kept : KeptAnswers) (serves : Serving) (call : CallValue) (lease : Lease) → is_verified (shown octets kept serves call) lease ≡ true → checked_mic (end_of lease) call.verf.body (take call.header octets) ≡ Ok tt
 unfolding is_verified
-verified-mic octets kept width call lease e = by (call.verf.flavour == 6) (checked_mic (end_of lease) call.verf.body (take call.header octets)) refl e
+verified-mic octets kept serves call lease e = by (call.verf.flavour == 6) (checked_mic (end_of lease) call.verf.body (take call.header octets)) refl e
   where
     by : (b : Bool) (r : Result (Unit {0}) TokenRefusal) → checked_mic (end_of lease) call.verf.body (take call.header octets) ≡ r → (b && is_ok r) ≡ true → checked_mic (end_of lease) call.verf.body (take call.header octets) ≡ Ok tt
     by true (Ok done) is f = is
@@ -81,10 +81,10 @@ verified-mic octets kept width call lease e = by (call.verf.flavour == 6) (check
     by false r is f = absurd cc
 
 -- the call whose header was verified
-header-call : (called : Called) (tokens : TokenLaws) (w : World) (lease : Lease) (octets : List ℕ) (kept : KeptAnswers) (call : CallValue) (cred : CredValue) → Calls called w → call_at octets ≡ Ok call → cred_at call.cred.body ≡ Ok cred
-    → is_verified (shown octets kept told_width call) lease ≡ true → ((m : MechMaking) → AmongMakings (map typed (found_in_header (end_of lease) octets call)) m → WasMade w m) → HeaderFrom called w lease.outcome.key call cred
-header-call called tokens w lease octets kept call cred calls read cred_read verified made =
-    by (tokens.mic (end_of lease) call.verf.body (take call.header octets) (verified-mic octets kept told_width call lease verified))
+header-call : (called : Called) (tokens : TokenLaws) (w : World) (lease : Lease) (octets : List ℕ) (kept : KeptAnswers) (serves : Serving) (call : CallValue) (cred : CredValue) → Calls called w → call_at octets ≡ Ok call → cred_at call.cred.body ≡ Ok cred
+    → is_verified (shown octets kept serves call) lease ≡ true → ((m : MechMaking) → AmongMakings (map typed (found_in_header (end_of lease) octets call)) m → WasMade w m) → HeaderFrom called w lease.outcome.key call cred
+header-call called tokens w lease octets kept serves call cred calls read cred_read verified made =
+    by (tokens.mic (end_of lease) call.verf.body (take call.header octets) (verified-mic octets kept serves call lease verified))
   where
     by : ShownByMic (end_of lease) call.verf.body (take call.header octets) → HeaderFrom called w lease.outcome.key call cred
     by s = header-from called tokens w lease.outcome.key (take call.header octets) s.header call cred calls (told octets call cred read cred_read) s.long
@@ -92,12 +92,12 @@ header-call called tokens w lease octets kept call cred calls read cred_read ver
 
 -- ---- the body
 
-checked-call : (called : Called) (tokens : TokenLaws) (w : World) (lease : Lease) (procedure : ℕ) (cred : CredValue) (body args : List ℕ) → Calls called w → are_args procedure args ≡ true → cred.service ≡ 2 → IsCheckedBody (end_of lease) cred.seq body args
+checked-call : (called : Called) (tokens : TokenLaws) (w : World) (lease : Lease) (cred : CredValue) (body args : List ℕ) → Calls called w → NoHeader args → NoList args → cred.service ≡ 2 → IsCheckedBody (end_of lease) cred.seq body args
     → ((m : MechMaking) → AmongMakings (map typed (found_in_body (end_of lease) cred.service body)) m → WasMade w m) → BodyFrom called w lease.outcome.key cred.seq args
-checked-call called tokens w lease procedure cred body args calls proper two c made = by (tokens.mic (end_of lease) c.mic c.databody c.proved)
+checked-call called tokens w lease cred body args calls apart other two c made = by (tokens.mic (end_of lease) c.mic c.databody c.proved)
   where
     by : ShownByMic (end_of lease) c.mic c.databody → BodyFrom called w lease.outcome.key cred.seq args
-    by s = checked-from called tokens w lease.outcome.key cred.seq c.databody s.header args calls (args-short procedure args proper) (numbered-by cred.seq c.databody args c.numbered) s.long
+    by s = checked-from called tokens w lease.outcome.key cred.seq c.databody s.header args calls apart other (numbered-by cred.seq c.databody args c.numbered) s.long
         (made (typed (check_making lease.outcome.key 25 (c.databody ++ s.header))) (one-among (found_in_body (end_of lease) cred.service body) (check_making lease.outcome.key 25 (c.databody ++ s.header))
         (checked-found (end_of lease) cred.service body c.databody c.mic two c.split ∙ s.found)))
 
@@ -141,13 +141,6 @@ completed-as w i j own other outcome same there c = record {
 called-by : (called : Called) (i j n m p : ℕ) (a : List ℕ) → i ≡ j → n ≡ m → called i n p a → called j m p a
 called-by called i j n m p a e f c = subst (λ k. called j k p a) f (subst (λ k. called k n p a) e c)
 
-no-args : (p : ℕ) (a : List ℕ) → p ≡ 0 → are_args p a ≡ true → a ≡ []
-no-args p a z e = empty a (eqb-true (length a) 0 (subst (λ q. are_args q a ≡ true) z e))
-  where
-    empty : (xs : List ℕ) → length xs ≡ 0 → xs ≡ []
-    empty [] f = refl
-    empty (x ∷ xs) f = absurd (omega (arith, f))
-
 -- the header's call has the body's arguments
 args-same : (called : Called) (w : World) (key : Key) (initiator : ℕ) (call : CallValue) (cred : CredValue) (args : List ℕ) → Calls called w → Holds w key initiator → (h : HeaderFrom called w key call cred) → BodyFrom called w key cred.seq args → h.args ≡ args
 args-same called w key initiator call cred args calls holds h b =
@@ -159,14 +152,14 @@ last-service : (service : ℕ) → 1 ≤ service → service ≤ 3 → (service 
 last-service service low high one two = grind (arith, nat_tests)
 
 args-by : (called : Called) (tokens : TokenLaws) (w : World) (lease : Lease) (initiator : ℕ) (call : CallValue) (cred : CredValue) (args : List ℕ) → Calls called w → Holds w lease.outcome.key initiator → (h : HeaderFrom called w lease.outcome.key call cred)
-    → h.procedure ≡ call.procedure → (cred.service ≡ 1 → h.procedure ≡ 0) → are_args call.procedure args ≡ true → ((m : MechMaking) → AmongMakings (map typed (found_in_body (end_of lease) cred.service call.args)) m → WasMade w m)
+    → h.procedure ≡ call.procedure → (cred.service ≡ 1 → h.procedure ≡ 0) → (program : ProgramSays) → IsApart program → program.takes call.procedure args ≡ true → ((m : MechMaking) → AmongMakings (map typed (found_in_body (end_of lease) cred.service call.args)) m → WasMade w m)
     → BodyBy (end_of lease) cred call.args args → h.args ≡ args
-args-by called tokens w lease initiator call cred args calls holds h same bare proper made (inl b) =
+args-by called tokens w lease initiator call cred args calls holds h same bare program apart proper made (inl b) =
     let f : Fitting h.session.number h.procedure h.args = calls.fits h.i h.session.number h.procedure h.args h.was in
-    no-args h.procedure h.args (bare b.0) f.proper ∙ sym (no-args call.procedure args (sym same ∙ bare b.0) proper)
-args-by called tokens w lease initiator call cred args calls holds h same bare proper made (inr (inl b)) =
-    args-same called w lease.outcome.key initiator call cred args calls holds h (checked-call called tokens w lease call.procedure cred call.args args calls proper b.0 b.1 made)
-args-by called tokens w lease initiator call cred args calls holds h same bare proper made (inr (inr b)) =
+    f.null (bare b.0) ∙ sym (apart.null args (subst (λ (q : ℕ). program.takes q args ≡ true) (sym same ∙ bare b.0) proper))
+args-by called tokens w lease initiator call cred args calls holds h same bare program apart proper made (inr (inl b)) =
+    args-same called w lease.outcome.key initiator call cred args calls holds h (checked-call called tokens w lease cred call.args args calls (apart.headers call.procedure args proper) (apart.lists call.procedure args proper) b.0 b.1 made)
+args-by called tokens w lease initiator call cred args calls holds h same bare program apart proper made (inr (inr b)) =
     args-same called w lease.outcome.key initiator call cred args calls holds h
     (sealed-call called tokens w lease cred call.args args calls (last-service cred.service h.service_low h.service_high b.0 b.1) b.2 made)
 
@@ -179,19 +172,19 @@ context-made marking w id lease found place x held b there id_is =
     let same : b.place ≡ place = held.ids b.place place b.context x b.there there (b.id_is ∙ sym id_is) in
     same-context w place b.context x (subst (λ (k : ℕ). slice_get w.fixed k ≡ Some b.context) same b.there) there
 
-call-by : (called : Called) (tokens : TokenLaws) (marking : Marking) (w : World) (seq procedure : ℕ) (digest : List ℕ) (x : Context) (octets : List ℕ) (kept : KeptAnswers) (lease : Lease) → Calls called w → (has : HasInitiator w x)
-    → Holds w lease.outcome.key has.initiator → x.fixed.outcome.key ≡ lease.outcome.key → (due : Admitting octets kept told_width lease seq procedure digest) → (due.cred.proc == 0) ≡ true
-    → ((m : MechMaking) → AmongMakings (map typed (found_in_call lease octets (secure_call_in octets))) m → WasMade w m) → Traced called w x seq (Means seq procedure digest)
-call-by called tokens marking w seq procedure digest x octets kept lease calls has holds key due of_data made =
-    by (header-call called tokens w lease octets kept due.call due.cred calls due.read due.cred_read due.verified (λ m a. made m (in-call-header lease octets due.call due.cred m is a)))
+call-by : (called : Called) (tokens : TokenLaws) (marking : Marking) (w : World) (seq procedure : ℕ) (said : List ℕ) (x : Context) (octets : List ℕ) (kept : KeptAnswers) (serves : Serving) (lease : Lease) → IsApart serves.program → Calls called w → (has : HasInitiator w x)
+    → Holds w lease.outcome.key has.initiator → x.fixed.outcome.key ≡ lease.outcome.key → (due : Admitting octets kept serves lease seq procedure said) → (due.cred.proc == 0) ≡ true
+    → ((m : MechMaking) → AmongMakings (map typed (found_in_call lease octets (secure_call_in octets))) m → WasMade w m) → Traced called w x seq (Means seq procedure (sha1 said))
+call-by called tokens marking w seq procedure said x octets kept serves lease apart calls has holds key due of_data made =
+    by (header-call called tokens w lease octets kept serves due.call due.cred calls due.read due.cred_read due.verified (λ m a. made m (in-call-header lease octets due.call due.cred m is a)))
   where
     is : secure_call_in octets ≡ Some (due.call, due.cred)
     is = call-is octets due.call due.cred due.read due.cred_read
 
-    by : HeaderFrom called w lease.outcome.key due.call due.cred → Traced called w x seq (Means seq procedure digest)
+    by : HeaderFrom called w lease.outcome.key due.call due.cred → Traced called w x seq (Means seq procedure (sha1 said))
     by h =
         let d = h.of_data (eqb-true due.cred.proc 0 of_data) in
-        let same : h.args ≡ due.args = args-by called tokens w lease has.initiator due.call due.cred due.args calls holds h d.0 d.1 due.proper
+        let same : h.args ≡ due.args = args-by called tokens w lease has.initiator due.call due.cred due.args calls holds h d.0 d.1 serves.program apart due.proper
         (λ m a. made m (in-call-body lease octets due.call due.cred m is a)) (body-by (end_of lease) due.cred due.call.args due.args due.args_are) in
         record {
           has = has;
@@ -201,7 +194,7 @@ call-by called tokens marking w seq procedure digest x octets kept lease calls h
           procedure = h.procedure;
           args = h.args;
           was = called-by called h.i has.initiator h.session.number seq h.procedure h.args (holds h.i h.own h.session.outcome h.completed h.key_is) (h.number_is ∙ sym due.seq_is) h.was;
-          meant = (subst (λ (n : ℕ). nat_le n 0x7fffffff ≡ true) (h.number_is ∙ sym due.seq_is) (h.left (eqb-true due.cred.proc 0 of_data)), d.0 ∙ sym due.procedure_is, ap sha1 same ∙ sym due.digest_is);
+          meant = (subst (λ (n : ℕ). nat_le n 0x7fffffff ≡ true) (h.number_is ∙ sym due.seq_is) (h.left (eqb-true due.cred.proc 0 of_data)), d.0 ∙ sym due.procedure_is, ap sha1 (same ∙ sym due.said_is));
         }
 
 pub call-traced : (called : Called) (tokens : TokenLaws) (marking : Marking) (w : World) (id seq procedure : ℕ) (digest : List ℕ) (place : ℕ) (x : Context) → Held w → Calls called w → CallBacked marking w id seq procedure digest
@@ -209,15 +202,16 @@ pub call-traced : (called : Called) (tokens : TokenLaws) (marking : Marking) (w 
 call-traced called tokens marking w id seq procedure digest place x held calls c there id_is guarded has holds =
     let same : c.backed.context ≡ x = context-made marking w id c.lease (found_in_call c.lease c.octets (secure_call_in c.octets)) place x held c.backed there id_is in
     let key : x.fixed.outcome.key ≡ c.lease.outcome.key = sym (ap (λ (z : Context). z.fixed.outcome.key) same) ∙ ap (λ (o : Outcome). o.key) c.backed.outcome_is in
-    call-by called tokens marking w seq procedure digest x c.octets c.kept c.lease calls has (subst (λ k. Holds w k has.initiator) key holds) key c.due c.of_data
-    (c.backed.made (subst (λ (z : Context). GuardedBasis marking z.fixed.basis) (sym same) guarded))
+    subst (λ (d : List ℕ). Traced called w x seq (Means seq procedure d)) (sym c.digest_is)
+    (call-by called tokens marking w seq procedure c.said x c.octets c.kept c.serves c.lease c.apart calls has (subst (λ k. Holds w k has.initiator) key holds) key c.due c.of_data
+    (c.backed.made (subst (λ (z : Context). GuardedBasis marking z.fixed.basis) (sym same) guarded)))
 
 pub end-traced : (called : Called) (tokens : TokenLaws) (marking : Marking) (w : World) (id seq : ℕ) (place : ℕ) (x : Context) → Held w → Calls called w → EndBacked marking w id seq
     → slice_get w.fixed place ≡ Some x → x.id ≡ id → GuardedBasis marking x.fixed.basis → (has : HasInitiator w x) → Holds w x.fixed.outcome.key has.initiator → Traced called w x seq (λ procedure args. Unit {0})
 end-traced called tokens marking w id seq place x held calls c there id_is guarded has holds =
     let same : c.backed.context ≡ x = context-made marking w id c.lease (found_in_end c.lease c.octets (secure_call_in c.octets)) place x held c.backed there id_is in
     let key : x.fixed.outcome.key ≡ c.lease.outcome.key = sym (ap (λ (z : Context). z.fixed.outcome.key) same) ∙ ap (λ (o : Outcome). o.key) c.backed.outcome_is in
-    by same key (header-call called tokens w c.lease c.octets c.kept c.due.call c.due.cred calls c.due.read c.due.cred_read c.due.verified
+    by same key (header-call called tokens w c.lease c.octets c.kept c.serves c.due.call c.due.cred calls c.due.read c.due.cred_read c.due.verified
     (λ m a. c.backed.made (subst (λ (z : Context). GuardedBasis marking z.fixed.basis) (sym same) guarded) m
     (in-end c.lease c.octets c.due.call c.due.cred m (call-is c.octets c.due.call c.due.cred c.due.read c.due.cred_read) a)))
   where

@@ -13,6 +13,7 @@ use Rattle.spnego_core.specs.InitLaws.{own_of, chosen_of, finished_of, finished_
 use Rattle.spnego_core.specs.Initiating.{Initiated}
 use Rattle.spnego_core.proofs.Makings.{among_back}
 use Rattle.gss_client.specs.Session.{SessionState}
+use Rattle.rpc_program.specs.Programs.{Serving}
 use Rattle.world_laws.specs.declared.event.WorldEvent.{WorldEvent}
 use Rattle.world_laws.specs.Stages.{StageSays}
 use Rattle.world_laws.specs.Stages as stages
@@ -121,8 +122,8 @@ unchosen-unfinished (ends.Signed signed) e = absurd (none-some signed.talk.chose
 
 -- ---- a move
 
-starting : (laws : Below) (w : World) (own next : PlainSetup) → StageProof w next (starts own).stage × StageProof w next (starts own).lost
-starting laws w own next = elim (starts-by own) [
+starting : (laws : Below) (serves : Serving) (w : World) (own next : PlainSetup) → StageProof w next (starts serves own).stage × StageProof w next (starts serves own).lost
+starting laws serves w own next = elim (starts-by serves own) [
   | inl e ↦ (subst (λ (m : Moved). StageProof w next m.stage) (sym e) tt, subst (λ (m : Moved). StageProof w next m.lost) (sym e) tt)
   | inr by ↦ (
     subst (StageProof w next) (sym by.stage) (
@@ -142,37 +143,37 @@ moved-among old new moved makes e f m a =
     subst (λ (ms : List MechMaking). AmongMakings ms m) (sym e) (among_back old.makings moved.makes m (subst (λ (ms : List MechMaking). AmongMakings ms m) (sym f) a))
 
 taking : (laws : Below) (old new : World) (i first xid : ℕ) (end : EndSays) (octets : List ℕ) (own : PlainSetup) → Known old → Proofs old → Grows old new → slice_get old.stages i ≡ Some (stages.Asks xid end) → slice_get old.facts i ≡ Some own
-    → new.makings ≡ old.makings ++ (takes first xid end octets).makes → StageProof new own (takes first xid end octets).stage
-taking laws old new i first xid end octets own k p g stands there makes = elim (takes-by first xid end octets) [
+    → new.makings ≡ old.makings ++ (takes old.serves first xid end octets).makes → StageProof new own (takes old.serves first xid end octets).stage
+taking laws old new i first xid end octets own k p g stands there makes = elim (takes-by old.serves first xid end octets) [
   | inl e ↦ subst (λ (m : Moved). StageProof new own m.stage) (sym e) tt
   | inr more ↦ elim more [
     | inl by ↦ subst (StageProof new own) (sym by.stage)
-        (step-stage old new own xid end by.by.taken _ g (same-own old i (own_of end) own (k.asks i xid end stands).0 there) (moved-among old new (takes first xid end octets) by.by.taken.makes makes by.makes)
+        (step-stage old new own xid end by.by.taken _ g (same-own old i (own_of end) own (k.asks i xid end stands).0 there) (moved-among old new (takes old.serves first xid end octets) by.by.taken.makes makes by.makes)
         (taken-law laws old i xid end by.by.granted.result.token by.by.taken k stands by.by.step_is)
         (step-proving laws.scram end by.by.granted.result.token by.by.taken by.by.step_is) (p.handed i own (stages.Asks xid end) there stands) by.by.leads)
     | inr by ↦ subst (StageProof new own) (sym by.stage)
-        ((step-stage old new own xid end by.by.taken _ g (same-own old i (own_of end) own (k.asks i xid end stands).0 there) (moved-among old new (takes first xid end octets) by.by.taken.makes makes by.makes)
+        ((step-stage old new own xid end by.by.taken _ g (same-own old i (own_of end) own (k.asks i xid end stands).0 there) (moved-among old new (takes old.serves first xid end octets) by.by.taken.makes makes by.makes)
         (taken-law laws old i xid end by.by.granted.result.token by.by.taken k stands by.by.step_is)
         (step-proving laws.scram end by.by.granted.result.token by.by.taken by.by.step_is) (p.handed i own (stages.Asks xid end) there stands) by.by.leads).1 by.outcome refl)
   ]
 ]
 
-over : (laws : Below) (w : World) (first xid : ℕ) (end : EndSays) (octets : List ℕ) (own : PlainSetup) → StageProof w own (takes first xid end octets).lost
-over laws w first xid end octets own = elim (takes-by first xid end octets) [
+over : (laws : Below) (serves : Serving) (w : World) (first xid : ℕ) (end : EndSays) (octets : List ℕ) (own : PlainSetup) → StageProof w own (takes serves first xid end octets).lost
+over laws serves w first xid end octets own = elim (takes-by serves first xid end octets) [
   | inl e ↦ subst (λ (m : Moved). StageProof w own m.lost) (sym e) tt
   | inr more ↦ elim more [ inl by ↦ subst (StageProof w own) (sym by.lost) tt | inr by ↦ subst (StageProof w own) (sym by.lost) tt ]
 ]
 
 moves-proofs : (laws : Below) (old : World) (i : ℕ) (moved : Moved) (deed : Deed) (new : World) → Known old → Grows old new → Move old i moved → Moves old i moved deed new → Proofs old → Proofs new
 moves-proofs laws old i moved deed new k g (Starting own stands is) (inl m) p =
-    proofs-set old new i moved.stage g (ap (λ (w : World). w.stages) m.1) (λ next there. subst (λ (v : Moved). StageProof new next v.stage) (sym is) (starting laws new own next).0) p
+    proofs-set old new i moved.stage g (ap (λ (w : World). w.stages) m.1) (λ next there. subst (λ (v : Moved). StageProof new next v.stage) (sym is) (starting laws old.serves new own next).0) p
 moves-proofs laws old i moved deed new k g (Starting own stands is) (inr m) p =
-    proofs-set old new i moved.lost g (ap (λ (w : World). w.stages) m.1) (λ next there. subst (λ (v : Moved). StageProof new next v.lost) (sym is) (starting laws new own next).1) p
+    proofs-set old new i moved.lost g (ap (λ (w : World). w.stages) m.1) (λ next there. subst (λ (v : Moved). StageProof new next v.lost) (sym is) (starting laws old.serves new own next).1) p
 moves-proofs laws old i moved deed new k g (Taking first xid end octets stands is) (inl m) p =
     proofs-set old new i moved.stage g (ap (λ (w : World). w.stages) m.1)
     (λ own there. subst (λ (v : Moved). StageProof new own v.stage) (sym is) (taking laws old new i first xid end octets own k p g stands there (ap (λ (w : World). w.makings) m.1 ∙ ap (λ (v : Moved). old.makings ++ v.makes) is))) p
 moves-proofs laws old i moved deed new k g (Taking first xid end octets stands is) (inr m) p =
-    proofs-set old new i moved.lost g (ap (λ (w : World). w.stages) m.1) (λ own there. subst (λ (v : Moved). StageProof new own v.lost) (sym is) (over laws new first xid end octets own)) p
+    proofs-set old new i moved.lost g (ap (λ (w : World). w.stages) m.1) (λ own there. subst (λ (v : Moved). StageProof new own v.lost) (sym is) (over laws old.serves new first xid end octets own)) p
 moves-proofs laws old i moved deed new k g (Calling s procedure args stands left served proper is) (inl m) p =
     proofs-set old new i moved.stage g (ap (λ (w : World). w.stages) m.1)
     (λ own there. subst (λ (v : Moved). StageProof new own v.stage) (sym is) (λ scram. handed-on old new own g (p.handed i own (stages.Stands s) there stands scram))) p

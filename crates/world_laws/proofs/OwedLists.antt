@@ -46,6 +46,7 @@ use Rattle.context_table.specs.declared.slot.SlotState.TheVariants as states
 use Rattle.context_table.specs.declared.slot.SlotState.TheVariants.{Negotiating, Complete}
 use Rattle.context_table.specs.Places.{Places}
 use Rattle.accept_core.specs.declared.entry.Entry.{Entry}
+use Rattle.accept_book.specs.declared.book_answer.Admitted.{Admitted}
 use Rattle.accept_book.specs.declared.book_answer.NegAnswer.{NegAnswer}
 use Rattle.accept_book.specs.declared.book_answer.NegAnswer.TheVariants as answers
 use Rattle.accept_book.specs.declared.book_answer.Negotiated.{Negotiated}
@@ -54,14 +55,14 @@ use Rattle.accept_book.specs.Booking.{BookOf, Stands, Change, changed, next_of, 
 use Rattle.accept_book.specs.BookLaws.{AllGood, BookLaws}
 use Rattle.accept_core.specs.Entering.{id_of}
 use Rattle.accept_book.specs.Found.{step_taken, fixes_of, stepped_from}
-use Rattle.accept_book.specs.RecordShown.{Asked, AskedStep, AskedLook, AskedAdmit, AskedEnd}
+use Rattle.accept_book.specs.RecordShown.{booked, Asked, AskedStep, AskedLook, AskedAdmit, AskedEnd}
 use Rattle.accept_core.specs.Stepping.{Context as Slot, context_after, until_of, IsNext, goes_by}
 use Rattle.accept_book.proofs.Founds.{taken_is, own_is}
 use Rattle.gss_server.specs.Asking.{BookAnswers}
 use Rattle.world_laws.specs.declared.event.WorldEvent.{WorldEvent}
 use Rattle.world_laws.specs.Deeds.{Deed}
 use Rattle.world_laws.specs.State.{InHand, Context, World}
-use Rattle.world_laws.specs.Lanes.{told_width, in_hand, ruling_of, question_of, accepted_in, context_with, unless_short, fixes_by}
+use Rattle.world_laws.specs.Lanes.{in_hand, ruling_of, question_of, accepted_in, context_with, unless_short, fixes_by}
 use Rattle.world_laws.specs.Events.{Happens, Begins}
 use Rattle.world_laws.proofs.Invariants.{Held}
 use Rattle.world_laws.proofs.Happening.{Came, Idling, Moving, Laning, came}
@@ -335,19 +336,19 @@ step-lists laws old id past token now draws result book held late stepped lists 
 same-lists : (old : World) (book : BookOf) → book ≡ old.book → OwedLists (contexts_of old.book.core.table) old.fixed → OwedLists (contexts_of book.core.table) (old.fixed ++ [])
 same-lists old book same lists = subst (λ (b : BookOf). OwedLists (contexts_of b.core.table) (old.fixed ++ [])) (sym same) (none-more (contexts_of old.book.core.table) old.fixed lists)
 
-question-lists : (laws : BookLaws) (old : World) (past : Option ℕ) (hand : InHand) (asked : Asked) (book : BookOf) → Held old → IsNext old.book.core.table (max old.book.core.cache.greatest hand.kept.now) past
-    → (ruling_of hand).due ≡ Some (question_of asked) → BookAnswers old.book asked book → OwedLists (contexts_of old.book.core.table) old.fixed
+question-lists : (laws : BookLaws) (old : World) (past : Option ℕ) (hand : InHand) (asked : Asked Admitted) (book : BookOf) → Held old → IsNext old.book.core.table (max old.book.core.cache.greatest hand.kept.now) past
+    → (ruling_of old.serves hand).due ≡ Some (question_of asked) → BookAnswers old.book (booked asked) book → OwedLists (contexts_of old.book.core.table) old.fixed
     → OwedLists (contexts_of book.core.table) (old.fixed ++ option_to_list (fixes_by old.book past asked))
 question-lists laws old past hand (AskedStep id token now draws result) book held late due said lists =
     step-lists laws old id past token now draws result book held
-    (subst (λ (n : ℕ). IsNext old.book.core.table (max old.book.core.cache.greatest n) past) (sym (due-moment hand.octets hand.kept told_width id token now draws due)) late) said lists
+    (subst (λ (n : ℕ). IsNext old.book.core.table (max old.book.core.cache.greatest n) past) (sym (due-moment hand.octets hand.kept old.serves id token now draws due)) late) said lists
 question-lists laws old past hand (AskedLook id now answer) book held late due said lists =
     none-more (contexts_of book.core.table) old.fixed
     (lists-stay old.fixed (contexts_of old.book.core.table) (contexts_of book.core.table) lists (λ k. inl (ap (λ (t : Places AcceptEnd Outcome). contexts_of t k) said.looked.table)))
-question-lists laws old past hand (AskedAdmit lease seq procedure args (Ok admitted)) book held late due said lists =
+question-lists laws old past hand (AskedAdmit lease seq service procedure args (Ok admitted)) book held late due said lists =
     none-more (contexts_of book.core.table) old.fixed
     (lists-stay old.fixed (contexts_of old.book.core.table) (contexts_of book.core.table) lists (marked-stay old.book.core.table book.core.table lease.id seq (said.slot refl) said.others))
-question-lists laws old past hand (AskedAdmit lease seq procedure args (Err refusal)) book held late due said lists = same-lists old book said.unchanged lists
+question-lists laws old past hand (AskedAdmit lease seq service procedure args (Err refusal)) book held late due said lists = same-lists old book said.unchanged lists
 question-lists laws old past hand (AskedEnd lease seq (Ok receipt)) book held late due said lists =
     none-more (contexts_of book.core.table) old.fixed
     (lists-stay old.fixed (contexts_of old.book.core.table) (contexts_of book.core.table) lists (gone-stay old.book.core.table book.core.table lease.id (said.gone refl) said.others))

@@ -8,7 +8,6 @@ use Rattle.spnego_core.specs.Ends.{PlainSetup, EndSays}
 use Rattle.spnego_core.specs.InitLaws.{own_of, answers_next, IsRequest, IsProof, InitLaw}
 use Rattle.spnego_core.specs.Initiating.{Initiated, init_step}
 use Rattle.spnego_core.proofs.Makings.{among_split}
-use Rattle.accept_book.specs.Served.{are_args}
 use Rattle.gss_client.specs.Session.{SessionState}
 use Rattle.world_laws.specs.Stages as stages
 use Rattle.world_laws.specs.Deeds.{Deed}
@@ -40,8 +39,6 @@ init-made-grows old new i own making g (inr (inr (inr d))) = inr (inr (inr (reco
   completed = completed-stays old new i own d.session.outcome g d.completed;
   procedure = d.procedure;
   args = d.args;
-  served = d.served;
-  proper = d.proper;
   made = d.made;
 })))
 
@@ -96,14 +93,12 @@ pub taken-law : (laws : Below) (w : World) (i xid : ℕ) (end : EndSays) (token 
 taken-law laws w i xid end token taken k there step = laws.init.steps end token taken (k.asks i xid end there).1 step
 
 pub call-made : (w : World) (i : ℕ) (own : PlainSetup) (s : SessionState) (procedure : ℕ) (args : List ℕ) (making : MechMaking) → slice_get w.facts i ≡ Some own → slice_get w.stages i ≡ Some (stages.Stands s)
-    → procedure ≤ 4 → are_args procedure args ≡ true → AmongMakings (map typed (call_makings s procedure args)) making → MadeCall w i own making
-call-made w i own s procedure args making there stands served proper a = record {
+    → AmongMakings (map typed (call_makings s procedure args)) making → MadeCall w i own making
+call-made w i own s procedure args making there stands a = record {
   session = s;
   completed = record { there = there; stage = stages.Stands s; stands = stands; session = s; in_session = refl; outcome_is = refl };
   procedure = procedure;
   args = args;
-  served = served;
-  proper = proper;
   made = a;
 }
 
@@ -136,24 +131,24 @@ refused-mover : (w : World) (i : ℕ) (own : PlainSetup) (moved : Moved) → sli
 refused-mover w i own moved there e = record { own = own; there = there; made = λ making a. absurd (among-none moved.makes making (ap (λ (m : Moved). m.makes) e) a) }
 
 pub mover : (laws : Below) (w : World) (i : ℕ) (moved : Moved) → Known w → Move w i moved → Mover w i moved
-mover laws w i moved k (Starting own there is) = subst (Mover w i) (sym is) (elim (starts-by own) [
-  | inl e ↦ refused-mover w i own (starts own) (k.ready i own there) e
-  | inr by ↦ start-mover laws w i own (starts own) (k.ready i own there) by
+mover laws w i moved k (Starting own there is) = subst (Mover w i) (sym is) (elim (starts-by w.serves own) [
+  | inl e ↦ refused-mover w i own (starts w.serves own) (k.ready i own there) e
+  | inr by ↦ start-mover laws w i own (starts w.serves own) (k.ready i own there) by
 ])
-mover laws w i moved k (Taking first xid end octets there is) = subst (Mover w i) (sym is) (elim (takes-by first xid end octets) [
-  | inl e ↦ refused-mover w i (own_of end) (takes first xid end octets) (k.asks i xid end there).0 e
+mover laws w i moved k (Taking first xid end octets there is) = subst (Mover w i) (sym is) (elim (takes-by w.serves first xid end octets) [
+  | inl e ↦ refused-mover w i (own_of end) (takes w.serves first xid end octets) (k.asks i xid end there).0 e
   | inr more ↦ elim more [
-    | inl by ↦ step-mover w i end by.by.taken (takes first xid end octets) (k.asks i xid end there).0 (taken-law laws w i xid end by.by.granted.result.token by.by.taken k there by.by.step_is) by.makes
-    | inr by ↦ step-mover w i end by.by.taken (takes first xid end octets) (k.asks i xid end there).0 (taken-law laws w i xid end by.by.granted.result.token by.by.taken k there by.by.step_is) by.makes
+    | inl by ↦ step-mover w i end by.by.taken (takes w.serves first xid end octets) (k.asks i xid end there).0 (taken-law laws w i xid end by.by.granted.result.token by.by.taken k there by.by.step_is) by.makes
+    | inr by ↦ step-mover w i end by.by.taken (takes w.serves first xid end octets) (k.asks i xid end there).0 (taken-law laws w i xid end by.by.granted.result.token by.by.taken k there by.by.step_is) by.makes
   ]
 ])
 mover laws w i moved k (Calling s procedure args there left served proper is) =
     let p = k.placed i (stages.Stands s) there in
-    subst (Mover w i) (sym is) (record { own = p.0; there = p.1; made = λ making a. inr (inr (inr (call-made w i p.0 s procedure args making p.1 there served proper a))) })
+    subst (Mover w i) (sym is) (record { own = p.0; there = p.1; made = λ making a. inr (inr (inr (call-made w i p.0 s procedure args making p.1 there a))) })
 mover laws w i moved k (Leaving s procedure args there left last served proper is) =
     let p = k.placed i (stages.Stands s) there in
     subst (Mover w i) (sym is)
-    (record { own = p.0; there = p.1; made = λ making a. inr (inr (inr (call-made w i p.0 s procedure args making p.1 there served proper (leave-among s procedure args making a)))) })
+    (record { own = p.0; there = p.1; made = λ making a. inr (inr (inr (call-made w i p.0 s procedure args making p.1 there (leave-among s procedure args making a)))) })
 
 pub move-owned : (laws : Below) (w : World) (i : ℕ) (moved : Moved) → Known w → Move w i moved → (making : MechMaking) → AmongMakings moved.makes making → ByInitiator w making
 move-owned laws w i moved k move making a =

@@ -16,12 +16,16 @@ use Rattle.accept_book.specs.Booking.{Stands, raised}
 use Rattle.accept_core.specs.Entering.{id_of}
 use Rattle.accept_book.specs.Found.{step_taken, stepped_from, makes_of, fixes_of}
 use Rattle.accept_book.specs.RecordRule.{stepped}
-use Rattle.accept_book.specs.RecordShown.{KeptAnswers, Negotiate, AskedStep, Ruling, asking}
+use Rattle.accept_book.specs.RecordShown.{KeptAnswers, Negotiate, AskedStep, Ruling, asking, end_of}
+use Rattle.rpcsec_msgs.specs.Cred.{CredValue}
+use Rattle.rpc_program.specs.Programs.{Serving, result_in}
+use Rattle.rpc_program.specs.declared.outcome.Outcome.{Outcome}
 use Rattle.world_laws.specs.declared.event.Happened.{Happened}
 use Rattle.world_laws.specs.declared.event.Happened.TheVariants.{Sent, Completed, Stepped, Refused, Nothing}
 use Rattle.world_laws.specs.Deeds.{Deed}
 use Rattle.world_laws.specs.State.{InHand, Context, World}
-use Rattle.world_laws.specs.Lanes.{told_width, in_hand, ruling_of, hand_after, cred_with, secure_call_by, secure_call_in, result_with, made_for_call, unless_short, accepted_in, context_with, fixes_by, IsAnswer, if_answered, Follows}
+use Rattle.world_laws.specs.Apart.{NoList}
+use Rattle.world_laws.specs.Lanes.{in_hand, ruling_of, hand_after, cred_with, secure_call_by, secure_call_in, result_makings, told_with, result_with, made_for_call, unless_short, accepted_in, context_with, fixes_by, IsAnswer, if_answered, Follows}
 use Rattle.world_laws.proofs.Invariants.{Below, FixedAs, Held, ContextMade, ByContext}
 use Rattle.world_laws.proofs.Slices.{get-last}
 use Rattle.world_laws.proofs.Due.{Admitting}
@@ -51,13 +55,13 @@ short-decides answer ruling short d =
     let is : ruling ≡ asking d.one (stepped d.shown_by answers.NoMemory) = d.is ∙ ap (λ (n : NegAnswer). asking d.one (stepped d.shown_by n)) short in
     (ap (λ (r : Ruling). r.rule) is, ap (λ (r : Ruling). r.due) is)
 
-step-enough : (hand : InHand) (id : Option ℕ) (token : List ℕ) (now : ℕ) (draws : List ℕ) (answer : Negotiated) (happened : Happened) (left : Option InHand) → (ruling_of hand).due ≡ Some (Negotiate id token now draws)
-    → Follows (hand_after hand (AskedStep id token now draws answer)) (Some happened) left → answer.answer ≢ answers.NoMemory
-step-enough hand id token now draws answer happened left due follows short =
-    let d = short-decides answer (ruling_of (hand_after hand (AskedStep id token now draws answer))) short (step-decides hand.octets hand.kept told_width answer id token now draws due) in
+step-enough : (serves : Serving) (hand : InHand) (id : Option ℕ) (token : List ℕ) (now : ℕ) (draws : List ℕ) (answer : Negotiated) (happened : Happened) (left : Option InHand) → (ruling_of serves hand).due ≡ Some (Negotiate id token now draws)
+    → Follows serves (hand_after hand (AskedStep id token now draws answer)) (Some happened) left → answer.answer ≢ answers.NoMemory
+step-enough serves hand id token now draws answer happened left due follows short =
+    let d = short-decides answer (ruling_of serves (hand_after hand (AskedStep id token now draws answer))) short (step-decides hand.octets hand.kept serves answer id token now draws due) in
     elim follows [
       | inl more ↦ none-some more.0 (sym d.1 ∙ more.1)
-      | inr last ↦ undecided (ruling_of (hand_after hand (AskedStep id token now draws answer))) happened d.0 last.0
+      | inr last ↦ undecided (ruling_of serves (hand_after hand (AskedStep id token now draws answer))) happened d.0 last.0
     ]
 
 enough-fixes : (answer : NegAnswer) (fixes : Option Fixed) → answer ≢ answers.NoMemory → unless_short answer fixes ≡ fixes
@@ -133,26 +137,37 @@ now-fixed old new deed context making e fixes made = record {
 }
 
 pub step-owned : (laws : Below) (old new : World) (hand : InHand) (deed : Deed) (past : Option ℕ) (left : Option InHand) (id : Option ℕ) (token : List ℕ) (now : ℕ) (draws : List ℕ) (answer : Negotiated) (happened : Happened) (making : MechMaking)
-    → Held old → (ruling_of hand).due ≡ Some (Negotiate id token now draws) → Follows (hand_after hand (AskedStep id token now draws answer)) (Some happened) left
+    → Held old → (ruling_of old.serves hand).due ≡ Some (Negotiate id token now draws) → Follows old.serves (hand_after hand (AskedStep id token now draws answer)) (Some happened) left
     → deed.fixes ≡ fixes_by old.book past (AskedStep id token now draws answer) → new.fixed ≡ old.fixed ++ option_to_list deed.fixes
     → AmongMakings (makes_of (accepted_in old.book past id token now draws)) making → ByContext new making
 step-owned laws old new hand deed past left id token now draws answer happened making held due follows fixes fixed a =
     let taken : Option Accepted = accepted_in old.book past id token now draws in
     let own : ℕ = id_of id old.book.core.history in
     let f : FixedMade taken own making = taken-made laws old.book.setup (raised old.book.core now) id past token now draws taken own making held.good refl a in
-    let enough : answer.answer ≢ answers.NoMemory = step-enough hand id token now draws answer happened left due follows in
+    let enough : answer.answer ≢ answers.NoMemory = step-enough old.serves hand id token now draws answer happened left due follows in
     now-fixed old new deed (context_with own f.fixed) making fixed
     (fixes ∙ ap (λ (o : Option Fixed). option_map (context_with own) o) (enough-fixes answer.answer (fixes_of taken) enough ∙ f.fixes)) f.made
 
 -- ---- an admission
 
-call-is : (octets : List ℕ) (kept : KeptAnswers) (width : ℕ) (lease : Lease) (seq procedure : ℕ) (digest : List ℕ) → (d : Admitting octets kept width lease seq procedure digest) → secure_call_in octets ≡ Some (d.call, d.cred)
-call-is octets kept width lease seq procedure digest d = ap secure_call_by d.read ∙ ap (cred_with d.call) d.cred_read
+call-is : (octets : List ℕ) (kept : KeptAnswers) (serves : Serving) (lease : Lease) (seq procedure : ℕ) (said : List ℕ) → (d : Admitting octets kept serves lease seq procedure said) → secure_call_in octets ≡ Some (d.call, d.cred)
+call-is octets kept serves lease seq procedure said d = ap secure_call_by d.read ∙ ap (cred_with d.call) d.cred_read
 
-result-is : (octets : List ℕ) (kept : KeptAnswers) (width : ℕ) (lease : Lease) (seq procedure posts : ℕ) (digest : List ℕ) → (d : Admitting octets kept width lease seq procedure digest)
-    → made_for_call lease posts (secure_call_in octets) ≡ result_with lease posts d.call d.cred (Some d.args)
-result-is octets kept width lease seq procedure posts digest d =
-    ap (made_for_call lease posts) (call-is octets kept width lease seq procedure digest d) ∙ ap (result_with lease posts d.call d.cred) d.args_are
+result-is : (octets : List ℕ) (kept : KeptAnswers) (serves : Serving) (lease : Lease) (seq procedure : ℕ) (outcome : Outcome) (said : List ℕ) → (d : Admitting octets kept serves lease seq procedure said)
+    → made_for_call lease outcome (secure_call_in octets) ≡ told_with lease d.cred (result_in said outcome)
+result-is octets kept serves lease seq procedure outcome said d =
+    ap (made_for_call lease outcome) (call-is octets kept serves lease seq procedure said d)
+    ∙ (ap (result_with lease outcome d.cred) d.args_are ∙ ap (λ (args : List ℕ). told_with lease d.cred (result_in args outcome)) (sym d.said_is))
+
+-- the result that was told
+record ToldResult (lease : Lease) (cred : CredValue) (o : Option (List ℕ)) (making : MechMaking) : Type 0 where
+  result : List ℕ
+  is : o ≡ Some result
+  made : AmongMakings (map typed (result_makings (end_of lease) cred.service cred.seq result)) making
+
+told-result : (lease : Lease) (cred : CredValue) (o : Option (List ℕ)) (making : MechMaking) → AmongMakings (map typed (told_with lease cred o)) making → ToldResult lease cred o making
+told-result lease cred None making a = absurd a
+told-result lease cred (Some result) making a = record { result = result; is = refl; made = a }
 
 -- the lease in hand is of a context that was fixed
 pub leased : (w : World) (lane : ℕ) (hand : Option InHand) (octets : List ℕ) (now : ℕ) (draws : List ℕ) (lease : Lease) → Held w → slice_get w.lanes lane ≡ Some hand
@@ -160,21 +175,22 @@ pub leased : (w : World) (lane : ℕ) (hand : Option InHand) (octets : List ℕ)
 leased w lane None octets now draws lease held there looked = absurd (none-some (Ok lease) looked)
 leased w lane (Some hand) octets now draws lease held there looked = held.leases lane hand lease there looked
 
-pub admit-owned : (w : World) (octets : List ℕ) (kept : KeptAnswers) (width : ℕ) (lease : Lease) (seq procedure posts : ℕ) (digest : List ℕ) (making : MechMaking) → Admitting octets kept width lease seq procedure digest
-    → FixedAs w lease.id lease.outcome lease.ends → AmongMakings (map typed (made_for_call lease posts (secure_call_in octets))) making → ByContext w making
-admit-owned w octets kept width lease seq procedure posts digest making d f a = record {
-  place = f.place;
-  context = f.context;
-  there = f.there;
-  made = inr (inr (inr (record {
-    lease = lease;
-    outcome_is = f.outcome_is;
-    service = d.cred.service;
-    seq = d.cred.seq;
-    procedure = d.call.procedure;
-    args = d.args;
-    posts = posts;
-    proper = d.proper;
-    made = subst (λ (ms : List Making). AmongMakings (map typed ms) making) (result-is octets kept width lease seq procedure posts digest d) a;
-  })));
-}
+pub admit-owned : (w : World) (octets : List ℕ) (kept : KeptAnswers) (serves : Serving) (lease : Lease) (seq procedure : ℕ) (outcome : Outcome) (said : List ℕ) (making : MechMaking) → Admitting octets kept serves lease seq procedure said
+    → ((result : List ℕ) → result_in said outcome ≡ Some result → NoList result) → FixedAs w lease.id lease.outcome lease.ends → AmongMakings (map typed (made_for_call lease outcome (secure_call_in octets))) making → ByContext w making
+admit-owned w octets kept serves lease seq procedure outcome said making d apart f a =
+    let t = told-result lease d.cred (result_in said outcome) making
+    (subst (λ (ms : List Making). AmongMakings (map typed ms) making) (result-is octets kept serves lease seq procedure outcome said d) a) in
+    record {
+      place = f.place;
+      context = f.context;
+      there = f.there;
+      made = inr (inr (inr (record {
+        lease = lease;
+        outcome_is = f.outcome_is;
+        service = d.cred.service;
+        seq = d.cred.seq;
+        result = t.result;
+        apart = apart t.result t.is;
+        made = t.made;
+      })));
+    }

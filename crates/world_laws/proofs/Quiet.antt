@@ -10,6 +10,7 @@ use Rattle.gss_client.specs.Creation.{CreatedSays}
 use Rattle.gss_client.specs.Creation as created
 use Rattle.gss_client.specs.Judging.{creation_step}
 use Rattle.gss_client.specs.Session.{SessionState}
+use Rattle.rpc_program.specs.Programs.{Serving}
 use Rattle.world_laws.specs.declared.event.Happened.TheVariants.{Refused}
 use Rattle.world_laws.specs.declared.event.WorldEvent.{WorldEvent}
 use Rattle.world_laws.specs.declared.event.WorldEvent.TheVariants.{Start, Deliver, Lane, CallBy}
@@ -43,13 +44,13 @@ moves-none old i moved deed new none (inr m) = record { found = ap (λ (d : Deed
 
 -- ---- a start
 
-started-none : (r : Result Started NegRefusal) → (started_by r).found ≡ []
-started-none (Err refusal) = refl
-started-none (Ok started) = refl
+started-none : (serves : Serving) (r : Result Started NegRefusal) → (started_by serves r).found ≡ []
+started-none serves (Err refusal) = refl
+started-none serves (Ok started) = refl
 
 start-none : (old : World) (i : ℕ) (stage : Option StageSays) (deed : Deed) (new : World) → StartsBy old i stage deed new → FindsNone deed
 start-none old i None deed new d = idles-none old deed new d
-start-none old i (Some (stages.Ready own)) deed new d = moves-none old i (starts own) deed new (λ e. started-none (init_start own)) d
+start-none old i (Some (stages.Ready own)) deed new d = moves-none old i (starts old.serves own) deed new (λ e. started-none old.serves (init_start own)) d
 start-none old i (Some (stages.Asks xid end)) deed new d = idles-none old deed new d
 start-none old i (Some (stages.Stands s)) deed new d = idles-none old deed new d
 start-none old i (Some (stages.Left s)) deed new d = idles-none old deed new d
@@ -57,17 +58,17 @@ start-none old i (Some stages.Over) deed new d = idles-none old deed new d
 
 -- ---- a reply that is refused
 
-created-none : (first xid : ℕ) (end : EndSays) (octets : List ℕ) (what : Result CreatedSays ClientRefusal) → (created_by first xid end octets what).answer ≡ Refused → (created_by first xid end octets what).found ≡ []
-created-none first xid end octets (Err refusal) e = refl
-created-none first xid end octets (Ok (created.Going offer)) e = absurd cc
-created-none first xid end octets (Ok (created.Stands outcome handle)) e = absurd cc
+created-none : (serves : Serving) (first xid : ℕ) (end : EndSays) (octets : List ℕ) (what : Result CreatedSays ClientRefusal) → (created_by serves first xid end octets what).answer ≡ Refused → (created_by serves first xid end octets what).found ≡ []
+created-none serves first xid end octets (Err refusal) e = refl
+created-none serves first xid end octets (Ok (created.Going offer)) e = absurd cc
+created-none serves first xid end octets (Ok (created.Stands outcome handle)) e = absurd cc
 
 reply-none : (old : World) (i : ℕ) (octets : List ℕ) (first : ℕ) (stage : Option StageSays) (deed : Deed) (new : World) → deed.answer ≡ Some Refused → DeliversBy old i octets first stage deed new → FindsNone deed
 reply-none old i octets first None deed new refused d = idles-none old deed new d
 reply-none old i octets first (Some (stages.Ready own)) deed new refused d = idles-none old deed new d
 reply-none old i octets first (Some (stages.Asks xid end)) deed new refused d =
-    moves-none old i (takes first xid end octets) deed new
-    (λ e. created-none first xid end octets (creation_step end xid octets) (same_Some (takes first xid end octets).answer Refused (sym (ap (λ (x : Deed). x.answer) e) ∙ refused))) d
+    moves-none old i (takes old.serves first xid end octets) deed new
+    (λ e. created-none old.serves first xid end octets (creation_step end xid octets) (same_Some (takes old.serves first xid end octets).answer Refused (sym (ap (λ (x : Deed). x.answer) e) ∙ refused))) d
 reply-none old i octets first (Some (stages.Stands s)) deed new refused d = idles-none old deed new d
 reply-none old i octets first (Some (stages.Left s)) deed new refused d = idles-none old deed new d
 reply-none old i octets first (Some stages.Over) deed new refused d = idles-none old deed new d

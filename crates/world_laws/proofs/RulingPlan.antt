@@ -7,8 +7,7 @@ use Rattle.rpc_msgs.specs.declared.call.CallRefusal.TheVariants.{Unreadable, Not
 use Rattle.rpc_msgs.specs.declared.xdr_reader.XdrRefusal.{XdrRefusal}
 use Rattle.rpcsec_msgs.specs.Cred.{CredValue, cred_at}
 use Rattle.rpcsec_msgs.specs.declared.cred.CredRefusal.{CredRefusal}
-use Rattle.sha1.specs.Sha1.{sha1}
-use Rattle.accept_book.specs.Served.{one_opaque, are_args}
+use Rattle.accept_book.specs.Served.{one_opaque}
 use Rattle.accept_core.specs.declared.answer.AdmitRefusal.{AdmitRefusal}
 use Rattle.accept_core.specs.declared.answer.AdmitRefusal.TheVariants as admits
 use Rattle.accept_core.specs.declared.answer.LookRefusal.{LookRefusal}
@@ -18,10 +17,15 @@ use Rattle.accept_book.specs.declared.book_answer.Lease.{Lease}
 use Rattle.accept_book.specs.declared.book_answer.NegAnswer.{NegAnswer}
 use Rattle.accept_book.specs.declared.book_answer.NegAnswer.TheVariants as steps
 use Rattle.accept_book.specs.declared.book_answer.Negotiated.{Negotiated}
-use Rattle.accept_core.specs.declared.entry.Admitted.{Admitted}
+use Rattle.accept_book.specs.declared.book_answer.Admitted.{Admitted}
+use Rattle.rpc_program.specs.Programs.{Serving}
+use Rattle.rpcsec_bodies.specs.declared.service.Service.{Service}
+use Rattle.rpcsec_bodies.specs.Service.{service_of}
+use Rattle.rpc_program.specs.declared.outcome.Outcome.{Outcome}
+use Rattle.rpc_program.specs.declared.outcome.Outcome.TheVariants as outcomes
 use Rattle.accept_core.specs.declared.entry.Receipt.{Receipt}
 use Rattle.accept_book.specs.RecordShown.{Negotiate, Look, Admit, End, AskedStep, AskedLook, AskedAdmit, AskedEnd, Ruling, decided, waiting, asking, Shown, handle_id, body_args, end_of, is_verified}
-use Rattle.accept_book.specs.RecordRule.{is_other_program, is_other_version_of_it, is_misplaced, plain_ruling, stepped, ask_step, continued, token_ruling, creation_ruling, unadmitted, admitted_ruling, ask_admit, args_ruling, data_ruling, ended_ruling, ask_end, destroy_ruling, looked_ruling, ask_look, id_ruling, cred_ruling, call_ruling, read_ruling, record_ruling}
+use Rattle.accept_book.specs.RecordRule.{is_other_program, is_other_version_of_it, is_no_procedure, is_weak, is_misplaced, plain_ruling, stepped, ask_step, continued, token_ruling, creation_ruling, unadmitted, outcome_ruling, admitted_ruling, ask_admit, args_ruling, data_ruling, ended_ruling, ask_end, destroy_ruling, looked_ruling, ask_look, id_ruling, cred_ruling, call_ruling, read_ruling, record_ruling}
 
 -- ---- plans
 
@@ -39,7 +43,7 @@ decision_of r = record { rule = r.rule; reply = r.reply }
 -- behind a look: a rule decides, or an admission or an end is asked, and what follows its answer
 pub data Late : Type 0 where
   Rules : (d : Decision) → Late
-  Admits : (lease : Lease) (seq procedure : ℕ) (args : List ℕ) (by : Result Admitted AdmitRefusal → Decision) → Late
+  Admits : (lease : Lease) (seq : ℕ) (service : Service) (procedure : ℕ) (args : List ℕ) (by : Result Admitted AdmitRefusal → Decision) → Late
   Ends : (lease : Lease) (seq : ℕ) (by : Result Receipt AdmitRefusal → Decision) → Late
 
 pub data Plan : Type 0 where
@@ -52,9 +56,9 @@ abbrev pub step_by : Option ℕ → List ℕ → ℕ → List ℕ → (Negotiate
 step_by id token now draws by None = waiting (Negotiate id token now draws)
 step_by id token now draws by (Some answer) = asking (AskedStep id token now draws answer) (ruled (by answer))
 
-abbrev pub admit_by : Lease → ℕ → ℕ → List ℕ → (Result Admitted AdmitRefusal → Decision) → Option (Result Admitted AdmitRefusal) → Ruling
-admit_by lease seq procedure args by None = waiting (Admit lease seq procedure args)
-admit_by lease seq procedure args by (Some answer) = asking (AskedAdmit lease seq procedure args answer) (ruled (by answer))
+abbrev pub admit_by : Lease → ℕ → Service → ℕ → List ℕ → (Result Admitted AdmitRefusal → Decision) → Option (Result Admitted AdmitRefusal) → Ruling
+admit_by lease seq service procedure args by None = waiting (Admit lease seq service procedure args)
+admit_by lease seq service procedure args by (Some answer) = asking (AskedAdmit lease seq service procedure args answer) (ruled (by answer))
 
 abbrev pub end_by : Lease → ℕ → (Result Receipt AdmitRefusal → Decision) → Option (Result Receipt AdmitRefusal) → Ruling
 end_by lease seq by None = waiting (End lease seq)
@@ -62,7 +66,7 @@ end_by lease seq by (Some answer) = asking (AskedEnd lease seq answer) (ruled (b
 
 abbrev pub late_by : Late → Option (Result Admitted AdmitRefusal) → Option (Result Receipt AdmitRefusal) → Ruling
 late_by (Rules d) admitted ended = ruled d
-late_by (Admits lease seq procedure args by) admitted ended = admit_by lease seq procedure args by admitted
+late_by (Admits lease seq service procedure args by) admitted ended = admit_by lease seq service procedure args by admitted
 late_by (Ends lease seq by) admitted ended = end_by lease seq by ended
 
 abbrev pub look_by : ℕ → ℕ → (Result Lease LookRefusal → Late) → Option (Result Lease LookRefusal) → Option (Result Admitted AdmitRefusal) → Option (Result Receipt AdmitRefusal) → Ruling
@@ -105,9 +109,9 @@ late-if false f g p q = record { late = q.late; is = q.is }
 plain-planned : (s : Shown) → Planned (λ n l a e. plain_ruling s)
 unfolding plain_ruling
 plain-planned s =
-    by-if (is_other_program s.call) _ _ (decides _ _)
-    (by-if (is_other_version_of_it s.call) _ _ (decides _ _)
-    (by-if (nat_lt 4 s.call.procedure) _ _ (decides _ _)
+    by-if (is_other_program s) _ _ (decides _ _)
+    (by-if (is_other_version_of_it s) _ _ (decides _ _)
+    (by-if (is_no_procedure s) _ _ (decides _ _)
     (by-if (not (s.call.procedure == 0)) _ _ (decides _ _)
     (by-if (not (length s.call.args == 0)) _ _ (decides _ _) (decides _ _)))))
 
@@ -144,8 +148,8 @@ token-planned s cred (Ok token) = by-if (cred.proc == 1) _ _ (step-planned s Non
 creation-planned : (s : Shown) (cred : CredValue) → Planned (λ n l a e. creation_ruling s cred n)
 unfolding creation_ruling
 creation-planned s cred =
-    by-if (is_other_program s.call) _ _ (decides _ _)
-    (by-if (is_other_version_of_it s.call) _ _ (decides _ _) (token-planned s cred (one_opaque s.call.args)))
+    by-if (is_other_program s) _ _ (decides _ _)
+    (by-if (is_other_version_of_it s) _ _ (decides _ _) (token-planned s cred (one_opaque s.call.args)))
 
 -- ---- behind a look
 
@@ -156,31 +160,39 @@ unadmitted-is s cred lease (admits.Below last) = refl
 unadmitted-is s cred lease admits.Repeat = refl
 unadmitted-is s cred lease admits.LogFull = refl
 
+outcome-is : (s : Shown) (cred : CredValue) (lease : Lease) (args : List ℕ) (outcome : Outcome) → outcome_ruling s cred lease args outcome ≡ ruled (decision_of (outcome_ruling s cred lease args outcome))
+outcome-is s cred lease args outcomes.Args = refl
+outcome-is s cred lease args (outcomes.Done result) = refl
+outcome-is s cred lease args (outcomes.Refused why) = refl
+outcome-is s cred lease args (outcomes.Mismatch low high) = refl
+outcome-is s cred lease args outcomes.Gone = refl
+outcome-is s cred lease args outcomes.NoMemory = refl
+
 admitted-is : (s : Shown) (cred : CredValue) (lease : Lease) (args : List ℕ) (answer : Result Admitted AdmitRefusal) → admitted_ruling s cred lease args answer ≡ ruled (decision_of (admitted_ruling s cred lease args answer))
-admitted-is s cred lease args (Ok admitted) = refl
+admitted-is s cred lease args (Ok admitted) = outcome-is s cred lease args admitted.outcome
 admitted-is s cred lease args (Err refusal) = unadmitted-is s cred lease refusal
 
 admit-is : (s : Shown) (cred : CredValue) (lease : Lease) (args : List ℕ) (admitted : Option (Result Admitted AdmitRefusal))
-    → ask_admit s cred lease args admitted ≡ admit_by lease cred.seq s.call.procedure (sha1 args) (λ x. decision_of (admitted_ruling s cred lease args x)) admitted
+    → ask_admit s cred lease args admitted ≡ admit_by lease cred.seq (service_of cred.service) s.call.procedure args (λ x. decision_of (admitted_ruling s cred lease args x)) admitted
 admit-is s cred lease args None = refl
-admit-is s cred lease args (Some answer) = ap (asking (AskedAdmit lease cred.seq s.call.procedure (sha1 args) answer)) (admitted-is s cred lease args answer)
+admit-is s cred lease args (Some answer) = ap (asking (AskedAdmit lease cred.seq (service_of cred.service) s.call.procedure args answer)) (admitted-is s cred lease args answer)
 
 admit-planned : (s : Shown) (cred : CredValue) (lease : Lease) (args : List ℕ) → PlannedLate (λ a e. ask_admit s cred lease args a)
 admit-planned s cred lease args =
-    record { late = Admits lease cred.seq s.call.procedure (sha1 args) (λ x. decision_of (admitted_ruling s cred lease args x)); is = λ a e. admit-is s cred lease args a }
+    record { late = Admits lease cred.seq (service_of cred.service) s.call.procedure args (λ x. decision_of (admitted_ruling s cred lease args x)); is = λ a e. admit-is s cred lease args a }
 
 args-planned : (s : Shown) (cred : CredValue) (lease : Lease) (args : Option (List ℕ)) → PlannedLate (λ a e. args_ruling s cred lease a args)
 args-planned s cred lease None = rules _ _
-args-planned s cred lease (Some args) = late-if (not (are_args s.call.procedure args)) _ _ (rules _ _) (admit-planned s cred lease args)
+args-planned s cred lease (Some args) = late-if (not (s.serves.program.takes s.call.procedure args)) _ _ (rules _ _) (admit-planned s cred lease args)
 
 data-planned : (s : Shown) (cred : CredValue) (lease : Lease) → PlannedLate (λ a e. data_ruling s cred lease a)
 unfolding data_ruling
 data-planned s cred lease =
     late-if (not (is_verified s lease)) _ _ (rules _ _)
-    (late-if (is_other_program s.call) _ _ (rules _ _)
-    (late-if (is_other_version_of_it s.call) _ _ (rules _ _)
-    (late-if (nat_lt 4 s.call.procedure) _ _ (rules _ _)
-    (late-if (cred.service == 1 && not (s.call.procedure == 0)) _ _ (rules _ _) (args-planned s cred lease (body_args (end_of lease) cred s.call.args))))))
+    (late-if (is_other_program s) _ _ (rules _ _)
+    (late-if (is_other_version_of_it s) _ _ (rules _ _)
+    (late-if (is_no_procedure s) _ _ (rules _ _)
+    (late-if (is_weak s cred) _ _ (rules _ _) (args-planned s cred lease (body_args (end_of lease) cred s.call.args))))))
 
 ended-is : (s : Shown) (cred : CredValue) (lease : Lease) (answer : Result Receipt AdmitRefusal) → ended_ruling s cred lease answer ≡ ruled (decision_of (ended_ruling s cred lease answer))
 ended-is s cred lease (Ok receipt) = refl
@@ -197,8 +209,8 @@ destroy-planned : (s : Shown) (cred : CredValue) (lease : Lease) → PlannedLate
 unfolding destroy_ruling
 destroy-planned s cred lease =
     late-if (not (is_verified s lease)) _ _ (rules _ _)
-    (late-if (is_other_program s.call) _ _ (rules _ _)
-    (late-if (is_other_version_of_it s.call) _ _ (rules _ _) (end-planned s cred lease)))
+    (late-if (is_other_program s) _ _ (rules _ _)
+    (late-if (is_other_version_of_it s) _ _ (rules _ _) (end-planned s cred lease)))
 
 looked-planned : (s : Shown) (cred : CredValue) (answer : Result Lease LookRefusal) → PlannedLate (λ a e. looked_ruling s cred a e answer)
 looked-planned s cred (Ok lease) = late-if (cred.proc == 0) _ _ (data-planned s cred lease) (destroy-planned s cred lease)
@@ -229,17 +241,17 @@ call-planned s =
     by-if (not (s.call.cred.flavour == 0) && not (s.call.cred.flavour == 6)) _ _ (decides _ _)
     (by-if (s.call.cred.flavour == 0) _ _ (plain-planned s) (cred-planned s (cred_at s.call.cred.body)))
 
-read-planned : (octets : List ℕ) (now : ℕ) (draws : List ℕ) (width : ℕ) (call : Result CallValue CallRefusal)
-    → Planned (λ n l a e. read_ruling octets (record { now = now; draws = draws; negotiated = n; looked = l; admitted = a; ended = e }) width call)
-read-planned octets now draws width (Err (Unreadable at)) = decides _ _
-read-planned octets now draws width (Err NotCall) = decides _ _
-read-planned octets now draws width (Err (RpcVersion xid)) = decides _ _
-read-planned octets now draws width (Ok call) = call-planned (record { record_octets = octets; call = call; now = now; draws = draws; width = width })
+read-planned : (octets : List ℕ) (now : ℕ) (draws : List ℕ) (serves : Serving) (call : Result CallValue CallRefusal)
+    → Planned (λ n l a e. read_ruling octets (record { now = now; draws = draws; negotiated = n; looked = l; admitted = a; ended = e }) serves call)
+read-planned octets now draws serves (Err (Unreadable at)) = decides _ _
+read-planned octets now draws serves (Err NotCall) = decides _ _
+read-planned octets now draws serves (Err (RpcVersion xid)) = decides _ _
+read-planned octets now draws serves (Ok call) = call-planned (record { record_octets = octets; call = call; now = now; draws = draws; serves = serves })
 
 -- the ruling of a record by four answers
-abbrev pub rulings : List ℕ → ℕ → List ℕ → ℕ → Ruled
-rulings octets now draws width n l a e = record_ruling octets (record { now = now; draws = draws; negotiated = n; looked = l; admitted = a; ended = e }) width
+abbrev pub rulings : List ℕ → ℕ → List ℕ → Serving → Ruled
+rulings octets now draws serves n l a e = record_ruling octets (record { now = now; draws = draws; negotiated = n; looked = l; admitted = a; ended = e }) serves
 
-pub record-planned : (octets : List ℕ) (now : ℕ) (draws : List ℕ) (width : ℕ) → Planned (rulings octets now draws width)
+pub record-planned : (octets : List ℕ) (now : ℕ) (draws : List ℕ) (serves : Serving) → Planned (rulings octets now draws serves)
 unfolding record_ruling
-record-planned octets now draws width = read-planned octets now draws width (call_at octets)
+record-planned octets now draws serves = read-planned octets now draws serves (call_at octets)

@@ -91,8 +91,6 @@ caller-on old new making g c = record {
     completed = completed-stays old new c.i c.own c.made.session.outcome g c.made.completed;
     procedure = c.made.procedure;
     args = c.made.args;
-    served = c.made.served;
-    proper = c.made.proper;
     made = c.made.made;
   };
 }
@@ -197,11 +195,11 @@ stood-signed laws marking last old new i xid end octets moved making g known f b
 
 move-signed : (laws : Below) (marking : Marking) (last old new : World) (i : ℕ) (moved : Moved) (making : MechMaking) → Grows old new → Known old → Founds marking old → Built marking old → Verified marking old moved.found
     → new ≡ moved_to old i moved.stage moved.makes → Untold marking last new → Move old i moved → AmongMakings moved.makes making → tag making ≡ 100 → SignedBy marking last new making
-move-signed laws marking last old new i moved making g known f built verified is untold (Starting own there e) a t = elim (starts-by own) [
+move-signed laws marking last old new i moved making g known f built verified is untold (Starting own there e) a t = elim (starts-by old.serves own) [
   | inl r ↦ absurd (refused-signed moved making (e ∙ r) a)
   | inr by ↦ absurd (start-signed laws own moved making (subst (StartedBy own) (sym e) by) a t)
 ]
-move-signed laws marking last old new i moved making g known f built verified is untold (Taking first xid end octets there e) a t = elim (takes-by first xid end octets) [
+move-signed laws marking last old new i moved making g known f built verified is untold (Taking first xid end octets there e) a t = elim (takes-by old.serves first xid end octets) [
   | inl r ↦ absurd (refused-signed moved making (e ∙ r) a)
   | inr more ↦ elim more [
     | inl by ↦ went-signed laws marking last old new i xid end octets moved making g known f built there verified is untold (subst (Went xid end octets) (sym e) by) a t
@@ -214,7 +212,7 @@ move-signed laws marking last old new i moved making g known f built verified is
       i = i;
       own = p.0;
       there = p.1;
-      made = call-made old i p.0 s procedure args making p.1 there served proper (subst (λ (m : Moved). AmongMakings m.makes making) e a);
+      made = call-made old i p.0 s procedure args making p.1 there (subst (λ (m : Moved). AmongMakings m.makes making) e a);
     }))
 move-signed laws marking last old new i moved making g known f built verified is untold (Leaving s procedure args there left ended served proper e) a t =
     let p = known.placed i (stages.Stands s) there in
@@ -222,7 +220,7 @@ move-signed laws marking last old new i moved making g known f built verified is
       i = i;
       own = p.0;
       there = p.1;
-      made = call-made old i p.0 s procedure args making p.1 there served proper (leave-among s procedure args making (subst (λ (m : Moved). AmongMakings m.makes making) e a));
+      made = call-made old i p.0 s procedure args making p.1 there (leave-among s procedure args making (subst (λ (m : Moved). AmongMakings m.makes making) e a));
     }))
 
 -- ---- an event

@@ -1,12 +1,12 @@
 -- Events, and runs of them.
-use Rattle.std.specs.Prelude.{◌≡◌, ◌⊎◌, ℕ, ◌≤◌, ◌==◌, Bool, true, false, nat_le, List, [], ◌∷◌}
+use Rattle.std.specs.Prelude.{◌≡◌, ◌⊎◌, ℕ, ◌<◌, ◌≤◌, ◌^◌, ◌==◌, Bool, true, false, nat_le, List}
+use Rattle.std.specs.Prelude.{[], ◌∷◌}
 use Rattle.std.specs.Prelude.{length, slice_get, Option, Some, None}
 use Rattle.spnego_core.specs.Ends.{PlainSetup}
 use Rattle.spnego_core.specs.InitMech.{is_own_list}
 use Rattle.accept_book.specs.Booking.{BookOf, by_outcome}
-use Rattle.accept_core.specs.History.{posts}
 use Rattle.accept_core.specs.Replays.{Replays}
-use Rattle.accept_book.specs.Served.{are_args}
+use Rattle.rpc_program.specs.Programs.{Serving}
 use Rattle.gss_client.specs.Session.{SessionState}
 use Rattle.world_laws.specs.declared.event.WorldEvent.{WorldEvent}
 use Rattle.world_laws.specs.declared.event.WorldEvent.TheVariants.{Start, Deliver, Lane, CallBy}
@@ -18,10 +18,10 @@ use Rattle.world_laws.specs.Initiators.{Moved, did, starts, takes, calls, leaves
 use Rattle.world_laws.specs.Lanes.{in_hand, LaneMoves}
 use Rattle.world_laws.specs.Setups.{Proper}
 
--- the book's log is legal, and its contexts, marks and counts are what the log says
+-- the book's log is legal, and its contexts and marks are what the log says
 abbrev pub IsBook : BookOf → Type 0
-IsBook book = Replays by_outcome book.core.width (posts book.core.history) book.core.history
-    book.core.table book.core.cache
+IsBook book =
+    Replays by_outcome book.core.width book.core.history book.core.table book.core.cache
 
 -- there was nothing to be done, and the world is as it was
 abbrev pub Idles : World → Deed → World → Type 0
@@ -36,7 +36,7 @@ Moves old i moved deed new =
 -- a start: an initiator that wasn't started starts; else nothing is done
 abbrev pub StartsBy : World → ℕ → Option StageSays → Deed → World → Type 0
 StartsBy old i None deed new = Idles old deed new
-StartsBy old i (Some (stages.Ready own)) deed new = Moves old i (starts own) deed new
+StartsBy old i (Some (stages.Ready own)) deed new = Moves old i (starts old.serves own) deed new
 StartsBy old i (Some (stages.Asks xid end)) deed new = Idles old deed new
 StartsBy old i (Some (stages.Stands s)) deed new = Idles old deed new
 StartsBy old i (Some (stages.Left s)) deed new = Idles old deed new
@@ -48,7 +48,7 @@ abbrev pub DeliversBy : World → ℕ → List ℕ → ℕ → Option StageSays 
 DeliversBy old i octets first None deed new = Idles old deed new
 DeliversBy old i octets first (Some (stages.Ready own)) deed new = Idles old deed new
 DeliversBy old i octets first (Some (stages.Asks xid end)) deed new =
-    Moves old i (takes first xid end octets) deed new
+    Moves old i (takes old.serves first xid end octets) deed new
 DeliversBy old i octets first (Some (stages.Stands s)) deed new = Idles old deed new
 DeliversBy old i octets first (Some (stages.Left s)) deed new = Idles old deed new
 DeliversBy old i octets first (Some stages.Over) deed new = Idles old deed new
@@ -78,14 +78,14 @@ LanesBy old lane octets now draws None deed new = Idles old deed new
 LanesBy old lane octets now draws (Some hand) deed new =
     LaneMoves old lane (in_hand hand octets now draws) deed new
 
--- a session's first number is at most 0x80000000, and calls are of served procedures with their own
--- arguments, which fit into a record
-abbrev pub IsProper : WorldEvent → Type 0
-IsProper (Start initiator) = Unit {0}
-IsProper (Deliver initiator octets first) = first ≤ 0x80000000
-IsProper (Lane lane octets now draws) = length draws ≡ 82
-IsProper (CallBy initiator procedure args) = (procedure ≤ 4) × (are_args procedure args ≡ true)
-    × (length args ≤ 65540)
+-- a session's first number is at most 0x80000000, and calls are of any procedure, with arguments
+-- that the program takes for it, which fit into a record
+abbrev pub IsProper : Serving → WorldEvent → Type 0
+IsProper serves (Start initiator) = Unit {0}
+IsProper serves (Deliver initiator octets first) = first ≤ 0x80000000
+IsProper serves (Lane lane octets now draws) = length draws ≡ 82
+IsProper serves (CallBy initiator procedure args) = (procedure < 2 ^ 32)
+    × (serves.program.takes procedure args ≡ true) × (length args ≤ 65540)
 
 -- what an event does, by its kind: a start, a reply that comes, a lane's next step, a call
 abbrev pub HappensBy : World → WorldEvent → Deed → World → Type 0
@@ -99,7 +99,7 @@ HappensBy old (CallBy i procedure args) deed new =
 
 -- an event, and what it did
 pub record Happens (old : World) (event : WorldEvent) (deed : Deed) (new : World) : Type 0 where
-  pub proper : IsProper event
+  pub proper : IsProper old.serves event
   pub did : HappensBy old event deed new
   pub book : IsBook new.book
 

@@ -14,8 +14,8 @@ use Rattle.spnego_core.specs.Initiating.{Started, Initiated, init_start, init_st
 use Rattle.gss_client.specs.declared.refusal.ClientRefusal.{ClientRefusal}
 use Rattle.gss_client.specs.Creation.{CreatedSays}
 use Rattle.gss_client.specs.Creation as created
-use Rattle.rpc_msgs.specs.declared.numbers.TheConstants.{PROGRAM, VERSION}
 use Rattle.rpcsec_bodies.specs.declared.service.Service.TheVariants.{Integrity}
+use Rattle.rpc_program.specs.Programs.{Serving}
 use Rattle.gss_client.specs.declared.terms.Terms.{Terms}
 use Rattle.gss_client.specs.Calling.{creation_call, header_of, data_call, destroy_call, own_end}
 use Rattle.gss_client.specs.Judging.{GrantedValue, granted_in, creation_step}
@@ -46,26 +46,30 @@ abbrev pub refused : Moved
 refused =
     record { stage = stages.Over; lost = stages.Over; answer = Refused; makes = []; found = [] }
 
--- what it calls: the server's program (RFC 5531 section 9), by integrity
-abbrev pub own_terms : Terms
-own_terms = record { service = Integrity; program = PROGRAM; version = VERSION }
+-- what it calls: the program that is served (RFC 5531 section 9), by integrity
+abbrev pub own_terms : Serving → Terms
+own_terms serves = record {
+  service = Integrity;
+  program = serves.program.id.number;
+  version = serves.program.id.version;
+}
 
 -- ---- it starts: the first creation call has its first token
 
 -- what it does by how its negotiation began: it sends its first creation call, or refused
-abbrev pub started_by : Result Started NegRefusal → Moved
-started_by (Err refusal) = refused
-started_by (Ok started) = record {
+abbrev pub started_by : Serving → Result Started NegRefusal → Moved
+started_by serves (Err refusal) = refused
+started_by serves (Ok started) = record {
   stage = stages.Asks 1 started.end;
   lost = stages.Over;
-  answer = Sent (creation_call own_terms 1 1 [] started.token);
+  answer = Sent (creation_call (own_terms serves) 1 1 [] started.token);
   makes = started.makes;
   found = [];
 }
 
 -- what an initiator does that starts with this setup
-abbrev pub starts : PlainSetup → Moved
-starts own = started_by (init_start own)
+abbrev pub starts : Serving → PlainSetup → Moved
+starts serves own = started_by serves (init_start own)
 
 -- ---- it takes a reply to its creation call
 
@@ -103,17 +107,18 @@ window_found outcome (Ok granted) =
 -- what it does by what the reply leads to: it has ended, makes the next creation call with the
 -- handle that the reply gave, or its context stands and the MIC over the window was found too; the
 -- session's first call has the number `first`
-abbrev pub created_by : ℕ → ℕ → EndSays → List ℕ → Result CreatedSays ClientRefusal → Moved
-created_by first xid end octets (Err refusal) = refused
-created_by first xid end octets (Ok (created.Going offer)) = record {
+abbrev pub created_by : Serving → ℕ → ℕ → EndSays → List ℕ → Result CreatedSays ClientRefusal
+    → Moved
+created_by serves first xid end octets (Err refusal) = refused
+created_by serves first xid end octets (Ok (created.Going offer)) = record {
   stage = stages.Asks (xid_after xid) offer.end;
   lost = stages.Over;
-  answer = Sent (creation_call own_terms (xid_after xid) 2 offer.handle offer.token);
+  answer = Sent (creation_call (own_terms serves) (xid_after xid) 2 offer.handle offer.token);
   makes = handed_out (initiated xid end octets);
   found = verified (initiated xid end octets);
 }
-created_by first xid end octets (Ok (created.Stands outcome handle)) = record {
-  stage = stages.Stands (begun own_terms first (xid_after xid) outcome handle);
+created_by serves first xid end octets (Ok (created.Stands outcome handle)) = record {
+  stage = stages.Stands (begun (own_terms serves) first (xid_after xid) outcome handle);
   lost = stages.Over;
   answer = Completed outcome;
   makes = handed_out (initiated xid end octets);
@@ -122,8 +127,9 @@ created_by first xid end octets (Ok (created.Stands outcome handle)) = record {
 
 -- what an initiator does that takes octets as the reply to its call of this transaction number, and
 -- whose session begins with this number of a call
-abbrev pub takes : ℕ → ℕ → EndSays → List ℕ → Moved
-takes first xid end octets = created_by first xid end octets (creation_step end xid octets)
+abbrev pub takes : Serving → ℕ → ℕ → EndSays → List ℕ → Moved
+takes serves first xid end octets =
+    created_by serves first xid end octets (creation_step end xid octets)
 
 -- ---- it calls, by integrity
 

@@ -42,19 +42,18 @@ use Rattle.accept_book.specs.Found.{step_taken, stepped_from, makes_of, found_of
 use Rattle.accept_book.specs.RecordRule.{record_ruling}
 use Rattle.accept_book.specs.RecordShown.{KeptAnswers, Question, Negotiate, Look, Admit, End, Asked}
 use Rattle.accept_book.specs.RecordShown.{AskedStep, AskedLook, AskedAdmit, AskedEnd, Ruling}
-use Rattle.accept_book.specs.RecordShown.{end_of, body_args}
-use Rattle.accept_book.specs.Served.{result_of}
+use Rattle.accept_book.specs.RecordShown.{booked, end_of, body_args}
+use Rattle.accept_book.specs.declared.book_answer.Admitted.{Admitted}
+use Rattle.rpc_program.specs.Programs.{Serving, result_in}
+use Rattle.rpc_program.specs.declared.outcome.Outcome.{Outcome}
 use Rattle.gss_server.specs.Answers.{IsDecided, may_want}
 use Rattle.gss_server.specs.Asking.{BookAnswers}
 use Rattle.world_laws.specs.declared.event.Happened.{Happened}
 use Rattle.world_laws.specs.declared.event.Happened.TheVariants.{Sent, Completed, Stepped, Refused}
 use Rattle.world_laws.specs.declared.event.Happened.TheVariants.{Nothing}
+use Rattle.world_laws.specs.Apart.{ToldApart}
 use Rattle.world_laws.specs.Deeds.{Opened, Deed, quiet}
 use Rattle.world_laws.specs.State.{InHand, Context, World}
-
--- the width of the windows that replies tell
-abbrev pub told_width : ℕ
-told_width = 128
 
 -- ---- the record in hand
 
@@ -75,26 +74,29 @@ in_hand None octets now draws =
     }
 in_hand (Some hand) octets now draws = hand
 
--- what the rule of a record says of the record in hand, by what the book answered so far
-abbrev pub ruling_of : InHand → Ruling
-ruling_of hand = record_ruling hand.octets hand.kept told_width
+-- what the rule of a record says of the record in hand, by what the book answered so far and what
+-- became of the call
+abbrev pub ruling_of : Serving → InHand → Ruling
+ruling_of serves hand = record_ruling hand.octets hand.kept serves
 
 -- the question that was asked
-abbrev pub question_of : Asked → Question
+abbrev pub question_of : Asked Admitted → Question
 question_of (AskedStep id token now draws answer) = Negotiate id token now draws
 question_of (AskedLook id now answer) = Look id now
-question_of (AskedAdmit lease seq procedure args answer) = Admit lease seq procedure args
+question_of (AskedAdmit lease seq service procedure args answer) =
+    Admit lease seq service procedure args
 question_of (AskedEnd lease seq answer) = End lease seq
 
 -- the answer is kept with the others
-abbrev pub kept_with : KeptAnswers → Asked → KeptAnswers
+abbrev pub kept_with : KeptAnswers → Asked Admitted → KeptAnswers
 kept_with k (AskedStep id token now draws answer) = record k { negotiated = Some answer }
 kept_with k (AskedLook id now answer) = record k { looked = Some answer }
-kept_with k (AskedAdmit lease seq procedure args answer) = record k { admitted = Some answer }
+kept_with k (AskedAdmit lease seq service procedure args answer) =
+    record k { admitted = Some answer }
 kept_with k (AskedEnd lease seq answer) = record k { ended = Some answer }
 
 -- the record in hand after one more question was answered
-abbrev pub hand_after : InHand → Asked → InHand
+abbrev pub hand_after : InHand → Asked Admitted → InHand
 hand_after hand asked = record { octets = hand.octets; kept = kept_with hand.kept asked }
 
 -- ---- what a question's step hands out, finds and fixes
@@ -150,19 +152,21 @@ result_makings end service seq result =
     else if service == 3 then wrap_making end (2 * seq + 1) true (word seq ++ result) ∷ []
     else []
 
--- the same of a call with these arguments, nothing where its body gave none; `posts` is the number
--- of posts that its admission told
-abbrev pub result_with : Lease → ℕ → CallValue → CredValue → Option (List ℕ) → List Making
-result_with lease posts call cred None = []
-result_with lease posts call cred (Some args) =
-    result_makings (end_of lease) cred.service cred.seq
-    (result_of call.procedure args lease.outcome.initiator posts)
+-- the same of a call with this credential, nothing where it has no result
+abbrev pub told_with : Lease → CredValue → Option (List ℕ) → List Making
+told_with lease cred None = []
+told_with lease cred (Some result) = result_makings (end_of lease) cred.service cred.seq result
+
+-- the same of a call with these arguments, of which this became; nothing where its body gave none
+abbrev pub result_with : Lease → Outcome → CredValue → Option (List ℕ) → List Making
+result_with lease outcome cred None = []
+result_with lease outcome cred (Some args) = told_with lease cred (result_in args outcome)
 
 -- the same of the call in a record, whose arguments are those in its body by its service
-abbrev pub made_for_call : Lease → ℕ → Option (CallValue × CredValue) → List Making
-made_for_call lease posts None = []
-made_for_call lease posts (Some said) =
-    result_with lease posts said.0 said.1 (body_args (end_of lease) said.1 said.0.args)
+abbrev pub made_for_call : Lease → Outcome → Option (CallValue × CredValue) → List Making
+made_for_call lease outcome None = []
+made_for_call lease outcome (Some said) =
+    result_with lease outcome said.1 (body_args (end_of lease) said.1 said.0.args)
 
 -- the step that a token came to, where it was taken: by the book as it stood with the record's
 -- moment, and the context that was past
@@ -171,24 +175,24 @@ accepted_in book past id token now draws =
     step_taken book.setup (raised book.core now) id past token now draws
 
 -- what is handed out with a question's answer: by a token's step, or for an admitted call
-abbrev pub makes_by : BookOf → Option ℕ → InHand → Asked → List MechMaking
+abbrev pub makes_by : BookOf → Option ℕ → InHand → Asked Admitted → List MechMaking
 makes_by book past hand (AskedStep id token now draws answer) =
     makes_of (accepted_in book past id token now draws)
 makes_by book past hand (AskedLook id now answer) = []
-makes_by book past hand (AskedAdmit lease seq procedure args (Ok admitted)) =
-    map typed (made_for_call lease admitted.posts (secure_call_in hand.octets))
-makes_by book past hand (AskedAdmit lease seq procedure args (Err refusal)) = []
+makes_by book past hand (AskedAdmit lease seq service procedure args (Ok admitted)) =
+    map typed (made_for_call lease admitted.outcome (secure_call_in hand.octets))
+makes_by book past hand (AskedAdmit lease seq service procedure args (Err refusal)) = []
 makes_by book past hand (AskedEnd lease seq answer) = []
 
 -- what a question finds verified: in a token's step, in an admitted call, or in one that ends its
 -- context
-abbrev pub found_by : BookOf → Option ℕ → InHand → Asked → List MechMaking
+abbrev pub found_by : BookOf → Option ℕ → InHand → Asked Admitted → List MechMaking
 found_by book past hand (AskedStep id token now draws answer) =
     found_of (accepted_in book past id token now draws)
 found_by book past hand (AskedLook id now answer) = []
-found_by book past hand (AskedAdmit lease seq procedure args (Ok admitted)) =
+found_by book past hand (AskedAdmit lease seq service procedure args (Ok admitted)) =
     map typed (found_in_call lease hand.octets (secure_call_in hand.octets))
-found_by book past hand (AskedAdmit lease seq procedure args (Err refusal)) = []
+found_by book past hand (AskedAdmit lease seq service procedure args (Err refusal)) = []
 found_by book past hand (AskedEnd lease seq (Ok receipt)) =
     map typed (found_in_end lease hand.octets (secure_call_in hand.octets))
 found_by book past hand (AskedEnd lease seq (Err refusal)) = []
@@ -205,12 +209,12 @@ unless_short (answers.Refused refusal) fixes = fixes
 unless_short answers.NoMemory fixes = None
 
 -- the context that a question fixes, with its id: only a token's step fixes one
-abbrev pub fixes_by : BookOf → Option ℕ → Asked → Option Context
+abbrev pub fixes_by : BookOf → Option ℕ → Asked Admitted → Option Context
 fixes_by book past (AskedStep id token now draws answer) =
     option_map (context_with (id_of id book.core.history))
     (unless_short answer.answer (fixes_of (accepted_in book past id token now draws)))
 fixes_by book past (AskedLook id now answer) = None
-fixes_by book past (AskedAdmit lease seq procedure args answer) = None
+fixes_by book past (AskedAdmit lease seq service procedure args answer) = None
 fixes_by book past (AskedEnd lease seq answer) = None
 
 -- ---- the ticket that a token's step opens
@@ -258,12 +262,12 @@ opened_in keytab own None = None
 opened_in keytab own (Some token) = opened_of (exchange_of keytab own token)
 
 -- the ticket that a question opens, which a token's step alone may do
-abbrev pub opened_by : BookOf → Asked → Option Opened
+abbrev pub opened_by : BookOf → Asked Admitted → Option Opened
 opened_by book (AskedStep id token now draws answer) =
     opened_in book.setup.keytab book.setup.own
     (request_of book.setup (stepped_from (raised book.core now) id) token)
 opened_by book (AskedLook id now answer) = None
-opened_by book (AskedAdmit lease seq procedure args answer) = None
+opened_by book (AskedAdmit lease seq service procedure args answer) = None
 opened_by book (AskedEnd lease seq answer) = None
 
 -- ---- the event
@@ -296,27 +300,29 @@ with_lane w lane hand book deed = record w {
 -- record then
 pub record AnswersAtOnce (old : World) (lane : ℕ) (hand : InHand) (deed : Deed) (new : World) : Type
     0 where
-  pub answer : IsAnswer (ruling_of hand) deed.answer
+  pub answer : IsAnswer (ruling_of old.serves hand) deed.answer
   pub deed_is : deed ≡ quiet deed.answer
   pub new_is : new ≡ with_lane old lane None old.book (quiet deed.answer)
 
 -- what follows the question: a further one is due, for which the record stays in hand, or the
 -- record is answered
-abbrev pub Follows : InHand → Option Happened → Option InHand → Type 0
-Follows hand answer left =
-    ((question : Question) × ((ruling_of hand).due ≡ Some question) × (answer ≡ Some (Stepped 0))
-    × (left ≡ Some hand))
-    ⊎ (IsAnswer (ruling_of hand) answer × (left ≡ None))
+abbrev pub Follows : Serving → InHand → Option Happened → Option InHand → Type 0
+Follows serves hand answer left =
+    ((question : Question) × ((ruling_of serves hand).due ≡ Some question)
+    × (answer ≡ Some (Stepped 0)) × (left ≡ Some hand))
+    ⊎ (IsAnswer (ruling_of serves hand) answer × (left ≡ None))
 
--- the question that is due is asked, and the book answers it by its contract
+-- the question that is due is asked, and the book answers it by its contract; what becomes of an
+-- admitted call is free, but that its result is told apart from a list of mechanisms
 pub record Asks (old : World) (lane : ℕ) (hand : InHand) (deed : Deed) (new : World) : Type 0 where
-  pub asked : Asked
-  pub due : (ruling_of hand).due ≡ Some (question_of asked)
+  pub asked : Asked Admitted
+  pub due : (ruling_of old.serves hand).due ≡ Some (question_of asked)
   pub past : Option ℕ
   pub is_past : IsNext old.book.core.table (max old.book.core.cache.greatest hand.kept.now) past
-  pub answers : BookAnswers old.book asked new.book
+  pub answers : BookAnswers old.book (booked asked) new.book
+  pub told : ToldApart asked
   pub left : Option InHand
-  pub follows : Follows (hand_after hand asked) deed.answer left
+  pub follows : Follows old.serves (hand_after hand asked) deed.answer left
   pub makes : deed.makes ≡ if_answered deed.answer (makes_by old.book past hand asked)
   pub found : deed.found ≡ found_by old.book past hand asked
   pub opened : deed.opened ≡ opened_by old.book asked

@@ -2,6 +2,7 @@ pub mod Stages
 pub mod State
 pub mod Deeds
 pub mod Initiators
+pub mod Apart
 pub mod Lanes
 pub mod Setups
 pub mod Events

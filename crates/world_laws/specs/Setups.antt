@@ -10,6 +10,7 @@ use Rattle.spnego_core.specs.declared.setup.MechCred.{MechCred}
 use Rattle.spnego_core.specs.declared.setup.MechCred.TheVariants as creds
 use Rattle.spnego_core.specs.Ends.{PlainSetup}
 use Rattle.spnego_core.specs.InitMech.{ticket_for}
+use Rattle.world_laws.specs.Apart.{IsApart}
 use Rattle.world_laws.specs.State.{World}
 
 -- the moment, the names, the hash and the subkey of a request have a spelling
@@ -28,8 +29,10 @@ pub record IsSetup (own : PlainSetup) : Type 0 where
       → ticket_for own.list ≡ Some credential
       → authenticator.fits (authenticator_of credential own.stamp own.draws own.bindings) ≡ true
 
--- each initiator has such a setup, and each user's line of the acceptor is of its grammar
+-- each initiator has such a setup, each user's line of the acceptor is of its grammar, and the
+-- program that is served takes what can be told apart
 pub record Proper (w : World) : Type 0 where
   pub setups : (i : ℕ) (own : PlainSetup) → slice_get w.facts i ≡ Some own → IsSetup own
   pub lines : (place : ℕ) (line : Verifier) → slice_get w.book.setup.verifiers place ≡ Some line
       → IsLine line
+  pub program : IsApart w.serves.program

@@ -5,6 +5,7 @@ use Rattle.spnego_core.specs.Ends.{PlainSetup}
 use Rattle.spnego_core.specs.Accepting.{Fixed}
 use Rattle.accept_book.specs.Booking.{BookOf}
 use Rattle.accept_book.specs.RecordShown.{KeptAnswers}
+use Rattle.rpc_program.specs.Programs.{Serving}
 use Rattle.world_laws.specs.Stages.{StageSays}
 
 -- a record in hand: its octets, the moment and the draws that were taken with it, and what the book
@@ -18,10 +19,12 @@ pub record Context : Type 0 where
   pub id : ℕ
   pub fixed : Fixed
 
--- the initiators, what each was begun with, and where it is; the book; the lanes; what was fixed of
--- contexts, the newest last, and what was handed out. What was fixed and handed out stays, after
--- the contexts ended too
+-- the program that is served, and the width of the windows that replies tell; the initiators, what
+-- each was begun with, and where it is; the book; the lanes; what was fixed of contexts, the newest
+-- last, and what was handed out. What is served stays, and what was fixed and handed out stays,
+-- after the contexts ended too
 pub record World : Type 0 where
+  pub serves : Serving
   pub facts : List PlainSetup
   pub stages : List StageSays
   pub book : BookOf

@@ -23,7 +23,7 @@ pub enum WorldEvent {
         now: Moment,
         draws: [u8; 82],
     },
-    /// An initiator whose context stands makes its next call, of a procedure from 0 to 4 with that procedure's arguments.
+    /// An initiator whose context stands makes its next call, of a procedure of the program that is served, with arguments that it takes.
     CallBy {
         initiator: usize,
         procedure: u32,

@@ -1,5 +1,5 @@
 -- That what is listed pairwise different is fresh.
-use Rattle.std.proofs.Common.{◌≡◌, ◌⊎◌, inl, inr, ℕ, zero, suc, true, false, refl, sym, ap, ◌∙◌, subst, List, [], ◌∷◌, map, slice_get, option_map, Option, None, Some}
+use Rattle.std.proofs.Common.{◌≡◌, inl, inr, ℕ, zero, suc, true, false, refl, sym, ap, ◌∙◌, subst, List, [], ◌∷◌, map, slice_get, Option, Some}
 use Rattle.std.proofs.lemmas.Option.{none-some, same_Some}
 use Rattle.gss_base.specs.declared.mech.MechKind.TheVariants as kinds
 use Rattle.krb_derive.specs.declared.key.Key.{Key}
@@ -7,30 +7,28 @@ use Rattle.krb_files.specs.Granted.{Granted}
 use Rattle.ap_exchange.specs.declared.judged.Judged.{Judged}
 use Rattle.ap_exchange.specs.Draws.{drawn_nonce}
 use Rattle.scram_mech.specs.Acceptor.{AcceptModel, auth_with}
-use Rattle.scram_mech.specs.MechMaking.{TagKey, OfType, OfPassword, MechMaking, AmongMakings}
+use Rattle.scram_mech.specs.MechMaking.{TagKey, OfType, OfPassword}
 use Rattle.scram_mech.specs.ThirdText.{Third}
 use Rattle.spnego_core.specs.declared.outcome.Outcome.{Outcome}
-use Rattle.spnego_core.specs.declared.setup.MechCred.{MechCred}
-use Rattle.spnego_core.specs.declared.setup.MechCred.TheVariants as creds
 use Rattle.spnego_core.specs.Ends.{PlainSetup}
 use Rattle.spnego_core.specs.AcceptMech.{Basis, ByRequest, ByProof}
 use Rattle.spnego_core.specs.InitMech.{ticket_for}
 use Rattle.world_laws.specs.declared.event.WorldEvent.{WorldEvent}
 use Rattle.world_laws.specs.Agreement.{Partner, HasPartner, TookRequest, TookProof}
 use Rattle.world_laws.specs.Below.{Below}
-use Rattle.world_laws.specs.Deeds.{Opened, Deed}
-use Rattle.world_laws.specs.Events.{Run, Begins}
-use Rattle.world_laws.specs.Premises.{Marking, Ticket, Account, Listed, GuardedSession, GuardedSecret, MarkedLine, GuardedBasis, BuiltKey, Guarded, WasMade, WasIssued, Unforged, NoForgery, OnRequest, OnProof, HasAuth, HasTicket, HasAccount, Completed, AtInitiator, Fresh}
+use Rattle.world_laws.specs.Deeds.{Opened}
+use Rattle.world_laws.specs.Events.{Run}
+use Rattle.world_laws.specs.Premises.{Marking, Ticket, Listed, GuardedSession, GuardedBasis, Guarded, WasIssued, NoForgery, OnRequest, OnProof, HasAuth, HasTicket, HasAccount, Completed, AtInitiator, Fresh}
 use Rattle.world_laws.specs.Setups.{Proper}
 use Rattle.world_laws.specs.State.{Context, World}
 use Rattle.world_laws.proofs.Invariants.{Kept}
-use Rattle.world_laws.proofs.Kerberos.{same-cred, request-is, not-both, same-own}
+use Rattle.world_laws.proofs.Kerberos.{same-cred, not-both}
 use Rattle.world_laws.proofs.Growing.{run-grows}
 use Rattle.world_laws.proofs.Holders.{proper-on}
 use Rattle.world_laws.proofs.Running.{kept-end}
 use Rattle.world_laws.proofs.ScramAgrees.{krb-is, other-kind, one-proof}
 use Rattle.world_laws.proofs.TakenTexts.{same-third}
-use Rattle.world_many.specs.Lists.{Apart, Stamp, stamp_of, nonce_of, key_of, own_nonce_of, AreApart, AreMade, AllIssued, AreMatched, FreshByListsLaw}
+use Rattle.world_many.specs.Lists.{Apart, stamp_of, nonce_of, key_of, own_nonce_of, AreApart, AreMade, AllIssued, AreMatched, FreshByListsLaw}
 
 -- ---- lists
 

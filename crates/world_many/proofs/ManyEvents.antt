@@ -1,48 +1,42 @@
 -- Each event of a carried run finds what was handed out, and leaves each exchange where it goes on.
-use Rattle.std.proofs.Common.{◌≡◌, ◌≢◌, ◌⊎◌, inl, inr, ℕ, ◌+◌, ◌<◌, ◌≤◌, ◌^◌, true, false, refl, sym, ap, ◌∙◌, subst, arith, List, [], ◌∷◌, ◌++◌, length, take, map, slice_get, slice_set, option_map, option_to_list, Option, Some, None, Ok}
-use Rattle.std.specs.Prelude.{if◌then◌else◌}
+use Rattle.std.proofs.Common.{◌≡◌, ◌≢◌, ◌⊎◌, inl, inr, ℕ, ◌+◌, ◌<◌, ◌≤◌, ◌^◌, refl, sym, ap, ◌∙◌, subst, arith, List, [], ◌∷◌, ◌++◌, length, take, slice_get, slice_set, option_map, option_to_list, Option, Some, None, Ok}
 use Rattle.std.proofs.lemmas.Option.{none-some, same_Some}
-use Rattle.gss_base.specs.declared.mech.MechKind.{MechKind}
-use Rattle.gss_base.specs.declared.mech.MechKind.TheVariants as kinds
-use Rattle.rpc_msgs.specs.Replies.{reply_octets}
 use Rattle.rpc_msgs.specs.Words.{word}
 use Rattle.scram_mech.specs.MechMaking.{MechMaking, AmongMakings}
 use Rattle.spnego_core.specs.declared.accept_end.AcceptEnd.{AcceptEnd}
 use Rattle.spnego_core.specs.declared.accept_end.AcceptEnd.TheVariants as ends
-use Rattle.spnego_core.specs.declared.accept_end.AcceptStep.{AcceptStep}
 use Rattle.spnego_core.specs.declared.accept_end.AcceptStep.TheVariants as accept_steps
 use Rattle.spnego_core.specs.declared.outcome.Outcome.{Outcome}
 use Rattle.spnego_core.specs.declared.setup.AcceptSetup.{AcceptSetup}
 use Rattle.spnego_core.specs.Accepting.{Fixed, accept_step}
 use Rattle.spnego_core.specs.Ends.{PlainSetup, EndSays}
-use Rattle.spnego_core.specs.Initiating.{Started, init_start}
+use Rattle.spnego_core.specs.Initiating.{init_start}
 use Rattle.spnego_core.proofs.Makings.{among_front, among_back, among_split}
 use Rattle.accept_core.specs.declared.entry.Entry.{Entry}
 use Rattle.accept_core.specs.Entering.{id_of}
 use Rattle.accept_core.specs.History.{opened}
-use Rattle.accept_book.specs.Booking.{BookOf}
 use Rattle.gss_client.specs.Session.{SessionState, xid_after}
-use Rattle.pair_laws.proofs.Granting.{granting, going}
 use Rattle.pair_laws.proofs.Ruling.{IsId}
 use Rattle.pair_laws.proofs.Settling.{Negotiates}
 use Rattle.world_laws.specs.declared.event.Happened.{Happened}
-use Rattle.world_laws.specs.declared.event.Happened.TheVariants.{Sent, Completed}
+use Rattle.world_laws.specs.declared.event.Happened.TheVariants.{Sent}
 use Rattle.world_laws.specs.declared.event.WorldEvent.{WorldEvent}
 use Rattle.world_laws.specs.declared.event.WorldEvent.TheVariants.{Start, Deliver, Lane, CallBy}
 use Rattle.world_laws.specs.Stages as stages
 use Rattle.world_laws.specs.Deeds.{Opened, Deed}
 use Rattle.world_laws.specs.State.{Context, World, moved_to}
-use Rattle.world_laws.specs.Lanes.{told_width, context_with}
-use Rattle.world_laws.specs.Events.{Happens, Next}
+use Rattle.world_laws.specs.Lanes.{context_with}
+use Rattle.world_laws.specs.Events.{Happens}
 use Rattle.world_laws.specs.Premises.{Marking, Listed, WasMade, WasIssued, Unforged}
-use Rattle.world_laws.proofs.Growing.{Grows, grows, makings-grow, listed-grows}
+use Rattle.world_laws.proofs.Growing.{Grows, grows, listed-grows}
 use Rattle.world_laws.proofs.Slices.{set-same, set-other, set-cases, get-last}
+use Rattle.world_runs.specs.Served.{told_width}
 use Rattle.world_runs.proofs.MetEvents.{call_of, window_of, settled-passed}
-use Rattle.world_runs.proofs.MetRounds.{Setting, Heard, Goes, Ends, Rounds}
+use Rattle.world_runs.proofs.MetRounds.{Setting, Heard, Rounds}
 use Rattle.world_many.specs.Carried.{NoEnds, Nowhere, Out, Back, Line, Plan, OnWay, out_of, IsStarted, IsBrought, IsReturned, CarriedBy}
-use Rattle.world_many.proofs.ManyLanes.{Case, own, step_in, reply_on, Answers, answers-so, stays-other, goes-own, settles-own, Counted, counted, opened-few}
-use Rattle.world_many.proofs.ManyTurns.{was-ready, Begun, begun-so, TakesOn, takes-on, TakesLast, takes-last}
-use Rattle.world_many.proofs.ManyStates.{Pair, setting_of, Fixes, Asking, GoesOn, IsLast, StandsBy, Placed, Carrying, Keeps, Turned, carry-on}
+use Rattle.world_many.proofs.ManyLanes.{Case, own, step_in, reply_on, Answers, answers-so, stays-other, goes-own, settles-own, counted, opened-few}
+use Rattle.world_many.proofs.ManyTurns.{was-ready, begun-so, takes-on, takes-last}
+use Rattle.world_many.proofs.ManyStates.{setting_of, Fixes, Asking, GoesOn, IsLast, StandsBy, Placed, Carrying, Keeps, Turned, carry-on}
 
 -- what an event came to
 pub record Stepped (old : World) (now : ℕ) (plans : List Plan) (marking : Marking) (w : World) (deed : Deed) (new : World) (after : List Line) : Type 0 where
@@ -81,6 +75,7 @@ moved-turned : (old : World) (now : ℕ) (plans : List Plan) (w new : World) (li
     → Placed old now plans new i line ids → Turned old now plans w new i line ids ids
 moved-turned old now plans w new lines ids i line stage makes k is g placed = record {
   setup = ap (λ (z : World). z.book.setup) is;
+  serves = g.serves;
   own = placed;
   others = λ j id ne there. (there, moved-keeps w new i j id stage makes is g ne);
   apart = k.apart;
@@ -96,7 +91,7 @@ starts-on old now plans marking w lines ids i deed new after k happens s issued 
     let r = was-ready w i deed new s.octets happens s.sent in
     let before = stands-as old now plans w i s.line ids placed Nowhere s.none r.own r.there in
     let p = placed.pair in
-    let b = begun-so w i r.own p.started deed new r.there (ap init_start before.0 ∙ p.begins) happens (λ e. none-some (Sent s.octets) (sym e ∙ s.sent)) in
+    let b = begun-so w i r.own p.started deed new k.serves r.there (ap init_start before.0 ∙ p.begins) happens (λ e. none-some (Sent s.octets) (sym e ∙ s.sent)) in
     let g = grows w (Start i) deed new happens in
     let octets : s.octets ≡ call_of 1 None p.started.token = same-octets s.octets (call_of 1 None p.started.token) (sym s.sent ∙ b.answer) in
     let few : length s.line.draws ≤ 4 = subst (λ (ds : List (List ℕ)). length ds ≤ 4) (sym before.1) p.few in
@@ -140,7 +135,7 @@ returns-on : (old : World) (now : ℕ) (plans : List Plan) (marking : Marking) (
     → (s : IsReturned lines i octets deed after) → (placed : Placed old now plans w i s.line ids) → GoesOn (setting_of placed.pair) w i s.line.draws placed.id octets → Issued marking deed → Stepped old now plans marking w deed new after
 returns-on old now plans marking w lines ids i first octets deed new after k happens s placed a issued =
     let p = placed.pair in
-    let t = takes-on w i first a.xid a.n a.initiator a.reply a.made a.took a.next a.further a.stage a.more (omega (arith, a.xids)) a.size deed new (subst (λ (os : List ℕ). Happens w (Deliver i os first) deed new) a.is happens) s.some in
+    let t = takes-on w i first a.xid a.n a.initiator a.reply a.made a.took a.next a.further a.stage a.more (omega (arith, a.xids)) a.size deed new k.serves (subst (λ (os : List ℕ). Happens w (Deliver i os first) deed new) a.is happens) s.some in
     let g = grows w (Deliver i octets first) deed new happens in
     let xid_is : xid_after a.xid ≡ a.xid + 1 = next-xid a.xid (omega (arith, a.xids)) in
     let asking : Asking (setting_of p) new i s.line.draws (Some a.n) (call_of (xid_after a.xid) (Some a.n) a.further) = record {
@@ -196,7 +191,7 @@ not-ready s setup e = absurd cc
 returns-last : (old : World) (now : ℕ) (plans : List Plan) (marking : Marking) (w : World) (lines : List Line) (ids : List (Option ℕ)) (i first : ℕ) (octets : List ℕ) (deed : Deed) (new : World) (after : List Line) → Carrying old now plans w lines ids → Happens w (Deliver i octets first) deed new
     → (s : IsReturned lines i octets deed after) → (placed : Placed old now plans w i s.line ids) → IsLast w i octets → Issued marking deed → Stepped old now plans marking w deed new after
 returns-last old now plans marking w lines ids i first octets deed new after k happens s placed a issued =
-    let t = takes-last w i first a.xid a.n a.initiator a.reply a.made a.took a.outcome a.stage a.done a.xid_fits a.size deed new (subst (λ (os : List ℕ). Happens w (Deliver i os first) deed new) a.is happens) s.some in
+    let t = takes-last w i first a.xid a.n a.initiator a.reply a.made a.took a.outcome a.stage a.done a.xid_fits a.size deed new k.serves (subst (λ (os : List ℕ). Happens w (Deliver i os first) deed new) a.is happens) s.some in
     let g = grows w (Deliver i octets first) deed new happens in
     let line : Line = record { draws = s.line.draws; way = Nowhere } in
     let own_placed : Placed old now plans new i line ids = record {
@@ -290,6 +285,7 @@ abbrev case_of : {old : World} {now : ℕ} {plans : List Plan} {w : World} {line
     → Heard (setting_in b) b.asking.end b.asking.token (take 66 draws) b.asking.made b.asking.fixed → Case
 case_of {old} {now} {plans} {w} {lines} {ids} {lane} {draws} {deed} {new} k b heard = record {
   w = w;
+  serves = k.serves;
   lane = lane;
   id = b.placed.id;
   xid = b.asking.xid;
@@ -339,6 +335,7 @@ brought-turned old now plans w lines ids i line c deed new k is a g there setup 
     let more = counted c deed new a (λ n e. counts i n (there ∙ ap Some e)) in
     record {
       setup = setup;
+      serves = g.serves;
       own = placed;
       others = λ j id ne at. (
         set-other ids i j (Some (own c)) ne ∙ at,

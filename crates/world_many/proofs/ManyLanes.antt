@@ -1,11 +1,12 @@
 -- A creation call comes to a lane, whatever else stands in the world: the book takes its step, and leaves every other context as it was.
-use Rattle.std.proofs.Common.{◌≡◌, ◌≢◌, inl, inr, ℕ, suc, ◌+◌, ◌<◌, ◌≤◌, ◌^◌, true, false, refl, sym, ap, ◌∙◌, subst, arith, nat_lt, nat_le, List, [], ◌∷◌, ◌++◌, length, take, slice_get, option_map, option_to_list, Option, Some, None, Result, Ok, Bool}
+use Rattle.std.proofs.Common.{◌≡◌, ◌≢◌, inl, inr, ℕ, ◌+◌, ◌<◌, ◌≤◌, ◌^◌, lit<, true, false, refl, sym, ap, ◌∙◌, subst, arith, nat_lt, nat_le, List, [], ◌∷◌, ◌++◌, length, take, slice_get, option_map, option_to_list, Option, Some, None, Ok, Bool}
 use Rattle.std.specs.Prelude.{max, ◌&&◌, ◌==◌, is_none, if◌then◌else◌}
 use Rattle.std.proofs.lemmas.Bool.{ne_eqb}
 use Rattle.std.proofs.lemmas.Option.{none-some, same_Some}
 use Rattle.gss_base.specs.declared.mark.Mark.{Mark}
 use Rattle.gss_base.specs.declared.mech.MechKind.{MechKind}
 use Rattle.rpc_msgs.specs.Replies.{reply_octets}
+use Rattle.rpc_program.specs.Programs.{Serving}
 use Rattle.scram_mech.specs.MechMaking.{MechMaking}
 use Rattle.spnego_core.specs.declared.accept_end.AcceptEnd.{AcceptEnd}
 use Rattle.spnego_core.specs.declared.accept_end.AcceptEnd.TheVariants as ends
@@ -14,30 +15,29 @@ use Rattle.spnego_core.specs.declared.accept_end.AcceptStep.TheVariants as accep
 use Rattle.spnego_core.specs.declared.accept_end.Answered.{Answered}
 use Rattle.spnego_core.specs.declared.accept_end.Answered.TheVariants as afters
 use Rattle.spnego_core.specs.declared.outcome.Outcome.{Outcome}
-use Rattle.spnego_core.specs.declared.refusal.NegRefusal.{NegRefusal}
 use Rattle.spnego_core.specs.declared.setup.AcceptSetup.{AcceptSetup}
 use Rattle.spnego_core.specs.Accepting.{Fixed, Accepted, IsSettled, accept_step}
-use Rattle.context_table.specs.declared.slot.SlotState.TheVariants.{Negotiating}
 use Rattle.context_table.specs.Places.{slot_at, live_of, state_of}
 use Rattle.accept_core.specs.declared.answer.MarkRefusal.{MarkRefusal}
 use Rattle.accept_core.specs.declared.answer.Next.{Next}
 use Rattle.accept_core.specs.declared.answer.Next.TheVariants as nexts
 use Rattle.accept_core.specs.declared.entry.Entry.{Entry}
 use Rattle.accept_core.specs.declared.entry.Entry.TheVariants.{Opened, Auth, Went, Settled, Call, Ended}
+use Rattle.accept_book.specs.declared.book_answer.Admitted.{Admitted}
 use Rattle.accept_book.specs.declared.book_answer.BookRefusal.{BookRefusal}
 use Rattle.accept_book.specs.declared.book_answer.BookRefusal.TheVariants as refusals
 use Rattle.accept_book.specs.declared.book_answer.NegAnswer.{NegAnswer}
 use Rattle.accept_book.specs.declared.book_answer.NegAnswer.TheVariants as answers
 use Rattle.accept_book.specs.declared.book_answer.Negotiated.{Negotiated}
-use Rattle.accept_book.specs.BookAnswers.{IsOutcome, BookStepped}
-use Rattle.accept_book.specs.Booking.{BookOf, Stands, Change, Outcomes, NotesMoment, raised, mark_of, settled_of, next_of, answer_with, leaves, later_step, by_step, by_mark, after_refusal, negotiated, gone_on_by, Becomes, Changed, changed, names_of}
+use Rattle.accept_book.specs.BookAnswers.{BookStepped}
+use Rattle.accept_book.specs.Booking.{Outcomes, raised, mark_of, settled_of, next_of, answer_with, leaves, later_step, by_step, by_mark, after_refusal, negotiated, gone_on_by, Becomes, Changed, changed, names_of}
 use Rattle.accept_core.specs.Entering.{id_of, entered, mark_refused}
 use Rattle.accept_core.specs.Replays.{Accepting}
 use Rattle.accept_book.specs.Found.{step_taken, makes_of, found_of, fixes_of}
-use Rattle.accept_core.specs.History.{Standing, Open, standing, opened, taken_of}
+use Rattle.accept_core.specs.History.{Standing, standing, opened, taken_of}
 use Rattle.accept_book.specs.RecordRule.{stepped, ask_step, record_ruling}
-use Rattle.accept_book.specs.RecordShown.{KeptAnswers, Question, Negotiate, Look, Admit, End, Asked, AskedStep, AskedLook, AskedAdmit, AskedEnd, Ruling}
-use Rattle.accept_core.specs.Stepping.{Context as Slot, context_of, context_after, until_of, goes_by, IsNext}
+use Rattle.accept_book.specs.RecordShown.{KeptAnswers, Question, Negotiate, Look, Admit, End, Asked, AskedStep, AskedLook, AskedAdmit, AskedEnd, booked, Ruling}
+use Rattle.accept_core.specs.Stepping.{Context as Slot, context_after, until_of, goes_by, IsNext}
 use Rattle.gss_server.specs.Asking.{BookAnswers}
 use Rattle.pair_laws.specs.HonestCalls.{IsToServer}
 use Rattle.pair_laws.proofs.Granting.{granting, going}
@@ -48,14 +48,14 @@ use Rattle.world_laws.specs.declared.event.Happened.TheVariants.{Sent, Completed
 use Rattle.world_laws.specs.declared.event.WorldEvent.TheVariants.{Lane}
 use Rattle.world_laws.specs.Deeds.{Deed}
 use Rattle.world_laws.specs.State.{InHand, Context, World}
-use Rattle.world_laws.specs.Initiators.{own_terms}
-use Rattle.world_laws.specs.Lanes.{told_width, question_of, ruling_of, hand_after, found_by, makes_by, context_with, unless_short, fixes_by, IsAnswer, with_lane, if_answered, Follows, LaneMoves}
+use Rattle.world_laws.specs.Lanes.{question_of, ruling_of, hand_after, found_by, makes_by, context_with, unless_short, fixes_by, IsAnswer, with_lane, if_answered, Follows, LaneMoves}
 use Rattle.world_laws.specs.Events.{LanesBy, Happens}
 use Rattle.world_laws.specs.Premises.{WasSettled}
 use Rattle.world_laws.proofs.Due.{stepped-due}
 use Rattle.world_laws.proofs.HeldHistory.{at-head}
 use Rattle.world_laws.proofs.Undecided.{undecided, unanswered}
-use Rattle.world_runs.proofs.MetEvents.{call_of}
+use Rattle.world_runs.specs.Served.{told_width, served, own_terms}
+use Rattle.world_runs.proofs.MetEvents.{call_of, server}
 use Rattle.world_many.specs.Carried.{NoEnds}
 
 -- ---- the step that a book takes, where its log grows and no context ends
@@ -136,6 +136,7 @@ took-so setup core (Some id) past end token now drawn accepted comes accepts gre
 
 pub record Case : Type 0 where
   pub w : World
+  pub serves : w.serves ≡ served
   pub lane : ℕ
   pub id : Option ℕ
   pub xid : ℕ
@@ -180,11 +181,11 @@ hand_of c = record { octets = call_of c.xid c.id c.token; kept = kept_first c }
 abbrev question : Case → Question
 question c = Negotiate c.id c.token c.now (drawn_of c)
 
-to-server : IsToServer own_terms
-to-server = record { program = refl; version = refl }
+to-server : IsToServer served.program own_terms
+to-server = record { number = refl; version = refl; fits = record { number = lit< tt; version = lit< tt } }
 
-due-is : (c : Case) → (ruling_of (hand_of c)).due ≡ Some (question c)
-due-is c = ap (λ (r : Ruling). r.due) (asks own_terms c.xid c.id c.token (kept_first c) told_width to-server c.xid_fits c.is_id c.short)
+due-is : (c : Case) → (ruling_of served (hand_of c)).due ≡ Some (question c)
+due-is c = ap (λ (r : Ruling). r.due) (asks own_terms c.xid c.id c.token (kept_first c) server to-server c.xid_fits c.is_id c.short)
 
 settled-asks : (step : AcceptStep) → IsSettled (settled_of step)
 settled-asks (accept_steps.More end token) = tt
@@ -195,7 +196,7 @@ settled-asks (accept_steps.WantsAuth pause) = gone pause.after
     gone (afters.More end token) = tt
     gone (afters.Done outcome lasts token) = tt
 
-replies-so : (c : Case) (answer : Negotiated) (id : ℕ) (step : AcceptStep) → IsSettled step → (stepped (creation_shown own_terms c.xid c.id c.token (kept_after c answer) told_width) (answer_with id step)).reply ≡ Some (reply_on c.xid id step)
+replies-so : (c : Case) (answer : Negotiated) (id : ℕ) (step : AcceptStep) → IsSettled step → (stepped (creation_shown own_terms c.xid c.id c.token (kept_after c answer) server) (answer_with id step)).reply ≡ Some (reply_on c.xid id step)
 replies-so c answer id (accept_steps.More end token) settled = refl
 replies-so c answer id (accept_steps.Done outcome lasts token) settled = refl
 replies-so c answer id (accept_steps.WantsAuth pause) settled = absurd settled
@@ -207,23 +208,23 @@ unless-with id (accept_steps.WantsAuth pause) found settled = absurd settled
 
 -- ---- the question and its answer
 
-record IsStep (c : Case) (asked : Asked) : Type 0 where
+record IsStep (c : Case) (asked : Asked Admitted) : Type 0 where
   answer : Negotiated
   is : asked ≡ AskedStep c.id c.token c.now (drawn_of c) answer
 
 same-question : (a b : Question) → Some a ≡ Some b → a ≡ b
 same-question a b e = cc
 
-abbrev step_asked : Negotiated → Question → Asked
+abbrev step_asked : Negotiated → Question → Asked Admitted
 step_asked answer (Negotiate id token now draws) = AskedStep id token now draws answer
 step_asked answer (Look id now) = AskedStep None [] 0 [] answer
-step_asked answer (Admit lease seq procedure args) = AskedStep None [] 0 [] answer
+step_asked answer (Admit lease seq service procedure args) = AskedStep None [] 0 [] answer
 step_asked answer (End lease seq) = AskedStep None [] 0 [] answer
 
-step-asked : (c : Case) (asked : Asked) → Some (question_of asked) ≡ Some (question c) → IsStep c asked
+step-asked : (c : Case) (asked : Asked Admitted) → Some (question_of asked) ≡ Some (question c) → IsStep c asked
 step-asked c (AskedStep id token now draws answer) e = record { answer = answer; is = ap (step_asked answer) (same-question (Negotiate id token now draws) (question c) e) }
 step-asked c (AskedLook id now answer) e = absurd cc
-step-asked c (AskedAdmit lease seq procedure args answer) e = absurd cc
+step-asked c (AskedAdmit lease seq service procedure args answer) e = absurd cc
 step-asked c (AskedEnd lease seq answer) e = absurd cc
 
 sent-by : (r : Ruling) (octets : List ℕ) → r.reply ≡ Some octets → (happened : Happened) → IsAnswer r (Some happened) → happened ≡ Sent octets
@@ -234,25 +235,25 @@ sent-by r octets e Refused is = absurd is
 sent-by r octets e Nothing is = absurd is
 
 after-is : (c : Case) (answer : Negotiated)
-    → record_ruling (call_of c.xid c.id c.token) (kept_after c answer) told_width ≡ ask_step (creation_shown own_terms c.xid c.id c.token (kept_after c answer) told_width) c.id c.token (Some answer)
-after-is c answer = asks own_terms c.xid c.id c.token (kept_after c answer) told_width to-server c.xid_fits c.is_id c.short
+    → record_ruling (call_of c.xid c.id c.token) (kept_after c answer) served ≡ ask_step (creation_shown own_terms c.xid c.id c.token (kept_after c answer) server) c.id c.token (Some answer)
+after-is c answer = asks own_terms c.xid c.id c.token (kept_after c answer) server to-server c.xid_fits c.is_id c.short
 
 record Said (c : Case) (answer : Negotiated) (happened : Happened) (left : Option InHand) : Type 0 where
   nothing : left ≡ None
   remembered : answer.answer ≢ answers.NoMemory
   sent : answer.answer ≡ answer_with (own c) (step_in c) → happened ≡ Sent (reply_on c.xid (own c) (step_in c))
 
-said-by : (c : Case) (answer : Negotiated) (happened : Happened) (left : Option InHand) → Follows (record { octets = call_of c.xid c.id c.token; kept = kept_after c answer }) (Some happened) left → Said c answer happened left
+said-by : (c : Case) (answer : Negotiated) (happened : Happened) (left : Option InHand) → Follows served (record { octets = call_of c.xid c.id c.token; kept = kept_after c answer }) (Some happened) left → Said c answer happened left
 said-by c answer happened left (inl more) =
-    absurd (none-some more.0 (sym (stepped-due (creation_shown own_terms c.xid c.id c.token (kept_after c answer) told_width) answer.answer) ∙ (sym (ap (λ (r : Ruling). r.due) (after-is c answer)) ∙ more.1)))
+    absurd (none-some more.0 (sym (stepped-due (creation_shown own_terms c.xid c.id c.token (kept_after c answer) server) answer.answer) ∙ (sym (ap (λ (r : Ruling). r.due) (after-is c answer)) ∙ more.1)))
 said-by c answer happened left (inr said) = record {
   nothing = said.1;
-  remembered = λ short. (let zero : (record_ruling (call_of c.xid c.id c.token) (kept_after c answer) told_width).rule ≡ 0 =
-      ap (λ (r : Ruling). r.rule) (after-is c answer) ∙ ap (λ (a : NegAnswer). (stepped (creation_shown own_terms c.xid c.id c.token (kept_after c answer) told_width) a).rule) short in
-      none-some happened (sym (unanswered (record_ruling (call_of c.xid c.id c.token) (kept_after c answer) told_width) (Some happened) zero said.0)));
-  sent = λ is. sent-by (record_ruling (call_of c.xid c.id c.token) (kept_after c answer) told_width) (reply_on c.xid (own c) (step_in c))
+  remembered = λ short. (let zero : (record_ruling (call_of c.xid c.id c.token) (kept_after c answer) served).rule ≡ 0 =
+      ap (λ (r : Ruling). r.rule) (after-is c answer) ∙ ap (λ (a : NegAnswer). (stepped (creation_shown own_terms c.xid c.id c.token (kept_after c answer) server) a).rule) short in
+      none-some happened (sym (unanswered (record_ruling (call_of c.xid c.id c.token) (kept_after c answer) served) (Some happened) zero said.0)));
+  sent = λ is. sent-by (record_ruling (call_of c.xid c.id c.token) (kept_after c answer) served) (reply_on c.xid (own c) (step_in c))
       (ap (λ (r : Ruling). r.reply) (after-is c answer)
-      ∙ (ap (λ (a : NegAnswer). (stepped (creation_shown own_terms c.xid c.id c.token (kept_after c answer) told_width) a).reply) is ∙ replies-so c answer (own c) (step_in c) (settled-asks c.accepted.step))) happened said.0;
+      ∙ (ap (λ (a : NegAnswer). (stepped (creation_shown own_terms c.xid c.id c.token (kept_after c answer) server) a).reply) is ∙ replies-so c answer (own c) (step_in c) (settled-asks c.accepted.step))) happened said.0;
 }
 
 -- the context that goes for the step
@@ -277,13 +278,13 @@ Logged c new = (new.book.core.history ≡ c.w.book.core.history → ⊥) × NoEn
 
 answered-by : (c : Case) (happened : Happened) (deed : Deed) (new : World) (past : Option ℕ) (left : Option InHand) (answer : Negotiated) → deed.answer ≡ Some happened → Logged c new
     → IsNext c.w.book.core.table (max c.w.book.core.cache.greatest c.now) past → BookStepped c.w.book new.book c.id c.token c.now (drawn_of c) answer
-    → Follows (record { octets = call_of c.xid c.id c.token; kept = kept_after c answer }) deed.answer left
+    → Follows served (record { octets = call_of c.xid c.id c.token; kept = kept_after c answer }) deed.answer left
     → deed.makes ≡ if_answered deed.answer (makes_by c.w.book past (hand_of c) (AskedStep c.id c.token c.now (drawn_of c) answer))
     → deed.found ≡ found_by c.w.book past (hand_of c) (AskedStep c.id c.token c.now (drawn_of c) answer)
     → deed.fixes ≡ fixes_by c.w.book past (AskedStep c.id c.token c.now (drawn_of c) answer)
     → new ≡ with_lane c.w c.lane left new.book deed → Answers c deed new
 answered-by c happened deed new past left answer some logged late stepped follows makes found fixes new_is =
-    let said : Said c answer happened left = said-by c answer happened left (subst (λ (a : Option Happened). Follows (record { octets = call_of c.xid c.id c.token; kept = kept_after c answer }) a left) some follows) in
+    let said : Said c answer happened left = said-by c answer happened left (subst (λ (a : Option Happened). Follows served (record { octets = call_of c.xid c.id c.token; kept = kept_after c answer }) a left) some follows) in
     let o = stepped.comes.outcome past (λ first. late) said.remembered in
     let t = took-so c.w.book.setup c.w.book.core c.id past c.end c.token c.now (drawn_of c) c.accepted c.comes c.accepts (λ e. logged.0 (o.history ∙ e)) (subst (λ (h : List Entry). NoEnds h) o.history logged.1) in
     let is : answer.answer ≡ answer_with (own c) (step_in c) = o.answer ∙ ap (λ (z : Outcomes). z.answer) t.came in
@@ -306,15 +307,19 @@ answered-by c happened deed new past left answer some logged late stepped follow
 
 answers-by : (c : Case) (happened : Happened) (deed : Deed) (new : World) → deed.answer ≡ Some happened → Logged c new → LaneMoves c.w c.lane (hand_of c) deed new → Answers c deed new
 answers-by c happened deed new some logged (inl o) =
-    absurd (none-some happened (sym (unanswered (ruling_of (hand_of c)) deed.answer (undecided (call_of c.xid c.id c.token) (kept_first c) told_width (question c) (due-is c)) o.answer) ∙ some))
-answers-by c happened deed new some logged (inr q) = by (step-asked c q.asked (sym q.due ∙ due-is c))
+    let is : IsAnswer (ruling_of served (hand_of c)) deed.answer = subst (λ (z : Serving). IsAnswer (ruling_of z (hand_of c)) deed.answer) c.serves o.answer in
+    absurd (none-some happened (sym (unanswered (ruling_of served (hand_of c)) deed.answer (undecided (call_of c.xid c.id c.token) (kept_first c) served (question c) (due-is c)) is) ∙ some))
+answers-by c happened deed new some logged (inr q) = by (step-asked c q.asked (sym (subst (λ (z : Serving). (ruling_of z (hand_of c)).due ≡ Some (question_of q.asked)) c.serves q.due) ∙ due-is c))
   where
+    follows : Follows served (hand_after (hand_of c) q.asked) deed.answer q.left
+    follows = subst (λ (z : Serving). Follows z (hand_after (hand_of c) q.asked) deed.answer q.left) c.serves q.follows
+
     by : IsStep c q.asked → Answers c deed new
-    by s = answered-by c happened deed new q.past q.left s.answer some logged q.is_past (subst (λ (a : Asked). BookAnswers c.w.book a new.book) s.is q.answers)
-        (subst (λ (a : Asked). Follows (hand_after (hand_of c) a) deed.answer q.left) s.is q.follows)
-        (subst (λ (a : Asked). deed.makes ≡ if_answered deed.answer (makes_by c.w.book q.past (hand_of c) a)) s.is q.makes)
-        (subst (λ (a : Asked). deed.found ≡ found_by c.w.book q.past (hand_of c) a) s.is q.found)
-        (subst (λ (a : Asked). deed.fixes ≡ fixes_by c.w.book q.past a) s.is q.fixes) q.new_is
+    by s = answered-by c happened deed new q.past q.left s.answer some logged q.is_past (subst (λ (a : Asked Admitted). BookAnswers c.w.book (booked a) new.book) s.is q.answers)
+        (subst (λ (a : Asked Admitted). Follows served (hand_after (hand_of c) a) deed.answer q.left) s.is follows)
+        (subst (λ (a : Asked Admitted). deed.makes ≡ if_answered deed.answer (makes_by c.w.book q.past (hand_of c) a)) s.is q.makes)
+        (subst (λ (a : Asked Admitted). deed.found ≡ found_by c.w.book q.past (hand_of c) a) s.is q.found)
+        (subst (λ (a : Asked Admitted). deed.fixes ≡ fixes_by c.w.book q.past a) s.is q.fixes) q.new_is
 
 pub answers-so : (c : Case) (happened : Happened) (deed : Deed) (new : World) → Happens c.w (Lane c.lane (call_of c.xid c.id c.token) c.now c.draws) deed new → deed.answer ≡ Some happened
     → (new.book.core.history ≡ c.w.book.core.history → ⊥) → NoEnds new.book.core.history → Answers c deed new

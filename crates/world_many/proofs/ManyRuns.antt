@@ -1,7 +1,7 @@
 -- A carried run of many meets the premises.
-use Rattle.std.proofs.Common.{◌≡◌, inl, inr, ℕ, ◌+◌, ◌<◌, ◌≤◌, ◌^◌, true, false, refl, sym, ap, ◌∙◌, subst, arith, List, [], ◌∷◌, ◌++◌, length, length-append, map, slice_get, Option, Some, None, Ok}
+use Rattle.std.proofs.Common.{◌≡◌, ℕ, ◌+◌, ◌<◌, ◌≤◌, ◌^◌, true, false, refl, sym, ap, ◌∙◌, subst, arith, List, [], ◌∷◌, ◌++◌, length, length-append, map, slice_get, Option, Some, None}
 use Rattle.std.specs.Prelude.{if◌then◌else◌, Bool}
-use Rattle.std.proofs.lemmas.Option.{none-some, same_Some}
+use Rattle.std.proofs.lemmas.Option.{none-some}
 use Rattle.gss_base.specs.declared.mech.MechKind.{MechKind}
 use Rattle.gss_base.specs.declared.mech.MechKind.TheVariants as kinds
 use Rattle.spnego_core.specs.Ends.{PlainSetup}
@@ -20,9 +20,10 @@ use Rattle.world_laws.specs.Events.{Run, Begins}
 use Rattle.world_laws.specs.Premises.{Marking, NoForgery}
 use Rattle.world_laws.specs.State.{World}
 use Rattle.world_laws.proofs.Growing.{run-grows}
+use Rattle.world_runs.specs.Served.{served}
 use Rattle.world_runs.proofs.MetPairs.{honest, count-of}
 use Rattle.world_many.specs.Lists.{AllIssued}
-use Rattle.world_many.specs.Carried.{Nowhere, Line, Plan, Carries, IsHonest, AreHonest, line_of, lines_of, NoEnds, IsCarriedRun, MetByManyLaw}
+use Rattle.world_many.specs.Carried.{Line, Plan, Carries, IsHonest, AreHonest, line_of, lines_of, NoEnds, MetByManyLaw}
 use Rattle.world_many.proofs.ByLists.{at-map, from-map, fresh-by-lists}
 use Rattle.world_many.proofs.ManyEvents.{steps-on}
 use Rattle.world_many.proofs.ManyLanes.{lasting-front}
@@ -81,10 +82,11 @@ same-ready a b e = cc
 abbrev no_id : Plan → Option ℕ
 no_id plan = None
 
-begins-so : (old : World) (now : ℕ) (plans : List Plan) → Begins old → AreHonest old now plans → Carrying old now plans old (lines_of plans) (map no_id plans)
+begins-so : (old : World) (now : ℕ) (plans : List Plan) → Begins old → old.serves ≡ served → AreHonest old now plans → Carrying old now plans old (lines_of plans) (map no_id plans)
 unfolding pair-so
-begins-so old now plans begins all = record {
+begins-so old now plans begins serves all = record {
   setup = refl;
+  serves = serves;
   states = λ i line there. (let r = from-map line_of plans i line there in by i line r.from r.there r.is (all i r.from r.there));
   apart = λ i j n e f. absurd (none-of i n e);
   counted = λ i n e. absurd (none-of i n e);
@@ -105,6 +107,6 @@ begins-so old now plans begins all = record {
 
 pub met-by-many : Below → MetByManyLaw
 met-by-many laws plans now old events new run carried marking issued = record {
-  unforged = walk old now plans marking events old new run (lines_of plans) (map no_id plans) (begins-so old now plans carried.begins carried.honest) carried.carries carried.lasting carried.few issued;
+  unforged = walk old now plans marking events old new run (lines_of plans) (map no_id plans) (begins-so old now plans carried.begins carried.serves carried.honest) carried.carries carried.lasting carried.few issued;
   fresh = fresh-by-lists laws marking old events new run carried.begins issued;
 }

@@ -1,6 +1,5 @@
 -- Where each exchange of a run of many stands: what is on its way, and what both ends wait for.
-use Rattle.std.proofs.Common.{◌≡◌, ◌≢◌, ◌⊎◌, inl, inr, ℕ, ◌+◌, ◌<◌, ◌≤◌, ◌^◌, refl, sym, ap, ◌∙◌, subst, arith, List, [], ◌∷◌, ◌++◌, length, slice_get, slice_set, Option, Some, None, Ok}
-use Rattle.std.proofs.lemmas.Option.{none-some, same_Some}
+use Rattle.std.proofs.Common.{◌≡◌, ◌≢◌, ◌⊎◌, inl, inr, ℕ, ◌+◌, ◌<◌, ◌≤◌, ◌^◌, refl, sym, ◌∙◌, subst, List, [], ◌∷◌, ◌++◌, length, slice_get, slice_set, Option, Some, None, Ok}
 use Rattle.rpc_msgs.specs.Replies.{reply_octets}
 use Rattle.scram_mech.specs.MechMaking.{MechMaking, AmongMakings}
 use Rattle.spnego_core.specs.declared.accept_end.AcceptEnd.{AcceptEnd}
@@ -13,11 +12,12 @@ use Rattle.accept_core.specs.History.{opened}
 use Rattle.pair_laws.proofs.Granting.{granting, going}
 use Rattle.pair_laws.proofs.Settling.{Negotiates, ComesTo}
 use Rattle.world_laws.specs.Stages as stages
-use Rattle.world_laws.specs.Lanes.{told_width, context_with}
+use Rattle.world_laws.specs.Lanes.{context_with}
 use Rattle.world_laws.specs.Premises.{Listed, WasSettled}
 use Rattle.world_laws.specs.State.{World}
 use Rattle.world_laws.proofs.Growing.{Grows, makings-grow, listed-grows, settled-grows}
 use Rattle.world_laws.proofs.Slices.{set-cases}
+use Rattle.world_runs.specs.Served.{told_width, served}
 use Rattle.world_runs.proofs.MetEvents.{call_of}
 use Rattle.world_runs.proofs.MetPairs.{Honest, setting_with}
 use Rattle.world_runs.proofs.MetRounds.{Setting, Took, Rounds}
@@ -123,6 +123,7 @@ pub record Placed (old : World) (now : ℕ) (plans : List Plan) (w : World) (i :
 
 pub record Carrying (old : World) (now : ℕ) (plans : List Plan) (w : World) (lines : List Line) (ids : List (Option ℕ)) : Type 0 where
   pub setup : w.book.setup ≡ old.book.setup
+  pub serves : w.serves ≡ served
   pub states : (i : ℕ) (line : Line) → slice_get lines i ≡ Some line → Placed old now plans w i line ids
   pub apart : (i j n : ℕ) → slice_get ids i ≡ Some (Some n) → slice_get ids j ≡ Some (Some n) → i ≡ j
   pub counted : (i n : ℕ) → slice_get ids i ≡ Some (Some n) → n ≤ opened w.book.core.history
@@ -218,6 +219,7 @@ keeps-stands old now plans j p w new draws id (Back octets) k (inr s) = inr (kee
 -- what an event of this initiator leads to
 pub record Turned (old : World) (now : ℕ) (plans : List Plan) (w new : World) (i : ℕ) (line : Line) (ids next : List (Option ℕ)) : Type 0 where
   pub setup : new.book.setup ≡ w.book.setup
+  pub serves : new.serves ≡ w.serves
   pub own : Placed old now plans new i line next
   pub others : (j : ℕ) (id : Option ℕ) → i ≢ j → slice_get ids j ≡ Some id → (slice_get next j ≡ Some id) × Keeps w new j id
   pub apart : (i j n : ℕ) → slice_get next i ≡ Some (Some n) → slice_get next j ≡ Some (Some n) → i ≡ j
@@ -227,6 +229,7 @@ pub carry-on : (old : World) (now : ℕ) (plans : List Plan) (w new : World) (li
     → Carrying old now plans new (slice_set lines i line) next
 carry-on old now plans w new lines ids next i line k t = record {
   setup = t.setup ∙ k.setup;
+  serves = t.serves ∙ k.serves;
   states = λ j other there. elim (set-cases lines i j line other there) [
     | inl here ↦ subst (λ (z : Line). Placed old now plans new j z next) (sym here.1) (subst (λ (m : ℕ). Placed old now plans new m line next) here.0 t.own)
     | inr elsewhere ↦ kept j other (k.states j other elsewhere.1) elsewhere.0

@@ -1,14 +1,13 @@
 -- An initiator's moves in a world of many: it starts, and takes the replies to its records.
-use Rattle.std.proofs.Common.{◌≡◌, ◌≢◌, inl, inr, ℕ, ◌+◌, ◌<◌, ◌≤◌, ◌^◌, lit<, lit≤, refl, sym, ap, ◌∙◌, subst, arith, List, [], ◌∷◌, ◌++◌, length, slice_get, slice_set, Option, Some, None, Result, Ok}
-use Rattle.std.proofs.lemmas.Option.{none-some, same_Some}
+use Rattle.std.proofs.Common.{◌≡◌, ◌≢◌, inl, inr, ℕ, ◌<◌, ◌≤◌, ◌^◌, lit<, lit≤, refl, sym, ap, ◌∙◌, subst, arith, List, [], ◌∷◌, ◌++◌, length, slice_get, Option, Some, None, Result, Ok}
 use Rattle.krb_tokens.specs.declared.end.Side.TheVariants.{Acceptor}
-use Rattle.krb_tokens.specs.Makings.{mic_making}
 use Rattle.krb_tokens.specs.Mic.{mic_header, mic_of}
 use Rattle.rpc_msgs.specs.Replies.{reply_octets}
 use Rattle.rpc_msgs.specs.Words.{word}
 use Rattle.rpcsec_bodies.proofs.Lengths.{mic-size}
+use Rattle.rpc_program.specs.Programs.{Serving}
 use Rattle.rpcsec_msgs.specs.InitRes.{IsInitRes}
-use Rattle.scram_mech.specs.MechMaking.{MechMaking, typed}
+use Rattle.scram_mech.specs.MechMaking.{MechMaking}
 use Rattle.spnego_core.specs.declared.outcome.Outcome.{Outcome}
 use Rattle.spnego_core.specs.declared.refusal.NegRefusal.{NegRefusal}
 use Rattle.spnego_core.specs.Ends.{PlainSetup, EndSays}
@@ -20,19 +19,18 @@ use Rattle.gss_client.specs.declared.refusal.ClientRefusal.{ClientRefusal}
 use Rattle.gss_client.specs.Creation.{CreatedSays}
 use Rattle.gss_client.specs.Creation as created
 use Rattle.gss_client.specs.Judging.{granted_in}
-use Rattle.gss_client.specs.Session.{SessionState, xid_after}
+use Rattle.gss_client.specs.Session.{xid_after}
 use Rattle.gss_client.specs.Talk.{begun}
 use Rattle.pair_laws.proofs.Granting.{granted_with, grants, result_with, result_on, window_mic, granting, going, creation-stands, creation-goes}
-use Rattle.world_laws.specs.declared.event.Happened.{Happened}
 use Rattle.world_laws.specs.declared.event.Happened.TheVariants.{Sent, Completed, Nothing}
 use Rattle.world_laws.specs.declared.event.WorldEvent.TheVariants.{Start, Deliver}
 use Rattle.world_laws.specs.Stages.{StageSays}
 use Rattle.world_laws.specs.Stages as stages
 use Rattle.world_laws.specs.Deeds.{Deed}
 use Rattle.world_laws.specs.State.{World, moved_to}
-use Rattle.world_laws.specs.Initiators.{own_terms, started_by, starts, initiated_by, initiated_with, initiated, handed_out, verified, window_found, created_by, takes}
-use Rattle.world_laws.specs.Lanes.{told_width}
-use Rattle.world_laws.specs.Events.{Idles, Moves, StartsBy, DeliversBy, Happens}
+use Rattle.world_laws.specs.Initiators.{started_by, initiated_by, initiated_with, initiated, handed_out, verified, window_found, created_by, takes}
+use Rattle.world_laws.specs.Events.{Moves, StartsBy, DeliversBy, Happens}
+use Rattle.world_runs.specs.Served.{told_width, served, own_terms}
 use Rattle.world_runs.proofs.MetEvents.{call_of, window_of}
 use Rattle.world_runs.proofs.MetRounds.{Took}
 
@@ -62,11 +60,11 @@ pub record Begun (w : World) (i : ℕ) (started : Started) (deed : Deed) (new : 
   pub found : deed.found ≡ []
   pub new_is : new ≡ moved_to w i (stages.Asks 1 started.end) started.makes
 
-pub begun-so : (w : World) (i : ℕ) (own : PlainSetup) (started : Started) (deed : Deed) (new : World) → slice_get w.stages i ≡ Some (stages.Ready own) → init_start own ≡ Ok started → Happens w (Start i) deed new → deed.answer ≢ None → Begun w i started deed new
-begun-so w i own started deed new there begins h some =
-    by (subst (λ (r : Result Started NegRefusal). Moves w i (started_by r) deed new) begins (subst (λ (s : Option StageSays). StartsBy w i s deed new) there h.did))
+pub begun-so : (w : World) (i : ℕ) (own : PlainSetup) (started : Started) (deed : Deed) (new : World) → w.serves ≡ served → slice_get w.stages i ≡ Some (stages.Ready own) → init_start own ≡ Ok started → Happens w (Start i) deed new → deed.answer ≢ None → Begun w i started deed new
+begun-so w i own started deed new serves there begins h some =
+    by (subst (λ (z : Serving). Moves w i (started_by z (Ok started)) deed new) serves (subst (λ (r : Result Started NegRefusal). Moves w i (started_by w.serves r) deed new) begins (subst (λ (s : Option StageSays). StartsBy w i s deed new) there h.did)))
   where
-    by : Moves w i (started_by (Ok started)) deed new → Begun w i started deed new
+    by : Moves w i (started_by served (Ok started)) deed new → Begun w i started deed new
     by (inl m) = record { answer = ap (λ (d : Deed). d.answer) m.0; found = ap (λ (d : Deed). d.found) m.0; new_is = m.1 }
     by (inr m) = absurd (some (ap (λ (d : Deed). d.answer) m.0))
 
@@ -94,16 +92,16 @@ pub record TakesOn (w : World) (i xid id : ℕ) (taken : Initiated) (next : EndS
   pub new_is : new ≡ moved_to w i (stages.Asks (xid_after xid) next) taken.makes
 
 pub takes-on : (w : World) (i first xid id : ℕ) (initiator : EndSays) (reply : List ℕ) (made : List MechMaking) (t : Took initiator reply made) (next : EndSays) (further : List ℕ) → slice_get w.stages i ≡ Some (stages.Asks xid initiator) → t.initiated.step ≡ init_steps.More next further
-    → xid < 2 ^ 32 → length reply ≤ 65536 → (deed : Deed) (new : World) → Happens w (Deliver i (reply_octets (going xid id reply)) first) deed new → deed.answer ≢ None → TakesOn w i xid id t.initiated next further deed new
-takes-on w i first xid id initiator reply made t next further there more fits few deed new h some =
-    by (subst (λ (r : Result CreatedSays ClientRefusal). Moves w i (created_by first xid initiator (reply_octets (going xid id reply)) r) deed new)
+    → xid < 2 ^ 32 → length reply ≤ 65536 → (deed : Deed) (new : World) → w.serves ≡ served → Happens w (Deliver i (reply_octets (going xid id reply)) first) deed new → deed.answer ≢ None → TakesOn w i xid id t.initiated next further deed new
+takes-on w i first xid id initiator reply made t next further there more fits few deed new serves h some =
+    by (subst (λ (r : Result CreatedSays ClientRefusal). Moves w i (created_by served first xid initiator (reply_octets (going xid id reply)) r) deed new)
     (creation-goes xid initiator next id reply further fits few (ap step_of t.initiates ∙ ap Ok more))
-    (subst (λ (s : Option StageSays). DeliversBy w i (reply_octets (going xid id reply)) first s deed new) there h.did))
+    (subst (λ (z : Serving). Moves w i (takes z first xid initiator (reply_octets (going xid id reply))) deed new) serves (subst (λ (s : Option StageSays). DeliversBy w i (reply_octets (going xid id reply)) first s deed new) there h.did)))
   where
     is : initiated xid initiator (reply_octets (going xid id reply)) ≡ Some t.initiated
     is = ap (initiated_with initiator) (going-granted xid id reply fits few) ∙ ap initiated_by t.initiates
 
-    by : Moves w i (created_by first xid initiator (reply_octets (going xid id reply)) (Ok (created.Going (record { end = next; handle = handle_of id; token = further })))) deed new → TakesOn w i xid id t.initiated next further deed new
+    by : Moves w i (created_by served first xid initiator (reply_octets (going xid id reply)) (Ok (created.Going (record { end = next; handle = handle_of id; token = further })))) deed new → TakesOn w i xid id t.initiated next further deed new
     by (inl m) = record {
       answer = ap (λ (d : Deed). d.answer) m.0;
       found = ap (λ (d : Deed). d.found) m.0 ∙ ap verified is;
@@ -124,16 +122,16 @@ pub record TakesLast (w : World) (i first xid id : ℕ) (taken : Initiated) (out
   pub new_is : new ≡ moved_to w i (stages.Stands (begun own_terms first (xid_after xid) outcome (handle_of id))) taken.makes
 
 pub takes-last : (w : World) (i first xid id : ℕ) (initiator : EndSays) (reply : List ℕ) (made : List MechMaking) (t : Took initiator reply made) (outcome : Outcome) → slice_get w.stages i ≡ Some (stages.Asks xid initiator) → t.initiated.step ≡ init_steps.Done outcome
-    → xid < 2 ^ 32 → length reply ≤ 65536 → (deed : Deed) (new : World) → Happens w (Deliver i (reply_octets (granting xid outcome id told_width reply)) first) deed new → deed.answer ≢ None → TakesLast w i first xid id t.initiated outcome deed new
-takes-last w i first xid id initiator reply made t outcome there done fits few deed new h some =
-    by (subst (λ (r : Result CreatedSays ClientRefusal). Moves w i (created_by first xid initiator (reply_octets (granting xid outcome id told_width reply)) r) deed new)
+    → xid < 2 ^ 32 → length reply ≤ 65536 → (deed : Deed) (new : World) → w.serves ≡ served → Happens w (Deliver i (reply_octets (granting xid outcome id told_width reply)) first) deed new → deed.answer ≢ None → TakesLast w i first xid id t.initiated outcome deed new
+takes-last w i first xid id initiator reply made t outcome there done fits few deed new serves h some =
+    by (subst (λ (r : Result CreatedSays ClientRefusal). Moves w i (created_by served first xid initiator (reply_octets (granting xid outcome id told_width reply)) r) deed new)
     (creation-stands xid initiator outcome id told_width reply fits (lit< tt) (lit< tt) few (ap step_of t.initiates ∙ ap Ok done))
-    (subst (λ (s : Option StageSays). DeliversBy w i (reply_octets (granting xid outcome id told_width reply)) first s deed new) there h.did))
+    (subst (λ (z : Serving). Moves w i (takes z first xid initiator (reply_octets (granting xid outcome id told_width reply))) deed new) serves (subst (λ (s : Option StageSays). DeliversBy w i (reply_octets (granting xid outcome id told_width reply)) first s deed new) there h.did)))
   where
     is : initiated xid initiator (reply_octets (granting xid outcome id told_width reply)) ≡ Some t.initiated
     is = ap (initiated_with initiator) (settled-granted xid id outcome reply fits few) ∙ ap initiated_by t.initiates
 
-    by : Moves w i (created_by first xid initiator (reply_octets (granting xid outcome id told_width reply)) (Ok (created.Stands outcome (handle_of id)))) deed new → TakesLast w i first xid id t.initiated outcome deed new
+    by : Moves w i (created_by served first xid initiator (reply_octets (granting xid outcome id told_width reply)) (Ok (created.Stands outcome (handle_of id)))) deed new → TakesLast w i first xid id t.initiated outcome deed new
     by (inl m) = record {
       answer = ap (λ (d : Deed). d.answer) m.0;
       found = ap (λ (d : Deed). d.found) m.0 ∙ (λ k. verified (is k) ++ window-is xid id outcome reply fits few k);

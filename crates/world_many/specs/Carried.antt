@@ -18,6 +18,7 @@ use Rattle.world_laws.specs.Events.{Run, Begins}
 use Rattle.world_laws.specs.Premises.{Marking, NoForgery, Fresh}
 use Rattle.world_laws.specs.State.{World}
 use Rattle.world_runs.specs.Meeting.{occasions_at, ReadyFor}
+use Rattle.world_runs.specs.Served.{served}
 use Rattle.world_many.specs.Lists.{AllIssued, AreMade, AreApart, AreMatched}
 
 -- ---- the network
@@ -128,11 +129,13 @@ NoEnds (Settled id mech names ends at ∷ h) = NoEnds h
 NoEnds (Call id seq procedure args ∷ h) = NoEnds h
 NoEnds (Ended id cause ∷ h) = ⊥
 
--- a run of honest initiators, of each mechanism, whose records are carried as they are, in whatever
--- order; no context ends in it, and the log isn't longer than a memory can be
+-- a run of honest initiators of the program of posts, of each mechanism, whose records are carried
+-- as they are, in whatever order; no context ends in it, and the log isn't longer than a memory can
+-- be
 pub record IsCarriedRun (plans : List Plan) (now : ℕ) (old : World) (events : List WorldEvent)
     (new : World) (run : Run old events new) : Type 0 where
   pub begins : Begins old
+  pub serves : old.serves ≡ served
   pub honest : AreHonest old now plans
   pub carries : Carries now (lines_of plans) old events new run
   pub lasting : NoEnds new.book.core.history

@@ -14,6 +14,7 @@ use Rattle.world_laws.specs.declared.event.WorldEvent.TheVariants.{Start, Delive
 use Rattle.world_laws.specs.Stages.{StageSays, Ready, Asks, Stands, Left, Over}
 use Rattle.world_laws.specs.Events.{IsBook, IsProper}
 use Rattle.world_laws.specs.Initiators.{Moved}
+use Rattle.world_runs.specs.Served.{served}
 use Rattle.world_runs.specs.Passing.{started_from, taken_from, called_from, of_stage, Turns}
 use Rattle.world_runs.specs.Parting.{Passes}
 use Rattle.world_laws.specs.Setups.{IsSetup}
@@ -163,7 +164,7 @@ pub record Stepped (event : WorldEvent) (answer : Option Happened) (old new : Wo
   pub world : IsWorld new
   pub steps : Steps event answer (shown_by old) (shown_by new)
 
-pub stepped : Below → PlainLaw → PlainCreation → (event : WorldEvent) (answer : Option Happened) (facts : List PlainSetup) (old new : PartsMeans) (before after : List WorldEvent) → IsProper event
+pub stepped : Below → PlainLaw → PlainCreation → (event : WorldEvent) (answer : Option Happened) (facts : List PlainSetup) (old new : PartsMeans) (before after : List WorldEvent) → IsProper served event
     → ((b : BookOf) → old.desk.book ≡ Some b → IsBook b) → IsWorld (world-with facts old before) → PassesBy event answer old new → after ≡ before ++ event ∷ []
     → Stepped event answer (world-with facts old before) (world-with facts new after)
 stepped laws law creation event answer facts old new before after proper legal is passes more =

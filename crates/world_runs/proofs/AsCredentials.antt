@@ -19,7 +19,8 @@ use Rattle.gss_client.specs.Session.{SessionState, xid_after}
 use Rattle.gss_client.specs.Talk.{begun}
 use Rattle.world_laws.specs.declared.event.Happened.TheVariants.{Sent, Completed}
 use Rattle.world_laws.specs.Stages.{StageSays, Ready, Asks, Stands, Left, Over}
-use Rattle.world_laws.specs.Initiators.{own_terms, Moved, starts, started_by, takes, created_by}
+use Rattle.world_laws.specs.Initiators.{Moved, starts, started_by, takes, created_by}
+use Rattle.world_runs.specs.Served.{served, own_terms}
 use Rattle.world_runs.specs.Passing.{started_from, taken_from, called_with, called_from}
 use Rattle.world_runs.specs.Objects.{StageMeans, StageAs, may_go, plain_asks, plain_stage}
 use Rattle.world_runs.specs.Objects as objects
@@ -41,7 +42,7 @@ MoveAs None (Some plain) = ⊥
 MoveAs (Some moved) None = ⊥
 MoveAs (Some moved) (Some plain) = MovedAs moved plain
 
-starting : (r : Result (EndMeans × List ℕ) NegRefusal) (p : Result Started NegRefusal) → StartsAs r (sent_of p) → MovedAs (moves.started_by r) (started_by p)
+starting : (r : Result (EndMeans × List ℕ) NegRefusal) (p : Result Started NegRefusal) → StartsAs r (sent_of p) → MovedAs (moves.started_by r) (started_by served p)
 starting (Ok started) (Ok plain) both = record {
   stage = record { end = started.0; stage_is = refl; stands = both.0 };
   lost = refl;
@@ -51,7 +52,7 @@ starting (Ok started) (Err refusal) never = absurd never
 starting (Err refusal) (Ok plain) never = absurd never
 starting (Err refusal) (Err plain) same = record { stage = refl; lost = refl; answer = refl }
 
-taking : (first xid : ℕ) (end : EndSays) (octets : List ℕ) (r : Result CreatedMeans ClientRefusal) (p : Result CreatedSays ClientRefusal) → CreatesAs r p → MovedAs (moves.created_by first xid r) (created_by first xid end octets p)
+taking : (first xid : ℕ) (end : EndSays) (octets : List ℕ) (r : Result CreatedMeans ClientRefusal) (p : Result CreatedSays ClientRefusal) → CreatesAs r p → MovedAs (moves.created_by first xid r) (created_by served first xid end octets p)
 taking first xid end octets (Ok (created.Going offer)) (Ok (created.Going plain)) both = record {
   stage = record { end = offer.end; stage_is = refl; stands = both.0 };
   lost = refl;
@@ -78,7 +79,7 @@ calling false false s procedure args = tt
 -- ---- by where the initiator is
 
 pub started-as : PlainLaw → (stage : StageMeans) (plain : StageSays) → StageAs stage plain → MoveAs (moves.started_from stage) (started_from plain)
-started-as law stage (Ready own) alike = subst (λ (s : StageMeans). MoveAs (moves.started_from s) (Some (starts own))) (sym alike) (starting (end_start (objects_of own)) (init_start own) (law.starts own))
+started-as law stage (Ready own) alike = subst (λ (s : StageMeans). MoveAs (moves.started_from s) (Some (starts served own))) (sym alike) (starting (end_start (objects_of own)) (init_start own) (law.starts own))
 started-as law stage (Asks xid end) alike = subst (λ (s : StageMeans). MoveAs (moves.started_from s) None) (sym alike.stage_is) tt
 started-as law stage (Stands session) alike = subst (λ (s : StageMeans). MoveAs (moves.started_from s) None) (sym alike) tt
 started-as law stage (Left session) alike = subst (λ (s : StageMeans). MoveAs (moves.started_from s) None) (sym alike) tt
@@ -86,7 +87,7 @@ started-as law stage Over alike = subst (λ (s : StageMeans). MoveAs (moves.star
 
 pub taken-as : PlainCreation → (first : ℕ) (octets : List ℕ) (stage : StageMeans) (plain : StageSays) → StageAs stage plain → MoveAs (moves.taken_from first octets stage) (taken_from first octets plain)
 taken-as law first octets stage (Ready own) alike = subst (λ (s : StageMeans). MoveAs (moves.taken_from first octets s) None) (sym alike) tt
-taken-as law first octets stage (Asks xid end) alike = subst (λ (s : StageMeans). MoveAs (moves.taken_from first octets s) (Some (takes first xid end octets))) (sym alike.stage_is)
+taken-as law first octets stage (Asks xid end) alike = subst (λ (s : StageMeans). MoveAs (moves.taken_from first octets s) (Some (takes served first xid end octets))) (sym alike.stage_is)
     (taking first xid end octets (creation_by end_step alike.end xid octets) (creation_step end xid octets) (law.replies alike.end end xid octets alike.stands))
 taken-as law first octets stage (Stands session) alike = subst (λ (s : StageMeans). MoveAs (moves.taken_from first octets s) None) (sym alike) tt
 taken-as law first octets stage (Left session) alike = subst (λ (s : StageMeans). MoveAs (moves.taken_from first octets s) None) (sym alike) tt

@@ -1,7 +1,8 @@
 mod Promising
 pub mod Wanting
 pub mod LaneTurns
-pub mod RulingTurns
+pub mod PostsApart
+mod RulingTurns
 pub mod Turns
 mod MetTokens
 mod MetTexts

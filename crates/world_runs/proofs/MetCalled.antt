@@ -20,6 +20,7 @@ use Rattle.context_table.specs.declared.slot.SlotState.TheVariants as states
 use Rattle.context_table.specs.Slots.{HasState}
 use Rattle.context_table.specs.Places.{Places, slot_at, HasValue}
 use Rattle.accept_core.specs.declared.answer.LookRefusal.{LookRefusal}
+use Rattle.accept_book.specs.declared.book_answer.Admitted.{Admitted}
 use Rattle.accept_book.specs.declared.book_answer.Lease.{Lease}
 use Rattle.accept_core.specs.declared.entry.Entry.{Entry}
 use Rattle.accept_core.specs.declared.entry.Entry.TheVariants.{Call}
@@ -29,11 +30,14 @@ use Rattle.accept_book.specs.BookLaws.{Lasting, fixed_state}
 use Rattle.accept_core.specs.History.{Standing, Whole, standing, numbers, is_whole}
 use Rattle.accept_book.specs.Honest.{Honest, HonestLaw, caller_of}
 use Rattle.accept_book.specs.Looking.{IsLooked}
-use Rattle.accept_book.specs.RecordShown.{Question, Negotiate, Look, Admit, End, Asked, AskedStep, AskedLook, AskedAdmit, AskedEnd, handle_id}
-use Rattle.accept_book.specs.Served.{are_args}
+use Rattle.accept_book.specs.RecordShown.{Question, Negotiate, Look, Admit, End, Asked, AskedStep, AskedLook, AskedAdmit, AskedEnd, booked, handle_id}
+use Rattle.posts_program.specs.Posts.{are_args}
 use Rattle.accept_core.specs.Stepping.{context_of}
 use Rattle.gss_client.specs.Session.{SessionState, session_after}
 use Rattle.gss_server.specs.Asking.{BookAnswers}
+use Rattle.rpcsec_bodies.specs.declared.service.Service.{Service}
+use Rattle.rpcsec_bodies.specs.Service.{service_of}
+use Rattle.rpc_program.specs.Programs.{ProgramSays, Serving}
 use Rattle.world_laws.specs.declared.event.Happened.{Happened}
 use Rattle.world_laws.specs.declared.event.Happened.TheVariants.{Sent}
 use Rattle.world_laws.specs.declared.event.WorldEvent.TheVariants.{Lane, CallBy}
@@ -42,9 +46,10 @@ use Rattle.world_laws.specs.Stages as stages
 use Rattle.world_laws.specs.Deeds.{Deed}
 use Rattle.world_laws.specs.State.{InHand, Context, World, moved_to}
 use Rattle.world_laws.specs.Events.{Moves, CallsBy, LanesBy, Happens}
-use Rattle.world_laws.specs.Headline.{Arrives, IsTaken}
+use Rattle.world_laws.specs.Headline.{Arrives, IsEnded, IsTaken}
 use Rattle.world_laws.specs.Initiators.{calls, call_makings}
-use Rattle.world_laws.specs.Lanes.{told_width, question_of, ruling_of, hand_after, found_by, makes_by, opened_by, fixes_by, secure_call_in, made_for_call, with_lane, if_answered, Follows, LaneMoves}
+use Rattle.world_laws.specs.Lanes.{question_of, ruling_of, hand_after, found_by, makes_by, opened_by, fixes_by, secure_call_in, made_for_call, with_lane, if_answered, Follows, LaneMoves}
+use Rattle.world_runs.specs.Served.{served}
 use Rattle.world_runs.specs.Meeting.{Rests}
 use Rattle.world_laws.proofs.Arriving.{arrival}
 use Rattle.world_laws.proofs.Invariants.{Held}
@@ -123,6 +128,7 @@ hand_of c looked = record { octets = octets_of c; kept = record { now = c.now; d
 -- the world after it: with this book, and this lease in hand
 abbrev pub looked_world : Calling → BookOf → Lease → World
 looked_world c book lease = record {
+  serves = c.w.serves;
   facts = c.w.facts;
   stages = slice_set c.w.stages 0 (stages.Stands (session_after (session c)));
   book = book;
@@ -181,52 +187,59 @@ keyed (Some slot) outcome until v = by slot.state refl v.0
 
 -- the question
 
-record IsLook (id now : ℕ) (asked : Asked) : Type 0 where
+record IsLook (id now : ℕ) (asked : Asked Admitted) : Type 0 where
   answer : Result Lease LookRefusal
   is : asked ≡ AskedLook id now answer
 
 same-question : (a b : Question) → Some a ≡ Some b → a ≡ b
 same-question a b e = cc
 
-abbrev look_asked : Result Lease LookRefusal → Question → Asked
+abbrev look_asked : Result Lease LookRefusal → Question → Asked Admitted
 look_asked answer (Look id now) = AskedLook id now answer
 look_asked answer (Negotiate id token now draws) = AskedLook 0 0 answer
-look_asked answer (Admit lease seq procedure args) = AskedLook 0 0 answer
+look_asked answer (Admit lease seq service procedure args) = AskedLook 0 0 answer
 look_asked answer (End lease seq) = AskedLook 0 0 answer
 
-look-of : (id now : ℕ) (asked : Asked) → Some (question_of asked) ≡ Some (Look id now) → IsLook id now asked
+look-of : (id now : ℕ) (asked : Asked Admitted) → Some (question_of asked) ≡ Some (Look id now) → IsLook id now asked
 look-of id now (AskedStep i token n draws answer) e = absurd cc
 look-of id now (AskedLook i n answer) e = record { answer = answer; is = ap (look_asked answer) (same-question (Look i n) (Look id now) e) }
-look-of id now (AskedAdmit lease seq procedure args answer) e = absurd cc
+look-of id now (AskedAdmit lease seq service procedure args answer) e = absurd cc
 look-of id now (AskedEnd lease seq answer) e = absurd cc
 
-due-look : (c : Calling) → (ruling_of (hand_of c None)).due ≡ Some (Look c.context.id c.now)
-due-look c = (known c).looks (hand_of c None).kept told_width refl
+due-look : (c : Calling) → (ruling_of c.w.serves (hand_of c None)).due ≡ Some (Look c.context.id c.now)
+due-look c = subst (λ (s : Serving). (ruling_of s (hand_of c None)).due ≡ Some (Look c.context.id c.now)) (sym c.rests.serves) ((known c).looks (hand_of c None).kept served refl)
 
 -- what the rule says of the record, by a lease that was shown
 record Shows (c : Calling) (lease : Lease) : Type 0 where
   id_is : lease.id ≡ c.context.id
   outcome_is : lease.outcome ≡ c.outcome
-  honest : Honest (octets_of c) (caller_of lease) 1 c.procedure c.args
+  honest : Honest c.w.serves.program (octets_of c) (caller_of lease) 1 c.procedure c.args
   handle : handle_id honest.cred.context ≡ Some lease.id
+
+-- the record is an honest call to a program, of a context with this outcome
+record HonestBy (program : ProgramSays) (c : Calling) (o : Outcome) : Type 0 where
+  honest : Honest program (octets_of c) (token_end o Initiator) 1 c.procedure c.args
+  handle : handle_id honest.cred.context ≡ Some c.context.id
 
 shows : (c : Calling) (lease : Lease) → lease.id ≡ c.context.id → lease.outcome ≡ c.outcome → Shows c lease
 shows c lease id same =
-    let both : (h : Honest (octets_of c) (token_end lease.outcome Initiator) 1 c.procedure c.args) × (handle_id h.cred.context ≡ Some c.context.id) =
-    subst (λ (o : Outcome). (h : Honest (octets_of c) (token_end o Initiator) 1 c.procedure c.args) × (handle_id h.cred.context ≡ Some c.context.id)) (sym same) ((known c).honest, (known c).handle) in
-    record { id_is = id; outcome_is = same; honest = both.0; handle = both.1 ∙ ap Some (sym id) }
+    let ours : HonestBy c.w.serves.program c c.outcome = subst (λ (s : Serving). HonestBy s.program c c.outcome) (sym c.rests.serves) (record { honest = (known c).honest; handle = (known c).handle }) in
+    let both : HonestBy c.w.serves.program c lease.outcome = subst (HonestBy c.w.serves.program c) (sym same) ours in
+    record { id_is = id; outcome_is = same; honest = both.honest; handle = both.handle ∙ ap Some (sym id) }
 
-due-admit : (c : Calling) (lease : Lease) → (s : Shows c lease) → (ruling_of (hand_of c (Some (Ok lease)))).due ≡ Some (Admit lease 1 c.procedure (sha1 c.args))
-due-admit c lease s = (c.law lease (ap (λ (o : Outcome). o.key) s.outcome_is) (octets_of c) (hand_of c (Some (Ok lease))).kept told_width 1 c.procedure c.args s.honest lease.id s.handle refl).due refl
+due-admit : (c : Calling) (lease : Lease) → (s : Shows c lease) → (ruling_of c.w.serves (hand_of c (Some (Ok lease)))).due ≡ Some (Admit lease 1 (service_of s.honest.cred.service) c.procedure c.args)
+due-admit c lease s = (c.law lease (ap (λ (o : Outcome). o.key) s.outcome_is) (octets_of c) (hand_of c (Some (Ok lease))).kept c.w.serves 1 c.procedure c.args s.honest lease.id s.handle refl).due refl
 
 -- it is left in hand
-left-in : (c : Calling) (lease : Lease) (happened : Happened) (answer : Option Happened) (left : Option InHand) → Shows c lease → answer ≡ Some happened → Follows (hand_of c (Some (Ok lease))) answer left → left ≡ Some (hand_of c (Some (Ok lease)))
+left-in : (c : Calling) (lease : Lease) (happened : Happened) (answer : Option Happened) (left : Option InHand) → Shows c lease → answer ≡ Some happened → Follows c.w.serves (hand_of c (Some (Ok lease))) answer left → left ≡ Some (hand_of c (Some (Ok lease)))
 left-in c lease happened answer left s some (inl more) = more.3
 left-in c lease happened answer left s some (inr decided) =
-    absurd (none-some happened (sym (unanswered (ruling_of (hand_of c (Some (Ok lease)))) answer (undecided (octets_of c) (hand_of c (Some (Ok lease))).kept told_width (Admit lease 1 c.procedure (sha1 c.args)) (due-admit c lease s)) decided.0) ∙ some))
+    absurd (none-some happened (sym (unanswered (ruling_of c.w.serves (hand_of c (Some (Ok lease)))) answer
+    (undecided (octets_of c) (hand_of c (Some (Ok lease))).kept c.w.serves (Admit lease 1 (service_of s.honest.cred.service) c.procedure c.args) (due-admit c lease s)) decided.0) ∙ some))
 
 world-with : (c : Calling) (book : BookOf) (lease : Lease) (left : Option InHand) (deed : Deed) → left ≡ Some (hand_of c (Some (Ok lease))) → deed.fixes ≡ None → deed.makes ≡ [] → with_lane (sent_world c) 0 left book deed ≡ looked_world c book lease
 world-with c book lease left deed l f m = λ i. record {
+  serves = c.w.serves;
   facts = c.w.facts;
   stages = slice_set c.w.stages 0 (stages.Stands (session_after (session c)));
   book = book;
@@ -236,7 +249,7 @@ world-with c book lease left deed l f m = λ i. record {
 }
 
 answered-look : (c : Calling) (happened : Happened) (deed : Deed) (new : World) (left : Option InHand) (answer : Result Lease LookRefusal) → deed.answer ≡ Some happened → BookLooked c.w.book new.book c.context.id c.now answer
-    → Follows (hand_of c (Some answer)) deed.answer left → deed.found ≡ [] → deed.opened ≡ None → deed.fixes ≡ None → deed.makes ≡ [] → new ≡ with_lane (sent_world c) 0 left new.book deed → Looks c deed new
+    → Follows c.w.serves (hand_of c (Some answer)) deed.answer left → deed.found ≡ [] → deed.opened ≡ None → deed.fixes ≡ None → deed.makes ≡ [] → new ≡ with_lane (sent_world c) 0 left new.book deed → Looks c deed new
 answered-look c happened deed new left (Err refusal) some b follows found opened fixes makes new_is =
     let a : LeasedBy (Whole c.outcome.mech (names_of c.outcome) c.context.fixed.lasts) c.context.id c.now (Err refusal) = subst (λ (s : Standing). LeasedBy s c.context.id c.now (Err refusal)) c.rests.whole b.answer in
     absurd (omega (arith, a.0, c.timely))
@@ -260,16 +273,16 @@ answered-look c happened deed new left (Ok lease) some b follows found opened fi
 
 looks-by : (c : Calling) (happened : Happened) (deed : Deed) (new : World) → deed.answer ≡ Some happened → LaneMoves (sent_world c) 0 (hand_of c None) deed new → Looks c deed new
 looks-by c happened deed new some (inl o) =
-    absurd (none-some happened (sym (unanswered (ruling_of (hand_of c None)) deed.answer (undecided (octets_of c) (hand_of c None).kept told_width (Look c.context.id c.now) (due-look c)) o.answer) ∙ some))
+    absurd (none-some happened (sym (unanswered (ruling_of c.w.serves (hand_of c None)) deed.answer (undecided (octets_of c) (hand_of c None).kept c.w.serves (Look c.context.id c.now) (due-look c)) o.answer) ∙ some))
 looks-by c happened deed new some (inr q) = by (look-of c.context.id c.now q.asked (sym q.due ∙ due-look c))
   where
     by : IsLook c.context.id c.now q.asked → Looks c deed new
-    by k = answered-look c happened deed new q.left k.answer some (subst (λ (a : Asked). BookAnswers c.w.book a new.book) k.is q.answers)
-        (subst (λ (a : Asked). Follows (hand_after (hand_of c None) a) deed.answer q.left) k.is q.follows)
-        (subst (λ (a : Asked). deed.found ≡ found_by c.w.book q.past (hand_of c None) a) k.is q.found)
-        (subst (λ (a : Asked). deed.opened ≡ opened_by c.w.book a) k.is q.opened)
-        (subst (λ (a : Asked). deed.fixes ≡ fixes_by c.w.book q.past a) k.is q.fixes)
-        (subst (λ (a : Asked). deed.makes ≡ if_answered deed.answer (makes_by c.w.book q.past (hand_of c None) a)) k.is q.makes ∙ ap (λ (a : Option Happened). if_answered a []) some) q.new_is
+    by k = answered-look c happened deed new q.left k.answer some (subst (λ (a : Asked Admitted). BookAnswers c.w.book (booked a) new.book) k.is q.answers)
+        (subst (λ (a : Asked Admitted). Follows c.w.serves (hand_after (hand_of c None) a) deed.answer q.left) k.is q.follows)
+        (subst (λ (a : Asked Admitted). deed.found ≡ found_by c.w.book q.past (hand_of c None) a) k.is q.found)
+        (subst (λ (a : Asked Admitted). deed.opened ≡ opened_by c.w.book a) k.is q.opened)
+        (subst (λ (a : Asked Admitted). deed.fixes ≡ fixes_by c.w.book q.past a) k.is q.fixes)
+        (subst (λ (a : Asked Admitted). deed.makes ≡ if_answered deed.answer (makes_by c.w.book q.past (hand_of c None) a)) k.is q.makes ∙ ap (λ (a : Option Happened). if_answered a []) some) q.new_is
 
 pub looks : (c : Calling) (happened : Happened) (deed : Deed) (new : World) → Happens (sent_world c) (Lane 0 (octets_of c) c.now c.draws) deed new → deed.answer ≡ Some happened → Looks c deed new
 looks c happened deed new h some = looks-by c happened deed new some (subst (λ (hand : Option (Option InHand)). LanesBy (sent_world c) 0 (octets_of c) c.now c.draws hand deed new) c.rests.idle h.did)
@@ -279,8 +292,7 @@ looks c happened deed new h some = looks-by c happened deed new some (subst (λ 
 pub record Admits (c : Calling) (book : BookOf) (lease : Lease) (deed : Deed) (new : World) : Type 0 where
   pub made : (making : MechMaking) → AmongMakings deed.found making → AmongMakings (makings_of c) making
   pub opened : deed.opened ≡ None
-  pub reply : List ℕ
-  pub answered : deed.answer ≡ Some (Sent reply)
+  pub answered : IsEnded deed.answer
   pub logged : new.book.core.history ≡ Call c.context.id 1 c.procedure (sha1 c.args) ∷ c.w.book.core.history
   pub makes : List Making
   pub facts : new.facts ≡ c.w.facts
@@ -329,24 +341,24 @@ record Finds (c : Calling) (found : List MechMaking) (makes : List MechMaking) (
 abbrev lease_in : Lease → Question → Lease
 lease_in other (Negotiate id token now draws) = other
 lease_in other (Look id now) = other
-lease_in other (Admit lease seq procedure args) = lease
+lease_in other (Admit lease seq service procedure args) = lease
 lease_in other (End lease seq) = other
 
-finds : (c : Calling) (book : BookOf) (past : Option ℕ) (lease : Lease) (digest : List ℕ) (asked : Asked) → lease.outcome ≡ c.outcome → Some (question_of asked) ≡ Some (Admit lease 1 c.procedure digest)
+finds : (c : Calling) (book : BookOf) (past : Option ℕ) (lease : Lease) (service : Service) (args : List ℕ) (asked : Asked Admitted) → lease.outcome ≡ c.outcome → Some (question_of asked) ≡ Some (Admit lease 1 service c.procedure args)
     → Finds c (found_by book past (hand_of c (Some (Ok lease))) asked) (makes_by book past (hand_of c (Some (Ok lease))) asked) (is_some (opened_by book asked)) (is_some (fixes_by book past asked))
-finds c book past lease digest (AskedStep i token n draws answer) same e = absurd cc
-finds c book past lease digest (AskedLook i n answer) same e = absurd cc
-finds c book past lease digest (AskedAdmit l seq p ds (Ok admitted)) same e =
-    let is : l ≡ lease = ap (lease_in lease) (same-question (Admit l seq p ds) (Admit lease 1 c.procedure digest) e) in
+finds c book past lease service args (AskedStep i token n draws answer) same e = absurd cc
+finds c book past lease service args (AskedLook i n answer) same e = absurd cc
+finds c book past lease service args (AskedAdmit l seq v p ds (Ok admitted)) same e =
+    let is : l ≡ lease = ap (lease_in lease) (same-question (Admit l seq v p ds) (Admit lease 1 service c.procedure args) e) in
     record {
       made = (known c).found l (ap (λ (x : Lease). x.outcome) is ∙ same);
-      makings = made_for_call l admitted.posts (secure_call_in (octets_of c));
+      makings = made_for_call l admitted.outcome (secure_call_in (octets_of c));
       makes_is = refl;
       opens_none = refl;
       fixes_none = refl;
     }
-finds c book past lease digest (AskedAdmit l seq p ds (Err refusal)) same e = record { made = λ making among. absurd among; makings = []; makes_is = refl; opens_none = refl; fixes_none = refl }
-finds c book past lease digest (AskedEnd l seq answer) same e = absurd cc
+finds c book past lease service args (AskedAdmit l seq v p ds (Err refusal)) same e = record { made = λ making among. absurd among; makings = []; makes_is = refl; opens_none = refl; fixes_none = refl }
+finds c book past lease service args (AskedEnd l seq answer) same e = absurd cc
 
 is-none : {A : Type 0} (x : Option A) → is_some x ≡ false → x ≡ None
 is-none None e = refl
@@ -364,15 +376,17 @@ append-none (x ∷ xs) = ap (λ ys. x ∷ ys) (append-none xs)
 admits-by : (c : Calling) (happened : Happened) (deed before : Deed) (old new : World) (l : Looks c before old) → deed.answer ≡ Some happened → IsTaken (looked_world c l.book l.lease) deed new l.lease 1 c.procedure c.args
     → LaneMoves (looked_world c l.book l.lease) 0 (hand_of c (Some (Ok l.lease))) deed new → Admits c l.book l.lease deed new
 admits-by c happened deed before old new l some t (inl o) =
-    absurd (none-some happened (sym (unanswered (ruling_of (hand_of c (Some (Ok l.lease)))) deed.answer (undecided (octets_of c) (hand_of c (Some (Ok l.lease))).kept told_width (Admit l.lease 1 c.procedure (sha1 c.args)) (due-admit c l.lease (shows c l.lease l.id_is l.outcome_is))) o.answer) ∙ some))
+    let s = shows c l.lease l.id_is l.outcome_is in
+    absurd (none-some happened (sym (unanswered (ruling_of c.w.serves (hand_of c (Some (Ok l.lease)))) deed.answer
+    (undecided (octets_of c) (hand_of c (Some (Ok l.lease))).kept c.w.serves (Admit l.lease 1 (service_of s.honest.cred.service) c.procedure c.args) (due-admit c l.lease s)) o.answer) ∙ some))
 admits-by c happened deed before old new l some t (inr q) =
-    let f = finds c l.book q.past l.lease (sha1 c.args) q.asked l.outcome_is (sym q.due ∙ due-admit c l.lease (shows c l.lease l.id_is l.outcome_is)) in
+    let s = shows c l.lease l.id_is l.outcome_is in
+    let f = finds c l.book q.past l.lease (service_of s.honest.cred.service) c.args q.asked l.outcome_is (sym q.due ∙ due-admit c l.lease s) in
     let fixes : deed.fixes ≡ None = q.fixes ∙ is-none (fixes_by l.book q.past q.asked) f.fixes_none in
     let all = answered-makes deed.answer (makes_by l.book q.past (hand_of c (Some (Ok l.lease))) q.asked) f.makings f.makes_is in
     record {
       made = λ making among. f.made making (subst (λ (ms : List MechMaking). AmongMakings ms making) q.found among);
       opened = q.opened ∙ is-none (opened_by l.book q.asked) f.opens_none;
-      reply = t.reply;
       answered = t.answered;
       logged = t.logged ∙ (λ i. Call (l.id_is i) 1 c.procedure (sha1 c.args) ∷ l.looked.history i);
       makes = all.0;

@@ -29,7 +29,11 @@ use Rattle.accept_book.specs.Honest.{Honest, data_header, made_call}
 use Rattle.accept_book.specs.RecordRule.{record_ruling, call_ruling, ask_look, id_ruling}
 use Rattle.accept_core.specs.declared.answer.LookRefusal.{LookRefusal}
 use Rattle.accept_book.specs.RecordShown.{KeptAnswers, Look, Ruling, Shown, handle_of, handle_id}
-use Rattle.accept_book.specs.Served.{are_args}
+use Rattle.posts_program.specs.Posts.{are_args}
+use Rattle.std.specs.Prelude.{if◌then◌else◌}
+use Rattle.std.proofs.lemmas.Bool.{lt-ltb}
+use Rattle.rpcsec_bodies.specs.Service.{number_of}
+use Rattle.rpcsec_bodies.specs.declared.service.Service.TheVariants as services
 use Rattle.accept_book.proofs.HonestMakings.{mic-made}
 use Rattle.rpcsec_bodies.proofs.Lengths.{mic-size}
 use Rattle.rpcsec_bodies.specs.Protection.{protected}
@@ -37,8 +41,10 @@ use Rattle.gss_client.specs.Calling.{header_of, verifier_of, signed_call, data_c
 use Rattle.gss_client.specs.Session.{SessionState}
 use Rattle.gss_client.specs.Talk.{begun}
 use Rattle.gss_client.proofs.CallLengths.{cred-fits}
-use Rattle.world_laws.specs.Initiators.{own_terms, header_making, call_makings}
+use Rattle.world_laws.specs.Initiators.{header_making, call_makings}
+use Rattle.rpc_program.specs.Programs.{Serving}
 use Rattle.world_laws.specs.Lanes.{found_in_checked, secure_call_in, found_in_header, found_in_body, found_in_call}
+use Rattle.world_runs.specs.Served.{served, own_terms}
 
 -- a call of a session, which has this outcome and this context's handle
 pub record Made : Type 0 where
@@ -69,7 +75,7 @@ abbrev pub cred_with : Made → CredValue
 cred_with m = record { proc = 0; seq = m.number; service = 2; context = handle_of m.id }
 
 abbrev pub header_with : Made → List ℕ
-header_with m = data_header m.xid m.procedure (cred_with m)
+header_with m = data_header served.program.id m.xid m.procedure (cred_with m)
 
 abbrev pub numbered_args : Made → List ℕ
 numbered_args m = word m.number ++ m.args
@@ -84,10 +90,10 @@ abbrev pub body_with : Made → List ℕ
 body_with m = checked_octets (numbered_args m) (body_mic m)
 
 abbrev pub value_with : Made → CallValue
-value_with m = secure_call m.xid 0x20004753 1 m.procedure (cred_octets (cred_with m)) (record { flavour = 6; body = verifier_with m }) (body_with m)
+value_with m = secure_call m.xid served.program.id.number served.program.id.version m.procedure (cred_octets (cred_with m)) (record { flavour = 6; body = verifier_with m }) (body_with m)
 
 abbrev pub octets_with : Made → List ℕ
-octets_with m = made_call (own_end m) (2 * m.number) m.xid m.procedure (cred_with m) (body_with m)
+octets_with m = made_call served.program.id (own_end m) (2 * m.number) m.xid m.procedure (cred_with m) (body_with m)
 
 is-made : (m : Made) → record_of m ≡ octets_with m
 unfolding data_call signed_call verifier_of header_of protected
@@ -118,8 +124,13 @@ seam m = take-append_seam (header_with m) (auth_octets (record { flavour = 6; bo
 pub long-args : (m : Made) → length (numbered_args m) ≤ 65544
 long-args m = omega (arith, length-append (word m.number) m.args, length-word m.number, m.size)
 
+-- integrity is what a procedure needs at most
+pub allowed-is : (b : Bool) → number_of (if b then services.None else services.Integrity) ≤ 2
+allowed-is true = omega arith
+allowed-is false = omega arith
+
 -- it is an honest call of its context
-abbrev pub honest : (m : Made) → Honest (octets_with m) (own_end m) m.number m.procedure m.args
+abbrev pub honest : (m : Made) → Honest served.program (octets_with m) (own_end m) m.number m.procedure m.args
 honest m = record {
   call = value_with m;
   cred = cred_with m;
@@ -129,11 +140,11 @@ honest m = record {
   is_data = refl;
   number = refl;
   few = omega (arith, m.few);
-  program = refl;
-  version = refl;
+  number_called = refl;
+  version_called = refl;
   called = refl;
-  served = m.served;
-  allowed = λ e. absurd (omega (arith, e));
+  served = lt-ltb m.procedure 5 (omega (arith, m.served));
+  allowed = allowed-is (m.procedure == 0);
   secured = refl;
   verifier = subst (λ (zs : List ℕ). IsMicOf (own_end m) zs (verifier_with m)) (sym (seam m)) (mic-made (own_end m) (2 * m.number) (header_with m) (omega (arith, m.few)));
   body = inr (inl (refl, record { tag = body_mic m; mic = mic-made (own_end m) (2 * m.number + 1) (numbered_args m) (omega (arith, m.few)); long = omega (arith, long-args m); spelled = refl }));
@@ -143,13 +154,13 @@ honest m = record {
 pub handle-is : (m : Made) → handle_id (cred_with m).context ≡ Some m.id
 handle-is m = ap Some (from_be_bytes-to_be_bytes_8 m.id m.id_fits)
 
-abbrev pub shown_with : Made → KeptAnswers → ℕ → Shown
-shown_with m kept width = record { record_octets = octets_with m; call = value_with m; now = kept.now; draws = kept.draws; width = width }
+abbrev pub shown_with : Made → KeptAnswers → Serving → Shown
+shown_with m kept serves = record { record_octets = octets_with m; call = value_with m; now = kept.now; draws = kept.draws; serves = serves }
 
 -- it asks for its context first
-pub asks-look : (m : Made) (kept : KeptAnswers) (width : ℕ) → record_ruling (octets_with m) kept width ≡ ask_look (shown_with m kept width) (cred_with m) m.id kept.admitted kept.ended kept.looked
+pub asks-look : (m : Made) (kept : KeptAnswers) (serves : Serving) → record_ruling (octets_with m) kept serves ≡ ask_look (shown_with m kept serves) (cred_with m) m.id kept.admitted kept.ended kept.looked
 unfolding record_ruling call_ruling
-asks-look m kept width = rw (call-is m) (rw (cred-is m) (ap (id_ruling (shown_with m kept width) (cred_with m) kept.looked kept.admitted kept.ended) (handle-is m)))
+asks-look m kept serves = rw (call-is m) (rw (cred-is m) (ap (id_ruling (shown_with m kept serves) (cred_with m) kept.looked kept.admitted kept.ended) (handle-is m)))
 
 -- ---- what is found verified in it
 
@@ -207,14 +218,14 @@ both-made m making (inr (inr none)) = absurd none
 
 -- what is known of a record of a call, by a lease of its context
 pub record IsRecord (m : Made) (octets : List ℕ) : Type 0 where
-  pub honest : Honest octets (own_end m) m.number m.procedure m.args
+  pub honest : Honest served.program octets (own_end m) m.number m.procedure m.args
   pub handle : handle_id honest.cred.context ≡ Some m.id
-  pub looks : (kept : KeptAnswers) (width : ℕ) → kept.looked ≡ None → (record_ruling octets kept width).due ≡ Some (Look m.id kept.now)
+  pub looks : (kept : KeptAnswers) (serves : Serving) → kept.looked ≡ None → (record_ruling octets kept serves).due ≡ Some (Look m.id kept.now)
   pub found : (lease : Lease) → lease.outcome ≡ m.outcome → (making : MechMaking) → AmongMakings (map typed (found_in_call lease octets (secure_call_in octets))) making → AmongMakings (map typed (call_makings (session_of m) m.procedure m.args)) making
 
-looks-first : (m : Made) (kept : KeptAnswers) (width : ℕ) → kept.looked ≡ None → (record_ruling (octets_with m) kept width).due ≡ Some (Look m.id kept.now)
-looks-first m kept width none =
-    ap (λ (r : Ruling). r.due) (asks-look m kept width) ∙ ap (λ (l : Option (Result Lease LookRefusal)). (ask_look (shown_with m kept width) (cred_with m) m.id kept.admitted kept.ended l).due) none
+looks-first : (m : Made) (kept : KeptAnswers) (serves : Serving) → kept.looked ≡ None → (record_ruling (octets_with m) kept serves).due ≡ Some (Look m.id kept.now)
+looks-first m kept serves none =
+    ap (λ (r : Ruling). r.due) (asks-look m kept serves) ∙ ap (λ (l : Option (Result Lease LookRefusal)). (ask_look (shown_with m kept serves) (cred_with m) m.id kept.admitted kept.ended l).due) none
 
 pub is-record : (m : Made) → IsRecord m (record_of m)
 is-record m = subst (IsRecord m) (sym (is-made m)) (record {

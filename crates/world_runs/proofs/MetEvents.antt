@@ -30,6 +30,7 @@ use Rattle.spnego_core.specs.Initiating.{Started, Initiated, init_start, step_of
 use Rattle.spnego_core.specs.Outcome.{token_end}
 use Rattle.context_table.specs.Places.{slot_at, live_of}
 use Rattle.accept_core.specs.declared.answer.MarkRefusal.{MarkRefusal}
+use Rattle.accept_book.specs.declared.book_answer.Admitted.{Admitted}
 use Rattle.accept_book.specs.declared.book_answer.NegAnswer.{NegAnswer}
 use Rattle.accept_book.specs.declared.book_answer.NegAnswer.TheVariants as answers
 use Rattle.accept_book.specs.declared.book_answer.Negotiated.{Negotiated}
@@ -40,7 +41,7 @@ use Rattle.accept_core.specs.Entering.{id_of, entered, mark_refused}
 use Rattle.accept_book.specs.Found.{step_taken, makes_of, found_of, fixes_of, end_before, stepped_from}
 use Rattle.accept_core.specs.History.{numbers, taken_of}
 use Rattle.accept_book.specs.RecordRule.{stepped, ask_step, record_ruling}
-use Rattle.accept_book.specs.RecordShown.{KeptAnswers, Question, Negotiate, Look, Admit, End, Asked, AskedStep, AskedLook, AskedAdmit, AskedEnd, Ruling, handle_of}
+use Rattle.accept_book.specs.RecordShown.{KeptAnswers, Question, Negotiate, Look, Admit, End, Asked, AskedStep, AskedLook, AskedAdmit, AskedEnd, booked, Ruling, handle_of}
 use Rattle.accept_core.specs.Aging.{in_use}
 use Rattle.accept_core.specs.declared.answer.Next.{Next}
 use Rattle.accept_core.specs.Stepping.{context_after, until_of, goes_by, IsNext}
@@ -53,6 +54,7 @@ use Rattle.gss_client.specs.Judging.{granted_in}
 use Rattle.gss_client.specs.Session.{SessionState, xid_after}
 use Rattle.gss_client.specs.Talk.{begun}
 use Rattle.gss_server.specs.Asking.{BookAnswers}
+use Rattle.pair_laws.specs.Answering.{Server}
 use Rattle.pair_laws.specs.HonestCalls.{IsToServer}
 use Rattle.pair_laws.proofs.Granting.{granted_with, grants, result_with, result_on, window_mic, granting, going, creation-stands, creation-goes}
 use Rattle.pair_laws.proofs.Ruling.{proc_for, handle_for, IsId, creation_shown, asks}
@@ -64,10 +66,11 @@ use Rattle.world_laws.specs.Stages.{StageSays}
 use Rattle.world_laws.specs.Stages as stages
 use Rattle.world_laws.specs.Deeds.{Deed}
 use Rattle.world_laws.specs.State.{InHand, Context, World}
-use Rattle.world_laws.specs.Initiators.{own_terms, started_by, starts, initiated_by, initiated_with, initiated, handed_out, verified, window_found, created_by, takes}
-use Rattle.world_laws.specs.Lanes.{told_width, question_of, ruling_of, hand_after, found_by, makes_by, opened_in, opened_by, request_of, context_with, unless_short, fixes_by, IsAnswer, with_lane, if_answered, Follows, LaneMoves}
+use Rattle.world_laws.specs.Initiators.{started_by, starts, initiated_by, initiated_with, initiated, handed_out, verified, window_found, created_by, takes}
+use Rattle.world_laws.specs.Lanes.{question_of, ruling_of, hand_after, found_by, makes_by, opened_in, opened_by, request_of, context_with, unless_short, fixes_by, IsAnswer, with_lane, if_answered, Follows, LaneMoves}
 use Rattle.world_laws.specs.Events.{Moves, LanesBy, Happens}
 use Rattle.world_laws.proofs.Due.{stepped-due}
+use Rattle.world_runs.specs.Served.{told_width, served, own_terms}
 use Rattle.world_runs.proofs.MetRounds.{Setting, setup_in, Heard, Took}
 use Rattle.world_laws.proofs.Slices.{set-same}
 use Rattle.world_laws.proofs.Undecided.{undecided, unanswered}
@@ -78,7 +81,7 @@ call_of xid id token = creation_call own_terms xid (proc_for id) (handle_for id)
 
 -- the world of the one initiator, which is at this stage; contexts have the id 1
 abbrev pub world_in : Setting → StageSays → BookOf → List (Option InHand) → List MechMaking → List Fixed → World
-world_in x stage book lanes made fixed = record { facts = x.own ∷ []; stages = stage ∷ []; book = book; lanes = lanes; fixed = map (context_with 1) fixed; makings = made }
+world_in x stage book lanes made fixed = record { serves = served; facts = x.own ∷ []; stages = stage ∷ []; book = book; lanes = lanes; fixed = map (context_with 1) fixed; makings = made }
 
 -- how the book stands before a turn, with so many draws left: it awaits a token for this end, and has room
 pub record Stays (x : Setting) (id : Option ℕ) (end : AcceptEnd) (left : ℕ) (book : BookOf) (lanes : List (Option InHand)) (fixed : List Fixed) : Type 0 where
@@ -132,11 +135,15 @@ hand_of c = record { octets = call_of c.xid c.id c.token; kept = kept_first c }
 abbrev question : Case → Question
 question c = Negotiate c.id c.token c.x.now (drawn_of c)
 
-to-server : IsToServer own_terms
-to-server = record { program = refl; version = refl }
+-- a server of that program: what it answers isn't looked at
+abbrev pub server : Server
+server = record { serving = served; results = λ name procedure args log. [] }
 
-due-is : (c : Case) → (ruling_of (hand_of c)).due ≡ Some (question c)
-due-is c = ap (λ (r : Ruling). r.due) (asks own_terms c.xid c.id c.token (kept_first c) told_width to-server c.xid_fits c.is_id c.short)
+to-server : IsToServer served.program own_terms
+to-server = record { number = refl; version = refl; fits = record { number = lit< tt; version = lit< tt } }
+
+due-is : (c : Case) → (ruling_of served (hand_of c)).due ≡ Some (question c)
+due-is c = ap (λ (r : Ruling). r.due) (asks own_terms c.xid c.id c.token (kept_first c) server to-server c.xid_fits c.is_id c.short)
 
 -- ---- the step that the book takes
 
@@ -235,7 +242,7 @@ settled-asks (accept_steps.WantsAuth pause) = gone pause.after
 abbrev kept_after : Case → Negotiated → KeptAnswers
 kept_after c answer = record { now = c.x.now; draws = c.draws; negotiated = Some answer; looked = None; admitted = None; ended = None }
 
-replies-so : (c : Case) (answer : Negotiated) (step : AcceptStep) → IsSettled step → (stepped (creation_shown own_terms c.xid c.id c.token (kept_after c answer) told_width) (answer_with 1 step)).reply ≡ Some (reply_to c.xid step)
+replies-so : (c : Case) (answer : Negotiated) (step : AcceptStep) → IsSettled step → (stepped (creation_shown own_terms c.xid c.id c.token (kept_after c answer) server) (answer_with 1 step)).reply ≡ Some (reply_to c.xid step)
 replies-so c answer (accept_steps.More end token) settled = refl
 replies-so c answer (accept_steps.Done outcome lasts token) settled = refl
 replies-so c answer (accept_steps.WantsAuth pause) settled = absurd settled
@@ -247,7 +254,7 @@ unless-with id (accept_steps.WantsAuth pause) found settled = absurd settled
 
 -- ---- the question and its answer
 
-record IsStep (c : Case) (asked : Asked) : Type 0 where
+record IsStep (c : Case) (asked : Asked Admitted) : Type 0 where
   answer : Negotiated
   is : asked ≡ AskedStep c.id c.token c.x.now (drawn_of c) answer
 
@@ -255,16 +262,16 @@ same-question : (a b : Question) → Some a ≡ Some b → a ≡ b
 same-question a b e = cc
 
 -- a question of a step, with this answer
-abbrev step_asked : Negotiated → Question → Asked
+abbrev step_asked : Negotiated → Question → Asked Admitted
 step_asked answer (Negotiate id token now draws) = AskedStep id token now draws answer
 step_asked answer (Look id now) = AskedStep None [] 0 [] answer
-step_asked answer (Admit lease seq procedure args) = AskedStep None [] 0 [] answer
+step_asked answer (Admit lease seq service procedure args) = AskedStep None [] 0 [] answer
 step_asked answer (End lease seq) = AskedStep None [] 0 [] answer
 
-step-asked : (c : Case) (asked : Asked) → Some (question_of asked) ≡ Some (question c) → IsStep c asked
+step-asked : (c : Case) (asked : Asked Admitted) → Some (question_of asked) ≡ Some (question c) → IsStep c asked
 step-asked c (AskedStep id token now draws answer) e = record { answer = answer; is = ap (step_asked answer) (same-question (Negotiate id token now draws) (question c) e) }
 step-asked c (AskedLook id now answer) e = absurd cc
-step-asked c (AskedAdmit lease seq procedure args answer) e = absurd cc
+step-asked c (AskedAdmit lease seq service procedure args answer) e = absurd cc
 step-asked c (AskedEnd lease seq answer) e = absurd cc
 
 pub record Answers (c : Case) (deed : Deed) (new : World) : Type 0 where
@@ -289,8 +296,8 @@ sent-by r octets e Refused is = absurd is
 sent-by r octets e Nothing is = absurd is
 
 after-is : (c : Case) (answer : Negotiated)
-    → record_ruling (call_of c.xid c.id c.token) (kept_after c answer) told_width ≡ ask_step (creation_shown own_terms c.xid c.id c.token (kept_after c answer) told_width) c.id c.token (Some answer)
-after-is c answer = asks own_terms c.xid c.id c.token (kept_after c answer) told_width to-server c.xid_fits c.is_id c.short
+    → record_ruling (call_of c.xid c.id c.token) (kept_after c answer) served ≡ ask_step (creation_shown own_terms c.xid c.id c.token (kept_after c answer) server) c.id c.token (Some answer)
+after-is c answer = asks own_terms c.xid c.id c.token (kept_after c answer) server to-server c.xid_fits c.is_id c.short
 
 -- what follows, by what the book answered
 record Said (c : Case) (answer : Negotiated) (happened : Happened) (left : Option InHand) : Type 0 where
@@ -298,17 +305,17 @@ record Said (c : Case) (answer : Negotiated) (happened : Happened) (left : Optio
   remembered : answer.answer ≢ answers.NoMemory
   sent : answer.answer ≡ answer_with 1 (step_in c) → happened ≡ Sent (reply_to c.xid (step_in c))
 
-said-by : (c : Case) (answer : Negotiated) (happened : Happened) (left : Option InHand) → Follows (record { octets = call_of c.xid c.id c.token; kept = kept_after c answer }) (Some happened) left → Said c answer happened left
+said-by : (c : Case) (answer : Negotiated) (happened : Happened) (left : Option InHand) → Follows served (record { octets = call_of c.xid c.id c.token; kept = kept_after c answer }) (Some happened) left → Said c answer happened left
 said-by c answer happened left (inl more) =
-    absurd (none-some more.0 (sym (stepped-due (creation_shown own_terms c.xid c.id c.token (kept_after c answer) told_width) answer.answer) ∙ (sym (ap (λ (r : Ruling). r.due) (after-is c answer)) ∙ more.1)))
+    absurd (none-some more.0 (sym (stepped-due (creation_shown own_terms c.xid c.id c.token (kept_after c answer) server) answer.answer) ∙ (sym (ap (λ (r : Ruling). r.due) (after-is c answer)) ∙ more.1)))
 said-by c answer happened left (inr said) = record {
   nothing = said.1;
-  remembered = λ short. (let zero : (record_ruling (call_of c.xid c.id c.token) (kept_after c answer) told_width).rule ≡ 0 =
-      ap (λ (r : Ruling). r.rule) (after-is c answer) ∙ ap (λ (a : NegAnswer). (stepped (creation_shown own_terms c.xid c.id c.token (kept_after c answer) told_width) a).rule) short in
-      none-some happened (sym (unanswered (record_ruling (call_of c.xid c.id c.token) (kept_after c answer) told_width) (Some happened) zero said.0)));
-  sent = λ is. sent-by (record_ruling (call_of c.xid c.id c.token) (kept_after c answer) told_width) (reply_to c.xid (step_in c))
+  remembered = λ short. (let zero : (record_ruling (call_of c.xid c.id c.token) (kept_after c answer) served).rule ≡ 0 =
+      ap (λ (r : Ruling). r.rule) (after-is c answer) ∙ ap (λ (a : NegAnswer). (stepped (creation_shown own_terms c.xid c.id c.token (kept_after c answer) server) a).rule) short in
+      none-some happened (sym (unanswered (record_ruling (call_of c.xid c.id c.token) (kept_after c answer) served) (Some happened) zero said.0)));
+  sent = λ is. sent-by (record_ruling (call_of c.xid c.id c.token) (kept_after c answer) served) (reply_to c.xid (step_in c))
       (ap (λ (r : Ruling). r.reply) (after-is c answer)
-      ∙ (ap (λ (a : NegAnswer). (stepped (creation_shown own_terms c.xid c.id c.token (kept_after c answer) told_width) a).reply) is ∙ replies-so c answer (step_in c) (settled-asks c.heard.accepted.step))) happened said.0;
+      ∙ (ap (λ (a : NegAnswer). (stepped (creation_shown own_terms c.xid c.id c.token (kept_after c answer) server) a).reply) is ∙ replies-so c answer (step_in c) (settled-asks c.heard.accepted.step))) happened said.0;
 }
 
 -- one more context
@@ -320,14 +327,14 @@ map-more (first ∷ fixed) found = ap (λ (xs : List Context). context_with 1 fi
 -- the deed and the world, by the step that the book took
 answered-by : (c : Case) (happened : Happened) (deed : Deed) (new : World) (past : Option ℕ) (left : Option InHand) (answer : Negotiated) → deed.answer ≡ Some happened
     → IsNext c.book.core.table (max c.book.core.cache.greatest c.x.now) past → BookStepped c.book new.book c.id c.token c.x.now (drawn_of c) answer
-    → Follows (record { octets = call_of c.xid c.id c.token; kept = kept_after c answer }) deed.answer left
+    → Follows served (record { octets = call_of c.xid c.id c.token; kept = kept_after c answer }) deed.answer left
     → deed.makes ≡ if_answered deed.answer (makes_by c.book past (hand_of c) (AskedStep c.id c.token c.x.now (drawn_of c) answer))
     → deed.found ≡ found_by c.book past (hand_of c) (AskedStep c.id c.token c.x.now (drawn_of c) answer)
     → deed.opened ≡ opened_by c.book (AskedStep c.id c.token c.x.now (drawn_of c) answer)
     → deed.fixes ≡ fixes_by c.book past (AskedStep c.id c.token c.x.now (drawn_of c) answer)
     → new ≡ with_lane (before c) 0 left new.book deed → Answers c deed new
 answered-by c happened deed new past left answer some late stepped follows makes found opened fixes new_is =
-    let said : Said c answer happened left = said-by c answer happened left (subst (λ (a : Option Happened). Follows (record { octets = call_of c.xid c.id c.token; kept = kept_after c answer }) a left) some follows) in
+    let said : Said c answer happened left = said-by c answer happened left (subst (λ (a : Option Happened). Follows served (record { octets = call_of c.xid c.id c.token; kept = kept_after c answer }) a left) some follows) in
     let o = stepped.comes.outcome past (λ first. late) said.remembered in
     let is : answer.answer ≡ answer_with 1 (step_in c) = o.answer ∙ (ap (λ (z : Outcomes). z.answer) (came c past) ∙ ap (λ (n : ℕ). answer_with n (step_in c)) c.stays.own) in
     let taken = taken-is c past in
@@ -342,6 +349,7 @@ answered-by c happened deed new past left answer some late stepped follows makes
       book = new.book;
       lanes = slice_set c.lanes 0 left;
       new_is = new_is ∙ ((λ i. record {
+        serves = served;
         facts = c.x.own ∷ [];
         stages = stages.Asks c.xid c.initiator ∷ [];
         book = new.book;
@@ -349,6 +357,7 @@ answered-by c happened deed new past left answer some late stepped follows makes
         fixed = map (context_with 1) c.fixed ++ option_to_list (fixed i);
         makings = c.made ++ made i;
       }) ∙ ap (λ (xs : List Context). record {
+        serves = served;
         facts = c.x.own ∷ [];
         stages = stages.Asks c.xid c.initiator ∷ [];
         book = new.book;
@@ -365,16 +374,16 @@ answered-by c happened deed new past left answer some late stepped follows makes
 
 answers-by : (c : Case) (happened : Happened) (deed : Deed) (new : World) → deed.answer ≡ Some happened → LaneMoves (before c) 0 (hand_of c) deed new → Answers c deed new
 answers-by c happened deed new some (inl o) =
-    absurd (none-some happened (sym (unanswered (ruling_of (hand_of c)) deed.answer (undecided (call_of c.xid c.id c.token) (kept_first c) told_width (question c) (due-is c)) o.answer) ∙ some))
+    absurd (none-some happened (sym (unanswered (ruling_of served (hand_of c)) deed.answer (undecided (call_of c.xid c.id c.token) (kept_first c) served (question c) (due-is c)) o.answer) ∙ some))
 answers-by c happened deed new some (inr q) = by (step-asked c q.asked (sym q.due ∙ due-is c))
   where
     by : IsStep c q.asked → Answers c deed new
-    by s = answered-by c happened deed new q.past q.left s.answer some q.is_past (subst (λ (a : Asked). BookAnswers c.book a new.book) s.is q.answers)
-        (subst (λ (a : Asked). Follows (hand_after (hand_of c) a) deed.answer q.left) s.is q.follows)
-        (subst (λ (a : Asked). deed.makes ≡ if_answered deed.answer (makes_by c.book q.past (hand_of c) a)) s.is q.makes)
-        (subst (λ (a : Asked). deed.found ≡ found_by c.book q.past (hand_of c) a) s.is q.found)
-        (subst (λ (a : Asked). deed.opened ≡ opened_by c.book a) s.is q.opened)
-        (subst (λ (a : Asked). deed.fixes ≡ fixes_by c.book q.past a) s.is q.fixes) q.new_is
+    by s = answered-by c happened deed new q.past q.left s.answer some q.is_past (subst (λ (a : Asked Admitted). BookAnswers c.book (booked a) new.book) s.is q.answers)
+        (subst (λ (a : Asked Admitted). Follows served (hand_after (hand_of c) a) deed.answer q.left) s.is q.follows)
+        (subst (λ (a : Asked Admitted). deed.makes ≡ if_answered deed.answer (makes_by c.book q.past (hand_of c) a)) s.is q.makes)
+        (subst (λ (a : Asked Admitted). deed.found ≡ found_by c.book q.past (hand_of c) a) s.is q.found)
+        (subst (λ (a : Asked Admitted). deed.opened ≡ opened_by c.book a) s.is q.opened)
+        (subst (λ (a : Asked Admitted). deed.fixes ≡ fixes_by c.book q.past a) s.is q.fixes) q.new_is
 
 pub answers-so : (c : Case) (happened : Happened) (deed : Deed) (new : World) → Happens (before c) (Lane 0 (call_of c.xid c.id c.token) c.x.now c.draws) deed new → deed.answer ≡ Some happened → Answers c deed new
 answers-so c happened deed new h some =
@@ -391,10 +400,10 @@ pub record Starts (x : Setting) (started : Started) (lanes : List (Option InHand
 abbrev pub first_world : Setting → List (Option InHand) → World
 first_world x lanes = world_in x (stages.Ready x.own) x.book lanes [] []
 
-starts-by : (x : Setting) (started : Started) (lanes : List (Option InHand)) (deed : Deed) (new : World) → init_start x.own ≡ Ok started → Moves (first_world x lanes) 0 (starts x.own) deed new → deed.answer ≢ None → Starts x started lanes deed new
-starts-by x started lanes deed new begins moves some = by (subst (λ (r : Result Started NegRefusal). Moves (first_world x lanes) 0 (started_by r) deed new) begins moves)
+starts-by : (x : Setting) (started : Started) (lanes : List (Option InHand)) (deed : Deed) (new : World) → init_start x.own ≡ Ok started → Moves (first_world x lanes) 0 (starts served x.own) deed new → deed.answer ≢ None → Starts x started lanes deed new
+starts-by x started lanes deed new begins moves some = by (subst (λ (r : Result Started NegRefusal). Moves (first_world x lanes) 0 (started_by served r) deed new) begins moves)
   where
-    by : Moves (first_world x lanes) 0 (started_by (Ok started)) deed new → Starts x started lanes deed new
+    by : Moves (first_world x lanes) 0 (started_by served (Ok started)) deed new → Starts x started lanes deed new
     by (inl m) = record { answer = ap (λ (d : Deed). d.answer) m.0; found = ap (λ (d : Deed). d.found) m.0; opened = ap (λ (d : Deed). d.opened) m.0; new_is = m.1 }
     by (inr m) = absurd (some (ap (λ (d : Deed). d.answer) m.0))
 
@@ -425,16 +434,16 @@ pub record TakesOn (x : Setting) (xid : ℕ) (book : BookOf) (lanes : List (Opti
   pub new_is : new ≡ world_in x (stages.Asks (xid_after xid) next) book lanes (made ++ taken.makes) fixed
 
 takes-on-by : (x : Setting) (xid : ℕ) (initiator : EndSays) (book : BookOf) (lanes : List (Option InHand)) (made : List MechMaking) (fixed : List Fixed) (reply : List ℕ) (t : Took initiator reply made) (next : EndSays) (further : List ℕ) → t.initiated.step ≡ init_steps.More next further
-    → xid < 2 ^ 32 → length reply ≤ 65536 → (deed : Deed) (new : World) → Moves (world_in x (stages.Asks xid initiator) book lanes made fixed) 0 (takes 1 xid initiator (reply_octets (going xid 1 reply))) deed new → deed.answer ≢ None
+    → xid < 2 ^ 32 → length reply ≤ 65536 → (deed : Deed) (new : World) → Moves (world_in x (stages.Asks xid initiator) book lanes made fixed) 0 (takes served 1 xid initiator (reply_octets (going xid 1 reply))) deed new → deed.answer ≢ None
     → TakesOn x xid book lanes made fixed t.initiated next further deed new
 takes-on-by x xid initiator book lanes made fixed reply t next further more fits few deed new moves some =
-    by (subst (λ (r : Result CreatedSays ClientRefusal). Moves (world_in x (stages.Asks xid initiator) book lanes made fixed) 0 (created_by 1 xid initiator (reply_octets (going xid 1 reply)) r) deed new)
+    by (subst (λ (r : Result CreatedSays ClientRefusal). Moves (world_in x (stages.Asks xid initiator) book lanes made fixed) 0 (created_by served 1 xid initiator (reply_octets (going xid 1 reply)) r) deed new)
     (creation-goes xid initiator next 1 reply further fits few (ap step_of t.initiates ∙ ap Ok more)) moves)
   where
     is : initiated xid initiator (reply_octets (going xid 1 reply)) ≡ Some t.initiated
     is = ap (initiated_with initiator) (going-granted xid reply fits few) ∙ ap initiated_by t.initiates
 
-    by : Moves (world_in x (stages.Asks xid initiator) book lanes made fixed) 0 (created_by 1 xid initiator (reply_octets (going xid 1 reply)) (Ok (created.Going (record { end = next; handle = handle_of 1; token = further })))) deed new
+    by : Moves (world_in x (stages.Asks xid initiator) book lanes made fixed) 0 (created_by served 1 xid initiator (reply_octets (going xid 1 reply)) (Ok (created.Going (record { end = next; handle = handle_of 1; token = further })))) deed new
         → TakesOn x xid book lanes made fixed t.initiated next further deed new
     by (inl m) = record {
       answer = ap (λ (d : Deed). d.answer) m.0;
@@ -467,16 +476,16 @@ pub record TakesLast (x : Setting) (xid : ℕ) (book : BookOf) (lanes : List (Op
   pub new_is : new ≡ world_in x (stages.Stands (session_with xid outcome)) book lanes (made ++ taken.makes) fixed
 
 takes-last-by : (x : Setting) (xid : ℕ) (initiator : EndSays) (book : BookOf) (lanes : List (Option InHand)) (made : List MechMaking) (fixed : List Fixed) (reply : List ℕ) (t : Took initiator reply made) (outcome : Outcome) → t.initiated.step ≡ init_steps.Done outcome
-    → xid < 2 ^ 32 → length reply ≤ 65536 → (deed : Deed) (new : World) → Moves (world_in x (stages.Asks xid initiator) book lanes made fixed) 0 (takes 1 xid initiator (reply_octets (granting xid outcome 1 told_width reply))) deed new → deed.answer ≢ None
+    → xid < 2 ^ 32 → length reply ≤ 65536 → (deed : Deed) (new : World) → Moves (world_in x (stages.Asks xid initiator) book lanes made fixed) 0 (takes served 1 xid initiator (reply_octets (granting xid outcome 1 told_width reply))) deed new → deed.answer ≢ None
     → TakesLast x xid book lanes made fixed t.initiated outcome deed new
 takes-last-by x xid initiator book lanes made fixed reply t outcome done fits few deed new moves some =
-    by (subst (λ (r : Result CreatedSays ClientRefusal). Moves (world_in x (stages.Asks xid initiator) book lanes made fixed) 0 (created_by 1 xid initiator (reply_octets (granting xid outcome 1 told_width reply)) r) deed new)
+    by (subst (λ (r : Result CreatedSays ClientRefusal). Moves (world_in x (stages.Asks xid initiator) book lanes made fixed) 0 (created_by served 1 xid initiator (reply_octets (granting xid outcome 1 told_width reply)) r) deed new)
     (creation-stands xid initiator outcome 1 told_width reply fits (lit< tt) (lit< tt) few (ap step_of t.initiates ∙ ap Ok done)) moves)
   where
     is : initiated xid initiator (reply_octets (granting xid outcome 1 told_width reply)) ≡ Some t.initiated
     is = ap (initiated_with initiator) (settled-granted xid outcome reply fits few) ∙ ap initiated_by t.initiates
 
-    by : Moves (world_in x (stages.Asks xid initiator) book lanes made fixed) 0 (created_by 1 xid initiator (reply_octets (granting xid outcome 1 told_width reply)) (Ok (created.Stands outcome (handle_of 1)))) deed new
+    by : Moves (world_in x (stages.Asks xid initiator) book lanes made fixed) 0 (created_by served 1 xid initiator (reply_octets (granting xid outcome 1 told_width reply)) (Ok (created.Stands outcome (handle_of 1)))) deed new
         → TakesLast x xid book lanes made fixed t.initiated outcome deed new
     by (inl m) = record {
       answer = ap (λ (d : Deed). d.answer) m.0;

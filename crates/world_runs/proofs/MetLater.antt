@@ -1,5 +1,5 @@
 -- After an exchange one call is made, and stands in the log; the run meets the premises.
-use Rattle.std.proofs.Common.{◌≡◌, inl, ℕ, ◌≤◌, true, refl, sym, ap, ◌∙◌, subst, List, [], ◌++◌, length, is_some, slice_get, slice_set, Some, None}
+use Rattle.std.proofs.Common.{◌≡◌, inl, inr, ℕ, ◌≤◌, true, refl, sym, ap, ◌∙◌, subst, List, [], ◌++◌, length, slice_get, slice_set, Option, Some, None}
 use Rattle.std.proofs.lemmas.Option.{none-some, same_Some}
 use Rattle.sha1.specs.Sha1.{sha1}
 use Rattle.gss_base.specs.declared.mech.MechKind.{MechKind}
@@ -10,19 +10,21 @@ use Rattle.accept_core.specs.declared.entry.Entry.TheVariants.{Call}
 use Rattle.accept_book.specs.Booking.{names_of}
 use Rattle.accept_core.specs.History.{entry_at}
 use Rattle.accept_book.specs.Honest.{HonestLaw}
-use Rattle.accept_book.specs.Served.{are_args}
+use Rattle.posts_program.specs.Posts.{are_args}
 use Rattle.accept_book.specs.RecordShown.{handle_of}
 use Rattle.gss_client.specs.Session.{session_after}
 use Rattle.gss_client.specs.Talk.{begun}
 use Rattle.world_laws.specs.declared.event.Happened.{Happened}
-use Rattle.world_laws.specs.declared.event.Happened.TheVariants.{Sent}
+use Rattle.world_laws.specs.declared.event.Happened.TheVariants.{Sent, Stepped}
 use Rattle.world_laws.specs.declared.event.WorldEvent.TheVariants.{Lane, CallBy}
 use Rattle.world_laws.specs.Stages.{StageSays}
 use Rattle.world_laws.specs.Stages as stages
 use Rattle.world_laws.specs.Deeds.{Deed}
 use Rattle.world_laws.specs.State.{World}
-use Rattle.world_laws.specs.Initiators.{own_terms, call_makings}
-use Rattle.world_runs.specs.Carrying.{RulesCalls, sent_in}
+use Rattle.world_laws.specs.Headline.{IsEnded}
+use Rattle.world_laws.specs.Initiators.{call_makings}
+use Rattle.world_runs.specs.Served.{own_terms}
+use Rattle.world_runs.specs.Carrying.{RulesCalls, sent_in, taken_in}
 use Rattle.world_runs.specs.Meeting.{IsCarried, InTime, IsCalled}
 use Rattle.world_laws.specs.Premises.{Unforged}
 use Rattle.world_runs.specs.Showing.{Shown, Follows, Steps}
@@ -139,9 +141,12 @@ second begin now draws procedure args g a b octets one two p sent steps =
 -- ---- and admits the call
 
 pub record Third (begin : Shown) (procedure : ℕ) (args : List ℕ) (d : Happened) (three : Shown) : Type 0 where
-  pub reply : List ℕ
-  pub sent : d ≡ Sent reply
+  pub taken : taken_in d ≡ true
   pub called : IsCalled three procedure args
+
+told-taken : (d : Happened) (answer : Option Happened) → answer ≡ Some d → IsEnded answer → taken_in d ≡ true
+told-taken d answer is (inl (reply, e)) = ap taken_in (same_Some d (Sent reply) (sym is ∙ e))
+told-taken d answer is (inr e) = ap taken_in (same_Some d (Stepped 25) (sym is ∙ e))
 
 third-made : (begin : Shown) (now : ℕ) (draws : List ℕ) (procedure : ℕ) (args : List ℕ) (g : Given begin now draws procedure args) (two : Shown) (p : Second begin now draws procedure args g two) (deed : Deed) (new : World) → Admits (calling g) p.looks.book p.looks.lease deed new
     → Unforged g.k.met.marking (looked_world (calling g) p.looks.book p.looks.lease) deed
@@ -192,8 +197,7 @@ third begin now draws procedure args g d octets later at two three p steps = by 
   where
     with : (f : Follows (Lane 0 octets at later) (Some d) (looked_world (calling g) p.looks.book p.looks.lease) three) → Admits (calling g) p.looks.book p.looks.lease f.deed f.new → Third begin procedure args d three
     with f ad = record {
-      reply = ad.reply;
-      sent = same_Some d (Sent ad.reply) (sym f.answered ∙ ad.answered);
+      taken = told-taken d f.deed.answer f.answered ad.answered;
       called = third-met begin now draws procedure args g two three p f.deed f.new ad
           (grows-on g.k.met.now (looked_world (calling g) p.looks.book p.looks.lease) f.new p.grows (grows (looked_world (calling g) p.looks.book p.looks.lease) (Lane 0 octets at later) f.deed f.new f.happens))
           (steps-on g.k.met.marking g.k.met.start (Lane 0 octets at later) d (looked_world (calling g) p.looks.book p.looks.lease) f.new two three p.past steps f refl (third-made begin now draws procedure args g two p f.deed f.new ad));
@@ -206,5 +210,5 @@ third begin now draws procedure args g d octets later at two three p steps = by 
 pub no-first : (begin : Shown) (now : ℕ) (draws : List ℕ) (procedure : ℕ) (args : List ℕ) (g : Given begin now draws procedure args) (a : Happened) (one : Shown) → First begin now draws procedure args g a one → sent_in a ≡ None → ⊥
 no-first begin now draws procedure args g a one p e = none-some (octets_of (calling g)) (sym e ∙ ap sent_in p.sent)
 
-pub is-sent : (begin : Shown) (procedure : ℕ) (args : List ℕ) (d : Happened) (three : Shown) → Third begin procedure args d three → is_some (sent_in d) ≡ true
-is-sent begin procedure args d three p = ap is_some (ap sent_in p.sent)
+pub is-taken : (begin : Shown) (procedure : ℕ) (args : List ℕ) (d : Happened) (three : Shown) → Third begin procedure args d three → taken_in d ≡ true
+is-taken begin procedure args d three p = p.taken

@@ -7,7 +7,7 @@ use Rattle.krb_derive.specs.Kept.{ForSealing}
 use Rattle.spnego_core.specs.declared.outcome.Outcome.{Outcome}
 use Rattle.accept_book.specs.declared.book_answer.Lease.{Lease}
 use Rattle.accept_book.specs.Honest.{HonestLaw}
-use Rattle.accept_book.proofs.HonestRecords.{honest-ruled}
+use Rattle.accept_book.proofs.HonestRecords.{honest-kept}
 use Rattle.gss_client.specs.Session.{SessionState}
 use Rattle.world_laws.specs.Stages.{StageSays}
 use Rattle.world_laws.specs.Stages as stages
@@ -16,7 +16,7 @@ use Rattle.world_runs.specs.Objects as objects
 use Rattle.world_runs.specs.Carrying.{RulesCalls, RulesAt}
 
 rules-calls : (keys : SealKeys) (lease : Lease) → ForSealing keys lease.outcome.key 24 → HonestLaw lease
-rules-calls keys lease for = λ octets kept width n procedure args honest id handle look. honest-ruled keys octets kept width n procedure args lease honest id for handle look
+rules-calls keys lease for = λ octets kept serves n procedure args honest id handle look. honest-kept keys octets kept serves n procedure args lease honest id for handle look
 
 same-session : (s t : SessionState) → objects.Stands s ≡ objects.Stands t → s ≡ t
 same-session s t e = cc

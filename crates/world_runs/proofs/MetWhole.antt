@@ -35,10 +35,11 @@ use Rattle.world_laws.specs.declared.event.WorldEvent.{WorldEvent}
 use Rattle.world_laws.specs.declared.event.WorldEvent.TheVariants.{Start, Deliver, Lane}
 use Rattle.world_laws.specs.Stages.{StageSays}
 use Rattle.world_laws.specs.Stages as stages
+use Rattle.world_runs.specs.Served.{told_width, served}
 use Rattle.world_runs.specs.Carrying.{sent_in, completed_in, IsTurn}
 use Rattle.world_laws.specs.Deeds.{Deed}
 use Rattle.world_laws.specs.State.{InHand, Context, World}
-use Rattle.world_laws.specs.Lanes.{told_width, context_with}
+use Rattle.world_laws.specs.Lanes.{context_with}
 use Rattle.world_laws.specs.Events.{Run, Begins}
 use Rattle.world_runs.specs.Meeting.{AtStart, Meeting, IsCarried}
 use Rattle.world_laws.specs.Premises.{Marking, Listed, WasMade, WasSettled, Unforged, HasTicket, session_in, Completed as CompletedWith, OnTicket, OnGuarded, Fresh, GuardedSession}
@@ -316,6 +317,7 @@ carried c start deed new a kind fixed made outcome lasts shown begins d mech las
   };
   mech = mech;
   rests = record {
+    serves = refl;
     facts = refl;
     xid = xid_after c.xid;
     xid_fits = fits;
@@ -413,9 +415,9 @@ idle-lane : (lanes : ℕ) → 0 < lanes → ◌≡◌ {A = Option (Option InHand
 idle-lane zero some = absurd (omega (arith, some))
 idle-lane (suc lanes) some = refl
 
-first-is : (w : World) (facts : List PlainSetup) (ready : List StageSays) (book : BookOf) (lanes : List (Option InHand)) → w.facts ≡ facts → w.stages ≡ ready → w.book ≡ book → w.lanes ≡ lanes → w.fixed ≡ [] → w.makings ≡ []
-    → w ≡ record { facts = facts; stages = ready; book = book; lanes = lanes; fixed = []; makings = [] }
-first-is w facts ready book lanes a b c d e f = λ i. record { facts = a i; stages = b i; book = c i; lanes = d i; fixed = e i; makings = f i }
+first-is : (w : World) (facts : List PlainSetup) (ready : List StageSays) (book : BookOf) (lanes : List (Option InHand)) → w.serves ≡ served → w.facts ≡ facts → w.stages ≡ ready → w.book ≡ book → w.lanes ≡ lanes → w.fixed ≡ [] → w.makings ≡ []
+    → w ≡ record { serves = served; facts = facts; stages = ready; book = book; lanes = lanes; fixed = []; makings = [] }
+first-is w facts ready book lanes s a b c d e f = λ i. record { serves = s i; facts = a i; stages = b i; book = c i; lanes = d i; fixed = e i; makings = f i }
 
 -- an exchange has a token, and four at most
 few-tokens : (first due : Bool) (kind : MechKind) → ((if first then 0 else 1) + rounds_of kind + (if due then 1 else 0) ≤ 4) × (1 ≤ (if first then 0 else 1) + rounds_of kind + (if due then 1 else 0))
@@ -432,7 +434,7 @@ few-tokens false false kinds.Scram = (omega arith, omega arith)
 record Ready (shown : Shown) (book : BookOf) (lanes now : ℕ) (draws : List (List ℕ)) (own : PlainSetup) (kind : MechKind) (started : Started) : Type 0 where
   start : World
   begins : Begins start
-  start_is : start ≡ record { facts = own ∷ []; stages = stages.Ready own ∷ []; book = book; lanes = replicate lanes None; fixed = []; makings = [] }
+  start_is : start ≡ record { serves = served; facts = own ∷ []; stages = stages.Ready own ∷ []; book = book; lanes = replicate lanes None; fixed = []; makings = [] }
   shows : Shows start shown
   none : shown.events ≡ []
 
@@ -444,7 +446,7 @@ ready-so shown book lanes now draws start m r =
     record {
       start = r.now;
       begins = begun;
-      start_is = first-is r.now (m.own ∷ []) (stages.Ready m.own ∷ []) book (replicate lanes None) facts (sym r.shows.stages ∙ (start.ready ∙ ap (map stages.Ready) m.one))
+      start_is = first-is r.now (m.own ∷ []) (stages.Ready m.own ∷ []) book (replicate lanes None) r.shows.serves facts (sym r.shows.stages ∙ (start.ready ∙ ap (map stages.Ready) m.one))
           (sym (same_Some book r.now.book (sym start.book_is ∙ r.shows.book))) (sym r.shows.lanes ∙ start.idle) begun.unfixed begun.unmade;
       shows = r.shows;
       none = start.nothing;

@@ -5,6 +5,7 @@ use Rattle.spnego_core.specs.Ends.{PlainSetup}
 use Rattle.spnego_core.specs.InitMech.{is_own_list}
 use Rattle.accept_book.specs.Booking.{BookOf}
 use Rattle.gss_client.specs.Session.{SessionState}
+use Rattle.rpc_program.specs.Programs.{Serving}
 use Rattle.world_laws.specs.declared.event.Happened.{Happened}
 use Rattle.world_laws.specs.declared.event.WorldEvent.{WorldEvent}
 use Rattle.world_laws.specs.declared.event.WorldEvent.TheVariants.{Start, Deliver, Lane, CallBy}
@@ -12,8 +13,9 @@ use Rattle.world_laws.specs.Stages.{StageSays}
 use Rattle.world_laws.specs.Stages as stages
 use Rattle.world_laws.specs.Deeds.{Deed, quiet, nothing}
 use Rattle.world_laws.specs.Events.{IsBook, Idles, Moves, StartsBy, DeliversBy, CallsWith, CallsBy, LanesBy, IsProper, HappensBy, Next, Run}
-use Rattle.world_laws.specs.Initiators.{Moved, did}
+use Rattle.world_laws.specs.Initiators.{Moved, did, starts, takes}
 use Rattle.world_laws.specs.Lanes.{in_hand, with_lane, LaneMoves}
+use Rattle.world_runs.specs.Served.{served}
 use Rattle.world_runs.specs.Parting.{HeldParts, Passes}
 use Rattle.world_runs.specs.Passing.{started_from, taken_from, called_with, called_from, of_stage, Turns, Desk, hand_or, LaneGoes, LaneTurns}
 use Rattle.world_runs.specs.Showing.{Shown, Ran, Follows, Steps}
@@ -26,7 +28,7 @@ use Rattle.world_runs.proofs.LaneTurns.{lane-moved}
 -- ---- initiators
 
 abbrev with-stages : World → List StageSays → List MechMaking → World
-with-stages w stages makes = record { facts = w.facts; stages = stages; book = w.book; lanes = w.lanes; fixed = w.fixed; makings = w.makings ++ makes }
+with-stages w stages makes = record { serves = w.serves; facts = w.facts; stages = stages; book = w.book; lanes = w.lanes; fixed = w.fixed; makings = w.makings ++ makes }
 
 abbrev MovesOr : Option Moved → World → ℕ → Deed → World → Type 0
 MovesOr None w i deed new = Idles w deed new
@@ -39,8 +41,8 @@ record Did (moved : Option Moved) (w : World) (i : ℕ) (answer : Option Happene
   moves : MovesOr moved w i deed (with-stages w stages deed.makes)
 
 same-world : (w : World) (stages : List StageSays) → stages ≡ w.stages → with-stages w stages [] ≡ w
-same-world w stages e = ap (λ s. record { facts = w.facts; stages = s; book = w.book; lanes = w.lanes; fixed = w.fixed; makings = w.makings ++ [] }) e
-    ∙ ap (λ m. record { facts = w.facts; stages = w.stages; book = w.book; lanes = w.lanes; fixed = w.fixed; makings = m }) (append-nil w.makings)
+same-world w stages e = ap (λ s. record { serves = w.serves; facts = w.facts; stages = s; book = w.book; lanes = w.lanes; fixed = w.fixed; makings = w.makings ++ [] }) e
+    ∙ ap (λ m. record { serves = w.serves; facts = w.facts; stages = w.stages; book = w.book; lanes = w.lanes; fixed = w.fixed; makings = m }) (append-nil w.makings)
 
 did-turn : (moved : Option Moved) (w : World) (i : ℕ) (answer : Option Happened) (stages : List StageSays) → Turns moved i answer w.stages stages → Did moved w i answer stages
 did-turn None w i answer stages turns = record { deed = nothing; answered = sym turns.0; moves = (refl, same-world w stages turns.1) }
@@ -55,21 +57,21 @@ did-turn (Some moved) w i answer stages (inr lost) = record {
   moves = inr (refl, ap (λ s. with-stages w s []) lost.1);
 }
 
-starts-as : (w : World) (i : ℕ) (deed : Deed) (new : World) (stage : Option StageSays) → MovesOr (of_stage started_from stage) w i deed new → StartsBy w i stage deed new
-starts-as w i deed new None m = m
-starts-as w i deed new (Some (stages.Ready own)) m = m
-starts-as w i deed new (Some (stages.Asks xid end)) m = m
-starts-as w i deed new (Some (stages.Stands s)) m = m
-starts-as w i deed new (Some (stages.Left s)) m = m
-starts-as w i deed new (Some stages.Over) m = m
+starts-as : (w : World) (i : ℕ) (deed : Deed) (new : World) (stage : Option StageSays) → w.serves ≡ served → MovesOr (of_stage started_from stage) w i deed new → StartsBy w i stage deed new
+starts-as w i deed new None e m = m
+starts-as w i deed new (Some (stages.Ready own)) e m = subst (λ (s : Serving). Moves w i (starts s own) deed new) (sym e) m
+starts-as w i deed new (Some (stages.Asks xid end)) e m = m
+starts-as w i deed new (Some (stages.Stands s)) e m = m
+starts-as w i deed new (Some (stages.Left s)) e m = m
+starts-as w i deed new (Some stages.Over) e m = m
 
-delivers-as : (w : World) (i : ℕ) (octets : List ℕ) (first : ℕ) (deed : Deed) (new : World) (stage : Option StageSays) → MovesOr (of_stage (taken_from first octets) stage) w i deed new → DeliversBy w i octets first stage deed new
-delivers-as w i octets first deed new None m = m
-delivers-as w i octets first deed new (Some (stages.Ready own)) m = m
-delivers-as w i octets first deed new (Some (stages.Asks xid end)) m = m
-delivers-as w i octets first deed new (Some (stages.Stands s)) m = m
-delivers-as w i octets first deed new (Some (stages.Left s)) m = m
-delivers-as w i octets first deed new (Some stages.Over) m = m
+delivers-as : (w : World) (i : ℕ) (octets : List ℕ) (first : ℕ) (deed : Deed) (new : World) (stage : Option StageSays) → w.serves ≡ served → MovesOr (of_stage (taken_from first octets) stage) w i deed new → DeliversBy w i octets first stage deed new
+delivers-as w i octets first deed new None e m = m
+delivers-as w i octets first deed new (Some (stages.Ready own)) e m = m
+delivers-as w i octets first deed new (Some (stages.Asks xid end)) e m = subst (λ (s : Serving). Moves w i (takes s first xid end octets) deed new) (sym e) m
+delivers-as w i octets first deed new (Some (stages.Stands s)) e m = m
+delivers-as w i octets first deed new (Some (stages.Left s)) e m = m
+delivers-as w i octets first deed new (Some stages.Over) e m = m
 
 with-as : (left last : Bool) (w : World) (i : ℕ) (s : SessionState) (procedure : ℕ) (args : List ℕ) (deed : Deed) (new : World) → MovesOr (called_with left last s procedure args) w i deed new
     → CallsWith left last w i s procedure args deed new
@@ -94,6 +96,7 @@ record Done (w : World) (lane : ℕ) (octets : List ℕ) (now : ℕ) (draws : Li
   answered : deed.answer ≡ answer
   new : World
   lanes_by : LanesBy w lane octets now draws before deed new
+  serves : new.serves ≡ w.serves
   facts : new.facts ≡ w.facts
   stages_are : new.stages ≡ w.stages
   book_is : desk.book ≡ Some new.book
@@ -107,23 +110,25 @@ hand-same : (before : Option InHand) (octets : List ℕ) (now : ℕ) (draws : Li
 hand-same None octets now draws = refl
 hand-same (Some hand) octets now draws = refl
 
-done-lane : (w : World) (lane : ℕ) (octets : List ℕ) (now : ℕ) (draws : List ℕ) (before : Option (Option InHand)) (answer : Option Happened) (desk : Desk) → IsBook w.book
+done-lane : (w : World) (lane : ℕ) (octets : List ℕ) (now : ℕ) (draws : List ℕ) (before : Option (Option InHand)) (answer : Option Happened) (desk : Desk) → w.serves ≡ served → IsBook w.book
     → LaneTurns before lane (in_hand None octets now draws) answer (record { book = Some w.book; lanes = w.lanes }) desk → Done w lane octets now draws before answer desk
-done-lane w lane octets now draws None answer desk legal turns = record {
+done-lane w lane octets now draws None answer desk serves legal turns = record {
   deed = nothing;
   answered = sym turns.0;
   new = w;
   lanes_by = (refl, refl);
+  serves = refl;
   facts = refl;
   stages_are = refl;
   book_is = ap (λ (d : Desk). d.book) turns.1;
   lanes_are = ap (λ (d : Desk). d.lanes) turns.1;
   legal = legal;
 }
-done-lane w lane octets now draws (Some before) answer desk legal goes =
+done-lane w lane octets now draws (Some before) answer desk serves legal goes =
     by goes (lane-moved w lane (in_hand before octets now draws) goes.next goes.left answer
-    (subst (λ hand. Turned w.book hand goes.next goes.left answer) (hand-same before octets now draws)
-    (subst (λ book. Turned book (hand_or before (in_hand None octets now draws)) goes.next goes.left answer) (sym (some-book w.book goes.book goes.was)) goes.turned)))
+    (subst (λ (s : Serving). Turned s w.book (in_hand before octets now draws) goes.next goes.left answer) (sym serves)
+    (subst (λ hand. Turned served w.book hand goes.next goes.left answer) (hand-same before octets now draws)
+    (subst (λ book. Turned served book (hand_or before (in_hand None octets now draws)) goes.next goes.left answer) (sym (some-book w.book goes.book goes.was)) goes.turned))))
   where
     by : (g : LaneGoes before lane (in_hand None octets now draws) answer (record { book = Some w.book; lanes = w.lanes }) desk)
         → (deed : Deed) × (deed.answer ≡ answer) × LaneMoves w lane (in_hand before octets now draws) deed (with_lane w lane g.left g.next deed) → Done w lane octets now draws (Some before) answer desk
@@ -132,6 +137,7 @@ done-lane w lane octets now draws (Some before) answer desk legal goes =
       answered = moved.1;
       new = with_lane w lane g.left g.next moved.0;
       lanes_by = moved.2;
+      serves = refl;
       facts = refl;
       stages_are = refl;
       book_is = g.is;
@@ -146,21 +152,22 @@ shown-with facts parts events = record { facts = facts; stages = parts.stages; b
 
 -- the parts show the world
 pub record PartsShow (w : World) (parts : HeldParts) : Type 0 where
+  pub serves_are : w.serves ≡ served
   pub stages_are : parts.stages ≡ w.stages
   pub book_is : parts.desk.book ≡ Some w.book
   pub lanes_are : parts.desk.lanes ≡ w.lanes
 
 -- an initiator's event, once it is what `by` makes of its move
-moved-follows : (event : WorldEvent) (answer : Option Happened) (moved : Option Moved) (i : ℕ) (w : World) (facts : List PlainSetup) (old new : HeldParts) (events : List WorldEvent) → IsProper event
+moved-follows : (event : WorldEvent) (answer : Option Happened) (moved : Option Moved) (i : ℕ) (w : World) (facts : List PlainSetup) (old new : HeldParts) (events : List WorldEvent) → IsProper served event
     → IsBook w.book → facts ≡ w.facts → PartsShow w old → Turns moved i answer w.stages new.stages → new.desk ≡ old.desk
     → ((deed : Deed) (next : World) → MovesOr moved w i deed next → HappensBy w event deed next) → Follows event answer w (shown-with facts new events)
 moved-follows event answer moved i w facts old new events proper legal facts_are show turns desk by =
     let d : Did moved w i answer new.stages = did-turn moved w i answer new.stages turns in record {
       deed = d.deed;
       new = with-stages w new.stages d.deed.makes;
-      happens = record { proper = proper; did = by d.deed (with-stages w new.stages d.deed.makes) d.moves; book = legal };
+      happens = record { proper = subst (λ (s : Serving). IsProper s event) (sym show.serves_are) proper; did = by d.deed (with-stages w new.stages d.deed.makes) d.moves; book = legal };
       answered = d.answered;
-      shows = record { facts = facts_are; stages = refl; book = ap (λ (k : Desk). k.book) desk ∙ show.book_is; lanes = ap (λ (k : Desk). k.lanes) desk ∙ show.lanes_are };
+      shows = record { serves = show.serves_are; facts = facts_are; stages = refl; book = ap (λ (k : Desk). k.book) desk ∙ show.book_is; lanes = ap (λ (k : Desk). k.lanes) desk ∙ show.lanes_are };
     }
 
 turns-over : (moved : Option StageSays → Option Moved) (i : ℕ) (answer : Option Happened) (a b new : List StageSays) → a ≡ b → Turns (moved (slice_get a i)) i answer a new → Turns (moved (slice_get b i)) i answer b new
@@ -172,24 +179,24 @@ lane-over lane taken answer a b new e turns = subst (λ (d : Desk). LaneTurns (s
 desk-is : (w : World) (desk : Desk) → desk.book ≡ Some w.book → desk.lanes ≡ w.lanes → desk ≡ record { book = Some w.book; lanes = w.lanes }
 desk-is w desk b l = ap (λ x. record { book = x; lanes = desk.lanes }) b ∙ ap (λ y. record { book = Some w.book; lanes = y }) l
 
-pub passes-follow : (event : WorldEvent) (answer : Option Happened) (w : World) (facts : List PlainSetup) (old new : HeldParts) (events : List WorldEvent) → IsProper event → IsBook w.book
+pub passes-follow : (event : WorldEvent) (answer : Option Happened) (w : World) (facts : List PlainSetup) (old new : HeldParts) (events : List WorldEvent) → IsProper served event → IsBook w.book
     → facts ≡ w.facts → PartsShow w old → Passes event answer old new → Follows event answer w (shown-with facts new events)
 passes-follow (Start i) answer w facts old new events proper legal facts_are show passes =
     moved-follows (Start i) answer (of_stage started_from (slice_get w.stages i)) i w facts old new events proper legal facts_are show
     (turns-over (of_stage started_from) i answer old.stages w.stages new.stages show.stages_are passes.0) passes.1
-    (λ deed next m. starts-as w i deed next (slice_get w.stages i) m)
+    (λ deed next m. starts-as w i deed next (slice_get w.stages i) show.serves_are m)
 passes-follow (Deliver i octets first) answer w facts old new events proper legal facts_are show passes =
     moved-follows (Deliver i octets first) answer (of_stage (taken_from first octets) (slice_get w.stages i)) i w facts old new events proper legal facts_are show
     (turns-over (of_stage (taken_from first octets)) i answer old.stages w.stages new.stages show.stages_are passes.0) passes.1
-    (λ deed next m. delivers-as w i octets first deed next (slice_get w.stages i) m)
+    (λ deed next m. delivers-as w i octets first deed next (slice_get w.stages i) show.serves_are m)
 passes-follow (Lane lane octets now draws) answer w facts old new events proper legal facts_are show passes =
-    let d : Done w lane octets now draws (slice_get w.lanes lane) answer new.desk = done-lane w lane octets now draws (slice_get w.lanes lane) answer new.desk legal
+    let d : Done w lane octets now draws (slice_get w.lanes lane) answer new.desk = done-lane w lane octets now draws (slice_get w.lanes lane) answer new.desk show.serves_are legal
     (lane-over lane (in_hand None octets now draws) answer old.desk (record { book = Some w.book; lanes = w.lanes }) new.desk (desk-is w old.desk show.book_is show.lanes_are) passes.0) in record {
       deed = d.deed;
       new = d.new;
-      happens = record { proper = proper; did = d.lanes_by; book = d.legal };
+      happens = record { proper = subst (λ (s : Serving). IsProper s (Lane lane octets now draws)) (sym show.serves_are) proper; did = d.lanes_by; book = d.legal };
       answered = d.answered;
-      shows = record { facts = facts_are ∙ sym d.facts; stages = passes.1 ∙ (show.stages_are ∙ sym d.stages_are); book = d.book_is; lanes = d.lanes_are };
+      shows = record { serves = d.serves ∙ show.serves_are; facts = facts_are ∙ sym d.facts; stages = passes.1 ∙ (show.stages_are ∙ sym d.stages_are); book = d.book_is; lanes = d.lanes_are };
     }
 passes-follow (CallBy i procedure args) answer w facts old new events proper legal facts_are show passes =
     moved-follows (CallBy i procedure args) answer (of_stage (called_from procedure args) (slice_get w.stages i)) i w facts old new events proper legal facts_are show
@@ -241,13 +248,13 @@ ran-more event answer old new steps r = by (steps.follows r.now r.shows)
     }
 
 -- a step, from every world that shows the old
-pub steps-of : (event : WorldEvent) (answer : Option Happened) (facts : List PlainSetup) (old new : HeldParts) (before after : List WorldEvent) → IsProper event
+pub steps-of : (event : WorldEvent) (answer : Option Happened) (facts : List PlainSetup) (old new : HeldParts) (before after : List WorldEvent) → IsProper served event
     → ((b : BookOf) → old.desk.book ≡ Some b → IsBook b) → Passes event answer old new → after ≡ before ++ event ∷ []
     → Steps event answer (shown-with facts old before) (shown-with facts new after)
 steps-of event answer facts old new before after proper legal passes more = record {
   events = more;
   follows = λ w shows. passes-follow event answer w facts old new after proper (legal w.book shows.book) shows.facts
-      (record { stages_are = shows.stages; book_is = shows.book; lanes_are = shows.lanes }) passes;
+      (record { serves_are = shows.serves; stages_are = shows.stages; book_is = shows.book; lanes_are = shows.lanes }) passes;
 }
 
 pub more-items : (after reserved before : List WorldEvent) (kept event : WorldEvent) → after ≡ reserved ++ kept ∷ [] → reserved ≡ before → kept ≡ event → after ≡ before ++ event ∷ []

@@ -8,6 +8,7 @@ use Rattle.world_runs.specs.ObjectMoves.{MovedMeans, TurnsTo, of_stage, Turns}
 use Rattle.accept_book.specs.Booking.{BookOf}
 use Rattle.world_laws.specs.Events.{IsBook}
 use Rattle.world_laws.specs.State.{InHand}
+use Rattle.world_runs.specs.Served.{served}
 use Rattle.world_runs.specs.Turning.{Turned}
 use Rattle.world_runs.specs.Passing.{hand_or, LaneTurns}
 
@@ -59,7 +60,7 @@ unturned_at says move old i gone = unturned move (map says old) i (slice_get-map
 -- ---- a lane at a place goes on, over the book that is taken out and put back
 
 pub gone-on : (lanes : List (Option InHand)) (lane : ℕ) (taken : InHand) (answer : Option Happened) (shelf : Option BookOf) (book next : BookOf) (before left between : Option InHand)
-    → slice_get lanes lane ≡ Some before → shelf ≡ Some book → Turned book (hand_or before taken) next left answer → IsBook next
+    → slice_get lanes lane ≡ Some before → shelf ≡ Some book → Turned served book (hand_or before taken) next left answer → IsBook next
     → LaneTurns (slice_get lanes lane) lane taken answer (record { book = shelf; lanes = lanes }) (record { book = Some next; lanes = slice_set (slice_set lanes lane between) lane left })
 gone-on lanes lane taken answer shelf book next before left between there was turned legal =
     rw there (record { book = book; next = next; was = was; is = refl; left = left; turned = turned; legal = legal; lanes = set-twice lanes lane between left })

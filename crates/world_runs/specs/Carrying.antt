@@ -1,7 +1,9 @@
 -- What a program sees of an exchange that it carries.
 -- It isn't needed to read the headline.
-use Rattle.std.specs.Prelude.{◌≡◌, ℕ, Bool, true, false, List, Option, Some, None}
+use Rattle.std.specs.Prelude.{◌≡◌, ℕ, ◌==◌, Bool, true, false, List, Option, Some, None}
 use Rattle.accept_book.specs.declared.book_answer.Lease.{Lease}
+use Rattle.accept_book.specs.declared.rule.Rule.TheVariants.{Lost}
+use Rattle.accept_book.specs.Rules.{rule_number}
 use Rattle.accept_book.specs.Honest.{HonestLaw}
 use Rattle.gss_client.specs.Session.{SessionState}
 use Rattle.world_laws.specs.declared.event.Happened.{Happened}
@@ -33,6 +35,15 @@ sent_in (Completed outcome) = None
 sent_in (Stepped rule) = None
 sent_in Refused = None
 sent_in Nothing = None
+
+-- a record's reply was handed out, or the record was ended without one, since what became of its
+-- call isn't known
+abbrev pub taken_in : Happened → Bool
+taken_in (Sent octets) = true
+taken_in (Completed outcome) = false
+taken_in (Stepped rule) = rule == rule_number Lost
+taken_in Refused = false
+taken_in Nothing = false
 
 -- the initiator's context stands
 abbrev pub completed_in : Happened → Bool

@@ -1,3 +1,4 @@
+pub mod Served
 pub mod Objects
 pub mod ObjectMoves
 pub mod Moving

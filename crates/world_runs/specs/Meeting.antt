@@ -28,7 +28,7 @@ use Rattle.world_laws.specs.Premises.{Marking, Listed, GuardedBasis, OnGuarded, 
 use Rattle.world_laws.specs.Premises.{NoForgery, Fresh, Completed as CompletedWith}
 use Rattle.world_runs.specs.Showing.{Shown, Shows}
 use Rattle.world_laws.specs.State.{Context, World}
-use Rattle.world_laws.specs.Initiators.{own_terms}
+use Rattle.world_runs.specs.Served.{served, own_terms}
 
 -- a world before its first event, of this book without entries and so many lanes
 pub record AtStart (shown : Shown) (book : BookOf) (lanes : ℕ) : Type 0 where
@@ -93,6 +93,7 @@ pub record IsMet (shown : Shown) : Type 0 where
 -- first; the log has it complete and no call of it, and has a place
 pub record Rests (w : World) (own : PlainSetup) (outcome : Outcome) (context : Context) : Type 0
   where
+    pub serves : w.serves ≡ served
     pub facts : w.facts ≡ own ∷ []
     pub xid : ℕ
     pub xid_fits : xid < 2 ^ 32

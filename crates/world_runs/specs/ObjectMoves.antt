@@ -16,7 +16,7 @@ use Rattle.world_laws.specs.declared.event.Happened.{Happened}
 use Rattle.world_laws.specs.declared.event.Happened.TheVariants.{Sent, Completed, Refused}
 use Rattle.world_laws.specs.declared.event.Happened.TheVariants.{Nothing}
 use Rattle.world_runs.specs.Objects.{StageMeans, Ready, Asks, Stands, Left, Over}
-use Rattle.world_laws.specs.Initiators.{own_terms}
+use Rattle.world_runs.specs.Served.{own_terms}
 
 -- where the initiator is then, and where it is if memory is wanted; the answer
 pub record MovedMeans : Type 0 where

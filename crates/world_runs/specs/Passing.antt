@@ -11,13 +11,14 @@ use Rattle.world_laws.specs.Stages as stages
 use Rattle.world_laws.specs.State.{InHand}
 use Rattle.world_laws.specs.Events.{IsBook}
 use Rattle.world_laws.specs.Initiators.{Moved, starts, takes, calls, leaves}
+use Rattle.world_runs.specs.Served.{served}
 use Rattle.world_runs.specs.Turning.{Turned}
 
 -- ---- the move of an initiator by its stage, where the event is for it
 
 -- a start, which is for one that wasn't started
 abbrev pub started_from : StageSays → Option Moved
-started_from (stages.Ready own) = Some (starts own)
+started_from (stages.Ready own) = Some (starts served own)
 started_from (stages.Asks xid end) = None
 started_from (stages.Stands s) = None
 started_from (stages.Left s) = None
@@ -27,7 +28,7 @@ started_from stages.Over = None
 -- call
 abbrev pub taken_from : ℕ → List ℕ → StageSays → Option Moved
 taken_from first octets (stages.Ready own) = None
-taken_from first octets (stages.Asks xid end) = Some (takes first xid end octets)
+taken_from first octets (stages.Asks xid end) = Some (takes served first xid end octets)
 taken_from first octets (stages.Stands s) = None
 taken_from first octets (stages.Left s) = None
 taken_from first octets stages.Over = None
@@ -80,7 +81,7 @@ pub record LaneGoes (before : Option InHand) (lane : ℕ) (taken : InHand) (answ
   pub was : old.book ≡ Some book
   pub is : new.book ≡ Some next
   pub left : Option InHand
-  pub turned : Turned book (hand_or before taken) next left answer
+  pub turned : Turned served book (hand_or before taken) next left answer
   pub legal : IsBook next
   pub lanes : new.lanes ≡ slice_set old.lanes lane left
 

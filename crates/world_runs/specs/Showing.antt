@@ -9,6 +9,7 @@ use Rattle.world_laws.specs.Stages.{StageSays}
 use Rattle.world_laws.specs.Deeds.{Deed}
 use Rattle.world_laws.specs.Events.{Happens, Run, Begins}
 use Rattle.world_laws.specs.State.{InHand, World}
+use Rattle.world_runs.specs.Served.{served}
 
 -- all but what was fixed and what was handed out, which no program knows; and the events so far,
 -- the first one first
@@ -19,8 +20,10 @@ pub record Shown : Type 0 where
   pub lanes : List (Option InHand)
   pub events : List WorldEvent
 
--- what is shown is this world's: its facts, its stages, its book and its lanes
+-- the world serves the program of posts, and what is shown is its own: its facts, its stages, its
+-- book and its lanes
 pub record Shows (w : World) (shown : Shown) : Type 0 where
+  pub serves : w.serves ≡ served
   pub facts : shown.facts ≡ w.facts
   pub stages : shown.stages ≡ w.stages
   pub book : shown.book ≡ Some w.book

@@ -6,7 +6,7 @@ ghost use Rattle.init_ends.specs.Objects.{is_own_list};
 ghost use Rattle.gss_client.specs.Calling.{creation_call};
 ghost use Rattle.gss_client.specs.Creation.{offer_means};
 ghost use Rattle.gss_client.specs.Exchanging.{FitsOffer};
-ghost use Rattle.world_laws.specs.Initiators.{own_terms};
+ghost use Rattle.world_runs.specs.Served.{own_terms};
 ghost use Rattle.world_runs.specs.Objects as stages;
 ghost use Rattle.world_runs.specs.ObjectMoves.{starts, takes, calls, leaves};
 ghost use Rattle.world_runs.specs.Moving.{Goes, IsLost, IsMove, moves_means};
@@ -16,7 +16,7 @@ use gss_client::{
     ClientRefusal, Created, Offer, Service, Session, Terms, creation_call, creation_step, xid_after,
 };
 use init_ends::{InitEnd, InitSetup};
-use rpc_msgs::numbers::{PROGRAM, VERSION};
+use posts_program::numbers::{PROGRAM, VERSION};
 use sec_base::{NoMemory, Octets};
 use spnego_core::NegRefusal;
 use std::alloc::Global;
@@ -57,7 +57,7 @@ fn lost() -> Moves
     }
 }
 
-/// What it calls: the server's program, by integrity.
+/// What it calls: the program of posts, by integrity.
 fn own_terms() -> Terms
     ensures { result ≡ own_terms }
 {

@@ -1,11 +1,13 @@
 //! What a lane does with the record that it has in hand.
 
 ghost use Rattle.std.specs.Prelude.{◌≡◌};
+ghost use Rattle.world_runs.specs.Served.{served};
 ghost use Rattle.world_runs.specs.Turning.{Turned, happened_of, said_by};
 
 use crate::turn::Turn;
 use accept_book::{Lease, LookRefusal, OwnSeat};
 use gss_server::{Answered, Reply, answer_record};
+use posts_program::Posts;
 use sec_base::{Moment, NoMemory, Octets};
 use std::alloc::Global;
 use std::marker::Model;
@@ -49,6 +51,8 @@ impl Model for InHand {
 #[derive(Drop)]
 pub(crate) struct LaneMoves {
     pub book: OwnSeat,
+    /// The state of the program that is served.
+    pub posts: Posts,
     pub lane: Option<InHand>,
     pub happened: Result<Happened, NoMemory>,
 }
@@ -60,13 +64,14 @@ fn said(rule: u8, reply: Reply) -> Result<Happened, NoMemory>
     match reply {
         Reply::Silent => Ok(Happened::Stepped(rule)),
         Reply::Bytes(octets) => Ok(Happened::Sent(octets)),
+        Reply::Gone => Ok(Happened::Stepped(rule)),
         Reply::NoMemory => Err(NoMemory),
     }
 }
 
 /// Goes on with the record in hand: it is answered, or one question of it is asked.
-pub(crate) fn step(alloc: Global, book: OwnSeat, hand: InHand) -> LaneMoves
-    ensures { Turned book hand result.book result.lane (happened_of result.happened) }
+pub(crate) fn step(alloc: Global, book: OwnSeat, posts: Posts, hand: InHand) -> LaneMoves
+    ensures { Turned served book hand result.book result.lane (happened_of result.happened) }
 {
     let InHand {
         bytes,
@@ -76,13 +81,19 @@ pub(crate) fn step(alloc: Global, book: OwnSeat, hand: InHand) -> LaneMoves
     } = hand;
     let mut turn = Turn {
         book,
+        posts,
         looked,
         asked: false,
         further: false,
     };
     let answered = answer_record(alloc, &mut turn, bytes.as_slice(), now, &draws, TOLD_WIDTH);
     let Answered { rule, kept, reply } = answered;
-    let Turn { book, further, .. } = turn;
+    let Turn {
+        book,
+        posts,
+        further,
+        ..
+    } = turn;
     if further {
         let looked = kept.looked;
         let lane = Some(InHand {
@@ -94,6 +105,7 @@ pub(crate) fn step(alloc: Global, book: OwnSeat, hand: InHand) -> LaneMoves
         let happened = Ok(Happened::Stepped(0));
         return LaneMoves {
             book,
+            posts,
             lane,
             happened,
         };
@@ -101,6 +113,7 @@ pub(crate) fn step(alloc: Global, book: OwnSeat, hand: InHand) -> LaneMoves
     let happened = said(rule, reply);
     LaneMoves {
         book,
+        posts,
         lane: None,
         happened,
     }

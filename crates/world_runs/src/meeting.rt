@@ -1,14 +1,15 @@
 //! That the premises of the laws can be met: one exchange by either mechanism, whose records are carried as they are, and one call after it.
 
-ghost use Rattle.std.specs.Prelude.{◌≡◌, ◌≤◌, ℕ, true, is_some, length, IfOk, List, Some};
+ghost use Rattle.std.specs.Prelude.{◌≡◌, ◌≤◌, ℕ, true, length, IfOk, List, Some};
 ghost use Rattle.gss_base.specs.declared.mech.MechKind.{MechKind};
 ghost use Rattle.accept_book.specs.Booking.{BookOf};
-ghost use Rattle.accept_book.specs.Served.{are_args};
+ghost use Rattle.posts_program.specs.Posts.{are_args};
 ghost use Rattle.world_runs.specs.Meeting.{AtStart, Meeting, IsCarried, InTime, IsCalled};
-ghost use Rattle.world_runs.specs.Carrying.{sent_in, completed_in, IsTurn};
+ghost use Rattle.world_runs.specs.Carrying.{sent_in, taken_in, completed_in, IsTurn};
 ghost use Rattle.world_runs.specs.Worlds.{world_means, shown, IsWorld};
 
 use crate::world::World;
+use accept_book::Rule;
 use sec_base::{Moment, NoMemory, Octets};
 use std::alloc::Global;
 use world_laws::{Happened, WorldEvent, tell_below};
@@ -39,14 +40,14 @@ fn is_completed(happened: &Happened) -> bool
     }
 }
 
-/// A record was handed out.
-fn is_sent(happened: &Happened) -> bool
-    ensures { result ≡ is_some (sent_in happened.now) }
+/// A record's reply was handed out, or the record was ended without one, since what became of its call isn't known.
+fn is_taken(happened: &Happened) -> bool
+    ensures { result ≡ taken_in happened.now }
 {
     match happened {
         Happened::Sent(_) => true,
         Happened::Completed(_) => false,
-        Happened::Stepped(_) => false,
+        Happened::Stepped(rule) => *rule == Rule::Lost.number(),
         Happened::Refused => false,
         Happened::Nothing => false,
     }
@@ -178,7 +179,7 @@ pub fn call_once(
             draws,
         },
     )?;
-    let called = is_sent(&third);
+    let called = is_taken(&third);
     drop(third);
     Ok(called)
 }

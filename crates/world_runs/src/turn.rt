@@ -1,6 +1,10 @@
 //! A book in one turn of a lane.
 
-ghost use Rattle.std.specs.Prelude.{◌≡◌};
+ghost use Rattle.std.specs.Prelude.{◌≡◌, ◌≤◌, ℕ, true, length, List, Some};
+ghost use Rattle.rpc_program.specs.Programs.{IsShort, result_in};
+ghost use Rattle.rpc_program.specs.declared.limits.TheConstants.{MOST};
+ghost use Rattle.posts_program.specs.Posts.{posts_says};
+ghost use Rattle.world_laws.specs.Apart.{NoList};
 ghost use Rattle.accept_book.specs.RecordShown.{AskedLook};
 ghost use Rattle.gss_server.specs.Telling.{limits_of};
 ghost use Rattle.world_runs.specs.Turning.{AsksBy};
@@ -9,7 +13,10 @@ use accept_book::{
     AdmitRefusal, Admitted, EndCause, Entry, Lease, LookRefusal, NegAnswer, Negotiated, OwnSeat,
     Receipt, Receipts,
 };
-use gss_server::Gate;
+use gss_server::{DataCall, Gate, caller_of_lease};
+use posts_program::{Posts, PostsWords};
+use rpc_program::{Answerer, Outcome, Program, ProgramId, Unserved};
+use rpcsec_bodies::Service;
 use sec_base::Moment;
 use std::alloc::Global;
 
@@ -17,12 +24,40 @@ use std::alloc::Global;
 #[derive(Drop)]
 pub(crate) struct Turn {
     pub book: OwnSeat,
+    /// The state of the program that is served.
+    pub posts: Posts,
     /// What a look was answered before, as long as it wasn't asked again.
     pub looked: Option<Result<Lease, LookRefusal>>,
     /// Whether the book was asked.
     pub asked: bool,
     /// Whether a further question is due.
     pub further: bool,
+}
+
+/// The procedure that no program has.
+const NO_PROCEDURE: u32 = 0xffff_ffff;
+
+/// What becomes of an admitted call, whose entry stands at this place of the log.
+#[tactic(auto, using(crate::proofs::PostsApart::posts_told))]
+fn outcome_of(
+    alloc: Global,
+    posts: &mut Posts,
+    lease: &Lease,
+    call: &DataCall<'_>,
+    place: u64,
+) -> Outcome
+    requires has { posts_says.has call.now.procedure ≡ true }
+    requires takes { posts_says.takes call.now.procedure call.now.args.now ≡ true }
+    requires few { length call.now.args.now ≤ MOST }
+    ensures short { IsShort result }
+    ensures told { (octets : List ℕ) → result_in call.now.args.now result ≡ Some octets
+        → NoList octets }
+{
+    let caller = caller_of_lease(lease, call.service, place);
+    match posts.enter(&caller, call.procedure, call.args) {
+        Ok(count) => PostsWords.answer(alloc, &caller, call.procedure, call.args, count),
+        Err(_) => Outcome::Refused(Unserved::System),
+    }
 }
 
 /// No memory, and no entry.
@@ -54,7 +89,7 @@ impl Turn {
             return Err(LookRefusal::NoContext);
         }
         self.asked = true;
-        Gate::look(&mut self.book, id, now)
+        self.book.look(id, now)
     }
 }
 
@@ -62,6 +97,8 @@ impl Gate for Turn {
     ghost use Rattle.std.specs.Prelude.{false, []};
     ghost use Rattle.gss_server.specs.Telling.{limits_of};
     ghost use Rattle.world_runs.specs.Turning.{TurnAnswers};
+
+    ghost program = { posts_says };
 
     ghost tells = { λ _. false };
 
@@ -72,6 +109,22 @@ impl Gate for Turn {
     ghost limits = { λ turn. limits_of turn.book.core };
 
     ghost answers = { TurnAnswers };
+
+    fn id(&self) -> ProgramId {
+        PostsWords.id()
+    }
+
+    fn has(&self, procedure: u32) -> bool {
+        PostsWords.has(procedure)
+    }
+
+    fn needs(&self, procedure: u32) -> Service {
+        PostsWords.needs(procedure)
+    }
+
+    fn takes(&self, procedure: u32, args: &[u8]) -> bool {
+        PostsWords.takes(procedure, args)
+    }
 
     fn negotiate(
         &mut self,
@@ -86,7 +139,7 @@ impl Gate for Turn {
             return no_step();
         }
         self.asked = true;
-        Gate::negotiate(&mut self.book, alloc, id, token, now, draws)
+        self.book.negotiate(alloc, id, token, now, draws)
     }
 
     fn look(&mut self, id: u64, now: Moment) -> Result<Lease, LookRefusal> {
@@ -98,17 +151,34 @@ impl Gate for Turn {
 
     fn admit(
         &mut self,
+        alloc: Global,
         lease: &Lease,
-        seq: u32,
-        procedure: u32,
-        args: [u8; 20],
+        call: &DataCall<'_>,
     ) -> Result<Admitted, AdmitRefusal> {
         if self.asked {
             self.further = true;
             return Err(AdmitRefusal::Gone);
         }
         self.asked = true;
-        Gate::admit(&mut self.book, lease, seq, procedure, args)
+        match self
+            .book
+            .admit(lease, call.seq, call.procedure, call.digest)
+        {
+            Ok(receipt) => {
+                let outcome = outcome_of(alloc, &mut self.posts, lease, call, receipt.place);
+                Ok(Admitted { receipt, outcome })
+            }
+            Err(refusal) => Err(refusal),
+        }
+    }
+
+    fn pass(&mut self, lease: &Lease, call: &DataCall<'_>) -> Result<Receipt, AdmitRefusal> {
+        if self.asked {
+            self.further = true;
+            return Err(AdmitRefusal::Gone);
+        }
+        self.asked = true;
+        self.book.admit(lease, call.seq, NO_PROCEDURE, call.digest)
     }
 
     fn end(&mut self, lease: &Lease, seq: u32) -> Result<Receipt, AdmitRefusal> {
@@ -117,6 +187,6 @@ impl Gate for Turn {
             return Err(AdmitRefusal::Gone);
         }
         self.asked = true;
-        Gate::end(&mut self.book, lease, seq)
+        self.book.end(lease, seq)
     }
 }

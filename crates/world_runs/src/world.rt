@@ -17,6 +17,7 @@ ghost use Rattle.world_runs.specs.ObjectMoves.{TurnsTo, CallsTo, Turns};
 ghost use Rattle.world_laws.specs.Events.{IsBook, IsProper};
 ghost use Rattle.world_runs.specs.Carrying.{RulesCalls, RulesAt};
 ghost use Rattle.world_runs.specs.Passing.{hand_or, LaneTurns};
+ghost use Rattle.world_runs.specs.Served.{served};
 ghost use Rattle.world_runs.specs.Worlds.{parts_means, PassesBy, world_means, shown, IsWorld};
 ghost use Rattle.world_runs.specs.Turning.{happened_of};
 
@@ -28,6 +29,7 @@ use accept_book::OwnSeat;
 use gss_client::{Session, prove_plain_creation};
 use init_ends::{InitSetup, prove_plain_law};
 use krb_derive::SealKeys;
+use posts_program::Posts;
 use sec_base::{Moment, NoMemory, Octets};
 use spnego_core::InitFacts;
 use std::alloc::Global;
@@ -63,6 +65,8 @@ struct Parts {
     stages: Vec<Stage>,
     /// It is there between two events.
     book: Option<OwnSeat>,
+    /// The state of the program that is served.
+    posts: Posts,
     lanes: Vec<Option<InHand>>,
 }
 
@@ -218,10 +222,21 @@ fn hand_or(before: Option<InHand>, taken: InHand) -> InHand
     }
 }
 
+/// The program's state, in whose place a new one is left meanwhile.
+fn taken_posts(posts: &mut Posts) -> Posts {
+    mem::replace(posts, Posts::new())
+}
+
+/// The program's state is this one now.
+fn put_posts(posts: &mut Posts, after: Posts) {
+    drop(mem::replace(posts, after));
+}
+
 /// A lane goes on with the record that it has in hand, or with this one.
 fn go_on(
     alloc: Global,
     book: &mut Option<OwnSeat>,
+    posts: &mut Posts,
     lanes: &mut Vec<Option<InHand>>,
     lane: usize,
     taken: InHand,
@@ -239,9 +254,11 @@ fn go_on(
     let hand = hand_or(before, taken);
     match book.take() {
         Some(held) => {
-            let moves = lanes::step(alloc, held, hand);
+            let program = taken_posts(posts);
+            let moves = lanes::step(alloc, held, program, hand);
             let _log = moves.book.log();
             drop(book.replace(moves.book));
+            put_posts(posts, moves.posts);
             drop(mem::replace(&mut lanes[lane], moves.lane));
             moves.happened
         }
@@ -272,7 +289,7 @@ fn tell_book(book: &Option<OwnSeat>)
 
 /// An event happens.
 fn happen(alloc: Global, parts: &mut Parts, event: WorldEvent) -> Result<Happened, NoMemory>
-    requires proper { IsProper event }
+    requires proper { IsProper served event }
     requires ready { (i : ℕ) (stage : StageMeans)
         → slice_get (parts_means parts.old meaning).stages i ≡ Some stage
         → may_go stage ≡ true }
@@ -299,7 +316,14 @@ fn happen(alloc: Global, parts: &mut Parts, event: WorldEvent) -> Result<Happene
                 draws,
                 looked: None,
             };
-            go_on(alloc, &mut parts.book, &mut parts.lanes, lane, taken)
+            go_on(
+                alloc,
+                &mut parts.book,
+                &mut parts.posts,
+                &mut parts.lanes,
+                lane,
+                taken,
+            )
         }
         WorldEvent::CallBy {
             initiator,
@@ -395,6 +419,7 @@ fn parts_of(
             Ok(lanes) => Ok(Parts {
                 stages,
                 book: Some(book),
+                posts: Posts::new(),
                 lanes,
             }),
             Err(refusal) => {
@@ -486,7 +511,7 @@ impl World {
     ///
     /// Of every run that the events so far can have been, agreement and origin hold.
     pub fn step(&mut self, alloc: Global, event: WorldEvent) -> Result<Happened, NoMemory>
-        requires proper { IsProper event }
+        requires proper { IsProper served event }
         requires world { IsWorld (world_means self.old meaning) }
         ensures world { IsWorld (world_means self.new meaning) }
         ensures happened { IfOk result (λ happened. Steps event (Some happened)

@@ -9,4 +9,4 @@ pub returns-clause-keeps : goal.returns-clause-keeps
 returns-clause-keeps g c = λ one. refl
 
 pub returns-clause-run : goal.returns-clause-run
-returns-clause-run g c = kept-receipts g.P.Port g.P.Link.Link g.C.Clock g.D.Draw _ g.S.Keeper
+returns-clause-run g c = kept-receipts g.V.Program g.W.Speller g.P.Port g.P.Link.Link g.C.Clock g.D.Draw _ g.S.Keeper

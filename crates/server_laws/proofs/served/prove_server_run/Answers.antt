@@ -9,4 +9,4 @@ pub returns-clause-book : goal.returns-clause-book
 returns-clause-book g c = book-run
 
 pub returns-clause-run : goal.returns-clause-run
-returns-clause-run g c = server-run g.P.Port g.P.Link.Link g.C.Clock g.D.Draw g.K.Keeper g.S.Keeper
+returns-clause-run g c = server-run g.V.Program g.W.Speller g.P.Port g.P.Link.Link g.C.Clock g.D.Draw g.K.Keeper g.S.Keeper

@@ -1,0 +1,12 @@
+-- Results that can't be taken for a list of mechanisms.
+use Rattle.std.specs.Prelude.{◌≡◌, ℕ, List, Some}
+use Rattle.rpc_program.specs.Programs.{CallerOf, result_in}
+use Rattle.rpc_program.specs.declared.outcome.Outcome.{Outcome}
+use Rattle.rpc_program.specs.declared.program.Speller as spellers
+use Rattle.world_laws.specs.Apart.{NoList}
+
+-- what is spelled is told apart from a list of mechanisms, which an acceptor signs by the same key
+abbrev pub SpellsApart : {W T : Type 0} → spellers.Ghosts W T → Type 0
+SpellsApart {W} {T} spelling = (old new : W) (caller : CallerOf) (procedure : ℕ) (args : List ℕ)
+    (ticket : T) (outcome : Outcome) → spelling.spells old caller procedure args ticket outcome new
+    → (result : List ℕ) → result_in args outcome ≡ Some result → NoList result
