@@ -11,7 +11,7 @@ use Rattle.gss_client.specs.Conversation.{Talk, talk}
 use Rattle.gss_client.specs.Conversing.{IsTalkFront}
 use Rattle.gss_client.specs.Exchanging.{Went}
 use Rattle.gss_client.specs.declared.conversation.Parting.{Parting}
-use Rattle.gss_client.specs.declared.procedure.Procedure.TheVariants.{Null}
+use Rattle.posts_client.specs.declared.procedure.Procedure.TheVariants.{Null}
 use Rattle.gss_client.specs.Start.{StartSays}
 use Rattle.client_command.specs.Credentials.{creds_from}
 use Rattle.client_options.specs.Command.{called_by}

@@ -6,8 +6,8 @@ use Rattle.hex.specs.declared.error.FromHexError.{FromHexError}
 use Rattle.cli_base.specs.Given.{◌>>=◌, or_usage, demanded, number_given, data_given}
 use Rattle.cli_base.specs.Words.{value_of, plain_of}
 use Rattle.rpc_msgs.specs.Words.{opaque}
-use Rattle.gss_client.specs.declared.procedure.Procedure.{Procedure}
-use Rattle.gss_client.specs.declared.procedure.Procedure.TheVariants.{Null, Echo, Whoami, Post, Count}
+use Rattle.posts_client.specs.declared.procedure.Procedure.{Procedure}
+use Rattle.posts_client.specs.declared.procedure.Procedure.TheVariants.{Null, Echo, Whoami, Post, Count}
 use Rattle.mech_words.specs.Names.{same}
 use Rattle.client_options.specs.Words.{data_by, served, word_given, args_given, bare, with_data, numbered, asked_by, asked_in, is_command, service_given, plan_of, sources_of, words_of, IsData, IsArgument, IsOwn}
 use Rattle.client_options.specs.declared.command.Command.TheVariants.{Served, Numbered}

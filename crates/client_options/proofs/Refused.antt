@@ -7,8 +7,8 @@ use Rattle.gss_base.specs.declared.mech.MechName.{MechName}
 use Rattle.gss_base.specs.declared.mech.MechName.TheVariants as names
 use Rattle.gss_base.specs.Signs.{parsed}
 use Rattle.gss_base.specs.declared.principal.NameRefusal.{NameRefusal}
-use Rattle.gss_client.specs.declared.procedure.Procedure.{Procedure}
-use Rattle.gss_client.specs.declared.procedure.Procedure.TheVariants.{Null, Echo, Whoami, Post, Count}
+use Rattle.posts_client.specs.declared.procedure.Procedure.{Procedure}
+use Rattle.posts_client.specs.declared.procedure.Procedure.TheVariants.{Null, Echo, Whoami, Post, Count}
 use Rattle.cli_base.specs.Given.{◌>>=◌, or_usage, demanded}
 use Rattle.cli_base.specs.Words.{are_words, first_word, value_of, plain_of}
 use Rattle.cli_words.specs.Line.{IsLine, client_names}

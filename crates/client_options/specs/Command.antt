@@ -1,6 +1,6 @@
 -- What the client asks of a program.
 use Rattle.std.specs.Prelude.{true}
-use Rattle.gss_client.specs.Procedure.{query_of}
+use Rattle.posts_client.specs.Procedure.{query_of}
 use Rattle.gss_client.specs.Query.{QuerySays}
 use Rattle.client_options.specs.declared.command.Command.{Command}
 use Rattle.client_options.specs.declared.command.Command.TheVariants.{Served, Numbered}

@@ -7,10 +7,10 @@ use Rattle.hex.specs.Hex.{encode_lower}
 use Rattle.rpc_msgs.specs.Xdr.{Input, whole, word_at}
 use Rattle.rpc_msgs.specs.declared.xdr_reader.XdrRefusal.{XdrRefusal}
 use Rattle.spnego_core.specs.declared.outcome.Outcome.{Outcome}
-use Rattle.gss_client.specs.Procedure.{opaque_alone}
-use Rattle.gss_client.specs.declared.procedure.Procedure.{Procedure}
-use Rattle.gss_client.specs.declared.procedure.Procedure.TheVariants.{Null, Echo, Whoami, Post}
-use Rattle.gss_client.specs.declared.procedure.Procedure.TheVariants.{Count}
+use Rattle.posts_program.specs.Opaque.{opaque_alone}
+use Rattle.posts_client.specs.declared.procedure.Procedure.{Procedure}
+use Rattle.posts_client.specs.declared.procedure.Procedure.TheVariants.{Null, Echo, Whoami, Post}
+use Rattle.posts_client.specs.declared.procedure.Procedure.TheVariants.{Count}
 use Rattle.client_options.specs.declared.command.Command.{Command}
 use Rattle.client_options.specs.declared.command.Command.TheVariants.{Served, Numbered}
 

@@ -6,9 +6,9 @@ use Rattle.std.specs.Prelude.{None, is_some, Result, Ok, Err, if◌then◌else�
 use Rattle.gss_base.specs.Name.{Name}
 use Rattle.gss_base.specs.Signs.{parsed}
 use Rattle.gss_base.specs.declared.principal.NameRefusal.{NameRefusal}
-use Rattle.gss_client.specs.declared.procedure.Procedure.{Procedure}
-use Rattle.gss_client.specs.declared.procedure.Procedure.TheVariants.{Null, Echo, Whoami, Post}
-use Rattle.gss_client.specs.declared.procedure.Procedure.TheVariants.{Count}
+use Rattle.posts_client.specs.declared.procedure.Procedure.{Procedure}
+use Rattle.posts_client.specs.declared.procedure.Procedure.TheVariants.{Null, Echo, Whoami, Post}
+use Rattle.posts_client.specs.declared.procedure.Procedure.TheVariants.{Count}
 use Rattle.rpcsec_bodies.specs.declared.service.Service.{Service}
 use Rattle.rpcsec_bodies.specs.declared.service.Service.TheVariants as services
 use Rattle.cli_base.specs.Given.{◌>>=◌, or_usage, demanded, number_given, data_given}
@@ -20,7 +20,7 @@ use Rattle.cli_words.specs.Line.{client_names}
 use Rattle.hex.specs.Hex.{decode_of}
 use Rattle.hex.specs.declared.error.FromHexError.{FromHexError}
 use Rattle.rpc_msgs.specs.Words.{opaque}
-use Rattle.rpc_msgs.specs.declared.numbers.TheConstants.{PROGRAM, VERSION}
+use Rattle.posts_program.specs.declared.numbers.TheConstants.{PROGRAM, VERSION}
 use Rattle.mech_words.specs.Names.{same}
 use Rattle.client_options.specs.Mechs.{mechs_given}
 use Rattle.client_options.specs.declared.command.Command.{Command}

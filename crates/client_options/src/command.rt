@@ -1,6 +1,7 @@
 //! What the client calls.
 
-use gss_client::{Procedure, Query};
+use gss_client::Query;
+use posts_client::Procedure;
 
 /// What the client calls.
 #[derive(Clone, Copy)]

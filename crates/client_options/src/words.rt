@@ -20,10 +20,11 @@ pub use cli_base::{WordsRefusal, address_of};
 use cli_base::{are_words, count_plain, demand, first_word, number_in};
 use cli_words::{Line, bindings_given, client_line, number_given, texts_of};
 use gss_base::{Bindings, MechName, NameRefusal, Principal};
-use gss_client::{Procedure, Service, Terms};
+use gss_client::{Service, Terms};
 use hex::FromHexError;
+use posts_client::Procedure;
+use posts_program::numbers::{PROGRAM, VERSION};
 use rpc_msgs::XdrWriter;
-use rpc_msgs::numbers::{PROGRAM, VERSION};
 use sec_base::{Items, NoMemory, Octets, Text};
 use std::alloc::Global;
 

@@ -1,3 +1,5 @@
+pub mod Counting
+pub mod Linking
 pub mod Chained
 pub mod Drawing
 pub mod Fitting

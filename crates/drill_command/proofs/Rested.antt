@@ -1,5 +1,5 @@
 -- A session that fits is done: what it did to a book at rest.
-use Rattle.std.proofs.Common.{map, ◌≡◌, ◌≢◌, ◌⊎◌, inl, inr, ℕ, ◌+◌, ◌-◌, ◌*◌, nat_le, ◌<◌, ◌≤◌, ◌%◌, nat_lt, get_or, Bool, true, false, if◌then◌else◌, refl, ap, sym, subst, ◌∙◌, arith, List, [], ◌∷◌, ◌++◌, length, take, replicate, Option, Some, None}
+use Rattle.std.proofs.Common.{map, ◌≡◌, ◌≢◌, ◌⊎◌, inl, inr, ℕ, ◌+◌, ◌-◌, ◌*◌, nat_le, ◌<◌, ◌≤◌, ◌%◌, lit<, nat_lt, get_or, Bool, true, false, if◌then◌else◌, refl, ap, sym, subst, ◌∙◌, arith, List, [], ◌∷◌, ◌++◌, length, take, replicate, Option, Some, None}
 use Rattle.std.specs.List.{AllByRecursion}
 use Rattle.std.proofs.lemmas.Bool.{le-leb}
 use Rattle.std.proofs.lemmas.List.{append-nil, take_all}
@@ -13,31 +13,36 @@ use Rattle.spnego_core.specs.InitMech.{cred_for}
 use Rattle.spnego_core.specs.declared.outcome.Outcome.{Outcome}
 use Rattle.spnego_core.specs.declared.setup.AcceptSetup.{AcceptSetup}
 use Rattle.accept_book.specs.Booking.{BookOf}
-use Rattle.accept_core.specs.History.{posts}
 use Rattle.accept_book.specs.RecordShown.{Asked}
+use Rattle.accept_book.specs.declared.book_answer.Admitted.{Admitted}
+use Rattle.posts_program.specs.Posts.{posts_says, result_of}
+use Rattle.pair_laws.specs.Answering.{AnswersBy}
+use Rattle.pair_laws.specs.Posts.{IsName, posts_in, posts_behind, posts_results, posts_server}
+use Rattle.pair_laws.proofs.PostsResults.{posts-law, entered-posts, after-posts, counted-results}
+use Rattle.gss_client.specs.Query.{QuerySays}
 use Rattle.gss_client.specs.declared.conversation.Parting.{Parting}
 use Rattle.gss_client.specs.declared.conversation.Parting.TheVariants.{Finished, Spent}
 use Rattle.gss_client.specs.declared.refusal.ClientRefusal.{ClientRefusal}
 use Rattle.gss_client.specs.declared.refusal.ClientRefusal.TheVariants.{LinkFault, NoMemory}
 use Rattle.gss_client.specs.Start.{StartSays}
 use Rattle.gss_client.specs.Conversing.{IsTalk}
-use Rattle.gss_server.specs.Asking.{Asking, BookAnswers}
+use Rattle.gss_server.specs.Asking.{Asking}
 use Rattle.gss_server.specs.Connections.{asked_in}
 use Rattle.gss_server.specs.declared.answer.Kept.{Kept}
-use Rattle.gate_models.specs.Looping.{AllAt, IsUnfit, Since}
+use Rattle.gate_models.specs.Looping.{AllAt, IsUnfit}
 use Rattle.gss_client.specs.Conferring.{DueCall, talk_of}
 use Rattle.pair_laws.specs.HonestCalls.{IsToServer}
 use Rattle.pair_laws.specs.Creation.{IsAt, padded}
 use Rattle.pair_laws.specs.Honest.{occasion_of}
 use Rattle.pair_laws.specs.Linked.{CreatedLaw, IsServed, IsLinked, LinkedDone, kept_of}
 use Rattle.pair_laws.specs.Rows.{IsKeptBy, IsNoRecord, history_after, results_by}
+use Rattle.pair_laws.specs.Running.{IsProper, IsResult, Succeeds}
 use Rattle.pair_laws.specs.Running.{parting_of}
 use Rattle.pair_laws.specs.Resting.{RestsAt}
-use Rattle.pair_laws.specs.Sessions.{IsProper, ArePlanned, made_of}
+use Rattle.pair_laws.specs.Sessions.{ArePlanned, made_of}
 use Rattle.pair_laws.specs.Walking.{HasNames, IsNamed}
-use Rattle.pair_laws.specs.Whole.{posts_behind}
 use Rattle.pair_laws.proofs.Linked.{planned-on}
-use Rattle.drill_command.proofs.Drawing.{all-proper}
+use Rattle.drill_command.proofs.Drawing.{all-proper, all-posted}
 use Rattle.drill_command.specs.Calls.{calls_from}
 use Rattle.drill_command.specs.Fitting.{tokens_for}
 use Rattle.drill_plan.specs.Generator.{octets_from}
@@ -46,7 +51,7 @@ use Rattle.drill_command.specs.Paired.{HasOctets, AreOnTime, IsPaired}
 use Rattle.drill_plan.specs.Setting.{drill_credential, drill_start}
 use Rattle.drill_plan.specs.Sessions.{moment_of, kind_of, service_of, terms_of}
 use Rattle.drill_command.specs.Held.{early_end, Holds}
-use Rattle.drill_command.specs.Rested.{LinkedTold, IsLinkTold, FitsRest, FitsNext, RestsAgain, IsNext}
+use Rattle.drill_command.specs.Rested.{LinkedTold, IsLinkTold, FitsRest, FitsNext, RestsAgain, IsNext, IsPostsCall}
 use Rattle.drill_plan.specs.declared.session.DrillSession.{DrillSession}
 
 -- ---- a session that has numbers enough
@@ -86,10 +91,10 @@ all-by moment (one ∷ kept) h octets = (record { lasting = omega (arith, h.0); 
 -- ---- the session
 
 -- what such a session's link shows
-served-of : (gained : List Asked → Type 0) (book new : BookOf) (now : ℕ) (start : StartSays) (wanted : List DueCall) (kept : List Kept) (outcome : Option Outcome) (results : List (List ℕ)) (ended : Option ClientRefusal) (tokens count : ℕ) (kind : MechKind) (draws : List ℕ)
-    → ((asked : List Asked) → gained asked → Asking BookAnswers book asked new) → start.first ≡ 1 → AllByRecursion HasOctets kept → FitsRest tokens kind count now start wanted book kept
-    → (h : Holds gained 128 now start wanted kept false outcome results ended) → ArePlanned start.terms start.first wanted draws → (talk_of start wanted draws (h.talked.took ++ h.wire.coming)).written ≡ h.talked.wrote
-    → IsServed 128 now tokens start kind count now wanted draws (h.talked.took ++ h.wire.coming) book new h.looped.1.records h.looped.1.answers h.looped.1.rest
+served-of : (gained : List (Asked Admitted) → Type 0) (book new : BookOf) (now : ℕ) (start : StartSays) (wanted : List DueCall) (kept : List Kept) (outcome : Option Outcome) (results : List (List ℕ)) (ended : Option ClientRefusal) (tokens count : ℕ) (kind : MechKind) (draws : List ℕ)
+    → ((asked : List (Asked Admitted)) → gained asked → Asking (AnswersBy (posts_server 128)) book asked new) → start.first ≡ 1 → AllByRecursion HasOctets kept → FitsRest tokens kind count now start wanted book kept
+    → (h : Holds gained (posts_server 128).serving now start wanted kept false outcome results ended) → ArePlanned posts_says start.terms start.first wanted draws → (talk_of start wanted draws (h.talked.took ++ h.wire.coming)).written ≡ h.talked.wrote
+    → IsServed (posts_server 128) now tokens start kind count now wanted draws (h.talked.took ++ h.wire.coming) book new h.looped.1.records h.looped.1.answers h.looped.1.rest
 served-of gained book new now start wanted kept outcome results ended tokens count kind draws asks first octets f h planned wrote =
     let l = h.looped.1 in
     let keeps : kept ≡ l.answers = l.keeps ∙ (ap (λ (ks : List Kept). l.answers ++ ks) l.stands.1 ∙ append-nil l.answers) in
@@ -99,7 +104,7 @@ served-of gained book new now start wanted kept outcome results ended tokens cou
         counted = l.counted;
         exact = l.exact;
         decided = l.decided;
-        asked = asks (asked_in 128 l.records l.answers) l.stands.0;
+        asked = asks (asked_in (posts_server 128).serving l.records l.answers) l.stands.0;
         kept = subst (λ (ks : List Kept). AllByRecursion (IsKeptBy now) ks) keeps (all-by now kept l.timed octets);
       };
       none = no-record l.rest l.stands.2;
@@ -121,61 +126,69 @@ served-of gained book new now start wanted kept outcome results ended tokens cou
       planned = planned;
     }
 
+-- the results of the program of posts are results of what is asked
+all-succeed : (width : ℕ) (name : List ℕ) (wanted : List DueCall) → IsName name → AllByRecursion IsPostsCall wanted → AllByRecursion (Succeeds (posts_server width) name) wanted
+all-succeed width name [] named each = tt
+all-succeed width name (call ∷ later) named each = (
+  λ log. subst (λ (q : QuerySays). IsResult q (result_of q.number call.args name (posts_in log))) (sym each.0.query) (posts-law each.0.procedure call.args name (posts_in log) each.0.args named),
+  all-succeed width name later named each.1,
+)
+
 -- so it is done
 done-of : (book new : BookOf) (now : ℕ) (start : StartSays) (wanted : List DueCall) (one : DrillSession) (tokens count : ℕ) (kind : MechKind) (draws stream wrote undrawn : List ℕ) (records : List Fragments) (answers : List Kept) (rest : List ℕ) (parting : Parting)
-    → start.first ≡ 1 → length wanted < 0x80000000 → CreatedLaw → IsLinkTold one.outcome → IsServed 128 now tokens start kind count now wanted draws stream book new records answers rest
+    → start.first ≡ 1 → length wanted < 0x80000000 → AllByRecursion IsPostsCall wanted → CreatedLaw → IsLinkTold one.outcome → IsServed (posts_server 128) now tokens start kind count now wanted draws stream book new records answers rest
     → IsTalk wrote one.outcome one.results.items parting undrawn (talk_of start wanted draws stream) → one.ended ≡ early_end parting
     → RestsAgain tokens kind count now start wanted book new one
-done-of book new now start wanted one tokens count kind draws stream wrote undrawn records answers rest parting first few created told served w ends =
-    let o : (agreed : Outcome) × ((talk_of start wanted draws stream).outcome ≡ Some agreed) = created 128 now tokens start kind count now wanted draws stream book new records answers rest served in
+done-of book new now start wanted one tokens count kind draws stream wrote undrawn records answers rest parting first few posted created told served w ends =
+    let o : (agreed : Outcome) × ((talk_of start wanted draws stream).outcome ≡ Some agreed) = created (posts_server 128) now tokens start kind count now wanted draws stream book new records answers rest served in
     let agreed : one.outcome ≡ Some o.0 = sym w.outcome_is ∙ o.1 in
     let law : LinkedTold o.0 = told o.0 agreed in
-    let x : IsLinked o.0.key 128 now tokens start kind count now wanted draws stream book new records answers rest o.0 = record { served = served; told = o.1; key_is = refl; name = law.name } in
-    let d : LinkedDone tokens start kind count now wanted draws stream book new o.0 = law.laws 128 now tokens start kind count now wanted draws stream book new records answers rest o.0 x in
+    let x : IsLinked o.0.key (posts_server 128) now tokens start kind count now wanted draws stream book new records answers rest o.0 = record { served = served; told = o.1; key_is = refl; succeed = all-succeed 128 o.0.initiator wanted law.name posted } in
+    let d : LinkedDone (posts_server 128) tokens start kind count now wanted draws stream book new o.0 = law.laws (posts_server 128) now tokens start kind count now wanted draws stream book new records answers rest o.0 x in
     let fin : parting_of start.first (length wanted) ≡ Finished = finishes start.first wanted first few in
     let all : made_of start.first wanted ≡ wanted = made-all start.first wanted fin in
     let parts : parting ≡ Finished = sym w.parts ∙ (d.parts ∙ fin) in
+    let history : new.core.history ≡ history_after (count + 1) 1 wanted d.opened = d.history ∙ (ap (λ (cs : List DueCall). history_after (count + 1) start.first cs d.opened) all ∙ ap (λ (n : ℕ). history_after (count + 1) n wanted d.opened) first) in
+    let same : posts_in d.opened ≡ posts_in book.core.history = entered-posts (count + 1) now kind tokens book.core.history d.opened d.enters in
     record {
       ended = ends ∙ ap early_end parts;
       agreed = o.0;
       outcome = agreed;
       mech = d.mech;
       named = d.named;
-      results = sym w.results_are ∙ (d.results_are ∙ ap (λ (cs : List DueCall). results_by (posts book.core.history) o.0.initiator cs) all);
+      results = sym w.results_are ∙ (d.results_are ∙ (ap (λ (cs : List DueCall). results_by (posts_server 128) o.0.initiator (count + 1) start.first cs d.opened) all
+          ∙ (counted-results 128 o.0.initiator (count + 1) start.first wanted d.opened ∙ ap (λ (n : ℕ). posts_results n o.0.initiator wanted) same)));
       opened = d.opened;
       enters = d.enters;
       names = d.names;
-      history = d.history ∙ (ap (λ (cs : List DueCall). history_after (count + 1) start.first cs d.opened) all ∙ ap (λ (n : ℕ). history_after (count + 1) n wanted d.opened) first);
-      posted = d.posted ∙ ap (λ (cs : List DueCall). posts_behind (posts book.core.history) cs) all;
+      history = history;
+      posted = ap posts_in history ∙ (after-posts (count + 1) 1 wanted d.opened ∙ ap (λ (n : ℕ). posts_behind n wanted) same);
       grown = d.grown;
       limits = d.limits;
       rests = d.rests;
     }
 
-asks-of : (book new : BookOf) (asked : List Asked) → Since (λ b. b ≡ book) BookAnswers new asked → Asking BookAnswers book asked new
-asks-of book new asked s = subst (λ (b : BookOf). Asking BookAnswers b asked new) s.1 s.2
-
-fed-session : (book new : BookOf) (now : ℕ) (start : StartSays) (wanted : List DueCall) (kept : List Kept) (one : DrillSession) (tokens count : ℕ) (kind : MechKind)
-    → start.first ≡ 1 → CreatedLaw → IsLinkTold one.outcome → AllByRecursion HasOctets kept
+fed-session : (gained : List (Asked Admitted) → Type 0) (book new : BookOf) (now : ℕ) (start : StartSays) (wanted : List DueCall) (kept : List Kept) (one : DrillSession) (tokens count : ℕ) (kind : MechKind)
+    → ((asked : List (Asked Admitted)) → gained asked → Asking (AnswersBy (posts_server 128)) book asked new) → start.first ≡ 1 → CreatedLaw → IsLinkTold one.outcome → AllByRecursion HasOctets kept
     → one.ended ≢ Some LinkFault → one.ended ≢ Some NoMemory → FitsRest tokens kind count now start wanted book kept
-    → Holds (λ asked. Since (λ b. b ≡ book) BookAnswers new asked) 128 now start wanted kept false one.outcome one.results.items one.ended
+    → Holds gained (posts_server 128).serving now start wanted kept false one.outcome one.results.items one.ended
     → RestsAgain tokens kind count now start wanted book new one
-fed-session book new now start wanted kept one tokens count kind first created told octets linked remembered f h =
+fed-session gained book new now start wanted kept one tokens count kind asks first created told octets linked remembered f h =
     let t = h.talked in
     let more : List ℕ = replicate (16 * length wanted) 0 in
     let w = t.whole (λ e. linked (h.ends ∙ ap early_end e)) (λ e. remembered (h.ends ∙ ap early_end e)) more in
-    let planned : ArePlanned start.terms start.first wanted (t.drawn ++ more) = planned-on start.terms start.first wanted t.drawn f.called (omega (arith, first)) f.each t.octets in
-    done-of book new now start wanted one tokens count kind (t.drawn ++ more) (t.took ++ h.wire.coming) t.wrote more h.looped.1.records h.looped.1.answers h.looped.1.rest h.parting first f.numbers created told
-    (served-of _ book new now start wanted kept one.outcome one.results.items one.ended tokens count kind (t.drawn ++ more) (asks-of book new) first octets f h planned w.written) w h.ends
+    let planned : ArePlanned posts_says start.terms start.first wanted (t.drawn ++ more) = planned-on posts_says start.terms start.first wanted t.drawn f.called (omega (arith, first)) f.each t.octets in
+    done-of book new now start wanted one tokens count kind (t.drawn ++ more) (t.took ++ h.wire.coming) t.wrote more h.looped.1.records h.looped.1.answers h.looped.1.rest h.parting first f.numbers f.posted created told
+    (served-of gained book new now start wanted kept one.outcome one.results.items one.ended tokens count kind (t.drawn ++ more) asks first octets f h planned w.written) w h.ends
 
-pub session-rests : (book new : BookOf) (now : ℕ) (start : StartSays) (wanted : List DueCall) (kept : List Kept) (starved : Bool) (one : DrillSession) (tokens count : ℕ) (kind : MechKind)
-    → start.first ≡ 1 → CreatedLaw → IsLinkTold one.outcome → AllByRecursion HasOctets kept
+pub session-rests : (gained : List (Asked Admitted) → Type 0) (book new : BookOf) (now : ℕ) (start : StartSays) (wanted : List DueCall) (kept : List Kept) (starved : Bool) (one : DrillSession) (tokens count : ℕ) (kind : MechKind)
+    → ((asked : List (Asked Admitted)) → gained asked → Asking (AnswersBy (posts_server 128)) book asked new) → start.first ≡ 1 → CreatedLaw → IsLinkTold one.outcome → AllByRecursion HasOctets kept
     → (one.ended ≡ Some LinkFault → starved ≡ true) → starved ≡ false → one.ended ≢ Some NoMemory → FitsRest tokens kind count now start wanted book kept
-    → Holds (λ asked. Since (λ b. b ≡ book) BookAnswers new asked) 128 now start wanted kept starved one.outcome one.results.items one.ended
+    → Holds gained (posts_server 128).serving now start wanted kept starved one.outcome one.results.items one.ended
     → RestsAgain tokens kind count now start wanted book new one
-session-rests book new now start wanted kept starved one tokens count kind first created told octets fault fed remembered f held =
-    fed-session book new now start wanted kept one tokens count kind first created told octets (λ e. true-false starved (fault e) fed) remembered f
-    (subst (λ (b : Bool). Holds (λ asked. Since (λ b. b ≡ book) BookAnswers new asked) 128 now start wanted kept b one.outcome one.results.items one.ended) fed held)
+session-rests gained book new now start wanted kept starved one tokens count kind asks first created told octets fault fed remembered f held =
+    fed-session gained book new now start wanted kept one tokens count kind asks first created told octets (λ e. true-false starved (fault e) fed) remembered f
+    (subst (λ (b : Bool). Holds gained (posts_server 128).serving now start wanted kept b one.outcome one.results.items one.ended) fed held)
 
 -- ---- the next session of a drill
 
@@ -209,8 +222,9 @@ fits-next number moment count value start book kept few limits now stamp terms p
   cache = cache-of number book few limits;
   log = f.log;
   numbers = f.numbers;
-  called = subst IsToServer (sym terms) (record { program = refl; version = refl });
-  each = subst (λ (t : Terms). AllByRecursion (IsProper t) (calls_from count value)) (sym terms) (all-proper (terms_of number) (protected number) count value);
+  called = subst (IsToServer posts_says) (sym terms) (record { number = refl; version = refl; fits = record { number = lit< tt; version = lit< tt } });
+  each = subst (λ (t : Terms). AllByRecursion (IsProper posts_says t) (calls_from count value)) (sym terms) (all-proper (terms_of number) (protected number) count value);
+  posted = all-posted count value;
 }
 
 pub next-of : (number count value moment client : ℕ) (start : StartSays) (wanted : List DueCall) (old new : BookOf) (kept : List Kept) (one : DrillSession) → number ≤ 100 → book_limits old ≡ drill_limits → moment ≡ moment_of number → start.setup.stamp ≡ moment → start.terms ≡ terms_of number → start ≡ drill_start number moment (octets_from 66 client) → wanted ≡ calls_from count value

@@ -2,8 +2,8 @@
 use Rattle.std.proofs.Common.{◌≡◌, ◌<◌, ◌≤◌, ◌+◌, ◌-◌, ℕ, suc, List, [], ◌∷◌, ◌++◌, refl, ap, sym, ◌∙◌, append_assoc, arith}
 use Rattle.std.proofs.lemmas.List.{append-nil}
 use Rattle.gss_client.specs.Conferring.{DueCall, DueOf, call_of, calls_of}
-use Rattle.gss_client.specs.Procedure.{query_of}
-use Rattle.gss_client.specs.declared.procedure.Procedure.{Procedure}
+use Rattle.posts_client.specs.Procedure.{query_of}
+use Rattle.posts_client.specs.declared.procedure.Procedure.{Procedure}
 use Rattle.drill_command.specs.Calls.{drawn_call, calls_from, after_calls}
 
 pub calls-more : (front : List DueCall) (n i x : ℕ) (all : List DueCall) → i < n → front ++ calls_from (n - i) x ≡ all → (front ++ (drawn_call x).call ∷ []) ++ calls_from (n - (i + 1)) (drawn_call x).next ≡ all

@@ -2,12 +2,13 @@
 use Rattle.std.specs.Prelude.{ℕ, zero, suc, ◌%◌, ◌==◌, Bool, true, false, if◌then◌else◌, List, []}
 use Rattle.std.specs.Prelude.{◌∷◌}
 use Rattle.rpc_msgs.specs.Words.{opaque}
-use Rattle.rpc_msgs.specs.declared.numbers.TheConstants.{NULL, ECHO, WHOAMI, POST}
-use Rattle.gss_client.specs.declared.procedure.Procedure.{Procedure}
-use Rattle.gss_client.specs.declared.procedure.Procedure.TheVariants.{Null, Echo, Whoami, Post}
-use Rattle.gss_client.specs.declared.procedure.Procedure.TheVariants.{Count}
+use Rattle.rpc_msgs.specs.declared.numbers.TheConstants.{NULL}
+use Rattle.posts_program.specs.declared.numbers.TheConstants.{ECHO, WHOAMI, POST}
+use Rattle.posts_client.specs.declared.procedure.Procedure.{Procedure}
+use Rattle.posts_client.specs.declared.procedure.Procedure.TheVariants.{Null, Echo, Whoami, Post}
+use Rattle.posts_client.specs.declared.procedure.Procedure.TheVariants.{Count}
 use Rattle.gss_client.specs.Conferring.{DueCall}
-use Rattle.gss_client.specs.Procedure.{query_of}
+use Rattle.posts_client.specs.Procedure.{query_of}
 use Rattle.drill_plan.specs.Generator.{stepped, top_of, octets_from, after_steps}
 
 -- a call that was drawn, and the generator's value then

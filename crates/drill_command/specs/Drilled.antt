@@ -2,11 +2,11 @@
 use Rattle.std.specs.Prelude.{◌≡◌, ℕ, zero, suc, ◌+◌, List, [], ◌∷◌, ◌++◌, reverse, Some, None}
 use Rattle.spnego_core.specs.declared.outcome.Outcome.{Outcome}
 use Rattle.accept_book.specs.Booking.{names_of}
-use Rattle.accept_core.specs.History.{posts}
 use Rattle.accept_core.specs.declared.entry.Entry.{Entry}
 use Rattle.gss_client.specs.Conferring.{DueCall}
 use Rattle.pair_laws.specs.Creation.{Enters}
-use Rattle.pair_laws.specs.Rows.{history_after, results_by}
+use Rattle.pair_laws.specs.Posts.{posts_in, posts_results}
+use Rattle.pair_laws.specs.Rows.{history_after}
 use Rattle.pair_laws.specs.Walking.{HasNames}
 use Rattle.drill_command.specs.Calls.{calls_from, after_calls}
 use Rattle.drill_command.specs.Fitting.{tokens_for}
@@ -37,7 +37,7 @@ pub record IsSession (number : ℕ) (wanted : List DueCall) (old new : List Entr
   pub outcome : one.outcome ≡ Some agreed
   pub mech : agreed.mech ≡ kind_of number
   pub named : HasNames (drill_credential (kind_of number)) agreed
-  pub results : one.results.items ≡ results_by (posts old) agreed.initiator wanted
+  pub results : one.results.items ≡ posts_results (posts_in old) agreed.initiator wanted
   pub opened : List Entry
   pub enters : Enters (number + 1) (moment_of number) (kind_of number)
       (tokens_for (kind_of number)) old opened

@@ -2,6 +2,8 @@
 use Rattle.std.specs.Prelude.{◌≡◌, ℕ, Bool, false, List, [], Option, Some, None}
 use Rattle.sec_base.specs.Link.{Wire}
 use Rattle.accept_book.specs.RecordShown.{Asked}
+use Rattle.accept_book.specs.declared.book_answer.Admitted.{Admitted}
+use Rattle.rpc_program.specs.Programs.{Serving}
 use Rattle.spnego_core.specs.declared.outcome.Outcome.{Outcome}
 use Rattle.gss_client.specs.declared.conversation.Parting.{Parting}
 use Rattle.gss_client.specs.declared.conversation.Parting.TheVariants.{Finished, Spent, Foreign}
@@ -26,10 +28,10 @@ early_end Foreign = Some (BadReply Body)
 early_end (Refused refusal) = Some refusal
 
 -- the talk of a client whose context is created so, over some octets, which are those of the link:
--- what it heard are the replies to what it wrote, each by its kept answer, by windows of this width
--- and at this moment; `gained` says what was asked for them, and `starved` whether memory was
+-- what it heard are the replies to what it wrote, each by its kept answer, by what is served and at
+-- this moment; `gained` says what was asked for them, and `starved` whether memory was
 -- wanted
-pub record HoldsBehind (gained : List Asked → Type 0) (width moment : ℕ)
+pub record HoldsBehind (gained : List (Asked Admitted) → Type 0) (serves : Serving) (moment : ℕ)
     (creation : Talking SessionState) (wanted : List DueCall) (kept : List Kept) (starved : Bool)
     (outcome : Option Outcome) (results : List (List ℕ)) (ended : Option ClientRefusal) : Type 0
   where
@@ -38,10 +40,11 @@ pub record HoldsBehind (gained : List Asked → Type 0) (width moment : ℕ)
     pub talked : TalkedBehind false [] [] creation wanted
         (record { taken = []; coming = []; written = [] }) wire outcome results parting
     pub ends : ended ≡ early_end parting
-    pub looped : Loops gained width moment wire kept starved
+    pub looped : Loops gained serves moment wire kept starved
 
 -- the same of a start by plain credentials
-abbrev pub Holds : (List Asked → Type 0) → ℕ → ℕ → StartSays → List DueCall → List Kept → Bool
+abbrev pub Holds : (List (Asked Admitted) → Type 0) → Serving → ℕ → StartSays → List DueCall
+    → List Kept → Bool
     → Option Outcome → List (List ℕ) → Option ClientRefusal → Type 0
-Holds gained width moment start wanted kept starved outcome results ended = HoldsBehind gained width
-    moment (created_from start) wanted kept starved outcome results ended
+Holds gained serves moment start wanted kept starved outcome results ended = HoldsBehind gained
+    serves moment (created_from start) wanted kept starved outcome results ended

@@ -5,3 +5,4 @@ pub mod Fitting
 pub mod Held
 pub mod Paired
 pub mod Rested
+pub mod Served

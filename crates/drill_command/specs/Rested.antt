@@ -7,7 +7,6 @@ use Rattle.gss_base.specs.declared.mech.MechKind.{MechKind}
 use Rattle.spnego_core.specs.Exchange.{HonestPair}
 use Rattle.spnego_core.specs.declared.outcome.Outcome.{Outcome}
 use Rattle.accept_book.specs.Booking.{BookOf, names_of}
-use Rattle.accept_core.specs.History.{posts}
 use Rattle.accept_core.specs.declared.entry.Entry.{Entry}
 use Rattle.gss_client.specs.Start.{StartSays}
 use Rattle.gss_server.specs.declared.answer.Kept.{Kept}
@@ -17,11 +16,13 @@ use Rattle.pair_laws.specs.Creation.{SameLimits, Enters, padded}
 use Rattle.pair_laws.specs.Honest.{occasion_of}
 use Rattle.pair_laws.specs.Linked.{LinkedLaw, kept_of}
 use Rattle.pair_laws.specs.Resting.{RestsAt}
-use Rattle.pair_laws.specs.Rows.{history_after, results_by}
-use Rattle.pair_laws.specs.Running.{IsName}
-use Rattle.pair_laws.specs.Sessions.{IsProper}
+use Rattle.pair_laws.specs.Rows.{history_after}
+use Rattle.pair_laws.specs.Posts.{IsName, IsPosted, posts_in, posts_behind, posts_results}
+use Rattle.pair_laws.specs.Running.{IsProper}
+use Rattle.posts_client.specs.declared.procedure.Procedure.{Procedure}
+use Rattle.posts_client.specs.Procedure.{query_of}
+use Rattle.posts_program.specs.Posts.{posts_says}
 use Rattle.pair_laws.specs.Walking.{IsNamed}
-use Rattle.pair_laws.specs.Whole.{posts_behind}
 use Rattle.drill_command.specs.Fitting.{tokens_for}
 use Rattle.drill_plan.specs.Generator.{octets_from}
 use Rattle.drill_command.specs.Paired.{IsPaired}
@@ -39,6 +40,12 @@ pub record LinkedTold (outcome : Outcome) : Type 0 where
 abbrev pub IsLinkTold : Option Outcome → Type 0
 IsLinkTold outcome = (told : Outcome) → outcome ≡ Some told → LinkedTold told
 
+-- a call of the program of posts, with arguments of its procedure
+pub record IsPostsCall (call : DueCall) : Type 0 where
+  pub procedure : Procedure
+  pub query : call.query ≡ query_of procedure
+  pub args : IsPosted procedure call.args
+
 -- the session begins at this moment, its client's stamp, with a book at rest, which has places for
 -- these tokens and calls; with what was drawn for the first answers, so many, both ends are an
 -- honest pair; there are numbers enough, and each call is one that the service takes
@@ -55,8 +62,9 @@ pub record FitsRest (tokens : ℕ) (kind : MechKind) (count moment : ℕ) (start
   pub cache : count < book.core.cache.capacity
   pub log : length book.core.history + 4 * tokens + length wanted < book.core.limit
   pub numbers : length wanted < 0x80000000
-  pub called : IsToServer start.terms
-  pub each : AllByRecursion (IsProper start.terms) wanted
+  pub called : IsToServer posts_says start.terms
+  pub each : AllByRecursion (IsProper posts_says start.terms) wanted
+  pub posted : AllByRecursion IsPostsCall wanted
 
 -- the session wasn't refused, agreed on an outcome of this mechanism with its credential's names,
 -- and was answered the service's results of all its calls by the posts of the book; the book has
@@ -69,12 +77,13 @@ pub record RestsAgain (tokens : ℕ) (kind : MechKind) (count moment : ℕ) (sta
   pub outcome : one.outcome ≡ Some agreed
   pub mech : agreed.mech ≡ kind
   pub named : IsNamed start.setup kind agreed
-  pub results : one.results.items ≡ results_by (posts old.core.history) agreed.initiator wanted
+  pub results : one.results.items
+      ≡ posts_results (posts_in old.core.history) agreed.initiator wanted
   pub opened : List Entry
   pub enters : Enters (count + 1) moment kind tokens old.core.history opened
   pub names : enters.names ≡ names_of agreed
   pub history : new.core.history ≡ history_after (count + 1) 1 wanted opened
-  pub posted : posts new.core.history ≡ posts_behind (posts old.core.history) wanted
+  pub posted : posts_in new.core.history ≡ posts_behind (posts_in old.core.history) wanted
   pub grown : length new.core.history ≤ length old.core.history + 4 * tokens + length wanted + 1
   pub limits : SameLimits old new
   pub rests : (later : ℕ) → moment < later → RestsAt (count + 1) later new.core

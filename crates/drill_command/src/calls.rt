@@ -3,15 +3,17 @@
 ghost use Rattle.std.specs.Prelude.{◌≡◌, ◌≤◌, ◌%◌, length, IfOk, OnOk};
 ghost use Rattle.rpc_msgs.specs.Words.{opaque};
 ghost use Rattle.gss_client.specs.Conferring.{call_of, calls_of};
-ghost use Rattle.gss_client.specs.Procedure.{query_of};
+ghost use Rattle.posts_client.specs.Procedure.{query_of};
 ghost use Rattle.drill_plan.specs.Generator.{stepped, top_of, octets_from, after_steps};
 ghost use Rattle.drill_command.specs.Calls.{procedure_of, takes_octets, drawn_call, calls_from};
 ghost use Rattle.drill_command.specs.Calls.{after_calls};
 
 use drill_plan::Generator;
-use gss_client::{DueCall, Procedure};
+use gss_client::DueCall;
+use posts_client::Procedure;
+use posts_program::numbers::{ECHO, POST, WHOAMI};
 use rpc_msgs::XdrWriter;
-use rpc_msgs::numbers::{ECHO, NULL, POST, WHOAMI};
+use rpc_msgs::numbers::NULL;
 use sec_base::{NoMemory, Octets};
 use std::alloc::Global;
 

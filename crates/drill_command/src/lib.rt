@@ -4,6 +4,7 @@
 mod calls;
 mod drill;
 mod ends;
+mod gate;
 mod meeting;
 mod opening;
 mod sessions;

@@ -6,16 +6,18 @@ ghost use Rattle.std.specs.List.{AllByRecursion};
 ghost use Rattle.gss_base.specs.declared.mech.MechKind.{MechKind};
 ghost use Rattle.pair_laws.specs.Creation.{IsAt};
 ghost use Rattle.pair_laws.specs.Linked.{kept_of};
+ghost use Rattle.pair_laws.specs.Posts.{posts_in};
+ghost use Rattle.posts_program.specs.Posts.{posts_says};
 ghost use Rattle.drill_command.specs.Paired.{HasOctets};
 ghost use Rattle.drill_command.specs.Rested.{IsLinkTold, FitsRest, RestsAgain, IsNext};
 ghost use Rattle.accept_core.specs.Legal.{Legal};
 ghost use Rattle.mech_objects.specs.Standard.{blank_of};
 ghost use Rattle.init_ends.specs.Objects.{is_own_list};
 ghost use Rattle.gss_client.specs.Conferring.{calls_of};
-ghost use Rattle.gss_client.specs.Procedure.{query_of};
+ghost use Rattle.posts_client.specs.Procedure.{query_of};
 ghost use Rattle.gss_client.specs.Start.{StartSays, objects_start, start_means};
 ghost use Rattle.gss_client.specs.Talk.{created_over};
-ghost use Rattle.gss_server.specs.Asking.{BookAnswers};
+ghost use Rattle.gss_server.specs.Hearing.{serving};
 ghost use Rattle.gate_models.specs.Looping.{Since};
 ghost use Rattle.drill_plan.specs.Generator.{octets_from};
 ghost use Rattle.drill_plan.specs.Sessions.{calls_in, session_count, moment_of, kind_of, own_name};
@@ -28,25 +30,27 @@ ghost use Rattle.drill_plan.specs.Limits.{book_limits, log_limits, drill_limits}
 
 use crate::calls::draw_calls;
 use crate::ends::early_end;
+use crate::gate::DrillGate;
 use crate::meeting::prove_paired;
 use crate::opening::open_book;
-use accept_book::{Log, OwnSeat};
+use accept_book::Log;
 use drill_plan::{DrillSession, Generator, Plan, SESSION_CALLS, WIDTH, moment_of, start_of};
 use gate_models::{Beginning, LoopLink};
-use gss_client::{ClientRefusal, DueCall, Procedure, Start, Talk, hold_calls};
-use gss_server::Kept;
+use gss_client::{ClientRefusal, DueCall, Start, Talk, hold_calls};
+use gss_server::{Gate, Kept};
 use mech_objects::Mech;
 use pair_laws::{prove_created, prove_links, tell_kept, tell_name};
+use posts_client::Procedure;
 use sec_base::{Moment, NoMemory};
 use spnego_core::Outcome;
 use std::alloc::Global;
 use std::marker::Brand;
 
-/// A session that was held, and the book, the server's generator and the kept answers after it.
+/// A session that was held, and the book with its program, the server's generator and the kept answers after it.
 #[derive(Drop)]
 pub struct Held {
     pub session: DrillSession,
-    pub book: OwnSeat,
+    pub book: DrillGate,
     pub server: Generator,
     pub kept: Vec<Kept>,
     /// Whether an answer wanted memory.
@@ -64,9 +68,9 @@ fn tell_link(outcome: &Option<Outcome>)
 }
 
 /// Holds a session over a book that begins as `J` says.
-fn hold_from<J: Beginning<OwnSeat>>(
+fn hold_from<J: Beginning<DrillGate>>(
     alloc: Global,
-    book: OwnSeat,
+    book: DrillGate,
     now: Moment,
     server: Generator,
     client: &mut Generator,
@@ -79,19 +83,24 @@ fn hold_from<J: Beginning<OwnSeat>>(
     requires list { is_own_list (start_means start meaning).setup.list ≡ true }
     requires first { start.first ≡ 1 }
     ensures held { IfOk result (λ h. ∥ HoldsBehind
-        (λ asked. Since J.begins BookAnswers h.book asked) 128 now
-        (created_over (start_means start meaning)) (calls_of query_of calls.now) h.kept.items
+        (λ asked. Since J.begins ⟦<DrillGate as Gate>⟧.answers
+        h.book asked) (serving posts_says 128) now (created_over (start_means start meaning))
+        (calls_of query_of calls.now) h.kept.items
         h.starved h.session.outcome h.session.results.items h.session.ended ∥₁) }
     // By the objects of Kerberos and SCRAM: as by their credentials.
     ensures plain { (own : StartSays) → start_means start meaning ≡ objects_start own
-        → IfOk result (λ h. ∥ Holds (λ asked. Since J.begins BookAnswers h.book asked) 128 now own
+        → IfOk result (λ h. ∥ Holds (λ asked. Since J.begins
+        ⟦<DrillGate as Gate>⟧.answers h.book asked)
+        (serving posts_says 128) now own
         (calls_of query_of calls.now) h.kept.items h.starved h.session.outcome
         h.session.results.items h.session.ended ∥₁) }
     // and a fault of the link is want of memory
     ensures fault { IfOk result
         (λ h. h.session.ended ≡ Some ClientRefusal.LinkFault → h.starved ≡ true) }
 {
-    let mut link: LoopLink<OwnSeat, Generator, J> = LoopLink::new(alloc, book, now, server, WIDTH)?;
+    let mut link: LoopLink<DrillGate, Generator, J> = LoopLink::new(
+        alloc, book, now, server, WIDTH,
+    )?;
     let talk = hold_calls(alloc, &mut link, client, start, calls);
     let starved = link.starved();
     let (book, server, kept) = link.into_parts();
@@ -117,7 +126,7 @@ fn hold_from<J: Beginning<OwnSeat>>(
 /// Holds a session over a book, at one moment. The book is asked what the session's records ask, in order.
 pub fn hold_session(
     alloc: Global,
-    book: OwnSeat,
+    book: DrillGate,
     now: Moment,
     server: Generator,
     client: &mut Generator,
@@ -127,25 +136,36 @@ pub fn hold_session(
     requires list { is_own_list (start_means start meaning).setup.list ≡ true }
     requires first { start.first ≡ 1 }
     ensures held { IfOk result (λ h. ∥ HoldsBehind
-        (λ asked. Since (λ b. b ≡ book) BookAnswers h.book asked) 128 now
-        (created_over (start_means start meaning)) (calls_of query_of calls.now) h.kept.items
+        (λ asked. Since (λ b. b ≡ book)
+        ⟦<DrillGate as Gate>⟧.answers h.book asked)
+        (serving posts_says 128) now (created_over (start_means start meaning))
+        (calls_of query_of calls.now) h.kept.items
         h.starved h.session.outcome h.session.results.items h.session.ended ∥₁) }
     // By the objects of Kerberos and SCRAM: as by their credentials.
     ensures plain { (own : StartSays) → start_means start meaning ≡ objects_start own
-        → IfOk result (λ h. ∥ Holds (λ asked. Since (λ b. b ≡ book) BookAnswers h.book asked) 128
-        now own (calls_of query_of calls.now) h.kept.items h.starved h.session.outcome
+        → IfOk result (λ h. ∥ Holds (λ asked. Since (λ b. b ≡ book)
+        ⟦<DrillGate as Gate>⟧.answers h.book asked)
+        (serving posts_says 128) now own (calls_of query_of calls.now) h.kept.items h.starved
+        h.session.outcome
         h.session.results.items h.session.ended ∥₁) }
-    ensures limits { IfOk result (λ h. book_limits h.book ≡ book_limits book) }
+    ensures limits { IfOk result (λ h. book_limits h.book.inner.seat
+        ≡ book_limits book.inner.seat) }
     ensures moments { IfOk result (λ h. AllByRecursion (IsAt now) (kept_of h.kept.items)) }
     ensures octets { IfOk result (λ h. AllByRecursion HasOctets h.kept.items) }
+    // The program's count of posts stays the log's.
+    ensures counted { IfOk result (λ h. book.inner.program.posts
+        ≡ posts_in book.inner.seat.core.history
+        → h.book.inner.program.posts ≡ posts_in h.book.inner.seat.core.history) }
     // Where no memory was wanted and it fits a book at rest, it is done, and the book rests again.
     ensures rests { (own : StartSays) → start_means start meaning ≡ objects_start own
         → IfOk result (λ h. h.starved ≡ false
         → h.session.ended ≢ Some ClientRefusal.NoMemory
         → (tokens : ℕ) (kind : MechKind) (count : ℕ)
-        → FitsRest tokens kind count now own (calls_of query_of calls.now) book h.kept.items
-        → ∥ RestsAgain tokens kind count now own (calls_of query_of calls.now) book h.book
-        h.session ∥₁) }
+        → FitsRest tokens kind count now own (calls_of query_of calls.now) book.inner.seat
+        h.kept.items
+        → book.inner.program.posts ≡ posts_in book.inner.seat.core.history
+        → ∥ RestsAgain tokens kind count now own (calls_of query_of calls.now) book.inner.seat
+        h.book.inner.seat h.session ∥₁) }
 {
     prove_created();
     let held = hold_from::<Brand>(alloc, book, now, server, client, start, calls)?;
@@ -165,7 +185,7 @@ struct Generators {
 /// Where a drill is between two sessions.
 #[derive(Drop)]
 struct Course {
-    book: OwnSeat,
+    book: DrillGate,
     generators: Generators,
     sessions: Vec<DrillSession>,
 }
@@ -229,7 +249,8 @@ fn add_held(
     ensures count { IfOk result (λ c. vec_len c.sessions ≡ vec_len sessions + 1) }
     ensures fed { IfOk result (λ c. held.starved ≡ false) }
     ensures remembered { IfOk result (λ c. held.session.ended ≢ Some ClientRefusal.NoMemory) }
-    ensures book { IfOk result (λ c. c.book ≡ held.book) }
+    ensures book { IfOk result (λ c. c.book.inner.seat ≡ held.book.inner.seat) }
+    ensures program { IfOk result (λ c. c.book.inner.program ≡ held.book.inner.program) }
     ensures sessions { IfOk result (λ c. c.sessions.items
         ≡ sessions.items ++ held.session ∷ []) }
     ensures calls { IfOk result (λ c. c.generators.calls ≡ generators.calls) }
@@ -297,7 +318,7 @@ fn due_of(
 /// Draws the calls of the next session and holds it, by a blank object of its mechanism.
 fn next_session(
     alloc: Global,
-    book: OwnSeat,
+    book: DrillGate,
     generators: &mut Generators,
     number: u32,
     mech: Box<dyn Mech>,
@@ -305,12 +326,17 @@ fn next_session(
 ) -> Result<Held, NoMemory>
     requires number { number ≤ 100 }
     requires blank { meaning mech ≡ blank_of (own_name (kind_of number)) }
-    requires limits { book_limits book ≡ drill_limits }
-    ensures limits { IfOk result (λ h. book_limits h.book ≡ book_limits book) }
+    requires limits { book_limits book.inner.seat ≡ drill_limits }
+    requires counted { book.inner.program.posts ≡ posts_in book.inner.seat.core.history }
+    ensures limits { IfOk result (λ h. book_limits h.book.inner.seat
+        ≡ book_limits book.inner.seat) }
     ensures next { IfOk result (λ h. h.starved ≡ false
         → h.session.ended ≢ Some ClientRefusal.NoMemory
         → IsNext number generators.old.client.value
-        (calls_from count generators.old.calls.value) book h.book h.kept.items h.session) }
+        (calls_from count generators.old.calls.value) book.inner.seat h.book.inner.seat h.kept.items
+        h.session) }
+    ensures counted { IfOk result
+        (λ h. h.book.inner.program.posts ≡ posts_in h.book.inner.seat.core.history) }
     ensures place { OnOk result (generators.new.calls.value
         ≡ after_calls count generators.old.calls.value) }
 {
@@ -356,12 +382,17 @@ fn go_on(
     requires few { vec_len course.sessions ≤ 100 }
     requires number { number ≤ 100 }
     requires blank { meaning mech ≡ blank_of (own_name (kind_of number)) }
-    requires limits { book_limits course.book ≡ drill_limits }
+    requires limits { book_limits course.book.inner.seat ≡ drill_limits }
+    requires counted { course.book.inner.program.posts
+        ≡ posts_in course.book.inner.seat.core.history }
     ensures count { IfOk result (λ c. vec_len c.sessions ≡ vec_len course.sessions + 1) }
-    ensures limits { IfOk result (λ c. book_limits c.book ≡ book_limits course.book) }
+    ensures limits { IfOk result (λ c. book_limits c.book.inner.seat
+        ≡ book_limits course.book.inner.seat) }
     ensures added { IfOk result (λ c. IsAdded number course.generators.client.value
-        (calls_from count course.generators.calls.value) course.book c.book
+        (calls_from count course.generators.calls.value) course.book.inner.seat c.book.inner.seat
         course.sessions.items c.sessions.items) }
+    ensures counted { IfOk result
+        (λ c. c.book.inner.program.posts ≡ posts_in c.book.inner.seat.core.history) }
     ensures place { IfOk result (λ c. c.generators.calls.value
         ≡ after_calls count course.generators.calls.value) }
 {
@@ -379,7 +410,9 @@ fn go_on(
 /// A drill before its first session.
 fn begin(alloc: Global, seed: u64) -> Result<Course, NoMemory>
     ensures count { IfOk result (λ c. vec_len c.sessions ≡ 0) }
-    ensures first { IfOk result (λ c. IsFirst c.book) }
+    ensures first { IfOk result (λ c. IsFirst c.book.inner.seat) }
+    ensures counted { IfOk result
+        (λ c. c.book.inner.program.posts ≡ posts_in c.book.inner.seat.core.history) }
     ensures sessions { IfOk result (λ c. c.sessions.items ≡ []) }
     ensures place { IfOk result (λ c. c.generators.calls.value ≡ seed) }
 {
@@ -411,6 +444,6 @@ pub fn hold_all(alloc: Global, plan: Plan, mechs: Vec<Box<dyn Mech>>) -> Result<
     let Course { book, sessions, .. } = course;
     Ok(Drilled {
         sessions,
-        log: book.into_log(),
+        log: book.into_seat().into_log(),
     })
 }

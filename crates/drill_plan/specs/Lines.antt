@@ -6,7 +6,7 @@ use Rattle.hex.specs.Hex.{encode_lower}
 use Rattle.sha1.specs.Sha1.{sha1}
 use Rattle.gss_base.specs.declared.mech.MechKind.{MechKind}
 use Rattle.gss_base.specs.declared.mech.MechKind.TheVariants as kinds
-use Rattle.rpc_msgs.specs.declared.numbers.TheConstants.{POST}
+use Rattle.posts_program.specs.declared.numbers.TheConstants.{POST}
 use Rattle.accept_core.specs.declared.entry.Entry.{Entry}
 use Rattle.accept_core.specs.declared.entry.Entry.TheVariants as entries
 use Rattle.server_options.specs.Lines.{usage_line}

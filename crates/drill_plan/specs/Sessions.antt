@@ -9,7 +9,7 @@ use Rattle.gss_base.specs.declared.mech.MechName.TheVariants as names
 use Rattle.mech_objects.specs.Meaning.{MechSays}
 use Rattle.mech_objects.specs.Standard.{blank_of}
 use Rattle.gss_client.specs.declared.terms.Terms.{Terms}
-use Rattle.rpc_msgs.specs.declared.numbers.TheConstants.{PROGRAM, VERSION}
+use Rattle.posts_program.specs.declared.numbers.TheConstants.{PROGRAM, VERSION}
 use Rattle.rpcsec_bodies.specs.declared.service.Service.{Service}
 use Rattle.rpcsec_bodies.specs.declared.service.Service.TheVariants as services
 

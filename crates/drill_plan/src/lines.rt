@@ -10,7 +10,7 @@ ghost use Rattle.drill_plan.specs.Lines.{digest_of, drill_text, served_line};
 use crate::session::DrillSession;
 use accept_book::Entry;
 use gss_base::MechKind;
-use rpc_msgs::numbers::POST;
+use posts_program::numbers::POST;
 use sec_base::{NoMemory, Octets};
 use sha1::Sha1;
 use std::alloc::Global;

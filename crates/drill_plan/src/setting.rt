@@ -26,7 +26,7 @@ use init_ends::{InitSetup, armed_with};
 use krb_derive::Key;
 use krb_files::{FileRefusal, FileWhy, Keytab, read_keytab};
 use mech_objects::{Mech, MechAsk};
-use rpc_msgs::numbers::{PROGRAM, VERSION};
+use posts_program::numbers::{PROGRAM, VERSION};
 use scram_mech::{
     ScramRefusal, VerifierRefusal, Verifiers, make_verifier, prove_laws, read_verifiers,
 };

@@ -9,9 +9,10 @@ mod setups;
 ghost use Rattle.std.specs.Prelude.{◌≡◌, false, map};
 ghost use Rattle.init_ends.specs.Arming.{AreStandard};
 
-use gss_client::{Parting, Procedure, Service, Session, Start, Talk, Terms, opaque_alone};
+use gss_client::{Parting, Service, Session, Start, Talk, Terms};
 use init_ends::{InitSetup, standard_mechs};
 use mech_objects::{MadeMechs, Mech, make_mechs};
+use posts_client::{Procedure, opaque_alone};
 use sec_base::{Link, MemDraw, Octets};
 use setups::{BookLink, initiator, link_of};
 use spnego_core::Outcome;

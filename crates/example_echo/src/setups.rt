@@ -6,7 +6,10 @@ ghost use Rattle.spnego_core.specs.InitMech.{is_own_list};
 use accept_book::{Keeping, Limits, OwnSeat};
 use gate_models::{Beginning, LoopLink};
 use gss_base::{MechKind, Principal};
+use gss_server::OwnGate;
 use krb_files::read_keytab;
+use posts_program::{Posts, PostsWords};
+use rpc_program::Spelled;
 use scram_mech::{Verifiers, make_verifier, read_verifiers};
 use sec_base::{Items, Link, MemDraw, Moment, Text};
 use spnego_core::{AcceptSetup, InitFacts, MechCred};
@@ -16,7 +19,7 @@ use std::alloc::Global;
 #[derive(Drop)]
 pub struct AtStart;
 
-impl Beginning<OwnSeat> for AtStart {
+impl Beginning<BookGate> for AtStart {
     ghost begins = { λ _. Unit {0} };
 
     ghost width = { 8 };
@@ -24,8 +27,11 @@ impl Beginning<OwnSeat> for AtStart {
     ghost moment = { 0 };
 }
 
-/// A link to a server in the same thread, whose state is a book and whose random octets come from memory.
-pub type BookLink = LoopLink<OwnSeat, MemDraw, AtStart>;
+/// The server's state: a book, the program that it serves, and who spells the program's results.
+pub type BookGate = OwnGate<Posts, Spelled<PostsWords>>;
+
+/// A link to a server in the same thread, whose random octets come from memory.
+pub type BookLink = LoopLink<BookGate, MemDraw, AtStart>;
 
 /// The width of the windows of sequence numbers (RFC 2203 section 5.3.3.1).
 const WIDTH: u32 = 8;
@@ -115,6 +121,7 @@ pub fn link_of(alloc: Global) -> Option<BookLink>
     ensures { IfSome result (λ link. ⟦<BookLink as Link>⟧.closed link ≡ false) }
 {
     let book = OwnSeat::open(alloc, acceptor(alloc)?, LIMITS, Moment::start()).ok()?;
+    let gate = OwnGate::new(book, Posts::new(), Spelled { by: PostsWords });
     let draws = MemDraw::new(Vec::new(alloc));
-    LoopLink::new(alloc, book, Moment::start(), draws, WIDTH).ok()
+    LoopLink::new(alloc, gate, Moment::start(), draws, WIDTH).ok()
 }

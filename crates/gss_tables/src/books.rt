@@ -2,11 +2,12 @@
 
 use crate::connections::book_of;
 use crate::entries;
+use crate::served::{BookGate, call_of, gate_of, is_taken};
 use accept_book::{
-    AdmitRefusal, Admitted, BookRefusal, Entry, Lease, NegAnswer, Negotiated, OwnSeat, Receipt,
-    Receipts,
+    AdmitRefusal, Admitted, BookRefusal, Entry, Lease, NegAnswer, Negotiated, Receipt, Receipts,
 };
 use gss_server::Gate;
+use rpc_program::Outcome;
 use std::alloc::Global;
 use table_rows::{Cells, Said};
 use table_setting::{Files, Setting, draws, saying};
@@ -91,13 +92,29 @@ fn say_unadmitted(said: &mut Said, refusal: AdmitRefusal) {
     }
 }
 
-/// Says what is answered to a call: its entry, and how many posts there were up to it.
-pub fn say_admitted(said: &mut Said, answer: &Result<Admitted, AdmitRefusal>) {
+/// Says what came of a call: `args`, the octets of its result, or why it has none.
+fn say_outcome(said: &mut Said, outcome: &Outcome) {
+    match outcome {
+        Outcome::Args => said.word("args"),
+        Outcome::Done(octets) => said.octets(octets.as_slice()),
+        Outcome::Refused(why) => said.form(why),
+        Outcome::Mismatch { low, high } => {
+            said.number(*low as u64);
+            said.join("-");
+            said.number(*high as u64);
+        }
+        Outcome::Gone => said.word("gone"),
+        Outcome::NoMemory => said.starve(),
+    }
+}
+
+/// Says what is answered to a call: its entry, and what came of it.
+fn say_admitted(said: &mut Said, answer: &Result<Admitted, AdmitRefusal>) {
     match answer {
         Ok(admitted) => {
             say_receipt(said, &admitted.receipt);
             said.join(":");
-            said.number(admitted.posts as u64);
+            say_outcome(said, &admitted.outcome);
         }
         Err(refusal) => say_unadmitted(said, *refusal),
     }
@@ -141,10 +158,13 @@ fn look<G: Gate>(gate: &mut G, lease: &mut Option<Lease>, parts: &mut Cells<'_>,
 /// Says what is answered to a call of the lease's context, `number:procedure:arguments`.
 fn call<G: Gate>(gate: &mut G, lease: &Option<Lease>, parts: &mut Cells<'_>, said: &mut Said) {
     let (number, procedure) = (parts.word_number(), parts.word_number());
-    let args = parts.exactly();
+    let args = parts.octets();
     match lease {
-        Some(lease) => say_admitted(said, &gate.admit(lease, number, procedure, args)),
-        None => parts.expect(false),
+        Some(lease) if is_taken(gate, procedure, args.as_slice()) => {
+            let call = call_of(number, procedure, args.as_slice());
+            say_admitted(said, &gate.admit(parts.alloc(), lease, &call));
+        }
+        _ => parts.expect(false),
     }
 }
 
@@ -191,12 +211,12 @@ pub fn say_log(alloc: Global, log: &[Entry], said: &mut Said) {
 }
 
 /// Says `step=answer` for each step of a line.
-fn step_all(book: &mut OwnSeat, files: &Files, cells: &mut Cells<'_>, said: &mut Said) {
+fn step_all(book: &mut BookGate, files: &Files, cells: &mut Cells<'_>, said: &mut Said) {
     let mut lease = None;
     for part in cells.rest().unwrap_or("").split(' ') {
         let (step, _answer) = part.split_once('=').unwrap_or((part, ""));
         if step == "log" {
-            say_log(cells.alloc(), entries::entries_in(book.log()), said);
+            say_log(cells.alloc(), entries::entries_in(book.seat.log()), said);
         } else {
             say_step(book, &mut lease, files, cells, step, said);
         }
@@ -207,7 +227,7 @@ fn step_all(book: &mut OwnSeat, files: &Files, cells: &mut Cells<'_>, said: &mut
 pub fn answer(setting: &Setting, files: &Files, cells: &mut Cells<'_>, said: &mut Said) {
     let (letters, limits, start) = (cells.word(), cells.word(), cells.moment());
     match book_of(cells.alloc(), setting, letters, limits, start) {
-        Some(mut book) => step_all(&mut book, files, cells, said),
+        Some(book) => step_all(&mut gate_of(book), files, cells, said),
         None => cells.expect(false),
     }
 }

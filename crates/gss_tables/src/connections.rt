@@ -4,6 +4,7 @@ ghost use Rattle.std.specs.Prelude.{◌≡◌, ◌≤◌, ◌<◌, IfSome, false
 
 use crate::entries;
 use crate::records::{MOST, next};
+use crate::served::{BookGate, gate_of};
 use accept_book::{Keeping, Limits, OwnSeat};
 use gss_server::{KeepNothing, answer_record, serve_link};
 use sec_base::{Clock, Draw, Link, MemClock, MemDraw, MemLink, Moment};
@@ -59,7 +60,7 @@ pub fn book_of(
 /// What serves connections one after the other: a book, a clock and random octets that count.
 #[derive(Drop)]
 struct Desk {
-    gate: OwnSeat,
+    gate: BookGate,
     clock: MemClock,
     draw: MemDraw,
     width: u32,
@@ -89,9 +90,9 @@ fn width_of(alloc: Global, limits: &str) -> u32 {
 fn desk_of(cells: &mut Cells<'_>, setting: &Setting, limits: &str, nows: &str) -> Option<Desk> {
     let alloc = cells.alloc();
     let width = width_of(alloc, limits);
-    let gate = book_of(alloc, setting, "ks", limits, present())?;
+    let book = book_of(alloc, setting, "ks", limits, present())?;
     Some(Desk {
-        gate,
+        gate: gate_of(book),
         clock: clock_of(cells, nows),
         draw: MemDraw::new(Vec::new(alloc)),
         width,
@@ -184,7 +185,7 @@ pub fn answer(setting: &Setting, cells: &mut Cells<'_>, said: &mut Said) {
             entries::logged(
                 cells.alloc(),
                 said,
-                entries::entries_in(desk.gate.log()),
+                entries::entries_in(desk.gate.seat.log()),
                 " ",
             );
         }

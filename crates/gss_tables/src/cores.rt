@@ -2,7 +2,7 @@
 
 ghost use Rattle.std.specs.Prelude.{◌≡◌};
 
-use crate::books::{say_admitted, say_ended, say_receipt};
+use crate::books::{say_ended, say_receipt};
 use crate::connections::limits_of;
 use crate::entries;
 use accept_core::{Core, Entered, Named, Next};
@@ -91,7 +91,7 @@ fn call(core: &mut Plains, parts: &mut Cells<'_>, said: &mut Said) {
     let id = parts.number();
     let (number, procedure) = (parts.word_number(), parts.word_number());
     let args = parts.exactly();
-    say_admitted(said, &core.admit(id, number, procedure, args));
+    say_ended(said, &core.admit(id, number, procedure, args));
 }
 
 /// Says what is answered to an end, `id:number`.

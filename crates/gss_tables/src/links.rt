@@ -1,6 +1,6 @@
 //! A connection over a link that gives its octets in pieces, and whose calls may fail; the gate has no answer.
 
-use gate_models::ListGate;
+use crate::served::{Answers, list_gate};
 use gss_server::{KeepAll, Kept, Served, serve_link};
 use sec_base::{MemDraw, MemLink, Moment};
 use sha1::Sha1;
@@ -45,7 +45,7 @@ fn say(said: &mut Said, served: &Served<MemLink>, kept: &[Kept]) {
 /// Says what a connection over a link with this stream comes to.
 fn serve(
     alloc: Global,
-    gate: &mut ListGate,
+    gate: &mut Answers,
     input: Vec<u8>,
     pieces: Vec<usize>,
     failing: Vec<u64>,
@@ -66,7 +66,7 @@ pub fn answer(files: &Files, cells: &mut Cells<'_>, said: &mut Said) {
     let failing = numbers(cells);
     let input = files.octets(cells);
     let pieces = pieces(cells, size, input.len());
-    match ListGate::new(alloc, Vec::new(alloc)) {
+    match list_gate(alloc, Vec::new(alloc)) {
         Ok(mut gate) => serve(alloc, &mut gate, input, pieces, failing, said),
         Err(_) => said.starve(),
     }

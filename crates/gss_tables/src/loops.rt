@@ -9,8 +9,9 @@ ghost use Rattle.mech_objects.specs.Made.{AreMade};
 
 use crate::connections::book_of;
 use crate::entries;
+use crate::served::{BookGate, gate_of};
 use crate::sessions::terms_by;
-use accept_book::{Entry, NegAnswer, OwnSeat};
+use accept_book::{Entry, NegAnswer};
 use client_command::run_client;
 use gate_models::{Beginning, LoopLink};
 use gss_client::{Service, Session, Start};
@@ -33,7 +34,7 @@ const WIDTH: u32 = 4;
 #[derive(Drop)]
 struct AtPresent;
 
-impl Beginning<OwnSeat> for AtPresent {
+impl Beginning<BookGate> for AtPresent {
     ghost begins = { λ _. Unit {0} };
 
     ghost width = { 4 };
@@ -42,10 +43,10 @@ impl Beginning<OwnSeat> for AtPresent {
 }
 
 /// A link over a book, whose acceptor's random octets come from memory.
-type BookLink = LoopLink<OwnSeat, MemDraw, AtPresent>;
+type BookLink = LoopLink<BookGate, MemDraw, AtPresent>;
 
 /// A link over a book, whose clock stands at 1,000,000 seconds.
-fn link_of(alloc: Global, book: OwnSeat, draws: Vec<u8>) -> Option<BookLink>
+fn link_of(alloc: Global, book: BookGate, draws: Vec<u8>) -> Option<BookLink>
     ensures { IfSome result (λ link. ⟦<BookLink as Link>⟧.closed link ≡ false) }
 {
     match Moment::new(1_000_000, 0) {
@@ -59,7 +60,7 @@ fn loop_of(alloc: Global, setting: &Setting, letters: &str, draws: Vec<u8>) -> O
     ensures { IfSome result (λ link. ⟦<BookLink as Link>⟧.closed link ≡ false) }
 {
     match book_of(alloc, setting, letters, LIMITS, present()) {
-        Some(book) => link_of(alloc, book, draws),
+        Some(book) => link_of(alloc, gate_of(book), draws),
         None => None,
     }
 }
@@ -161,7 +162,7 @@ fn say_left(alloc: Global, said: &mut Said, link: BookLink) {
         alloc,
         said,
         kept.as_slice(),
-        entries::entries_in(book.log()),
+        entries::entries_in(book.seat.log()),
     );
 }
 
@@ -287,7 +288,7 @@ fn say_spoken(alloc: Global, said: &mut Said, spoken: &Spoken, link: BookLink) {
     said.octets(spoken.who.as_slice());
     said.number(spoken.next as u64);
     said.number(kept.len() as u64);
-    say_log(said, entries::entries_in(book.log()));
+    say_log(said, entries::entries_in(book.seat.log()));
 }
 
 /// Says what comes of a session over a link.

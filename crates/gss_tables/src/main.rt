@@ -19,6 +19,7 @@ mod records;
 mod rules;
 mod runs;
 mod seats;
+mod served;
 mod servers;
 mod sessions;
 mod table;
@@ -32,7 +33,7 @@ use table::{Table, compared};
 use table_setting::{Files, Setting};
 
 /// Those of the server, of the book, of both ends together, of the client, and of the command that makes files.
-const TABLES: [Table; 20] = [
+const TABLES: [Table; 21] = [
     Table::Records,
     Table::Rules,
     Table::Connections,
@@ -42,6 +43,7 @@ const TABLES: [Table; 20] = [
     Table::Links,
     Table::Servers,
     Table::Failing,
+    Table::Restarts,
     Table::Meetings,
     Table::Loops,
     Table::Pairs,

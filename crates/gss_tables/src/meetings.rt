@@ -4,10 +4,12 @@ ghost use Rattle.std.specs.Prelude.{◌≡◌, IfSome};
 ghost use Rattle.std.specs.List.{AllByRecursion};
 ghost use Rattle.server_desks.specs.Desks.{IsFresh};
 
+use crate::served::{Answers, list_gate};
 use crate::servers::{MemDesk, desk, octets_of};
 use accept_book::{AdmitRefusal, Admitted, Lease, LookRefusal, Negotiated, Receipt};
-use gate_models::ListGate;
-use gss_server::Gate;
+use gss_server::{DataCall, Gate};
+use rpc_program::ProgramId;
+use rpcsec_bodies::Service;
 use sec_base::Moment;
 use server_desks::{Job, run_desks};
 use std::alloc::Global;
@@ -23,7 +25,7 @@ const LOOKS: u32 = 1_000_000_000;
 /// A gate without answers, at which a look waits until as many came as there are desks, for a while.
 #[derive(Drop)]
 struct Meeting<'a> {
-    inner: ListGate,
+    inner: Answers,
     came: &'a AtomicU64,
     met: bool,
 }
@@ -43,6 +45,9 @@ impl Meeting<'_> {
 
 impl Gate for Meeting<'_> {
     ghost use Rattle.std.specs.Prelude.{false, []};
+    ghost use Rattle.posts_program.specs.Posts.{posts_says};
+
+    ghost program = { posts_says };
 
     ghost tells = { λ _. false };
 
@@ -59,6 +64,22 @@ impl Gate for Meeting<'_> {
     } };
 
     ghost answers = { λ _ _ _. Unit {0} };
+
+    fn id(&self) -> ProgramId {
+        self.inner.id()
+    }
+
+    fn has(&self, procedure: u32) -> bool {
+        self.inner.has(procedure)
+    }
+
+    fn needs(&self, procedure: u32) -> Service {
+        self.inner.needs(procedure)
+    }
+
+    fn takes(&self, procedure: u32, args: &[u8]) -> bool {
+        self.inner.takes(procedure, args)
+    }
 
     fn negotiate(
         &mut self,
@@ -78,12 +99,15 @@ impl Gate for Meeting<'_> {
 
     fn admit(
         &mut self,
+        alloc: Global,
         lease: &Lease,
-        seq: u32,
-        procedure: u32,
-        args: [u8; 20],
+        call: &DataCall<'_>,
     ) -> Result<Admitted, AdmitRefusal> {
-        self.inner.admit(lease, seq, procedure, args)
+        self.inner.admit(alloc, lease, call)
+    }
+
+    fn pass(&mut self, lease: &Lease, call: &DataCall<'_>) -> Result<Receipt, AdmitRefusal> {
+        self.inner.pass(lease, call)
     }
 
     fn end(&mut self, lease: &Lease, seq: u32) -> Result<Receipt, AdmitRefusal> {
@@ -95,7 +119,7 @@ impl Gate for Meeting<'_> {
 fn job<'a>(alloc: Global, input: Vec<u8>, came: &'a AtomicU64) -> Option<Job<MemDesk, Meeting<'a>>>
     ensures { IfSome result (λ job. IsFresh job.desk) }
 {
-    let inner = ListGate::new(alloc, Vec::new(alloc)).ok()?;
+    let inner = list_gate(alloc, Vec::new(alloc)).ok()?;
     let gate = Meeting {
         inner,
         came,

@@ -1,11 +1,16 @@
 //! The answer to one record, over a gate whose answers the line says.
 
+ghost use Rattle.std.specs.Prelude.{◌≡◌, IfSome};
+ghost use Rattle.gate_models.specs.Sizes.{outcome_size};
+
 use crate::asking::Asking;
+use crate::served::list_gate;
 use accept_book::{AdmitRefusal, Admitted, EndCause, Entry, Lease, LookRefusal, Receipt};
-use gate_models::{GateAnswer, ListGate};
+use gate_models::{Call, GateAnswer};
 use gss_base::{Label, MechKind};
 use gss_server::{Reply, answer_record};
 use krb_derive::Key;
+use rpc_program::{Outcome as CallOutcome, Unserved};
 use sec_base::Moment;
 use spnego_core::Outcome;
 use std::alloc::Global;
@@ -70,16 +75,47 @@ fn ended(said: &str, id: u64) -> Option<Result<Receipt, AdmitRefusal>> {
     Some(Err(refused(said)?))
 }
 
-/// The answer to a call, `Admitted:posts` or a refusal.
-fn admitted(said: &str, id: u64) -> Option<Result<Admitted, AdmitRefusal>> {
-    match said.strip_prefix("Admitted:") {
-        Some(posts) => {
-            let posts = posts.parse::<u64>().ok()?;
-            let receipt = receipt(id);
-            Some(Ok(Admitted { receipt, posts }))
-        }
-        None => Some(Err(refused(said)?)),
+/// What comes of a call, by its name; `Admitted:posts` is told by the program itself.
+fn outcome_named(said: &str) -> Option<CallOutcome>
+    ensures { IfSome result (λ outcome. outcome_size outcome ≡ 0) }
+{
+    match said {
+        "RefusedProgram" => Some(CallOutcome::Refused(Unserved::Program)),
+        "RefusedProcedure" => Some(CallOutcome::Refused(Unserved::Procedure)),
+        "RefusedArguments" => Some(CallOutcome::Refused(Unserved::Arguments)),
+        "RefusedSystem" => Some(CallOutcome::Refused(Unserved::System)),
+        "Mismatch" => Some(CallOutcome::Mismatch { low: 2, high: 3 }),
+        "Gone" => Some(CallOutcome::Gone),
+        _ => None,
     }
+}
+
+/// The answer to a call: `Admitted:posts`, `Told:` and what comes of it, or a refusal.
+fn admitted(said: &str, id: u64) -> Option<Call> {
+    let receipt = receipt(id);
+    if said.starts_with("Admitted:") {
+        let outcome = CallOutcome::Args;
+        return Some(Call {
+            answer: Ok(Admitted { receipt, outcome }),
+        });
+    }
+    match said.strip_prefix("Told:") {
+        Some(name) => {
+            let outcome = outcome_named(name)?;
+            Some(Call {
+                answer: Ok(Admitted { receipt, outcome }),
+            })
+        }
+        None => Some(Call {
+            answer: Err(refused(said)?),
+        }),
+    }
+}
+
+/// How many posts there were where a call is admitted, by the part `Admitted:posts` of a cell.
+fn posts_of(cell: &str) -> Option<u64> {
+    let (_shown, posts) = cell.split_once("Admitted:")?;
+    posts.parse::<u64>().ok()
 }
 
 /// The answer to the question that follows a look, of an end where `ends`.
@@ -141,10 +177,9 @@ fn are_put(alloc: Global, answers: &mut Vec<GateAnswer>, said: &str, ends: bool)
 }
 
 /// The answers of the gate, in order. What follows a look is an end where the questions that are wanted behind the cell have one.
-fn answers(cells: &mut Cells<'_>) -> Vec<GateAnswer> {
+fn answers(cells: &mut Cells<'_>, cell: &str) -> Vec<GateAnswer> {
     let alloc = cells.alloc();
     let mut answers = Vec::new(alloc);
-    let cell = cells.word();
     let ends = cells.rest().unwrap_or("").contains("end:");
     let are_well = are_put(alloc, &mut answers, cell, ends);
     cells.expect(are_well);
@@ -156,6 +191,7 @@ fn say_reply(said: &mut Said, reply: &Reply) {
     match reply {
         Reply::Silent => said.word("none"),
         Reply::Bytes(octets) => said.octets(octets.as_slice()),
+        Reply::Gone => said.word("gone"),
         Reply::NoMemory => said.starve(),
     }
 }
@@ -192,10 +228,14 @@ fn say(alloc: Global, gate: &mut Asking, asked: &Asked, said: &mut Said) {
 pub fn answer(cells: &mut Cells<'_>, said: &mut Said) {
     let alloc = cells.alloc();
     let asked = read_asked(cells);
-    match ListGate::new(alloc, answers(cells)) {
+    let cell = cells.word();
+    match list_gate(alloc, answers(cells, cell)) {
         Ok(answers) => {
-            let questions = Said::new(alloc);
-            let mut gate = Asking { answers, questions };
+            let mut gate = Asking {
+                answers,
+                questions: Said::new(alloc),
+                posts: posts_of(cell),
+            };
             say(alloc, &mut gate, &asked, said);
         }
         Err(_) => said.starve(),

@@ -9,8 +9,10 @@ use crate::books::{say_log, say_step};
 use crate::connections::book_of;
 use crate::entries;
 use accept_book::{Book, Log};
-use book_seats::{Board, Room, Seat, Shared, Token, open_board, open_hall};
+use book_seats::{Begins, Board, Room, Seat, Shared, Token, open_board, open_hall};
 use gss_server::Gate;
+use posts_program::{Posts, PostsWords};
+use rpc_program::Spelled;
 use spnego_core::AcceptSetup;
 use std::marker::Brand;
 use std::sync::{Mutex, Wait};
@@ -41,34 +43,35 @@ fn step_in_turn<G: Gate>(
 }
 
 /// The same at two seats of a book, whose log comes back.
-fn step_seated<J: Room, R: Wait>(
+fn step_seated<J: Room + Begins<Posts>, R: Wait>(
     rt: &R,
-    board: Board,
-    token: Token,
+    board: Board<u64>,
+    token: Token<u64>,
     setup: &AcceptSetup,
     book: Book,
+    program: Posts,
     files: &Files,
     cells: &mut Cells<'_>,
     said: &mut Said,
 ) -> Log
     requires setup { setup.now ≡ J.setup }
-    requires book { J.begins (with_setup J.setup book) }
+    requires both { J.begins record { book = with_setup J.setup book; program = program } }
     requires limits { limits_of book ≡ J.limits }
     requires board { board.shared.table_id ≡ J.table }
     requires words { 0 < board.shared.table_id.words }
     requires token { (token.table_id ≡ board.shared.table_id) × (token.me ≡ (writer 0 [], [])) }
     requires desks { J.desks ≡ 2 }
 {
-    let (hall, mut writer) = open_hall::<J>(board, token);
+    let (hall, mut writer) = open_hall::<u64, J>(board, token);
     let one = writer.hire(&hall);
     let other = writer.hire(&hall);
-    let lock = Mutex::new(Shared::new(book, writer));
-    let mut first = Seat::new(rt, &lock, &hall, setup, one);
-    let mut second = Seat::new(rt, &lock, &hall, setup, other);
+    let lock = Mutex::new(Shared::new(book, program, writer));
+    let mut first = Seat::new(rt, &lock, &hall, setup, one, Spelled { by: PostsWords });
+    let mut second = Seat::new(rt, &lock, &hall, setup, other, Spelled { by: PostsWords });
     step_in_turn(&mut first, &mut second, files, cells, said);
     let _one = first.rise();
     let _other = second.rise();
-    let (book, _writer) = lock.into_inner().into_parts();
+    let (book, _program, _writer) = lock.into_inner().into_parts();
     book.into_log()
 }
 
@@ -89,6 +92,16 @@ pub fn answer<R: Wait>(
     let Ok((board, token)) = open_board(alloc) else {
         return said.starve();
     };
-    let log = step_seated::<Brand, R>(rt, board, token, &setup, book, files, cells, said);
+    let log = step_seated::<Brand, R>(
+        rt,
+        board,
+        token,
+        &setup,
+        book,
+        Posts::new(),
+        files,
+        cells,
+        said,
+    );
     say_log(alloc, entries::entries_in(&log), said);
 }

@@ -5,8 +5,11 @@ ghost use Rattle.sec_base.specs.MemPort.{none_closed};
 ghost use Rattle.std.specs.List.{AllByRecursion};
 ghost use Rattle.server_desks.specs.Desks.{IsFresh};
 
+use crate::served::Words;
 use gss_server::{KeepAll, KeepReceipts, Served};
+use posts_program::{Posts, PostsWords};
 use replay_journal::MemDisk;
+use rpc_program::Spelled;
 use sec_base::{Link, MemClock, MemDraw, MemLink, MemPort, MemShelf, Moment, Text};
 use server_command::run_server;
 use server_desks::Desk;
@@ -23,6 +26,7 @@ pub type MemDesk = Desk<
     MemDraw,
     KeepReceipts,
     KeepAll<Served<MemLink>>,
+    Words,
 >;
 
 /// One link with this stream, whose calls of these numbers fail; none where there is no memory for it.
@@ -47,6 +51,7 @@ pub fn desk(alloc: Global, input: Vec<u8>, link: Vec<u64>, port: Vec<u64>) -> Me
         MemDraw::new(Vec::new(alloc)),
         KeepReceipts::new(alloc),
         KeepAll::new(alloc),
+        Spelled { by: PostsWords },
     )
 }
 
@@ -97,6 +102,7 @@ fn run<R: Threads + Wait + Sync>(
         shelf,
         disk,
         desks,
+        Posts::new(),
         Moment::start(),
         out,
         err,
@@ -191,4 +197,62 @@ pub fn answer_failing<R: Threads + Wait + Sync>(
         }
         None => said.starve(),
     }
+}
+
+/// Says what a run with these words over two desks of a stream each comes to, with a disk, and then what is written on each link.
+fn run_once<R: Threads + Wait + Sync>(
+    rt: &R,
+    files: &Files,
+    cells: &mut Cells<'_>,
+    words: &[Text],
+    streams: [&str; 2],
+    disk: &mut Option<MemDisk>,
+    said: &mut Said,
+)
+    requires disk { is_some disk.old ≡ true }
+    ensures disk { is_some disk.new ≡ true }
+{
+    let alloc = cells.alloc();
+    let [first, second] = streams;
+    let (first, second) = (
+        octets_of(files, cells, first),
+        octets_of(files, cells, second),
+    );
+    let mut shelf = files.shelf(cells, Vec::new(alloc));
+    let mut devices = Devices::new(alloc, Moment::start(), Vec::new(alloc), Vec::new(alloc));
+    match desks(alloc, first, second, Vec::new(alloc), Vec::new(alloc)) {
+        Some(mut desks) => {
+            run(
+                rt,
+                alloc,
+                words,
+                &mut shelf,
+                disk,
+                &mut desks,
+                &mut devices,
+                said,
+            );
+            say_written(desks.as_slice(), said);
+        }
+        None => said.starve(),
+    }
+}
+
+/// By the cells of its words, the stream of each desk, and the numbers of the calls of the disk that fail, what a run says and writes on each link,
+/// and then what the next one does with the same words, streams and disk.
+pub fn answer_again<R: Threads + Wait + Sync>(
+    rt: &R,
+    files: &Files,
+    cells: &mut Cells<'_>,
+    said: &mut Said,
+) {
+    let words = words(cells);
+    let streams = [cells.word(), cells.word()];
+    let failing = numbers(cells);
+    let Some(disk) = disk_in_memory(cells.alloc(), failing) else {
+        return said.starve();
+    };
+    let mut disk = Some(disk);
+    run_once(rt, files, cells, words.as_slice(), streams, &mut disk, said);
+    run_once(rt, files, cells, words.as_slice(), streams, &mut disk, said);
 }

@@ -10,7 +10,7 @@ use crate::endings::say_ended;
 use gss_client::{Service, Session, Start, Terms};
 use init_ends::InitSetup;
 use mech_objects::Mech;
-use rpc_msgs::numbers::{PROGRAM, VERSION};
+use posts_program::numbers::{PROGRAM, VERSION};
 use sec_base::MemLink;
 use std::alloc::Global;
 use table_rows::{Cells, Said};

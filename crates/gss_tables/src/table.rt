@@ -27,6 +27,7 @@ pub enum Table {
     Links,
     Servers,
     Failing,
+    Restarts,
     Meetings,
     Loops,
     Pairs,
@@ -55,6 +56,7 @@ impl Table {
             Table::Links => "links.txt",
             Table::Servers => "servers.txt",
             Table::Failing => "failing.txt",
+            Table::Restarts => "restarts.txt",
             Table::Meetings => "meetings.txt",
             Table::Loops => "loops.txt",
             Table::Pairs => "pairs.txt",
@@ -74,7 +76,10 @@ impl Table {
 
     /// Whether its rows run desks, which take threads.
     fn takes_threads(self) -> bool {
-        matches!(self, Table::Servers | Table::Failing | Table::Meetings)
+        matches!(
+            self,
+            Table::Servers | Table::Failing | Table::Restarts | Table::Meetings
+        )
     }
 
     /// Whether a line begins with its name.
@@ -150,7 +155,9 @@ impl<R: Wait> Rows for Set<'_, R> {
             Table::Books => books::answer(setting, files, cells, said),
             Table::Seats => seats::answer(self.rt, setting, files, cells, said),
             Table::Links => links::answer(files, cells, said),
-            Table::Servers | Table::Failing | Table::Meetings => cells.expect(false),
+            Table::Servers | Table::Failing | Table::Restarts | Table::Meetings => {
+                cells.expect(false)
+            }
             Table::Loops => loops::run_over(setting, files, cells, said),
             Table::Pairs => loops::run_pair(setting, cells, said),
             Table::Sessions | Table::Runs | Table::Creations | Table::Talks | Table::Trials => {
@@ -177,6 +184,7 @@ fn answer_on_threads<R: Threads + Wait + Sync>(
     match table {
         Table::Servers => servers::answer(rt, files, cells, said),
         Table::Failing => servers::answer_failing(rt, files, cells, said),
+        Table::Restarts => servers::answer_again(rt, files, cells, said),
         Table::Meetings => meetings::answer(rt, files, cells, said),
         _ => cells.expect(false),
     }

@@ -7,8 +7,9 @@ ghost use Rattle.gss_client.specs.Start.{start_means};
 
 use crate::endings::say_ended;
 use crate::sessions::{begin, talk};
-use gss_client::{Parting, Procedure, Session, Start, Talk, opaque_alone};
+use gss_client::{Parting, Session, Start, Talk};
 use mech_objects::Mech;
+use posts_client::{Procedure, opaque_alone};
 use sec_base::{MemDraw, MemLink};
 use std::alloc::Global;
 use table_rows::{Cells, Said};

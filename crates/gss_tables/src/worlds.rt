@@ -6,8 +6,9 @@ ghost use Rattle.spnego_core.specs.Ends.{setup_of};
 ghost use Rattle.init_ends.specs.Arming.{AreStandard};
 ghost use Rattle.init_ends.specs.Ends.{setup_by};
 ghost use Rattle.init_ends.specs.Plain.{objects_of};
-ghost use Rattle.accept_book.specs.Served.{are_args};
+ghost use Rattle.posts_program.specs.Posts.{are_args};
 ghost use Rattle.world_laws.specs.Events.{IsProper};
+ghost use Rattle.world_runs.specs.Served.{served};
 ghost use Rattle.world_runs.specs.Worlds.{world_means, IsWorld};
 ghost use Rattle.mech_objects.specs.Made.{AreMade};
 
@@ -139,7 +140,7 @@ impl Run {
 
     /// An event, and what came of it.
     fn step(&mut self, alloc: Global, said: &mut Said, event: WorldEvent)
-        requires proper { IsProper event }
+        requires proper { IsProper served event }
         requires world { IsWorld (world_means self.old.world meaning) }
         ensures { IsWorld (world_means self.new.world meaning) }
     {
@@ -159,7 +160,6 @@ impl Run {
         procedure: u32,
         args: &[u8],
     )
-        requires served { procedure ≤ 4 }
         requires own { are_args procedure args.now ≡ true }
         requires fits { length args.now ≤ 65540 }
         requires world { IsWorld (world_means self.old.world meaning) }

@@ -13,6 +13,8 @@ use drill_command::run_drill;
 use drill_plan::{Plan, add_object, drill_sessions, is_drill};
 use gss_server::KeepNothing;
 use mech_objects::{KerberosMech, Mech, ScramMech};
+use posts_program::{Posts, PostsWords};
+use rpc_program::Spelled;
 use sec_base::{Clock as Moments, Port, Text};
 use server_command::run_server;
 use server_desks::{Desk, run_limit};
@@ -57,15 +59,29 @@ fn main(rt: HostRuntime) -> ExitCode {
     ExitCode::from(status)
 }
 
-/// A desk with the system's clock and random octets of its own. It keeps nothing of the answers, and
-/// nothing of a connection that ended.
-type SystemDesk<P> = Desk<P, SystemClock<HostRuntime>, RandDraw, KeepNothing, KeepNothing>;
+/// A desk with the system's clock and random octets of its own, which spells the results of the program
+/// of posts. It keeps nothing of the answers, and nothing of a connection that ended.
+type SystemDesk<P> = Desk<
+    P,
+    SystemClock<HostRuntime>,
+    RandDraw,
+    KeepNothing,
+    KeepNothing,
+    Spelled<PostsWords>,
+>;
 
 /// A desk over a port, with these random octets.
 fn desk<P: Port + Drop>(rt: HostRuntime, port: P, draw: RandDraw) -> SystemDesk<P>
     ensures { IsFresh result }
 {
-    Desk::new(port, SystemClock::new(rt), draw, KeepNothing, KeepNothing)
+    Desk::new(
+        port,
+        SystemClock::new(rt),
+        draw,
+        KeepNothing,
+        KeepNothing,
+        Spelled { by: PostsWords },
+    )
 }
 
 /// The disk of the journal that the words name, none where they name none; an error at want of memory.
@@ -83,7 +99,7 @@ fn journal_disk(rt: HostRuntime, words: &[Text]) -> Result<Option<FileDisk>, All
     }
 }
 
-/// Runs the server over desks, each on a thread of its own where one can be made.
+/// Runs the server over desks, each on a thread of its own where one can be made. It serves the program of posts, of which there are none yet.
 fn run<R: Threads + Wait + Sync, P: Port + Drop + Send>(
     rt: HostRuntime,
     threads: &R,
@@ -109,6 +125,7 @@ where
         &mut shelf,
         &mut disk,
         &mut desks,
+        Posts::new(),
         start,
         &mut out,
         &mut err,

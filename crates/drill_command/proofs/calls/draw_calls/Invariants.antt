@@ -1,6 +1,6 @@
 use Rattle.std.proofs.Common.{◌≡◌, ◌-◌, ◌++◌}
 use Rattle.gss_client.specs.Conferring.{calls_of}
-use Rattle.gss_client.specs.Procedure.{query_of}
+use Rattle.posts_client.specs.Procedure.{query_of}
 use Rattle.drill_command.specs.Calls.{calls_from, after_calls}
 use Rattle.drill_command.proofs.calls.draw_calls.Given as goal
 

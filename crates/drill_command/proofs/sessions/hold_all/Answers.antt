@@ -1,4 +1,5 @@
 use Rattle.std.proofs.Common.{◌∙◌, ◌≡◌, ◌+◌, ap, refl, arith, List, ◌∷◌, length, map}
+use Rattle.accept_book.specs.Booking.{BookOf}
 use Rattle.drill_plan.specs.Sessions.{session_count}
 use Rattle.drill_command.proofs.Chained.{held-more, value-more, all-held}
 use Rattle.drill_command.proofs.Objects.{objects_from, counted, first-objects, next-object, later-objects}
@@ -16,8 +17,9 @@ loop-mech-init g c =
       all = omega (arith, many);
       count = c.in_ok-course.ensures.count;
       limits = c.in_ok-course.ensures.first.limits;
+      counted = c.in_ok-course.ensures.counted;
       place = c.in_ok-course.ensures.place;
-      held = (c.in_ok-course.course.book, c.in_ok-course.ensures.first, (refl, c.in_ok-course.ensures.sessions));
+      held = (c.in_ok-course.course.book.inner.seat, c.in_ok-course.ensures.first, (refl, c.in_ok-course.ensures.sessions));
     }
 
 pub calls_in-count-requires-clause-number : goal.calls_in-count-requires-clause-number
@@ -51,15 +53,16 @@ loop-mech-preserved g c =
       all = omega (arith, many, i.all);
       count = omega (arith, made.ensures.count, i.count);
       limits = made.ensures.limits ∙ i.limits;
+      counted = made.ensures.counted;
       place = value-more c.args.plan.seed c.args.plan.calls c.loop-mech.number _ _ _ c.calls_in-count.ensures i.place made.ensures.place;
       held = (i.held.0, i.held.1, held-more c.args.plan.seed c.args.plan.calls c.loop-mech.number _ _ _ i.held.0 _ _ _ _ c.calls_in-count.ensures i.place i.held.2 made.ensures.added);
     }
 
 pub returns-clause-limits : goal.returns-clause-limits
-returns-clause-limits g c = rw (c.into_log.ensures.width, c.into_log.ensures.limit, c.into_log.ensures.contexts, c.into_log.ensures.marks, c.into_log.ensures.keeping) c.loop-mech.invariant.limits
+returns-clause-limits g c = rw (c.into_log.ensures.width, c.into_log.ensures.limit, c.into_log.ensures.contexts, c.into_log.ensures.marks, c.into_log.ensures.keeping, c.into_seat.ensures) c.loop-mech.invariant.limits
 
 pub returns-clause-held : goal.returns-clause-held
 returns-clause-held g c =
     let i = c.loop-mech.invariant in
     let done : c.loop-mech.number ≡ session_count c.args.plan.calls = omega (arith, i.all, c.in-None.ensures.steps.0) in
-    all-held c.args.plan.seed c.args.plan.calls c.loop-mech.number i.held.0 _ _ _ c.requires.calls done i.held.1 i.held.2 c.into_log.ensures.entries
+    all-held c.args.plan.seed c.args.plan.calls c.loop-mech.number i.held.0 _ _ _ c.requires.calls done i.held.1 i.held.2 (c.into_log.ensures.entries ∙ ap (λ (b : BookOf). b.core.history) c.into_seat.ensures)

@@ -1,5 +1,6 @@
 use Rattle.std.proofs.Common.{◌≡◌, ◌≤◌, ◌+◌, vec_len, length, map}
 use Rattle.accept_book.specs.Booking.{BookOf}
+use Rattle.pair_laws.specs.Posts.{posts_in}
 use Rattle.drill_command.specs.Chained.{IsFirst, AreHeld}
 use Rattle.drill_command.specs.Drilled.{value_before}
 use Rattle.drill_plan.specs.Limits.{book_limits, drill_limits}
@@ -14,7 +15,8 @@ invariant-loop-mech g l = record {
   objects : map (λ b. (goal.Mech-dyn g (b.vtable, b.value)).meaning b.value) l.mech-iterator.rest.items ≡ objects_from l.number (length l.mech-iterator.rest.items);
   all : l.number + length l.mech-iterator.rest.items ≡ session_count l.fn.plan.calls;
   count : vec_len l.course.sessions ≡ l.number;
-  limits : book_limits l.course.book ≡ drill_limits;
+  limits : book_limits l.course.book.inner.seat ≡ drill_limits;
+  counted : l.course.book.inner.program.posts ≡ posts_in l.course.book.inner.seat.core.history;
   place : l.course.generators.calls.value ≡ value_before l.fn.plan.seed l.fn.plan.calls l.number;
-  held : (first : BookOf) × IsFirst first × AreHeld l.fn.plan.seed l.fn.plan.calls l.number first l.course.book l.course.sessions.items;
+  held : (first : BookOf) × IsFirst first × AreHeld l.fn.plan.seed l.fn.plan.calls l.number first l.course.book.inner.seat l.course.sessions.items;
 }

@@ -3,6 +3,8 @@ use Rattle.std.proofs.Math.Logic.{∥∥₁_map}
 use Rattle.std.proofs.lemmas.Bool.Decides.{nat_tests}
 use Rattle.sec_base.specs.Link.{Wire}
 use Rattle.accept_book.specs.RecordShown.{Asked}
+use Rattle.accept_book.specs.declared.book_answer.Admitted.{Admitted}
+use Rattle.rpc_program.specs.Programs.{Serving}
 use Rattle.spnego_core.specs.declared.outcome.Outcome.{Outcome}
 use Rattle.sec_base.specs.Answers.{Rose}
 use Rattle.gss_client.specs.declared.conversation.Parting.{Parting}
@@ -19,8 +21,8 @@ use Rattle.gss_client.specs.Holding.{TalkedBehind}
 use Rattle.drill_command.specs.Held.{early_end, HoldsBehind}
 use Rattle.drill_command.proofs.sessions.hold_from.Goals as goal
 
-held : (gained : List Asked → Type 0) (width moment : ℕ) (creation : Talking SessionState) (wanted : List DueCall) (kept : List Kept) (starved : Bool) (outcome : Option Outcome) (results : List (List ℕ)) (ended : Option ClientRefusal) (wire : Wire) (parting : Parting) → TalkedBehind false [] [] creation wanted (record { taken = []; coming = []; written = [] }) wire outcome results parting → ended ≡ early_end parting → Loops gained width moment wire kept starved → HoldsBehind gained width moment creation wanted kept starved outcome results ended
-held gained width moment creation wanted kept starved outcome results ended wire parting t e l = record { wire = wire; parting = parting; talked = t; ends = e; looped = l }
+held : (gained : List (Asked Admitted) → Type 0) (serves : Serving) (moment : ℕ) (creation : Talking SessionState) (wanted : List DueCall) (kept : List Kept) (starved : Bool) (outcome : Option Outcome) (results : List (List ℕ)) (ended : Option ClientRefusal) (wire : Wire) (parting : Parting) → TalkedBehind false [] [] creation wanted (record { taken = []; coming = []; written = [] }) wire outcome results parting → ended ≡ early_end parting → Loops gained serves moment wire kept starved → HoldsBehind gained serves moment creation wanted kept starved outcome results ended
+held gained serves moment creation wanted kept starved outcome results ended wire parting t e l = record { wire = wire; parting = parting; talked = t; ends = e; looped = l }
 
 pub returns-clause-held : goal.returns-clause-held
 returns-clause-held g c = ∥∥₁_map c.into_parts-book.ensures.looped (λ p. held _ _ _ _ _ _ _ _ _ _ _ _ (rw c.in_ok-link.ensures.wire at c.hold_calls-talk.ensures.told refl) c.early_end-ended.ensures (rw (c.requires.width, ← c.requires.moment, ← c.starved-starved.ensures) at p))

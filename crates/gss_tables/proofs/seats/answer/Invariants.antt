@@ -3,11 +3,13 @@ use Rattle.accept_book.specs.Booking.{with_setup}
 use Rattle.gss_server.specs.Telling.{limits_of}
 use Rattle.gss_tables.proofs.seats.answer.Given as goal
 
-abbrev pub ghosts-step_seated : goal.ghosts-step_seated
-ghosts-step_seated g a = record {
+abbrev pub ghosts-step_seated-J-Room : goal.ghosts-step_seated-J-Room
+ghosts-step_seated-J-Room g a = record {
   table = a.board.shared.table_id;
   setup = a.setup.now;
-  begins = λ first. first ≡ with_setup a.setup.now a.book;
   desks = 2;
   limits = limits_of a.book;
 }
+
+abbrev pub ghosts-step_seated-J-Begins : goal.ghosts-step_seated-J-Begins
+ghosts-step_seated-J-Begins g a = record { begins = λ first. first ≡ record { book = with_setup a.setup.now a.book; program = a.program } }

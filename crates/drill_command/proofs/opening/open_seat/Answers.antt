@@ -1,5 +1,5 @@
 use Rattle.std.proofs.Common.{refl, ap, length, arith}
-use Rattle.drill_command.proofs.opening.open_book.Goals as goal
+use Rattle.drill_command.proofs.opening.open_seat.Goals as goal
 
 pub returns-clause-limits : goal.returns-clause-limits
 returns-clause-limits c = rw (c.in_ok-book.ensures.width, c.in_ok-book.ensures.limit, c.in_ok-book.ensures.contexts, c.in_ok-book.ensures.marks, c.in_ok-book.ensures.keeping) refl
