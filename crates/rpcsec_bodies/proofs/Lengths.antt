@@ -43,6 +43,24 @@ mic-size end number octets = omega (arith, length-checksum_of end.key (sign_usag
 pub long-databody : (seq : ℕ) (content : List ℕ) → length content ≤ 65540 → length (word seq ++ content) ≤ 65544
 long-databody seq content few = omega (arith, length-append (word seq) content, length-word seq)
 
+pub longest-databody : (seq : ℕ) (content : List ℕ) → length content ≤ 130952 → length (word seq ++ content) ≤ 130956
+longest-databody seq content few = omega (arith, length-append (word seq) content, length-word seq)
+
+-- an opaque whose octets are few is filled up to a multiple of four
+filled : (octets : List ℕ) → length octets ≤ 131016 → length (opaque octets) ≤ 131020
+filled octets few = omega (arith, length-opaque octets, few)
+
+-- a body with the most octets of a content
+pub protected-within : (end : TokenEnd) (service : Service) (seq : ℕ) (confounder content : List ℕ) → length content ≤ 130952 → length confounder ≡ 16 → length (protected end service seq confounder content) ≤ 131020
+unfolding protected
+protected-within end services.None seq confounder content few block = omega (arith, few)
+protected-within end services.Integrity seq confounder content few block =
+    let databody : List ℕ = word seq ++ content in
+    let tag : List ℕ = mic_of end (2 * seq + 1) databody in
+    omega (arith, length-append (opaque databody) (opaque tag), length-opaque databody, length-opaque tag, mic-size end (2 * seq + 1) databody, longest-databody seq content few)
+protected-within end services.Privacy seq confounder content few block =
+    filled (wrap_of end (2 * seq + 1) true confounder (word seq ++ content)) (omega (arith, length-wrap_of end (2 * seq + 1) confounder (word seq ++ content) block, longest-databody seq content few))
+
 pub protected-fits : (end : TokenEnd) (service : Service) (seq : ℕ) (confounder content : List ℕ) → length content ≤ 65540 → length confounder ≡ 16 → length (protected end service seq confounder content) ≤ 130000
 unfolding protected
 protected-fits end services.None seq confounder content few block = omega (arith, few)

@@ -13,7 +13,7 @@ use Rattle.rpcsec_msgs.proofs.BodyLaws.{sealed-only, checked-only}
 use Rattle.rpcsec_bodies.specs.declared.service.Service.TheVariants as services
 use Rattle.rpcsec_bodies.specs.Opening.{unprotected}
 use Rattle.rpcsec_bodies.specs.Protection.{protected, Opens}
-use Rattle.rpcsec_bodies.proofs.Lengths.{length-wrap_of, long-databody, mic-size}
+use Rattle.rpcsec_bodies.proofs.Lengths.{length-wrap_of, longest-databody, mic-size}
 use Rattle.rpcsec_bodies.proofs.Taken.{checked-read, sealed-read}
 
 unturned : (body : List ℕ) → turned_right 0 body ≡ body
@@ -31,18 +31,18 @@ pub opens-made : (end : TokenEnd) (number : ℕ) (confounder octets token : List
 opens-made end number confounder octets token e taken =
     ap (unwrapped (facing end)) (sym (unrotated end number confounder octets) ∙ ap (rotated 0) (sym e)) ∙ taken 0 (lit< tt)
 
-pub checked-made : (end : TokenEnd) (seq : ℕ) (content : List ℕ) → seq < 2 ^ 32 → length content ≤ 65540
+pub checked-made : (end : TokenEnd) (seq : ℕ) (content : List ℕ) → seq < 2 ^ 32 → length content ≤ 130952
     → unprotected (facing end) services.Integrity seq (checked_octets (word seq ++ content) (mic_of end (2 * seq + 1) (word seq ++ content))) ≡ Ok content
 checked-made end seq content h few =
     let mic : List ℕ = mic_of end (2 * seq + 1) (word seq ++ content) in
-    let split : checked_at (checked_octets (word seq ++ content) mic) ≡ Ok (word seq ++ content, mic) = checked-only (word seq ++ content) mic (omega (arith, long-databody seq content few)) (omega (arith, mic-size end (2 * seq + 1) (word seq ++ content))) in
+    let split : checked_at (checked_octets (word seq ++ content) mic) ≡ Ok (word seq ++ content, mic) = checked-only (word seq ++ content) mic (omega (arith, longest-databody seq content few)) (omega (arith, mic-size end (2 * seq + 1) (word seq ++ content))) in
     checked-read (facing end) seq content (checked_octets (word seq ++ content) mic) mic h split (mic-taken end (2 * seq + 1) (word seq ++ content))
 
-pub sealed-made : (end : TokenEnd) (seq : ℕ) (confounder content : List ℕ) → seq < 2 ^ 32 → length content ≤ 65540 → length confounder ≡ 16 → Opens end (2 * seq + 1) confounder (word seq ++ content)
+pub sealed-made : (end : TokenEnd) (seq : ℕ) (confounder content : List ℕ) → seq < 2 ^ 32 → length content ≤ 130952 → length confounder ≡ 16 → Opens end (2 * seq + 1) confounder (word seq ++ content)
     → unprotected (facing end) services.Privacy seq (opaque (wrap_of end (2 * seq + 1) true confounder (word seq ++ content))) ≡ Ok content
 sealed-made end seq confounder content h few block opens =
     let token : List ℕ = wrap_of end (2 * seq + 1) true confounder (word seq ++ content) in
-    let split : sealed_at (opaque token) ≡ Ok token = sealed-only token (omega (arith, long-databody seq content few, length-wrap_of end (2 * seq + 1) confounder (word seq ++ content) block)) in
+    let split : sealed_at (opaque token) ≡ Ok token = sealed-only token (omega (arith, longest-databody seq content few, length-wrap_of end (2 * seq + 1) confounder (word seq ++ content) block)) in
     sealed-read (facing end) seq content (opaque token) token h split opens
 
 -- ---- bodies of each service
@@ -51,12 +51,12 @@ pub none-made : (end : TokenEnd) (seq : ℕ) (confounder content : List ℕ) →
 unfolding unprotected protected
 none-made end seq confounder content = refl
 
-pub integrity-made : (end : TokenEnd) (seq : ℕ) (confounder content : List ℕ) → seq < 2 ^ 32 → length content ≤ 65540
+pub integrity-made : (end : TokenEnd) (seq : ℕ) (confounder content : List ℕ) → seq < 2 ^ 32 → length content ≤ 130952
     → unprotected (facing end) services.Integrity seq (protected end services.Integrity seq confounder content) ≡ Ok content
 unfolding protected
 integrity-made end seq confounder content h few = checked-made end seq content h few
 
-pub privacy-made : (end : TokenEnd) (seq : ℕ) (confounder content : List ℕ) → seq < 2 ^ 32 → length content ≤ 65540 → length confounder ≡ 16
+pub privacy-made : (end : TokenEnd) (seq : ℕ) (confounder content : List ℕ) → seq < 2 ^ 32 → length content ≤ 130952 → length confounder ≡ 16
     → Opens end (2 * seq + 1) confounder (word seq ++ content) → unprotected (facing end) services.Privacy seq (protected end services.Privacy seq confounder content) ≡ Ok content
 unfolding protected
 privacy-made end seq confounder content h few block opens = sealed-made end seq confounder content h few block opens

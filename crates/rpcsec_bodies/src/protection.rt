@@ -47,7 +47,8 @@ pub fn protect(
     Ok(body.finish())
 }
 
-/// Appends the body that `protect` answers. It is made where it stands, so that the content is copied once.
+/// Appends the body that `protect` answers. It is made where it stands, so that the content is copied once. The most octets of a content
+/// are those with which a reply by privacy fills a record of 131,072: behind 52 of its head stand a length and a sealed token.
 #[tactic(auto, unfolding(crate::specs::Protection::protected))]
 pub fn protect_onto(
     out: XdrWriter,
@@ -58,10 +59,10 @@ pub fn protect_onto(
     confounder: &[u8; 16],
     content: &[u8],
 ) -> Result<XdrWriter, NoMemory>
-    requires { length content.now ≤ 65540 }
+    requires { length content.now ≤ 130952 }
     ensures value { IfOk result
         (λ w. w ≡ out ++ protected end.now service seq confounder.now content.now) }
-    ensures size { IfOk result (λ w. length w ≤ length out + 130000) }
+    ensures size { IfOk result (λ w. length w ≤ length out + 131020) }
     ensures taken { IfOk result (λ _. unprotected (facing end.now) service seq
         (protected end.now service seq confounder.now content.now) ≡ Ok content.now) }
 {
@@ -89,7 +90,7 @@ fn token_number(seq: u32) -> u64
 
 /// Appends a databody, the number of a call and a content, as octets of variable length; the padding is still due.
 fn put_databody(out: &mut XdrWriter, seq: u32, content: &[u8]) -> Result<(), NoMemory>
-    requires { length content.now ≤ 65540 }
+    requires { length content.now ≤ 130952 }
     ensures { OnOk result
         (out.new ≡ out.old ++ (word (length content.now + 4) ++ (word seq ++ content.now))) }
 {
@@ -107,7 +108,7 @@ fn put_signed(
     seq: u32,
     content: &[u8],
 ) -> Result<XdrWriter, NoMemory>
-    requires { length content.now ≤ 65540 }
+    requires { length content.now ≤ 130952 }
     ensures { IfOk result (λ w. w ≡ out ++ checked_octets (word seq ++ content.now)
         (mic_of end.now (2 * seq + 1) (word seq ++ content.now))) }
 {
@@ -129,7 +130,7 @@ fn put_sealed(
     confounder: &[u8; 16],
     content: &[u8],
 ) -> Result<XdrWriter, NoMemory>
-    requires { length content.now ≤ 65540 }
+    requires { length content.now ≤ 130952 }
     ensures value { IfOk result (λ w. w ≡ out
         ++ opaque (wrap_of end.now (2 * seq + 1) true confounder.now (word seq ++ content.now))) }
     ensures opens { IfOk result

@@ -2,7 +2,7 @@ use Rattle.std.proofs.Common.{arith}
 use Rattle.rpcsec_bodies.specs.Protection.{protected}
 use Rattle.rpcsec_bodies.specs.declared.service.Service.TheVariants as services
 use Rattle.rpcsec_bodies.proofs.Made.{none-made, integrity-made, privacy-made, any-ok, ok-then}
-use Rattle.rpcsec_bodies.proofs.Lengths.{sized, protected-fits}
+use Rattle.rpcsec_bodies.proofs.Lengths.{sized, protected-within}
 use Rattle.rpcsec_bodies.proofs.protection.protect_onto.Goals as goal
 
 pub returns-in-None-clause-taken : goal.returns-in-None-clause-taken
@@ -12,8 +12,8 @@ returns-in-None-clause-taken c =
 pub returns-in-Integrity-clause-size : goal.returns-in-Integrity-clause-size
 unfolding protected
 returns-in-Integrity-clause-size c =
-    sized c.put_signed.result c.args.out _ 130000 c.put_signed.ensures
-    (protected-fits c.args.end.now services.Integrity c.args.seq c.args.confounder.now c.args.content.now c.requires c.told-confounder)
+    sized c.put_signed.result c.args.out _ 131020 c.put_signed.ensures
+    (protected-within c.args.end.now services.Integrity c.args.seq c.args.confounder.now c.args.content.now c.requires c.told-confounder)
 
 pub returns-in-Integrity-clause-taken : goal.returns-in-Integrity-clause-taken
 returns-in-Integrity-clause-taken c =
@@ -22,8 +22,8 @@ returns-in-Integrity-clause-taken c =
 pub returns-in-Privacy-clause-size : goal.returns-in-Privacy-clause-size
 unfolding protected
 returns-in-Privacy-clause-size c =
-    sized c.put_sealed.result c.args.out _ 130000 c.put_sealed.ensures.value
-    (protected-fits c.args.end.now services.Privacy c.args.seq c.args.confounder.now c.args.content.now c.requires c.told-confounder)
+    sized c.put_sealed.result c.args.out _ 131020 c.put_sealed.ensures.value
+    (protected-within c.args.end.now services.Privacy c.args.seq c.args.confounder.now c.args.content.now c.requires c.told-confounder)
 
 pub returns-in-Privacy-clause-taken : goal.returns-in-Privacy-clause-taken
 returns-in-Privacy-clause-taken c =
