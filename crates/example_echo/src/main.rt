@@ -4,17 +4,14 @@
 //! rules by which `gssrpcd` answers it. Where something is refused, or memory wants, the program ends with status 1.
 #![tactic(auto)]
 
-mod setups;
+ghost use Rattle.std.specs.Prelude.{◌≡◌, false};
 
-ghost use Rattle.std.specs.Prelude.{◌≡◌, false, map};
-ghost use Rattle.init_ends.specs.Arming.{AreStandard};
-
-use gss_client::{Parting, Service, Session, Start, Talk, Terms};
-use init_ends::{InitSetup, standard_mechs};
-use mech_objects::{MadeMechs, Mech, make_mechs};
 use posts_client::{Procedure, opaque_alone};
-use sec_base::{Link, MemDraw, Octets};
-use setups::{BookLink, initiator, link_of};
+use posts_program::{Posts, PostsWords};
+use service_kit::{
+    BenchLink, DueCall, Link, MemDraw, Octets, Parting, Service, Spelled, Talk, Terms,
+    hold_by_password, link_in_memory,
+};
 use spnego_core::Outcome;
 use std::alloc::Global;
 use std::io;
@@ -26,10 +23,13 @@ const PROGRAM: u32 = 0x2000_4753;
 
 const VERSION: u32 = 1;
 
-/// The sequence number of the session's first call (RFC 2203 section 5.3.1), and how many calls it makes.
-const FIRST_NUMBER: u32 = 1;
+/// The user, whom both ends know, and the password, which the client alone knows.
+const USER: &str = "alice";
 
-const CALLS: u32 = 1;
+const PASSWORD: &str = "open sesame";
+
+/// Random octets of the client. A program draws them anew for each session; these stand here, so that each run is the same.
+const DRAWS: [u8; 66] = [1; 66];
 
 /// The argument of the call: how many octets the words have, the words, and zeros up to a multiple of four (RFC 4506 section 4.10).
 const ARGUMENT: [u8; 16] = *b"\0\0\0\x0bhello world\0";
@@ -37,34 +37,36 @@ const ARGUMENT: [u8; 16] = *b"\0\0\0\x0bhello world\0";
 /// The most octets of an echo.
 const MOST_OCTETS: u32 = 65_536;
 
-/// Holds the session by the object whose credential the client has. Its creation carries the tokens of a negotiation (RFC 2203 section 5.2);
+/// A link to a server of the program of posts.
+type PostsLink = BenchLink<Posts, Spelled<PostsWords>>;
+
+/// Holds the session by the user's password. Its creation carries the tokens of a negotiation (RFC 2203 section 5.2);
 /// its call goes by integrity, so that a MIC covers the argument and another the result (section 5.3.2.2); then it destroys the context
 /// (section 5.4).
-fn hold(alloc: Global, link: &mut BookLink, mechs: Vec<Box<dyn Mech>>) -> Option<Talk>
+fn hold(alloc: Global, link: &mut PostsLink) -> Option<Talk>
     // a link that is closed isn't written to
-    requires open { ⟦<BookLink as Link>⟧.closed link.old ≡ false }
-    requires blank { AreStandard (map meaning mechs.items) }
+    requires { ⟦<PostsLink as Link>⟧.closed link.old ≡ false }
 {
-    let start = Start {
-        setup: InitSetup::armed(alloc, mechs, initiator(alloc)?).ok()?,
-        terms: Terms {
-            service: Service::Integrity,
-            program: PROGRAM,
-            version: VERSION,
-        },
-        first: FIRST_NUMBER,
+    let terms = Terms {
+        service: Service::Integrity,
+        program: PROGRAM,
+        version: VERSION,
     };
+    let argument = Octets::of(alloc, &ARGUMENT).ok()?;
+    let mut due = Vec::new(alloc);
+    due.push(DueCall::of(Procedure::Echo, argument)).ok()?;
     // A call by privacy would need random octets; those of the draw in memory count from 0 on.
     let mut draw = MemDraw::new(Vec::new(alloc));
-    Some(Session::hold(
+    hold_by_password(
         alloc,
         link,
         &mut draw,
-        start,
-        &Procedure::Echo,
-        &ARGUMENT,
-        CALLS,
-    ))
+        USER,
+        PASSWORD,
+        DRAWS,
+        terms,
+        due.as_slice(),
+    )
 }
 
 /// Says who made the context, once it stood.
@@ -98,16 +100,11 @@ fn report(rt: &impl Print, talk: &Talk, answered: usize) -> io::Result<()> {
     }
 }
 
-/// Makes the link and the client's mechanisms, holds the session, and says what came of it.
+/// Makes the link, holds the session, and says what came of it.
 fn run(rt: &impl Print, alloc: Global) -> Option<()> {
-    let MadeMechs {
-        kerberos,
-        microsoft,
-        scram,
-    } = make_mechs(alloc)?;
-    let mechs = standard_mechs(alloc, kerberos, microsoft, scram).ok()?;
-    let mut link = link_of(alloc)?;
-    let talk = hold(alloc, &mut link, mechs);
+    let speller = Spelled { by: PostsWords };
+    let mut link = link_in_memory(alloc, Posts::new(), speller, USER, PASSWORD)?;
+    let talk = hold(alloc, &mut link);
     let answered = link.kept().len();
     drop(link);
     let talk = talk?;

@@ -1,0 +1,2 @@
+mod FreshDesks
+pub mod Acts

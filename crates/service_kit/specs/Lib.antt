@@ -1,0 +1,3 @@
+pub mod Acted
+pub mod Calling
+pub mod Serving
