@@ -93,7 +93,7 @@ fn tell<T, S: Speller<T>>(
         Ok((receipt, entered)) => match entered {
             Ok(ticket) => {
                 let caller = Caller {
-                    name: lease.outcome.initiator.text().as_bytes(),
+                    name: lease.outcome.initiator.octets(),
                     mech: lease.outcome.mech,
                     service: call.service,
                     place: receipt.place,

@@ -153,7 +153,7 @@ fn enter_taken<P: Program>(
     match taken {
         Ok(receipt) => {
             let caller = Caller {
-                name: lease.outcome.initiator.text().as_bytes(),
+                name: lease.outcome.initiator.octets(),
                 mech: lease.outcome.mech,
                 service: call.service,
                 place: receipt.place,

@@ -53,6 +53,14 @@ impl Label {
         })
     }
 
+    /// The octets of it.
+    pub fn octets(&self) -> &[u8]
+        ensures value { result.now ≡ self.now }
+        ensures most { length self.now ≤ 255 }
+    {
+        &self.cells[..self.count as usize]
+    }
+
     /// The text of it.
     pub fn text(&self) -> &str
         ensures value { result.now ≡ self.now }

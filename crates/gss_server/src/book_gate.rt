@@ -57,7 +57,7 @@ pub fn caller_of_lease<'a>(lease: &'a Lease, service: Service, place: u64) -> Ca
     ensures name { length result.name.now ≤ 255 }
 {
     Caller {
-        name: lease.outcome.initiator.text().as_bytes(),
+        name: lease.outcome.initiator.octets(),
         mech: lease.outcome.mech,
         service,
         place,
