@@ -11,7 +11,7 @@ use Rattle.spnego_core.specs.declared.setup.MechCred.TheVariants as creds
 use Rattle.spnego_core.specs.Choice.{same_kind, is_kind, is_first, is_same_oid, are_few}
 use Rattle.spnego_core.specs.InitMech.{kind_of, name_of, oid_listed, kinds_of, cred_for, is_own}
 use Rattle.spnego_core.specs.InitMech as lists
-use Rattle.init_ends.specs.Objects.{are_one, is_named, oids_of, is_own_list, all_fresh, mech_for, is_first_named}
+use Rattle.init_ends.specs.Objects.{are_one, is_named, oids_of, is_own_list, all_fresh, all_armed, mech_for, is_first_named}
 use Rattle.mech_objects.specs.Meaning.{MechSays}
 use Rattle.init_ends.specs.Plain.{fresh_of}
 
@@ -78,6 +78,10 @@ pub fresh-all : (list : List MechCred) → all_fresh (map fresh_of list) ≡ tru
 fresh-all [] = refl
 fresh-all (cred ∷ rest) = fresh-all rest
 
+armed-all : (list : List MechCred) → all_armed (map fresh_of list) ≡ true
+armed-all [] = refl
+armed-all (cred ∷ rest) = armed-all rest
+
 found : (b : Bool) (cred : MechCred) (rest : Option MechCred) → (if b then Some (fresh_of cred) else option_map fresh_of rest) ≡ option_map fresh_of (if b then Some cred else rest)
 found true cred rest = refl
 found false cred rest = refl
@@ -125,7 +129,7 @@ and-true true = refl
 and-true false = refl
 
 pub own-lists : (list : List MechCred) → is_own_list (map fresh_of list) ≡ lists.is_own_list list
-own-lists list = rw (oids-of list, fresh-all list) (and-true (are_few (map oid_listed list)))
+own-lists list = rw (oids-of list, fresh-all list, armed-all list) (and-true (are_few (map oid_listed list)))
 
 -- the objects of an own list's credentials are an own list
 pub own_objects : (creds : List MechCred) → lists.is_own_list creds ≡ true → (list : List MechSays) → list ≡ map fresh_of creds → is_own_list list ≡ true

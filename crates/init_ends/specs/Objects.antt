@@ -1,6 +1,6 @@
 -- The objects of an initiator as a list.
 use Rattle.std.specs.Prelude.{ℕ, Bool, true, false, ◌&&◌, ◌||◌, if◌then◌else◌, List, [], ◌∷◌}
-use Rattle.std.specs.Prelude.{map, Option, Some, None}
+use Rattle.std.specs.Prelude.{map, Option, Some, None, is_some}
 use Rattle.sec_base.specs.Oid.{is_oid}
 use Rattle.gss_base.specs.declared.mech.MechKind.{MechKind}
 use Rattle.gss_base.specs.Mech.{mech_of}
@@ -42,10 +42,15 @@ abbrev pub all_fresh : List MechSays → Bool
 all_fresh [] = true
 all_fresh (m ∷ rest) = is_fresh m.stage && all_fresh rest
 
--- one to three fresh objects with different identifiers; two may be of one mechanism, under its two
--- names
+-- each of them has its credential
+abbrev pub all_armed : List MechSays → Bool
+all_armed [] = true
+all_armed (m ∷ rest) = is_some m.cred && all_armed rest
+
+-- one to three objects with different identifiers, each armed and fresh; two may be of one
+-- mechanism, under its two names
 abbrev pub is_own_list : List MechSays → Bool
-is_own_list list = are_few (oids_of list) && all_fresh list
+is_own_list list = are_few (oids_of list) && (all_fresh list && all_armed list)
 
 -- the first object that an identifier names
 abbrev pub mech_for : List MechSays → List ℕ → Option MechSays

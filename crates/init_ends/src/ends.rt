@@ -4,8 +4,8 @@ use mech_objects::{Mech, MechAsk};
 use sec_base::{Items, Octets, Oid};
 use spnego_core::Outcome;
 
-/// What an initiator is begun with. Each call that takes one asks for one to three fresh objects with different object identifiers; two of
-/// them may be of one mechanism, under its two names.
+/// What an initiator is begun with. Each call that takes one asks for one to three objects with different object identifiers, each armed and
+/// fresh; two of them may be of one mechanism, under its two names.
 #[derive(Drop)]
 pub struct InitSetup {
     /// The mechanisms, the preferred first.
