@@ -12,7 +12,7 @@ ghost use Rattle.gss_server.specs.Hearing.{shown};
 ghost use Rattle.gss_server.specs.Ruled.{IsRuledInContext, IsScreened, unasked};
 
 use crate::asks::Asks;
-use crate::foresight::{foresee_long, lend_long};
+use crate::foresight::{SHORT, foresee_long, lend_long};
 use crate::gate::{DataCall, Gate};
 use crate::heard::Heard;
 use crate::opening::open_body;
@@ -239,7 +239,7 @@ fn say_opened<G: Gate>(
     }
 }
 
-/// The same, with the checksums of a long call computed beforehand.
+/// The same, with the checksums of a long call computed beforehand. Those of a short one were, before its header was verified.
 fn say_body<G: Gate>(
     alloc: Global,
     gate: &mut G,
@@ -256,6 +256,9 @@ fn say_body<G: Gate>(
         (cred_value cred.now) lease.now asks.new.admitted
         (body_args (end_of lease.now) (cred_value cred.now) heard.entry.now.call.args.now)) }
 {
+    if heard.call.args.len() <= SHORT {
+        return say_opened(alloc, gate, heard, cred, lease, keys, asks);
+    }
     let long = foresee_long(heard, cred, lease, keys.cache);
     match &long {
         Some(known) => {

@@ -14,7 +14,7 @@ use rpcsec_msgs::numbers::RPC_GSS_SVC_INTEGRITY;
 use rpcsec_msgs::{GssCred, split_checked};
 
 /// The most octets of a message whose checksum is computed beside three others.
-const SHORT: usize = 112;
+pub(crate) const SHORT: usize = 112;
 
 /// The most octets of a record, and so of a body.
 const LONG: usize = 131_072;
