@@ -11,7 +11,7 @@ use Rattle.gss_client.specs.Conferring.{DueCall}
 use Rattle.pair_laws.specs.Resting.{RestsAt}
 use Rattle.drill_command.specs.Calls.{calls_from, after_calls}
 use Rattle.drill_command.specs.Chained.{IsAdded, AreHeld, IsFirst, AreAllHeld}
-use Rattle.drill_command.specs.Drilled.{value_before, calls_of, IsSession, AreSessions}
+use Rattle.drill_command.specs.Drilled.{value_before, client_before, after_client, calls_of, IsSession, AreSessions}
 use Rattle.drill_command.specs.Fitting.{tokens_for}
 use Rattle.drill_plan.specs.Generator.{octets_from}
 use Rattle.drill_command.specs.Rested.{IsNext, FitsNext, RestsAgain}
@@ -32,20 +32,29 @@ added-of number client wanted old held new sessions sessions' kept one same next
 }
 
 -- one session more
-pub held-more : (seed calls number client count value : ℕ) (first before book : BookOf) (front sessions : List DrillSession) → count ≡ calls_in calls number → value ≡ value_before seed calls number → AreHeld seed calls number first before front
+pub held-more : (seed calls number client count value : ℕ) (first before book : BookOf) (front sessions : List DrillSession) → count ≡ calls_in calls number → value ≡ value_before seed calls number → client ≡ client_before seed calls number → AreHeld seed calls number first before front
     → IsAdded number client (calls_from count value) before book front sessions
     → AreHeld seed calls (number + 1) first book sessions
-held-more seed calls number client count value first before book front sessions many is h a =
+held-more seed calls number client count value first before book front sessions many is at h a =
     let one : suc number ≡ number + 1 = omega arith in
     let b : IsAdded number client (calls_of seed calls number) before book front sessions =
     subst (λ (v : ℕ). IsAdded number client (calls_from (calls_in calls number) v) before book front sessions) is (subst (λ (n : ℕ). IsAdded number client (calls_from n value) before book front sessions) many a) in
-    subst (λ (n : ℕ). AreHeld seed calls n first book sessions) one (before, front, client, h, b)
+    let own : IsAdded number (client_before seed calls number) (calls_of seed calls number) before book front sessions =
+    subst (λ (v : ℕ). IsAdded number v (calls_of seed calls number) before book front sessions) at b in
+    subst (λ (n : ℕ). AreHeld seed calls n first book sessions) one (before, front, h, own)
 
 pub value-more : (seed calls number count value later : ℕ) → count ≡ calls_in calls number → value ≡ value_before seed calls number → later ≡ after_calls count value → later ≡ value_before seed calls (number + 1)
 value-more seed calls number count value later many is e =
     let one : suc number ≡ number + 1 = omega arith in
     subst (λ (n : ℕ). later ≡ value_before seed calls n) one
     (e ∙ (ap (λ (n : ℕ). after_calls n value) many ∙ ap (after_calls (calls_in calls number)) is))
+
+-- the client's generator goes on
+pub client-more : (seed calls number count client later : ℕ) → count ≡ calls_in calls number → client ≡ client_before seed calls number → later ≡ after_client count client → later ≡ client_before seed calls (number + 1)
+client-more seed calls number count client later many is e =
+    let one : suc number ≡ number + 1 = omega arith in
+    subst (λ (n : ℕ). later ≡ client_before seed calls n) one
+    (e ∙ (ap (λ (n : ℕ). after_client n client) many ∙ ap (after_client (calls_in calls number)) is))
 
 -- ---- sessions that are done
 
@@ -120,12 +129,12 @@ all-done seed calls zero first book sessions small h f = record {
   stands = ∣ subst (λ (b : BookOf). Stands 0 b) (sym h.0) (stands-first first f) ∣₁;
 }
 all-done seed calls (suc number) first book sessions small h f =
-    let a = h.4 in
-    let d = all-done seed calls number first h.0 h.1 (omega (arith, small)) h.3 f in
+    let a = h.3 in
+    let d = all-done seed calls number first h.0 h.1 (omega (arith, small)) h.2 f in
     let again : ∥ RestsAgain (tokens_for (kind_of number)) (kind_of number) number (moment_of number) a.next.start (calls_of seed calls number) h.0 book a.one ∥₁ =
     ∥∥₁_elim d.stands squash₁ (λ s. a.next.rests (fits-stands seed calls number h.0 (omega (arith, small)) s)) in
     record {
-      done = (h.0.core.history, h.1, a.one, d.done, a.added, ∥∥₁_map again (λ g. session-of number h.2 (calls_of seed calls number) h.0 book a.kept a.one a.next g));
+      done = (h.0.core.history, h.1, a.one, d.done, a.added, ∥∥₁_map again (λ g. session-of number (client_before seed calls number) (calls_of seed calls number) h.0 book a.kept a.one a.next g));
       stands = ∥∥₁_elim d.stands squash₁ (λ s. ∥∥₁_map again (λ g. stands-next seed calls number a.next.start h.0 book a.one s g));
     }
 

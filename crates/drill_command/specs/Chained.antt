@@ -5,7 +5,7 @@ use Rattle.accept_core.specs.declared.entry.Entry.{Entry}
 use Rattle.gss_server.specs.declared.answer.Kept.{Kept}
 use Rattle.gss_client.specs.Conferring.{DueCall}
 use Rattle.pair_laws.specs.Resting.{RestsAt}
-use Rattle.drill_command.specs.Drilled.{calls_of, IsDrilled}
+use Rattle.drill_command.specs.Drilled.{calls_of, client_before, IsDrilled}
 use Rattle.drill_plan.specs.Limits.{book_limits, drill_limits}
 use Rattle.drill_command.specs.Rested.{IsNext}
 use Rattle.drill_plan.specs.Sessions.{session_count, moment_of}
@@ -21,13 +21,15 @@ pub record IsAdded (number client : ℕ) (wanted : List DueCall) (old new : Book
   pub next : IsNext number client wanted old new kept one
   pub added : sessions' ≡ sessions ++ one ∷ []
 
--- so many sessions were held, each over the book that the one before it left
+-- so many sessions were held, each over the book that the one before it left, and with the octets
+-- that come next of the client's generator
 abbrev pub AreHeld : ℕ → ℕ → ℕ → BookOf → BookOf → List DrillSession → Type 0
 AreHeld seed calls zero first book sessions = (book ≡ first) × (sessions ≡ [])
 AreHeld seed calls (suc number) first book sessions =
-    (before : BookOf) × (front : List DrillSession) × (client : ℕ)
+    (before : BookOf) × (front : List DrillSession)
     × AreHeld seed calls number first before front
-    × IsAdded number client (calls_of seed calls number) before book front sessions
+    × IsAdded number (client_before seed calls number) (calls_of seed calls number) before book
+        front sessions
 
 -- ---- all sessions
 

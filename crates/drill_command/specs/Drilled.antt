@@ -1,5 +1,6 @@
 -- What a drill's sessions and log are.
-use Rattle.std.specs.Prelude.{◌≡◌, ℕ, zero, suc, ◌+◌, List, [], ◌∷◌, ◌++◌, reverse, Some, None}
+use Rattle.std.specs.Prelude.{◌≡◌, ℕ, zero, suc, ◌+◌, ◌*◌, ◌%◌, ◌^◌, List, [], ◌∷◌, ◌++◌, reverse}
+use Rattle.std.specs.Prelude.{Some, None}
 use Rattle.spnego_core.specs.declared.outcome.Outcome.{Outcome}
 use Rattle.accept_book.specs.Booking.{names_of}
 use Rattle.accept_core.specs.declared.entry.Entry.{Entry}
@@ -10,6 +11,7 @@ use Rattle.pair_laws.specs.Rows.{history_after}
 use Rattle.pair_laws.specs.Walking.{HasNames}
 use Rattle.drill_command.specs.Calls.{calls_from, after_calls}
 use Rattle.drill_command.specs.Fitting.{tokens_for}
+use Rattle.drill_plan.specs.Generator.{after_steps}
 use Rattle.drill_plan.specs.Sessions.{session_count, calls_in, moment_of, kind_of}
 use Rattle.drill_plan.specs.Setting.{drill_credential}
 use Rattle.drill_plan.specs.declared.session.DrillSession.{DrillSession}
@@ -24,6 +26,18 @@ value_before seed calls (suc number) =
 abbrev pub calls_of : ℕ → ℕ → ℕ → List DueCall
 calls_of seed calls number =
     calls_from (calls_in calls number) (value_before seed calls number)
+
+-- the value of a generator after it gave a session's client its octets: 66 for the first token, and
+-- 16 for each of so many calls
+abbrev pub after_client : ℕ → ℕ → ℕ
+after_client count x = after_steps (16 * count) (after_steps 66 x)
+
+-- the value of the client's generator before session `number`: it begins with the number after the
+-- seed, and goes on from session to session
+abbrev pub client_before : ℕ → ℕ → ℕ → ℕ
+client_before seed calls zero = (seed + 1) % 2 ^ 64
+client_before seed calls (suc number) =
+    after_client (calls_in calls number) (client_before seed calls number)
 
 -- session `number` was answered without a refusal, and agreed on an outcome of its mechanism, with
 -- the names of its credential. It was answered the service's result of each call: nothing for NULL,

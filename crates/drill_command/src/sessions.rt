@@ -19,12 +19,13 @@ ghost use Rattle.gss_client.specs.Start.{StartSays, objects_start, start_means};
 ghost use Rattle.gss_client.specs.Talk.{created_over};
 ghost use Rattle.gss_server.specs.Hearing.{serving};
 ghost use Rattle.gate_models.specs.Looping.{Since};
-ghost use Rattle.drill_plan.specs.Generator.{octets_from};
+ghost use Rattle.drill_plan.specs.Generator.{octets_from, after_steps};
 ghost use Rattle.drill_plan.specs.Sessions.{calls_in, session_count, moment_of, kind_of, own_name};
 ghost use Rattle.drill_plan.specs.Sessions.{blank_objects};
 ghost use Rattle.drill_plan.specs.Setting.{drill_start, started_by};
 ghost use Rattle.drill_command.specs.Calls.{calls_from, after_calls};
 ghost use Rattle.drill_command.specs.Chained.{IsAdded, IsFirst, AreAllHeld};
+ghost use Rattle.drill_command.specs.Drilled.{after_client};
 ghost use Rattle.drill_command.specs.Held.{HoldsBehind, Holds};
 ghost use Rattle.drill_plan.specs.Limits.{book_limits, log_limits, drill_limits};
 
@@ -302,6 +303,8 @@ fn due_of(
         (λ due. is_own_list (started_by meaning due.1).setup.list ≡ true) }
     ensures place { OnOk result (generators.new.calls.value
         ≡ after_calls count generators.old.calls.value) }
+    ensures client { OnOk result (generators.new.client.value
+        ≡ after_steps 66 generators.old.client.value) }
     ensures server { generators.new.server ≡ generators.old.server }
 {
     let calls = draw_calls(alloc, &mut generators.calls, count)?;
@@ -339,6 +342,8 @@ fn next_session(
         (λ h. h.book.inner.program.posts ≡ posts_in h.book.inner.seat.core.history) }
     ensures place { OnOk result (generators.new.calls.value
         ≡ after_calls count generators.old.calls.value) }
+    ensures client { OnOk result (generators.new.client.value
+        ≡ after_client count generators.old.client.value) }
 {
     let now = moment_of(number);
     let client = generators.client;
@@ -351,12 +356,15 @@ fn next_session(
         }
     };
     let server = generators.server;
+    // (the session draws of a copy, 16 octets a call, which the generator then passes over)
+    let mut draws = generators.client;
+    generators.client.pass(16 * (count as u64));
     let held = hold_session(
         alloc,
         book,
         now,
         server,
-        &mut generators.client,
+        &mut draws,
         start,
         calls.as_slice(),
     );
@@ -395,6 +403,8 @@ fn go_on(
         (λ c. c.book.inner.program.posts ≡ posts_in c.book.inner.seat.core.history) }
     ensures place { IfOk result (λ c. c.generators.calls.value
         ≡ after_calls count course.generators.calls.value) }
+    ensures client { IfOk result (λ c. c.generators.client.value
+        ≡ after_client count course.generators.client.value) }
 {
     let Course {
         book,
@@ -415,6 +425,7 @@ fn begin(alloc: Global, seed: u64) -> Result<Course, NoMemory>
         (λ c. c.book.inner.program.posts ≡ posts_in c.book.inner.seat.core.history) }
     ensures sessions { IfOk result (λ c. c.sessions.items ≡ []) }
     ensures place { IfOk result (λ c. c.generators.calls.value ≡ seed) }
+    ensures client { IfOk result (λ c. c.generators.client.value ≡ (seed + 1) % 2 ^ 64) }
 {
     let book = open_book(alloc)?;
     Ok(Course {

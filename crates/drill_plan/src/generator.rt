@@ -31,6 +31,15 @@ impl Generator {
         self.value = next as u64;
         (self.value / TOP) as u8
     }
+
+    /// Passes over so many octets.
+    pub fn pass(&mut self, count: u64)
+        ensures { self.new.value ≡ after_steps count self.old.value }
+    {
+        for number in 0..count {
+            let _octet = self.next();
+        }
+    }
 }
 
 impl Draw for Generator {

@@ -1,7 +1,7 @@
 use Rattle.std.proofs.Common.{◌∙◌, ◌≡◌, ◌+◌, ap, refl, arith, List, ◌∷◌, length, map}
 use Rattle.accept_book.specs.Booking.{BookOf}
 use Rattle.drill_plan.specs.Sessions.{session_count}
-use Rattle.drill_command.proofs.Chained.{held-more, value-more, all-held}
+use Rattle.drill_command.proofs.Chained.{held-more, value-more, client-more, all-held}
 use Rattle.drill_command.proofs.Objects.{objects_from, counted, first-objects, next-object, later-objects}
 use Rattle.drill_command.proofs.sessions.hold_all.Goals as goal
 
@@ -19,6 +19,7 @@ loop-mech-init g c =
       limits = c.in_ok-course.ensures.first.limits;
       counted = c.in_ok-course.ensures.counted;
       place = c.in_ok-course.ensures.place;
+      client = c.in_ok-course.ensures.client;
       held = (c.in_ok-course.course.book.inner.seat, c.in_ok-course.ensures.first, (refl, c.in_ok-course.ensures.sessions));
     }
 
@@ -55,7 +56,8 @@ loop-mech-preserved g c =
       limits = made.ensures.limits ∙ i.limits;
       counted = made.ensures.counted;
       place = value-more c.args.plan.seed c.args.plan.calls c.loop-mech.number _ _ _ c.calls_in-count.ensures i.place made.ensures.place;
-      held = (i.held.0, i.held.1, held-more c.args.plan.seed c.args.plan.calls c.loop-mech.number _ _ _ i.held.0 _ _ _ _ c.calls_in-count.ensures i.place i.held.2 made.ensures.added);
+      client = client-more c.args.plan.seed c.args.plan.calls c.loop-mech.number _ _ _ c.calls_in-count.ensures i.client made.ensures.client;
+      held = (i.held.0, i.held.1, held-more c.args.plan.seed c.args.plan.calls c.loop-mech.number _ _ _ i.held.0 _ _ _ _ c.calls_in-count.ensures i.place i.client i.held.2 made.ensures.added);
     }
 
 pub returns-clause-limits : goal.returns-clause-limits

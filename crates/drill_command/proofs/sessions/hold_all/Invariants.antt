@@ -2,7 +2,7 @@ use Rattle.std.proofs.Common.{◌≡◌, ◌≤◌, ◌+◌, vec_len, length, ma
 use Rattle.accept_book.specs.Booking.{BookOf}
 use Rattle.pair_laws.specs.Posts.{posts_in}
 use Rattle.drill_command.specs.Chained.{IsFirst, AreHeld}
-use Rattle.drill_command.specs.Drilled.{value_before}
+use Rattle.drill_command.specs.Drilled.{value_before, client_before}
 use Rattle.drill_plan.specs.Limits.{book_limits, drill_limits}
 use Rattle.drill_plan.specs.Sessions.{session_count}
 use Rattle.drill_command.proofs.Objects.{objects_from}
@@ -18,5 +18,6 @@ invariant-loop-mech g l = record {
   limits : book_limits l.course.book.inner.seat ≡ drill_limits;
   counted : l.course.book.inner.program.posts ≡ posts_in l.course.book.inner.seat.core.history;
   place : l.course.generators.calls.value ≡ value_before l.fn.plan.seed l.fn.plan.calls l.number;
+  client : l.course.generators.client.value ≡ client_before l.fn.plan.seed l.fn.plan.calls l.number;
   held : (first : BookOf) × IsFirst first × AreHeld l.fn.plan.seed l.fn.plan.calls l.number first l.course.book.inner.seat l.course.sessions.items;
 }
