@@ -29,7 +29,7 @@ AreHeld seed calls (suc number) first book sessions =
     (before : BookOf) × (front : List DrillSession)
     × AreHeld seed calls number first before front
     × IsAdded number (client_before seed calls number) (calls_of seed calls number) before book
-        front sessions
+    front sessions
 
 -- ---- all sessions
 

@@ -1,13 +1,13 @@
-//! A whole connection over one book.
+//! Whole connections over one book.
 
-ghost use Rattle.std.specs.Prelude.{◌≡◌, ◌≤◌, ◌<◌, IfSome, false};
+ghost use Rattle.std.specs.Prelude.{◌≤◌, ◌<◌, IfSome};
 
 use crate::entries;
 use crate::records::{MOST, next};
 use crate::served::{BookGate, gate_of};
 use accept_book::{Keeping, Limits, OwnSeat};
-use gss_server::{KeepNothing, answer_record, serve_link};
-use sec_base::{Clock, Draw, Link, MemClock, MemDraw, MemLink, Moment};
+use gss_server::{Answered, Gate, KeepNothing, answer_record, serve_link};
+use sec_base::{Clock, Draw, MemClock, MemDraw, Moment};
 use std::alloc::Global;
 use table_rows::{Cells, Said};
 use table_setting::{Setting, link, present, say_list};
@@ -57,10 +57,9 @@ pub fn book_of(
     OwnSeat::open(alloc, setup, limits, start).ok()
 }
 
-/// What serves connections one after the other: a book, a clock and random octets that count.
+/// What a gate's records are answered by beside it: a clock, random octets that count, and the width of the windows.
 #[derive(Drop)]
-struct Desk {
-    gate: BookGate,
+pub struct Desk {
     clock: MemClock,
     draw: MemDraw,
     width: u32,
@@ -87,61 +86,60 @@ fn width_of(alloc: Global, limits: &str) -> u32 {
 }
 
 /// A desk before its first connection, by the cells of limits and moments.
-fn desk_of(cells: &mut Cells<'_>, setting: &Setting, limits: &str, nows: &str) -> Option<Desk> {
+pub fn desk_of(cells: &mut Cells<'_>, limits: &str, nows: &str) -> Desk {
     let alloc = cells.alloc();
-    let width = width_of(alloc, limits);
-    let book = book_of(alloc, setting, "ks", limits, present())?;
-    Some(Desk {
-        gate: gate_of(book),
+    Desk {
         clock: clock_of(cells, nows),
         draw: MemDraw::new(Vec::new(alloc)),
-        width,
-    })
+        width: width_of(alloc, limits),
+    }
 }
 
-/// Says the number of the rule by which a record is answered.
-fn say_rule(alloc: Global, desk: &mut Desk, record: &[u8], rules: &mut Said) {
+/// The answer to a record by this gate, at the desk's next moment.
+pub fn answered<G: Gate>(alloc: Global, gate: &mut G, desk: &mut Desk, record: &[u8]) -> Answered {
     let now = desk.clock.now();
     let mut draws = [0; 82];
     desk.draw.fill(&mut draws);
-    let answered = answer_record(alloc, &mut desk.gate, record, now, &draws, desk.width);
-    rules.number(answered.rule as u64);
-    rules.join(",");
+    answer_record(alloc, gate, record, now, &draws, desk.width)
 }
 
-/// Says the numbers of the rules by which the records of a stream are answered, in order.
-fn say_rules(alloc: Global, desk: &mut Desk, link: &mut MemLink, rules: &mut Said) {
+/// Says the numbers of the rules by which the records of a connection are answered by this gate, in order.
+pub fn rule<G: Gate>(
+    cells: &mut Cells<'_>,
+    gate: &mut G,
+    desk: &mut Desk,
+    input: &str,
+    said: &mut Said,
+) {
+    let alloc = cells.alloc();
+    let mut link = link(cells, input);
+    let mut rules = Said::new(alloc);
     for _ in 0..MOST {
-        match next(alloc, link) {
-            Some(Ok(Some(record))) => say_rule(alloc, desk, record.as_slice(), rules),
-            _ => return,
+        match next(alloc, &mut link) {
+            Some(Ok(Some(record))) => {
+                let answered = answered(alloc, gate, desk, record.as_slice());
+                rules.number(answered.rule as u64);
+                rules.join(",");
+            }
+            _ => break,
         }
     }
+    say_list(said, &rules);
+    said.join("/");
 }
 
-/// Says the rules of the connections of a line.
-fn rule_all(cells: &mut Cells<'_>, desk: &mut Desk, inputs: &str, said: &mut Said) {
+/// Says what is written on a connection that this gate serves, and its end apart.
+pub fn serve<G: Gate>(
+    cells: &mut Cells<'_>,
+    gate: &mut G,
+    desk: &mut Desk,
+    input: &str,
+    said: &mut Said,
+    ends: &mut Said,
+) {
     let alloc = cells.alloc();
-    for input in inputs.split('/') {
-        let mut link = link(cells, input);
-        let mut rules = Said::new(alloc);
-        say_rules(alloc, desk, &mut link, &mut rules);
-        say_list(said, &rules);
-        said.join("/");
-    }
-    said.join(" ");
-}
-
-/// Says what is written on a connection, and its end apart.
-fn serve(alloc: Global, desk: &mut Desk, link: MemLink, said: &mut Said, ends: &mut Said)
-    requires { ⟦<MemLink as Link>⟧.closed link ≡ false }
-{
-    let Desk {
-        gate,
-        clock,
-        draw,
-        width,
-    } = desk;
+    let link = link(cells, input);
+    let Desk { clock, draw, width } = desk;
     let served = serve_link(alloc, link, &mut KeepNothing, gate, clock, draw, *width);
     said.octets(served.link.written());
     said.join("/");
@@ -150,17 +148,22 @@ fn serve(alloc: Global, desk: &mut Desk, link: MemLink, said: &mut Said, ends: &
 }
 
 /// Says what is written on the connections of a line, and their ends.
-fn serve_all(cells: &mut Cells<'_>, desk: &mut Desk, inputs: &str, said: &mut Said) {
-    let alloc = cells.alloc();
-    let mut ends = Said::new(alloc);
+fn serve_all(
+    cells: &mut Cells<'_>,
+    gate: &mut BookGate,
+    desk: &mut Desk,
+    inputs: &str,
+    said: &mut Said,
+) {
+    let mut ends = Said::new(cells.alloc());
     for input in inputs.split('/') {
-        serve(alloc, desk, link(cells, input), said, &mut ends);
+        serve(cells, gate, desk, input, said, &mut ends);
     }
     said.join(" ");
     say_list(said, &ends);
 }
 
-/// Says the rules of the connections of a line, by a desk of their own.
+/// Says the rules of the connections of a line, over a book of their own.
 fn rule_apart(
     setting: &Setting,
     cells: &mut Cells<'_>,
@@ -169,26 +172,27 @@ fn rule_apart(
     inputs: &str,
     said: &mut Said,
 ) {
-    match desk_of(cells, setting, limits, nows) {
-        Some(mut desk) => rule_all(cells, &mut desk, inputs, said),
-        None => said.starve(),
+    let Some(book) = book_of(cells.alloc(), setting, "ks", limits, present()) else {
+        return said.starve();
+    };
+    let mut gate = gate_of(book);
+    let mut desk = desk_of(cells, limits, nows);
+    for input in inputs.split('/') {
+        rule(cells, &mut gate, &mut desk, input, said);
     }
+    said.join(" ");
 }
 
 /// By the cells limits, moments and streams, what is written on the connections and their ends, the rules, and the log.
 pub fn answer(setting: &Setting, cells: &mut Cells<'_>, said: &mut Said) {
     let (limits, nows, inputs) = (cells.word(), cells.word(), cells.word());
-    match desk_of(cells, setting, limits, nows) {
-        Some(mut desk) => {
-            serve_all(cells, &mut desk, inputs, said);
-            rule_apart(setting, cells, limits, nows, inputs, said);
-            entries::logged(
-                cells.alloc(),
-                said,
-                entries::entries_in(desk.gate.seat.log()),
-                " ",
-            );
-        }
-        None => cells.expect(false),
-    }
+    let alloc = cells.alloc();
+    let Some(book) = book_of(alloc, setting, "ks", limits, present()) else {
+        return cells.expect(false);
+    };
+    let mut gate = gate_of(book);
+    let mut desk = desk_of(cells, limits, nows);
+    serve_all(cells, &mut gate, &mut desk, inputs, said);
+    rule_apart(setting, cells, limits, nows, inputs, said);
+    entries::logged(alloc, said, entries::entries_in(gate.seat.log()), " ");
 }

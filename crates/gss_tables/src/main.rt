@@ -4,6 +4,7 @@
 
 mod asking;
 mod begun;
+mod between;
 mod books;
 mod connections;
 mod cores;
@@ -33,10 +34,12 @@ use table::{Table, compared};
 use table_setting::{Files, Setting};
 
 /// Those of the server, of the book, of both ends together, of the client, and of the command that makes files.
-const TABLES: [Table; 21] = [
+const TABLES: [Table; 23] = [
     Table::Records,
     Table::Rules,
     Table::Connections,
+    Table::Turns,
+    Table::Between,
     Table::Histories,
     Table::Books,
     Table::Seats,

@@ -1,12 +1,14 @@
-//! Two desks at once: each looks for a context at a gate that waits until the other does.
+//! Two desks at once, whose gates wait for each other.
 
 ghost use Rattle.std.specs.Prelude.{◌≡◌, IfSome};
 ghost use Rattle.std.specs.List.{AllByRecursion};
 ghost use Rattle.server_desks.specs.Desks.{IsFresh};
 
+use crate::rules::answers;
 use crate::served::{Answers, list_gate};
 use crate::servers::{MemDesk, desk, octets_of};
 use accept_book::{AdmitRefusal, Admitted, Lease, LookRefusal, Negotiated, Receipt};
+use gate_models::GateAnswer;
 use gss_server::{DataCall, Gate};
 use rpc_program::ProgramId;
 use rpcsec_bodies::Service;
@@ -22,20 +24,36 @@ use table_setting::Files;
 /// How often a gate looks whether the other desk came.
 const LOOKS: u32 = 1_000_000_000;
 
-/// A gate without answers, at which a look waits until as many came as there are desks, for a while.
+/// Where the gate of a desk waits for that of the other.
+#[derive(Clone, Copy)]
+enum Wait {
+    /// At a look, until the other is asked one too.
+    Look,
+    /// At a call, until the other answered one.
+    Held,
+    /// Nowhere: it says when it answered a call.
+    Free,
+}
+
+/// A gate with a list of answers that waits for the other desk's, for a while.
 #[derive(Drop)]
 struct Meeting<'a> {
     inner: Answers,
     came: &'a AtomicU64,
+    wait: Wait,
     met: bool,
 }
 
 impl Meeting<'_> {
-    /// Comes, and waits for the other.
-    fn meet(&mut self) {
+    /// Comes.
+    fn come(&mut self) {
         self.came.fetch_add(1, SeqCst);
+    }
+
+    /// Waits until so many came.
+    fn wait_for(&mut self, count: u64) {
         for _ in 0..LOOKS {
-            if self.came.load(SeqCst) >= 2 {
+            if self.came.load(SeqCst) >= count {
                 self.met = true;
                 return;
             }
@@ -93,7 +111,10 @@ impl Gate for Meeting<'_> {
     }
 
     fn look(&mut self, id: u64, now: Moment) -> Result<Lease, LookRefusal> {
-        self.meet();
+        if let Wait::Look = self.wait {
+            self.come();
+            self.wait_for(2);
+        }
         self.inner.look(id, now)
     }
 
@@ -103,7 +124,15 @@ impl Gate for Meeting<'_> {
         lease: &Lease,
         call: &DataCall<'_>,
     ) -> Result<Admitted, AdmitRefusal> {
-        self.inner.admit(alloc, lease, call)
+        if let Wait::Held = self.wait {
+            self.wait_for(1);
+        }
+        let answer = self.inner.admit(alloc, lease, call);
+        if let Wait::Free = self.wait {
+            self.come();
+            self.wait_for(1);
+        }
+        answer
     }
 
     fn pass(&mut self, lease: &Lease, call: &DataCall<'_>) -> Result<Receipt, AdmitRefusal> {
@@ -115,51 +144,71 @@ impl Gate for Meeting<'_> {
     }
 }
 
-/// A desk over a stream with its gate.
-fn job<'a>(alloc: Global, input: Vec<u8>, came: &'a AtomicU64) -> Option<Job<MemDesk, Meeting<'a>>>
+/// A desk over a stream, with a gate of these answers that waits so.
+fn job<'a>(
+    alloc: Global,
+    input: Vec<u8>,
+    answers: Vec<GateAnswer>,
+    wait: Wait,
+    came: &'a AtomicU64,
+) -> Option<Job<MemDesk, Meeting<'a>>>
     ensures { IfSome result (λ job. IsFresh job.desk) }
 {
-    let inner = list_gate(alloc, Vec::new(alloc)).ok()?;
+    let inner = list_gate(alloc, answers).ok()?;
     let gate = Meeting {
         inner,
         came,
+        wait,
         met: false,
     };
     let desk = desk(alloc, input, Vec::new(alloc), Vec::new(alloc));
     Some(Job::new(alloc, desk, gate, 1, 128))
 }
 
-/// Two jobs over a stream each.
+/// Where the gates of both desks wait, by a word.
+fn waits_of(cells: &mut Cells<'_>) -> [Wait; 2] {
+    match cells.word() {
+        "look" => [Wait::Look, Wait::Look],
+        "call" => [Wait::Held, Wait::Free],
+        _ => {
+            cells.expect(false);
+            [Wait::Free, Wait::Free]
+        }
+    }
+}
+
+/// Two jobs over the same stream each, by the cells where their gates wait, of the stream, and of the answers of each gate.
 fn jobs<'a>(
-    alloc: Global,
-    first: Vec<u8>,
-    second: Vec<u8>,
+    files: &Files,
+    cells: &mut Cells<'_>,
     came: &'a AtomicU64,
 ) -> Option<Vec<Job<MemDesk, Meeting<'a>>>>
     ensures { IfSome result (λ jobs. AllByRecursion (λ job. IsFresh job.desk) jobs.items) }
 {
-    let first = job(alloc, first, came)?;
-    let second = job(alloc, second, came)?;
+    let alloc = cells.alloc();
+    let [one, other] = waits_of(cells);
+    let (stream, said) = (cells.word(), cells.word());
+    let input = octets_of(files, cells, stream);
+    let first = job(alloc, input, answers(cells, said), one, came)?;
+    let input = octets_of(files, cells, stream);
+    let second = job(alloc, input, answers(cells, said), other, came)?;
     match Vec::from_array(alloc, [first, second]) {
         Ok(jobs) => Some(jobs),
         Err(_) => None,
     }
 }
 
-/// By the cell of the stream, whether each of two desks over it met the other.
+/// By the cells where the gates wait, of the stream and of the answers, whether each of two desks met the other, and what each wrote.
 pub fn answer<R: Threads + Sync>(rt: &R, files: &Files, cells: &mut Cells<'_>, said: &mut Said) {
-    let alloc = cells.alloc();
-    let stream = cells.word();
-    let (first, second) = (
-        octets_of(files, cells, stream),
-        octets_of(files, cells, stream),
-    );
     let came = AtomicU64::new(0);
-    let Some(mut jobs) = jobs(alloc, first, second, &came) else {
+    let Some(mut jobs) = jobs(files, cells, &came) else {
         return said.starve();
     };
     run_desks(rt, &mut jobs);
     for job in &jobs {
         said.word(if job.gate.met { "met" } else { "alone" });
+        for served in job.desk.links.all.iter() {
+            said.octets(served.link.written());
+        }
     }
 }

@@ -177,7 +177,7 @@ fn are_put(alloc: Global, answers: &mut Vec<GateAnswer>, said: &str, ends: bool)
 }
 
 /// The answers of the gate, in order. What follows a look is an end where the questions that are wanted behind the cell have one.
-fn answers(cells: &mut Cells<'_>, cell: &str) -> Vec<GateAnswer> {
+pub fn answers(cells: &mut Cells<'_>, cell: &str) -> Vec<GateAnswer> {
     let alloc = cells.alloc();
     let mut answers = Vec::new(alloc);
     let ends = cells.rest().unwrap_or("").contains("end:");
@@ -187,7 +187,7 @@ fn answers(cells: &mut Cells<'_>, cell: &str) -> Vec<GateAnswer> {
 }
 
 /// Says a reply, `none` where there is none.
-fn say_reply(said: &mut Said, reply: &Reply) {
+pub fn say_reply(said: &mut Said, reply: &Reply) {
     match reply {
         Reply::Silent => said.word("none"),
         Reply::Bytes(octets) => said.octets(octets.as_slice()),

@@ -74,6 +74,33 @@ fn desks(
     }
 }
 
+/// The first of them alone.
+fn one_desk(alloc: Global, first: Vec<u8>, link: Vec<u64>) -> Option<Vec<MemDesk>>
+    ensures { IfSome result (λ desks. AllByRecursion IsFresh desks.items) }
+{
+    let first = desk(alloc, first, link, Vec::new(alloc));
+    match Vec::from_array(alloc, [first]) {
+        Ok(desks) => Some(desks),
+        Err(_) => None,
+    }
+}
+
+/// Two desks, or the first alone where there is no second stream.
+fn desks_by(
+    alloc: Global,
+    first: Vec<u8>,
+    second: Option<Vec<u8>>,
+    link: Vec<u64>,
+    port: Vec<u64>,
+) -> Option<Vec<MemDesk>>
+    ensures { IfSome result (λ desks. AllByRecursion IsFresh desks.items) }
+{
+    match second {
+        Some(second) => desks(alloc, first, second, link, port),
+        None => one_desk(alloc, first, link),
+    }
+}
+
 /// A disk in memory that holds nothing, and fails at the calls of these numbers.
 fn disk_in_memory(alloc: Global, failing: Vec<u64>) -> Option<MemDisk> {
     MemDisk::new(alloc, Vec::new(alloc), failing).ok()
@@ -163,6 +190,15 @@ fn say_written(desks: &[MemDesk], said: &mut Said) {
     }
 }
 
+/// The stream of the second desk by the next cell; `none` where there is one desk alone.
+fn second_stream(files: &Files, cells: &mut Cells<'_>) -> Option<Vec<u8>> {
+    let cell = cells.word();
+    if cell == "none" {
+        return None;
+    }
+    Some(octets_of(files, cells, cell))
+}
+
 /// By the cells of its words, the stream of each desk, and the numbers of the calls of the first link, the second port, the shelf and standard
 /// error that fail, what a run says, and then what is written on each link.
 pub fn answer_failing<R: Threads + Wait + Sync>(
@@ -173,7 +209,7 @@ pub fn answer_failing<R: Threads + Wait + Sync>(
 ) {
     let alloc = cells.alloc();
     let words = words(cells);
-    let (first, second) = (files.octets(cells), files.octets(cells));
+    let (first, second) = (files.octets(cells), second_stream(files, cells));
     let (link, port) = (numbers(cells), numbers(cells));
     let (shelf, sink) = (numbers(cells), numbers(cells));
     let mut shelf = files.shelf(cells, shelf);
@@ -181,7 +217,7 @@ pub fn answer_failing<R: Threads + Wait + Sync>(
     let Some(disk) = disk_in_memory(alloc, Vec::new(alloc)) else {
         return said.starve();
     };
-    match desks(alloc, first, second, link, port) {
+    match desks_by(alloc, first, second, link, port) {
         Some(mut desks) => {
             run(
                 rt,

@@ -21,6 +21,8 @@ pub enum Table {
     Records,
     Rules,
     Connections,
+    Turns,
+    Between,
     Histories,
     Books,
     Seats,
@@ -50,7 +52,8 @@ impl Table {
         match self {
             Table::Records => "records.txt",
             Table::Rules => "rules.txt",
-            Table::Connections => "connections.txt",
+            Table::Connections | Table::Turns => "connections.txt",
+            Table::Between => "between.txt",
             Table::Histories => "histories.txt",
             Table::Books | Table::Seats => "books.txt",
             Table::Links => "links.txt",
@@ -85,7 +88,7 @@ impl Table {
     /// Whether a line begins with its name.
     fn is_named(self) -> bool {
         match self {
-            Table::Records | Table::Rules | Table::Connections => false,
+            Table::Records | Table::Rules | Table::Connections | Table::Turns => false,
             Table::Sessions | Table::Runs | Table::Drills => false,
             _ => true,
         }
@@ -151,6 +154,8 @@ impl<R: Wait> Rows for Set<'_, R> {
             Table::Records => records::answer(cells, said),
             Table::Rules => rules::answer(cells, said),
             Table::Connections => connections::answer(setting, cells, said),
+            Table::Turns => seats::answer_connections(self.rt, setting, cells, said),
+            Table::Between => seats::answer_between(self.rt, setting, cells, said),
             Table::Histories => cores::answer(cells, said),
             Table::Books => books::answer(setting, files, cells, said),
             Table::Seats => seats::answer(self.rt, setting, files, cells, said),

@@ -1,7 +1,7 @@
 use Rattle.std.proofs.Common.{◌≡◌}
 use Rattle.accept_book.specs.Booking.{with_setup}
 use Rattle.gss_server.specs.Telling.{limits_of}
-use Rattle.gss_tables.proofs.seats.answer.Given as goal
+use Rattle.gss_tables.proofs.seats.seated.Given as goal
 
 abbrev pub ghosts-step_seated-J-Room : goal.ghosts-step_seated-J-Room
 ghosts-step_seated-J-Room g a = record {
