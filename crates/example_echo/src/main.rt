@@ -103,7 +103,7 @@ fn report(rt: &impl Print, talk: &Talk, answered: usize) -> io::Result<()> {
 /// Makes the link, holds the session, and says what came of it.
 fn run(rt: &impl Print, alloc: Global) -> Option<()> {
     let speller = Spelled { by: PostsWords };
-    let mut link = link_in_memory(alloc, Posts::new(), speller, USER, PASSWORD)?;
+    let mut link = link_in_memory(alloc, Posts::new(), speller, USER, PASSWORD).ok()?;
     let talk = hold(alloc, &mut link);
     let answered = link.kept().len();
     drop(link);

@@ -1,5 +1,6 @@
--- A register: a word of four octets that callers read and write.
+-- A register: a word that callers read and write.
 use Rattle.std.specs.Prelude.{ℕ, Bool, ◌==◌, nat_lt, if◌then◌else◌, List, [], length}
+use Rattle.std.specs.Int.{w32, from_be_bytes, to_be_bytes}
 use Rattle.service_kit.specs.declared.Service.{Service}
 use Rattle.service_kit.specs.declared.Service.TheVariants as services
 use Rattle.service_kit.specs.Serving.{ProgramSays}
@@ -10,12 +11,12 @@ abbrev pub is_args : ℕ → List ℕ → Bool
 is_args procedure args = if procedure == WRITE then length args == 4 else length args == 0
 
 -- the word after a call
-abbrev pub word_after : List ℕ → ℕ → List ℕ → List ℕ
-word_after word procedure args = if procedure == WRITE then args else word
+abbrev pub word_after : ℕ → ℕ → List ℕ → ℕ
+word_after word procedure args = if procedure == WRITE then from_be_bytes w32 args else word
 
 -- the result of a call: the word that stood before, and nothing for NULL
-abbrev pub result_of : ℕ → List ℕ → List ℕ
-result_of procedure before = if procedure == NULL then [] else before
+abbrev pub result_of : ℕ → ℕ → List ℕ
+result_of procedure before = if procedure == NULL then [] else to_be_bytes w32 before
 
 -- NULL is called by any service, the others by one that proves their arguments
 abbrev pub needed : ℕ → Service

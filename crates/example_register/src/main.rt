@@ -7,7 +7,6 @@
 mod client;
 mod register;
 
-ghost use Rattle.std.specs.Prelude.{replicate};
 ghost use Rattle.service_kit.specs.Acted.{Acted, entries_of};
 
 use client::{PASSWORD, USER, write_and_read};
@@ -36,14 +35,14 @@ fn serve_register<
         + Copy
         + Drop,
 >(rt: HostRuntime, host: H, words: &[Text]) -> Ran<Register>
-    ensures { Acted ⟦<Register as Program>⟧ (record { word = replicate 4 0 }) result.program
+    ensures { Acted ⟦<Register as Program>⟧ (record { word = 0 }) result.program
         (entries_of result.log) }
 {
     serve(
         rt,
         host,
         words,
-        Register { word: [0; 4] },
+        Register { word: 0 },
         || Spelled { by: Words },
     )
 }
@@ -77,8 +76,7 @@ fn told(rt: &impl Print, talk: Option<Talk>) -> u8 {
 fn in_memory(rt: HostRuntime) -> u8 {
     let alloc = rt.alloc();
     let speller = Spelled { by: Words };
-    let Some(mut link) = link_in_memory(alloc, Register { word: [0; 4] }, speller, USER, PASSWORD)
-    else {
+    let Ok(mut link) = link_in_memory(alloc, Register { word: 0 }, speller, USER, PASSWORD) else {
         return 1;
     };
     let mut draw = MemDraw::new(Vec::new(alloc));

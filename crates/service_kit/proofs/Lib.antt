@@ -1,2 +1,3 @@
 mod FreshDesks
 pub mod Acts
+pub mod NoKeys

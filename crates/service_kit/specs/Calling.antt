@@ -5,9 +5,14 @@ use Rattle.spnego_core.specs.declared.setup.InitFacts.{InitFacts}
 use Rattle.spnego_core.specs.declared.setup.MechCred.TheVariants.{Scram}
 use Rattle.gss_client.specs.Start.{StartSays}
 use Rattle.gss_client.specs.declared.terms.Terms.{Terms}
-pub use Rattle.gss_client.specs.Conferring.{calls_of}
+pub use Rattle.sec_base.specs.Answers.{Rose}
+pub use Rattle.sec_base.specs.Link.{Wire}
+pub use Rattle.spnego_core.specs.declared.outcome.Outcome.{Outcome}
+pub use Rattle.gss_client.specs.Conferring.{DueCall, calls_of}
 pub use Rattle.gss_client.specs.Holding.{TalkedOf}
 pub use Rattle.gss_client.specs.Query.{QuerySays}
+pub use Rattle.gss_client.specs.declared.conversation.Parting.{Parting}
+pub use Rattle.gss_client.specs.declared.terms.Terms.{Terms}
 
 -- a start whose first call has the number 1
 abbrev pub start_from : PlainSetup → Terms → StartSays

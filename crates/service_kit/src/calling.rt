@@ -7,6 +7,8 @@ ghost use Rattle.spnego_core.specs.InitMech.{is_own_list};
 ghost use Rattle.init_ends.specs.Arming.{AreStandard};
 ghost use Rattle.gss_client.specs.Conferring.{calls_of};
 ghost use Rattle.gss_client.specs.Holding.{TalkedOf};
+ghost use Rattle.stream_buffers.specs.Buffered.{link_below, read_ahead, written_behind};
+ghost use Rattle.system_devices.specs.Devices.{dialed_address};
 ghost use Rattle.service_kit.specs.Calling.{password_facts, password_start, start_from};
 
 use gss_client::{ClientRefusal, DueCall, Parting, Query, Start, Talk, Terms, hold_calls};
@@ -68,6 +70,7 @@ fn hold_by<L: Link, D: Draw, Q: Query>(
     ensures tells { L.tells link.new ≡ L.tells link.old }
     ensures unclosed { L.closed link.new ≡ false }
     ensures faults { L.faults link.old ≤ L.faults link.new }
+    ensures drawing { IsTrue (D.tells draw.new) → IsTrue (D.tells draw.old) }
 {
     let Ok(setup) = InitSetup::armed(alloc, mechs, facts) else {
         return None;
@@ -103,6 +106,7 @@ pub fn hold_by_password<L: Link, D: Draw, Q: Query>(
     ensures tells { L.tells link.new ≡ L.tells link.old }
     ensures unclosed { L.closed link.new ≡ false }
     ensures faults { L.faults link.old ≤ L.faults link.new }
+    ensures drawing { IsTrue (D.tells draw.new) → IsTrue (D.tells draw.old) }
 {
     let facts = password_facts(alloc, user, password, draws)?;
     let MadeMechs {
@@ -115,9 +119,12 @@ pub fn hold_by_password<L: Link, D: Draw, Q: Query>(
 }
 
 /// A connection to an address, a host and a port with a colon between them, which is made when it is first used. It reads ahead and writes
-/// behind.
+/// behind; nothing was read or waits to be written yet.
 pub fn dial<'a>(rt: HostRuntime, address: &'a str) -> Buffered<DialedLink<'a, HostRuntime>>
-    ensures { ⟦<Buffered<DialedLink<'a, HostRuntime>> as Link>⟧.closed result ≡ false }
+    ensures address { dialed_address (link_below result) ≡ address.now }
+    ensures closed { ⟦<Buffered<DialedLink<'a, HostRuntime>> as Link>⟧.closed result ≡ false }
+    ensures ahead { read_ahead result ≡ [] }
+    ensures behind { written_behind result ≡ [] }
 {
     Buffered::over(rt.alloc(), DialedLink::new(rt, address))
 }

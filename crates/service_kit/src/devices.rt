@@ -1,11 +1,13 @@
 //! The system's devices, as a server takes them.
 
-ghost use Rattle.std.specs.Prelude.{◌≡◌, IfOk, true, is_some, vec_len};
+ghost use Rattle.std.specs.Prelude.{◌≡◌, IfOk, IfSome, true, is_some, vec_len};
 ghost use Rattle.std.specs.List.{AllByRecursion};
 ghost use Rattle.server_command.specs.Runs.{names_journal};
 ghost use Rattle.server_desks.specs.Desks.{IsFresh};
 ghost use Rattle.server_options.specs.Options.{options_of};
+ghost use Rattle.service_kit.specs.Staff.{IsStaff};
 
+use crate::running::Lack;
 use gss_server::KeepNothing;
 use sec_base::{Port, Text};
 use server_desks::{Desk, run_limit};
@@ -15,12 +17,6 @@ use std::net::{Net, TcpListener, TcpStream};
 use std::rt::Clock;
 use std::sync::Wait;
 use system_devices::{BufferedPort, FileDisk, RandDraw, SystemClock, TcpDoor, TcpPort};
-
-/// The status where the words can't be read, or a device isn't there.
-pub(crate) const NOT_STARTED: u8 = 1;
-
-/// The status at want of memory.
-pub(crate) const OUT_OF_MEMORY: u8 = 8;
 
 /// The octets of a block that the C library takes from the system by itself, and gives back by itself.
 const BLOCK: usize = 8 * 1024 * 1024;
@@ -78,13 +74,13 @@ pub(crate) fn journal_disk(rt: HostRuntime, words: &[Text]) -> Result<Option<Fil
     }
 }
 
-/// So many desks at a TCP listener, each with random octets and a speller of its own; or the status where there are none.
+/// So many desks at a TCP listener, each with random octets and a speller of its own; or what wasn't to be had for them.
 pub(crate) fn desks_at<'a, R, W: Drop, F: Fn() -> W>(
     rt: HostRuntime,
     door: &'a TcpDoor<'a, R>,
     count: u32,
     hire: F,
-) -> Result<Vec<SystemDesk<BufferedPort<TcpPort<'a, R>>, W>>, u8>
+) -> Result<Vec<SystemDesk<BufferedPort<TcpPort<'a, R>>, W>>, Lack>
 where
     R: Net<Stream = TcpStream, Listener = TcpListener> + Clock + Wait + Copy + Drop,
     requires { F.IsAlwaysCallable hire }
@@ -92,11 +88,11 @@ where
     ensures fresh { IfOk result (λ desks. AllByRecursion IsFresh desks.items) }
 {
     let Ok(mut desks) = Vec::with_capacity(rt.alloc(), count as usize) else {
-        return Err(OUT_OF_MEMORY);
+        return Err(Lack::Memory);
     };
     for number in 0..count {
         let Ok(draw) = RandDraw::new(&rt) else {
-            return Err(NOT_STARTED);
+            return Err(Lack::Draws);
         };
         let port = BufferedPort::new(rt.alloc(), TcpPort::at(door));
         desks.push_reserved(desk(rt, port, draw, hire()));
@@ -117,7 +113,7 @@ pub(crate) struct Staff {
     pub control: Option<Text>,
 }
 
-/// What words ask for that aren't in the command: the run says what they are before anything is served.
+/// What words ask for that aren't in the command: their run says what they are before anything is served.
 const UNSERVED: Staff = Staff {
     desks: 1,
     connections: 1,
@@ -126,7 +122,10 @@ const UNSERVED: Staff = Staff {
 };
 
 /// What the words ask for of the devices; None at want of memory.
-pub(crate) fn staff_of(rt: HostRuntime, words: &[Text]) -> Option<Staff> {
+pub(crate) fn staff_of(rt: HostRuntime, words: &[Text]) -> Option<Staff>
+    ensures { IfSome result (λ staff. IsStaff words.now staff.desks staff.connections staff.idle
+        staff.control) }
+{
     match read_options(rt.alloc(), words) {
         Ok(options) => Some(Staff {
             desks: options.desks,

@@ -19,6 +19,8 @@ pub use rpc_program::{
     Answerer, Caller, Fault, Outcome, Program, ProgramId, Spelled, Speller, Unserved,
 };
 pub use rpcsec_bodies::Service;
-pub use running::Ran;
+pub use running::{Ending, Ran};
+pub use scram_mech::ScramRefusal;
 pub use sec_base::{Draw, Link, MemDraw, NoMemory, Octets, Text};
+pub use server_options::{KeyFile, RunEnd};
 pub use system_devices::{HeldStreams, RandDraw, StdSink, SystemClock, WordsRefusal, command_line};

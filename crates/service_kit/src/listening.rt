@@ -1,14 +1,14 @@
 //! A program that is served over the system's devices.
 
-ghost use Rattle.std.specs.Prelude.{◌≡◌};
+ghost use Rattle.std.specs.Prelude.{◌≡◌, ◌≢◌, Ok, Some};
 ghost use Rattle.std.specs.List.{AllByRecursion};
 ghost use Rattle.server_desks.specs.Desks.{IsFresh};
+ghost use Rattle.server_options.specs.Control.{control_of};
 ghost use Rattle.service_kit.specs.Acted.{Acted, entries_of};
+ghost use Rattle.service_kit.specs.Ended.{EndsAs, status_at};
 
-use crate::devices::{
-    NOT_STARTED, OUT_OF_MEMORY, SystemDesk, desk, desks_at, journal_disk, staff_of,
-};
-use crate::running::{Ran, not_begun, run_program};
+use crate::devices::{SystemDesk, desk, desks_at, journal_disk, staff_of};
+use crate::running::{Ending, Lack, Ran, not_begun, run_program, unbegun};
 use rpc_program::{Program, Speller};
 use sec_base::{Clock as Moments, Port, Text};
 use server_options::{Order, address_of, answer_to, order_of, say_unbound};
@@ -33,11 +33,14 @@ where
     P::Link: Drop + Send,
     requires fresh { AllByRecursion IsFresh desks.items }
     requires says { W.says ≡ V.says }
-    ensures { Acted V.Program program result.program (entries_of result.log) }
+    ensures acted { Acted V.Program program result.program (entries_of result.log) }
+    ensures ended { EndsAs words.now result.ending result.log }
+    ensures status { result.status ≢ 6 → result.status ≢ 8
+        → result.status ≡ status_at result.ending }
 {
     let mut desks = desks;
     let Ok(mut disk) = journal_disk(rt, words) else {
-        return not_begun(OUT_OF_MEMORY, program);
+        return not_begun(Lack::Memory, program);
     };
     let mut shelf = FileShelf::new(rt);
     let mut out = StdSink::output(rt.stdout());
@@ -65,13 +68,16 @@ fn over_standard_streams<
     W: Speller<T> + Drop + Send,
 >(rt: HostRuntime, threads: &R, words: &[Text], program: V, speller: W) -> Ran<V>
     requires says { W.says ≡ V.says }
-    ensures { Acted V.Program program result.program (entries_of result.log) }
+    ensures acted { Acted V.Program program result.program (entries_of result.log) }
+    ensures ended { EndsAs words.now result.ending result.log }
+    ensures status { result.status ≢ 6 → result.status ≢ 8
+        → result.status ≡ status_at result.ending }
 {
     let Ok(draw) = RandDraw::new(&rt) else {
-        return not_begun(NOT_STARTED, program);
+        return not_begun(Lack::Draws, program);
     };
     let Ok(mut desks) = Vec::with_capacity(rt.alloc(), 1) else {
-        return not_begun(OUT_OF_MEMORY, program);
+        return not_begun(Lack::Memory, program);
     };
     let port = BufferedPort::new(rt.alloc(), StdioPort::new(rt.stdin(), rt.stdout()));
     desks.push_reserved(desk(rt, port, draw, speller));
@@ -126,11 +132,16 @@ fn run_controlled<
 ) -> Ran<V>
     requires fresh { AllByRecursion IsFresh desks.items }
     requires says { W.says ≡ V.says }
-    ensures { Acted V.Program program result.program (entries_of result.log) }
+    requires named { control_of words.now ≡ Ok (Some path.now) }
+    ensures acted { Acted V.Program program result.program (entries_of result.log) }
+    ensures ended { EndsAs words.now result.ending result.log }
+    ensures status { result.status ≢ 6 → result.status ≢ 8
+        → result.status ≡ status_at result.ending }
 {
     let Some(control) = ControlDoor::bind(&host, rt, path) else {
         let mut err = StdSink::error(rt.stderr());
-        return not_begun(say_unbound(rt.alloc(), &mut err, path), program);
+        let status = say_unbound(rt.alloc(), &mut err, path);
+        return unbegun(Ending::NoControl, status, program);
     };
     let (asker, ran) = join(
         &host,
@@ -138,7 +149,10 @@ fn run_controlled<
         || -> Ran<V>
             requires fresh { AllByRecursion IsFresh desks.items }
             requires says { W.says ≡ V.says }
-            ensures { Acted V.Program program result.program (entries_of result.log) }
+            ensures acted { Acted V.Program program result.program (entries_of result.log) }
+            ensures ended { EndsAs words.entry.now result.ending result.log }
+            ensures status { result.status ≢ 6 → result.status ≢ 8
+                → result.status ≡ status_at result.ending }
         {
             let ran = run(rt, &host, words, desks, program);
             control.close();
@@ -169,15 +183,18 @@ fn over_listener<
 >(rt: HostRuntime, host: R, words: &[Text], address: &str, program: V, hire: F) -> Ran<V>
     requires says { W.says ≡ V.says }
     requires hire { F.IsAlwaysCallable hire }
-    ensures { Acted V.Program program result.program (entries_of result.log) }
+    ensures acted { Acted V.Program program result.program (entries_of result.log) }
+    ensures ended { EndsAs words.now result.ending result.log }
+    ensures status { result.status ≢ 6 → result.status ≢ 8
+        → result.status ≡ status_at result.ending }
 {
     let Some(staff) = staff_of(rt, words) else {
-        return not_begun(OUT_OF_MEMORY, program);
+        return not_begun(Lack::Memory, program);
     };
     let door = TcpDoor::at(host, address, staff.connections, staff.idle);
     let desks = match desks_at(rt, &door, staff.desks, hire) {
         Ok(desks) => desks,
-        Err(status) => return not_begun(status, program),
+        Err(lack) => return not_begun(lack, program),
     };
     match staff.control {
         Some(path) => run_controlled(rt, host, words, desks, &door, path.as_str(), program),
@@ -207,7 +224,14 @@ pub fn serve<
 >(rt: HostRuntime, host: R, words: &[Text], program: V, hire: F) -> Ran<V>
     requires says { W.says ≡ V.says }
     requires hire { F.IsAlwaysCallable hire }
+    // The program entered each call of the log, once and in its order, and no other.
     ensures acted { Acted V.Program program result.program (entries_of result.log) }
+    // How the run ended is said by its words: one that was made was refused by its usage exactly where they aren't in the command, and its log was
+    // kept under their limits.
+    ensures ended { EndsAs words.now result.ending result.log }
+    // The status is that of the ending, unless its line couldn't be written, or there was no memory for it.
+    ensures status { result.status ≢ 6 → result.status ≢ 8
+        → result.status ≡ status_at result.ending }
 {
     match address_of(words) {
         None | Some("stdio") => over_standard_streams(rt, &host, words, program, hire()),

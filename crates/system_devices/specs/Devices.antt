@@ -4,6 +4,7 @@ use Rattle.rand_chacha.specs.ChaCha.{ChaCha}
 use Rattle.rand_chacha.specs.ChaCha as chacha
 use Rattle.rand_core.specs.Steps.{stream_of, steps_u32}
 use Rattle.rand_core.specs.Stream.{Stream}
+use Rattle.system_devices.specs.declared.dialed_link.DialedLink.{DialedLink}
 use Rattle.system_devices.specs.declared.rand_draw.RandDraw.{RandDraw}
 use Rattle.system_devices.specs.declared.stdio_port.StdioPort.{StdioPort}
 use Rattle.system_devices.specs.declared.system_clock.SystemClock.{SystemClock}
@@ -20,6 +21,10 @@ is_given port = port.given
 -- the address at which a door is to listen
 abbrev pub door_address : {R : Type 0} → TcpDoor R → List ℕ
 door_address door = door.address.now
+
+-- the address to which a link is to connect
+abbrev pub dialed_address : {R : Type 0} → DialedLink R → List ℕ
+dialed_address link = link.address.now
 
 -- a draw's generator, and all the octets that it will give from now on
 abbrev pub generator_of : RandDraw → ChaCha

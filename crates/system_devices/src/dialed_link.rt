@@ -1,6 +1,7 @@
 //! A TCP connection that is made when it is first used.
 
 ghost use Rattle.std.specs.Prelude.{◌≡◌, ◌≤◌, false, length};
+ghost use Rattle.system_devices.specs.Devices.{dialed_address};
 
 use crate::tcp_link::TcpLink;
 use sec_base::{Link, LinkFault};
@@ -37,7 +38,8 @@ fn connected<R: Net<Stream = TcpStream>>(rt: &R, address: &str) -> Option<TcpStr
 impl<'a, R: Net<Stream = TcpStream> + SystemTimeSource + Copy + Drop> DialedLink<'a, R> {
     /// The link to `address`, which isn't looked for yet.
     pub fn new(rt: R, address: &'a str) -> DialedLink<'a, R>
-        ensures { ⟦<DialedLink<'a, R> as Link>⟧.closed result ≡ false }
+        ensures address { dialed_address result ≡ address.now }
+        ensures closed { ⟦<DialedLink<'a, R> as Link>⟧.closed result ≡ false }
     {
         DialedLink {
             rt,
